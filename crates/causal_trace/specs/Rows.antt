@@ -1,0 +1,91 @@
+-- Which entry may come next in a trace, and what stands against another.
+use Rattle.std.specs.Prelude.{◌≡◌, ℕ, ◌+◌, ◌≤◌, Bool, false, not, ◌==◌, ◌&&◌, ◌||◌, nat_lt, nat_le, if◌then◌else◌, List, [], ◌∷◌, length, Option, Some, None}
+use Rattle.std.specs.List.{list_all}
+use Rattle.std.specs.Option.{option_map_or}
+use Rattle.causal_name.specs.declared.Det.{Det}
+use Rattle.causal_trace.specs.declared.entry.Entry.{Entry}
+use Rattle.causal_trace.specs.declared.entry.Entry.TheVariants.{Send, Deliver, Stable, Crash, Restart, Forget}
+use Rattle.causal_trace.specs.declared.fault.TraceFault.{TraceFault}
+use Rattle.causal_trace.specs.declared.fault.TraceFault.TheVariants.{TooLong, NoProcess, NotUp, NotDown, Lanes, WrongSsn, NoSend, WrongRsn, Doubled, Unsorted, NoDelivery}
+use Rattle.causal_trace.specs.Limits.{max_entries, max_listed, max_restarts, IsProcessCount}
+use Rattle.causal_trace.specs.Past.{is_down, sends, deliveries, message_at, is_sent_to, det_of, is_det, is_delivered, has_delivered, listed_in, restarts, is_ascending}
+
+-- whether one more entry that lists so many determinants would pass a limit
+abbrev pub passes_limit : List Entry → ℕ → Bool
+passes_limit past listed = nat_lt max_entries (length past + 1) || nat_lt max_listed (listed_in past + listed)
+
+-- whether each determinant is that of a delivery so far
+abbrev pub are_delivered : List Entry → List Det → Bool
+are_delivered past listed = list_all (is_delivered past) listed
+
+-- the same, where one more delivery counts too
+abbrev pub are_delivered_with : List Entry → Option Det → List Det → Bool
+are_delivered_with past own listed = list_all (λ d. is_det own d || is_delivered past d) listed
+
+-- What may stand against an entry that would come next after this past in a run of n processes: each row is whether it
+-- holds and what is then told, in the order in which they are asked.
+unfoldable pub rows : ℕ → List Entry → Entry → List (Bool × TraceFault)
+rows n past (Send from to ssn) =
+    (passes_limit past 0, TooLong)
+    ∷ (not (nat_lt from.0 n && nat_lt to.0 n), NoProcess)
+    ∷ (is_down past from.0, NotUp)
+    ∷ (not (ssn == sends past from.0), WrongSsn)
+    ∷ []
+rows n past (Deliver to send rsn listed) =
+    (passes_limit past (length listed), TooLong)
+    ∷ (not (nat_lt to.0 n), NoProcess)
+    ∷ (is_down past to.0, NotUp)
+    ∷ (not (is_sent_to past send to.0), NoSend)
+    ∷ (not (rsn == deliveries past to.0), WrongRsn)
+    ∷ (option_map_or (has_delivered past to.0) (message_at past send) false, Doubled)
+    ∷ (not (is_ascending listed), Unsorted)
+    ∷ (not (are_delivered_with past (det_of past (Deliver to send rsn listed)) listed), NoDelivery)
+    ∷ []
+rows n past (Stable det) =
+    (passes_limit past 0, TooLong)
+    ∷ (not (is_delivered past det), NoDelivery)
+    ∷ []
+rows n past (Crash who) =
+    (passes_limit past 0, TooLong)
+    ∷ (not (nat_lt who.0 n), NoProcess)
+    ∷ (is_down past who.0, NotUp)
+    ∷ []
+rows n past (Restart who listed) =
+    (passes_limit past (length listed), TooLong)
+    ∷ (not (nat_lt who.0 n), NoProcess)
+    ∷ (not (is_down past who.0), NotDown)
+    ∷ (nat_le max_restarts (restarts past), Lanes)
+    ∷ (not (is_ascending listed), Unsorted)
+    ∷ (not (are_delivered past listed), NoDelivery)
+    ∷ []
+rows n past (Forget who listed) =
+    (passes_limit past (length listed), TooLong)
+    ∷ (not (nat_lt who.0 n), NoProcess)
+    ∷ (is_down past who.0, NotUp)
+    ∷ (not (is_ascending listed), Unsorted)
+    ∷ (not (are_delivered past listed), NoDelivery)
+    ∷ []
+
+-- what the first row that holds tells
+abbrev pub first_holding : List (Bool × TraceFault) → Option TraceFault
+first_holding [] = None
+first_holding (row ∷ rest) = if row.0 then Some row.1 else first_holding rest
+
+-- what is first told against an entry; None where it may come next
+abbrev pub first_fault : ℕ → List Entry → Entry → Option TraceFault
+first_fault n past e = first_holding (rows n past e)
+
+-- nothing stands against any entry after those before it
+abbrev pub AreAccepted : ℕ → List Entry → Type 0
+AreAccepted n [] = Unit {0}
+AreAccepted n (e ∷ past) = AreAccepted n past × (first_fault n past e ≡ None)
+
+-- a recorded run: how many processes there are, and what happened, the newest first
+pub record Recording : Type 0 where
+  pub processes : ℕ
+  pub past : List Entry
+
+-- a number of processes within the limits, and entries each of which may stand where it stands
+pub record IsWellFormed (r : Recording) : Type 0 where
+  pub count : IsProcessCount r.processes
+  pub accepted : AreAccepted r.processes r.past

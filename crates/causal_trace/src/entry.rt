@@ -1,0 +1,98 @@
+//! What a trace is made of.
+ghost use Rattle.std.specs.Prelude.{◌≡◌, length};
+
+use causal_name::{Det, Pid};
+use std::marker::Model;
+
+/// A list of determinants, in the order in which an entry has them.
+#[derive(Clone, Debug, Drop)]
+pub struct Dets {
+    dets: Vec<Det>,
+}
+
+impl Model for Dets {
+    ghost use Rattle.std.specs.Prelude.{List};
+    ghost use Rattle.causal_name.specs.declared.Det.{Det};
+
+    ghost Value = { List Det };
+
+    ghost view = { λ a. a.dets.items };
+}
+
+impl PartialEq for Dets {
+    ghost use lib.Pointwise.{pointwise};
+    ghost use Rattle.causal_name.specs.Names.{same_det};
+    ghost use Rattle.std.specs.Cmp.{partial_equiv_from_equiv};
+    ghost use Rattle.std.specs.Cmp.Lexicographic.{lists_per};
+    ghost use Rattle.causal_trace.specs.SameDets.{same_det_equiv};
+
+    ghost eq = { λ a b. pointwise same_det a b };
+
+    ghost laws = { lists_per (partial_equiv_from_equiv same_det_equiv) };
+
+    fn eq(&self, other: &Dets) -> bool {
+        self.dets == other.dets
+    }
+}
+
+impl Eq for Dets {
+    ghost use Rattle.std.specs.Cmp.Lexicographic.{lists_equiv};
+    ghost use Rattle.causal_trace.specs.SameDets.{same_det_equiv};
+
+    ghost laws = { lists_equiv same_det_equiv };
+}
+
+impl Dets {
+    /// The list that a vector holds.
+    pub fn new(dets: Vec<Det>) -> Dets
+        ensures { result ≡ dets.items }
+    {
+        Dets { dets }
+    }
+
+    /// The determinants in their order.
+    pub fn as_slice(&self) -> &[Det]
+        ensures { result.now ≡ self.now }
+    {
+        self.dets.as_slice()
+    }
+}
+
+/// What happened in one step of a run. Positions of entries, and sequence numbers within a lane, count from 0.
+#[derive(Clone, Debug, Drop, PartialEq, Eq)]
+pub enum Entry {
+    /// `from` sends its lane's message number `ssn` to `to`, which may be down, or be the sender.
+    Send { from: Pid, to: Pid, ssn: u32 },
+    /// `to` delivers the message of the send entry at the position `send`, as its lane's delivery number `rsn`, and puts
+    /// the listed determinants into its volatile log.
+    Deliver {
+        to: Pid,
+        send: u32,
+        rsn: u32,
+        listed: Dets,
+    },
+    /// The determinant is in stable storage from here on.
+    Stable { det: Det },
+    /// `who` goes down, and its state and its volatile log are lost.
+    Crash { who: Pid },
+    /// `who` comes up in a new lane, with the listed determinants in its volatile log.
+    Restart { who: Pid, listed: Dets },
+    /// `who` takes the listed determinants out of its volatile log.
+    Forget { who: Pid, listed: Dets },
+}
+
+impl Entry {
+    ghost use Rattle.causal_trace.specs.Past.{listed_by};
+
+    /// How many determinants it lists.
+    pub fn listed(&self) -> usize
+        ensures { result ≡ length (listed_by self.now) }
+    {
+        match self {
+            Entry::Deliver { listed, .. } => listed.as_slice().len(),
+            Entry::Restart { listed, .. } => listed.as_slice().len(),
+            Entry::Forget { listed, .. } => listed.as_slice().len(),
+            _ => 0,
+        }
+    }
+}

@@ -1,0 +1,5 @@
+//! Traces: recorded runs of processes that send, deliver, log, crash and restart.
+#![tactic(auto)]
+
+pub mod entry;
+pub mod fault;
