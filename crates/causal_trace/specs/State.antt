@@ -1,5 +1,5 @@
 -- What a contract sees of a `Trace`.
-use Rattle.std.specs.Prelude.{◌≡◌, ℕ, ◌≤◌, Bool, not, nat_lt, ◌&&◌, if◌then◌else◌, List, [], ◌∷◌, length, reverse, Option, Some, None}
+use Rattle.std.specs.Prelude.{◌≡◌, ℕ, ◌≤◌, Bool, not, nat_lt, ◌&&◌, if◌then◌else◌, List, [], ◌∷◌, length, reverse, take, Option, Some, None}
 use Rattle.causal_trace.specs.declared.entry.Entry.{Entry}
 use Rattle.causal_trace.specs.Limits.{max_entries, max_listed}
 use Rattle.causal_trace.specs.Past.{instant, is_down, lane, listed_in}
@@ -32,3 +32,7 @@ pub record IsKept (r : Recording) (listed : ℕ) : Type 0 where
   pub short : length r.past ≤ max_entries
   pub counted : listed ≡ listed_in r.past
   pub within : listed ≤ max_listed
+
+-- the state after the first t of these entries, which have the oldest first
+abbrev pub past_at : List Entry → ℕ → List Entry
+past_at entries t = reverse (take t entries)

@@ -3,3 +3,5 @@
 
 pub mod entry;
 pub mod fault;
+pub mod limits;
+mod scans;

@@ -1,0 +1,4 @@
+//! The judgement of recorded runs.
+#![tactic(auto)]
+
+pub mod verdict;

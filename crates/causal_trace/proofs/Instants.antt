@@ -1,0 +1,36 @@
+-- The states of a recording.
+use Rattle.std.proofs.Common.{ℕ, zero, suc, inl, inr, ◌≡◌, ◌+◌, ◌<◌, ◌≤◌, List, [], ◌∷◌, ◌++◌, length, get_or, take, reverse, Some, None, refl, sym, ap, ◌∙◌, arith}
+use Rattle.std.proofs.lemmas.List.{take_more, take_all, reverse-append, length-reverse, length-take-le}
+use Rattle.std.proofs.lemmas.Bool.{cond-true, cond-false, eq-eqb, ne_eqb}
+use Rattle.std.proofs.lemmas.Bool.Decides.{eqb_tells}
+use Rattle.std.specs.Prelude.{◌==◌}
+use Rattle.causal_trace.specs.declared.entry.Entry.{Entry}
+use Rattle.causal_trace.specs.State.{past_at}
+use Rattle.causal_trace.specs.Past.{entry_at}
+
+-- one more instant is one more entry
+pub past_more : (es : List Entry) (i : ℕ) (x : Entry) → i < length es → x ≡ get_or es i x → past_at es (i + 1) ≡ x ∷ past_at es i
+past_more es i x below is = ap reverse (take_more es i x below ∙ ap (λ y. take i es ++ y ∷ []) (sym is)) ∙ reverse-append (take i es) (x ∷ [])
+
+pub past_all : (es : List Entry) (i : ℕ) → length es ≤ i → past_at es i ≡ past_at es (length es)
+past_all es i above = ap reverse (take_all i es above ∙ sym (take_all (length es) es (omega arith)))
+
+past_next : (es : List Entry) (i : ℕ) (d : Entry) → i < length es → past_at es (i + 1) ≡ get_or es i d ∷ past_at es i
+past_next es i d below = ap reverse (take_more es i d below) ∙ reverse-append (take i es) (get_or es i d ∷ [])
+
+pub past_length : (es : List Entry) (t : ℕ) → t ≤ length es → length (past_at es t) ≡ t
+past_length es t within = length-reverse (take t es) ∙ length-take-le t es within
+
+-- the entry at a position of a state is that of the recording
+pub entry_there : (es : List Entry) (t k : ℕ) (d : Entry) → t ≤ length es → k < t → entry_at (past_at es t) k ≡ Some (get_or es k d)
+entry_there es zero k d within below = absurd (omega (arith, below))
+entry_there es (suc t) k d within below =
+    ap (λ x. entry_at x k) (ap (λ n. past_at es n) (let e : suc t ≡ t + 1 = omega arith in e) ∙ past_next es t d (omega (arith, within)))
+    ∙ elim (eqb_tells k t) [
+      | inl is ↦ cond-true (k == length (past_at es t)) _ _ (eq-eqb k (length (past_at es t)) (is.1 ∙ sym (past_length es t (omega (arith, within))))) ∙ ap (λ n. Some (get_or es n d)) (sym is.1)
+      | inr older ↦ cond-false (k == length (past_at es t)) _ _ (ne_eqb k (length (past_at es t)) (λ e. older.1 (e ∙ past_length es t (omega (arith, within))))) ∙ entry_there es t k d (omega (arith, within)) (let ne : k ≡ t → ⊥ = older.1 in omega (arith, below))
+    ]
+
+pub entry_beyond : (past : List Entry) (k : ℕ) → length past ≤ k → entry_at past k ≡ None
+entry_beyond [] k above = refl
+entry_beyond (e ∷ past) k above = cond-false (k == length past) _ _ (ne_eqb k (length past) (λ is. omega (arith, above, is))) ∙ entry_beyond past k (omega (arith, above))

@@ -1,0 +1,7 @@
+use Rattle.std.proofs.Common.{◌≡◌, ◌-◌, drop}
+use Rattle.causal_trace.specs.Past.{is_ascending}
+use Rattle.causal_trace.proofs.scans.is_ascending.Given as goal
+
+-- the rest, with the one before it, decides
+abbrev pub invariant-loop-i : goal.invariant-loop-i
+invariant-loop-i l = is_ascending (drop (l.i - 1) l.dets) ≡ is_ascending l.dets

@@ -1,0 +1,7 @@
+use Rattle.std.proofs.Common.{◌≡◌}
+use Rattle.causal_trace.specs.State.{past_at}
+use Rattle.causal_trace.specs.Past.{is_down}
+use Rattle.causal_trace.proofs.scans.is_down.Given as goal
+
+abbrev pub invariant-loop-e : goal.invariant-loop-e
+invariant-loop-e l = l.down ≡ is_down (past_at l.entries l.e-index) l.p

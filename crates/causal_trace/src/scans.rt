@@ -1,0 +1,259 @@
+//! Plain readings of a run's entries, oldest first: each goes over the whole list, and says what a definition says.
+ghost use Rattle.std.specs.Prelude.{◌≡◌, ◌≤◌, ◌<◌, length, if◌then◌else◌};
+ghost use Rattle.std.specs.Option.{option_map, option_map_or};
+ghost use Rattle.causal_trace.specs.Past as past;
+ghost use Rattle.causal_trace.specs.State.{past_at};
+
+use crate::entry::Entry;
+use causal_name::{Det, MsgName, Pid};
+
+/// Whether the process is down after these entries.
+pub fn is_down(entries: &[Entry], p: Pid) -> bool
+    ensures { result ≡ past.is_down (past_at entries.now (length entries.now)) p.0 }
+{
+    let mut down = false;
+    for e in entries {
+        match e {
+            Entry::Crash { who } => {
+                if who.0 == p.0 {
+                    down = true;
+                }
+            }
+            Entry::Restart { who, .. } => {
+                if who.0 == p.0 {
+                    down = false;
+                }
+            }
+            _ => {}
+        }
+    }
+    down
+}
+
+/// The process's present lane.
+pub fn lane(entries: &[Entry], p: Pid) -> usize
+    ensures value { result ≡ past.lane (past_at entries.now (length entries.now)) p.0 }
+    ensures few { result ≤ length entries.now }
+{
+    let mut lane = 0;
+    for e in entries {
+        match e {
+            Entry::Restart { who, .. } => {
+                if who.0 == p.0 {
+                    lane += 1;
+                }
+            }
+            _ => {}
+        }
+    }
+    lane
+}
+
+/// How many messages the process's present lane has sent.
+pub fn sends(entries: &[Entry], p: Pid) -> usize
+    ensures { result ≡ past.sends (past_at entries.now (length entries.now)) p.0 }
+{
+    let mut count = 0;
+    for e in entries {
+        match e {
+            Entry::Send { from, .. } => {
+                if from.0 == p.0 {
+                    count += 1;
+                }
+            }
+            Entry::Restart { who, .. } => {
+                if who.0 == p.0 {
+                    count = 0;
+                }
+            }
+            _ => {}
+        }
+    }
+    count
+}
+
+/// How many messages the process's present lane has delivered.
+pub fn deliveries(entries: &[Entry], p: Pid) -> usize
+    ensures { result ≡ past.deliveries (past_at entries.now (length entries.now)) p.0 }
+{
+    let mut count = 0;
+    for e in entries {
+        match e {
+            Entry::Deliver { to, .. } => {
+                if to.0 == p.0 {
+                    count += 1;
+                }
+            }
+            Entry::Restart { who, .. } => {
+                if who.0 == p.0 {
+                    count = 0;
+                }
+            }
+            _ => {}
+        }
+    }
+    count
+}
+
+/// How many restarts there were.
+pub fn restarts(entries: &[Entry]) -> usize
+    ensures { result ≡ past.restarts (past_at entries.now (length entries.now)) }
+{
+    let mut count = 0;
+    for e in entries {
+        match e {
+            Entry::Restart { .. } => count += 1,
+            _ => {}
+        }
+    }
+    count
+}
+
+/// How many deliveries there were.
+pub fn deliveries_in(entries: &[Entry]) -> usize
+    ensures value { result ≡ past.deliveries_in (past_at entries.now (length entries.now)) }
+    ensures few { result ≤ length entries.now }
+{
+    let mut count = 0;
+    for e in entries {
+        match e {
+            Entry::Deliver { .. } => count += 1,
+            _ => {}
+        }
+    }
+    count
+}
+
+/// The message that the entry at a position sends, if it is among the first t.
+pub fn message_at(entries: &[Entry], t: usize, send: u32) -> Option<MsgName>
+    requires { t ≤ length entries.now }
+    ensures { result ≡ past.message_at (past_at entries.now t) send }
+{
+    if send as usize >= t {
+        return None;
+    }
+    match &entries[send as usize] {
+        Entry::Send { from, ssn, .. } => Some(MsgName {
+            source: *from,
+            ssn: *ssn,
+        }),
+        _ => None,
+    }
+}
+
+/// Whether the entry at a position is a send to the process.
+pub fn is_sent_to(entries: &[Entry], send: u32, p: Pid) -> bool
+    ensures { result ≡ past.is_sent_to (past_at entries.now (length entries.now)) send p.0 }
+{
+    if send as usize >= entries.len() {
+        return false;
+    }
+    match &entries[send as usize] {
+        Entry::Send { to, .. } => to.0 == p.0,
+        _ => false,
+    }
+}
+
+/// The determinant of the delivery of a message.
+pub fn det_from(to: Pid, rsn: u32, message: Option<MsgName>) -> Option<Det>
+    ensures { result ≡ option_map (past.det_from to rsn) message }
+{
+    match message {
+        Some(m) => Some(Det {
+            source: m.source,
+            ssn: m.ssn,
+            dest: to,
+            rsn,
+        }),
+        None => None,
+    }
+}
+
+/// The determinant of an entry that is a delivery, where the first t entries stand before it.
+pub fn det_of(entries: &[Entry], t: usize, e: &Entry) -> Option<Det>
+    requires { t ≤ length entries.now }
+    ensures { result ≡ past.det_of (past_at entries.now t) e.now }
+{
+    match e {
+        Entry::Deliver { to, send, rsn, .. } => det_from(*to, *rsn, message_at(entries, t, *send)),
+        _ => None,
+    }
+}
+
+/// Whether an optional determinant is this one.
+pub fn is_det(own: Option<Det>, d: Det) -> bool
+    ensures { result ≡ past.is_det own d }
+{
+    match own {
+        Some(e) => e == d,
+        None => false,
+    }
+}
+
+/// Whether an optional message is this one.
+pub fn is_message(found: Option<MsgName>, m: MsgName) -> bool
+    ensures { result ≡ past.is_message found m }
+{
+    match found {
+        Some(k) => k == m,
+        None => false,
+    }
+}
+
+/// Whether the determinant is that of a delivery so far.
+pub fn is_delivered(entries: &[Entry], d: Det) -> bool
+    ensures { result ≡ past.is_delivered (past_at entries.now (length entries.now)) d }
+{
+    let mut found = false;
+    for (i, e) in entries.iter().enumerate() {
+        if is_det(det_of(entries, i, e), d) {
+            found = true;
+        }
+    }
+    found
+}
+
+/// Whether the process's present lane has delivered the message.
+pub fn has_delivered(entries: &[Entry], p: Pid, m: MsgName) -> bool
+    ensures { result ≡ past.has_delivered (past_at entries.now (length entries.now)) p.0 m }
+{
+    let mut found = false;
+    for (i, e) in entries.iter().enumerate() {
+        match e {
+            Entry::Deliver { to, send, .. } => {
+                if to.0 == p.0 && is_message(message_at(entries, i, *send), m) {
+                    found = true;
+                }
+            }
+            Entry::Restart { who, .. } => {
+                if who.0 == p.0 {
+                    found = false;
+                }
+            }
+            _ => {}
+        }
+    }
+    found
+}
+
+/// The determinant of the delivery at a position.
+pub fn det_at(entries: &[Entry], k: u32) -> Option<Det>
+    ensures { result ≡ past.det_at (past_at entries.now (length entries.now)) k }
+{
+    match entries.get(k as usize) {
+        Some(e) => det_of(entries, k as usize, e),
+        None => None,
+    }
+}
+
+/// Whether each determinant comes before the next.
+pub fn is_ascending(dets: &[Det]) -> bool
+    ensures { result ≡ past.is_ascending dets.now }
+{
+    for i in 1..dets.len() {
+        if !dets[i - 1].comes_before(&dets[i]) {
+            return false;
+        }
+    }
+    true
+}
