@@ -1,2 +1,4 @@
 pub mod Instants
 pub mod Reached
+pub mod Accepted
+mod Agreed

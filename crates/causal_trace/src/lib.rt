@@ -4,4 +4,5 @@
 pub mod entry;
 pub mod fault;
 pub mod limits;
+pub mod laws;
 mod scans;
