@@ -1,1 +1,2 @@
 pub mod Instants
+mod Ascending
