@@ -6,7 +6,7 @@ use Rattle.std.proofs.lemmas.Bool.Decides.{eqb_tells}
 use Rattle.std.specs.Prelude.{◌==◌}
 use Rattle.causal_trace.specs.declared.entry.Entry.{Entry}
 use Rattle.causal_trace.specs.State.{past_at}
-use Rattle.causal_trace.specs.Past.{entry_at}
+use Rattle.causal_trace.specs.Past.{entry_at, det_of, det_at}
 
 -- one more instant is one more entry
 pub past_more : (es : List Entry) (i : ℕ) (x : Entry) → i < length es → x ≡ get_or es i x → past_at es (i + 1) ≡ x ∷ past_at es i
@@ -34,3 +34,21 @@ entry_there es (suc t) k d within below =
 pub entry_beyond : (past : List Entry) (k : ℕ) → length past ≤ k → entry_at past k ≡ None
 entry_beyond [] k above = refl
 entry_beyond (e ∷ past) k above = cond-false (k == length past) _ _ (ne_eqb k (length past) (λ is. omega (arith, above, is))) ∙ entry_beyond past k (omega (arith, above))
+
+-- the determinant at a position of a state is that of the entry there, by the entries before it
+pub det_there : (es : List Entry) (t k : ℕ) (d : Entry) → t ≤ length es → k < t → det_at (past_at es t) k ≡ det_of (past_at es k) (get_or es k d)
+det_there es zero k d within below = absurd (omega (arith, below))
+det_there es (suc t) k d within below =
+    ap (λ x. det_at x k) (ap (λ n. past_at es n) (let e : suc t ≡ t + 1 = omega arith in e) ∙ past_next es t d (omega (arith, within)))
+    ∙ elim (eqb_tells k t) [
+      | inl is ↦
+          cond-true (k == length (past_at es t)) _ _ (eq-eqb k (length (past_at es t)) (is.1 ∙ sym (past_length es t (omega (arith, within)))))
+          ∙ ap (λ n. det_of (past_at es n) (get_or es n d)) (sym is.1)
+      | inr older ↦
+          cond-false (k == length (past_at es t)) _ _ (ne_eqb k (length (past_at es t)) (λ e. older.1 (e ∙ past_length es t (omega (arith, within)))))
+          ∙ det_there es t k d (omega (arith, within)) (let ne : k ≡ t → ⊥ = older.1 in omega (arith, below))
+    ]
+
+pub det_beyond : (past : List Entry) (k : ℕ) → length past ≤ k → det_at past k ≡ None
+det_beyond [] k above = refl
+det_beyond (e ∷ past) k above = cond-false (k == length past) _ _ (ne_eqb k (length past) (λ is. omega (arith, above, is))) ∙ det_beyond past k (omega (arith, above))

@@ -240,10 +240,10 @@ pub fn has_delivered(entries: &[Entry], p: Pid, m: MsgName) -> bool
 pub fn det_at(entries: &[Entry], k: u32) -> Option<Det>
     ensures { result ≡ past.det_at (past_at entries.now (length entries.now)) k }
 {
-    match entries.get(k as usize) {
-        Some(e) => det_of(entries, k as usize, e),
-        None => None,
+    if k as usize >= entries.len() {
+        return None;
     }
+    det_of(entries, k as usize, &entries[k as usize])
 }
 
 /// Whether each determinant comes before the next.

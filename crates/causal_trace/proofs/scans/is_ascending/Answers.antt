@@ -3,7 +3,7 @@ use Rattle.std.specs.Prelude.{◌&&◌}
 use Rattle.causal_name.specs.declared.Det.{Det}
 use Rattle.causal_name.specs.Names.{is_before}
 use Rattle.causal_trace.specs.Past.{is_ascending}
-use Rattle.causal_trace.proofs.Steps.{ascending_more, ascending_last}
+use Rattle.causal_trace.proofs.Ascending.{ascending_more, ascending_last}
 use Rattle.causal_trace.proofs.scans.is_ascending.Goals as goal
 
 -- the step, at the place that the counter has passed

@@ -1,0 +1,32 @@
+use Rattle.std.proofs.Common.{ℕ, refl, ◌≡◌, arith, sym, ap, ◌∙◌, Some, None, Bool, false, length}
+use Rattle.std.specs.Option.{option_map_or}
+use Rattle.causal_name.specs.declared.Pid.{Pid}
+use Rattle.causal_trace.specs.declared.entry.Entry.{Entry}
+use Rattle.causal_trace.specs.declared.entry.Entry.TheVariants.{Send, Deliver, Stable, Crash, Restart, Forget}
+use Rattle.causal_trace.specs.State.{past_at}
+use Rattle.causal_trace.specs.Past.{is_send_to}
+use Rattle.causal_trace.proofs.Instants.{past_length, entry_there, entry_beyond}
+use Rattle.causal_trace.proofs.scans.is_sent_to.Goals as goal
+
+sends_none : (p : ℕ) (e : Entry) → ((from to : Pid) (ssn : ℕ) → e ≡ Send from to ssn → ⊥) → is_send_to p e ≡ false
+sends_none p (Send from to ssn) h = absurd (h from to ssn refl)
+sends_none p (Deliver to send rsn listed) h = refl
+sends_none p (Stable det) h = refl
+sends_none p (Crash who) h = refl
+sends_none p (Restart who listed) h = refl
+sends_none p (Forget who listed) h = refl
+
+pub returns-then-send-entries : goal.returns-then-send-entries
+returns-then-send-entries c =
+    let es = c.args.entries.now in
+    sym (ap (λ o. option_map_or (is_send_to c.args.p.0) o false) (entry_beyond (past_at es (length es)) c.args.send (omega (arith, past_length es (length es) (omega arith)))))
+
+pub returns-in-Send : goal.returns-in-Send
+returns-in-Send c =
+    let es = c.args.entries.now in
+    sym (ap (λ o. option_map_or (is_send_to c.args.p.0) o false) (entry_there es (length es) c.args.send c.index-entries-send.result (omega arith) (omega arith) ∙ ap Some (sym c.index-entries-send.is ∙ c.in-Send.is)))
+
+pub returns-in_default : goal.returns-in_default
+returns-in_default c =
+    let es = c.args.entries.now in
+    sym (ap (λ o. option_map_or (is_send_to c.args.p.0) o false) (entry_there es (length es) c.args.send c.index-entries-send.result (omega arith) (omega arith) ∙ ap Some (sym c.index-entries-send.is)) ∙ sends_none c.args.p.0 c.index-entries-send.result c.in_default.not-Send)
