@@ -1,0 +1,4 @@
+pub mod Instants
+pub mod Members
+pub mod Uncrashed
+pub mod Reaching
