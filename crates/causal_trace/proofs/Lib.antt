@@ -1,2 +1,3 @@
-pub mod Instants
 mod Ascending
+pub mod Formed
+pub mod Instants

@@ -5,3 +5,4 @@ pub mod entry;
 pub mod fault;
 pub mod limits;
 mod scans;
+pub mod trace;
