@@ -1,0 +1,4 @@
+pub mod CrashSets
+pub mod Members
+pub mod Same
+pub mod Words
