@@ -180,7 +180,7 @@ module _ (n : ℕ) (past : List Entry) (k : ℕ) (from : List ℕ) (calm : IsCal
         λ r. ap (λ o. carries from o i) at ∙ le-leb (slice_index from sender.0) i (told.0 r),
       )
 
-sent_is : (p : ℕ) (o : Option Entry) → option_map_or (is_send_to p) o false ≡ true → (sender : Pid) × (to : Pid) × (ssn : ℕ) × (o ≡ Some (Send sender to ssn))
+pub sent_is : (p : ℕ) (o : Option Entry) → option_map_or (is_send_to p) o false ≡ true → (sender : Pid) × (to : Pid) × (ssn : ℕ) × (o ≡ Some (Send sender to ssn))
 sent_is p None h = absurd (false≢true h)
 sent_is p (Some (Send from to ssn)) h = (from, to, ssn, refl)
 sent_is p (Some (Deliver to send rsn listed)) h = absurd (false≢true h)
