@@ -1,6 +1,6 @@
 -- What a state of a run says of processes, logs and determinants. A state is its past: the list of the entries so far,
 -- the newest first. Positions count from the oldest entry, so the newest entry of `e ∷ past` stands at `length past`.
-use Rattle.std.specs.Prelude.{◌≡◌, ℕ, ◌+◌, ◌-◌, Bool, true, false, not, ◌==◌, ◌&&◌, ◌||◌, if◌then◌else◌, List, [], ◌∷◌, length, drop, Option, Some, None}
+use Rattle.std.specs.Prelude.{ℕ, ◌+◌, ◌-◌, Bool, true, false, not, ◌==◌, ◌&&◌, ◌||◌, if◌then◌else◌, List, [], ◌∷◌, length, drop, Option, Some, None}
 use Rattle.std.specs.List.{list_any}
 use Rattle.std.specs.Option.{option_map, option_map_or, option_and_then}
 use Rattle.causal_name.specs.Names.{same_det, same_message, is_before}

@@ -1,5 +1,5 @@
 -- What a contract sees of a `Trace`.
-use Rattle.std.specs.Prelude.{◌≡◌, ℕ, ◌≤◌, Bool, not, nat_lt, ◌&&◌, if◌then◌else◌, List, [], ◌∷◌, length, reverse, take, Option, Some, None}
+use Rattle.std.specs.Prelude.{◌≡◌, ℕ, ◌≤◌, Bool, not, nat_lt, ◌&&◌, if◌then◌else◌, List, ◌∷◌, length, reverse, take, Option, Some, None}
 use Rattle.causal_trace.specs.declared.entry.Entry.{Entry}
 use Rattle.causal_trace.specs.Limits.{max_entries, max_listed}
 use Rattle.causal_trace.specs.Past.{instant, is_down, lane, listed_in}

@@ -62,7 +62,11 @@ impl Dets {
 #[derive(Clone, Debug, Drop, PartialEq, Eq)]
 pub enum Entry {
     /// `from` sends its lane's message number `ssn` to `to`, which may be down, or be the sender.
-    Send { from: Pid, to: Pid, ssn: u32 },
+    Send {
+        from: Pid,
+        to: Pid,
+        ssn: u32,
+    },
     /// `to` delivers the message of the send entry at the position `send`, as its lane's delivery number `rsn`, and puts
     /// the listed determinants into its volatile log.
     Deliver {
@@ -72,13 +76,23 @@ pub enum Entry {
         listed: Dets,
     },
     /// The determinant is in stable storage from here on.
-    Stable { det: Det },
+    Stable {
+        det: Det,
+    },
     /// `who` goes down, and its state and its volatile log are lost.
-    Crash { who: Pid },
+    Crash {
+        who: Pid,
+    },
     /// `who` comes up in a new lane, with the listed determinants in its volatile log.
-    Restart { who: Pid, listed: Dets },
+    Restart {
+        who: Pid,
+        listed: Dets,
+    },
     /// `who` takes the listed determinants out of its volatile log.
-    Forget { who: Pid, listed: Dets },
+    Forget {
+        who: Pid,
+        listed: Dets,
+    },
 }
 
 impl Entry {

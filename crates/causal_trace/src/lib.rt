@@ -6,3 +6,4 @@ pub mod fault;
 pub mod limits;
 pub mod laws;
 mod scans;
+pub mod trace;

@@ -1,7 +1,8 @@
 //! Plain readings of a run's entries, oldest first: each goes over the whole list, and says what a definition says.
-ghost use Rattle.std.specs.Prelude.{◌≡◌, ◌≤◌, ◌<◌, length, if◌then◌else◌};
-ghost use Rattle.std.specs.Option.{option_map, option_map_or};
+ghost use Rattle.std.specs.Prelude.{◌≡◌, ◌≤◌, false, length, slice_get};
+ghost use Rattle.std.specs.Option.{option_map, option_map_or, option_copied};
 ghost use Rattle.causal_trace.specs.Past as past;
+ghost use Rattle.causal_trace.specs.Rows.{are_delivered, are_delivered_with};
 ghost use Rattle.causal_trace.specs.State.{past_at};
 
 use crate::entry::Entry;
@@ -47,6 +48,30 @@ pub fn lane(entries: &[Entry], p: Pid) -> usize
         }
     }
     lane
+}
+
+/// Whether the process is down after the first t entries.
+pub fn is_down_at(entries: &[Entry], t: usize, p: Pid) -> bool
+    requires { t ≤ length entries.now }
+    ensures { result ≡ past.is_down (past_at entries.now t) p.0 }
+{
+    is_down(&entries[..t], p)
+}
+
+/// The process's lane after the first t entries.
+pub fn lane_at(entries: &[Entry], t: usize, p: Pid) -> usize
+    requires { t ≤ length entries.now }
+    ensures value { result ≡ past.lane (past_at entries.now t) p.0 }
+    ensures few { result ≤ t }
+{
+    lane(&entries[..t], p)
+}
+
+/// The entry at a position.
+pub fn entry(entries: &[Entry], i: u32) -> Option<&Entry>
+    ensures { option_copied result ≡ slice_get entries.now i }
+{
+    entries.get(i as usize)
 }
 
 /// How many messages the process's present lane has sent.
@@ -234,6 +259,32 @@ pub fn has_delivered(entries: &[Entry], p: Pid, m: MsgName) -> bool
         }
     }
     found
+}
+
+/// Whether the process's present lane has delivered the message, if there is one.
+pub fn has_delivered_any(entries: &[Entry], p: Pid, found: Option<MsgName>) -> bool
+    ensures { result ≡ option_map_or (past.has_delivered (past_at entries.now (length entries.now)) p.0) found false }
+{
+    match found {
+        Some(m) => has_delivered(entries, p, m),
+        None => false,
+    }
+}
+
+/// Whether each determinant is that of a delivery so far.
+pub fn are_delivered(entries: &[Entry], listed: &[Det]) -> bool
+    ensures { result ≡ are_delivered (past_at entries.now (length entries.now)) listed.now }
+{
+    listed.iter().all(|d| is_delivered(entries, *d))
+}
+
+/// The same, where one more delivery counts too.
+pub fn are_delivered_with(entries: &[Entry], own: Option<Det>, listed: &[Det]) -> bool
+    ensures { result ≡ are_delivered_with (past_at entries.now (length entries.now)) own listed.now }
+{
+    listed
+        .iter()
+        .all(|d| is_det(own, *d) || is_delivered(entries, *d))
 }
 
 /// The determinant of the delivery at a position.

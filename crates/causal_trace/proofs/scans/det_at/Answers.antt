@@ -1,4 +1,4 @@
-use Rattle.std.proofs.Common.{◌≡◌, arith, sym, ap, ◌∙◌, length}
+use Rattle.std.proofs.Common.{arith, sym, ap, ◌∙◌, length}
 use Rattle.causal_trace.specs.State.{past_at}
 use Rattle.causal_trace.specs.Past.{det_of}
 use Rattle.causal_trace.proofs.Instants.{past_length, det_there, det_beyond}

@@ -1,4 +1,4 @@
-use Rattle.std.proofs.Common.{◌≡◌, ◌≤◌}
+use Rattle.std.proofs.Common.{◌≡◌}
 use Rattle.causal_trace.specs.State.{past_at}
 use Rattle.causal_trace.specs.Past as past
 use Rattle.causal_trace.proofs.scans.is_down.Given as goal

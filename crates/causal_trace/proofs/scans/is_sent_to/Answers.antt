@@ -1,4 +1,4 @@
-use Rattle.std.proofs.Common.{ℕ, refl, ◌≡◌, arith, sym, ap, ◌∙◌, Some, None, Bool, false, length}
+use Rattle.std.proofs.Common.{ℕ, refl, ◌≡◌, arith, sym, ap, ◌∙◌, Some, false, length}
 use Rattle.std.specs.Option.{option_map_or}
 use Rattle.causal_name.specs.declared.Pid.{Pid}
 use Rattle.causal_trace.specs.declared.entry.Entry.{Entry}

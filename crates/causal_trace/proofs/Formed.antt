@@ -1,0 +1,73 @@
+-- Well-formed recordings, and those with one more entry.
+use Rattle.std.proofs.Common.{ℕ, ◌≡◌, ◌+◌, ◌≤◌, Bool, true, false, cond, List, [], ◌∷◌, length, Option, Some, None, refl, sym, ap, ◌∙◌, arith}
+use Rattle.std.specs.Prelude.{nat_lt, ◌||◌}
+use Rattle.std.proofs.lemmas.Bool.{false≢true}
+use Rattle.std.proofs.lemmas.Bool.Decides.{nat_tests}
+use Rattle.std.specs.List.{list_any}
+use Rattle.causal_trace.specs.declared.entry.Entry.{Entry}
+use Rattle.causal_trace.specs.declared.entry.Entry.TheVariants.{Send, Deliver, Stable, Crash, Restart, Forget}
+use Rattle.causal_trace.specs.declared.fault.TraceFault.{TraceFault}
+use Rattle.causal_trace.specs.declared.fault.TraceFault.TheVariants.{NoMemory}
+use Rattle.causal_trace.specs.Past.{listed_in, listed_by}
+use Rattle.causal_trace.specs.Rows.{Recording, rows, first_holding, first_fault, passes_limit, IsWellFormed}
+use Rattle.causal_trace.specs.State.{with_entry, IsKept}
+
+-- where a chain of rows tells nothing, its first row doesn't hold, and the rest tells nothing
+pub nothing_told : (b : Bool) (f : TraceFault) (rest : Option TraceFault) → cond b (Some f) rest ≡ None → (b ≡ false) × (rest ≡ None)
+nothing_told true f rest h = absurd (let e : Some f ≡ None = h in cc)
+nothing_told false f rest h = (refl, h)
+
+-- an entry within the limits
+pub within_limits : (n : ℕ) (past : List Entry) (e : Entry) → first_fault n past e ≡ None → passes_limit past (length (listed_by e)) ≡ false
+unfolding rows
+within_limits n past (Send from to ssn) h = (nothing_told _ _ _ h).0
+within_limits n past (Deliver to send rsn listed) h = (nothing_told _ _ _ h).0
+within_limits n past (Stable det) h = (nothing_told _ _ _ h).0
+within_limits n past (Crash who) h = (nothing_told _ _ _ h).0
+within_limits n past (Restart who listed) h = (nothing_told _ _ _ h).0
+within_limits n past (Forget who listed) h = (nothing_told _ _ _ h).0
+
+pub limits : (n a b : ℕ) → (nat_lt 65536 (n + 1) || nat_lt 1048576 (a + b)) ≡ false → (n + 1 ≤ 65536) × (a + b ≤ 1048576)
+limits n a b h = grind (arith, nat_tests)
+
+abbrev is_memory : TraceFault → Bool
+is_memory NoMemory = true
+is_memory _ = false
+
+neither : (a b : Bool) → (a || b) ≡ false → (a ≡ false) × (b ≡ false)
+neither true b h = absurd (false≢true (sym h))
+neither false b h = (refl, h)
+
+-- rows of which none tells want of memory don't tell it together
+no_memory_in : (told : List (Bool × TraceFault)) → list_any (λ row. is_memory row.1) told ≡ false → first_holding told ≡ Some NoMemory → ⊥
+no_memory_in [] none h = let e : None ≡ Some NoMemory = h in cc
+no_memory_in (row ∷ rest) none h =
+    let apart : (is_memory row.1 ≡ false) × (list_any (λ row. is_memory row.1) rest ≡ false) = neither _ _ none in
+    elim row.0 as (λ b. cond b (Some row.1) (first_holding rest) ≡ Some NoMemory → ⊥) [
+      | true ↦ λ k. let e : row.1 ≡ NoMemory = cc k in false≢true (sym apart.0 ∙ ap is_memory e)
+      | false ↦ λ k. no_memory_in rest apart.1 k
+    ] h
+
+-- no row tells want of memory
+pub no_memory_told : (n : ℕ) (past : List Entry) (e : Entry) → first_fault n past e ≡ Some NoMemory → ⊥
+unfolding rows
+no_memory_told n past (Send from to ssn) = no_memory_in (rows n past (Send from to ssn)) refl
+no_memory_told n past (Deliver to send rsn listed) = no_memory_in (rows n past (Deliver to send rsn listed)) refl
+no_memory_told n past (Stable det) = no_memory_in (rows n past (Stable det)) refl
+no_memory_told n past (Crash who) = no_memory_in (rows n past (Crash who)) refl
+no_memory_told n past (Restart who listed) = no_memory_in (rows n past (Restart who listed)) refl
+no_memory_told n past (Forget who listed) = no_memory_in (rows n past (Forget who listed)) refl
+
+pub formed_push : (r : Recording) (e : Entry) → IsWellFormed r → first_fault r.processes r.past e ≡ None → IsWellFormed (with_entry r e)
+formed_push r e formed next = record { count = formed.count; accepted = (formed.accepted, next) }
+
+-- what a trace keeps, with one more entry
+pub kept_push : (r : Recording) (e : Entry) (listed : ℕ) → IsKept r listed → first_fault r.processes r.past e ≡ None → IsKept (with_entry r e) (listed + length (listed_by e))
+kept_push r e listed kept next =
+    let fit : (length r.past + 1 ≤ 65536) × (listed_in r.past + length (listed_by e) ≤ 1048576) = limits _ _ _ (within_limits r.processes r.past e next) in
+    record {
+      formed = formed_push r e kept.formed next;
+      short = omega (arith, fit.0);
+      counted = ap (λ n. n + length (listed_by e)) kept.counted;
+      within = omega (arith, fit.1, kept.counted);
+    }
