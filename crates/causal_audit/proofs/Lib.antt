@@ -1,5 +1,10 @@
+pub mod Exposure
 pub mod Instants
+pub mod Judged
+pub mod LeastLemmas
 pub mod Members
-pub mod Uncrashed
-pub mod Reaching
 pub mod Numbered
+pub mod OneVerdict
+pub mod Reaching
+pub mod Uncrashed
+pub mod VerdictLemmas

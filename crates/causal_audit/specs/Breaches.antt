@@ -50,6 +50,7 @@ LeastBreach r f from to last found = MatchOption found
     ((i k t : ℕ) → from ≤ i → i < to → IsNumbered r.past i k → t ≤ last → HasOrphan r.processes f (instant r.past t) k → ⊥)
     (IsLeastBreach r f from to last)
 
--- each instant after `last` comes at the first excess or after it
+-- the instants after `last` are left out of the search for orphans: there is none, or the first excess comes at the next
+-- one or before it
 abbrev pub AreLeftOut : Recording → ℕ → Option Excess → Type 0
-AreLeftOut r last found = MatchOption found (length r.past ≤ last) (λ x. x.instant ≤ last + 1)
+AreLeftOut r last found = MatchOption found (last ≡ length r.past) (λ x. x.instant ≤ last + 1)
