@@ -6,5 +6,7 @@ pub mod Members
 pub mod Numbered
 pub mod OneVerdict
 pub mod Reaching
+pub mod Scanned
+pub mod Steps
 pub mod Uncrashed
 pub mod VerdictLemmas

@@ -39,6 +39,15 @@ no_fewer (Crash who) past = omega arith
 no_fewer (Restart who listed) past = omega arith
 no_fewer (Forget who listed) past = omega arith
 
+pub deliveries_few : (past : List Entry) → deliveries_in past ≤ length past
+deliveries_few [] = omega arith
+deliveries_few (Send from to ssn ∷ past) = omega (arith, deliveries_few past)
+deliveries_few (Deliver to send rsn listed ∷ past) = omega (arith, deliveries_few past)
+deliveries_few (Stable det ∷ past) = omega (arith, deliveries_few past)
+deliveries_few (Crash who ∷ past) = omega (arith, deliveries_few past)
+deliveries_few (Restart who listed ∷ past) = omega (arith, deliveries_few past)
+deliveries_few (Forget who listed ∷ past) = omega (arith, deliveries_few past)
+
 pub numbered_below : (past : List Entry) (i k : ℕ) → IsNumbered past i k → i < deliveries_in past
 numbered_below [] i k n = absurd n
 numbered_below (e ∷ past) i k (inl n) = omega (arith, numbered_below past i k n, no_fewer e past)

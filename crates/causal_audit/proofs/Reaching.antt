@@ -100,7 +100,7 @@ module _ (e : Entry) (past : List Entry) (k : ℕ) (from : List ℕ) (forward : 
 -- ---- in a calm past
 
 -- the process of an event is one of the run's
-event_inside : (n : ℕ) (past : List Entry) (j p l : ℕ) → AreAccepted n past → IsEventOf past j p l → p < n
+pub event_inside : (n : ℕ) (past : List Entry) (j p l : ℕ) → AreAccepted n past → IsEventOf past j p l → p < n
 event_inside n [] j p l a at = absurd at
 event_inside n (e ∷ past) j p l a (inl at) = event_inside n past j p l a.0 at
 event_inside n (e ∷ past) j p l a (inr at) = acts e past a.1 at.1
@@ -124,7 +124,7 @@ event_there n (x ∷ past) j p e calm at who =
       | inr there ↦ inl (event_there n past j p e (calm_older n x past calm) (sym (cond-false (j == length past) (Some x) (entry_at past j) there.0) ∙ at) who)
     ]
 
-delivers_to : (past : List Entry) (e : Entry) (d : Det) → det_of past e ≡ Some d → actor e ≡ Some d.dest.0
+pub delivers_to : (past : List Entry) (e : Entry) (d : Det) → det_of past e ≡ Some d → actor e ≡ Some d.dest.0
 delivers_to past (Send from to ssn) d h = absurd (let x : None ≡ Some d = h in cc)
 delivers_to past (Deliver to send rsn listed) d h = go (message_at past send) h
   where

@@ -1,5 +1,5 @@
 //! The verdict on a recorded run.
-ghost use Rattle.std.specs.Prelude.{◌≡◌, ◌≤◌, ◌<◌, ◌+◌, ◌×◌, ℕ, Some, MatchOption, true};
+ghost use Rattle.std.specs.Prelude.{◌≡◌, ◌≤◌, ◌<◌, ◌+◌, ℕ, Some, MatchOption, true};
 ghost use Rattle.causal_trace.specs.Past.{deliveries_in};
 ghost use Rattle.causal_trace.specs.Rows.{Recording};
 ghost use Rattle.causal_audit.specs.Breaches.{FirstBreach, FirstExcess, LeastBreach, AreLeftOut};
@@ -52,11 +52,11 @@ pub fn first_breach(tables: &Tables, f: u16, i: u32) -> Option<Breach>
 }
 
 /// Whether a delivery at a position, and each later one, fails no earlier than this.
-fn is_settled(least: Option<Breach>, position: u32) -> bool
-    ensures { result ≡ true → MatchOption least ⊥ (λ b. b.instant ≤ position + 1) }
+fn is_settled(least: &Option<Breach>, position: u32) -> bool
+    ensures { result ≡ true → MatchOption least.now ⊥ (λ b. b.instant ≤ position) }
 {
     match least {
-        Some(breach) => breach.instant <= position + 1,
+        Some(breach) => breach.instant <= position,
         None => false,
     }
 }
@@ -70,7 +70,7 @@ pub fn least_between(tables: &Tables, f: u16, from: u32, to: u32) -> Option<Brea
 {
     let mut least = None;
     for i in from..to {
-        if is_settled(least, tables.position(i)) {
+        if is_settled(&least, tables.position(i)) {
             return least;
         }
         least = earlier(least, first_breach(tables, f, i));

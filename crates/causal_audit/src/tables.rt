@@ -71,7 +71,8 @@ impl Tables {
 
     /// How many deliveries the run has; they are numbered from 0 in their order.
     pub fn deliveries(&self) -> u32
-        ensures { result ≡ deliveries_in self.now.past }
+        ensures value { result ≡ deliveries_in self.now.past }
+        ensures formed { IsWellFormed self.now }
     {
         self.positions.len() as u32
     }
@@ -93,7 +94,8 @@ impl Tables {
 
     /// The determinant of the delivery at a position; None where there is no delivery.
     pub(crate) fn det_at(&self, k: u32) -> Option<Det>
-        ensures { result ≡ det_at self.now.past k }
+        ensures value { result ≡ det_at self.now.past k }
+        ensures formed { IsWellFormed self.now }
     {
         self.trace.det_at(k)
     }
@@ -101,6 +103,8 @@ impl Tables {
     /// How many entries come before the first crash.
     pub(crate) fn calm(&self) -> u32
         ensures value { result ≡ losses.before_crash self.now.past }
+        ensures formed { IsWellFormed self.now }
+        ensures few { length self.now.past ≤ max_entries }
     {
         self.calm
     }
