@@ -1,22 +1,20 @@
 -- Orphans for f = 0, where nobody is down: there is one exactly where the determinant is in no log and not stable.
-use Rattle.std.proofs.Common.{ℕ, zero, suc, ◌≡◌, ◌+◌, ◌<◌, ◌≤◌, inl, inr, Bool, true, false, cond, List, [], ◌∷◌, length, reverse, Option, Some, None, refl, sym, ap, subst, ◌∙◌, arith}
+use Rattle.std.proofs.Common.{ℕ, zero, suc, ◌≡◌, ◌<◌, ◌≤◌, inl, inr, Bool, true, false, cond, List, length, Some, sym, ap, ◌∙◌, arith}
 use Rattle.std.specs.Ordering.{nat_cmp}
 use Rattle.std.specs.FinSet.{FinSet, contains, empty, len, contains-empty, len-empty}
 use Rattle.std.proofs.lemmas.Bool.{false≢true, cases_lt, cases_Bool, false_from_ne_true}
 use Rattle.causal_name.specs.declared.Det.{Det}
-use Rattle.causal_name.specs.Sets.{count_below, IsWithin}
+use Rattle.causal_name.specs.Sets.{count_below}
 use Rattle.causal_holders.proofs.Sets.{empty_or_member, some_member}
 use Rattle.causal_trace.specs.declared.entry.Entry.{Entry}
-use Rattle.causal_trace.specs.declared.entry.Entry.TheVariants.{Send, Deliver, Stable, Crash, Restart, Forget}
-use Rattle.causal_trace.specs.Past.{instant, is_down, logs, is_stable, det_at, det_of, entry_at}
-use Rattle.causal_trace.specs.Dependence.{Depends, IsEventOf}
-use Rattle.causal_trace.specs.Rows.{Recording, AreAccepted}
-use Rattle.causal_trace.specs.Judgement.{IsCrashSet, IsOrphan, HasOrphan}
-use Rattle.causal_trace.specs.Limits.{max_entries}
+use Rattle.causal_trace.specs.Past.{logs, is_stable, det_at}
+use Rattle.causal_trace.specs.Dependence.{Depends}
+use Rattle.causal_trace.specs.Rows.{AreAccepted}
+use Rattle.causal_trace.specs.Judgement.{HasOrphan}
 use Rattle.causal_audit.specs.Losses.{IsCalm}
 use Rattle.causal_audit.specs.Sights.{Shows}
 use Rattle.causal_audit.specs.Verdicts.{IsLeastOrphan}
-use Rattle.causal_audit.proofs.Instants.{det_within, instant_length}
+use Rattle.causal_audit.proofs.Instants.{det_within}
 use Rattle.causal_audit.proofs.Members.{logs_inside}
 use Rattle.causal_audit.proofs.Uncrashed.{everybody_up}
 use Rattle.causal_audit.proofs.Reaching.{event_inside}

@@ -1,5 +1,5 @@
 -- Which events a delivery reaches, in a run without a crash: one more entry.
-use Rattle.std.proofs.Common.{ℕ, zero, suc, ◌≡◌, ◌≢◌, ◌+◌, ◌<◌, ◌≤◌, inl, inr, Bool, true, false, cond, List, [], ◌∷◌, length, Option, Some, None, refl, sym, ap, subst, ◌∙◌, arith, set, replicate, get_or}
+use Rattle.std.proofs.Common.{ℕ, zero, suc, ◌≡◌, ◌≢◌, ◌+◌, ◌<◌, ◌≤◌, inl, inr, true, false, cond, List, [], ◌∷◌, length, Option, Some, None, refl, sym, ap, subst, ◌∙◌, arith, set, replicate, get_or}
 use Rattle.std.specs.Prelude.{◌⊎◌, ◌↔◌, ◌==◌, slice_index, nat_lt, if◌then◌else◌}
 use Rattle.std.specs.Option.{option_map, option_map_or}
 use Rattle.std.proofs.lemmas.List.{get_or-set_same, get_or-set_other, length-set, get_or-replicate, length-replicate}
@@ -16,8 +16,8 @@ use Rattle.causal_trace.specs.Rows.{AreAccepted, first_fault}
 use Rattle.causal_trace.specs.State.{past_at}
 use Rattle.causal_trace.proofs.Instants.{past_more, past_length, entry_there, det_there}
 use Rattle.causal_trace.proofs.Accepted.{accepted_forward, delivers_sent, sent_within}
-use Rattle.causal_trace.specs.Dependence.{actor, is_delivery_of, IsEventOf, Delivers, DirectlyPrecedes, in_order, by_message, Reaches, itself, onward, Depends}
-use Rattle.causal_trace.proofs.Reached.{AreForward, event_below, reaches_old, reaches_begins, ReachesNewest, is_newest, in_lane, through_message, reaches_newest}
+use Rattle.causal_trace.specs.Dependence.{actor, IsEventOf, DirectlyPrecedes, in_order, by_message, Reaches, itself, onward, Depends}
+use Rattle.causal_trace.proofs.Reached.{AreForward, event_below, reaches_old, ReachesNewest, is_newest, in_lane, through_message, reaches_newest}
 use Rattle.causal_audit.specs.Losses.{IsCalm}
 use Rattle.causal_audit.specs.Sights.{IsReach, carries}
 use Rattle.causal_audit.proofs.Members.{send_inside, deliver_inside}
@@ -90,6 +90,7 @@ module _ (e : Entry) (past : List Entry) (k : ℕ) (from : List ℕ) (forward : 
               λ r. omega (arith, place, at.0),
               λ h. subst (λ x. Reaches (e ∷ past) k x) (sym at.0) new,
             )
+
         other : (j p l : ℕ) → p < max_processes → p ≢ q → IsEventOf (e ∷ past) j p l → Reaches (e ∷ past) k j ↔ (slice_index (set from q (length past)) p ≤ j)
         other j p l small apart (inl at) = subst (λ x. Reaches (e ∷ past) k j ↔ (x ≤ j)) (sym (elsewhere p apart)) (
           λ r. (reach.reached j p l small at).0 (reaches_old e past k forward j (event_below past j p l at) r),
@@ -221,6 +222,7 @@ module _ (past : List Entry) (n k : ℕ) (from : List ℕ) (to : Pid) (send rsn 
     where
       here : IsEventOf (Deliver to send rsn listed ∷ past) (length past) to.0 (lane past to.0)
       here = inr (refl, refl, refl)
+
       new : Reaches (Deliver to send rsn listed ∷ past) k (length past)
       new = elim why [
         | inl is ↦ subst (λ x. Reaches (Deliver to send rsn listed ∷ past) x (length past)) is (itself to.0 (lane past to.0) here)

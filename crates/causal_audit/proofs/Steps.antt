@@ -7,16 +7,14 @@ use Rattle.std.proofs.lemmas.List.{length-reverse}
 use Rattle.causal_name.specs.declared.Det.{Det}
 use Rattle.causal_name.specs.Sets.{count_below}
 use Rattle.causal_trace.specs.declared.entry.Entry.{Entry}
-use Rattle.causal_trace.specs.Past.{instant, is_down, logs, is_stable}
+use Rattle.causal_trace.specs.Past.{instant, is_down, logs}
 use Rattle.causal_trace.specs.Rows.{Recording, IsWellFormed}
 use Rattle.causal_trace.specs.State.{past_at, entries_of}
 use Rattle.causal_trace.proofs.Instants.{past_more}
 use Rattle.causal_audit.specs.Sights.{Shows}
-use Rattle.causal_audit.specs.Verdicts.{HasMembers}
 use Rattle.causal_audit.proofs.Exposure.{count_none}
 use Rattle.causal_audit.proofs.Instants.{read_instant, accepted_then}
 use Rattle.causal_audit.proofs.Members.{shows_none, down_members, counted}
-
 
 module _ (r : Recording) (es : List Entry) (read : es ≡ entries_of r) where
   pub how_many : length es ≡ length r.past

@@ -9,4 +9,6 @@ mod reach;
 mod scan;
 mod sight;
 pub mod tables;
+#[cfg(test)]
+mod tests;
 pub mod verdict;

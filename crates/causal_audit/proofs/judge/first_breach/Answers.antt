@@ -1,5 +1,5 @@
-use Rattle.std.proofs.Common.{ℕ, ◌≡◌, ◌≤◌, Some, sym, ◌∙◌, subst}
-use Rattle.causal_trace.specs.Past.{instant, det_at}
+use Rattle.std.proofs.Common.{◌≡◌, sym, ◌∙◌, subst}
+use Rattle.causal_trace.specs.Past.{instant}
 use Rattle.causal_trace.specs.Judgement.{HasOrphan}
 use Rattle.causal_audit.specs.Breaches.{FirstBreach}
 use Rattle.causal_audit.specs.Losses.{before_crash}

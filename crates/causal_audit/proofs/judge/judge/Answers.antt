@@ -1,6 +1,5 @@
-use Rattle.std.proofs.Common.{sym, subst}
-use Rattle.causal_trace.specs.Past.{deliveries_in}
-use Rattle.causal_audit.specs.Breaches.{FirstExcess, LeastBreach, AreLeftOut}
+use Rattle.std.proofs.Common.{subst}
+use Rattle.causal_audit.specs.Breaches.{FirstExcess, LeastBreach}
 use Rattle.causal_audit.specs.Losses.{before_crash}
 use Rattle.causal_audit.specs.Verdicts.{IsVerdict}
 use Rattle.causal_audit.proofs.OneVerdict.{one_verdict}

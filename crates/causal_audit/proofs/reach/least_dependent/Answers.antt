@@ -1,8 +1,7 @@
-use Rattle.std.proofs.Common.{ℕ, ◌<◌, ◌≤◌, ◌≡◌, length, arith, sym, subst, inl, inr}
+use Rattle.std.proofs.Common.{◌<◌, length, arith, sym, subst, inl, inr}
 use Rattle.std.specs.Prelude.{slice_index}
 use Rattle.std.proofs.lemmas.Bool.{cases_lt}
 use Rattle.causal_trace.specs.State.{past_at}
-use Rattle.causal_trace.specs.Dependence.{Depends}
 use Rattle.causal_trace.proofs.Instants.{past_length}
 use Rattle.causal_audit.proofs.Reaching.{depends_from, from_depends, receiver_from, det_so_far}
 use Rattle.causal_audit.proofs.reach.least_dependent.Goals as goal

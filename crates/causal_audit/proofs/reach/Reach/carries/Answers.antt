@@ -1,4 +1,4 @@
-use Rattle.std.proofs.Common.{ℕ, refl, ◌≡◌, arith, sym, ap, ◌∙◌, Some, None, List, length, false, subst}
+use Rattle.std.proofs.Common.{ℕ, refl, ◌≡◌, arith, sym, ap, ◌∙◌, Some, List, length, false}
 use Rattle.causal_name.specs.declared.Pid.{Pid}
 use Rattle.causal_trace.specs.declared.entry.Entry.{Entry}
 use Rattle.causal_trace.specs.declared.entry.Entry.TheVariants.{Send, Deliver, Stable, Crash, Restart, Forget}

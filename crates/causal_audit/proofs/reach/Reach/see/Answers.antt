@@ -1,4 +1,4 @@
-use Rattle.std.proofs.Common.{◌≡◌, ◌∷◌, ◌+◌, ap, sym, ◌∙◌, inl, inr, arith}
+use Rattle.std.proofs.Common.{◌≡◌, ◌∷◌, ◌+◌, ap, sym, ◌∙◌, inl, inr}
 use Rattle.causal_trace.specs.declared.entry.Entry.TheVariants.{Deliver}
 use Rattle.causal_trace.specs.State.{past_at}
 use Rattle.causal_trace.proofs.Instants.{past_more}
