@@ -46,6 +46,7 @@ impl Tables {
     pub fn of(alloc: Global, trace: &Trace) -> Result<Tables, NoMemory>
         ensures { IfOk result (λ tables. tables ≡ trace.now.recording) }
     {
+        // A trace keeps its limit on entries, so that their positions fit.
         let _len = trace.len();
         let entries = trace.entries();
         let calm = before_crash(entries) as u32;
