@@ -3,8 +3,11 @@
 
 pub mod entry;
 pub mod fault;
-pub mod limits;
+mod lanes;
 pub mod laws;
+pub mod limits;
+pub mod plain;
+mod receipts;
 mod scans;
 #[cfg(test)]
 mod tests;
