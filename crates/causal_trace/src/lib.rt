@@ -11,4 +11,6 @@ mod receipts;
 mod scans;
 #[cfg(test)]
 mod tests;
+#[cfg(test)]
+mod random_tests;
 pub mod trace;
