@@ -75,14 +75,22 @@ pub fn copied_entries(entries: &Vec<Entry>) -> Result<Vec<Entry>, NoMemory>
 pub fn restarts_in(e: &Entry) -> u32
     ensures { result ≡ (if is_restart e.now then 1 else 0) }
 {
-    if matches!(e, Entry::Restart { .. }) { 1 } else { 0 }
+    if matches!(e, Entry::Restart { .. }) {
+        1
+    } else {
+        0
+    }
 }
 
 /// One for a delivery.
 pub fn deliveries_in(e: &Entry) -> u32
     ensures { result ≡ (if is_delivery e.now then 1 else 0) }
 {
-    if matches!(e, Entry::Deliver { .. }) { 1 } else { 0 }
+    if matches!(e, Entry::Deliver { .. }) {
+        1
+    } else {
+        0
+    }
 }
 
 /// Whether the lane is this one.

@@ -7,10 +7,10 @@ mod lanes;
 pub mod laws;
 pub mod limits;
 pub mod plain;
+#[cfg(test)]
+mod random_tests;
 mod receipts;
 mod scans;
 #[cfg(test)]
 mod tests;
-#[cfg(test)]
-mod random_tests;
 pub mod trace;

@@ -1,12 +1,12 @@
 //! The trace and the plain program beside it answer the same to the same entries, half of them bad.
+ghost use Rattle.std.specs.Prelude.{◌<◌};
+
 use crate::entry::{Dets, Entry};
 use crate::fault::TraceFault;
 use crate::plain::PlainTrace;
 use crate::trace::Trace;
 use causal_name::{Det, MsgName, Pid};
 use std::alloc::Global;
-
-ghost use Rattle.std.specs.Prelude.{◌<◌};
 
 /// A seeded walk: the same numbers each time, and the next sequence numbers of each process.
 #[derive(Clone, Copy)]
@@ -213,6 +213,9 @@ fn both_traces_answer_the_same(rt: HostRuntime) {
             return;
         };
         assert_eq!(rt; differ, 0, "with the seed {seed}");
-        assert!(rt; taken > 1_500 && taken < 4_500, "with the seed {seed} {taken} were taken");
+        assert!(rt;
+            taken > 1_500 && taken < 4_500,
+            "with the seed {seed} {taken} were taken"
+        );
     }
 }

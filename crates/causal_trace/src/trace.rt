@@ -9,8 +9,8 @@ use crate::lanes::{
 };
 use crate::limits::{MAX_ENTRIES, MAX_LISTED, MAX_PROCESSES, MAX_RESTARTS};
 use crate::receipts::{
-    are_noted, are_noted_with, copied_dets, copied_receipts, is_noted, note_delivered, note_receipt,
-    received_in,
+    are_noted, are_noted_with, copied_dets, copied_receipts, is_noted, note_delivered,
+    note_receipt, received_in,
 };
 use crate::scans;
 use causal_name::{Det, MsgName, NoMemory, Pid};
@@ -65,7 +65,7 @@ impl PartialEq for Trace {
     ghost laws = { and_per (on_per (λ a. a.recording.processes) (partial_equiv_from_equiv nat_eq_equiv)) (on_per (λ a. entries_of a.recording) (lists_per entry_laws)) };
 
     fn eq(&self, other: &Trace) -> bool {
-        self.processes == other.processes && self.entries == other.entries
+        other.processes == self.processes && self.entries == other.entries
     }
 }
 

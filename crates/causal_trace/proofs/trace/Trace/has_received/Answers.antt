@@ -11,7 +11,7 @@ returns-in-Some c =
     let p = c.args.p in
     let m = c.in-Some.m in
     let now : is_lane (get same_receipt c.self.inside.received (p, m)) (lane c.args.self.now.recording.past p.0) ≡ has_delivered c.args.self.now.recording.past p.0 m =
-        subst (λ (es : List Entry). is_lane (get same_receipt c.self.inside.received (p, m)) (lane es p.0) ≡ has_delivered es p.0 m) (ap (λ s. s.recording.past) c.self.view_is) (c.self.invariant.received.present p m) in
+    subst (λ (es : List Entry). is_lane (get same_receipt c.self.inside.received (p, m)) (lane es p.0) ≡ has_delivered es p.0 m) (ap (λ s. s.recording.past) c.self.view_is) (c.self.invariant.received.present p m) in
     c.is_lane.ensures
     ∙ (λ i. is_lane (c.received_in.ensures i) ((c.present_lane-lane.ensures i).restarts))
     ∙ now

@@ -75,7 +75,7 @@ invariant_of-self c =
     let d : After-det_of_next-own = (goal.at.invariant_of-self c).After-det_of_next-own in
     let long : length c.note_lane.new.lanes ≡ c.self.inside.lanes.len = ap length c.note_lane.ensures ∙ lanes_length (subject c.args.entry) c.args.entry _ ∙ ap length c.as_mut_slice.ensures.value ∙ sym c.self.inside.lanes.ok.0 in
     let lanes : take c.self.inside.lanes.len (c.note_lane.new.lanes ++ drop (length c.note_lane.new.lanes) c.self.inside.lanes.items) ≡ lanes_after c.args.entry c.self.inside.lanes.items =
-        take_at c.note_lane.new.lanes _ c.self.inside.lanes.len long ∙ c.note_lane.ensures ∙ ap (lanes_after c.args.entry) c.as_mut_slice.ensures.value in
+    take_at c.note_lane.new.lanes _ c.self.inside.lanes.len long ∙ c.note_lane.ensures ∙ ap (lanes_after c.args.entry) c.as_mut_slice.ensures.value in
     rw (c.push_reserved.ensures.items, c.listed.ensures, c.restarts_in.ensures, c.deliveries_in.ensures, lanes, reverse-append)
     (indexed_push _ c.args.entry _ _ _ c.receipt_lane-lane.result _ c.self.inside.delivered _ c.self.inside.received _ c.self.invariant (next d)
     (λ e h. c.receipt_lane-lane.ensures e (own_is d ∙ h) ∙ ap (λ s. lane s.recording.past e.dest.0) (sym c.self.view_is))
