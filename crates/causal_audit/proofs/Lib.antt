@@ -1,6 +1,14 @@
+pub mod Dependence
+pub mod Exposing
 pub mod Instants
 pub mod Judged
+pub mod Legal
+pub mod Link
 pub mod Members
+pub mod Mirrored
+pub mod Noted
 pub mod OneVerdict
+pub mod Orphaned
 pub mod Reaching
 pub mod Uncrashed
+pub mod Walked

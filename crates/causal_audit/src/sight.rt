@@ -9,14 +9,14 @@ use causal_holders::Holders;
 use causal_name::Det;
 use causal_trace::entry::{Dets, Entry};
 
-fn with(mut members: Holders, p: u8) -> Holders
+pub fn with(mut members: Holders, p: u8) -> Holders
     ensures { result ≡ set.insert members p }
 {
     members.insert(p);
     members
 }
 
-fn without(mut members: Holders, p: u8) -> Holders
+pub fn without(mut members: Holders, p: u8) -> Holders
     ensures { result ≡ set.remove members p }
 {
     members.remove(p);
