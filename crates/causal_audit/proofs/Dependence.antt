@@ -14,7 +14,7 @@ use Rattle.causal_trace.specs.Rows.{AreAccepted}
 use Rattle.causal_trace.specs.Dependence.{actor, IsEventOf, Delivers, DirectlyPrecedes, in_order, by_message, Reaches, itself, onward, Depends}
 use Rattle.causal_trace.proofs.Reached.{event_below, reaches_old, depends_restarted}
 use Rattle.causal_trace.proofs.Accepted.{accepted_forward, delivers_up}
-use Rattle.causal_audit.specs.Dependents.{AreDependents, TellsReach}
+use Rattle.causal_audit.specs.Sights.{AreDependents, TellsReach}
 use Rattle.causal_audit.proofs.Legal.{sends_up}
 use Rattle.causal_audit.proofs.Members.{inserted, removed}
 

@@ -14,26 +14,9 @@ use Rattle.causal_trace.specs.Rows.{rows, first_fault, AreAccepted}
 use Rattle.causal_trace.specs.Dependence.{actor, is_delivery_of, IsEventOf, Delivers}
 use Rattle.causal_trace.proofs.Accepted.{row_fails, delivers_up, delivers_sent}
 use Rattle.causal_trace.proofs.Formed.{within_limits, limits}
-
-below : (p n : ℕ) → not (nat_lt p n) ≡ false → p < n
-below p n h = elim (cases_lt p n) [ inl k ↦ k | inr k ↦ absurd (false≢true (sym h ∙ ap not (le-ltb p n k))) ]
-
-below_both : (p q n : ℕ) → not (nat_lt p n && nat_lt q n) ≡ false → p < n
-below_both p q n h = elim (cases_lt p n) [ inl k ↦ k | inr k ↦ absurd (false≢true (sym h ∙ ap (λ b. not (b && nat_lt q n)) (le-ltb p n k))) ]
+use Rattle.causal_audit.proofs.Members.{send_inside, deliver_inside}
 
 module _ (n : ℕ) (past : List Entry) where
-  pub sender_inside : (from to : Pid) (ssn : ℕ) → first_fault n past (Send from to ssn) ≡ None → from.0 < n
-  unfolding rows
-  sender_inside from to ssn legal = below_both from.0 to.0 n (row_fails (rows n past (Send from to ssn)) legal 1 (not (nat_lt from.0 n && nat_lt to.0 n), NoProcess) refl)
-
-  pub receiver_inside : (to : Pid) (send rsn : ℕ) (listed : List Det) → first_fault n past (Deliver to send rsn listed) ≡ None → to.0 < n
-  unfolding rows
-  receiver_inside to send rsn listed legal = below to.0 n (row_fails (rows n past (Deliver to send rsn listed)) legal 1 (not (nat_lt to.0 n), NoProcess) refl)
-
-  pub restarted_inside : (who : Pid) (listed : List Det) → first_fault n past (Restart who listed) ≡ None → who.0 < n
-  unfolding rows
-  restarted_inside who listed legal = below who.0 n (row_fails (rows n past (Restart who listed)) legal 1 (not (nat_lt who.0 n), NoProcess) refl)
-
   pub sends_up : (from to : Pid) (ssn : ℕ) → first_fault n past (Send from to ssn) ≡ None → is_down past from.0 ≡ false
   unfolding rows
   sends_up from to ssn legal = row_fails (rows n past (Send from to ssn)) legal 2 (is_down past from.0, NotUp) refl
@@ -48,8 +31,8 @@ module _ (n : ℕ) (past : List Entry) where
 
   -- the process of an event is one of the run, and up
   pub actor_inside : (e : Entry) (p : ℕ) → first_fault n past e ≡ None → actor e ≡ Some p → p < n
-  actor_inside (Send from to ssn) p legal of = let k : from.0 ≡ p = cc of in omega (arith, k, sender_inside from to ssn legal)
-  actor_inside (Deliver to send rsn listed) p legal of = let k : to.0 ≡ p = cc of in omega (arith, k, receiver_inside to send rsn listed legal)
+  actor_inside (Send from to ssn) p legal of = let k : from.0 ≡ p = cc of in omega (arith, k, send_inside n past from to ssn legal)
+  actor_inside (Deliver to send rsn listed) p legal of = let k : to.0 ≡ p = cc of in omega (arith, k, deliver_inside n past to send rsn listed legal)
   actor_inside (Stable det) p legal of = absurd (let k : None ≡ Some p = of in cc)
   actor_inside (Crash who) p legal of = absurd (let k : None ≡ Some p = of in cc)
   actor_inside (Restart who listed) p legal of = absurd (let k : None ≡ Some p = of in cc)
@@ -63,6 +46,16 @@ pub event_inside : (n : ℕ) (past : List Entry) → AreAccepted n past → (i p
 event_inside n [] h i p l at = absurd at
 event_inside n (e ∷ past) h i p l (inl at) = event_inside n past h.0 i p l at
 event_inside n (e ∷ past) h i p l (inr at) = actor_inside n past e p h.1 at.1
+
+-- where a send is named, there is one
+pub sent_is : (p : ℕ) (o : Option Entry) → option_map_or (is_send_to p) o false ≡ true → (sender : Pid) × (to : Pid) × (ssn : ℕ) × (o ≡ Some (Send sender to ssn))
+sent_is p None h = absurd (false≢true h)
+sent_is p (Some (Send from to ssn)) h = (from, to, ssn, refl)
+sent_is p (Some (Deliver to send rsn listed)) h = absurd (false≢true h)
+sent_is p (Some (Stable det)) h = absurd (false≢true h)
+sent_is p (Some (Crash who)) h = absurd (false≢true h)
+sent_is p (Some (Restart who listed)) h = absurd (false≢true h)
+sent_is p (Some (Forget who listed)) h = absurd (false≢true h)
 
 -- a send is an event
 sends_to : (past : List Entry) (p : ℕ) (e : Entry) → is_send_to p e ≡ true → (q : ℕ) × (actor e ≡ Some q)

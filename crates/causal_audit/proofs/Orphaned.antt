@@ -13,13 +13,13 @@ use Rattle.causal_clock.specs.declared.Event.{Event}
 use Rattle.causal_clock.specs.Precedence as clock
 use Rattle.causal_audit.specs.declared.breach.Breach.{Breach}
 use Rattle.causal_audit.specs.Breaches.{IsFirstBreach}
-use Rattle.causal_audit.specs.Dependents.{TellsReach}
+use Rattle.causal_audit.specs.Sights.{TellsReach}
 use Rattle.causal_audit.specs.Stands.{Stands}
 use Rattle.causal_audit.specs.Verdicts.{IsLeastOrphan}
 use Rattle.causal_audit.proofs.Instants.{instant_length, accepted_then, det_then}
 use Rattle.causal_audit.proofs.Legal.{delivery_event}
 use Rattle.causal_audit.proofs.Link.{clock_tells}
-use Rattle.causal_audit.proofs.Walked.{next_instant, reaches_then, reaches_whole, event_whole}
+use Rattle.causal_audit.proofs.Walked.{reaches_then, reaches_whole, event_whole}
 
 -- a delivery that is still to come has no orphan
 pub not_yet : (n f : ℕ) (past : List Entry) (k : ℕ) → length past ≤ k → HasOrphan n f past k → ⊥
@@ -51,15 +51,8 @@ module _ (r : Recording) (formed : IsWellFormed r) (t : ℕ) (x : Entry) (below 
     pub det_next : k < t + 1 → det_at (x ∷ instant r.past t) k ≡ Some d
     det_next made = ap (λ y. det_at y k) (sym next) ∙ det_then r.past (t + 1) k made (omega (arith, below)) ∙ at
 
-pub none_more : (r : Recording) (f k t : ℕ) → ((u : ℕ) → u ≤ t → HasOrphan r.processes f (instant r.past u) k → ⊥) → (HasOrphan r.processes f (instant r.past (t + 1)) k → ⊥) → (u : ℕ) → u ≤ t + 1 → HasOrphan r.processes f (instant r.past u) k → ⊥
-none_more r f k t before now u h has =
-    elim (cases_lt u (t + 1)) [
-      | inl low ↦ before u (omega (arith, low)) has
-      | inr high ↦ let is : u ≡ t + 1 = omega arith in now (subst (λ v. HasOrphan r.processes f (instant r.past v) k) is has)
-    ]
-
 pub first_breach_is : (r : Recording) (f k t : ℕ) (b : Breach) → t < length r.past → ((u : ℕ) → u ≤ t → HasOrphan r.processes f (instant r.past u) k → ⊥) → b.instant ≡ t + 1 → b.delivery ≡ k
-    → IsLeastOrphan r.processes f (instant r.past (t + 1)) k b.crash b.orphan → IsFirstBreach r f k (length r.past) b
+    → IsLeastOrphan r.processes f (instant r.past (t + 1)) k b.crash b.orphan → IsFirstBreach r f k b
 first_breach_is r f k t b below before instant_is delivery least = record {
   within = omega (arith, below, instant_is);
   delivery = delivery;

@@ -14,16 +14,6 @@ use Rattle.causal_trace.proofs.Accepted.{accepted_forward}
 use Rattle.causal_audit.proofs.Instants.{read_instant, instant_length, instants_stay, last_instant}
 use Rattle.causal_audit.proofs.Dependence.{reaches_more}
 
--- the entry that comes next makes the next instant
-pub next_instant : (past : List Entry) (i : ℕ) (x : Entry) → i < length past → x ≡ get_or (reverse past) i x → instant past (i + 1) ≡ x ∷ instant past i
-next_instant past i x below is =
-    sym (read_instant past (i + 1) (omega (arith, below)))
-    ∙ past_more (reverse past) i x (omega (arith, below, length-reverse past)) is
-    ∙ ap (λ p. x ∷ p) (read_instant past i (omega (arith, below)))
-
-pub first_instant : (past : List Entry) → instant past 0 ≡ []
-first_instant past = sym (read_instant past 0 (omega arith))
-
 -- ---- what reaches what is the same at each instant
 
 reaches_dropped : (n m : ℕ) (past : List Entry) (i j : ℕ) → AreAccepted n past → j < length past - m → Reaches past i j → Reaches (drop m past) i j

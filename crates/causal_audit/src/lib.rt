@@ -3,10 +3,9 @@
 
 pub mod breach;
 mod events;
-mod exposure;
+pub mod judge;
 pub mod laws;
-mod losses;
-mod reach;
 mod orphans;
 mod sight;
+pub mod tables;
 pub mod verdict;

@@ -6,14 +6,13 @@ ghost use Rattle.causal_trace.specs.Past.{det_at};
 ghost use Rattle.causal_trace.specs.Rows.{AreAccepted};
 ghost use Rattle.causal_audit.specs.BreachAt.{BreachAt};
 ghost use Rattle.causal_audit.specs.Breaches.{FirstBreach};
-ghost use Rattle.causal_audit.specs.Dependents.{IsSight};
+ghost use Rattle.causal_audit.specs.Sights.{IsSight};
 ghost use Rattle.causal_audit.specs.Stands.{Stands};
 
 use crate::breach::Breach;
-use crate::exposure::Sight;
+use crate::sight::Sight;
 use causal_clock::Clocks;
 use causal_name::Det;
-use causal_trace::entry::Entry;
 use causal_trace::trace::Trace;
 
 /// How the delivery at position k has an orphan at the instant t; None where it has none. It has none before it is made.
@@ -38,7 +37,7 @@ fn breach_at(sight: &Sight, f: u16, k: u32, t: u32) -> Option<Breach>
 pub fn first_orphan(trace: &Trace, clocks: &Clocks, f: u16, k: u32, det: Det) -> Option<Breach>
     requires clock { Stands trace.now.recording.past clocks.now.events }
     requires delivery { det_at trace.now.recording.past k ≡ Some det }
-    ensures { FirstBreach trace.now.recording f k (length trace.now.recording.past) result }
+    ensures { FirstBreach trace.now.recording f k result }
 {
     let _formed = trace.len();
     let mut sight = Sight::new();

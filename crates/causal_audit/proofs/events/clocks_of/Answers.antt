@@ -6,13 +6,14 @@ use Rattle.causal_trace.specs.Rows.{AreAccepted}
 use Rattle.causal_audit.specs.Stands.{Mirrors, Stands}
 use Rattle.causal_audit.proofs.Instants.{accepted_then, last_instant}
 use Rattle.causal_audit.proofs.Mirrored.{mirrors_none}
-use Rattle.causal_audit.proofs.Walked.{next_instant, first_instant, if_ok}
+use Rattle.causal_audit.proofs.Walked.{if_ok}
+use Rattle.causal_audit.proofs.Steps.{next_state, no_entry}
 use Rattle.causal_audit.proofs.events.clocks_of.Goals as goal
 
 pub loop-entry-init : goal.loop-entry-init
 loop-entry-init c = record {
   items = c.entries-entry-items.ensures;
-  mirrors = rw (first_instant c.args.trace.now.recording.past, c.in-Ok.ensures.ok, c.processes-n.ensures)
+  mirrors = rw (no_entry c.args.trace.now.recording.past, c.in-Ok.ensures.ok, c.processes-n.ensures)
       (mirrors_none c.args.trace.now.recording.processes c.in-Ok-first_lanes.present.items
       (c.in-Ok-first_lanes.ensures.count ∙ c.processes-n.ensures)
       (λ p low. c.in-Ok-first_lanes.ensures.each p (omega (arith, low, c.processes-n.ensures))));
@@ -22,9 +23,8 @@ pub note-requires : goal.note-requires
 note-requires c =
     let past = c.args.trace.now.recording.past in
     let next : instant past (c.loop-entry.entry-index + 1) ≡ c.entry-item.result ∷ instant past c.loop-entry.entry-index =
-    next_instant past c.loop-entry.entry-index c.entry-item.result
-    (omega (arith, c.loop-entry-test.true, ap length c.entries-entry-items.ensures, length-reverse past))
-    (c.entry-item.is ∙ ap (λ xs. get_or xs c.loop-entry.entry-index c.entry-item.result) c.entries-entry-items.ensures) in
+    next_state c.args.trace.now.recording c.entries-entry-items.result.now c.entries-entry-items.ensures c.loop-entry.entry-index c.entry-item.result
+    (omega (arith, c.loop-entry-test.true, ap length c.entries-entry-items.ensures, length-reverse past)) c.entry-item.is in
     record {
       processes = c.args.trace.now.recording.processes;
       past = instant past c.loop-entry.entry-index;
@@ -40,9 +40,8 @@ loop-entry-preserved c =
     let n = c.args.trace.now.recording.processes in
     let i = c.loop-entry.entry-index in
     let next : instant past (i + 1) ≡ c.entry-item.result ∷ instant past i =
-    next_instant past i c.entry-item.result
-    (omega (arith, c.loop-entry-test.true, ap length c.entries-entry-items.ensures, length-reverse past))
-    (c.entry-item.is ∙ ap (λ xs. get_or xs i c.entry-item.result) c.entries-entry-items.ensures) in
+    next_state c.args.trace.now.recording c.entries-entry-items.result.now c.entries-entry-items.ensures i c.entry-item.result
+    (omega (arith, c.loop-entry-test.true, ap length c.entries-entry-items.ensures, length-reverse past)) c.entry-item.is in
     let accepted : AreAccepted n (c.entry-item.result ∷ instant past i) = subst (AreAccepted n) next (accepted_then n past (i + 1) c.len-formed.ensures.formed.accepted) in
     let noted : Mirrors n (c.entry-item.result ∷ instant past i) c.note.new.clocks c.note.new.present =
     if_ok c.note.result _ (sym c.is_err.ensures.value ∙ c.if-is_err.false)

@@ -3,17 +3,17 @@ use Rattle.std.proofs.lemmas.List.{length-reverse}
 use Rattle.causal_trace.specs.Past.{instant}
 use Rattle.causal_trace.specs.Judgement.{HasOrphan}
 use Rattle.causal_trace.proofs.Reached.{event_below}
-use Rattle.causal_audit.specs.Dependents.{IsSight}
+use Rattle.causal_audit.specs.Sights.{IsSight}
 use Rattle.causal_audit.specs.Verdicts.{IsLeastOrphan}
 use Rattle.causal_audit.proofs.Instants.{instant_length}
 use Rattle.causal_audit.proofs.Legal.{delivery_event}
-use Rattle.causal_audit.proofs.Walked.{next_instant, first_instant}
-use Rattle.causal_audit.proofs.Orphaned.{not_yet, accepted_next, length_next, tells, det_next, none_more, first_breach_is}
+use Rattle.causal_audit.proofs.Steps.{next_state, no_entry, up_to_next}
+use Rattle.causal_audit.proofs.Orphaned.{not_yet, accepted_next, length_next, tells, det_next, first_breach_is}
 use Rattle.causal_audit.proofs.orphans.first_orphan.Goals as goal
 
 pub loop-t-init : goal.loop-t-init
 loop-t-init c = record {
-  sight = rw (first_instant c.args.trace.now.recording.past) (c.new-sight.ensures c.args.k c.args.det);
+  sight = rw (no_entry c.args.trace.now.recording.past) (c.new-sight.ensures c.args.k c.args.det);
   before = λ u h. not_yet c.args.trace.now.recording.processes c.args.f (instant c.args.trace.now.recording.past u) c.args.k (omega (arith, h, instant_length c.args.trace.now.recording.past u (omega (arith, h))));
 }
 
@@ -29,7 +29,7 @@ returns-in-Some c =
     let t = c.loop-t.t in
     let x = c.entry-item.result in
     let below : t < length r.past = omega (arith, c.loop-t-test.true, ap length c.entries-entry-items.ensures, length-reverse r.past) in
-    let next : instant r.past (t + 1) ≡ x ∷ instant r.past t = next_instant r.past t x below (c.entry-item.is ∙ ap (λ xs. get_or xs t x) c.entries-entry-items.ensures) in
+    let next : instant r.past (t + 1) ≡ x ∷ instant r.past t = next_state r c.entries-entry-items.result.now c.entries-entry-items.ensures t x below c.entry-item.is in
     let accepted = accepted_next r formed t x below next in
     let told = tells r formed t x below next c.args.clocks.now.events c.requires.clock c.args.k c.args.det c.requires.delivery c.precedes.result c.precedes.ensures in
     let seen : IsSight (x ∷ instant r.past t) c.args.k c.args.det c.see.new.self = c.see.ensures r.processes (instant r.past t) c.args.k accepted told c.loop-t.invariant.sight in
@@ -45,7 +45,7 @@ loop-t-preserved c =
     let t = c.loop-t.t in
     let x = c.entry-item.result in
     let below : t < length r.past = omega (arith, c.loop-t-test.true, ap length c.entries-entry-items.ensures, length-reverse r.past) in
-    let next : instant r.past (t + 1) ≡ x ∷ instant r.past t = next_instant r.past t x below (c.entry-item.is ∙ ap (λ xs. get_or xs t x) c.entries-entry-items.ensures) in
+    let next : instant r.past (t + 1) ≡ x ∷ instant r.past t = next_state r c.entries-entry-items.result.now c.entries-entry-items.ensures t x below c.entry-item.is in
     let accepted = accepted_next r formed t x below next in
     let told = tells r formed t x below next c.args.clocks.now.events c.requires.clock c.args.k c.args.det c.requires.delivery c.precedes.result c.precedes.ensures in
     let seen : IsSight (x ∷ instant r.past t) c.args.k c.args.det c.see.new.self = c.see.ensures r.processes (instant r.past t) c.args.k accepted told c.loop-t.invariant.sight in
@@ -53,5 +53,5 @@ loop-t-preserved c =
     let none : HasOrphan r.processes c.args.f (x ∷ instant r.past t) c.args.k → ⊥ = c.in_default.ensures r.processes (x ∷ instant r.past t) c.args.det accepted (length_next r formed t x below next) made seen in
     record {
       sight = rw next seen;
-      before = none_more r c.args.f c.args.k t c.loop-t.invariant.before (rw next none);
+      before = up_to_next (λ u. HasOrphan r.processes c.args.f (instant r.past u) c.args.k → ⊥) t c.loop-t.invariant.before (rw next none);
     }
