@@ -1,5 +1,5 @@
 -- What a clock is seen as: events in lanes, in the order in which they came.
-use Rattle.std.specs.Prelude.{ℕ, ◌==◌, Option, None, List, [], ◌∷◌, ◌++◌, take, count_by, slice_index_or}
+use Rattle.std.specs.Prelude.{ℕ, ◌+◌, ◌==◌, Option, None, List, [], ◌∷◌, ◌++◌, take, count_by, slice_index_or}
 use Rattle.causal_clock.specs.declared.Event.{Event}
 
 -- the number of lanes, how many of them were opened later, and the events, numbered from 0
@@ -11,6 +11,10 @@ pub record Timeline : Type 0 where
 -- one more event
 abbrev pub with_event : Timeline → Event → Timeline
 with_event t e = record t { events = t.events ++ e ∷ [] }
+
+-- one more lane, opened later
+abbrev pub with_lane : Timeline → Timeline
+with_lane t = record t { lanes = t.lanes + 1; opened = t.opened + 1 }
 
 -- the lane of event i
 abbrev pub lane_of : List Event → ℕ → ℕ

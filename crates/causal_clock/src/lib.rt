@@ -8,9 +8,9 @@
 
 pub mod laws;
 
-ghost use Rattle.std.specs.Prelude.{◌≡◌, ℕ, ◌+◌, ◌<◌, ◌≤◌, ◌↔◌, [], length, map, IsTrue, IfOk, IfErr, OnErr, Some, None, slice_index};
+ghost use Rattle.std.specs.Prelude.{◌≡◌, ℕ, ◌+◌, ◌<◌, ◌≤◌, ◌↔◌, [], length, map, IsTrue, IfOk, IfErr, OnOk, OnErr, Some, None, slice_index};
 ghost use Rattle.std.specs.Option.{ForSome};
-ghost use Rattle.causal_clock.specs.Timeline.{with_event};
+ghost use Rattle.causal_clock.specs.Timeline.{with_event, with_lane};
 ghost use Rattle.causal_clock.specs.Precedence.{Reaches, FirstReach};
 ghost use Rattle.causal_clock.specs.Kept.{merged};
 ghost use Rattle.causal_clock.specs.Inside.{row_or_none};
@@ -103,21 +103,18 @@ impl Clocks {
         ensures ok { IfOk result (λ clocks. clocks ≡ record { lanes = lanes; opened = 0; events = [] }) }
         ensures refusal { IfErr result (λ fault. fault ≡ ClockFault.NoMemory) }
     {
-        let mut last = Vec::new(alloc);
-        for _ in 0..lanes {
-            last.push(None)?;
-        }
         Ok(Self {
             alloc,
             entries: Vec::new(alloc),
-            last,
+            last: vec![in alloc; None; usize::from(lanes)]?,
             opened: 0,
         })
     }
 
-    /// How many events there are.
+    /// How many events there are: at most [`EVENTS`].
     pub fn len(&self) -> u32
-        ensures { result ≡ length self.now.events }
+        ensures counted { result ≡ length self.now.events }
+        ensures few { result ≤ EVENTS }
     {
         self.entries.len() as u32
     }
@@ -127,7 +124,8 @@ impl Clocks {
     /// Refusals, in this order: [`ClockFault::Lanes`] where [`OPENED_LANES`] lanes have been opened, and
     /// [`ClockFault::NoMemory`]. A refusal changes nothing.
     pub fn open_lane(&mut self) -> Result<u32, ClockFault>
-        ensures ok { IfOk result (λ lane. (lane ≡ self.old.lanes) × (self.new ≡ record self.old { lanes = self.old.lanes + 1; opened = self.old.opened + 1 })) }
+        ensures number { IfOk result (λ lane. lane ≡ self.old.lanes) }
+        ensures opened { OnOk result (self.new ≡ with_lane self.old) }
         ensures unchanged { OnErr result (self.new ≡ self.old) }
         ensures lanes { (result ≡ Err ClockFault.Lanes) ↔ (OPENED_LANES ≤ self.old.opened) }
     {
@@ -145,7 +143,8 @@ impl Clocks {
     pub fn local(&mut self, lane: u32) -> Result<u32, ClockFault>
         requires lane { lane < self.old.lanes }
         requires room { length self.old.events < EVENTS }
-        ensures ok { IfOk result (λ event. (event ≡ length self.old.events) × (self.new ≡ with_event self.old (record { lane = lane; send = None }))) }
+        ensures number { IfOk result (λ event. event ≡ length self.old.events) }
+        ensures appended { OnOk result (self.new ≡ with_event self.old (record { lane = lane; send = None })) }
         ensures unchanged { OnErr result (self.new ≡ self.old) }
         ensures refusal { IfErr result (λ fault. fault ≡ ClockFault.NoMemory) }
     {
@@ -159,7 +158,8 @@ impl Clocks {
         requires lane { lane < self.old.lanes }
         requires sent { send_event < length self.old.events }
         requires room { length self.old.events < EVENTS }
-        ensures ok { IfOk result (λ event. (event ≡ length self.old.events) × (self.new ≡ with_event self.old (record { lane = lane; send = Some send_event }))) }
+        ensures number { IfOk result (λ event. event ≡ length self.old.events) }
+        ensures appended { OnOk result (self.new ≡ with_event self.old (record { lane = lane; send = Some send_event })) }
         ensures unchanged { OnErr result (self.new ≡ self.old) }
         ensures refusal { IfErr result (λ fault. fault ≡ ClockFault.NoMemory) }
     {
@@ -173,7 +173,8 @@ impl Clocks {
         requires lane { event.lane < self.old.lanes }
         requires sent { ForSome event.send (λ s. s < length self.old.events) }
         requires room { length self.old.events < EVENTS }
-        ensures ok { IfOk result (λ number. (number ≡ length self.old.events) × (self.new ≡ with_event self.old event)) }
+        ensures number { IfOk result (λ number. number ≡ length self.old.events) }
+        ensures appended { OnOk result (self.new ≡ with_event self.old event) }
         ensures unchanged { OnErr result (self.new ≡ self.old) }
         ensures refusal { IfErr result (λ fault. fault ≡ ClockFault.NoMemory) }
     {
@@ -181,7 +182,7 @@ impl Clocks {
         let previous = counters_of(&self.entries, self.last[lane]);
         let sent = counters_of(&self.entries, event.send);
         let counters = merge(self.alloc, self.last.len(), lane, previous, sent)?;
-        let number = self.entries.len() as u32;
+        let number = self.len();
         self.entries.push(Entry { event, counters })?;
         self.last[lane] = Some(number);
         Ok(number)
@@ -239,7 +240,8 @@ fn merge(
     requires previous { (k : ℕ) → slice_index previous.now k ≤ EVENTS }
     requires sent { (k : ℕ) → slice_index sent.now k ≤ EVENTS }
     ensures count { IfOk result (λ counters. length counters.items ≡ lanes) }
-    ensures each { IfOk result (λ counters. (k : ℕ) → k < lanes → slice_index counters.items k ≡ merged (slice_index previous.now k) (slice_index sent.now k) own k) }
+    ensures each { IfOk result (λ counters. (k : ℕ) → k < lanes →
+        slice_index counters.items k ≡ merged (slice_index previous.now k) (slice_index sent.now k) own k) }
 {
     let mut counters = Vec::new(alloc);
     for lane in 0..lanes {
