@@ -1,0 +1,16 @@
+pub mod Dependence
+pub mod Exposure
+pub mod Instants
+pub mod Judged
+pub mod LeastLemmas
+pub mod Legal
+pub mod Link
+pub mod Members
+pub mod Mirrored
+pub mod Noted
+pub mod Numbered
+pub mod OneVerdict
+pub mod Orphaned
+pub mod Steps
+pub mod VerdictLemmas
+pub mod Walked
