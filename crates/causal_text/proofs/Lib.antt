@@ -1,6 +1,5 @@
 pub mod Fields
 pub mod Values
-pub mod LineLemmas
 pub mod Joined
 pub mod Steps
 pub mod Spellings
@@ -12,3 +11,5 @@ pub mod ShapeData
 pub mod Plain
 pub mod Sizes
 pub mod Canonicals
+pub mod Feeds
+pub mod StreamLemmas
