@@ -3,7 +3,7 @@
 
 pub mod entry;
 pub mod fault;
-pub mod limits;
 pub mod laws;
+pub mod limits;
 mod scans;
 pub mod trace;
