@@ -3,7 +3,7 @@ ghost use Rattle.std.specs.Prelude.{◌≡◌, ℕ, ◌<◌, ◌≤◌, ◌↔�
 ghost use Rattle.std.specs.List.{list_any};
 ghost use Rattle.std.specs.Ordering.{nat_cmp};
 ghost use Rattle.std.specs.FinSet as set;
-ghost use Rattle.causal_name.specs.Sets.{count_below, either};
+ghost use Rattle.causal_name.specs.Sets.{count_below, either, IsWithin};
 ghost use Rattle.causal_holders.specs.declared.TheConstants.{PROCESSES};
 ghost use Rattle.causal_holders.specs.CrashSets.{IsCrashSet, IsOrphan, CanOrphan, AreUp};
 ghost use Rattle.causal_holders.specs.Members.{ascending, HasMembers};
@@ -36,9 +36,12 @@ pub fn equality_law()
     ensures { (s t : set.FinSet nat_cmp) → (have_same_members s t ≡ true) ↔ (s ≡ t) }
 {}
 
-/// Where a set shows the members of a test, it has as many as pass; the union of two sets shows the union of two tests.
+/// Where a set shows the members of a test, it has as many as pass; the union of two sets shows the union of two tests,
+/// and one of them is a part of the other where its test is within the other's.
 pub fn counting_law()
     ensures counted { (n : ℕ) (s : set.FinSet nat_cmp) (test : ℕ → Bool) → HasMembers n s test → set.len s ≡ count_below n test }
     ensures united { (n : ℕ) (s t : set.FinSet nat_cmp) (a b : ℕ → Bool) → HasMembers n s a → HasMembers n t b →
         HasMembers n (set.union s t) (either a b) }
+    ensures within { (n : ℕ) (s t : set.FinSet nat_cmp) (a b : ℕ → Bool) → HasMembers n s a → HasMembers n t b →
+        (set.is_subset s t ≡ true) ↔ IsWithin n a b }
 {}

@@ -1,7 +1,9 @@
 pub mod Limits
 pub mod Past
 pub mod Rows
+pub mod Sizes
 pub mod State
+pub mod Index
 pub mod Dependence
 pub mod Judgement
 pub mod SameDets

@@ -3,7 +3,14 @@
 
 pub mod entry;
 pub mod fault;
+mod lanes;
 pub mod laws;
 pub mod limits;
+pub mod plain;
+#[cfg(test)]
+mod random_tests;
+mod receipts;
 mod scans;
+#[cfg(test)]
+mod tests;
 pub mod trace;
