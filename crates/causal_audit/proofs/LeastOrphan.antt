@@ -1,14 +1,13 @@
 -- The least crash set that gives a delivery an orphan is among the listed ones.
 use Rattle.std.proofs.Common.{ℕ, ◌≡◌, ◌≤◌, Bool, true, false, List, Some, sym, ap, ◌∙◌, arith}
-use Rattle.std.specs.Prelude.{◌&&◌, nat_lt, Contains}
+use Rattle.std.specs.Prelude.{Contains}
 use Rattle.std.specs.Ordering.{nat_cmp}
 use Rattle.std.specs.Cmp.{nat_cmp_total}
 use Rattle.std.specs.FinSet.{FinSet, contains, is_subset, len, is_subset-contains, contains-is_subset}
-use Rattle.std.proofs.lemmas.Bool.{and_parts, lt-ltb, ltb-true}
 use Rattle.causal_name.specs.declared.Det.{Det}
 use Rattle.causal_holders.specs.Members.{HasMembers, IsLeast}
-use Rattle.causal_holders.specs.Words.{numbers_below, contains-numbers_below}
-use Rattle.causal_holders.proofs.Counting.{len_counted, members_counted}
+use Rattle.causal_holders.specs.Words.{numbers_below}
+use Rattle.causal_holders.proofs.Counting.{len_counted, members_counted, numbers_below_members}
 use Rattle.causal_trace.specs.declared.entry.Entry.{Entry}
 use Rattle.causal_trace.specs.Past.{is_down, logs, det_at}
 use Rattle.causal_trace.specs.Judgement.{IsCrashSet, IsOrphan, HasOrphan}
@@ -16,13 +15,6 @@ use Rattle.causal_audit.specs.Laws.{gone}
 use Rattle.causal_audit.specs.Verdicts.{IsLeastOrphan}
 use Rattle.causal_audit.specs.Plain.{AreDependents, AreCrashSets, IsLost, AreOrphans, AreBreaking, IsLeastSet, HasNoLeast}
 use Rattle.causal_audit.proofs.Judged.{crash_contains, orphan_without, exposed, gone_crash, gone_orphan}
-
--- a finite set shows a test below n
-pub shown : (n : ℕ) (test : ℕ → Bool) → HasMembers n (numbers_below n test) test
-shown n test = record {
-  process = λ p h. ltb-true p n (and_parts (nat_lt p n) (test p) (sym (contains-numbers_below n test p) ∙ h)).0;
-  member = λ p below. contains-numbers_below n test p ∙ ap (λ b. b && test p) (lt-ltb p n below);
-}
 
 module _ (n f : ℕ) (past : List Entry) (k : ℕ) (d : Det) (at : det_at past k ≡ Some d) (dependents down : FinSet nat_cmp) (depend : AreDependents n past k dependents) (are_down : HasMembers n down (is_down past)) (sets found : List (FinSet nat_cmp)) (listed : AreCrashSets n f down sets) (broken : AreBreaking n past d dependents sets found) where
   -- a set that is found is a crash set, and the dependents that survive it are orphans
@@ -48,7 +40,7 @@ module _ (n f : ℕ) (past : List Entry) (k : ℕ) (d : Det) (at : det_at past k
   is_found : (crash : ℕ → Bool) (p : ℕ) → IsCrashSet n f past crash → IsOrphan n past k crash p → Contains found (numbers_below n crash)
   is_found crash p may o =
       let s = numbers_below n crash in
-      let shows = shown n crash in
+      let shows = numbers_below_members n crash in
       let within : is_subset down s ≡ true = contains-is_subset nat_cmp_total down s (λ q in_down.
       let below = are_down.process q in_down in
       shows.member q below ∙ may.down q below (sym (are_down.member q below) ∙ in_down)) in
@@ -67,7 +59,7 @@ module _ (n f : ℕ) (past : List Entry) (k : ℕ) (d : Det) (at : det_at past k
   no_orphan none has =
       let e = exposed n f past k d at has in
       let s = numbers_below n (gone past d) in
-      let shows = shown n (gone past d) in
+      let shows = numbers_below_members n (gone past d) in
       none s (
         is_found (gone past d) e.orphan (gone_crash n f past k d at e.few) (gone_orphan n f past k d at e.orphan e.process e.unstable e.depends e.without),
         λ t in_found.
@@ -87,7 +79,7 @@ module _ (n f : ℕ) (past : List Entry) (k : ℕ) (d : Det) (at : det_at past k
         may_crash = found_crash crash least.0;
         is_orphan = orphan_from crash p here.0 here.1 here.2;
         least_set = λ other q may_other o r below in_crash.
-            sym ((shown n other).member r below) ∙ is_subset-contains nat_cmp_total crash (numbers_below n other) (least.1 (numbers_below n other) (is_found other q may_other o)) r in_crash;
+            sym ((numbers_below_members n other).member r below) ∙ is_subset-contains nat_cmp_total crash (numbers_below n other) (least.1 (numbers_below n other) (is_found other q may_other o)) r in_crash;
         least_orphan = λ q o.
             let same : o.det ≡ d = let e : Some o.det ≡ Some d = sym o.delivered ∙ at in cc in
             first.1 q ((are q).1 (

@@ -5,6 +5,8 @@ mod events;
 mod judging;
 mod orphans;
 mod state;
+#[cfg(test)]
+mod tests;
 
 ghost use Rattle.std.specs.Prelude.{IfOk};
 ghost use Rattle.causal_audit.specs.Verdicts.{IsVerdict};
