@@ -83,18 +83,24 @@ pub fn logs(entries: &[Entry], p: Pid, d: Det) -> bool
                     logged = true;
                 }
             }
-            Entry::Crash { who } => {
-                if *who == p {
+            Entry::Crash { who: crashed } => {
+                if *crashed == p {
                     logged = false;
                 }
             }
-            Entry::Restart { who, listed } => {
-                if *who == p && has(listed.as_slice(), d) {
+            Entry::Restart {
+                who,
+                listed: gathered,
+            } => {
+                if *who == p && has(gathered.as_slice(), d) {
                     logged = true;
                 }
             }
-            Entry::Forget { who, listed } => {
-                if *who == p && has(listed.as_slice(), d) {
+            Entry::Forget {
+                who,
+                listed: forgotten,
+            } => {
+                if *who == p && has(forgotten.as_slice(), d) {
                     logged = false;
                 }
             }
