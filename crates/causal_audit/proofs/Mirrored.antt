@@ -51,22 +51,19 @@ module _ (x : Entry) (past : List Entry) (events : List Event) (e : Event) (s : 
     same_lane : (i j p q l m : ℕ) → IsEventOf (x ∷ past) i p l → IsEventOf (x ∷ past) j q m → (lane_of (events ++ e ∷ []) i ≡ lane_of (events ++ e ∷ []) j) ↔ ((p ≡ q) × (l ≡ m))
     same_lane i j p q l m (inl a) (inl b) = iff_at _ _ _ _ (old_lane i p l a) (old_lane j q m b) (s.same_lane i j p q l m a b)
     same_lane i j p q l m (inl a) (inr b) =
-        let f = mine i p q l a b.1 in
-        (
+        let f = mine i p q l a b.1 in (
           λ h. let k = f.0 (sym (old_lane i p l a) ∙ h ∙ new_lane j b.0) in (k.0, k.1 ∙ b.2),
           λ k. old_lane i p l a ∙ f.1 (k.0, k.1 ∙ sym b.2) ∙ sym (new_lane j b.0),
         )
     same_lane i j p q l m (inr a) (inl b) =
-        let f = mine j q p m b a.1 in
-        (
+        let f = mine j q p m b a.1 in (
           λ h. let k = f.0 (sym (old_lane j q m b) ∙ sym h ∙ new_lane i a.0) in (sym k.0, sym a.2 ∙ sym k.1),
           λ k. new_lane i a.0 ∙ sym (f.1 (sym k.0, sym k.1 ∙ sym a.2)) ∙ sym (old_lane j q m b),
         )
-    same_lane i j p q l m (inr a) (inr b) =
-        (
-          λ h. let same = same_actor x p q a.1 b.1 in (same, sym a.2 ∙ ap (λ y. lane past y) same ∙ b.2),
-          λ k. new_lane i a.0 ∙ sym (new_lane j b.0),
-        )
+    same_lane i j p q l m (inr a) (inr b) = (
+      λ h. let same = same_actor x p q a.1 b.1 in (same, sym a.2 ∙ ap (λ y. lane past y) same ∙ b.2),
+      λ k. new_lane i a.0 ∙ sym (new_lane j b.0),
+    )
 
     receives : Receives x e.send → (j i : ℕ) → j < length (x ∷ past) → (send_of (events ++ e ∷ []) j ≡ Some i) ↔ Delivers (x ∷ past) j i
     receives sends j i low =
@@ -131,8 +128,7 @@ mirrors_event n past c present x e s keeps inside of sends = record {
         (λ k. let g = f.0 (sym old ∙ k) in (g.0, g.1 ∙ sym (keeps.1 q)), λ k. old ∙ f.1 (k.0, k.1 ∙ keeps.1 q))
     present_lane i p q l in_q (inr a) =
         let here = of p a.1 in
-        let is : lane_of (c.events ++ e ∷ []) i ≡ slice_index present p = new_lane x past c.events e s.stands i a.0 ∙ here.1 in
-        (
+        let is : lane_of (c.events ++ e ∷ []) i ≡ slice_index present p = new_lane x past c.events e s.stands i a.0 ∙ here.1 in (
           λ k. let same = s.apart p q here.0 in_q (sym is ∙ k) in (same, sym a.2 ∙ ap (λ y. lane past y) same ∙ sym (keeps.1 q)),
           λ k. is ∙ ap (λ y. slice_index present y) k.0,
         )

@@ -124,6 +124,7 @@ numbered_det n (e ∷ past) i k a (inr m) none =
         let d : Det = record { source = sender; ssn = ssn; dest = to; rsn = rsn } in
         let x : Some d ≡ None = sym (ap (λ y. option_map (det_from to rsn) (option_and_then message_sent y)) at) ∙ none in
         cc
+
     some : (e : Entry) (past : List Entry) → AreAccepted n (e ∷ past) → is_delivery e ≡ true → det_of past e ≡ None → ⊥
     some (Send from to ssn) past a h none = false≢true h
     some (Deliver to send rsn listed) past a h none =

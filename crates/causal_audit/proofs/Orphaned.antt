@@ -41,8 +41,7 @@ module _ (r : Recording) (formed : IsWellFormed r) (t : ℕ) (x : Entry) (below 
         let from = delivery_event r.past k d at in
         let here : IsEventOf (x ∷ instant r.past t) t p (lane (instant r.past t) p) = inr (sym length_here, of, refl) in
         let into : IsEventOf r.past t p (lane (instant r.past t) p) = event_whole r.past (t + 1) t p _ (subst (λ y. IsEventOf y t p (lane (instant r.past t) p)) (sym next) here) in
-        let told = clock_tells r.processes r.past formed.accepted events stands k t from.0 p from.1 _ from.2 into in
-        (
+        let told = clock_tells r.processes r.past formed.accepted events stands k t from.0 p from.1 _ from.2 into in (
           λ h. subst (Reaches (x ∷ instant r.past t) k) (sym length_here) (subst (λ y. Reaches y k t) next (reaches_then r.processes r.past (t + 1) k t formed.accepted (omega (arith, below)) (omega arith) (told.0 (same.0 h)))),
           λ reach. same.1 (told.1 (reaches_whole r.past (t + 1) k t (subst (λ y. Reaches y k t) (sym next) (subst (Reaches (x ∷ instant r.past t) k) length_here reach)))),
         )

@@ -17,7 +17,6 @@ use Rattle.causal_holders.proofs.Counting.{count_below-none}
 use Rattle.causal_audit.proofs.Instants.{read_instant, accepted_then}
 use Rattle.causal_audit.proofs.Shown.{shows_none, down_members, counted}
 
-
 module _ (r : Recording) (es : List Entry) (read : es ≡ entries_of r) where
   pub how_many : length es ≡ length r.past
   how_many = ap length read ∙ length-reverse r.past
