@@ -9,4 +9,6 @@ mod orphans;
 pub mod plain;
 mod sight;
 pub mod tables;
+#[cfg(test)]
+mod tests;
 pub mod verdict;
