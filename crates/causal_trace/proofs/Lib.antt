@@ -1,3 +1,6 @@
+pub mod Accepted
+mod Agreed
 mod Ascending
 pub mod Formed
 pub mod Instants
+pub mod Reached

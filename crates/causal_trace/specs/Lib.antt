@@ -5,3 +5,4 @@ pub mod State
 pub mod Dependence
 pub mod Judgement
 pub mod SameDets
+pub mod Agree

@@ -4,5 +4,6 @@
 pub mod entry;
 pub mod fault;
 pub mod limits;
+pub mod laws;
 mod scans;
 pub mod trace;

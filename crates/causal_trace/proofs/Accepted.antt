@@ -1,0 +1,71 @@
+-- What is known of an entry against which nothing stands.
+use Rattle.std.proofs.Common.{ℕ, zero, suc, ◌≡◌, ◌+◌, ◌<◌, ◌≤◌, inl, inr, Bool, true, false, cond, List, [], ◌∷◌, length, Option, Some, None, refl, sym, ap, subst, ◌∙◌, arith}
+use Rattle.std.specs.Prelude.{◌||◌, ◌&&◌, ◌==◌, not, nat_lt, slice_get}
+use Rattle.std.specs.List.{list_all}
+use Rattle.std.specs.Option.{option_map_or}
+use Rattle.std.proofs.lemmas.Bool.{false≢true, cases_lt, eqb-true}
+use Rattle.causal_name.specs.declared.Pid.{Pid}
+use Rattle.causal_name.specs.declared.Det.{Det}
+use Rattle.causal_trace.specs.declared.entry.Entry.{Entry}
+use Rattle.causal_trace.specs.declared.entry.Entry.TheVariants.{Send, Deliver, Stable, Crash, Restart, Forget}
+use Rattle.causal_trace.specs.declared.fault.TraceFault.{TraceFault}
+use Rattle.causal_trace.specs.declared.fault.TraceFault.TheVariants.{TooLong, NoProcess, NotUp, NotDown, Lanes, WrongSsn, NoSend, WrongRsn, Doubled, Unsorted, NoDelivery}
+use Rattle.causal_trace.specs.Past.{is_down, entry_at, is_send_to, is_sent_to}
+use Rattle.causal_trace.specs.Rows.{rows, first_holding, first_fault, AreAccepted}
+use Rattle.causal_trace.specs.Dependence.{is_delivery_of, Delivers}
+use Rattle.causal_trace.proofs.Instants.{entry_beyond}
+use Rattle.causal_trace.proofs.Reached.{AreForward}
+
+not_false : (b : Bool) → not b ≡ false → b ≡ true
+not_false true h = refl
+not_false false h = sym h
+
+nothing_told : (held : Bool) (fault : TraceFault) (rest : Option TraceFault) → cond held (Some fault) rest ≡ None → (held ≡ false) × (rest ≡ None)
+nothing_told true fault rest h = absurd (let e : Some fault ≡ None = h in cc)
+nothing_told false fault rest h = (refl, h)
+
+-- where nothing is told, no row holds
+pub row_fails : (told : List (Bool × TraceFault)) → first_holding told ≡ None → (k : ℕ) (row : Bool × TraceFault) → slice_get told k ≡ Some row → row.0 ≡ false
+row_fails [] h k row at = absurd (let e : None ≡ Some row = at in cc)
+row_fails (first ∷ rest) h zero row at =
+    let is : first ≡ row = cc at in
+    subst (λ x. x.0 ≡ false) is (nothing_told first.0 first.1 (first_holding rest) h).0
+row_fails (first ∷ rest) h (suc k) row at = row_fails rest (nothing_told first.0 first.1 (first_holding rest) h).1 k row at
+
+-- a delivery is to a process that is up
+pub delivers_up : (n : ℕ) (past : List Entry) (to : Pid) (send rsn : ℕ) (listed : List Det) → first_fault n past (Deliver to send rsn listed) ≡ None → is_down past to.0 ≡ false
+unfolding rows
+delivers_up n past to send rsn listed h = row_fails (rows n past (Deliver to send rsn listed)) h 2 (is_down past to.0, NotUp) refl
+
+-- a restart is of a process that is down
+pub restarts_down : (n : ℕ) (past : List Entry) (who : Pid) (listed : List Det) → first_fault n past (Restart who listed) ≡ None → is_down past who.0 ≡ true
+unfolding rows
+restarts_down n past who listed h = not_false (is_down past who.0) (row_fails (rows n past (Restart who listed)) h 2 (not (is_down past who.0), NotDown) refl)
+
+-- a delivery names a send that is there
+pub delivers_sent : (n : ℕ) (past : List Entry) (to : Pid) (send rsn : ℕ) (listed : List Det) → first_fault n past (Deliver to send rsn listed) ≡ None → is_sent_to past send to.0 ≡ true
+unfolding rows
+delivers_sent n past to send rsn listed h = not_false (is_sent_to past send to.0) (row_fails (rows n past (Deliver to send rsn listed)) h 3 (not (is_sent_to past send to.0), NoSend) refl)
+
+pub sent_within : (past : List Entry) (send p : ℕ) → is_sent_to past send p ≡ true → send < length past
+sent_within past send p h =
+    elim (cases_lt send (length past)) [
+      | inl k ↦ k
+      | inr k ↦ absurd (false≢true (sym (ap (λ o. option_map_or (is_send_to p) o false) (entry_beyond past send k)) ∙ h))
+    ]
+
+sent_before : (n : ℕ) (past : List Entry) (e : Entry) (i : ℕ) → first_fault n past e ≡ None → is_delivery_of i e ≡ true → i < length past
+sent_before n past (Send from to ssn) i h is = absurd (false≢true is)
+sent_before n past (Stable det) i h is = absurd (false≢true is)
+sent_before n past (Crash who) i h is = absurd (false≢true is)
+sent_before n past (Restart who listed) i h is = absurd (false≢true is)
+sent_before n past (Forget who listed) i h is = absurd (false≢true is)
+sent_before n past (Deliver to send rsn listed) i h is =
+    let named : send ≡ i = eqb-true send i is in
+    omega (arith, named, sent_within past send to.0 (delivers_sent n past to send rsn listed h))
+
+-- in a well-formed trace deliveries name earlier sends
+pub accepted_forward : (n : ℕ) (past : List Entry) → AreAccepted n past → AreForward past
+accepted_forward n [] h j i d = absurd d
+accepted_forward n (e ∷ past) h j i (inl d) = accepted_forward n past h.0 j i d
+accepted_forward n (e ∷ past) h j i (inr d) = omega (arith, d.0, sent_before n past e i h.1 d.1)

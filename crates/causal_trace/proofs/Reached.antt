@@ -1,0 +1,96 @@
+-- What one more entry adds to dependence.
+use Rattle.std.proofs.Common.{ℕ, ◌≡◌, ◌+◌, ◌<◌, ◌≤◌, inl, inr, true, false, cond, List, [], ◌∷◌, length, Some, None, sym, ap, subst, ◌∙◌, arith}
+use Rattle.std.specs.Prelude.{◌⊎◌, ◌==◌}
+use Rattle.causal_trace.specs.declared.entry.Entry.{Entry}
+use Rattle.causal_trace.specs.declared.entry.Entry.TheVariants.{Send, Deliver, Stable, Crash, Restart, Forget}
+use Rattle.causal_trace.specs.Past.{is_down, lane}
+use Rattle.causal_trace.specs.Dependence.{actor, is_delivery_of, IsEventOf, Delivers, DirectlyPrecedes, in_order, by_message, Reaches, itself, onward, Depends}
+
+pub event_below : (past : List Entry) (i p l : ℕ) → IsEventOf past i p l → i < length past
+event_below [] i p l h = absurd h
+event_below (e ∷ past) i p l (inl h) = omega (arith, event_below past i p l h)
+event_below (e ∷ past) i p l (inr h) = omega (arith, h.0)
+
+lane_grows : (e : Entry) (past : List Entry) (p : ℕ) → lane past p ≤ lane (e ∷ past) p
+lane_grows (Send from to ssn) past p = omega arith
+lane_grows (Deliver to send rsn listed) past p = omega arith
+lane_grows (Stable det) past p = omega arith
+lane_grows (Crash who) past p = omega arith
+lane_grows (Forget who listed) past p = omega arith
+lane_grows (Restart who listed) past p = elim (who.0 == p) as (λ b. lane past p ≤ cond b (lane past p + 1) (lane past p)) [ true ↦ omega arith | false ↦ omega arith ]
+
+pub event_lane : (past : List Entry) (i p l : ℕ) → IsEventOf past i p l → l ≤ lane past p
+event_lane [] i p l h = absurd h
+event_lane (e ∷ past) i p l (inl h) = omega (arith, event_lane past i p l h, lane_grows e past p)
+event_lane (e ∷ past) i p l (inr h) = omega (arith, h.2, lane_grows e past p)
+
+event_old : (e : Entry) (past : List Entry) (i p l : ℕ) → i < length past → IsEventOf (e ∷ past) i p l → IsEventOf past i p l
+event_old e past i p l below (inl h) = h
+event_old e past i p l below (inr h) = absurd (omega (arith, below, h.0))
+
+delivers_below : (past : List Entry) (j i : ℕ) → Delivers past j i → j < length past
+delivers_below [] j i h = absurd h
+delivers_below (e ∷ past) j i (inl h) = omega (arith, delivers_below past j i h)
+delivers_below (e ∷ past) j i (inr h) = omega (arith, h.0)
+
+delivers_old : (e : Entry) (past : List Entry) (j i : ℕ) → j < length past → Delivers (e ∷ past) j i → Delivers past j i
+delivers_old e past j i below (inl h) = h
+delivers_old e past j i below (inr h) = absurd (omega (arith, below, h.0))
+
+-- deliveries name earlier sends
+abbrev pub AreForward : List Entry → Type 0
+AreForward past = (j i : ℕ) → Delivers past j i → i < j
+
+precedes_before : (past : List Entry) (i j : ℕ) → AreForward past → DirectlyPrecedes past i j → i < j
+precedes_before past i j forward (in_order p l h a b) = h
+precedes_before past i j forward (by_message h) = forward j i h
+
+precedes_old : (e : Entry) (past : List Entry) (i j : ℕ) → j < length past → DirectlyPrecedes (e ∷ past) i j → DirectlyPrecedes past i j
+precedes_old e past i j below (in_order p l h a b) = in_order p l h (event_old e past i p l (omega (arith, below, h)) a) (event_old e past j p l below b)
+precedes_old e past i j below (by_message h) = by_message (delivers_old e past j i below h)
+
+-- between earlier events the newest entry changes nothing
+pub reaches_old : (e : Entry) (past : List Entry) (i : ℕ) → AreForward (e ∷ past) → (j : ℕ) → j < length past → Reaches (e ∷ past) i j → Reaches past i j
+reaches_old e past i forward j below (itself p l at) = itself p l (event_old e past i p l below at)
+reaches_old e past i forward k below (onward {j} r d) =
+    onward (reaches_old e past i forward j (let h : j < k = precedes_before (e ∷ past) j k forward d in omega (arith, below, h)) r) (precedes_old e past j k below d)
+
+pub reaches_begins : (past : List Entry) (i j : ℕ) → Reaches past i j → i < length past
+reaches_begins past i j (itself p l at) = event_below past i p l at
+reaches_begins past i j (onward {j = h} r d) = reaches_begins past i h r
+
+-- how an event reaches the newest one
+pub data ReachesNewest (e : Entry) (past : List Entry) (i p : ℕ) : Type 0 where
+  is_newest : i ≡ length past → ReachesNewest e past i p
+  in_lane : (j : ℕ) → IsEventOf past j p (lane past p) → Reaches past i j → ReachesNewest e past i p
+  through_message : (j : ℕ) → is_delivery_of j e ≡ true → Reaches past i j → ReachesNewest e past i p
+
+preceded : (e : Entry) (past : List Entry) (i p j k : ℕ) → AreForward (e ∷ past) → k ≡ length past → actor e ≡ Some p → Reaches (e ∷ past) i j → DirectlyPrecedes (e ∷ past) j k → ReachesNewest e past i p
+preceded e past i p j k forward is who r (in_order q l h a (inl b)) = absurd (omega (arith, event_below past k q l b, is))
+preceded e past i p j k forward is who r (in_order q l h a (inr b)) =
+    let below : j < length past = omega (arith, h, is) in
+    let same : p ≡ q = let x : Some p ≡ Some q = sym who ∙ b.1 in cc in
+    in_lane j (subst (λ m. IsEventOf past j p m) (sym b.2 ∙ ap (lane past) (sym same)) (subst (λ m. IsEventOf past j m l) (sym same) (event_old e past j q l below a))) (reaches_old e past i forward j below r)
+preceded e past i p j k forward is who r (by_message (inl h)) = absurd (omega (arith, delivers_below past k j h, is))
+preceded e past i p j k forward is who r (by_message (inr h)) =
+    through_message j h.1 (reaches_old e past i forward j (omega (arith, forward k j (inr h), is)) r)
+
+pub reaches_newest : (e : Entry) (past : List Entry) (i p k : ℕ) → AreForward (e ∷ past) → k ≡ length past → actor e ≡ Some p → Reaches (e ∷ past) i k → ReachesNewest e past i p
+reaches_newest e past i p k forward is who (itself q l at) = is_newest is
+reaches_newest e past i p k forward is who (onward {j} r d) = preceded e past i p j k forward is who r d
+
+-- a process that depends on k after one more entry did before, or the entry is its event and k reaches it
+pub depends_old : (e : Entry) (past : List Entry) (k p : ℕ) → AreForward (e ∷ past) → is_down past p ≡ false → lane (e ∷ past) p ≡ lane past p → Depends (e ∷ past) k p → Depends past k p ⊎ ((actor e ≡ Some p) × ReachesNewest e past k p)
+depends_old e past k p forward up same d = go d.present
+  where
+    go : IsEventOf (e ∷ past) d.event p (lane (e ∷ past) p) → Depends past k p ⊎ ((actor e ≡ Some p) × ReachesNewest e past k p)
+    go (inl h) = inl (record { up = up; event = d.event; present = subst (λ l. IsEventOf past d.event p l) same h; reached = reaches_old e past k forward d.event (event_below past d.event p (lane (e ∷ past) p) h) d.reached })
+    go (inr h) = inr (h.1, reaches_newest e past k p d.event forward h.0 h.1 d.reached)
+
+-- a new lane depends on nothing
+pub depends_restarted : (e : Entry) (past : List Entry) (k p : ℕ) → lane (e ∷ past) p ≡ lane past p + 1 → actor e ≡ None → Depends (e ∷ past) k p → ⊥
+depends_restarted e past k p more none d = go d.present
+  where
+    go : IsEventOf (e ∷ past) d.event p (lane (e ∷ past) p) → ⊥
+    go (inl h) = omega (arith, event_lane past d.event p (lane (e ∷ past) p) h, more)
+    go (inr h) = let x : None ≡ Some p = sym none ∙ h.1 in cc
