@@ -10,6 +10,8 @@ pub mod order;
 ghost use Rattle.std.specs.Prelude.{◌≡◌};
 ghost use Rattle.causal_name.specs.Names.{message_of, slot_of, is_before};
 
+use thiserror::Error;
+
 /// A process, by its number; the processes of a run are numbered from 0.
 #[derive(Clone, Copy, Debug, PartialEq, Eq, PartialOrd, Ord, Hash)]
 pub struct Pid(pub u8);
@@ -38,7 +40,8 @@ pub struct Slot {
 }
 
 /// The fault that all crates share: memory was asked for and refused.
-#[derive(Clone, Copy, Debug, PartialEq, Eq)]
+#[derive(Clone, Copy, Debug, PartialEq, Eq, Error)]
+#[error("no memory")]
 pub struct NoMemory;
 
 impl Det {

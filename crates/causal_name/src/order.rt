@@ -7,53 +7,53 @@ use crate::{Det, MsgName, Pid, Slot};
 use std::cmp::Ordering;
 
 /// Processes are ordered by number.
-pub fn compared_processes(one: Pid, other: Pid) -> Ordering
-    ensures { result ≡ pid_cmp one other }
+pub fn compared_processes(process: Pid, other: Pid) -> Ordering
+    ensures { result ≡ pid_cmp process other }
 {
-    one.cmp(&other)
+    process.cmp(&other)
 }
 
 /// Messages are ordered by sender, then send sequence number.
-pub fn compared_messages(one: MsgName, other: MsgName) -> Ordering
-    ensures { result ≡ message_cmp one other }
+pub fn compared_messages(message: MsgName, other: MsgName) -> Ordering
+    ensures { result ≡ message_cmp message other }
 {
-    one.cmp(&other)
+    message.cmp(&other)
 }
 
 /// Slots are ordered by receiver, then receive sequence number.
-pub fn compared_slots(one: Slot, other: Slot) -> Ordering
-    ensures { result ≡ slot_cmp one other }
+pub fn compared_slots(slot: Slot, other: Slot) -> Ordering
+    ensures { result ≡ slot_cmp slot other }
 {
-    one.cmp(&other)
+    slot.cmp(&other)
 }
 
 /// Determinants are ordered by their four fields as written.
-pub fn compared_determinants(one: Det, other: Det) -> Ordering
-    ensures { result ≡ det_cmp one other }
+pub fn compared_determinants(determinant: Det, other: Det) -> Ordering
+    ensures { result ≡ det_cmp determinant other }
 {
-    one.cmp(&other)
+    determinant.cmp(&other)
 }
 
 /// Equality of processes.
-pub fn are_same_processes(one: Pid, other: Pid) -> bool
-    ensures tested { result ≡ same_pid one other }
-    ensures same { IsTrue result ↔ (one ≡ other) }
+pub fn are_same_processes(process: Pid, other: Pid) -> bool
+    ensures tested { result ≡ same_pid process other }
+    ensures same { IsTrue result ↔ (process ≡ other) }
 {
-    one == other
+    process == other
 }
 
 /// Equality of messages.
-pub fn are_same_messages(one: MsgName, other: MsgName) -> bool
-    ensures tested { result ≡ same_message one other }
-    ensures same { IsTrue result ↔ (one ≡ other) }
+pub fn are_same_messages(message: MsgName, other: MsgName) -> bool
+    ensures tested { result ≡ same_message message other }
+    ensures same { IsTrue result ↔ (message ≡ other) }
 {
-    one == other
+    message == other
 }
 
 /// Equality of determinants.
-pub fn are_same_determinants(one: Det, other: Det) -> bool
-    ensures tested { result ≡ same_det one other }
-    ensures same { IsTrue result ↔ (one ≡ other) }
+pub fn are_same_determinants(determinant: Det, other: Det) -> bool
+    ensures tested { result ≡ same_det determinant other }
+    ensures same { IsTrue result ↔ (determinant ≡ other) }
 {
-    one == other
+    determinant == other
 }

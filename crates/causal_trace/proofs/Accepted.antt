@@ -13,16 +13,13 @@ use Rattle.causal_trace.specs.declared.fault.TraceFault.TheVariants.{TooLong, No
 use Rattle.causal_trace.specs.Past.{is_down, entry_at, is_send_to, is_sent_to}
 use Rattle.causal_trace.specs.Rows.{rows, first_holding, first_fault, AreAccepted}
 use Rattle.causal_trace.specs.Dependence.{is_delivery_of, Delivers}
+use Rattle.causal_trace.proofs.Formed.{nothing_told}
 use Rattle.causal_trace.proofs.Instants.{entry_beyond}
 use Rattle.causal_trace.proofs.Reached.{AreForward}
 
-not_false : (b : Bool) → not b ≡ false → b ≡ true
+pub not_false : (b : Bool) → not b ≡ false → b ≡ true
 not_false true h = refl
 not_false false h = sym h
-
-nothing_told : (held : Bool) (fault : TraceFault) (rest : Option TraceFault) → cond held (Some fault) rest ≡ None → (held ≡ false) × (rest ≡ None)
-nothing_told true fault rest h = absurd (let e : Some fault ≡ None = h in cc)
-nothing_told false fault rest h = (refl, h)
 
 -- where nothing is told, no row holds
 pub row_fails : (told : List (Bool × TraceFault)) → first_holding told ≡ None → (k : ℕ) (row : Bool × TraceFault) → slice_get told k ≡ Some row → row.0 ≡ false

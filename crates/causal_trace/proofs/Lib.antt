@@ -4,3 +4,4 @@ mod Ascending
 pub mod Formed
 pub mod Instants
 pub mod Reached
+pub mod Sizes

@@ -1,6 +1,7 @@
 pub mod Limits
 pub mod Past
 pub mod Rows
+pub mod Sizes
 pub mod State
 pub mod Dependence
 pub mod Judgement

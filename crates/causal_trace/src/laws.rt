@@ -1,4 +1,5 @@
 //! Laws over the definitions. Each function does nothing: what it ensures is the law.
+ghost use Rattle.causal_trace.specs.Sizes.{NumbersAreSmall, LimitsAreKept};
 ghost use Rattle.causal_trace.specs.Agree.{InstantsArePrefixes, InstantsStay, OneMoreInstant, InstantsKeepPlaces, DownIsLastTurn, LogIsLastListing, ReachesByPath};
 
 /// The definitions say what their words say: an instant is what the first entries make, and one more entry makes just
@@ -12,4 +13,11 @@ pub fn words_agree()
     ensures down { DownIsLastTurn }
     ensures logs { LogIsLastListing }
     ensures reaches { ReachesByPath }
+{}
+
+/// Every number of a well-formed trace is small, processes below their count and all others below the limit of entries,
+/// and its limits are kept.
+pub fn numbers_are_small()
+    ensures small { NumbersAreSmall }
+    ensures limits { LimitsAreKept }
 {}

@@ -6,4 +6,6 @@ pub mod fault;
 pub mod limits;
 pub mod laws;
 mod scans;
+#[cfg(test)]
+mod tests;
 pub mod trace;

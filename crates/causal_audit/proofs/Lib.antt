@@ -1,0 +1,12 @@
+pub mod Exposure
+pub mod Instants
+pub mod Judged
+pub mod LeastLemmas
+pub mod Members
+pub mod Numbered
+pub mod OneVerdict
+pub mod Reaching
+pub mod Scanned
+pub mod Steps
+pub mod Uncrashed
+pub mod VerdictLemmas

@@ -1,0 +1,85 @@
+-- A recorded run has one verdict.
+use Rattle.std.proofs.Common.{ℕ, ◌≡◌, ◌<◌, inl, inr, Bool, true, false, List, refl, sym, subst, ◌∙◌, arith}
+use Rattle.std.specs.Ordering.{nat_cmp}
+use Rattle.std.specs.Cmp.{nat_cmp_total}
+use Rattle.std.specs.FinSet.{FinSet, contains, same_set, nat_cmp-IsAntisymmetric}
+use Rattle.std.proofs.lemmas.Bool.{false≢true, cases_lt}
+use Rattle.causal_name.specs.Sets.{IsWithin}
+use Rattle.causal_trace.specs.declared.entry.Entry.{Entry}
+use Rattle.causal_trace.specs.Past.{instant, is_down}
+use Rattle.causal_trace.specs.Rows.{Recording}
+use Rattle.causal_audit.specs.declared.verdict.Verdict.{Verdict}
+use Rattle.causal_audit.specs.declared.verdict.Verdict.TheVariants.{Accept, Exceeded, Orphan}
+use Rattle.causal_audit.specs.Verdicts.{IsVerdict, IsFirstUnsafe, HasMembers, IsExcess, IsBreach}
+use Rattle.causal_audit.specs.Laws.{VerdictsAreOne}
+
+three_ways : (G : Type 0) (a b : ℕ) → (a < b → G) → (b < a → G) → (a ≡ b → G) → G
+three_ways G a b below above same =
+    elim (cases_lt a b) [
+      | inl h ↦ below h
+      | inr h ↦ elim (cases_lt b a) [ inl k ↦ above k | inr k ↦ same (omega arith) ]
+    ]
+
+one_instant : (r : Recording) (f t u : ℕ) → IsFirstUnsafe r f t → IsFirstUnsafe r f u → t ≡ u
+one_instant r f t u a b = three_ways (t ≡ u) t u (λ h. absurd (a.unsafe (b.before t h))) (λ h. absurd (b.unsafe (a.before u h))) (λ h. h)
+
+unless_true : (b : Bool) → (b ≡ true → ⊥) → b ≡ false
+unless_true true h = absurd (h refl)
+unless_true false h = refl
+
+same_bool : (a b : Bool) → (a ≡ true → b ≡ true) → (b ≡ true → a ≡ true) → a ≡ b
+same_bool true b h k = sym (h refl)
+same_bool false b h k = sym (unless_true b (λ e. false≢true (k e)))
+
+-- sets with the same members below n, and none from n on
+pub same_members : (n : ℕ) (s t : FinSet nat_cmp) → ((p : ℕ) → contains s p ≡ true → p < n) → ((p : ℕ) → contains t p ≡ true → p < n) → IsWithin n (contains s) (contains t) → IsWithin n (contains t) (contains s) → s ≡ t
+same_members n s t below_s below_t there back = same_set nat_cmp_total nat_cmp-IsAntisymmetric s t (λ q. same_bool (contains s q) (contains t q) (λ h. there q (below_s q h) h) (λ h. back q (below_t q h) h))
+
+one_down : (n : ℕ) (test : ℕ → Bool) (s t : FinSet nat_cmp) → HasMembers n s test → HasMembers n t test → s ≡ t
+one_down n test s t a b = same_members n s t a.process b.process (λ p h e. b.member p h ∙ sym (a.member p h) ∙ e) (λ p h e. a.member p h ∙ sym (b.member p h) ∙ e)
+
+one_delivery : (n f : ℕ) (past : List Entry) (k j : ℕ) (c d : FinSet nat_cmp) (p q : ℕ) → IsBreach n f past k c p → IsBreach n f past j d q → k ≡ j
+one_delivery n f past k j c d p q a b =
+    three_ways (k ≡ j) k j
+    (λ h. absurd (b.first k h (record { crash = contains c; orphan = p; may_crash = a.least.may_crash; is_orphan = a.least.is_orphan })))
+    (λ h. absurd (a.first j h (record { crash = contains d; orphan = q; may_crash = b.least.may_crash; is_orphan = b.least.is_orphan })))
+    (λ h. h)
+
+one_crash : (n f : ℕ) (past : List Entry) (k : ℕ) (c d : FinSet nat_cmp) (p q : ℕ) → IsBreach n f past k c p → IsBreach n f past k d q → c ≡ d
+one_crash n f past k c d p q a b = same_members n c d a.least.process b.least.process (a.least.least_set (contains d) q b.least.may_crash b.least.is_orphan) (b.least.least_set (contains c) p a.least.may_crash a.least.is_orphan)
+
+one_orphan : (n f : ℕ) (past : List Entry) (k : ℕ) (c : FinSet nat_cmp) (p q : ℕ) → IsBreach n f past k c p → IsBreach n f past k c q → p ≡ q
+one_orphan n f past k c p q a b = omega (arith, a.least.least_orphan q b.least.is_orphan, b.least.least_orphan p a.least.is_orphan)
+
+one_excess : (r : Recording) (f t u : ℕ) (d e : FinSet nat_cmp) → t ≡ u → IsExcess r.processes f (instant r.past t) d → IsExcess r.processes f (instant r.past u) e → Exceeded t d ≡ Exceeded u e
+one_excess r f t u d e same a b =
+    let at : IsExcess r.processes f (instant r.past u) d = subst (λ x. IsExcess r.processes f (instant r.past x) d) same a in
+    λ i. Exceeded (same i) (one_down r.processes (is_down (instant r.past u)) d e at.members b.members i)
+
+one_breach : (r : Recording) (f t u k j : ℕ) (c d : FinSet nat_cmp) (p q : ℕ) → t ≡ u → IsBreach r.processes f (instant r.past t) k c p → IsBreach r.processes f (instant r.past u) j d q → Orphan t k c p ≡ Orphan u j d q
+one_breach r f t u k j c d p q same a b =
+    let n = r.processes in
+    let past = instant r.past u in
+    let at : IsBreach n f past k c p = subst (λ x. IsBreach n f (instant r.past x) k c p) same a in
+    let k_j : k ≡ j = one_delivery n f past k j c d p q at b in
+    let at_j : IsBreach n f past j c p = subst (λ x. IsBreach n f past x c p) k_j at in
+    let c_d : c ≡ d = one_crash n f past j c d p q at_j b in
+    let at_d : IsBreach n f past j d p = subst (λ x. IsBreach n f past j x p) c_d at_j in
+    let p_q : p ≡ q = one_orphan n f past j d p q at_d b in
+    λ i. Orphan (same i) (k_j i) (c_d i) (p_q i)
+
+excess_or_breach : {G : Type 0} (r : Recording) (f t u k : ℕ) (d c : FinSet nat_cmp) (p : ℕ) → t ≡ u → IsExcess r.processes f (instant r.past t) d → IsBreach r.processes f (instant r.past u) k c p → G
+excess_or_breach r f t u k d c p same a b =
+    let at : IsExcess r.processes f (instant r.past u) d = subst (λ x. IsExcess r.processes f (instant r.past x) d) same a in
+    absurd (omega (arith, at.many, b.few_down))
+
+pub one_verdict : VerdictsAreOne
+one_verdict r f Accept Accept a b = refl
+one_verdict r f Accept (Exceeded t d) a b = absurd (b.0.unsafe (a t b.0.within))
+one_verdict r f Accept (Orphan t k c p) a b = absurd (b.0.unsafe (a t b.0.within))
+one_verdict r f (Exceeded t d) Accept a b = absurd (a.0.unsafe (b t a.0.within))
+one_verdict r f (Exceeded t d) (Exceeded u e) a b = one_excess r f t u d e (one_instant r f t u a.0 b.0) a.1 b.1
+one_verdict r f (Exceeded t d) (Orphan u k c p) a b = excess_or_breach r f t u k d c p (one_instant r f t u a.0 b.0) a.1 b.1
+one_verdict r f (Orphan t k c p) Accept a b = absurd (a.0.unsafe (b t a.0.within))
+one_verdict r f (Orphan t k c p) (Exceeded u e) a b = excess_or_breach r f u t k e c p (one_instant r f u t b.0 a.0) b.1 a.1
+one_verdict r f (Orphan t k c p) (Orphan u j d q) a b = one_breach r f t u k j c d p q (one_instant r f t u a.0 b.0) a.1 b.1

@@ -1,0 +1,5 @@
+use Rattle.causal_audit.proofs.Judged.{no_orphans}
+use Rattle.causal_audit.proofs.laws.no_orphans_condition.Goals as goal
+
+pub returns : goal.returns
+returns c = no_orphans

@@ -1,0 +1,5 @@
+use Rattle.causal_audit.proofs.OneVerdict.{one_verdict}
+use Rattle.causal_audit.proofs.laws.verdicts_are_one.Goals as goal
+
+pub returns : goal.returns
+returns c = one_verdict

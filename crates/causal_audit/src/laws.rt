@@ -1,0 +1,25 @@
+//! Laws over the judgement of recorded runs. Each function does nothing: what it ensures is the law.
+ghost use Rattle.causal_audit.specs.Laws.{OrphansAreCounted, CrashSetsContain, GoneIsCrashSet, NoOrphansCondition, VerdictsAreOne};
+
+/// No crash set need be tried. A delivery has an orphan under some crash set exactly where its determinant is not
+/// stable, the down processes and its holders together are at most f, and some dependent is no holder; those processes
+/// are then the crash set that is contained in each that gives an orphan, and its orphans are the dependents that are no
+/// holders. (Orphans are those of Elnozahy, Alvisi, Wang and Johnson 2002; the bound f is this project's.)
+pub fn orphans_are_counted()
+    ensures counted { OrphansAreCounted }
+    ensures contained { CrashSetsContain }
+    ensures least { GoneIsCrashSet }
+{}
+
+/// For f not below the number of processes an instant is safe exactly where the always-no-orphans condition of
+/// Elnozahy, Alvisi, Wang and Johnson (2002) holds over the processes that are up: of each delivery the determinant is
+/// stable, or every process that depends on it has it in its log.
+pub fn no_orphans_condition()
+    ensures { NoOrphansCondition }
+{}
+
+/// A recorded run has one verdict for f: the first instant that is not safe, the delivery, the crash set and the orphan
+/// are determined.
+pub fn verdicts_are_one()
+    ensures { VerdictsAreOne }
+{}
