@@ -6,3 +6,9 @@ pub mod Steps
 pub mod Spellings
 pub mod Complete
 pub mod Exact
+pub mod Texts
+pub mod ReadsBack
+pub mod ShapeData
+pub mod Plain
+pub mod Sizes
+pub mod Canonicals

@@ -7,3 +7,4 @@ pub mod Place
 pub mod Spelling
 pub mod Laws
 pub mod FaultLine
+pub mod Canonical

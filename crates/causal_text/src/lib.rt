@@ -13,7 +13,12 @@ pub mod report;
 mod shape;
 mod stage;
 mod version;
+pub mod writer;
 
 pub use kind::{TextFault, TextKind};
 pub use reader::read_trace;
 pub use report::fault_line;
+pub use writer::{WriteCause, WriteFault, text_of, write_trace};
+
+#[cfg(test)]
+mod tests;

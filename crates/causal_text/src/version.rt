@@ -1,6 +1,7 @@
 //! The versions of the text.
 ghost use Rattle.std.specs.Prelude.{◌≡◌, ◌≤◌};
-ghost use Rattle.causal_text.specs.Versions.{version_of, most_processes, has_line};
+ghost use Rattle.std.specs.List.{list_all};
+ghost use Rattle.causal_text.specs.Versions.{number_of, version_of, most_processes, has_line};
 
 use causal_trace::entry::Entry;
 
@@ -25,6 +26,16 @@ impl Version {
         }
     }
 
+    /// Its number.
+    pub(crate) fn number(self) -> u32
+        ensures { result ≡ number_of self }
+    {
+        match self {
+            Version::One => 1,
+            Version::Two => 2,
+        }
+    }
+
     /// How many processes its texts may have.
     pub(crate) fn most_processes(self) -> u32
         ensures value { result ≡ most_processes self }
@@ -44,5 +55,17 @@ impl Version {
             (Version::One, Entry::Forget { .. }) => false,
             _ => true,
         }
+    }
+
+    /// Whether it has lines for all of them.
+    pub(crate) fn has_lines(self, entries: &[Entry]) -> bool
+        ensures { result ≡ list_all (has_line self) entries.now }
+    {
+        for entry in entries {
+            if !self.has_line(entry) {
+                return false;
+            }
+        }
+        true
     }
 }
