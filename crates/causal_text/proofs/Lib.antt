@@ -12,3 +12,4 @@ pub mod ShapeData
 pub mod Plain
 pub mod Sizes
 pub mod Canonicals
+pub mod LongTexts

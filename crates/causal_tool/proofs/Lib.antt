@@ -1,0 +1,3 @@
+mod ByteLemmas
+mod Commas
+mod FirstBytes
