@@ -1,5 +1,5 @@
 //! How a run of the program ends.
-ghost use Rattle.std.specs.Prelude.{◌≡◌};
+ghost use Rattle.std.specs.Prelude.{◌≡◌, option_map};
 
 /// How a run ended.
 #[derive(Clone, Copy, Debug, PartialEq, Eq)]
@@ -19,7 +19,7 @@ pub enum Ended {
 }
 
 impl Ended {
-    ghost use Rattle.causal_tool.specs.Endings.{status_of};
+    ghost use Rattle.causal_tool.specs.Endings.{status_of, text_of};
 
     /// The program's exit status: 0, 1 or 2 after a line that was written whole, 4 where a stream failed, 5 for want of
     /// memory.
@@ -36,7 +36,9 @@ impl Ended {
     }
 
     /// What is told on standard error, where no line could be written.
-    pub fn text(self) -> Option<&'static str> {
+    pub fn text(self) -> Option<&'static str>
+        ensures { option_map (λ text. text.now) result ≡ text_of self }
+    {
         match self {
             Ended::Accepted | Ended::Breached | Ended::Faulted => None,
             Ended::ReadFault => Some("read fault"),

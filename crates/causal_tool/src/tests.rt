@@ -3,8 +3,10 @@ use crate::ended::Ended;
 use crate::judged::Judged;
 use crate::line::verdict_line;
 use crate::stream::audit_stream;
+use crate::words::{Asked, parsed};
 use causal_audit::verdict::Verdict;
 use causal_holders::Holders;
+use clap::error::ErrorKind;
 use std::io;
 use std::io::{Error, Read, Write};
 use std::process::Abort;
@@ -351,4 +353,43 @@ fn sets_are_joined_by_commas(rt: HostRuntime) -> Result<(), Fail> {
         );
     }
     Ok(())
+}
+
+#[test]
+fn words_that_ask_for_an_audit(rt: HostRuntime) -> Result<(), Fail> {
+    let asked = Some(Asked::Audit {
+        faults: 0,
+        workers: 1,
+    });
+    let short = ["causal_tool", "audit", "--faults", "0"];
+    assert_eq!(rt; parsed(rt.alloc(), short.as_slice())?, asked);
+    let long = ["causal_tool", "audit", "--workers", "1", "--faults", "0"];
+    assert_eq!(rt; parsed(rt.alloc(), long.as_slice())?, asked);
+    Ok(())
+}
+
+#[test]
+fn words_that_ask_for_nothing(rt: HostRuntime) {
+    let refused: [(&[&str], ErrorKind); 5] = [
+        (
+            &["causal_tool", "audit"],
+            ErrorKind::MissingRequiredArgument,
+        ),
+        (
+            &["causal_tool", "audit", "--faults", "1"],
+            ErrorKind::ValueValidation,
+        ),
+        (
+            &["causal_tool", "audit", "--faults", "0", "--workers", "2"],
+            ErrorKind::ValueValidation,
+        ),
+        (&["causal_tool", "run"], ErrorKind::InvalidSubcommand),
+        (&["causal_tool", "--help"], ErrorKind::DisplayHelp),
+    ];
+    for (words, kind) in refused {
+        match parsed(rt.alloc(), words) {
+            Ok(_) => assert!(rt; false, "{kind:?}"),
+            Err(error) => assert_eq!(rt; error.kind(), kind),
+        }
+    }
 }

@@ -3,6 +3,7 @@ use crate::ended::Ended;
 use clap::error::ErrorKind;
 use clap::{Arg, Command, Error, value_parser};
 use std::alloc::{AllocError, Global};
+use std::convert::AsStr;
 use std::rt::Env;
 use std::{env, io};
 
@@ -63,7 +64,8 @@ fn told<R: Print + Eprint + AllocGlobal>(rt: &R, error: Error) -> Refused {
     }
 }
 
-fn parsed<'a>(alloc: Global, words: &'a [String]) -> Result<Option<Asked>, Error> {
+/// What these words ask for, the first of which is the program's name. None where no words of the program's are among them.
+pub fn parsed<'a, S: AsStr>(alloc: Global, words: &'a [S]) -> Result<Option<Asked>, Error> {
     let matches = command(alloc)?.try_get_matches_from(words)?;
     match matches.subcommand() {
         Some(("audit", given)) => {
