@@ -79,7 +79,7 @@ pub crash_inside : (n : ℕ) (past : List Entry) (who : Pid) → first_fault n p
 unfolding rows
 crash_inside n past who legal = below who.0 n (row_fails (rows n past (Crash who)) legal 1 (not (nat_lt who.0 n), NoProcess) refl)
 
-restart_inside : (n : ℕ) (past : List Entry) (who : Pid) (listed : List Det) → first_fault n past (Restart who listed) ≡ None → who.0 < n
+pub restart_inside : (n : ℕ) (past : List Entry) (who : Pid) (listed : List Det) → first_fault n past (Restart who listed) ≡ None → who.0 < n
 unfolding rows
 restart_inside n past who listed legal = below who.0 n (row_fails (rows n past (Restart who listed)) legal 1 (not (nat_lt who.0 n), NoProcess) refl)
 

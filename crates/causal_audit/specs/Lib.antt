@@ -1,8 +1,9 @@
+pub mod BreachAt
 pub mod Breaches
 pub mod Earlier
 pub mod Laws
-pub mod Losses
 pub mod Numbers
 pub mod Sights
+pub mod Stands
 pub mod Stored
 pub mod Verdicts

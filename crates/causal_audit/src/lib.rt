@@ -2,11 +2,10 @@
 #![tactic(auto)]
 
 pub mod breach;
+mod events;
 pub mod judge;
 pub mod laws;
-mod losses;
-mod reach;
-mod scan;
+mod orphans;
 mod sight;
 pub mod tables;
 pub mod verdict;

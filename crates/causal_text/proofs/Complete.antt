@@ -15,13 +15,13 @@ use Rattle.causal_text.specs.declared.stage.Stage.TheVariants.{Opening, Within, 
 use Rattle.causal_text.specs.declared.version.Version.{Version}
 use Rattle.causal_text.specs.declared.version.Version.TheVariants.{One, Two}
 use Rattle.causal_text.specs.Lines.{lines}
-use Rattle.causal_text.specs.Place.{Place, start, and_then, next, after_lines, ended, reading}
+use Rattle.causal_text.specs.Place.{Place, IsPlaceAfter, start, and_then, next, after_lines, ended, reading}
 use Rattle.causal_text.specs.Stages.{opened, max_text, line_shape, begun, follow, within_limit, after_line}
 use Rattle.causal_text.specs.Versions.{number_of, version_of, most_processes, HasLines, FitsVersion}
 use Rattle.causal_text.specs.Spelling.{said, IsSound, Reaches, Spells}
 use Rattle.causal_text.proofs.Joined.{sum_by-lines}
 use Rattle.causal_text.proofs.Steps.{said_entries}
-use Rattle.causal_text.proofs.Spellings.{Stands, Stands-lines, Stands-start}
+use Rattle.causal_text.proofs.Spellings.{IsPlaceAfter-lines, IsPlaceAfter-start}
 
 pub in_limit : (end : ℕ) (r : Result Stage TextKind) → end ≤ max_text → within_limit end r ≡ r
 in_limit end r h = rw (lt-leb (max_text + 1) end (omega arith)) refl
@@ -47,12 +47,15 @@ next_ok p l t h = rw h refl
 -- one more line leads to the next stage
 Leads-more : (ls : List (List ℕ)) (l : List ℕ) (s t : Stage) → Leads ls s → after_line s (sum_by length ls + length l) l ≡ Ok t → Leads (ls ++ l ∷ []) t
 Leads-more ls l s t led is =
-    let st = Stands-lines [] ls start led.0 Stands-start led.1 in
+    let st = IsPlaceAfter-lines [] ls start led.0 IsPlaceAfter-start led.1 in
     let taken : after_line led.0.stage (led.0.size + length l) l ≡ Ok t = rw (led.2, st.size) is in
     let q : Place = record { stage = t; count = led.0.count + 1; size = led.0.size + length l } in
     (q, after_lines-append start led.0 ls (l ∷ []) led.1 ∙ rw (next_ok led.0 l t taken) refl, refl)
 
 -- ---- what is said last is said by the last line
+
+in_front : (l : List ℕ) (ls ks : List (List ℕ)) → ls ≡ ks → l ∷ ls ≡ l ∷ ks
+in_front l ls ks same = ap (λ ns. l ∷ ns) same
 
 record Last (ls : List (List ℕ)) (xs : List Shape) (x : Shape) : Type 0 where
   front : List (List ℕ)
@@ -72,12 +75,15 @@ last_of (l ∷ ls) (y ∷ ys) x h =
     let later = last_of ls ys x rest in record {
       front = l ∷ later.front;
       line = later.line;
-      whole = ap (λ ks. l ∷ ks) later.whole;
+      whole = in_front l ls (later.front ++ later.line ∷ []) later.whole;
       says = rw (is, later.says) refl;
       reads = later.reads;
     }
 
 -- ---- the stages that lines reach are read
+
+same_place : (p q : Place) → p.stage ≡ q.stage → p.count ≡ q.count → p.size ≡ q.size → p ≡ q
+same_place p q stage count size = λ i. record { stage = stage i; count = count i; size = size i }
 
 takes_header : (version : Version) (n end : ℕ) (l : List ℕ) → 1 ≤ n → n ≤ most_processes version → end ≤ max_text → line_shape l ≡ Ok (shape.Header (number_of version) n) → after_line Opening end l ≡ Ok (Within version (opened n))
 takes_header One n end l some few h is = in_limit end _ h ∙ rw (is, le-leb 1 n some, le-leb n 64 few) refl
@@ -117,6 +123,14 @@ Leads-reached ls (Ended version q) r =
     Leads-last ls (Within version q) (Ended version q) (shape.End (length q.past)) r.said r.within
     (λ front is small. Leads-within version q.processes q.past front r.sound.0.count.0 r.sound.1.few r.sound.1.entries r.sound.0.accepted is small)
     (λ end l small is. in_limit end _ small ∙ rw (is, eq-eqb (length q.past) (length q.past) refl) refl)
+
+-- the place after lines is where they lead
+pub after_lines-place : (ls : List (List ℕ)) (p : Place) → IsPlaceAfter ls p → after_lines start ls ≡ Ok p
+after_lines-place ls p is =
+    let led = Leads-reached ls p.stage is.reaches in
+    let there = IsPlaceAfter-lines [] ls start led.0 IsPlaceAfter-start led.1 in
+    let same : led.0 ≡ p = same_place led.0 p led.2 (there.count ∙ sym is.count) (there.size ∙ sym is.size) in
+    led.1 ∙ ap Ok same
 
 -- ---- what a text spells is read
 

@@ -9,7 +9,7 @@ use Rattle.causal_text.specs.Lines.{lines}
 use Rattle.causal_text.specs.Place.{Place, start, and_then, next, after_lines, ended, reading}
 use Rattle.causal_text.specs.Stages.{after_line}
 use Rattle.causal_text.specs.Spelling.{Spells, IsOpen, IsFaultOfLine, IsCut, IsFirstFault}
-use Rattle.causal_text.proofs.Spellings.{Stands-lines, Stands-start}
+use Rattle.causal_text.proofs.Spellings.{IsPlaceAfter-lines, IsPlaceAfter-start}
 use Rattle.causal_text.proofs.Complete.{after_lines-append, Leads-reached, reading-spelled}
 
 faulty_next : (q : Place) (line : List ℕ) (f : TextFault) → after_line q.stage (q.size + length line) line ≡ Err f.kind → f.line ≡ q.count + 1 → next q line ≡ Err f
@@ -18,7 +18,7 @@ faulty_next q line f h n = rw h (ap (λ k. Err (record { line = k; kind = f.kind
 fault_of_line : (text : List ℕ) (f : TextFault) → IsFaultOfLine text f → reading text ≡ Err f
 fault_of_line text f e =
     let q = Leads-reached e.before e.stage e.reaches in
-    let st = Stands-lines [] e.before start q.0 Stands-start q.1 in
+    let st = IsPlaceAfter-lines [] e.before start q.0 IsPlaceAfter-start q.1 in
     let here = faulty_next q.0 e.line f (rw (q.2, st.size) e.faulty) (rw st.count e.number) in
     let all : after_lines start (lines text) ≡ Err f = ap (after_lines start) e.split ∙ after_lines-append start q.0 e.before (e.line ∷ e.after) q.1 ∙ rw here refl in
     ap (λ (r : Result Place TextFault). and_then r (λ p. ended p p.stage)) all
@@ -31,7 +31,7 @@ cut_here q (Ended version r) f h n k = absurd h
 cut_of : (text : List ℕ) (f : TextFault) → IsCut text f → reading text ≡ Err f
 cut_of text f e =
     let q = Leads-reached (lines text) e.stage e.reaches in
-    let st = Stands-lines [] (lines text) start q.0 Stands-start q.1 in
+    let st = IsPlaceAfter-lines [] (lines text) start q.0 IsPlaceAfter-start q.1 in
     ap (λ (r : Result Place TextFault). and_then r (λ p. ended p p.stage)) q.1
     ∙ cut_here q.0 q.0.stage f (subst (λ (s : Stage). IsOpen s) (sym q.2) e.unended) (rw st.count e.number) e.kind_is
 

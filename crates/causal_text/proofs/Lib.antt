@@ -1,6 +1,5 @@
 pub mod Fields
 pub mod Values
-pub mod LineLemmas
 pub mod Joined
 pub mod Steps
 pub mod Spellings
@@ -13,3 +12,5 @@ pub mod Plain
 pub mod Sizes
 pub mod Canonicals
 pub mod LongTexts
+pub mod Feeds
+pub mod StreamLemmas

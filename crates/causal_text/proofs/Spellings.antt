@@ -11,7 +11,7 @@ use Rattle.causal_text.specs.declared.stage.Stage.{Stage}
 use Rattle.causal_text.specs.declared.stage.Stage.TheVariants.{Opening, Within, Ended}
 use Rattle.causal_text.specs.Lines.{lines}
 use Rattle.causal_text.specs.declared.version.Version.{Version}
-use Rattle.causal_text.specs.Place.{Place, start, ◌at◌, and_then, next, after_lines, ended, reading}
+use Rattle.causal_text.specs.Place.{Place, IsPlaceAfter, start, ◌at◌, and_then, next, after_lines, ended, reading}
 use Rattle.causal_text.specs.Stages.{line_shape, after_line}
 use Rattle.causal_text.specs.Spelling.{said, Spells, Reaches, IsOpen, IsFirstFault}
 use Rattle.causal_text.proofs.Joined.{sum_by-lines}
@@ -35,14 +35,8 @@ at_err (Err k) line e h =
     let same : record { line = line; kind = k } ≡ e = cc in
     (ap (λ (f : TextFault). Err f.kind) same, sym (ap (λ (f : TextFault). f.line) same))
 
--- the place is that of the lines before
-pub record Stands (before : List (List ℕ)) (p : Place) : Type 0 where
-  pub reaches : Reaches before p.stage
-  pub count : p.count ≡ length before
-  pub size : p.size ≡ sum_by length before
-
-pub Stands-start : Stands [] start
-Stands-start = record { reaches = record { said = refl; sound = tt; within = omega arith }; count = refl; size = refl }
+pub IsPlaceAfter-start : IsPlaceAfter [] start
+IsPlaceAfter-start = record { reaches = record { said = refl; sound = tt; within = omega arith }; count = refl; size = refl }
 
 Reaches-line : (before : List (List ℕ)) (s : Stage) (line : List ℕ) (t : Stage) → Reaches before s → after_line s (sum_by length before + length line) line ≡ Ok t → Reaches (before ++ line ∷ []) t
 Reaches-line before s line t r h =
@@ -53,23 +47,23 @@ Reaches-line before s line t r h =
       within = rw (sum_by_push length before line) a.within;
     }
 
-Stands-next : (before : List (List ℕ)) (p q : Place) (line : List ℕ) → Stands before p → next p line ≡ Ok q → Stands (before ++ line ∷ []) q
-Stands-next before p q line st h =
+pub IsPlaceAfter-next : (before : List (List ℕ)) (p q : Place) (line : List ℕ) → IsPlaceAfter before p → next p line ≡ Ok q → IsPlaceAfter (before ++ line ∷ []) q
+IsPlaceAfter-next before p q line st h =
     let step = and_then_ok (after_line p.stage (p.size + length line) line at (p.count + 1)) _ q h in
     let taken = at_ok (after_line p.stage (p.size + length line) line) (p.count + 1) step.0 step.1 in
     let there : record { stage = step.0; count = p.count + 1; size = p.size + length line } ≡ q = cc in
-    subst (λ (u : Place). Stands (before ++ line ∷ []) u) there (record {
+    subst (λ (u : Place). IsPlaceAfter (before ++ line ∷ []) u) there (record {
       reaches = Reaches-line before p.stage line step.0 st.reaches (rw (← st.size) taken);
       count = rw (st.count, length-append before (line ∷ [])) refl;
       size = rw (st.size, sum_by_push length before line) refl;
     })
 
-pub Stands-lines : (before ls : List (List ℕ)) (p q : Place) → Stands before p → after_lines p ls ≡ Ok q → Stands (before ++ ls) q
-Stands-lines before [] p q st h =
-    let same : p ≡ q = cc in rw append-nil (subst (λ (u : Place). Stands before u) same st)
-Stands-lines before (l ∷ ls) p q st h =
+pub IsPlaceAfter-lines : (before ls : List (List ℕ)) (p q : Place) → IsPlaceAfter before p → after_lines p ls ≡ Ok q → IsPlaceAfter (before ++ ls) q
+IsPlaceAfter-lines before [] p q st h =
+    let same : p ≡ q = cc in rw append-nil (subst (λ (u : Place). IsPlaceAfter before u) same st)
+IsPlaceAfter-lines before (l ∷ ls) p q st h =
     let step = and_then_ok (next p l) (λ x. after_lines x ls) q h in
-    rw (← append_assoc before (l ∷ []) ls) (Stands-lines (before ++ l ∷ []) ls step.0 q (Stands-next before p step.0 l st step.1) step.2)
+    rw (← append_assoc before (l ∷ []) ls) (IsPlaceAfter-lines (before ++ l ∷ []) ls step.0 q (IsPlaceAfter-next before p step.0 l st step.1) step.2)
 
 -- the first line that has a fault
 pub record Breaks (before ls : List (List ℕ)) (fault : TextFault) : Type 0 where
@@ -82,7 +76,7 @@ pub record Breaks (before ls : List (List ℕ)) (fault : TextFault) : Type 0 whe
   pub faulty : after_line stage (sum_by length front + length line) line ≡ Err fault.kind
   pub number : fault.line ≡ length front + 1
 
-Breaks-here : (before ls : List (List ℕ)) (p : Place) (line : List ℕ) (e : TextFault) → Stands before p → next p line ≡ Err e → Breaks before (line ∷ ls) e
+Breaks-here : (before ls : List (List ℕ)) (p : Place) (line : List ℕ) (e : TextFault) → IsPlaceAfter before p → next p line ≡ Err e → Breaks before (line ∷ ls) e
 Breaks-here before ls p line e st h =
     elim (and_then_err (after_line p.stage (p.size + length line) line at (p.count + 1)) _ e h) [
       | inl is ↦ (let parts = at_err (after_line p.stage (p.size + length line) line) (p.count + 1) e is in record {
@@ -98,12 +92,12 @@ Breaks-here before ls p line e st h =
       | inr is ↦ absurd (let no : Ok (record { stage = is.0; count = p.count + 1; size = p.size + length line }) ≡ Err e = is.2 in cc)
     ]
 
-Breaks-lines : (before ls : List (List ℕ)) (p : Place) (e : TextFault) → Stands before p → after_lines p ls ≡ Err e → Breaks before ls e
+Breaks-lines : (before ls : List (List ℕ)) (p : Place) (e : TextFault) → IsPlaceAfter before p → after_lines p ls ≡ Err e → Breaks before ls e
 Breaks-lines before [] p e st h = absurd (let no : Ok p ≡ Err e = h in cc)
 Breaks-lines before (l ∷ ls) p e st h =
     elim (and_then_err (next p l) (λ x. after_lines x ls) e h) [
       | inl is ↦ Breaks-here before ls p l e st is
-      | inr is ↦ (let later = Breaks-lines (before ++ l ∷ []) ls is.0 e (Stands-next before p is.0 l st is.1) is.2 in record {
+      | inr is ↦ (let later = Breaks-lines (before ++ l ∷ []) ls is.0 e (IsPlaceAfter-next before p is.0 l st is.1) is.2 in record {
         front = later.front;
         line = later.line;
         after = later.after;
@@ -134,7 +128,7 @@ Spells-reached text version r reached = record {
 pub Spells-reading : (text : List ℕ) (r : Recording) → reading text ≡ Ok r → Spells text r
 Spells-reading text r h =
     let step = and_then_ok (after_lines start (lines text)) _ r h in
-    let stands = Stands-lines [] (lines text) start step.0 Stands-start step.1 in
+    let stands = IsPlaceAfter-lines [] (lines text) start step.0 IsPlaceAfter-start step.1 in
     let last = ended_ok step.0 step.0.stage r step.2 in
     Spells-reached text last.0 r (subst (λ (s : Stage). Reaches (lines text) s) last.1 stands.reaches)
 
@@ -148,7 +142,7 @@ cut_parts p (Ended version q) e h = absurd (let no : Ok q ≡ Err e = h in cc)
 pub IsFirstFault-reading : (text : List ℕ) (e : TextFault) → reading text ≡ Err e → IsFirstFault text e
 IsFirstFault-reading text e h =
     elim (and_then_err (after_lines start (lines text)) _ e h) [
-      | inl is ↦ (let b = Breaks-lines [] (lines text) start e Stands-start is in inl (record {
+      | inl is ↦ (let b = Breaks-lines [] (lines text) start e IsPlaceAfter-start is in inl (record {
         before = b.front;
         line = b.line;
         after = b.after;
@@ -158,7 +152,7 @@ IsFirstFault-reading text e h =
         faulty = b.faulty;
         number = b.number;
       }))
-      | inr is ↦ (let stands = Stands-lines [] (lines text) start is.0 Stands-start is.1 in
+      | inr is ↦ (let stands = IsPlaceAfter-lines [] (lines text) start is.0 IsPlaceAfter-start is.1 in
           let parts = cut_parts is.0 is.0.stage e is.2 in inr (record {
             stage = is.0.stage;
             reaches = stands.reaches;

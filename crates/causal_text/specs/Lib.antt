@@ -8,3 +8,5 @@ pub mod Spelling
 pub mod Laws
 pub mod FaultLine
 pub mod Canonical
+pub mod Pieces
+pub mod Streams

@@ -1,5 +1,5 @@
 -- Where a reader of lines stands, and where each line takes it.
-use Rattle.std.specs.Prelude.{◌≡◌, ℕ, ◌+◌, List, [], ◌∷◌, length, Result, Ok, Err}
+use Rattle.std.specs.Prelude.{◌≡◌, ℕ, ◌+◌, List, [], ◌∷◌, length, sum_by, Result, Ok, Err}
 use Rattle.causal_trace.specs.Rows.{Recording}
 use Rattle.causal_text.specs.declared.kind.TextKind.{TextKind}
 use Rattle.causal_text.specs.declared.kind.TextKind.TheVariants as kind
@@ -7,6 +7,7 @@ use Rattle.causal_text.specs.declared.kind.TextFault.{TextFault}
 use Rattle.causal_text.specs.declared.stage.Stage.{Stage}
 use Rattle.causal_text.specs.declared.stage.Stage.TheVariants.{Opening, Within, Ended}
 use Rattle.causal_text.specs.Lines.{lines}
+use Rattle.causal_text.specs.Spelling.{Reaches}
 use Rattle.causal_text.specs.Stages.{after_line}
 
 -- what the lines so far have said, how many they are, and how many bytes they have
@@ -15,6 +16,13 @@ pub record Place : Type 0 where
   pub count : ℕ
   pub size : ℕ
 
+-- the place is that after these lines, none of which has a fault
+pub record IsPlaceAfter (before : List (List ℕ)) (p : Place) : Type 0 where
+  pub reaches : Reaches before p.stage
+  pub count : p.count ≡ length before
+  pub size : p.size ≡ sum_by length before
+
+-- before the first line
 abbrev pub start : Place
 start = record { stage = Opening; count = 0; size = 0 }
 

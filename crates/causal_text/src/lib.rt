@@ -6,18 +6,21 @@
 
 pub mod kind;
 pub mod laws;
+mod line_reader;
 mod lines;
 pub mod reader;
 mod recorded;
 pub mod report;
 mod shape;
 mod stage;
+pub mod stream;
 mod version;
 pub mod writer;
 
 pub use kind::{TextFault, TextKind};
 pub use reader::read_trace;
 pub use report::fault_line;
+pub use stream::{Progress, ReaderFault, TraceReader, read_from};
 pub use writer::{WriteCause, WriteFault, text_of, write_trace};
 
 #[cfg(test)]

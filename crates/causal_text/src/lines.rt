@@ -1,19 +1,17 @@
 //! The lines of a text.
-ghost use Rattle.std.specs.Prelude.{◌≡◌, ◌<◌, ◌∷◌, ◌++◌, length};
-ghost use Rattle.causal_text.specs.Lines.{lines};
+ghost use Rattle.std.specs.Prelude.{◌≡◌, ◌<◌, ◌++◌, length, true, IfSome, IfNone};
+ghost use Rattle.causal_text.specs.Pieces.{IsComplete, no_feed};
 
 use memchr::memchr;
 
-/// The first line, and what follows it.
-pub(crate) fn split_line(text: &[u8]) -> (&[u8], &[u8])
-    requires { 0 < length text.now }
-    ensures lines { lines text.now ≡ result.0.now ∷ lines result.1.now }
-    ensures bytes { text.now ≡ result.0.now ++ result.1.now }
-    ensures shorter { length result.1.now < length text.now }
-    ensures some { 0 < length result.0.now }
+/// The first line, with its line feed, and what follows it; None where no line feed has come.
+pub(crate) fn split_complete(text: &[u8]) -> Option<(&[u8], &[u8])>
+    ensures some { IfSome result (λ parts. IsComplete parts.0.now × (text.now ≡ parts.0.now ++ parts.1.now)) }
+    ensures shorter { IfSome result (λ parts. length parts.1.now < length text.now) }
+    ensures none { IfNone result (no_feed text.now ≡ true) }
 {
     match memchr(b'\n', text) {
-        Some(i) => text.split_at(i + 1),
-        None => text.split_at(text.len()),
+        Some(i) => Some(text.split_at(i + 1)),
+        None => None,
     }
 }

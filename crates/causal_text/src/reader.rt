@@ -1,78 +1,102 @@
-//! From a text to the trace that it spells, or to its first fault.
-ghost use Rattle.std.specs.Prelude.{◌≡◌, ◌≢◌, ◌<◌, length, IfOk, IfErr};
-ghost use Rattle.causal_text.specs.Place.{start, next, ended, reading, GivesText};
+//! From a text, whole or in pieces, to the trace that it spells, or to its first fault.
+ghost use Rattle.std.specs.Prelude.{◌≡◌, ◌≢◌, ◌++◌, ◌<◌, ◌≤◌, List, [], ℕ, length, IfOk, IfErr};
+ghost use Rattle.causal_text.specs.Place.{GivesText, reading};
+ghost use Rattle.causal_text.specs.Pieces.{StandsFor, IsFaultOfAll, with_line, IsPast, ending, taken};
 ghost use Rattle.causal_text.specs.Spelling.{Spells, IsFirstFault};
 
 use crate::kind::{TextFault, TextKind};
-use crate::lines::split_line;
+use crate::line_reader::LineReader;
+use crate::lines::split_complete;
 use crate::recorded::Recorded;
-use crate::stage::{Stage, after_line};
 use causal_trace::trace::Trace;
 use std::alloc::Global;
 use std::marker::Model;
 
-/// What the lines so far have said, how many they are, and how many bytes they have.
+/// The complete lines so far, and the unfinished line.
 #[derive(Drop)]
-pub(crate) struct LineReader {
-    stage: Stage,
-    count: u32,
-    size: usize,
+pub(crate) struct PieceReader {
+    lines: LineReader,
+    rest: Vec<u8>,
 }
 
-impl Model for LineReader {
-    ghost use Rattle.std.specs.Prelude.{◌≤◌};
-    ghost use Rattle.causal_text.specs.Place.{Place};
+impl Model for PieceReader {
+    ghost use Rattle.causal_text.specs.Pieces.{Held};
 
-    ghost Value = { Place };
+    ghost Value = { Held };
 
-    ghost view = { λ r. record { stage = r.stage; count = r.count; size = r.size } };
-
-    ghost invariant = { λ r. (r.count ≤ r.size) × (r.size ≤ 33554432) };
+    ghost view = { λ r. record { place = r.lines; rest = r.rest.items } };
 }
 
-impl LineReader {
-    /// Before the first line.
-    pub(crate) fn new() -> LineReader
-        ensures { result ≡ start }
+impl PieceReader {
+    /// Before the first piece.
+    pub(crate) fn new(alloc: Global) -> PieceReader
+        ensures stands { StandsFor result [] }
+        ensures room { taken result ≤ 33554432 }
     {
-        LineReader {
-            stage: Stage::Opening,
-            count: 0,
-            size: 0,
+        PieceReader {
+            lines: LineReader::new(),
+            rest: Vec::new(alloc),
         }
     }
 
-    /// Takes the next line.
-    pub(crate) fn take(self, alloc: Global, line: &[u8]) -> Result<LineReader, TextFault>
+    /// Takes the rest of a line, with its line feed.
+    fn complete(self, alloc: Global, line: &[u8]) -> Result<PieceReader, TextFault>
         requires { 0 < length line.now }
-        ensures { GivesText result (next self line.now) }
+        ensures { GivesText result (with_line self line.now) }
     {
-        let LineReader { stage, count, size } = self;
-        let end = size.saturating_add(line.len());
-        match after_line(alloc, stage, end, line) {
-            Ok(stage) => Ok(LineReader {
-                stage,
-                count: count + 1,
-                size: end,
-            }),
-            Err(kind) => Err(TextFault {
-                line: count + 1,
-                kind,
-            }),
+        let PieceReader { lines, mut rest } = self;
+        if rest.extend_from_slice(line).is_err() {
+            return Err(lines.no_memory());
+        }
+        let lines = lines.take(alloc, rest.as_slice())?;
+        rest.clear();
+        Ok(PieceReader { lines, rest })
+    }
+
+    /// Holds more of a line, unless the text is too long by it.
+    fn hold(self, part: &[u8]) -> Result<PieceReader, TextFault>
+        ensures ok { IfOk result (λ r. r ≡ record { place = self.place; rest = self.rest ++ part.now }) }
+        ensures room { IfOk result (λ r. taken r ≤ 33554432) }
+        ensures err { IfErr result (λ f. f.kind ≢ TextKind.NoMemory
+            → (0 < length (self.rest ++ part.now))
+            × IsPast (record { place = self.place; rest = self.rest ++ part.now }) f) }
+    {
+        let PieceReader { lines, mut rest } = self;
+        if rest.extend_from_slice(part).is_err() {
+            return Err(lines.no_memory());
+        }
+        match lines.past(rest.as_slice()) {
+            Some(fault) => Err(fault),
+            None => Ok(PieceReader { lines, rest }),
         }
     }
 
-    /// The trace, where its end line has come.
-    pub(crate) fn finish(self) -> Result<Recorded, TextFault>
-        ensures { GivesText result (ended self self.stage) }
+    /// Takes the next piece of the text.
+    pub(crate) fn feed(self, alloc: Global, piece: &[u8]) -> Result<PieceReader, TextFault>
+        ensures ok { IfOk result (λ r. (b : List ℕ) → StandsFor self b → StandsFor r (b ++ piece.now)) }
+        ensures room { IfOk result (λ r. taken r ≤ 33554432) }
+        ensures err { IfErr result (λ f. f.kind ≢ TextKind.NoMemory
+            → (b : List ℕ) → StandsFor self b → IsFaultOfAll (b ++ piece.now) f) }
     {
-        match self.stage {
-            Stage::Ended { trace, .. } => Ok(trace),
-            _ => Err(TextFault {
-                line: self.count + 1,
-                kind: TextKind::Cut,
-            }),
+        let mut reader = self;
+        let mut left = piece;
+        while let Some((line, after)) = split_complete(left) {
+            reader = reader.complete(alloc, line)?;
+            left = after;
         }
+        reader.hold(left)
+    }
+
+    /// The trace that the bytes so far spell, where they are the whole text.
+    pub(crate) fn end(self, alloc: Global) -> Result<Recorded, TextFault>
+        ensures { GivesText result (ending self) }
+    {
+        let PieceReader { lines, rest } = self;
+        if rest.is_empty() {
+            return lines.finish();
+        }
+        let lines = lines.take(alloc, rest.as_slice())?;
+        lines.finish()
     }
 }
 
@@ -93,18 +117,13 @@ fn read_recorded(alloc: Global, bytes: &[u8]) -> Result<Recorded, TextFault>
     ensures ok { IfOk result (λ r. Spells bytes.now r) }
     ensures err { IfErr result (λ fault. fault.kind ≢ TextKind.NoMemory → IsFirstFault bytes.now fault) }
 {
-    read_all(alloc, bytes)
+    read_whole(alloc, bytes)
 }
 
-fn read_all(alloc: Global, bytes: &[u8]) -> Result<Recorded, TextFault>
+// the whole text is one piece
+fn read_whole(alloc: Global, bytes: &[u8]) -> Result<Recorded, TextFault>
     ensures { GivesText result (reading bytes.now) }
 {
-    let mut reader = LineReader::new();
-    let mut rest = bytes;
-    while !rest.is_empty() {
-        let (line, after) = split_line(rest);
-        reader = reader.take(alloc, line)?;
-        rest = after;
-    }
-    reader.finish()
+    let reader = PieceReader::new(alloc).feed(alloc, bytes)?;
+    reader.end(alloc)
 }

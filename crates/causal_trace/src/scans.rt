@@ -166,6 +166,13 @@ pub fn message_at(entries: &[Entry], t: usize, send: u32) -> Option<MsgName>
     }
 }
 
+/// The message that the entry at a position sends.
+pub fn message_sent_at(entries: &[Entry], send: u32) -> Option<MsgName>
+    ensures { result ≡ past.message_at (past_at entries.now (length entries.now)) send }
+{
+    message_at(entries, entries.len(), send)
+}
+
 /// Whether the entry at a position is a send to the process.
 pub fn is_sent_to(entries: &[Entry], send: u32, p: Pid) -> bool
     ensures { result ≡ past.is_sent_to (past_at entries.now (length entries.now)) send p.0 }
@@ -203,6 +210,13 @@ pub fn det_of(entries: &[Entry], t: usize, e: &Entry) -> Option<Det>
         Entry::Deliver { to, send, rsn, .. } => det_from(*to, *rsn, message_at(entries, t, *send)),
         _ => None,
     }
+}
+
+/// The determinant of an entry that is a delivery and comes next.
+pub fn det_of_next(entries: &[Entry], e: &Entry) -> Option<Det>
+    ensures { result ≡ past.det_of (past_at entries.now (length entries.now)) e.now }
+{
+    det_of(entries, entries.len(), e)
 }
 
 /// Whether an optional determinant is this one.
