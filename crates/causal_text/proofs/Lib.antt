@@ -11,6 +11,5 @@ pub mod ShapeData
 pub mod Plain
 pub mod Sizes
 pub mod Canonicals
-pub mod LongTexts
 pub mod Feeds
 pub mod StreamLemmas

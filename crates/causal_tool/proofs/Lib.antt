@@ -1,3 +1,2 @@
 mod ByteLemmas
 mod Commas
-mod FirstBytes

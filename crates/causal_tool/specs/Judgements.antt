@@ -6,8 +6,8 @@ use Rattle.causal_text.specs.Spelling.{Spells, IsFirstFault}
 use Rattle.causal_text.specs.declared.kind.TextKind.TheVariants as kind
 use Rattle.causal_audit.specs.Verdicts.{IsVerdict}
 use Rattle.causal_tool.specs.declared.judged.Judged.{Judged}
-use Rattle.causal_tool.specs.declared.judged.AuditTextFault.{AuditTextFault}
-use Rattle.causal_tool.specs.declared.judged.AuditTextFault.TheVariants.{Text, NoMemory}
+use Rattle.causal_tool.specs.declared.judged.AuditFault.{AuditFault}
+use Rattle.causal_tool.specs.declared.judged.AuditFault.TheVariants.{Text}
 
 -- the text spells a trace, this is its verdict for f, and so many entries and deliveries it has
 pub record IsJudgement (text : List ℕ) (f : ℕ) (judged : Judged) : Type 0 where
@@ -17,7 +17,7 @@ pub record IsJudgement (text : List ℕ) (f : ℕ) (judged : Judged) : Type 0 wh
   pub entries : judged.entries ≡ length recording.past
   pub deliveries : judged.deliveries ≡ deliveries_in recording.past
 
--- a fault that is not want of memory is the text's first
-abbrev pub IsFaultOf : List ℕ → AuditTextFault → Type 0
+-- a fault of the text is its first, and no want of memory
+abbrev pub IsFaultOf : List ℕ → AuditFault → Type 0
 IsFaultOf text (Text fault) = IsFirstFault text fault × (fault.kind ≢ kind.NoMemory)
-IsFaultOf text NoMemory = Unit {0}
+IsFaultOf text _ = Unit {0}

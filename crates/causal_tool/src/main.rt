@@ -1,12 +1,12 @@
 //! Audits the recorded run that it reads on standard input.
 #![tactic(auto)]
 
-mod bytes;
 mod ended;
 mod judged;
 mod line;
 mod stream;
 mod words;
+mod written;
 
 use crate::ended::Ended;
 use crate::stream::audit_stream;
@@ -17,12 +17,9 @@ use std::rt::Env;
 
 fn main(rt: HostRuntime) -> ExitCode {
     let ended = match words::read_words(&rt) {
-        Ok(
-            Asked::Audit {
-                faults: 0,
-                workers: 1,
-            },
-        ) => { audit_stream(&rt, &mut rt.reader(), &mut io::writer(&rt), 0) }
+        Ok(Asked::Audit { faults, workers: 1 }) => {
+            audit_stream(&rt, &mut rt.reader(), &mut io::writer(&rt), faults)
+        }
         Ok(Asked::Audit { .. }) => return ExitCode::from(3),
         Err(Refused::Status(status)) => return ExitCode::from(status),
         Err(Refused::Ended(ended)) => ended,

@@ -1,4 +1,7 @@
 //! What the program writes to a text, and how it ends, where readers and writers give and take little, or fail.
+mod traces;
+
+use self::traces::{FAULTY, JUDGED, RING};
 use crate::ended::Ended;
 use crate::judged::Judged;
 use crate::line::verdict_line;
@@ -12,129 +15,26 @@ use std::io::{Error, Read, Write};
 use std::process::Abort;
 use std::test::Fail;
 
-/// A message goes once round three processes.
-const RING: &str = r#"["trace",1,3]
-["send",0,1,0]
-["deliver",1,0,0,[[0,0,1,0]]]
-["send",1,2,0]
-["deliver",2,2,0,[[0,0,1,0],[1,0,2,0]]]
-["send",2,0,0]
-["deliver",0,4,0,[[1,0,2,0],[2,0,0,0]]]
-["end",6]
-"#;
-
 const RING_LINE: &str = "accept f=0 entries=6 deliveries=3\n";
 
-// What a text is answered with for f = 0.
-const ACCEPTED: [(&str, &str); 5] = [
-    (
-        "[\"trace\",1,1]\n[\"end\",0]\n",
-        "accept f=0 entries=0 deliveries=0\n",
-    ),
-    (
-        "[\"trace\",1,2]\n[\"send\",0,1,0]\n[\"deliver\",1,0,0,[[0,0,1,0]]]\n[\"end\",2]\n",
-        "accept f=0 entries=2 deliveries=1\n",
-    ),
-    (
-        r#"["trace",1,3]
-["send",0,1,0]
-["deliver",1,0,0,[[0,0,1,0]]]
-["send",1,2,0]
-["deliver",2,2,0,[[1,0,2,0]]]
-["end",4]
-"#,
-        "accept f=0 entries=4 deliveries=2\n",
-    ),
-    (RING, RING_LINE),
-    (
-        "[\"trace\",1,1]\n[\"send\",0,0,0]\n[\"deliver\",0,0,0,[[0,0,0,0]]]\n[\"end\",2]\n",
-        "accept f=0 entries=2 deliveries=1\n",
-    ),
-];
-
-const BREACHED: [(&str, &str); 5] = [
-    (
-        "[\"trace\",1,2]\n[\"send\",0,1,0]\n[\"deliver\",1,0,0,[]]\n[\"end\",2]\n",
-        "orphan f=0 instant=2 delivery=1 crash=- orphan=1\n",
-    ),
-    (
-        "[\"trace\",1,2]\n[\"send\",0,1,0]\n[\"deliver\",1,0,0,[]]\n[\"crash\",0]\n[\"end\",3]\n",
-        "orphan f=0 instant=2 delivery=1 crash=- orphan=1\n",
-    ),
-    (
-        r#"["trace",1,4]
-["send",0,1,0]
-["deliver",1,0,0,[[0,0,1,0]]]
-["send",1,2,0]
-["send",0,3,1]
-["deliver",3,3,0,[]]
-["deliver",2,2,0,[[1,0,2,0]]]
-["end",6]
-"#,
-        "orphan f=0 instant=5 delivery=4 crash=- orphan=3\n",
-    ),
-    (
-        r#"["trace",1,2]
-["send",0,1,0]
-["deliver",1,0,0,[[0,0,1,0]]]
-["crash",1]
-["restart",1,[]]
-["deliver",1,0,0,[[0,0,1,0]]]
-["end",5]
-"#,
-        "exceeded f=0 instant=3 down=1\n",
-    ),
-    (
-        r#"["trace",1,3]
-["send",0,1,0]
-["deliver",1,0,0,[[0,0,1,0]]]
-["send",1,2,0]
-["crash",1]
-["deliver",2,2,0,[[1,0,2,0]]]
-["end",5]
-"#,
-        "exceeded f=0 instant=4 down=1\n",
-    ),
-];
-
-const FAULTED: [(&str, &str); 6] = [
-    (
-        "[\"trace\",1,2]\n[\"send\",0,1,1]\n[\"end\",1]\n",
-        "fault line=2 WrongSsn\n",
-    ),
-    (
-        "[\"trace\",1,2]\n[\"send\",0,1,0]\n[\"deliver\",1,0,0,[[0,0,1,0]]]\n",
-        "fault line=4 Cut\n",
-    ),
-    (
-        "[\"trace\",1,2]\n[\"send\",0,1,0]\n[\"deliver\",1,0,0,[[0,0,1,0]]]\n[\"end\",1]\n",
-        "fault line=4 Count\n",
-    ),
-    (
-        "[\"trace\",1,2]\n[\"send\",0,1,0]\n[\"deliver\",1,0,0,[[0,0,1,0]]]\n[\"end\",2]\n[\"end\",2]\n",
-        "fault line=5 After\n",
-    ),
-    (
-        "[\"trace\",1,2]\n[\"send\",0,1,0]\n[\"deliver\",1,0",
-        "fault line=3 Syntax\n",
-    ),
-    (
-        r#"["trace",1,2]
-["send",0,1,0]
-["deliver",1,0,0,[[0,0,1,0]]]
-["deliver",1,0,1,[[0,0,1,1]]]
-["end",3]
-"#,
-        "fault line=4 Doubled\n",
-    ),
-];
-
-// Gives one byte for each call, and fails at the call of this number.
+// Gives so many bytes for each call, and fails at the call of this number.
 #[derive(Drop)]
 struct Drip<'a> {
     rest: &'a [u8],
+    step: usize,
     calls: usize,
     fails_at: usize,
+}
+
+impl<'a> Drip<'a> {
+    fn new(text: &'a str, step: usize, fails_at: usize) -> Drip<'a> {
+        Drip {
+            rest: text.as_bytes(),
+            step,
+            calls: 0,
+            fails_at,
+        }
+    }
 }
 
 impl<'a> Read for Drip<'a> {
@@ -144,12 +44,11 @@ impl<'a> Read for Drip<'a> {
         if call == self.fails_at {
             return Err(Error::from(io::ErrorKind::Interrupted));
         }
-        let (Some((first, rest)), Some(place)) = (self.rest.split_first(), buf.first_mut()) else {
-            return Ok(0);
-        };
-        *place = *first;
+        let count = self.step.min(self.rest.len()).min(buf.len());
+        let (piece, rest) = self.rest.split_at(count);
+        buf[..count].copy_from_slice(piece);
         self.rest = rest;
-        Ok(1)
+        Ok(count)
     }
 }
 
@@ -199,34 +98,45 @@ impl Write for Narrow {
     }
 }
 
-fn answers<R: AllocGlobal + Abort>(rt: &R, text: &str, ended: Ended, line: &str) {
+fn answers<R: AllocGlobal + Abort>(
+    rt: &R,
+    name: &str,
+    text: &str,
+    f: u16,
+    ended: Ended,
+    line: &str,
+) {
     let mut input = text.as_bytes();
     let mut output = Vec::new(rt.alloc());
-    let how = audit_stream(rt, &mut input, &mut output, 0);
-    assert_eq!(rt; how, ended, "{line}");
-    assert!(rt; output.as_slice() == line.as_bytes(), "{line}");
+    let how = audit_stream(rt, &mut input, &mut output, f);
+    assert_eq!(rt; how, ended, "{name}");
+    assert!(rt; output.as_slice() == line.as_bytes(), "{name}");
 }
 
 #[test]
-fn answers_texts(rt: HostRuntime) {
-    for (text, line) in ACCEPTED {
-        answers(&rt, text, Ended::Accepted, line);
+fn verdicts(rt: HostRuntime) {
+    for judged in &JUDGED {
+        for (f, line) in judged.lines {
+            let ended = if line.starts_with("accept") {
+                Ended::Accepted
+            } else {
+                Ended::Breached
+            };
+            answers(&rt, judged.name, judged.text, *f, ended, line);
+        }
     }
-    for (text, line) in BREACHED {
-        answers(&rt, text, Ended::Breached, line);
-    }
-    for (text, line) in FAULTED {
-        answers(&rt, text, Ended::Faulted, line);
+}
+
+#[test]
+fn first_faults(rt: HostRuntime) {
+    for fault in &FAULTY {
+        answers(&rt, fault.name, fault.text, 0, Ended::Faulted, fault.line);
     }
 }
 
 #[test]
 fn reads_byte_by_byte(rt: HostRuntime) {
-    let mut input = Drip {
-        rest: RING.as_bytes(),
-        calls: 0,
-        fails_at: usize::MAX,
-    };
+    let mut input = Drip::new(RING, 1, usize::MAX);
     let mut output = Vec::new(rt.alloc());
     assert_eq!(rt;
         audit_stream(&rt, &mut input, &mut output, 0),
@@ -240,16 +150,25 @@ fn reads_byte_by_byte(rt: HostRuntime) {
 #[test]
 fn reader_fails_at_each_call(rt: HostRuntime) {
     for fails_at in 0..=RING.len() {
-        let mut input = Drip {
-            rest: RING.as_bytes(),
-            calls: 0,
-            fails_at,
-        };
+        let mut input = Drip::new(RING, 1, fails_at);
         let mut output = Vec::new(rt.alloc());
         let ended = audit_stream(&rt, &mut input, &mut output, 0);
         assert_eq!(rt; ended, Ended::ReadFault, "call {fails_at}");
         assert!(rt; output.is_empty(), "call {fails_at}");
     }
+}
+
+// The whole line at fault has come, so the reader is not asked again.
+#[test]
+fn fault_before_the_reader_fails(rt: HostRuntime) {
+    let mut input = Drip::new("[\"trace\",1,2]\n[\"send\",0,1,1]\n", 4096, 1);
+    let mut output = Vec::new(rt.alloc());
+    assert_eq!(rt;
+        audit_stream(&rt, &mut input, &mut output, 0),
+        Ended::Faulted
+    );
+    assert!(rt; output.as_slice() == b"fault line=2 WrongSsn\n".as_slice());
+    assert_eq!(rt; input.calls, 1);
 }
 
 #[test]
@@ -277,17 +196,19 @@ fn writer_fails_at_each_call(rt: HostRuntime) {
     }
 }
 
-// The byte that is one too many is read, and no further one.
+// The piece that has one byte too many is read, and no further one.
 #[test]
-fn reads_no_more_than_a_text_may_have(rt: HostRuntime) {
-    let mut input = Spaces { left: 33_554_440 };
+fn too_long_a_text(rt: HostRuntime) {
+    let mut input = Spaces {
+        left: 33_554_432 + 5_000,
+    };
     let mut output = Vec::new(rt.alloc());
     assert_eq!(rt;
         audit_stream(&rt, &mut input, &mut output, 0),
         Ended::Faulted
     );
     assert!(rt; output.as_slice() == b"fault line=1 Big\n".as_slice());
-    assert_eq!(rt; input.left, 7);
+    assert_eq!(rt; input.left, 5_000 - 4_096);
 }
 
 #[test]
@@ -376,7 +297,7 @@ fn words_that_ask_for_nothing(rt: HostRuntime) {
             ErrorKind::MissingRequiredArgument,
         ),
         (
-            &["causal_tool", "audit", "--faults", "1"],
+            &["causal_tool", "audit", "--faults", "65536"],
             ErrorKind::ValueValidation,
         ),
         (

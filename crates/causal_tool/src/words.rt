@@ -13,7 +13,7 @@ const MISUSED: u8 = 3;
 /// What the command line asks for.
 #[derive(Clone, Copy, Debug, PartialEq, Eq)]
 pub enum Asked {
-    /// An audit for so many faults, by so many workers.
+    /// An audit for at most so many processes that are down at once, by so many workers.
     Audit { faults: u16, workers: u32 },
 }
 
@@ -85,9 +85,9 @@ fn command<'a>(alloc: Global) -> Result<Command<'a>, AllocError> {
     let faults = Arg::new(alloc, "faults")
         .long("faults")
         .value_name("F")
-        .help("How many processes may be down at once: 0")
+        .help("How many processes may be down at once")
         .required(true)
-        .value_parser(value_parser!(u16).range(0..=0));
+        .value_parser(value_parser!(u16));
     let workers = Arg::new(alloc, "workers")
         .long("workers")
         .value_name("W")

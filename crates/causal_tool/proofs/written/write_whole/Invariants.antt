@@ -1,6 +1,6 @@
 use Rattle.std.proofs.Common.{◌≤◌, ◌-◌, take, length}
 use Rattle.std.specs.Io.KnownBytes.{Appends}
-use Rattle.causal_tool.proofs.bytes.write_whole.Given as goal
+use Rattle.causal_tool.proofs.written.write_whole.Given as goal
 
 abbrev pub decreases-loop-written : goal.decreases-loop-written
 decreases-loop-written g l = length l.bytes - l.written

@@ -1,7 +1,7 @@
 use Rattle.std.proofs.Common.{arith, take, drop, length, ◌-◌, ◌≤◌}
 use Rattle.std.proofs.lemmas.Grind.{common_steps}
 use Rattle.causal_tool.proofs.ByteLemmas.{appends_next, seam}
-use Rattle.causal_tool.proofs.bytes.write_whole.Goals as goal
+use Rattle.causal_tool.proofs.written.write_whole.Goals as goal
 
 pub loop-written-preserved : goal.loop-written-preserved
 loop-written-preserved g c =
