@@ -16,7 +16,7 @@ use Rattle.causal_trace.proofs.Reached.{event_below, reaches_old, depends_restar
 use Rattle.causal_trace.proofs.Accepted.{accepted_forward, delivers_up}
 use Rattle.causal_audit.specs.Sights.{AreDependents, TellsReach}
 use Rattle.causal_audit.proofs.Legal.{sends_up}
-use Rattle.causal_audit.proofs.Members.{inserted, removed}
+use Rattle.causal_audit.proofs.Shown.{inserted, removed}
 
 -- ---- what holds stays with one more entry
 

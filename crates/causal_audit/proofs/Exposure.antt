@@ -21,7 +21,7 @@ use Rattle.causal_audit.specs.Verdicts.{IsLeastOrphan}
 use Rattle.causal_audit.proofs.Dependence.{depends_none}
 use Rattle.causal_audit.proofs.Judged.{exposed, crash_contains, orphan_without, gone_crash, gone_orphan}
 use Rattle.causal_audit.proofs.Legal.{event_inside}
-use Rattle.causal_audit.proofs.Members.{shows_none, down_inside, logs_inside}
+use Rattle.causal_audit.proofs.Shown.{shows_none, down_inside, logs_inside}
 
 pub sight_none : (k : ℕ) (d : Det) → IsSight [] k d (record { down = empty; holders = empty; stable = false; dependents = empty })
 sight_none k d = record {

@@ -14,7 +14,7 @@ use Rattle.causal_trace.specs.Rows.{rows, first_fault, AreAccepted}
 use Rattle.causal_trace.specs.Dependence.{actor, is_delivery_of, IsEventOf, Delivers}
 use Rattle.causal_trace.proofs.Accepted.{row_fails, delivers_up, delivers_sent}
 use Rattle.causal_trace.proofs.Formed.{within_limits, limits}
-use Rattle.causal_audit.proofs.Members.{send_inside, deliver_inside}
+use Rattle.causal_audit.proofs.Shown.{send_inside, deliver_inside}
 
 module _ (n : ℕ) (past : List Entry) where
   pub sends_up : (from to : Pid) (ssn : ℕ) → first_fault n past (Send from to ssn) ≡ None → is_down past from.0 ≡ false

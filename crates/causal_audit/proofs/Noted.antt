@@ -14,7 +14,7 @@ use Rattle.causal_clock.specs.declared.ClockFault.TheVariants.{Lanes as ClockLan
 use Rattle.causal_clock.specs.Timeline.{Timeline, with_event}
 use Rattle.causal_audit.specs.Stands.{CanMirror, Mirrors}
 use Rattle.causal_audit.proofs.Legal.{restarts_few, entry_short}
-use Rattle.causal_audit.proofs.Members.{send_inside, deliver_inside, restart_inside}
+use Rattle.causal_audit.proofs.Shown.{send_inside, deliver_inside, restart_inside}
 use Rattle.causal_audit.proofs.Mirrored.{mirrors_event, mirrors_restart, Receives}
 
 module _ (x : Entry) (c : Timeline) (present : List ℕ) (can : CanMirror x c present) where

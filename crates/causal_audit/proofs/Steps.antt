@@ -15,7 +15,7 @@ use Rattle.causal_audit.specs.Sights.{Shows}
 use Rattle.causal_audit.specs.Verdicts.{HasMembers}
 use Rattle.causal_holders.proofs.Counting.{count_below-none}
 use Rattle.causal_audit.proofs.Instants.{read_instant, accepted_then}
-use Rattle.causal_audit.proofs.Members.{shows_none, down_members, counted}
+use Rattle.causal_audit.proofs.Shown.{shows_none, down_members, counted}
 
 
 module _ (r : Recording) (es : List Entry) (read : es ≡ entries_of r) where

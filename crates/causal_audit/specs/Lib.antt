@@ -3,6 +3,7 @@ pub mod Breaches
 pub mod Earlier
 pub mod Laws
 pub mod Numbers
+pub mod Plain
 pub mod Sights
 pub mod Stands
 pub mod Stored

@@ -6,6 +6,7 @@ mod events;
 pub mod judge;
 pub mod laws;
 mod orphans;
+pub mod plain;
 mod sight;
 pub mod tables;
 pub mod verdict;

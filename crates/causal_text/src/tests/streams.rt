@@ -22,16 +22,8 @@ impl<'a> Read for Slow<'a> {
         if self.rest.is_empty() && self.fails {
             return Err(io::Error::from(io::ErrorKind::Interrupted));
         }
-        let mut count = 0;
-        for place in buf.iter_mut().take(self.step) {
-            let Some((first, rest)) = self.rest.split_first() else {
-                return Ok(count);
-            };
-            *place = *first;
-            self.rest = rest;
-            count += 1;
-        }
-        Ok(count)
+        let step = self.step.min(buf.len());
+        self.rest.read(&mut buf[..step])
     }
 }
 
