@@ -26,8 +26,8 @@ not_before_least a b k t h later =
     let second : a.instant ≡ b.instant → a.delivery ≤ b.delivery = λ e. grind (arith, nat_tests) in
     (omega (arith, first, later.0), λ e. let same : b.instant ≡ t = omega (arith, first, later.0, e) in omega (arith, later.1 same, second (omega (arith, same, e))))
 
-module _ (r : Recording) (f last : ℕ) where
-  chosen : (from mid to : ℕ) (a b : Breach) → from ≤ mid → mid ≤ to → IsLeastBreach r f from mid last a → IsLeastBreach r f mid to last b → (x : Bool) → comes_before b a ≡ x → LeastBreach r f from to last (if x then Some b else Some a)
+module _ (r : Recording) (f : ℕ) where
+  chosen : (from mid to : ℕ) (a b : Breach) → from ≤ mid → mid ≤ to → IsLeastBreach r f from mid a → IsLeastBreach r f mid to b → (x : Bool) → comes_before b a ≡ x → LeastBreach r f from to (if x then Some b else Some a)
   chosen from mid to a b low high one other true before = record {
     number = other.number;
     least_from = omega (arith, other.least_from, low);
@@ -52,7 +52,7 @@ module _ (r : Recording) (f last : ℕ) where
   }
 
   -- the least breach of two neighbouring parts is the one of theirs that comes first
-  pub least_joined : (from mid to : ℕ) (one other : Option Breach) → from ≤ mid → mid ≤ to → LeastBreach r f from mid last one → LeastBreach r f mid to last other → LeastBreach r f from to last (earlier one other)
+  pub least_joined : (from mid to : ℕ) (one other : Option Breach) → from ≤ mid → mid ≤ to → LeastBreach r f from mid one → LeastBreach r f mid to other → LeastBreach r f from to (earlier one other)
   least_joined from mid to None None low high first second = λ i k t above below n in_time has. elim (cases_lt i mid) [ inl h ↦ first i k t above h n in_time has | inr h ↦ second i k t h below n in_time has ]
   least_joined from mid to None (Some b) low high first second = record {
     number = second.number;
@@ -79,11 +79,11 @@ module _ (r : Recording) (f last : ℕ) where
   least_joined from mid to (Some a) (Some b) low high first second = chosen from mid to a b low high first second (comes_before b a) refl
 
   -- of no delivery there is none
-  pub least_none : (from : ℕ) → LeastBreach r f from from last None
+  pub least_none : (from : ℕ) → LeastBreach r f from from None
   least_none from i k t above below = absurd (omega (arith, above, below))
 
   -- one delivery has its own
-  pub least_one : (i k : ℕ) (found : Option Breach) → IsNumbered r.past i k → FirstBreach r f k last found → LeastBreach r f i (i + 1) last found
+  pub least_one : (i k : ℕ) (found : Option Breach) → IsNumbered r.past i k → FirstBreach r f k found → LeastBreach r f i (i + 1) found
   least_one i k None n first = λ j m t above below other in_time has.
       let same_number : j ≡ i = omega (arith, above, below) in
       let same : m ≡ k = numbered_one r.past i m k (subst (λ x. IsNumbered r.past x m) same_number other) n in
@@ -93,7 +93,7 @@ module _ (r : Recording) (f last : ℕ) where
     least_from = omega arith;
     below_to = omega arith;
     numbered = subst (IsNumbered r.past i) (sym first.delivery) n;
-    first = subst (λ x. IsFirstBreach r f x last b) (sym first.delivery) first;
+    first = subst (λ x. IsFirstBreach r f x b) (sym first.delivery) first;
     least = λ j m t above below other in_time has.
         let same_number : j ≡ i = omega (arith, above, below) in
         let same : m ≡ k = numbered_one r.past i m k (subst (λ x. IsNumbered r.past x m) same_number other) n in (
@@ -106,8 +106,8 @@ module _ (r : Recording) (f last : ℕ) where
   }
 
   -- the deliveries from a position on fail no earlier than just after it
-  pub least_rest : (from i to k : ℕ) (b : Breach) → last ≤ length r.past → i ≤ to → IsNumbered r.past i k → b.instant ≤ k → IsLeastBreach r f from i last b → IsLeastBreach r f from to last b
-  least_rest from i to k b inside high here early one = record {
+  pub least_rest : (from i to k : ℕ) (b : Breach) → i ≤ to → IsNumbered r.past i k → b.instant ≤ k → IsLeastBreach r f from i b → IsLeastBreach r f from to b
+  least_rest from i to k b high here early one = record {
     number = one.number;
     least_from = one.least_from;
     below_to = omega (arith, one.below_to, high);
@@ -117,7 +117,7 @@ module _ (r : Recording) (f last : ℕ) where
       | inl h ↦ one.least j m t above h n in_time has
       | inr h ↦
           let there : k ≤ m = numbered_order r.past i j k m here n h in
-          let size = instant_length r.past t (omega (arith, in_time, inside)) in
+          let size = instant_length r.past t in_time in
           let made = det_within (instant r.past t) m has.is_orphan.det has.is_orphan.delivered in (
             omega (arith, early, there, size, made),
             λ _. numbered_order r.past one.number j b.delivery m one.numbered n (omega (arith, one.below_to, h)),
@@ -125,6 +125,6 @@ module _ (r : Recording) (f last : ℕ) where
     ];
   }
 
-  pub settled : (from i to k : ℕ) (least : Option Breach) → last ≤ length r.past → i ≤ to → IsNumbered r.past i k → MatchOption least ⊥ (λ b. b.instant ≤ k) → LeastBreach r f from i last least → LeastBreach r f from to last least
-  settled from i to k None inside high here early one = absurd early
-  settled from i to k (Some b) inside high here early one = least_rest from i to k b inside high here early one
+  pub settled : (from i to k : ℕ) (least : Option Breach) → i ≤ to → IsNumbered r.past i k → MatchOption least ⊥ (λ b. b.instant ≤ k) → LeastBreach r f from i least → LeastBreach r f from to least
+  settled from i to k None high here early one = absurd early
+  settled from i to k (Some b) high here early one = least_rest from i to k b high here early one

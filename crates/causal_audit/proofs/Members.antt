@@ -1,123 +1,104 @@
--- What one more entry makes of the sets that show who is down and who holds a determinant.
-use Rattle.std.proofs.Common.{ℕ, ◌≡◌, ◌<◌, inl, inr, Bool, true, false, List, [], ◌∷◌, None, refl, sym, ap, subst, ◌∙◌}
-use Rattle.std.specs.Prelude.{◌&&◌, ◌||◌, ◌==◌, not, nat_lt}
+-- Sets of processes that are put together one by one.
+use Rattle.std.proofs.Common.{ℕ, ◌≡◌, ◌+◌, inl, inr, Bool, true, false, refl, sym, ap, subst, ◌∙◌, arith}
+use Rattle.std.specs.Prelude.{◌↔◌, ◌==◌, ◌||◌, not}
 use Rattle.std.specs.Ordering.{nat_cmp}
 use Rattle.std.specs.Cmp.{nat_cmp_total, unsigned_tied}
-use Rattle.std.specs.FinSet.{FinSet, contains, empty, insert, remove, len, contains-empty, contains-insert, contains-remove}
-use Rattle.std.proofs.lemmas.Bool.{false≢true, cases_lt, le-ltb, eqb-true, and_parts, or_cases}
+use Rattle.std.specs.FinSet.{FinSet, contains, insert, empty, contains-empty, contains-insert}
+use Rattle.std.proofs.lemmas.Bool.{false≢true, both_ways, false_from_ne_true, or_cases, or_right, eqb-true, eq-eqb, ne_eqb}
 use Rattle.std.proofs.lemmas.Bool.Decides.{eqb_tells}
-use Rattle.causal_name.specs.declared.Pid.{Pid}
-use Rattle.causal_name.specs.declared.Det.{Det}
-use Rattle.causal_name.specs.Sets.{count_below}
-use Rattle.causal_holders.proofs.Counting.{members_counted}
-use Rattle.causal_trace.specs.declared.entry.Entry.{Entry}
-use Rattle.causal_trace.specs.declared.entry.Entry.TheVariants.{Send, Deliver, Stable, Crash, Restart, Forget}
-use Rattle.causal_trace.specs.declared.fault.TraceFault.TheVariants.{NoProcess}
-use Rattle.causal_trace.specs.Past.{is_down, logs, has}
-use Rattle.causal_trace.specs.Rows.{AreAccepted, rows, first_fault}
-use Rattle.causal_trace.proofs.Accepted.{row_fails}
-use Rattle.causal_audit.specs.Verdicts.{HasMembers}
-use Rattle.causal_audit.specs.Sights.{Shows}
+use Rattle.causal_holders.specs.Members.{HasMembers}
+use Rattle.causal_holders.specs.Same.{have_same_members, have_same_members-itself, same_members_equal}
+use Rattle.causal_holders.proofs.Sets.{empty_or_member}
+use Rattle.causal_audit.specs.Plain.{HasJust}
 
-same_number : (p q : ℕ) → (q == p) ≡ (p == q)
-same_number p q =
-    elim (eqb_tells q p) [
-      | inl h ↦ h.0 ∙ sym (elim (eqb_tells p q) [ inl k ↦ k.0 | inr k ↦ absurd (k.1 (sym h.1)) ])
-      | inr h ↦ h.0 ∙ sym (elim (eqb_tells p q) [ inl k ↦ absurd (h.1 (sym k.1)) | inr k ↦ k.0 ])
+pub empty_without : (q : ℕ) → contains {R = nat_cmp} empty q ≡ true → ⊥
+empty_without q h = false≢true (sym (contains-empty nat_cmp q) ∙ h)
+
+pub insert_contains : (s : FinSet nat_cmp) (p q : ℕ) → contains (insert s p) q ≡ (q == p || contains s q)
+insert_contains s p q = contains-insert nat_cmp_total s p q ∙ ap (λ t. t || contains s q) (unsigned_tied q p)
+
+pub insert_itself : (s : FinSet nat_cmp) (p : ℕ) → contains (insert s p) p ≡ true
+insert_itself s p = insert_contains s p p ∙ ap (λ t. t || contains s p) (eq-eqb p p refl)
+
+pub insert_kept : (s : FinSet nat_cmp) (p q : ℕ) → contains s q ≡ true → contains (insert s p) q ≡ true
+insert_kept s p q h = insert_contains s p q ∙ or_right (q == p) (contains s q) h
+
+-- a member of a set with p put in was there, or is p
+pub insert_cases : {G : Type 0} (s : FinSet nat_cmp) (p q : ℕ) → contains (insert s p) q ≡ true → (q ≡ p → G) → (contains s q ≡ true → G) → G
+insert_cases s p q h new old = elim (or_cases (q == p) (contains s q) (sym (insert_contains s p q) ∙ h)) [ inl k ↦ new (eqb-true q p k) | inr k ↦ old k ]
+
+pub insert_other : (s : FinSet nat_cmp) (p q : ℕ) → (q ≡ p → ⊥) → contains (insert s p) q ≡ contains s q
+insert_other s p q apart = insert_contains s p q ∙ ap (λ t. t || contains s q) (ne_eqb q p apart)
+
+pub members_none : (test : ℕ → Bool) → HasMembers 0 empty test
+members_none test = record {
+  process = λ q h. absurd (empty_without q h);
+  member = λ q below. absurd (omega (arith, below));
+}
+
+-- one more number that passes, and one that fails
+pub members_with : (n : ℕ) (s : FinSet nat_cmp) (test : ℕ → Bool) → HasMembers n s test → test n ≡ true → HasMembers (n + 1) (insert s n) test
+members_with n s test m passes = record {
+  process = λ q h. insert_cases s n q h (λ is. omega (arith, is)) (λ old. omega (arith, m.process q old));
+  member = λ q below. elim (eqb_tells q n) [
+    | inl k ↦ subst (λ x. contains (insert s n) x ≡ test x) (sym k.1) (insert_itself s n ∙ sym passes)
+    | inr k ↦ insert_other s n q k.1 ∙ m.member q (let ne : q ≡ n → ⊥ = k.1 in omega (arith, below))
+  ];
+}
+
+without_cases : (b : Bool) → (b ≡ true → ⊥) → b ≡ false
+without_cases true h = absurd (h refl)
+without_cases false h = refl
+
+pub members_without : (n : ℕ) (s : FinSet nat_cmp) (test : ℕ → Bool) → HasMembers n s test → test n ≡ false → HasMembers (n + 1) s test
+members_without n s test m fails = record {
+  process = λ q h. omega (arith, m.process q h);
+  member = λ q below. elim (eqb_tells q n) [
+    | inl k ↦ subst (λ x. contains s x ≡ test x) (sym k.1) (without_cases (contains s n) (λ h. omega (arith, m.process n h)) ∙ sym fails)
+    | inr k ↦ m.member q (let ne : q ≡ n → ⊥ = k.1 in omega (arith, below))
+  ];
+}
+
+-- the same for a set of the numbers for which P holds
+
+pub just_none : (P : ℕ → Type 0) → HasJust 0 P empty
+just_none P = record {
+  process = λ q h. absurd (empty_without q h);
+  member = λ q below. absurd (omega (arith, below));
+}
+
+pub just_with : (n : ℕ) (s : FinSet nat_cmp) (P : ℕ → Type 0) → HasJust n P s → P n → HasJust (n + 1) P (insert s n)
+just_with n s P m holds = record {
+  process = λ q h. insert_cases s n q h (λ is. omega (arith, is)) (λ old. omega (arith, m.process q old));
+  member = λ q below. elim (eqb_tells q n) [
+    | inl k ↦ subst (λ x. (contains (insert s n) x ≡ true) ↔ P x) (sym k.1) (λ _. holds, λ _. insert_itself s n)
+    | inr k ↦
+        let before = m.member q (let ne : q ≡ n → ⊥ = k.1 in omega (arith, below)) in
+        (λ h. before.0 (sym (insert_other s n q k.1) ∙ h), λ h. insert_other s n q k.1 ∙ before.1 h)
+  ];
+}
+
+pub just_without : (n : ℕ) (s : FinSet nat_cmp) (P : ℕ → Type 0) → HasJust n P s → (P n → ⊥) → HasJust (n + 1) P s
+just_without n s P m fails = record {
+  process = λ q h. omega (arith, m.process q h);
+  member = λ q below. elim (eqb_tells q n) [
+    | inl k ↦ subst (λ x. (contains s x ≡ true) ↔ P x) (sym k.1) (λ h. absurd (omega (arith, m.process n h)), λ h. absurd (fails h))
+    | inr k ↦ m.member q (let ne : q ≡ n → ⊥ = k.1 in omega (arith, below))
+  ];
+}
+
+not_true : (b : Bool) → not b ≡ true → b ≡ false
+not_true true h = sym h
+not_true false h = refl
+
+-- whether a set differs from the empty one tells whether it has a member
+pub differs_member : (s t : FinSet nat_cmp) → t ≡ empty → not (have_same_members s t) ≡ true → (p : ℕ) × (contains s p ≡ true)
+differs_member s t none differs =
+    elim (empty_or_member s) [
+      | inl e ↦ absurd (both_ways (have_same_members s t) (not_true (have_same_members s t) differs) (subst (λ x. have_same_members s x ≡ true) (e ∙ sym none) (have_same_members-itself s)))
+      | inr some ↦ some
     ]
 
-pub inserted : (s : FinSet nat_cmp) (p q : ℕ) → contains (insert s p) q ≡ ((p == q) || contains s q)
-inserted s p q = contains-insert nat_cmp_total s p q ∙ ap (λ b. b || contains s q) (unsigned_tied q p ∙ same_number p q)
-
-pub removed : (s : FinSet nat_cmp) (p q : ℕ) → contains (remove s p) q ≡ (not (p == q) && contains s q)
-removed s p q = contains-remove nat_cmp_total s p q ∙ ap (λ b. not b && contains s q) (unsigned_tied q p ∙ same_number p q)
-
-and_true : (a b : Bool) → b ≡ true → a ≡ (a && b)
-and_true true b h = sym h
-and_true false b h = refl
-
-and_false : (a b : Bool) → b ≡ false → false ≡ (a && b)
-and_false true b h = sym h
-and_false false b h = refl
-
-not_and_true : (a b : Bool) → b ≡ true → not a ≡ not (a && b)
-not_and_true a b h = ap not (and_true a b h)
-
-module _ (s : FinSet nat_cmp) (test : ℕ → Bool) (shown : Shows s test) (p : ℕ) where
-  pub shows_with : Shows (insert s p) (λ q. (p == q) || test q)
-  shows_with q = inserted s p q ∙ ap (λ b. (p == q) || b) (shown q)
-
-  pub shows_without : Shows (remove s p) (λ q. not (p == q) && test q)
-  shows_without q = removed s p q ∙ ap (λ b. not (p == q) && b) (shown q)
-
-  module _ (more : Bool) where
-    -- a list that has the determinant, and one that has it not
-    pub shows_listed : more ≡ true → Shows (insert s p) (λ q. ((p == q) && more) || test q)
-    shows_listed is q = shows_with q ∙ ap (λ b. b || test q) (and_true (p == q) more is)
-
-    pub shows_unlisted : more ≡ false → Shows s (λ q. ((p == q) && more) || test q)
-    shows_unlisted is q = shown q ∙ ap (λ b. b || test q) (and_false (p == q) more is)
-
-    pub shows_forgotten : more ≡ true → Shows (remove s p) (λ q. not ((p == q) && more) && test q)
-    shows_forgotten is q = shows_without q ∙ ap (λ b. b && test q) (not_and_true (p == q) more is)
-
-    pub shows_unforgotten : more ≡ false → Shows s (λ q. not ((p == q) && more) && test q)
-    shows_unforgotten is q = shown q ∙ ap (λ b. not b && test q) (and_false (p == q) more is)
-
-pub shows_none : (test : ℕ → Bool) → ((p : ℕ) → test p ≡ false) → Shows empty test
-shows_none test none p = contains-empty nat_cmp p ∙ sym (none p)
-
--- ---- only processes of the run go down, or hold a determinant
-
-below : (p n : ℕ) → not (nat_lt p n) ≡ false → p < n
-below p n h = elim (cases_lt p n) [ inl k ↦ k | inr k ↦ absurd (false≢true (sym h ∙ ap not (le-ltb p n k))) ]
-
-below_both : (p q n : ℕ) → not (nat_lt p n && nat_lt q n) ≡ false → p < n
-below_both p q n h = elim (cases_lt p n) [ inl k ↦ k | inr k ↦ absurd (false≢true (sym h ∙ ap (λ b. not (b && nat_lt q n)) (le-ltb p n k))) ]
-
-pub crash_inside : (n : ℕ) (past : List Entry) (who : Pid) → first_fault n past (Crash who) ≡ None → who.0 < n
-unfolding rows
-crash_inside n past who legal = below who.0 n (row_fails (rows n past (Crash who)) legal 1 (not (nat_lt who.0 n), NoProcess) refl)
-
-restart_inside : (n : ℕ) (past : List Entry) (who : Pid) (listed : List Det) → first_fault n past (Restart who listed) ≡ None → who.0 < n
-unfolding rows
-restart_inside n past who listed legal = below who.0 n (row_fails (rows n past (Restart who listed)) legal 1 (not (nat_lt who.0 n), NoProcess) refl)
-
-pub deliver_inside : (n : ℕ) (past : List Entry) (to : Pid) (send rsn : ℕ) (listed : List Det) → first_fault n past (Deliver to send rsn listed) ≡ None → to.0 < n
-unfolding rows
-deliver_inside n past to send rsn listed legal = below to.0 n (row_fails (rows n past (Deliver to send rsn listed)) legal 1 (not (nat_lt to.0 n), NoProcess) refl)
-
-pub send_inside : (n : ℕ) (past : List Entry) (from to : Pid) (ssn : ℕ) → first_fault n past (Send from to ssn) ≡ None → from.0 < n
-unfolding rows
-send_inside n past from to ssn legal = below_both from.0 to.0 n (row_fails (rows n past (Send from to ssn)) legal 1 (not (nat_lt from.0 n && nat_lt to.0 n), NoProcess) refl)
-
-pub down_inside : (n : ℕ) (past : List Entry) (p : ℕ) → AreAccepted n past → is_down past p ≡ true → p < n
-down_inside n [] p a h = absurd (false≢true h)
-down_inside n (Send from to ssn ∷ past) p a h = down_inside n past p a.0 h
-down_inside n (Deliver to send rsn listed ∷ past) p a h = down_inside n past p a.0 h
-down_inside n (Stable det ∷ past) p a h = down_inside n past p a.0 h
-down_inside n (Crash who ∷ past) p a h = elim (or_cases (who.0 == p) (is_down past p) h) [ inl k ↦ subst (λ q. q < n) (eqb-true who.0 p k) (crash_inside n past who a.1) | inr k ↦ down_inside n past p a.0 k ]
-down_inside n (Restart who listed ∷ past) p a h = down_inside n past p a.0 (and_parts (not (who.0 == p)) (is_down past p) h).1
-down_inside n (Forget who listed ∷ past) p a h = down_inside n past p a.0 h
-
-pub logs_inside : (n : ℕ) (past : List Entry) (p : ℕ) (d : Det) → AreAccepted n past → logs past p d ≡ true → p < n
-logs_inside n [] p d a h = absurd (false≢true h)
-logs_inside n (Send from to ssn ∷ past) p d a h = logs_inside n past p d a.0 h
-logs_inside n (Deliver to send rsn listed ∷ past) p d a h = elim (or_cases (to.0 == p && has listed d) (logs past p d) h) [
-  | inl k ↦ subst (λ q. q < n) (eqb-true to.0 p (and_parts (to.0 == p) (has listed d) k).0) (deliver_inside n past to send rsn listed a.1)
-  | inr k ↦ logs_inside n past p d a.0 k
-]
-logs_inside n (Stable det ∷ past) p d a h = logs_inside n past p d a.0 h
-logs_inside n (Crash who ∷ past) p d a h = logs_inside n past p d a.0 (and_parts (not (who.0 == p)) (logs past p d) h).1
-logs_inside n (Restart who listed ∷ past) p d a h = elim (or_cases (who.0 == p && has listed d) (logs past p d) h) [
-  | inl k ↦ subst (λ q. q < n) (eqb-true who.0 p (and_parts (who.0 == p) (has listed d) k).0) (restart_inside n past who listed a.1)
-  | inr k ↦ logs_inside n past p d a.0 k
-]
-logs_inside n (Forget who listed ∷ past) p d a h = logs_inside n past p d a.0 (and_parts (not (who.0 == p && has listed d)) (logs past p d) h).1
-
--- a set that shows who is down has just the processes that are
-pub down_members : (n : ℕ) (past : List Entry) (s : FinSet nat_cmp) → AreAccepted n past → Shows s (λ p. is_down past p) → HasMembers n s (is_down past)
-down_members n past s a shown = record { process = λ p h. down_inside n past p a (sym (shown p) ∙ h); member = λ p low. shown p }
-
-pub counted : (n : ℕ) (s : FinSet nat_cmp) (test : ℕ → Bool) → HasMembers n s test → len s ≡ count_below n test
-counted n s test m = members_counted n s test (record { process = m.process; member = m.member })
+pub member_differs : (s t : FinSet nat_cmp) (p : ℕ) → t ≡ empty → contains s p ≡ true → not (have_same_members s t) ≡ true
+member_differs s t p none h =
+    ap not (false_from_ne_true (have_same_members s t) (λ same. empty_without p (subst (λ x. contains x p ≡ true) (same_members_equal s t same ∙ none) h)))

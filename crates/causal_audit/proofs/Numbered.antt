@@ -15,7 +15,7 @@ use Rattle.causal_trace.specs.Rows.{AreAccepted}
 use Rattle.causal_trace.proofs.Accepted.{delivers_sent}
 use Rattle.causal_audit.specs.Numbers.{is_delivery, IsNumbered, ArePositions}
 use Rattle.causal_audit.proofs.Instants.{instants_stay, one_more_instant}
-use Rattle.causal_audit.proofs.Reaching.{sent_is}
+use Rattle.causal_audit.proofs.Legal.{sent_is}
 
 pub numbered_place : (past : List Entry) (i k : ℕ) → IsNumbered past i k → k < length past
 numbered_place [] i k n = absurd n

@@ -8,9 +8,8 @@ use Rattle.causal_name.specs.Sets.{IsWithin}
 use Rattle.causal_trace.specs.declared.entry.Entry.{Entry}
 use Rattle.causal_trace.specs.Past.{instant, is_down}
 use Rattle.causal_trace.specs.Rows.{Recording}
-use Rattle.causal_audit.specs.declared.verdict.Verdict.{Verdict}
 use Rattle.causal_audit.specs.declared.verdict.Verdict.TheVariants.{Accept, Exceeded, Orphan}
-use Rattle.causal_audit.specs.Verdicts.{IsVerdict, IsFirstUnsafe, HasMembers, IsExcess, IsBreach}
+use Rattle.causal_audit.specs.Verdicts.{IsFirstUnsafe, HasMembers, IsExcess, IsBreach}
 use Rattle.causal_audit.specs.Laws.{VerdictsAreOne}
 
 three_ways : (G : Type 0) (a b : ℕ) → (a < b → G) → (b < a → G) → (a ≡ b → G) → G

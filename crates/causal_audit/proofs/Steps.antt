@@ -7,14 +7,15 @@ use Rattle.std.proofs.lemmas.List.{length-reverse}
 use Rattle.causal_name.specs.declared.Det.{Det}
 use Rattle.causal_name.specs.Sets.{count_below}
 use Rattle.causal_trace.specs.declared.entry.Entry.{Entry}
-use Rattle.causal_trace.specs.Past.{instant, is_down, logs}
+use Rattle.causal_trace.specs.Past.{instant, is_down, logs, is_stable}
 use Rattle.causal_trace.specs.Rows.{Recording, IsWellFormed}
 use Rattle.causal_trace.specs.State.{past_at, entries_of}
 use Rattle.causal_trace.proofs.Instants.{past_more}
 use Rattle.causal_audit.specs.Sights.{Shows}
-use Rattle.causal_audit.proofs.Exposure.{count_none}
+use Rattle.causal_audit.specs.Verdicts.{HasMembers}
+use Rattle.causal_holders.proofs.Counting.{count_below-none}
 use Rattle.causal_audit.proofs.Instants.{read_instant, accepted_then}
-use Rattle.causal_audit.proofs.Members.{shows_none, down_members, counted}
+use Rattle.causal_audit.proofs.Shown.{shows_none, down_members, counted}
 
 module _ (r : Recording) (es : List Entry) (read : es ≡ entries_of r) where
   pub how_many : length es ≡ length r.past
@@ -44,7 +45,7 @@ down_count r formed t s shown = counted r.processes s (is_down (instant r.past t
 pub few_at_first : (r : Recording) (f u : ℕ) → u ≤ 0 → count_below r.processes (is_down (instant r.past u)) ≤ f
 few_at_first r f u h =
     let at : u ≡ 0 = omega (arith, h) in
-    omega (arith, count_none r.processes (is_down (instant r.past u)) (λ p low. ap (λ t. is_down (instant r.past t) p) at ∙ ap (λ x. is_down x p) (no_entry r.past)))
+    omega (arith, count_below-none r.processes (is_down (instant r.past u)) (λ p low. ap (λ t. is_down (instant r.past t) p) at ∙ ap (λ x. is_down x p) (no_entry r.past)))
 
 pub up_to_next : (P : ℕ → Type 0) (t : ℕ) → ((u : ℕ) → u ≤ t → P u) → P (t + 1) → (u : ℕ) → u ≤ t + 1 → P u
 up_to_next P t before here u h =

@@ -8,15 +8,12 @@ use Rattle.causal_trace.specs.Judgement.{HasOrphan, IsSafe}
 use Rattle.causal_audit.specs.declared.breach.Breach.{Breach}
 use Rattle.causal_audit.specs.declared.breach.Excess.{Excess}
 use Rattle.causal_audit.specs.declared.verdict.Verdict.TheVariants.{Accept, Exceeded, Orphan}
-use Rattle.causal_audit.specs.Losses.{before_crash}
 use Rattle.causal_audit.specs.Numbers.{IsNumbered}
 use Rattle.causal_audit.specs.Verdicts.{IsVerdict}
-use Rattle.causal_audit.specs.Breaches.{LeastBreach, IsLeastBreach, FirstExcess, IsFirstExcess, AreLeftOut}
-use Rattle.causal_audit.proofs.Exposure.{none_counted}
+use Rattle.causal_audit.specs.Breaches.{LeastBreach, IsLeastBreach, FirstExcess, IsFirstExcess}
 use Rattle.causal_audit.proofs.Numbered.{has_number, numbered_later, numbered_below}
-use Rattle.causal_audit.proofs.Uncrashed.{before_within, one_down}
 
-module _ (r : Recording) (f last : ℕ) where
+module _ (r : Recording) (f : ℕ) where
   -- no delivery has an orphan before the instant t
   abbrev pub NoOrphanBefore : ℕ → Type 0
   NoOrphanBefore t = (u : ℕ) → u < t → u ≤ length r.past → (k : ℕ) → HasOrphan r.processes f (instant r.past u) k → ⊥
@@ -31,15 +28,15 @@ module _ (r : Recording) (f last : ℕ) where
       let now : IsNumbered r.past then.0 k = numbered_later r.past t then.0 k within then.2 in
       (then.0, numbered_below r.past then.0 k now, now)
 
-  pub no_orphan_ever : LeastBreach r f 0 (deliveries_in r.past) last None → (t : ℕ) → t ≤ last + 1 → NoOrphanBefore t
-  no_orphan_ever none t low u early within k has =
+  pub no_orphan_ever : LeastBreach r f 0 (deliveries_in r.past) None → (t : ℕ) → NoOrphanBefore t
+  no_orphan_ever none t u early within k has =
       let n = number_of u k within has in
-      none n.0 k u (omega arith) n.1 n.2 (omega (arith, early, low)) has
+      none n.0 k u (omega arith) n.1 n.2 within has
 
-  pub no_orphan_before : (b : Breach) → IsLeastBreach r f 0 (deliveries_in r.past) last b → (t : ℕ) → t ≤ b.instant → NoOrphanBefore t
+  pub no_orphan_before : (b : Breach) → IsLeastBreach r f 0 (deliveries_in r.past) b → (t : ℕ) → t ≤ b.instant → NoOrphanBefore t
   no_orphan_before b least t low u early within k has =
       let n = number_of u k within has in
-      let later = least.least n.0 k u (omega arith) n.1 n.2 (omega (arith, early, low, least.first.within)) has in
+      let later = least.least n.0 k u (omega arith) n.1 n.2 within has in
       omega (arith, later.0, early, low)
 
   pub few_ever : FirstExcess r f None → (t : ℕ) → FewBefore t
@@ -51,8 +48,8 @@ module _ (r : Recording) (f last : ℕ) where
   safe_before : (t u : ℕ) → NoOrphanBefore t → FewBefore t → u < t → u ≤ length r.past → IsSafe r.processes f (instant r.past u)
   safe_before t u orphans few early within = record { few_down = few u early within; no_orphan = orphans u early within }
 
-  pub accepted : last ≡ length r.past → LeastBreach r f 0 (deliveries_in r.past) last None → FirstExcess r f None → IsVerdict r f Accept
-  accepted whole none few = λ t within. safe_before (t + 1) t (no_orphan_ever none (t + 1) (omega (arith, within, whole))) (few_ever few (t + 1)) (omega arith) within
+  pub accepted : LeastBreach r f 0 (deliveries_in r.past) None → FirstExcess r f None → IsVerdict r f Accept
+  accepted none few = λ t within. safe_before (t + 1) t (no_orphan_ever none (t + 1)) (few_ever few (t + 1)) (omega arith) within
 
   pub exceeded : (x : Excess) → IsFirstExcess r f x → NoOrphanBefore x.instant → IsVerdict r f (Exceeded x.instant x.down)
   exceeded x first orphans = (
@@ -64,9 +61,10 @@ module _ (r : Recording) (f last : ℕ) where
     first.excess,
   )
 
-  pub orphaned : (b : Breach) → b.instant ≤ length r.past → IsLeastBreach r f 0 (deliveries_in r.past) last b → FewBefore (b.instant + 1) → IsVerdict r f (Orphan b.instant b.delivery b.crash b.orphan)
-  orphaned b within least few =
-      let here = least.first.least in (
+  pub orphaned : (b : Breach) → IsLeastBreach r f 0 (deliveries_in r.past) b → FewBefore (b.instant + 1) → IsVerdict r f (Orphan b.instant b.delivery b.crash b.orphan)
+  orphaned b least few =
+      let here = least.first.least in
+      let within = least.first.within in (
         record {
           within = within;
           unsafe = λ safe. safe.no_orphan b.delivery (record { crash = _; orphan = b.orphan; may_crash = here.may_crash; is_orphan = here.is_orphan });
@@ -76,25 +74,8 @@ module _ (r : Recording) (f last : ℕ) where
           few_down = few b.instant (omega arith) within;
           first = λ j low has.
               let n = number_of b.instant j within has in
-              let later = least.least n.0 j b.instant (omega arith) n.1 n.2 least.first.within has in
+              let later = least.least n.0 j b.instant (omega arith) n.1 n.2 within has in
               omega (arith, later.1 refl, low);
           least = here;
         },
       )
-
--- for f = 0 the first crash makes the first excess
-pub left_out : (r : Recording) → IsWellFormed r → (found : Option Excess) → FirstExcess r 0 found → AreLeftOut r (before_crash r.past) found
-left_out r formed None few =
-    elim (cases_lt (before_crash r.past) (length r.past)) [
-      | inl crash ↦
-          let down : (p : ℕ) × (p < r.processes) × (is_down (instant r.past (before_crash r.past + 1)) p ≡ true) = one_down r.processes r.past formed.accepted crash in
-          absurd (false≢true (sym (none_counted r.processes (is_down (instant r.past (before_crash r.past + 1))) (few (before_crash r.past + 1) (omega (arith, crash))) down.0 down.1) ∙ down.2))
-      | inr none ↦ omega (arith, none, before_within r.past)
-    ]
-left_out r formed (Some x) first =
-    elim (cases_lt (before_crash r.past + 1) x.instant) [
-      | inl later ↦
-          let down : (p : ℕ) × (p < r.processes) × (is_down (instant r.past (before_crash r.past + 1)) p ≡ true) = one_down r.processes r.past formed.accepted (omega (arith, later, first.within)) in
-          absurd (false≢true (sym (none_counted r.processes (is_down (instant r.past (before_crash r.past + 1))) (first.before (before_crash r.past + 1) later) down.0 down.1) ∙ down.2))
-      | inr soon ↦ soon
-    ]

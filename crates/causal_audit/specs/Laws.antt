@@ -39,7 +39,7 @@ abbrev pub GoneIsCrashSet : Type 0
 GoneIsCrashSet =
     (n f : ℕ) (past : List Entry) (k : ℕ) (d : Det) → det_at past k ≡ Some d → IsExposed n f past k d
     → IsCrashSet n f past (gone past d)
-      × ((p : ℕ) → IsOrphan n past k (gone past d) p ↔ ((p < n) × Depends past k p × (logs past p d ≡ false)))
+    × ((p : ℕ) → IsOrphan n past k (gone past d) p ↔ ((p < n) × Depends past k p × (logs past p d ≡ false)))
 
 -- for f not below n an instant is safe exactly where of each delivery before it the determinant is stable or in the log
 -- of every process that depends on it
@@ -47,7 +47,7 @@ abbrev pub NoOrphansCondition : Type 0
 NoOrphansCondition =
     (n f : ℕ) (past : List Entry) → n ≤ f
     → IsSafe n f past ↔ ((k : ℕ) (d : Det) → det_at past k ≡ Some d
-      → (is_stable past d ≡ true) ⊎ ((p : ℕ) → p < n → Depends past k p → logs past p d ≡ true))
+    → (is_stable past d ≡ true) ⊎ ((p : ℕ) → p < n → Depends past k p → logs past p d ≡ true))
 
 -- a recorded run has one verdict for f
 abbrev pub VerdictsAreOne : Type 0

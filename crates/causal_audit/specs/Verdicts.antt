@@ -3,6 +3,7 @@ use Rattle.std.specs.Prelude.{◌≡◌, ℕ, ◌<◌, ◌≤◌, Bool, true, Li
 use Rattle.std.specs.Ordering.{nat_cmp}
 use Rattle.std.specs.FinSet.{FinSet, contains}
 use Rattle.causal_name.specs.Sets.{count_below, IsWithin}
+pub use Rattle.causal_holders.specs.Members.{HasMembers}
 use Rattle.causal_trace.specs.declared.entry.Entry.{Entry}
 use Rattle.causal_trace.specs.Past.{instant, is_down}
 use Rattle.causal_trace.specs.Rows.{Recording}
@@ -15,11 +16,6 @@ pub record IsFirstUnsafe (r : Recording) (f t : ℕ) : Type 0 where
   pub within : t ≤ length r.past
   pub unsafe : IsSafe r.processes f (instant r.past t) → ⊥
   pub before : (u : ℕ) → u < t → IsSafe r.processes f (instant r.past u)
-
--- a finite set has just the members that pass, of the processes below n
-pub record HasMembers (n : ℕ) (set : FinSet nat_cmp) (test : ℕ → Bool) : Type 0 where
-  pub process : (p : ℕ) → contains set p ≡ true → p < n
-  pub member : (p : ℕ) → p < n → contains set p ≡ test p
 
 -- more than f are down, and these are they
 pub record IsExcess (n f : ℕ) (past : List Entry) (down : FinSet nat_cmp) : Type 0 where

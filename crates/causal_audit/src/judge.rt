@@ -2,15 +2,13 @@
 ghost use Rattle.std.specs.Prelude.{◌≡◌, ◌≤◌, ◌<◌, ◌+◌, ℕ, Some, MatchOption, true};
 ghost use Rattle.causal_trace.specs.Past.{deliveries_in};
 ghost use Rattle.causal_trace.specs.Rows.{Recording};
-ghost use Rattle.causal_audit.specs.Breaches.{FirstBreach, FirstExcess, LeastBreach, AreLeftOut};
-ghost use Rattle.causal_audit.specs.Losses.{before_crash};
+ghost use Rattle.causal_audit.specs.Breaches.{FirstBreach, FirstExcess, LeastBreach};
 ghost use Rattle.causal_audit.specs.Numbers.{IsNumbered};
 ghost use Rattle.causal_audit.specs.Verdicts.{IsVerdict};
 ghost use Rattle.causal_audit.specs.declared.verdict.Verdict.{Verdict};
 ghost use Rattle.causal_audit.specs.declared.breach.Breach.{Breach};
 
 use crate::breach::{Breach, Excess, earlier};
-use crate::scan::{breach_of, keeps_own};
 use crate::sight::down_after;
 use crate::tables::Tables;
 use crate::verdict::Verdict;
@@ -34,21 +32,17 @@ pub fn first_excess(tables: &Tables, f: u16) -> Option<Excess>
     None
 }
 
-/// How the delivery of number i, which is below the number of deliveries, first has an orphan for f = 0; None where it
-/// has none. It looks at the instants up to the position of the first crash: at the next one f = 0 is exceeded.
+/// How the delivery of number i, which is below the number of deliveries, first has an orphan; None where it has none. At
+/// each instant the down processes and the holders of its determinant are compared with f; no crash set is listed.
 pub fn first_breach(tables: &Tables, f: u16, i: u32) -> Option<Breach>
-    requires none { f ≡ 0 }
-    requires number { i < deliveries_in tables.now.past }
-    ensures { (k : ℕ) → IsNumbered tables.now.past i k → FirstBreach tables.now f k (before_crash tables.now.past) result }
+    requires { i < deliveries_in tables.now.past }
+    ensures { (k : ℕ) → IsNumbered tables.now.past i k → FirstBreach tables.now f k result }
 {
     let k = tables.position(i);
     let Some(det) = tables.det_at(k) else {
         unreachable!()
     };
-    if keeps_own(tables, k, det) {
-        return None;
-    }
-    breach_of(tables, f, k, det)
+    tables.first_orphan(f, k, det)
 }
 
 /// Whether a delivery at a position, and each later one, fails no earlier than this.
@@ -61,12 +55,11 @@ fn is_settled(least: &Option<Breach>, position: u32) -> bool
     }
 }
 
-/// The least breach, by instant and then by position, of the deliveries numbered from `from` and below `to`, for f = 0;
-/// None where none of them has an orphan up to the position of the first crash.
+/// The least breach, by instant and then by position, of the deliveries numbered from `from` and below `to`; None where
+/// none of them has an orphan.
 pub fn least_between(tables: &Tables, f: u16, from: u32, to: u32) -> Option<Breach>
-    requires none { f ≡ 0 }
-    requires range { (from ≤ to) × (to ≤ deliveries_in tables.now.past) }
-    ensures { LeastBreach tables.now f from to (before_crash tables.now.past) result }
+    requires { (from ≤ to) × (to ≤ deliveries_in tables.now.past) }
+    ensures { LeastBreach tables.now f from to result }
 {
     let mut least = None;
     for i in from..to {
@@ -98,10 +91,9 @@ fn orphan(breach: Breach) -> Verdict
     }
 }
 
-/// The verdict, from the first excess and the least breach of all deliveries. The search for the breach may leave out
-/// instants after the first excess.
+/// The verdict, from the first excess and the least breach of all deliveries.
 pub fn decided(excess: Option<Excess>, breach: Option<Breach>) -> Verdict
-    ensures { (r : Recording) (f last : ℕ) → FirstExcess r f excess → AreLeftOut r last excess → LeastBreach r f 0 (deliveries_in r.past) last breach → IsVerdict r f result }
+    ensures { (r : Recording) (f : ℕ) → FirstExcess r f excess → LeastBreach r f 0 (deliveries_in r.past) breach → IsVerdict r f result }
 {
     match (excess, breach) {
         (None, None) => Verdict::Accept,
@@ -117,10 +109,9 @@ pub fn decided(excess: Option<Excess>, breach: Option<Breach>) -> Verdict
     }
 }
 
-/// The verdict on a recorded run for f = 0: it is safe at every instant, or the first instant that is not decides, and
-/// at one instant the first delivery with an orphan.
+/// The verdict on a recorded run for f: it is safe at every instant, or the first instant that is not decides, and at one
+/// instant the first delivery with an orphan.
 pub fn judge(tables: &Tables, f: u16) -> Verdict
-    requires { f ≡ 0 }
     ensures verdict { IsVerdict tables.now f result }
     ensures only { (other : Verdict) → IsVerdict tables.now f other → other ≡ result }
 {

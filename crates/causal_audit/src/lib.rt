@@ -2,11 +2,11 @@
 #![tactic(auto)]
 
 pub mod breach;
+mod events;
 pub mod judge;
 pub mod laws;
-mod losses;
-mod reach;
-mod scan;
+mod orphans;
+pub mod plain;
 mod sight;
 pub mod tables;
 #[cfg(test)]

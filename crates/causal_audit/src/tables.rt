@@ -1,30 +1,30 @@
 //! What is kept of a recorded run to judge it.
-ghost use Rattle.std.specs.Prelude.{◌≡◌, ◌≤◌, ◌<◌, ◌∷◌, IfOk, List, length};
+ghost use Rattle.std.specs.Prelude.{◌≡◌, ◌≤◌, ◌<◌, ◌∷◌, IfOk, List, length, Some};
 ghost use Rattle.causal_trace.specs.declared.entry.Entry.{Entry};
 ghost use Rattle.causal_trace.specs.Limits.{max_entries};
-ghost use Rattle.causal_trace.specs.Past.{deliveries_in, det_at, entry_at};
+ghost use Rattle.causal_trace.specs.Past.{deliveries_in, det_at};
 ghost use Rattle.causal_trace.specs.Rows.{IsWellFormed};
 ghost use Rattle.causal_trace.specs.State.{entries_of, past_at};
-ghost use Rattle.causal_audit.specs.Losses as losses;
+ghost use Rattle.causal_audit.specs.Breaches.{FirstBreach};
 ghost use Rattle.causal_audit.specs.Numbers.{IsNumbered, ArePositions};
-ghost use Rattle.causal_audit.specs.Stored.{delivers_with};
 
-use crate::losses::{before_crash, has_forgotten};
-use crate::sight::has_det;
+use crate::breach::Breach;
+use crate::events::clocks_of;
+use crate::orphans;
+use causal_clock::Clocks;
 use causal_name::{Det, NoMemory};
 use causal_trace::entry::Entry;
 use causal_trace::trace::Trace;
 use std::alloc::Global;
 use std::marker::Model;
 
-/// What is kept of a recorded run to judge it: a copy of its trace, the positions of its deliveries, how many entries
-/// come before its first crash, and whether a process forgets determinants in it. It is seen as the recording.
+/// What is kept of a recorded run to judge it: a copy of its trace, the positions of its deliveries, and a clock of its
+/// entries. It is seen as the recording.
 #[derive(Drop)]
 pub struct Tables {
     trace: Trace,
     positions: Vec<u32>,
-    calm: u32,
-    forgets: bool,
+    clocks: Clocks,
 }
 
 impl Model for Tables {
@@ -35,7 +35,7 @@ impl Model for Tables {
 
     ghost view = { λ a. a.trace.recording };
 
-    ghost invariant = { λ a. AreTables a.trace.recording a.positions.items a.calm a.forgets };
+    ghost invariant = { λ a. AreTables a.trace.recording a.positions.items a.clocks.events };
 }
 
 impl Tables {
@@ -46,18 +46,14 @@ impl Tables {
     pub fn of(alloc: Global, trace: &Trace) -> Result<Tables, NoMemory>
         ensures { IfOk result (λ tables. tables ≡ trace.now.recording) }
     {
-        // A trace keeps its limit on entries, so that their positions fit.
         let _len = trace.len();
-        let entries = trace.entries();
-        let calm = before_crash(entries) as u32;
-        let forgets = has_forgotten(entries);
-        let positions = positions_of(alloc, entries)?;
+        let positions = positions_of(alloc, trace.entries())?;
+        let clocks = clocks_of(alloc, trace)?;
         let trace = trace.try_clone()?;
         Ok(Tables {
             trace,
             positions,
-            calm,
-            forgets,
+            clocks,
         })
     }
 
@@ -101,30 +97,12 @@ impl Tables {
         self.trace.det_at(k)
     }
 
-    /// How many entries come before the first crash.
-    pub(crate) fn calm(&self) -> u32
-        ensures value { result ≡ losses.before_crash self.now.past }
-        ensures formed { IsWellFormed self.now }
-        ensures few { length self.now.past ≤ max_entries }
+    /// How the delivery at position k, whose determinant this is, first has an orphan; None where it never has one.
+    pub(crate) fn first_orphan(&self, f: u16, k: u32, det: Det) -> Option<Breach>
+        requires { det_at self.now.past k ≡ Some det }
+        ensures { FirstBreach self.now f k result }
     {
-        self.calm
-    }
-
-    /// Whether a process forgets determinants anywhere.
-    pub(crate) fn forgets(&self) -> bool
-        ensures { result ≡ losses.has_forgotten self.now.past }
-    {
-        self.forgets
-    }
-
-    /// Whether the entry at a position is a delivery that lists the determinant.
-    pub(crate) fn delivers_with(&self, k: u32, det: Det) -> bool
-        ensures { result ≡ delivers_with (entry_at self.now.past k) det }
-    {
-        match self.trace.entry(k) {
-            Some(Entry::Deliver { listed, .. }) => has_det(listed, det),
-            _ => false,
-        }
+        orphans::first_orphan(&self.trace, &self.clocks, f, k, det)
     }
 }
 

@@ -9,6 +9,8 @@ use causal_trace::fault::TraceFault;
 use causal_trace::trace::Trace;
 use std::alloc::Global;
 
+mod every_f;
+
 type Fields = (u8, u32, u8, u32);
 
 fn det(fields: Fields) -> Det {

@@ -36,7 +36,8 @@ impl Model for Holders {
     ghost use Rattle.std.specs.FinSet as set;
     ghost use Rattle.std.specs.Coded.{coded_ℕ};
     ghost use Rattle.causal_holders.specs.declared.TheConstants.{PROCESSES};
-    ghost use Rattle.causal_holders.specs.Words.{numbers_below, has_member, words_of, AreWords, words_shown};
+    ghost use Rattle.causal_holders.specs.Words.{numbers_below, has_member, words_of, AreWords};
+    ghost use Rattle.causal_holders.specs.WordsTold.{words_shown};
 
     ghost Value = { set.FinSet nat_cmp };
 

@@ -3,6 +3,7 @@ pub mod Past
 pub mod Rows
 pub mod Sizes
 pub mod State
+pub mod Index
 pub mod Dependence
 pub mod Judgement
 pub mod SameDets

@@ -3,8 +3,13 @@
 
 pub mod entry;
 pub mod fault;
-pub mod limits;
+mod lanes;
 pub mod laws;
+pub mod limits;
+pub mod plain;
+#[cfg(test)]
+mod random_tests;
+mod receipts;
 mod scans;
 #[cfg(test)]
 mod tests;

@@ -158,6 +158,9 @@ fn delivered_again(alloc: Global) -> Result<bool, TraceFault> {
     trace.push(crash(1))?;
     trace.push(restart(alloc, 1, &[])?)?;
     trace.push(deliver(alloc, 1, 0, 0, &[(0, 0, 1, 0)])?)?;
+    if trace.len() != 5 {
+        return Ok(false);
+    }
     let up = trace.up(2, Pid(1)) && !trace.up(3, Pid(1)) && trace.up(4, Pid(1));
     let none = !trace.up(0, Pid(2)) && trace.lane(5, Pid(2)).is_none();
     let lanes = trace.lane(3, Pid(1)) == Some(0) && trace.lane(4, Pid(1)) == Some(1);

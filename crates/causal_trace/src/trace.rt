@@ -1,13 +1,21 @@
 //! A recorded run that is well formed.
-ghost use Rattle.std.specs.Prelude.{◌≡◌, ◌≤◌, ◌+◌, [], ◌<◌, IfOk, IfErr, OnOk, OnErr, MatchBool, unwrap_or, length};
-ghost use Rattle.std.specs.Option.{option_copied};
+ghost use Rattle.std.specs.Prelude.{◌≡◌, ◌≤◌, ◌+◌, [], ◌<◌, false, Some, None, IfSome, IfOk, IfErr, OnOk, OnErr, MatchBool, unwrap_or, length};
+ghost use Rattle.std.specs.Option.{option_copied, option_map_or};
 
 use crate::entry::{Dets, Entry};
 use crate::fault::TraceFault;
+use crate::lanes::{
+    Lane, copied_entries, copied_lanes, deliveries_in, fresh_lanes, is_lane, note_lane, restarts_in,
+};
 use crate::limits::{MAX_ENTRIES, MAX_LISTED, MAX_PROCESSES, MAX_RESTARTS};
+use crate::receipts::{
+    are_noted, are_noted_with, copied_dets, copied_receipts, is_noted, note_delivered,
+    note_receipt, received_in,
+};
 use crate::scans;
-use causal_name::{Det, NoMemory, Pid};
+use causal_name::{Det, MsgName, NoMemory, Pid};
 use std::alloc::Global;
+use std::collections::{HashMap, HashSet};
 use std::marker::Model;
 
 /// A trace: a recorded run of 1 to 256 processes, each of whose entries may stand where it stands. It keeps its limits,
@@ -15,22 +23,33 @@ use std::marker::Model;
 ///
 /// It is seen as its recording, and as the number of pushes that are sure of their memory, of which equality does not
 /// speak.
+///
+/// Beside the entries it remembers each process's present lane, the determinants that were delivered and the lane in
+/// which each process last delivered each message, so that a push decides each row in constant expected time.
 #[derive(Drop)]
 pub struct Trace {
     processes: u16,
     entries: Vec<Entry>,
     listed: u32,
+    restarts: u32,
+    deliveries: u32,
+    lanes: Vec<Lane>,
+    delivered: HashSet<Det>,
+    received: HashMap<(Pid, MsgName), u32>,
 }
 
 impl Model for Trace {
-    ghost use Rattle.std.specs.Prelude.{◌-◌, vec_len, vec_capacity, reverse};
-    ghost use Rattle.causal_trace.specs.State.{TraceState, IsKept};
+    ghost use Rattle.std.specs.Prelude.{◌-◌, min, vec_len, vec_capacity, reverse};
+    ghost use Rattle.std.specs.HashSet as hash_set;
+    ghost use Rattle.std.specs.HashMap as hash_map;
+    ghost use Rattle.causal_trace.specs.State.{TraceState};
+    ghost use Rattle.causal_trace.specs.Index.{IsIndexed};
 
     ghost Value = { TraceState };
 
-    ghost view = { λ a. record { recording = record { processes = a.processes; past = reverse a.entries.items }; spare = vec_capacity a.entries - vec_len a.entries } };
+    ghost view = { λ a. record { recording = record { processes = a.processes; past = reverse a.entries.items }; spare = min (vec_capacity a.entries - vec_len a.entries) (min (hash_set.spare a.delivered) (hash_map.spare a.received)) } };
 
-    ghost invariant = { λ a. IsKept (record { processes = a.processes; past = reverse a.entries.items }) a.listed };
+    ghost invariant = { λ a. IsIndexed (record { processes = a.processes; past = reverse a.entries.items }) a.listed a.restarts a.deliveries a.lanes.items a.delivered a.received };
 }
 
 impl PartialEq for Trace {
@@ -46,14 +65,16 @@ impl PartialEq for Trace {
     ghost laws = { and_per (on_per (λ a. a.recording.processes) (partial_equiv_from_equiv nat_eq_equiv)) (on_per (λ a. entries_of a.recording) (lists_per entry_laws)) };
 
     fn eq(&self, other: &Trace) -> bool {
-        self.processes == other.processes && self.entries == other.entries
+        other.processes == self.processes && self.entries == other.entries
     }
 }
 
 impl Trace {
     ghost use Rattle.causal_trace.specs.Limits.{max_entries, max_listed, IsProcessCount, is_process_count};
-    ghost use Rattle.causal_trace.specs.Past.{entry_at, listed_in, deliveries_in, det_at};
-    ghost use Rattle.causal_trace.specs.Rows.{first_fault, passes_limit, IsWellFormed};
+    ghost use Rattle.causal_name.specs.declared.Det.{Det};
+    ghost use Rattle.causal_trace.specs.Past.{lane, entry_at, listed_in, deliveries_in, det_at, is_delivered, has_delivered};
+    ghost use Rattle.causal_trace.specs.Rows.{first_fault, passes_limit, are_delivered, are_delivered_with, IsWellFormed};
+    ghost use Rattle.causal_trace.specs.Index.{lane_of};
     ghost use Rattle.causal_trace.specs.State.{entries_of, with_entry, is_up_at, lane_at};
 
     /// A trace of n processes with no entries.
@@ -67,11 +88,19 @@ impl Trace {
         if n == 0 || n > MAX_PROCESSES {
             return Err(TraceFault::Processes);
         }
-        Ok(Trace {
-            processes: n,
-            entries: Vec::new(alloc),
-            listed: 0,
-        })
+        match fresh_lanes(alloc, n as usize) {
+            Ok(lanes) => Ok(Trace {
+                processes: n,
+                entries: Vec::new(alloc),
+                listed: 0,
+                restarts: 0,
+                deliveries: 0,
+                lanes,
+                delivered: HashSet::new(alloc),
+                received: HashMap::new(alloc),
+            }),
+            Err(_) => Err(TraceFault::NoMemory),
+        }
     }
 
     /// Adds the entry at the end, if nothing stands against it. On a refusal the entry is dropped and the trace is as it
@@ -94,13 +123,40 @@ impl Trace {
         if let Some(fault) = self.fault_of(&entry) {
             return Err(fault);
         }
-        let listed = entry.listed() as u32;
-        match self.entries.push(entry) {
-            Ok(()) => {
-                self.listed += listed;
-                Ok(())
-            }
-            Err(_) => Err(TraceFault::NoMemory),
+        if self.reserve(1).is_err() {
+            return Err(TraceFault::NoMemory);
+        }
+        self.note(entry);
+        Ok(())
+    }
+
+    /// Adds an entry against which nothing stands, where there is room.
+    fn note(&mut self, entry: Entry)
+        requires legal { first_fault self.old.recording.processes self.old.recording.past entry ≡ None }
+        requires room { 1 ≤ self.old.spare }
+        ensures recording { self.new.recording ≡ with_entry self.old.recording entry }
+        ensures spare { self.old.spare ≤ self.new.spare + 1 }
+    {
+        let own = scans::det_of_next(self.entries.as_slice(), &entry);
+        let lane = self.receipt_lane(own);
+        note_receipt(&mut self.received, own, lane);
+        note_delivered(&mut self.delivered, own);
+        note_lane(self.lanes.as_mut_slice(), &entry);
+        self.restarts += restarts_in(&entry);
+        self.deliveries += deliveries_in(&entry);
+        self.listed += entry.listed() as u32;
+        self.entries.push_reserved(entry);
+    }
+
+    /// The present lane of a determinant's receiver.
+    #[tactic(auto, unfolding(crate::specs::Index::lane_of))]
+    fn receipt_lane(&self, own: Option<Det>) -> u32
+        requires { IfSome own (λ d. d.dest.0 < self.now.recording.processes) }
+        ensures { (d : Det) → own ≡ Some d → result ≡ lane self.now.recording.past d.dest.0 }
+    {
+        match own {
+            Some(det) => self.present_lane(det.dest).restarts,
+            None => 0,
         }
     }
 
@@ -114,10 +170,17 @@ impl Trace {
         ensures spare { self.old.spare ≤ self.new.spare }
         ensures refused { OnErr result (self.old.spare < entries) }
     {
-        match self.entries.reserve(entries as usize) {
-            Ok(()) => Ok(()),
-            Err(_) => Err(NoMemory),
+        let room = entries as usize;
+        if self.entries.reserve(room).is_err() {
+            return Err(NoMemory);
         }
+        if self.delivered.reserve(room).is_err() {
+            return Err(NoMemory);
+        }
+        if self.received.reserve(room).is_err() {
+            return Err(NoMemory);
+        }
+        Ok(())
     }
 
     /// How many entries there are. A trace is well formed.
@@ -169,7 +232,7 @@ impl Trace {
     pub fn deliveries(&self) -> u32
         ensures { result ≡ deliveries_in self.now.recording.past }
     {
-        scans::deliveries_in(self.entries.as_slice()) as u32
+        self.deliveries
     }
 
     /// Whether the process is up after the first t entries; no number that is not below `processes` is.
@@ -200,14 +263,61 @@ impl Trace {
     pub fn try_clone(&self) -> Result<Trace, NoMemory>
         ensures { IfOk result (λ copy. copy.recording ≡ self.now.recording) }
     {
-        match self.entries.clone() {
-            Ok(entries) => Ok(Trace {
-                processes: self.processes,
-                entries,
-                listed: self.listed,
-            }),
-            Err(_) => Err(NoMemory),
+        let entries = copied_entries(&self.entries)?;
+        let lanes = copied_lanes(&self.lanes)?;
+        let delivered = copied_dets(&self.delivered)?;
+        let received = copied_receipts(&self.received)?;
+        Ok(Trace {
+            processes: self.processes,
+            entries,
+            listed: self.listed,
+            restarts: self.restarts,
+            deliveries: self.deliveries,
+            lanes,
+            delivered,
+            received,
+        })
+    }
+
+    /// The present lane of a process.
+    fn present_lane(&self, p: Pid) -> Lane
+        requires { p.0 < self.now.recording.processes }
+        ensures { result ≡ lane_of self.now.recording.past p.0 }
+    {
+        self.lanes[p.0 as usize]
+    }
+
+    /// Whether the process's present lane has delivered the message, if there is one.
+    fn has_received(&self, p: Pid, message: Option<MsgName>) -> bool
+        requires { p.0 < self.now.recording.processes }
+        ensures { result ≡ option_map_or (has_delivered self.now.recording.past p.0) message false }
+    {
+        let lane = self.present_lane(p).restarts;
+        match message {
+            Some(m) => is_lane(received_in(&self.received, p, m), lane),
+            None => false,
         }
+    }
+
+    /// Whether the determinant is that of a delivery so far.
+    fn is_delivered(&self, det: Det) -> bool
+        ensures { result ≡ is_delivered self.now.recording.past det }
+    {
+        is_noted(&self.delivered, det)
+    }
+
+    /// Whether each determinant is that of a delivery so far.
+    fn are_delivered(&self, dets: &[Det]) -> bool
+        ensures { result ≡ are_delivered self.now.recording.past dets.now }
+    {
+        are_noted(&self.delivered, dets)
+    }
+
+    /// The same, where one more delivery counts too.
+    fn are_delivered_with(&self, own: Option<Det>, dets: &[Det]) -> bool
+        ensures { result ≡ are_delivered_with self.now.recording.past own dets.now }
+    {
+        are_noted_with(&self.delivered, own, dets)
     }
 
     /// Whether one more entry that lists so many determinants would pass a limit.
@@ -227,10 +337,11 @@ impl Trace {
         if !((from.0 as u16) < self.processes && (to.0 as u16) < self.processes) {
             return Some(TraceFault::NoProcess);
         }
-        if scans::is_down(self.entries.as_slice(), from) {
+        let lane = self.present_lane(from);
+        if lane.down {
             return Some(TraceFault::NotUp);
         }
-        if ssn as usize != scans::sends(self.entries.as_slice(), from) {
+        if ssn != lane.sends {
             return Some(TraceFault::WrongSsn);
         }
         None
@@ -240,31 +351,31 @@ impl Trace {
     fn deliver_fault(&self, to: Pid, send: u32, rsn: u32, listed: &Dets) -> Option<TraceFault>
         ensures { result ≡ first_fault self.now.recording.processes self.now.recording.past (Entry.Deliver to send rsn listed.now) }
     {
-        let entries = self.entries.as_slice();
         if self.passes_limit(listed.as_slice().len()) {
             return Some(TraceFault::TooLong);
         }
         if (to.0 as u16) >= self.processes {
             return Some(TraceFault::NoProcess);
         }
-        if scans::is_down(entries, to) {
+        let lane = self.present_lane(to);
+        if lane.down {
             return Some(TraceFault::NotUp);
         }
-        if !scans::is_sent_to(entries, send, to) {
+        if !scans::is_sent_to(self.entries.as_slice(), send, to) {
             return Some(TraceFault::NoSend);
         }
-        if rsn as usize != scans::deliveries(entries, to) {
+        if rsn != lane.deliveries {
             return Some(TraceFault::WrongRsn);
         }
-        let message = scans::message_at(entries, entries.len(), send);
-        if scans::has_delivered_any(entries, to, message) {
+        let message = scans::message_sent_at(self.entries.as_slice(), send);
+        if self.has_received(to, message) {
             return Some(TraceFault::Doubled);
         }
         if !scans::is_ascending(listed.as_slice()) {
             return Some(TraceFault::Unsorted);
         }
         let own = scans::det_from(to, rsn, message);
-        if !scans::are_delivered_with(entries, own, listed.as_slice()) {
+        if !self.are_delivered_with(own, listed.as_slice()) {
             return Some(TraceFault::NoDelivery);
         }
         None
@@ -277,7 +388,7 @@ impl Trace {
         if self.passes_limit(0) {
             return Some(TraceFault::TooLong);
         }
-        if !scans::is_delivered(self.entries.as_slice(), det) {
+        if !self.is_delivered(det) {
             return Some(TraceFault::NoDelivery);
         }
         None
@@ -293,7 +404,7 @@ impl Trace {
         if (who.0 as u16) >= self.processes {
             return Some(TraceFault::NoProcess);
         }
-        if scans::is_down(self.entries.as_slice(), who) {
+        if self.present_lane(who).down {
             return Some(TraceFault::NotUp);
         }
         None
@@ -303,23 +414,22 @@ impl Trace {
     fn restart_fault(&self, who: Pid, listed: &Dets) -> Option<TraceFault>
         ensures { result ≡ first_fault self.now.recording.processes self.now.recording.past (Entry.Restart who listed.now) }
     {
-        let entries = self.entries.as_slice();
         if self.passes_limit(listed.as_slice().len()) {
             return Some(TraceFault::TooLong);
         }
         if (who.0 as u16) >= self.processes {
             return Some(TraceFault::NoProcess);
         }
-        if !scans::is_down(entries, who) {
+        if !self.present_lane(who).down {
             return Some(TraceFault::NotDown);
         }
-        if scans::restarts(entries) >= MAX_RESTARTS {
+        if self.restarts as usize >= MAX_RESTARTS {
             return Some(TraceFault::Lanes);
         }
         if !scans::is_ascending(listed.as_slice()) {
             return Some(TraceFault::Unsorted);
         }
-        if !scans::are_delivered(entries, listed.as_slice()) {
+        if !self.are_delivered(listed.as_slice()) {
             return Some(TraceFault::NoDelivery);
         }
         None
@@ -329,20 +439,19 @@ impl Trace {
     fn forget_fault(&self, who: Pid, listed: &Dets) -> Option<TraceFault>
         ensures { result ≡ first_fault self.now.recording.processes self.now.recording.past (Entry.Forget who listed.now) }
     {
-        let entries = self.entries.as_slice();
         if self.passes_limit(listed.as_slice().len()) {
             return Some(TraceFault::TooLong);
         }
         if (who.0 as u16) >= self.processes {
             return Some(TraceFault::NoProcess);
         }
-        if scans::is_down(entries, who) {
+        if self.present_lane(who).down {
             return Some(TraceFault::NotUp);
         }
         if !scans::is_ascending(listed.as_slice()) {
             return Some(TraceFault::Unsorted);
         }
-        if !scans::are_delivered(entries, listed.as_slice()) {
+        if !self.are_delivered(listed.as_slice()) {
             return Some(TraceFault::NoDelivery);
         }
         None

@@ -3,7 +3,7 @@ use Rattle.causal_name.specs.Sets.{count_below}
 use Rattle.causal_trace.specs.Past.{instant, is_down}
 use Rattle.causal_audit.specs.Sights.{Shows}
 use Rattle.causal_audit.proofs.Instants.{accepted_then}
-use Rattle.causal_audit.proofs.Members.{down_members}
+use Rattle.causal_audit.proofs.Shown.{down_members}
 use Rattle.causal_audit.proofs.Steps.{next_state, nobody_down, down_count, few_at_first, up_to_next}
 use Rattle.causal_audit.proofs.judge.first_excess.Goals as goal
 

@@ -1,5 +1,5 @@
 use Rattle.causal_trace.specs.Past.{is_down}
-use Rattle.causal_audit.proofs.Members.{shows_with, shows_without}
+use Rattle.causal_audit.proofs.Shown.{shows_with, shows_without}
 use Rattle.causal_audit.proofs.sight.down_after.Goals as goal
 
 pub returns-in-Crash : goal.returns-in-Crash

@@ -1,6 +1,6 @@
 use Rattle.std.proofs.Common.{sym, ◌∙◌}
 use Rattle.causal_trace.specs.Past.{logs, has}
-use Rattle.causal_audit.proofs.Members.{shows_without, shows_listed, shows_unlisted, shows_forgotten, shows_unforgotten}
+use Rattle.causal_audit.proofs.Shown.{shows_without, shows_listed, shows_unlisted, shows_forgotten, shows_unforgotten}
 use Rattle.causal_audit.proofs.sight.holders_after.Goals as goal
 
 pub returns-then-has_det : goal.returns-then-has_det

@@ -1,5 +1,5 @@
-use Rattle.causal_holders.proofs.Counting.{members_counted, union_members}
+use Rattle.causal_holders.proofs.Counting.{members_counted, union_members, is_subset_members}
 use Rattle.causal_holders.proofs.laws.counting_law.Goals as goal
 
 pub returns : goal.returns
-returns c = record { counted = members_counted; united = union_members }
+returns c = record { counted = members_counted; united = union_members; within = is_subset_members }

@@ -1,0 +1,211 @@
+-- What one more event does to the chains.
+use Rattle.std.specs.Prelude.{◌≡◌, ◌≢◌, ℕ, ◌+◌, ◌<◌, ◌≤◌, max, ◌⊎◌, ◌==◌, if◌then◌else◌, Option, Some, List, [], ◌∷◌, ◌++◌, length, take}
+use Rattle.std.proofs.Common.{suc, refl, arith, ap, sym, ◌∙◌, subst, inl, inr, get_or, length-append}
+use Rattle.std.proofs.Math.ListN.{get_or-append}
+use Rattle.std.proofs.Math.Seq.{get_or-append_seam, take-append_seam}
+use Rattle.std.proofs.lemmas.List.{take-append-le}
+use Rattle.std.proofs.lemmas.Bool.Decides.{nat_tests, leb_tells}
+use Rattle.std.proofs.lemmas.List.Sums.{sum_by-append}
+use Rattle.causal_clock.specs.declared.Event.{Event}
+use Rattle.causal_clock.specs.Timeline.{lane_of, send_of, lane_length, place_of}
+use Rattle.causal_clock.specs.Precedence.{DirectlyPrecedes, Reaches, itself, onward, FirstReach}
+use Rattle.causal_clock.specs.Kept.{LastOf}
+
+-- ---- a list with one more event
+
+old_event : (es : List Event) (e : Event) (i : ℕ) (d : Event) → i < length es → get_or (es ++ e ∷ []) i d ≡ get_or es i d
+old_event es e i d h = get_or-append es (e ∷ []) d i h
+
+pub lane_of-old : (es : List Event) (e : Event) (i : ℕ) → i < length es → lane_of (es ++ e ∷ []) i ≡ lane_of es i
+lane_of-old es e i h = ap (λ (x : Event). x.lane) (old_event es e i _ h)
+
+pub send_of-old : (es : List Event) (e : Event) (i : ℕ) → i < length es → send_of (es ++ e ∷ []) i ≡ send_of es i
+send_of-old es e i h = ap (λ (x : Event). x.send) (old_event es e i _ h)
+
+pub lane_of-new : (es : List Event) (e : Event) → lane_of (es ++ e ∷ []) (length es) ≡ e.lane
+lane_of-new es e = ap (λ (x : Event). x.lane) (get_or-append_seam es e [] _)
+
+pub send_of-new : (es : List Event) (e : Event) → send_of (es ++ e ∷ []) (length es) ≡ e.send
+send_of-new es e = ap (λ (x : Event). x.send) (get_or-append_seam es e [] _)
+
+pub length-more : (es : List Event) (e : Event) → length (es ++ e ∷ []) ≡ length es + 1
+length-more es e = length-append es (e ∷ [])
+
+-- ---- chains
+
+pub reaches_forward : {es : List Event} {i j : ℕ} → Reaches es i j → (i ≤ j) × (j < length es)
+reaches_forward (itself h) = (omega arith, h)
+reaches_forward (onward c d) = let before = reaches_forward c in (omega (arith, d.earlier), d.within)
+
+pub reaches_through : {es : List Event} {i j k : ℕ} → Reaches es i j → Reaches es j k → Reaches es i k
+reaches_through c (itself h) = c
+reaches_through c (onward b d) = onward (reaches_through c b) d
+
+pub precedes_old : (es : List Event) (e : Event) (i j : ℕ) → DirectlyPrecedes es i j → DirectlyPrecedes (es ++ e ∷ []) i j
+precedes_old es e i j d =
+    let lt : i < length es = omega (arith, d.earlier, d.within) in
+    record {
+      earlier = d.earlier;
+      within = omega (arith, d.within, length-more es e);
+      because = elim d.because [
+        | inl same ↦ inl (lane_of-old es e i lt ∙ same ∙ sym (lane_of-old es e j d.within))
+        | inr sent ↦ inr (send_of-old es e j d.within ∙ sent)
+      ];
+    }
+
+pub precedes_back : (es : List Event) (e : Event) (i j : ℕ) → j < length es → DirectlyPrecedes (es ++ e ∷ []) i j → DirectlyPrecedes es i j
+precedes_back es e i j h d =
+    let lt : i < length es = omega (arith, d.earlier) in
+    record {
+      earlier = d.earlier;
+      within = h;
+      because = elim d.because [
+        | inl same ↦ inl (sym (lane_of-old es e i lt) ∙ same ∙ lane_of-old es e j h)
+        | inr sent ↦ inr (sym (send_of-old es e j h) ∙ sent)
+      ];
+    }
+
+pub reaches_old : {es : List Event} (e : Event) {i j : ℕ} → Reaches es i j → Reaches (es ++ e ∷ []) i j
+reaches_old {es} e (itself h) = itself (omega (arith, length-more es e))
+reaches_old {es} e (onward {j = j} {k = k} c d) = onward (reaches_old e c) (precedes_old es e j k d)
+
+pub reaches_back : (es : List Event) (e : Event) {i j : ℕ} → j < length es → Reaches (es ++ e ∷ []) i j → Reaches es i j
+reaches_back es e below (itself h) = itself below
+reaches_back es e below (onward {j = j} {k = k} c d) =
+    onward (reaches_back es e (omega (arith, d.earlier)) c) (precedes_back es e j k below d)
+
+-- a chain to the new event is that event alone, or a chain to one that directly precedes it
+pub reaches_new : (es : List Event) (e : Event) {i k : ℕ} → k ≡ length es → Reaches (es ++ e ∷ []) i k → (i ≡ k) ⊎ ((j : ℕ) × Reaches es i j × ((lane_of es j ≡ e.lane) ⊎ (e.send ≡ Some j)))
+reaches_new es e is (itself h) = inl refl
+reaches_new es e is (onward {j = j} {k = k} c d) =
+    let lt : j < length es = omega (arith, d.earlier, is) in
+    inr (
+      j,
+      reaches_back es e lt c,
+      elim d.because [
+        | inl same ↦ inl (sym (lane_of-old es e j lt) ∙ same ∙ ap (lane_of (es ++ e ∷ [])) is ∙ lane_of-new es e)
+        | inr sent ↦ inr (sym (send_of-new es e) ∙ ap (send_of (es ++ e ∷ [])) (sym is) ∙ sent)
+      ],
+    )
+
+-- ---- places
+
+pub lane_length-more : (es : List Event) (e : Event) (lane : ℕ) → lane_length (es ++ e ∷ []) lane ≡ lane_length es lane + (if e.lane == lane then 1 else 0)
+lane_length-more es e lane = sum_by-append _ es (e ∷ []) ∙ omega arith
+
+pub place_of-old : (es : List Event) (e : Event) (i : ℕ) → i < length es → place_of (es ++ e ∷ []) i ≡ place_of es i
+place_of-old es e i h =
+    let front : take i (es ++ e ∷ []) ≡ take i es = take-append-le i es (e ∷ []) (omega arith) in
+    λ k. lane_length (front k) (lane_of-old es e i h k)
+
+pub place_of-new : (es : List Event) (e : Event) (i : ℕ) → i ≡ length es → place_of (es ++ e ∷ []) i ≡ lane_length es e.lane
+place_of-new es e i is = ap (place_of (es ++ e ∷ [])) is ∙ (λ k. lane_length (take-append_seam es (e ∷ []) k) (lane_of-new es e k))
+
+pub lane_of-at_new : (es : List Event) (e : Event) (i : ℕ) → i ≡ length es → lane_of (es ++ e ∷ []) i ≡ e.lane
+lane_of-at_new es e i is = ap (lane_of (es ++ e ∷ [])) is ∙ lane_of-new es e
+
+pub old_or_new : (es : List Event) (e : Event) (i : ℕ) → i < length (es ++ e ∷ []) → (i < length es) ⊎ (i ≡ length es)
+old_or_new es e i h =
+    elim (leb_tells (suc i) (length es)) [
+      | inl t ↦ inl t.1
+      | inr t ↦ inr (omega (arith, t.1, length-more es e))
+    ]
+
+pub one_at_same : (a b : ℕ) → a ≡ b → ◌≡◌ {A = ℕ} (if a == b then 1 else 0) 1
+one_at_same a b h = grind (arith, nat_tests)
+
+pub one_at_other : (a b : ℕ) → a ≢ b → ◌≡◌ {A = ℕ} (if a == b then 1 else 0) 0
+one_at_other a b h = grind (arith, nat_tests)
+
+-- ---- an older event is reached from the same events as before
+
+pub first_old : (es : List Event) (e : Event) (j lane n : ℕ) → j < length es → FirstReach es j lane n → FirstReach (es ++ e ∷ []) j lane n
+first_old es e j lane n below f = record {
+  no_more = omega (arith, f.no_more, lane_length-more es e lane);
+  first = λ i lt of_lane. elim (old_or_new es e i lt) [
+    | inl old ↦
+        let is = f.first i old (sym (lane_of-old es e i old) ∙ of_lane) in
+        let same = place_of-old es e i old in
+        (λ c. rw same (is.0 (reaches_back es e below c)), λ p. reaches_old e (is.1 (rw same at p)))
+    | inr new ↦
+        let place : place_of (es ++ e ∷ []) i ≡ lane_length es lane = place_of-new es e i new ∙ ap (lane_length es) (sym (lane_of-at_new es e i new) ∙ of_lane) in
+        (λ c. absurd (omega (arith, (reaches_forward c).0)), λ p. absurd (omega (arith, p, f.no_more, place)))
+  ];
+}
+
+-- ---- the new event
+
+-- of the lane's events, just the first n reach the event, if there is one
+pub record FirstReachSome (es : List Event) (event : Option ℕ) (lane n : ℕ) : Type 0 where
+  pub no_more : n ≤ lane_length es lane
+  pub back : (i : ℕ) → i < length es → lane_of es i ≡ lane → place_of es i < n → (j : ℕ) × (event ≡ Some j) × Reaches es i j
+  pub forth : (i j : ℕ) → i < length es → lane_of es i ≡ lane → event ≡ Some j → Reaches es i j → place_of es i < n
+
+pub by_lane : (es : List Event) (e : Event) (p : ℕ) → p < length es → lane_of es p ≡ e.lane → DirectlyPrecedes (es ++ e ∷ []) p (length es)
+by_lane es e p lt same = record { earlier = lt; within = omega (arith, length-more es e); because = inl (lane_of-old es e p lt ∙ same ∙ sym (lane_of-new es e)) }
+
+pub by_send : (es : List Event) (e : Event) (s : ℕ) → s < length es → e.send ≡ Some s → DirectlyPrecedes (es ++ e ∷ []) s (length es)
+by_send es e s lt sent = record { earlier = lt; within = omega (arith, length-more es e); because = inr (send_of-new es e ∙ sent) }
+
+below_max : (a m n : ℕ) → a < max m n → (a < m) ⊎ (a < n)
+below_max a m n h =
+    elim (leb_tells (suc a) m) [
+      | inl t ↦ inl t.1
+      | inr t ↦ inr (omega (arith, t.1))
+    ]
+
+module _ (es : List Event) (e : Event) (previous : Option ℕ) (last : LastOf es previous e.lane) (from_previous from_send lane : ℕ) (along : FirstReachSome es previous lane from_previous) (across : FirstReachSome es e.send lane from_send) where
+  reaches_it : (i : ℕ) → i < length es → lane_of es i ≡ lane → (place_of es i < from_previous) ⊎ (place_of es i < from_send) → Reaches (es ++ e ∷ []) i (length es)
+  reaches_it i lt of_lane h =
+      elim h [
+        | inl p ↦
+            let b = along.back i lt of_lane p in
+            let at = last.inside b.0 b.1 in
+            onward (reaches_old e b.2) (by_lane es e b.0 at.0 at.1)
+        | inr p ↦
+            let b = across.back i lt of_lane p in
+            onward (reaches_old e b.2) (by_send es e b.0 (reaches_forward b.2).1 b.1)
+      ]
+
+  counted : (i : ℕ) → i < length es → lane_of es i ≡ lane → Reaches (es ++ e ∷ []) i (length es) → place_of es i < max from_previous from_send
+  counted i lt of_lane c =
+      elim (reaches_new es e refl c) [
+        | inl same ↦ absurd (omega (arith, same))
+        | inr before ↦ elim before.2 [
+          | inl same ↦
+              let up = last.reached before.0 (reaches_forward before.1).1 same in
+              omega (arith, along.forth i up.0 lt of_lane up.1 (reaches_through before.1 up.2))
+          | inr sent ↦ omega (arith, across.forth i before.0 lt of_lane sent before.1)
+        ]
+      ]
+
+  -- in another lane: the greater of the two counts
+  pub first_new_other : lane ≢ e.lane → FirstReach (es ++ e ∷ []) (length es) lane (max from_previous from_send)
+  first_new_other other = record {
+    no_more = omega (arith, along.no_more, across.no_more, lane_length-more es e lane);
+    first = λ i lt of_lane. elim (old_or_new es e i lt) [
+      | inl old ↦
+          let same = place_of-old es e i old in
+          let lane_is = sym (lane_of-old es e i old) ∙ of_lane in
+          (λ c. rw same (counted i old lane_is c), λ p. reaches_it i old lane_is (below_max _ _ _ (rw same at p)))
+      | inr new ↦ absurd (other (sym of_lane ∙ lane_of-at_new es e i new))
+    ];
+  }
+
+  -- in its own lane: one more
+  pub first_new_own : lane ≡ e.lane → lane_length es lane ≤ from_previous → FirstReach (es ++ e ∷ []) (length es) lane (max from_previous from_send + 1)
+  first_new_own own full = record {
+    no_more = omega (arith, along.no_more, across.no_more, lane_length-more es e lane, one_at_same e.lane lane (sym own));
+    first = λ i lt of_lane. elim (old_or_new es e i lt) [
+      | inl old ↦
+          let same = place_of-old es e i old in
+          let lane_is = sym (lane_of-old es e i old) ∙ of_lane in
+          let up = last.reached i old (lane_is ∙ own) in
+          let at = last.inside up.0 up.1 in
+          let place = along.forth i up.0 old lane_is up.1 up.2 in
+          (λ c. rw same (omega (arith, place)), λ p. onward (reaches_old e up.2) (by_lane es e up.0 at.0 at.1))
+      | inr new ↦
+          let place : place_of (es ++ e ∷ []) i ≡ lane_length es lane = place_of-new es e i new ∙ ap (lane_length es) (sym own) in
+          (λ c. omega (arith, place, full), λ p. subst (λ (x : ℕ). Reaches (es ++ e ∷ []) i x) new (itself lt))
+    ];
+  }

@@ -1,0 +1,66 @@
+-- Each place of a lane has an event, so a count of first events is determined.
+use Rattle.std.specs.Prelude.{◌≡◌, ℕ, ◌+◌, ◌<◌, ◌≤◌, ◌==◌, if◌then◌else◌, List, [], ◌∷◌, length, take}
+use Rattle.std.proofs.Common.{zero, suc, refl, arith, ap, sym, ◌∙◌, inl, inr}
+use Rattle.std.proofs.lemmas.Bool.Decides.{eqb_tells, leb_tells}
+use Rattle.std.proofs.lemmas.List.Sums.{sum_by-append}
+use Rattle.causal_clock.specs.declared.Event.{Event}
+use Rattle.causal_clock.specs.Timeline.{lane_of, lane_length, place_of}
+use Rattle.causal_clock.specs.Precedence.{FirstReach}
+use Rattle.causal_clock.proofs.Chains.{one_at_same, one_at_other}
+
+lane_length-first : (e : Event) (es : List Event) (lane : ℕ) → lane_length (e ∷ es) lane ≡ (if e.lane == lane then 1 else 0) + lane_length es lane
+lane_length-first e es lane = sum_by-append _ (e ∷ []) es ∙ ap (λ n. n + lane_length es lane) (omega arith)
+
+place_of-suc : (e : Event) (es : List Event) (i : ℕ) → place_of (e ∷ es) (suc i) ≡ (if e.lane == lane_of es i then 1 else 0) + place_of es i
+place_of-suc e es i = lane_length-first e (take i es) (lane_of es i)
+
+-- the n-th event of a lane is event i
+pub record IsAtPlace (es : List Event) (lane n i : ℕ) : Type 0 where
+  pub within : i < length es
+  pub of_lane : lane_of es i ≡ lane
+  pub place : place_of es i ≡ n
+
+first_or_later : (e : Event) (es : List Event) (lane n : ℕ) → e.lane ≡ lane → n < lane_length (e ∷ es) lane → ((m : ℕ) → m < lane_length es lane → (i : ℕ) × IsAtPlace es lane m i) → (i : ℕ) × IsAtPlace (e ∷ es) lane n i
+first_or_later e es lane zero same h rest = (0, record { within = omega arith; of_lane = same; place = refl })
+first_or_later e es lane (suc n) same h rest =
+    let later = rest n (omega (arith, h, lane_length-first e es lane, one_at_same e.lane lane same)) in
+    let at = later.1 in (
+      suc later.0,
+      record {
+        within = omega (arith, at.within);
+        of_lane = at.of_lane;
+        place = omega (arith, place_of-suc e es later.0, one_at_same e.lane (lane_of es later.0) (same ∙ sym at.of_lane), at.place);
+      },
+    )
+
+pub event_at_place : (es : List Event) (lane n : ℕ) → n < lane_length es lane → (i : ℕ) × IsAtPlace es lane n i
+event_at_place [] lane n h = absurd (omega arith)
+event_at_place (e ∷ es) lane n h =
+    elim (eqb_tells e.lane lane) [
+      | inl here ↦ first_or_later e es lane n here.1 h (event_at_place es lane)
+      | inr other ↦
+          let later = event_at_place es lane n (omega (arith, h, lane_length-first e es lane, one_at_other e.lane lane other.1)) in
+          let at = later.1 in (
+            suc later.0,
+            record {
+              within = omega (arith, at.within);
+              of_lane = at.of_lane;
+              place = omega (arith, place_of-suc e es later.0, one_at_other e.lane (lane_of es later.0) (λ same. other.1 (same ∙ at.of_lane)), at.place);
+            },
+          )
+    ]
+
+no_greater : (es : List Event) (j lane n m : ℕ) → FirstReach es j lane n → FirstReach es j lane m → n ≤ m
+no_greater es j lane n m f g =
+    elim (leb_tells n m) [
+      | inl le ↦ le.1
+      | inr gt ↦
+          let some = event_at_place es lane m (omega (arith, gt.1, f.no_more)) in
+          let at = some.1 in
+          let reaches = (f.first some.0 at.within at.of_lane).1 (omega (arith, gt.1, at.place)) in
+          absurd (omega (arith, (g.first some.0 at.within at.of_lane).0 reaches, at.place))
+    ]
+
+-- just one number says how many of the lane's events reach j
+pub reach_unique : (es : List Event) (j lane n m : ℕ) → FirstReach es j lane n → FirstReach es j lane m → n ≡ m
+reach_unique es j lane n m f g = omega (arith, no_greater es j lane n m f g, no_greater es j lane m n g f)

@@ -1,0 +1,4 @@
+pub mod Inside
+pub mod Kept
+pub mod Precedence
+pub mod Timeline

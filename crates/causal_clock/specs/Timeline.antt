@@ -1,0 +1,33 @@
+-- What a clock is seen as: events in lanes, in the order in which they came.
+use Rattle.std.specs.Prelude.{ℕ, ◌+◌, ◌==◌, Option, None, List, [], ◌∷◌, ◌++◌, take, count_by, slice_index_or}
+use Rattle.causal_clock.specs.declared.Event.{Event}
+
+-- the number of lanes, how many of them were opened later, and the events, numbered from 0
+pub record Timeline : Type 0 where
+  pub lanes : ℕ
+  pub opened : ℕ
+  pub events : List Event
+
+-- one more event
+abbrev pub with_event : Timeline → Event → Timeline
+with_event t e = record t { events = t.events ++ e ∷ [] }
+
+-- one more lane, opened later
+abbrev pub with_lane : Timeline → Timeline
+with_lane t = record t { lanes = t.lanes + 1; opened = t.opened + 1 }
+
+-- the lane of event i
+abbrev pub lane_of : List Event → ℕ → ℕ
+lane_of events i = (slice_index_or events i (record { lane = 0; send = None })).lane
+
+-- for a receive, the event of its send
+abbrev pub send_of : List Event → ℕ → Option ℕ
+send_of events i = (slice_index_or events i (record { lane = 0; send = None })).send
+
+-- how many events the lane has
+abbrev pub lane_length : List Event → ℕ → ℕ
+lane_length events lane = count_by (λ e. e.lane == lane) events
+
+-- how many events of its own lane stand before event i
+abbrev pub place_of : List Event → ℕ → ℕ
+place_of events i = lane_length (take i events) (lane_of events i)

@@ -1,0 +1,2 @@
+mod ByteLemmas
+mod Commas

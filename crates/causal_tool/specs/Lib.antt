@@ -1,0 +1,4 @@
+pub mod Endings
+pub mod Judgements
+pub mod Lines
+pub mod Streams

@@ -1,0 +1,49 @@
+//! How a run of the program ends.
+ghost use Rattle.std.specs.Prelude.{◌≡◌, option_map};
+
+/// How a run ended.
+#[derive(Clone, Copy, Debug, PartialEq, Eq)]
+pub enum Ended {
+    /// The line of a trace that is accepted was written.
+    Accepted,
+    /// The line of a trace that is not accepted was written.
+    Breached,
+    /// The line of a text's first fault was written.
+    Faulted,
+    /// The reader failed. Nothing was written.
+    ReadFault,
+    /// The writer failed, or took no byte. Some first bytes of the line were written.
+    WriteFault,
+    /// Memory was refused. Nothing was written.
+    NoMemory,
+}
+
+impl Ended {
+    ghost use Rattle.causal_tool.specs.Endings.{status_of, text_of};
+
+    /// The program's exit status: 0, 1 or 2 after a line that was written whole, 4 where a stream failed, 5 for want of
+    /// memory.
+    pub fn status(self) -> u8
+        ensures { result ≡ status_of self }
+    {
+        match self {
+            Ended::Accepted => 0,
+            Ended::Breached => 1,
+            Ended::Faulted => 2,
+            Ended::ReadFault | Ended::WriteFault => 4,
+            Ended::NoMemory => 5,
+        }
+    }
+
+    /// What is told on standard error, where no line could be written.
+    pub fn text(self) -> Option<&'static str>
+        ensures { option_map (λ text. text.now) result ≡ text_of self }
+    {
+        match self {
+            Ended::Accepted | Ended::Breached | Ended::Faulted => None,
+            Ended::ReadFault => Some("read fault"),
+            Ended::WriteFault => Some("write fault"),
+            Ended::NoMemory => Some("no memory"),
+        }
+    }
+}
