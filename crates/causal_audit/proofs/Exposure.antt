@@ -4,13 +4,13 @@ use Rattle.std.specs.Prelude.{◌&&◌, ◌||◌, not}
 use Rattle.std.specs.Ordering.{nat_cmp}
 use Rattle.std.specs.Cmp.{nat_cmp_total}
 use Rattle.std.specs.FinSet.{FinSet, contains, empty, union, difference, len, contains-empty, contains-union, contains-difference}
-use Rattle.std.proofs.lemmas.Bool.{false≢true, or_cases, and_parts}
+use Rattle.std.proofs.lemmas.Bool.{false≢true, or_cases}
 use Rattle.causal_name.specs.declared.Det.{Det}
 use Rattle.causal_name.specs.Sets.{count_below}
 use Rattle.causal_holders.specs.Members.{HasMembers, IsLeast}
 use Rattle.causal_holders.proofs.Counting.{members_counted}
 use Rattle.causal_trace.specs.declared.entry.Entry.{Entry}
-use Rattle.causal_trace.specs.Past.{is_down, logs, is_stable, det_at}
+use Rattle.causal_trace.specs.Past.{is_down, logs, det_at}
 use Rattle.causal_trace.specs.Dependence.{Depends}
 use Rattle.causal_trace.specs.Rows.{AreAccepted}
 use Rattle.causal_trace.specs.Judgement.{HasOrphan, IsCrashSet, IsOrphan}

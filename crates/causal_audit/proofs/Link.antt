@@ -1,14 +1,14 @@
 -- What reaches what in a run is what precedes what in the clock that stands for it.
-use Rattle.std.proofs.Common.{ℕ, ◌≡◌, ◌<◌, ◌≤◌, ◌+◌, inl, inr, Bool, true, List, ◌∷◌, length, Some, refl, sym, subst, ◌∙◌, arith}
+use Rattle.std.proofs.Common.{ℕ, ◌≡◌, ◌<◌, ◌≤◌, inl, inr, List, length, refl, subst, ◌∙◌, arith}
 use Rattle.std.specs.Prelude.{◌↔◌}
 use Rattle.std.proofs.lemmas.Bool.{cases_lt}
 use Rattle.causal_trace.specs.declared.entry.Entry.{Entry}
 use Rattle.causal_trace.specs.Rows.{AreAccepted}
-use Rattle.causal_trace.specs.Dependence.{actor, IsEventOf, Delivers, DirectlyPrecedes, in_order, by_message, Reaches, itself, onward}
+use Rattle.causal_trace.specs.Dependence.{IsEventOf, Delivers, DirectlyPrecedes, in_order, by_message, Reaches, itself, onward}
 use Rattle.causal_trace.proofs.Reached.{event_below}
 use Rattle.causal_trace.proofs.Accepted.{accepted_forward}
 use Rattle.causal_clock.specs.declared.Event.{Event}
-use Rattle.causal_clock.specs.Timeline.{lane_of, send_of}
+use Rattle.causal_clock.specs.Timeline.{lane_of}
 use Rattle.causal_clock.specs.Precedence as clock
 use Rattle.causal_audit.specs.Stands.{Stands}
 use Rattle.causal_audit.proofs.Legal.{sender_event, receiver_event}

@@ -1,12 +1,11 @@
 -- The event of one more entry: that it may be added, and that the clock then stands for one more entry.
-use Rattle.std.proofs.Common.{ℕ, ◌≡◌, ◌+◌, ◌<◌, ◌≤◌, Bool, true, false, List, [], ◌∷◌, length, Option, Some, None, refl, sym, ap, subst, ◌∙◌, arith}
+use Rattle.std.proofs.Common.{ℕ, ◌≡◌, ◌+◌, ◌<◌, true, false, List, ◌∷◌, length, Some, None, refl, sym, ap, subst, arith}
 use Rattle.std.specs.Prelude.{◌↔◌, ◌==◌, slice_index, slice_set}
 use Rattle.std.proofs.lemmas.Bool.{false≢true, eqb-true, eq-eqb}
 use Rattle.causal_name.specs.declared.Pid.{Pid}
 use Rattle.causal_name.specs.declared.Det.{Det}
 use Rattle.causal_trace.specs.declared.entry.Entry.{Entry}
 use Rattle.causal_trace.specs.declared.entry.Entry.TheVariants.{Send, Deliver, Stable, Crash, Restart, Forget}
-use Rattle.causal_trace.specs.Past.{restarts}
 use Rattle.causal_trace.specs.Rows.{AreAccepted}
 use Rattle.causal_trace.proofs.Accepted.{delivers_sent, sent_within}
 use Rattle.causal_clock.specs.declared.ClockFault.{ClockFault}
@@ -15,7 +14,7 @@ use Rattle.causal_clock.specs.Timeline.{Timeline, with_event}
 use Rattle.causal_audit.specs.Stands.{CanMirror, Mirrors}
 use Rattle.causal_audit.proofs.Legal.{restarts_few, entry_short}
 use Rattle.causal_audit.proofs.Shown.{send_inside, deliver_inside, restart_inside}
-use Rattle.causal_audit.proofs.Mirrored.{mirrors_event, mirrors_restart, Receives}
+use Rattle.causal_audit.proofs.Mirrored.{mirrors_event, mirrors_restart}
 
 module _ (x : Entry) (c : Timeline) (present : List ℕ) (can : CanMirror x c present) where
   accepted_as : (y : Entry) → x ≡ y → AreAccepted can.processes (y ∷ can.past)

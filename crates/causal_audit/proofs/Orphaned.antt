@@ -1,12 +1,11 @@
 -- From instant to instant: what the clock tells of the next entry, and when a delivery has had no orphan so far.
-use Rattle.std.proofs.Common.{ℕ, ◌≡◌, ◌+◌, ◌<◌, ◌≤◌, inl, inr, Bool, true, List, ◌∷◌, length, get_or, reverse, Option, Some, None, refl, sym, ap, subst, ◌∙◌, arith}
+use Rattle.std.proofs.Common.{ℕ, ◌≡◌, ◌+◌, ◌<◌, ◌≤◌, inr, Bool, true, List, ◌∷◌, length, Some, None, refl, sym, ap, subst, ◌∙◌, arith}
 use Rattle.std.specs.Prelude.{◌↔◌}
-use Rattle.std.proofs.lemmas.Bool.{cases_lt}
 use Rattle.causal_name.specs.declared.Det.{Det}
 use Rattle.causal_trace.specs.declared.entry.Entry.{Entry}
 use Rattle.causal_trace.specs.Past.{instant, det_at, lane}
 use Rattle.causal_trace.specs.Rows.{Recording, IsWellFormed, AreAccepted}
-use Rattle.causal_trace.specs.Dependence.{actor, IsEventOf, Reaches}
+use Rattle.causal_trace.specs.Dependence.{IsEventOf, Reaches}
 use Rattle.causal_trace.specs.Judgement.{HasOrphan}
 use Rattle.causal_trace.proofs.Instants.{det_beyond}
 use Rattle.causal_clock.specs.declared.Event.{Event}

@@ -7,12 +7,11 @@ use Rattle.std.proofs.lemmas.List.{length-reverse}
 use Rattle.causal_name.specs.declared.Det.{Det}
 use Rattle.causal_name.specs.Sets.{count_below}
 use Rattle.causal_trace.specs.declared.entry.Entry.{Entry}
-use Rattle.causal_trace.specs.Past.{instant, is_down, logs, is_stable}
+use Rattle.causal_trace.specs.Past.{instant, is_down, logs}
 use Rattle.causal_trace.specs.Rows.{Recording, IsWellFormed}
 use Rattle.causal_trace.specs.State.{past_at, entries_of}
 use Rattle.causal_trace.proofs.Instants.{past_more}
 use Rattle.causal_audit.specs.Sights.{Shows}
-use Rattle.causal_audit.specs.Verdicts.{HasMembers}
 use Rattle.causal_holders.proofs.Counting.{count_below-none}
 use Rattle.causal_audit.proofs.Instants.{read_instant, accepted_then}
 use Rattle.causal_audit.proofs.Shown.{shows_none, down_members, counted}

@@ -1,9 +1,8 @@
 -- The verdict, from the first excess and the least breach.
-use Rattle.std.proofs.Common.{ℕ, ◌≡◌, ◌+◌, ◌<◌, ◌≤◌, inl, inr, true, length, Option, Some, None, refl, sym, ◌∙◌, arith}
-use Rattle.std.proofs.lemmas.Bool.{false≢true, cases_lt}
+use Rattle.std.proofs.Common.{ℕ, ◌+◌, ◌<◌, ◌≤◌, length, None, refl, arith}
 use Rattle.causal_name.specs.Sets.{count_below}
 use Rattle.causal_trace.specs.Past.{instant, is_down, deliveries_in}
-use Rattle.causal_trace.specs.Rows.{Recording, IsWellFormed}
+use Rattle.causal_trace.specs.Rows.{Recording}
 use Rattle.causal_trace.specs.Judgement.{HasOrphan, IsSafe}
 use Rattle.causal_audit.specs.declared.breach.Breach.{Breach}
 use Rattle.causal_audit.specs.declared.breach.Excess.{Excess}

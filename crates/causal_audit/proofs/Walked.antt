@@ -1,17 +1,14 @@
 -- A run's entries in their order, and its instants.
-use Rattle.std.proofs.Common.{ℕ, zero, suc, ◌≡◌, ◌+◌, ◌-◌, ◌<◌, ◌≤◌, inl, false, Result, Ok, Err, List, [], ◌∷◌, length, get_or, drop, reverse, Option, Some, None, refl, sym, ap, subst, ◌∙◌, arith}
+use Rattle.std.proofs.Common.{ℕ, zero, suc, ◌≡◌, ◌-◌, ◌<◌, ◌≤◌, inl, false, Result, Ok, Err, List, [], ◌∷◌, length, drop, sym, arith}
 use Rattle.std.specs.Prelude.{OnOk}
 use Rattle.std.specs.Result.{is_err}
 use Rattle.std.proofs.lemmas.Bool.{false≢true}
-use Rattle.std.proofs.lemmas.List.{length-reverse}
 use Rattle.causal_trace.specs.declared.entry.Entry.{Entry}
-use Rattle.causal_trace.specs.Past.{instant, det_at}
+use Rattle.causal_trace.specs.Past.{instant}
 use Rattle.causal_trace.specs.Rows.{AreAccepted}
 use Rattle.causal_trace.specs.Dependence.{IsEventOf, Reaches}
-use Rattle.causal_trace.proofs.Instants.{past_more, det_beyond}
 use Rattle.causal_trace.proofs.Reached.{reaches_old}
 use Rattle.causal_trace.proofs.Accepted.{accepted_forward}
-use Rattle.causal_audit.proofs.Instants.{read_instant, instant_length, instants_stay, last_instant}
 use Rattle.causal_audit.proofs.Dependence.{reaches_more}
 
 -- ---- what reaches what is the same at each instant

@@ -1,4 +1,4 @@
-use Rattle.std.proofs.Common.{Err, ◌≤◌, length, Some, arith, ap, ◌∙◌}
+use Rattle.std.proofs.Common.{Err, ◌≤◌, length, arith, ap}
 use Rattle.causal_audit.proofs.Noted.{room, some_lane, sender_in, receiver_in, sent_in, restarted_in, lanes_left, after_send, after_deliver, after_stable, after_crash, after_forget, after_restart, only_memory}
 use Rattle.causal_audit.proofs.events.note.Goals as goal
 

@@ -1,5 +1,4 @@
-use Rattle.std.proofs.Common.{sym, subst}
-use Rattle.causal_trace.specs.Past.{deliveries_in}
+use Rattle.std.proofs.Common.{subst}
 use Rattle.causal_audit.specs.Breaches.{LeastBreach}
 use Rattle.causal_audit.specs.Verdicts.{IsVerdict}
 use Rattle.causal_audit.proofs.OneVerdict.{one_verdict}

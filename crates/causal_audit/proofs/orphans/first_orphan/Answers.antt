@@ -1,4 +1,4 @@
-use Rattle.std.proofs.Common.{◌≡◌, ◌+◌, ◌<◌, ◌∷◌, ◌↔◌, ℕ, true, length, get_or, arith, sym, subst, ap, ◌∙◌}
+use Rattle.std.proofs.Common.{◌≡◌, ◌+◌, ◌<◌, ◌∷◌, length, arith, sym, subst, ap}
 use Rattle.std.proofs.lemmas.List.{length-reverse}
 use Rattle.causal_trace.specs.Past.{instant}
 use Rattle.causal_trace.specs.Judgement.{HasOrphan}

@@ -1,6 +1,5 @@
-use Rattle.std.proofs.Common.{◌≡◌, ℕ, ◌≤◌}
+use Rattle.std.proofs.Common.{ℕ, ◌≤◌}
 use Rattle.causal_trace.specs.Past.{instant}
-use Rattle.causal_trace.specs.State.{entries_of}
 use Rattle.causal_trace.specs.Judgement.{HasOrphan}
 use Rattle.causal_audit.specs.Sights.{IsSight}
 use Rattle.causal_audit.proofs.orphans.first_orphan.Given as goal

@@ -1,5 +1,3 @@
-use Rattle.std.proofs.Common.{◌≡◌, Some}
-use Rattle.causal_trace.specs.Past.{det_at}
 use Rattle.causal_audit.proofs.tables.Tables.first_orphan.Goals as goal
 
 pub first_orphan-requires-clause-clock : goal.first_orphan-requires-clause-clock

@@ -1,9 +1,8 @@
 use Rattle.std.proofs.Common.{◌≡◌, length, reverse, arith, ap, subst, ◌∙◌}
 use Rattle.std.proofs.lemmas.List.{reverse-reverse}
-use Rattle.causal_trace.specs.State.{entries_of, past_at}
+use Rattle.causal_trace.specs.State.{past_at}
 use Rattle.causal_trace.proofs.Instants.{past_whole}
 use Rattle.causal_audit.specs.Numbers.{ArePositions}
-use Rattle.causal_audit.specs.Stands.{Stands}
 use Rattle.causal_audit.proofs.tables.Tables.of.Goals as goal
 
 pub invariant_of-result : goal.invariant_of-result
