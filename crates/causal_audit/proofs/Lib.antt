@@ -1,10 +1,24 @@
+pub mod Dependence
+pub mod Exposure
 mod Failing
 pub mod Happened
+pub mod Instants
 pub mod Judged
+pub mod LeastLemmas
 pub mod LeastOrphan
+pub mod Legal
+pub mod Link
 pub mod Listed
 pub mod Marks
 pub mod Members
+pub mod Mirrored
+pub mod Noted
+pub mod Numbered
 pub mod OneVerdict
+pub mod Orphaned
 mod Prefix
+pub mod Shown
+pub mod Steps
 mod Subsets
+pub mod VerdictLemmas
+pub mod Walked

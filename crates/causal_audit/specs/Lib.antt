@@ -1,3 +1,10 @@
-pub mod Verdicts
+pub mod BreachAt
+pub mod Breaches
+pub mod Earlier
 pub mod Laws
+pub mod Numbers
 pub mod Plain
+pub mod Sights
+pub mod Stands
+pub mod Stored
+pub mod Verdicts

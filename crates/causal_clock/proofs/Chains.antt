@@ -19,13 +19,13 @@ old_event es e i d h = get_or-append es (e ∷ []) d i h
 pub lane_of-old : (es : List Event) (e : Event) (i : ℕ) → i < length es → lane_of (es ++ e ∷ []) i ≡ lane_of es i
 lane_of-old es e i h = ap (λ (x : Event). x.lane) (old_event es e i _ h)
 
-send_of-old : (es : List Event) (e : Event) (i : ℕ) → i < length es → send_of (es ++ e ∷ []) i ≡ send_of es i
+pub send_of-old : (es : List Event) (e : Event) (i : ℕ) → i < length es → send_of (es ++ e ∷ []) i ≡ send_of es i
 send_of-old es e i h = ap (λ (x : Event). x.send) (old_event es e i _ h)
 
-lane_of-new : (es : List Event) (e : Event) → lane_of (es ++ e ∷ []) (length es) ≡ e.lane
+pub lane_of-new : (es : List Event) (e : Event) → lane_of (es ++ e ∷ []) (length es) ≡ e.lane
 lane_of-new es e = ap (λ (x : Event). x.lane) (get_or-append_seam es e [] _)
 
-send_of-new : (es : List Event) (e : Event) → send_of (es ++ e ∷ []) (length es) ≡ e.send
+pub send_of-new : (es : List Event) (e : Event) → send_of (es ++ e ∷ []) (length es) ≡ e.send
 send_of-new es e = ap (λ (x : Event). x.send) (get_or-append_seam es e [] _)
 
 pub length-more : (es : List Event) (e : Event) → length (es ++ e ∷ []) ≡ length es + 1
@@ -41,7 +41,7 @@ pub reaches_through : {es : List Event} {i j k : ℕ} → Reaches es i j → Rea
 reaches_through c (itself h) = c
 reaches_through c (onward b d) = onward (reaches_through c b) d
 
-precedes_old : (es : List Event) (e : Event) (i j : ℕ) → DirectlyPrecedes es i j → DirectlyPrecedes (es ++ e ∷ []) i j
+pub precedes_old : (es : List Event) (e : Event) (i j : ℕ) → DirectlyPrecedes es i j → DirectlyPrecedes (es ++ e ∷ []) i j
 precedes_old es e i j d =
     let lt : i < length es = omega (arith, d.earlier, d.within) in
     record {
@@ -53,7 +53,7 @@ precedes_old es e i j d =
       ];
     }
 
-precedes_back : (es : List Event) (e : Event) (i j : ℕ) → j < length es → DirectlyPrecedes (es ++ e ∷ []) i j → DirectlyPrecedes es i j
+pub precedes_back : (es : List Event) (e : Event) (i j : ℕ) → j < length es → DirectlyPrecedes (es ++ e ∷ []) i j → DirectlyPrecedes es i j
 precedes_back es e i j h d =
     let lt : i < length es = omega (arith, d.earlier) in
     record {
@@ -144,7 +144,7 @@ pub record FirstReachSome (es : List Event) (event : Option ℕ) (lane n : ℕ) 
 pub by_lane : (es : List Event) (e : Event) (p : ℕ) → p < length es → lane_of es p ≡ e.lane → DirectlyPrecedes (es ++ e ∷ []) p (length es)
 by_lane es e p lt same = record { earlier = lt; within = omega (arith, length-more es e); because = inl (lane_of-old es e p lt ∙ same ∙ sym (lane_of-new es e)) }
 
-by_send : (es : List Event) (e : Event) (s : ℕ) → s < length es → e.send ≡ Some s → DirectlyPrecedes (es ++ e ∷ []) s (length es)
+pub by_send : (es : List Event) (e : Event) (s : ℕ) → s < length es → e.send ≡ Some s → DirectlyPrecedes (es ++ e ∷ []) s (length es)
 by_send es e s lt sent = record { earlier = lt; within = omega (arith, length-more es e); because = inr (send_of-new es e ∙ sent) }
 
 below_max : (a m n : ℕ) → a < max m n → (a < m) ⊎ (a < n)

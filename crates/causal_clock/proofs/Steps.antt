@@ -15,7 +15,7 @@ use Rattle.causal_clock.proofs.Chains.{FirstReachSome, reaches_old, lane_of-old,
 same_some : {a b : ℕ} → Some a ≡ Some b → a ≡ b
 same_some e = cc
 
--- an event's counters, or none where there is no event
+-- the counts of an event, or none where there is no event
 some_reach : (es : List Event) (counts : ℕ → ℕ → ℕ) (last : List (Option ℕ)) (k : Keeps es counts last) (event : Option ℕ) (lane : ℕ) → ((j : ℕ) → event ≡ Some j → j < length es) → FirstReachSome es event lane (count_or_none counts event lane)
 some_reach es counts last k None lane inside = record {
   no_more = omega arith;
@@ -30,7 +30,7 @@ some_reach es counts last k (Some j) lane inside =
       forth = λ i j' lt of_lane is c. (f.first i lt of_lane).0 (subst (Reaches es i) (sym (same_some is)) c);
     }
 
--- in the lane of an event the last one's counter has all
+-- in the lane of an event the last one's count has all
 full : (es : List Event) (counts : ℕ → ℕ → ℕ) (last : List (Option ℕ)) (k : Keeps es counts last) (event : Option ℕ) (lane : ℕ) → LastOf es event lane → lane_length es lane ≤ count_or_none counts event lane
 full es counts last k None lane l = omega (arith, l.empty refl)
 full es counts last k (Some p) lane l =
@@ -61,8 +61,8 @@ module _ (es : List Event) (counts : ℕ → ℕ → ℕ) (last : List (Option �
     first = λ i lt of_lane. absurd (omega (arith, in_lanes i lt, of_lane));
   }
 
-  new_row_reach : (lane : ℕ) → FirstReach (es ++ e ∷ []) (length es) lane (after (length es) lane)
-  new_row_reach lane =
+  new_reach : (lane : ℕ) → FirstReach (es ++ e ∷ []) (length es) lane (after (length es) lane)
+  new_reach lane =
       elim (leb_tells (suc lane) (length last)) [
         | inl t ↦ elim (eqb_tells lane e.lane) [
           | inl s ↦
@@ -75,8 +75,8 @@ module _ (es : List Event) (counts : ℕ → ℕ → ℕ) (last : List (Option �
         | inr t ↦ rw (none lane (omega (arith, t.1))) (no_such_lane lane (omega (arith, t.1)))
       ]
 
-  new_row_own : after (length es) e.lane ≡ lane_length es e.lane + 1
-  new_row_own = omega (arith, each e.lane in_lane, one_at_same e.lane e.lane refl, all_of_lane, (along e.lane).no_more, (across e.lane).no_more)
+  new_own : after (length es) e.lane ≡ lane_length es e.lane + 1
+  new_own = omega (arith, each e.lane in_lane, one_at_same e.lane e.lane refl, all_of_lane, (along e.lane).no_more, (across e.lane).no_more)
 
   last_in_own : LastOf (es ++ e ∷ []) (Some (length es)) e.lane
   last_in_own = record {
@@ -124,11 +124,11 @@ module _ (es : List Event) (counts : ℕ → ℕ → ℕ) (last : List (Option �
     few = omega (arith, length-more es e);
     reach = λ j lt lane. elim (old_or_new es e j lt) [
       | inl old ↦ rw (same j old lane) (first_old es e j lane _ old (k.reach j old lane))
-      | inr new ↦ rw new (new_row_reach lane)
+      | inr new ↦ rw new (new_reach lane)
     ];
     own = λ j lt. elim (old_or_new es e j lt) [
       | inl old ↦ same j old _ ∙ ap (counts j) (lane_of-old es e j old) ∙ k.own j old ∙ ap (λ n. n + 1) (sym (place_of-old es e j old))
-      | inr new ↦ (λ i. after (new i) (lane_of-at_new es e j new i)) ∙ new_row_own ∙ ap (λ n. n + 1) (sym (place_of-new es e j new))
+      | inr new ↦ (λ i. after (new i) (lane_of-at_new es e j new i)) ∙ new_own ∙ ap (λ n. n + 1) (sym (place_of-new es e j new))
     ];
     last_is = λ lane lt. elim (eqb_tells lane e.lane) [
       | inl s ↦
@@ -181,13 +181,13 @@ leb_from a b h = grind (arith, nat_tests)
 leb_to : (a b : ℕ) → a ≤ b → IsTrue (leb a b)
 leb_to a b h = grind (arith, nat_tests)
 
--- i reaches j where j's counter of i's lane is no less than i's own
+-- i reaches j where j's count of i's lane is no less than i's own
 pub precedes_iff : (es : List Event) (counts : ℕ → ℕ → ℕ) (last : List (Option ℕ)) → Keeps es counts last → (i j a b : ℕ) → i < length es → j < length es → a ≡ counts i (lane_of es i) → b ≡ counts j (lane_of es i) → IsTrue (leb a b) ↔ Reaches es i j
 precedes_iff es counts last k i j a b hi hj ha hb =
     let is = (k.reach j hj (lane_of es i)).first i hi refl in
     (λ t. is.1 (omega (arith, leb_from a b t, ha, hb, k.own i hi)), λ c. leb_to a b (omega (arith, is.0 c, ha, hb, k.own i hi)))
 
--- no counter is greater than the number of events
+-- no count is greater than the number of events
 pub small_counts : (es : List Event) (counts : ℕ → ℕ → ℕ) (last : List (Option ℕ)) → Keeps es counts last → (event : Option ℕ) → ((j : ℕ) → event ≡ Some j → j < length es) → (lane : ℕ) → count_or_none counts event lane ≤ 65536
 small_counts es counts last k event inside lane =
     omega (arith, k.few, (some_reach es counts last k event lane inside).no_more, count_by-le-length (λ e. e.lane == lane) es)

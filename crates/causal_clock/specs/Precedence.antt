@@ -15,6 +15,11 @@ pub data Reaches (events : List Event) : ℕ → ℕ → Type 0 where
   itself : {i : ℕ} → i < length events → Reaches events i i
   onward : {i j k : ℕ} → Reaches events i j → DirectlyPrecedes events j k → Reaches events i k
 
+-- i reaches an event that comes next: it is that event, or it reaches one of the same lane or the one that sent to it
+abbrev pub IsReachedThrough : List Event → Event → ℕ → Type 0
+IsReachedThrough events e i =
+    (i ≡ length events) ⊎ ((j : ℕ) × Reaches events i j × ((lane_of events j ≡ e.lane) ⊎ (e.send ≡ Some j)))
+
 -- the events of the lane that reach j are its first n ones
 pub record FirstReach (events : List Event) (j lane n : ℕ) : Type 0 where
   pub no_more : n ≤ lane_length events lane

@@ -1,41 +1,49 @@
 -- The members of a set in order, and the least of them.
-use Rattle.std.specs.Prelude.{List, ◌≡◌, ◌≢◌, ℕ, ◌+◌, ◌<◌, ◌≤◌, Bool, true, false, not, ◌&&◌, if◌then◌else◌, nat_eq, [], ◌∷◌}
+use Rattle.std.specs.Prelude.{List, ◌≡◌, ◌≢◌, ℕ, ◌+◌, ◌<◌, ◌≤◌, Bool, true, false, not, ◌&&◌, if◌then◌else◌, nat_eq, [], ◌∷◌, ◌++◌, filter, length, count_by}
 use Rattle.std.proofs.Common.{zero, suc, refl, arith, ap, sym, ◌∙◌, inl, inr}
-use Rattle.std.specs.List.{list_any}
+use Rattle.std.specs.List.{list_any, range_with_len}
+use Rattle.std.specs.List.Sorted.{IsStrictlyIncreasing}
+use Rattle.std.proofs.lemmas.List.Kept.{IsStrictlyIncreasing-filter}
+use Rattle.std.proofs.lemmas.List.Sums.{length-filter, sum_by-append}
+use Rattle.std.proofs.lemmas.List.FromFn.{length-range_with_len, get_or-range_with_len, map-range_with_len_more}
+use Rattle.std.proofs.lemmas.List.{map-id}
+use Rattle.causal_name.specs.Sets.{count_below}
+use Rattle.causal_holders.proofs.Counting.{len_counted}
 use Rattle.std.specs.Ordering.{nat_cmp}
 use Rattle.std.specs.Cmp.{nat_cmp_total, unsigned_tied}
-use Rattle.std.specs.FinSet.{FinSet, empty, remove, contains, contains-empty, contains-remove}
+use Rattle.std.specs.FinSet.{FinSet, empty, remove, contains, len, contains-empty, contains-remove}
 use Rattle.std.proofs.lemmas.Bool.Decides.{nat_tests, eqb_tells}
-use Rattle.causal_holders.specs.Members.{passing_from, ascending, IsLeast}
+use Rattle.causal_holders.specs.Members.{ascending, IsLeast, AreProcesses}
 
-pub passing_from-same : (start n : ℕ) (f g : ℕ → Bool) → ((k : ℕ) → start ≤ k → f k ≡ g k) → passing_from start n f ≡ passing_from start n g
-unfolding passing_from
+-- of the n numbers from start on, those that pass the test
+abbrev passing_from : ℕ → ℕ → (ℕ → Bool) → List ℕ
+passing_from start n p = filter p (range_with_len start n)
+
+passing_from-same : (start n : ℕ) (f g : ℕ → Bool) → ((k : ℕ) → start ≤ k → f k ≡ g k) → passing_from start n f ≡ passing_from start n g
 passing_from-same start zero f g h = refl
 passing_from-same start (suc n) f g h =
-    let rest : passing_from (suc start) n f ≡ passing_from (suc start) n g = passing_from-same (suc start) n f g (λ k above. h k (omega arith)) in
+    let rest : passing_from (start + 1) n f ≡ passing_from (start + 1) n g = passing_from-same (start + 1) n f g (λ k above. h k (omega arith)) in
     let top : f start ≡ g start = h start (omega arith) in
     λ i. if top i then start ∷ rest i else rest i
 
-pub none_passing : (start n : ℕ) (f : ℕ → Bool) → ((k : ℕ) → f k ≡ false) → passing_from start n f ≡ []
-unfolding passing_from
+none_passing : (start n : ℕ) (f : ℕ → Bool) → ((k : ℕ) → f k ≡ false) → passing_from start n f ≡ []
 none_passing start zero f h = refl
-none_passing start (suc n) f h = ap (λ b. if b then start ∷ passing_from (suc start) n f else passing_from (suc start) n f) (h start) ∙ none_passing (suc start) n f h
+none_passing start (suc n) f h = ap (λ b. if b then start ∷ passing_from (start + 1) n f else passing_from (start + 1) n f) (h start) ∙ none_passing (start + 1) n f h
 
 -- f passes first, and g is f without that number
-pub first_passing : (start n first : ℕ) (f g : ℕ → Bool) → start ≤ first → first < start + n → f first ≡ true → g first ≡ false → ((k : ℕ) → k < first → f k ≡ false) → ((k : ℕ) → k ≢ first → g k ≡ f k) → passing_from start n f ≡ first ∷ passing_from start n g
-unfolding passing_from
+first_passing : (start n first : ℕ) (f g : ℕ → Bool) → start ≤ first → first < start + n → f first ≡ true → g first ≡ false → ((k : ℕ) → k < first → f k ≡ false) → ((k : ℕ) → k ≢ first → g k ≡ f k) → passing_from start n f ≡ first ∷ passing_from start n g
 first_passing start zero first f g from below here gone before same = absurd (omega arith)
 first_passing start (suc n) first f g from below here gone before same =
     elim (eqb_tells first start) [
       | inl e ↦
           let f_here : f start ≡ true = ap f (sym e.1) ∙ here in
           let g_gone : g start ≡ false = ap g (sym e.1) ∙ gone in
-          rw (f_here, g_gone) (λ i. sym e.1 i ∷ passing_from-same (suc start) n f g (λ k above. sym (same k (omega arith))) i)
+          rw (f_here, g_gone) (λ i. sym e.1 i ∷ passing_from-same (start + 1) n f g (λ k above. sym (same k (omega arith))) i)
       | inr e ↦
           let earlier : start < first = omega (arith, e.1) in
           let f_not : f start ≡ false = before start earlier in
           let g_not : g start ≡ false = same start (omega arith) ∙ f_not in
-          rw (f_not, g_not) (first_passing (suc start) n first f g (omega arith) (omega arith) here gone before same)
+          rw (f_not, g_not) (first_passing (start + 1) n first f g (omega arith) (omega arith) here gone before same)
     ]
 
 pub ascending-empty : ascending empty ≡ []
@@ -67,23 +75,49 @@ other_head q start true rest h = grind (arith, nat_tests)
 other_head q start false rest h = refl
 
 not_listed : (start n : ℕ) (f : ℕ → Bool) (q : ℕ) → q < start → list_any (nat_eq q) (passing_from start n f) ≡ false
-unfolding passing_from
 not_listed start zero f q h = refl
-not_listed start (suc n) f q h = other_head q start (f start) (passing_from (suc start) n f) (λ same. omega (arith, same)) ∙ not_listed (suc start) n f q (omega arith)
+not_listed start (suc n) f q h = other_head q start (f start) (passing_from (start + 1) n f) (λ same. omega (arith, same)) ∙ not_listed (start + 1) n f q (omega arith)
 
 own_head : (start : ℕ) (b : Bool) (rest : List ℕ) → list_any (nat_eq start) rest ≡ false → list_any (nat_eq start) (if b then start ∷ rest else rest) ≡ b
 own_head start true rest h = grind (arith, nat_tests)
 own_head start false rest h = h
 
 listed : (start n : ℕ) (f : ℕ → Bool) (q : ℕ) → start ≤ q → q < start + n → list_any (nat_eq q) (passing_from start n f) ≡ f q
-unfolding passing_from
 listed start zero f q from to = absurd (omega arith)
 listed start (suc n) f q from to =
     elim (eqb_tells q start) [
-      | inl e ↦ rw e.1 (own_head start (f start) (passing_from (suc start) n f) (not_listed (suc start) n f start (omega arith)))
-      | inr e ↦ other_head q start (f start) (passing_from (suc start) n f) e.1 ∙ listed (suc start) n f q (omega (arith, e.1)) (omega arith)
+      | inl e ↦ rw e.1 (own_head start (f start) (passing_from (start + 1) n f) (not_listed (start + 1) n f start (omega arith)))
+      | inr e ↦ other_head q start (f start) (passing_from (start + 1) n f) e.1 ∙ listed (start + 1) n f q (omega (arith, e.1)) (omega arith)
     ]
 
 -- the list has just the members below 256
 pub ascending-members : (s : FinSet nat_cmp) (q : ℕ) → q < 256 → list_any (nat_eq q) (ascending s) ≡ contains s q
 ascending-members s q h = listed 0 256 (contains s) q (omega arith) (omega arith)
+
+-- ---- that it ascends, and how long it is
+
+-- each member is below the next
+pub ascending-rises : (s : FinSet nat_cmp) → IsStrictlyIncreasing (ascending s)
+ascending-rises s = IsStrictlyIncreasing-filter (contains s) (range_with_len 0 256) (λ k h.
+    let below : k + 1 < 256 = omega (arith, h, length-range_with_len 0 256) in
+    omega (arith, get_or-range_with_len 0 256 k 0 (omega (arith, below)), get_or-range_with_len 0 256 (k + 1) 0 below))
+
+range_more : (n : ℕ) → range_with_len 0 (suc n) ≡ range_with_len 0 n ++ n ∷ []
+range_more n =
+    let next : n + 1 ≡ suc n = omega arith in
+    ap (range_with_len 0) (sym next)
+    ∙ sym (map-id (range_with_len 0 (n + 1)))
+    ∙ map-range_with_len_more (λ x. x) 0 n n (omega arith)
+    ∙ ap (λ xs. xs ++ n ∷ []) (map-id (range_with_len 0 n))
+
+counted_below : (n : ℕ) (test : ℕ → Bool) → count_by test (range_with_len 0 n) ≡ count_below n test
+counted_below zero test = refl
+counted_below (suc n) test =
+    ap (count_by test) (range_more n)
+    ∙ sum_by-append _ (range_with_len 0 n) (n ∷ [])
+    ∙ omega (arith, counted_below n test)
+
+-- it has each member once
+pub length-ascending : (s : FinSet nat_cmp) → AreProcesses s → length (ascending s) ≡ len s
+length-ascending s inside =
+    length-filter (contains s) (range_with_len 0 256) ∙ counted_below 256 (contains s) ∙ sym (len_counted 256 s inside)

@@ -1,5 +1,6 @@
 -- The members of a set of processes.
-use Rattle.std.specs.Prelude.{◌≡◌, ℕ, zero, suc, ◌<◌, ◌≤◌, Bool, true, if◌then◌else◌, List, [], ◌∷◌}
+use Rattle.std.specs.Prelude.{◌≡◌, ℕ, ◌<◌, ◌≤◌, Bool, true, List, filter}
+use Rattle.std.specs.List.{range_with_len}
 use Rattle.std.specs.Ordering.{nat_cmp}
 use Rattle.std.specs.FinSet.{FinSet, contains}
 use Rattle.causal_holders.specs.declared.TheConstants.{PROCESSES}
@@ -17,11 +18,6 @@ pub record HasMembers (n : ℕ) (s : FinSet nat_cmp) (test : ℕ → Bool) : Typ
 abbrev pub IsLeast : FinSet nat_cmp → ℕ → Type 0
 IsLeast s p = (contains s p ≡ true) × ((q : ℕ) → contains s q ≡ true → p ≤ q)
 
--- of the n numbers from start on, those that pass the test, ascending
-unfoldable pub passing_from : ℕ → ℕ → (ℕ → Bool) → List ℕ
-passing_from start zero p = []
-passing_from start (suc n) p = if p start then start ∷ passing_from (suc start) n p else passing_from (suc start) n p
-
 -- the members, ascending
 abbrev pub ascending : FinSet nat_cmp → List ℕ
-ascending s = passing_from 0 PROCESSES (contains s)
+ascending s = filter (contains s) (range_with_len 0 PROCESSES)

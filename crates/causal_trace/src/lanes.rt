@@ -9,7 +9,7 @@ use std::alloc::{AllocError, Global};
 /// The present lane of a process: whether it is down, how many restarts opened its lanes, and how many messages the
 /// lane has sent and delivered.
 #[derive(Clone, Copy, Debug)]
-pub struct Lane {
+pub(crate) struct Lane {
     pub down: bool,
     pub restarts: u32,
     pub sends: u32,
@@ -17,7 +17,7 @@ pub struct Lane {
 }
 
 /// Counts one more entry.
-pub fn note_lane(lanes: &mut [Lane], entry: &Entry)
+pub(crate) fn note_lane(lanes: &mut [Lane], entry: &Entry)
     requires there { IfSome (subject entry.now) (λ p. p.0 < length lanes.old) }
     requires room { All HasRoom lanes.old }
     ensures { lanes.new ≡ lanes_after entry.now lanes.old }
@@ -39,7 +39,7 @@ pub fn note_lane(lanes: &mut [Lane], entry: &Entry)
 }
 
 /// The lanes of n processes at first.
-pub fn fresh_lanes(alloc: Global, n: usize) -> Result<Vec<Lane>, AllocError>
+pub(crate) fn fresh_lanes(alloc: Global, n: usize) -> Result<Vec<Lane>, AllocError>
     ensures { IfOk result (λ lanes. lanes.items ≡ replicate n fresh) }
 {
     let fresh = Lane {
@@ -52,7 +52,7 @@ pub fn fresh_lanes(alloc: Global, n: usize) -> Result<Vec<Lane>, AllocError>
 }
 
 /// Equal lanes.
-pub fn copied_lanes(lanes: &Vec<Lane>) -> Result<Vec<Lane>, NoMemory>
+pub(crate) fn copied_lanes(lanes: &Vec<Lane>) -> Result<Vec<Lane>, NoMemory>
     ensures { IfOk result (λ copy. copy.items ≡ lanes.now.items) }
 {
     match lanes.clone() {
@@ -62,7 +62,7 @@ pub fn copied_lanes(lanes: &Vec<Lane>) -> Result<Vec<Lane>, NoMemory>
 }
 
 /// Equal entries.
-pub fn copied_entries(entries: &Vec<Entry>) -> Result<Vec<Entry>, NoMemory>
+pub(crate) fn copied_entries(entries: &Vec<Entry>) -> Result<Vec<Entry>, NoMemory>
     ensures { IfOk result (λ copy. copy.items ≡ entries.now.items) }
 {
     match entries.clone() {
@@ -72,7 +72,7 @@ pub fn copied_entries(entries: &Vec<Entry>) -> Result<Vec<Entry>, NoMemory>
 }
 
 /// One for a restart.
-pub fn restarts_in(e: &Entry) -> u32
+pub(crate) fn restarts_in(e: &Entry) -> u32
     ensures { result ≡ (if is_restart e.now then 1 else 0) }
 {
     if matches!(e, Entry::Restart { .. }) {
@@ -83,7 +83,7 @@ pub fn restarts_in(e: &Entry) -> u32
 }
 
 /// One for a delivery.
-pub fn deliveries_in(e: &Entry) -> u32
+pub(crate) fn deliveries_in(e: &Entry) -> u32
     ensures { result ≡ (if is_delivery e.now then 1 else 0) }
 {
     if matches!(e, Entry::Deliver { .. }) {
@@ -94,7 +94,7 @@ pub fn deliveries_in(e: &Entry) -> u32
 }
 
 /// Whether the lane is this one.
-pub fn is_lane(found: Option<u32>, lane: u32) -> bool
+pub(crate) fn is_lane(found: Option<u32>, lane: u32) -> bool
     ensures { result ≡ is_lane found lane }
 {
     match found {

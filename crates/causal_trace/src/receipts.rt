@@ -15,7 +15,7 @@ use causal_name::{Det, MsgName, NoMemory, Pid};
 use std::collections::{HashMap, HashSet};
 
 /// Puts a determinant in, if there is one.
-pub fn note_delivered(delivered: &mut HashSet<Det>, own: Option<Det>)
+pub(crate) fn note_delivered(delivered: &mut HashSet<Det>, own: Option<Det>)
     requires { 0 < spare delivered.old }
     ensures members { (d : Det) → contains same_det delivered.new d ≡ (is_det own d || contains same_det delivered.old d) }
     ensures spare { spare delivered.old ≤ spare delivered.new + 1 }
@@ -26,21 +26,21 @@ pub fn note_delivered(delivered: &mut HashSet<Det>, own: Option<Det>)
 }
 
 /// Whether the determinant is in the set.
-pub fn is_noted(delivered: &HashSet<Det>, d: Det) -> bool
+pub(crate) fn is_noted(delivered: &HashSet<Det>, d: Det) -> bool
     ensures { result ≡ contains same_det delivered.now d }
 {
     delivered.contains(&d)
 }
 
 /// Whether each determinant is in the set.
-pub fn are_noted(delivered: &HashSet<Det>, dets: &[Det]) -> bool
+pub(crate) fn are_noted(delivered: &HashSet<Det>, dets: &[Det]) -> bool
     ensures { result ≡ list_all (λ d. contains same_det delivered.now d) dets.now }
 {
     dets.iter().all(|d| is_noted(delivered, *d))
 }
 
 /// The same, where one more counts too.
-pub fn are_noted_with(delivered: &HashSet<Det>, own: Option<Det>, dets: &[Det]) -> bool
+pub(crate) fn are_noted_with(delivered: &HashSet<Det>, own: Option<Det>, dets: &[Det]) -> bool
     ensures { result ≡ list_all (λ d. is_det own d || contains same_det delivered.now d) dets.now }
 {
     dets.iter()
@@ -48,7 +48,7 @@ pub fn are_noted_with(delivered: &HashSet<Det>, own: Option<Det>, dets: &[Det]) 
 }
 
 /// Puts the lane in which the process delivered the message.
-pub fn note_received(
+pub(crate) fn note_received(
     received: &mut HashMap<(Pid, MsgName), u32>,
     to: Pid,
     message: MsgName,
@@ -62,7 +62,7 @@ pub fn note_received(
 }
 
 /// The lane in which the process last delivered the message.
-pub fn received_in(
+pub(crate) fn received_in(
     received: &HashMap<(Pid, MsgName), u32>,
     to: Pid,
     message: MsgName,
@@ -73,7 +73,7 @@ pub fn received_in(
 }
 
 /// Puts the receipt of a delivery in, if it is one.
-pub fn note_receipt(received: &mut HashMap<(Pid, MsgName), u32>, own: Option<Det>, lane: u32)
+pub(crate) fn note_receipt(received: &mut HashMap<(Pid, MsgName), u32>, own: Option<Det>, lane: u32)
     requires { 0 < map.spare received.old }
     ensures receipts { (p : Pid) (m : MsgName) → map.get same_receipt received.new (p, m) ≡ receipt_after own lane (p, m) (map.get same_receipt received.old (p, m)) }
     ensures spare { map.spare received.old ≤ map.spare received.new + 1 }
@@ -84,7 +84,7 @@ pub fn note_receipt(received: &mut HashMap<(Pid, MsgName), u32>, own: Option<Det
 }
 
 /// An equal set.
-pub fn copied_dets(delivered: &HashSet<Det>) -> Result<HashSet<Det>, NoMemory>
+pub(crate) fn copied_dets(delivered: &HashSet<Det>) -> Result<HashSet<Det>, NoMemory>
     ensures { IfOk result (λ copy. copy.keys ≡ delivered.now.keys) }
 {
     match delivered.clone() {
@@ -94,7 +94,7 @@ pub fn copied_dets(delivered: &HashSet<Det>) -> Result<HashSet<Det>, NoMemory>
 }
 
 /// An equal map.
-pub fn copied_receipts(
+pub(crate) fn copied_receipts(
     received: &HashMap<(Pid, MsgName), u32>,
 ) -> Result<HashMap<(Pid, MsgName), u32>, NoMemory>
     ensures { IfOk result (λ copy. copy.entries ≡ received.now.entries) }

@@ -9,7 +9,7 @@ use crate::entry::Entry;
 use causal_name::{Det, MsgName, Pid};
 
 /// Whether the process is down after these entries.
-pub fn is_down(entries: &[Entry], p: Pid) -> bool
+pub(crate) fn is_down(entries: &[Entry], p: Pid) -> bool
     ensures { result ≡ past.is_down (past_at entries.now (length entries.now)) p.0 }
 {
     let mut down = false;
@@ -32,7 +32,7 @@ pub fn is_down(entries: &[Entry], p: Pid) -> bool
 }
 
 /// The process's present lane.
-pub fn lane(entries: &[Entry], p: Pid) -> usize
+pub(crate) fn lane(entries: &[Entry], p: Pid) -> usize
     ensures value { result ≡ past.lane (past_at entries.now (length entries.now)) p.0 }
     ensures few { result ≤ length entries.now }
 {
@@ -51,7 +51,7 @@ pub fn lane(entries: &[Entry], p: Pid) -> usize
 }
 
 /// Whether the process is down after the first t entries.
-pub fn is_down_at(entries: &[Entry], t: usize, p: Pid) -> bool
+pub(crate) fn is_down_at(entries: &[Entry], t: usize, p: Pid) -> bool
     requires { t ≤ length entries.now }
     ensures { result ≡ past.is_down (past_at entries.now t) p.0 }
 {
@@ -59,7 +59,7 @@ pub fn is_down_at(entries: &[Entry], t: usize, p: Pid) -> bool
 }
 
 /// The process's lane after the first t entries.
-pub fn lane_at(entries: &[Entry], t: usize, p: Pid) -> usize
+pub(crate) fn lane_at(entries: &[Entry], t: usize, p: Pid) -> usize
     requires { t ≤ length entries.now }
     ensures value { result ≡ past.lane (past_at entries.now t) p.0 }
     ensures few { result ≤ t }
@@ -68,14 +68,14 @@ pub fn lane_at(entries: &[Entry], t: usize, p: Pid) -> usize
 }
 
 /// The entry at a position.
-pub fn entry(entries: &[Entry], i: u32) -> Option<&Entry>
+pub(crate) fn entry(entries: &[Entry], i: u32) -> Option<&Entry>
     ensures { option_copied result ≡ slice_get entries.now i }
 {
     entries.get(i as usize)
 }
 
 /// How many messages the process's present lane has sent.
-pub fn sends(entries: &[Entry], p: Pid) -> usize
+pub(crate) fn sends(entries: &[Entry], p: Pid) -> usize
     ensures { result ≡ past.sends (past_at entries.now (length entries.now)) p.0 }
 {
     let mut count = 0;
@@ -98,7 +98,7 @@ pub fn sends(entries: &[Entry], p: Pid) -> usize
 }
 
 /// How many messages the process's present lane has delivered.
-pub fn deliveries(entries: &[Entry], p: Pid) -> usize
+pub(crate) fn deliveries(entries: &[Entry], p: Pid) -> usize
     ensures { result ≡ past.deliveries (past_at entries.now (length entries.now)) p.0 }
 {
     let mut count = 0;
@@ -121,7 +121,7 @@ pub fn deliveries(entries: &[Entry], p: Pid) -> usize
 }
 
 /// How many restarts there were.
-pub fn restarts(entries: &[Entry]) -> usize
+pub(crate) fn restarts(entries: &[Entry]) -> usize
     ensures { result ≡ past.restarts (past_at entries.now (length entries.now)) }
 {
     let mut count = 0;
@@ -135,7 +135,7 @@ pub fn restarts(entries: &[Entry]) -> usize
 }
 
 /// How many deliveries there were.
-pub fn deliveries_in(entries: &[Entry]) -> usize
+pub(crate) fn deliveries_in(entries: &[Entry]) -> usize
     ensures value { result ≡ past.deliveries_in (past_at entries.now (length entries.now)) }
     ensures few { result ≤ length entries.now }
 {
@@ -150,7 +150,7 @@ pub fn deliveries_in(entries: &[Entry]) -> usize
 }
 
 /// The message that the entry at a position sends, if it is among the first t.
-pub fn message_at(entries: &[Entry], t: usize, send: u32) -> Option<MsgName>
+pub(crate) fn message_at(entries: &[Entry], t: usize, send: u32) -> Option<MsgName>
     requires { t ≤ length entries.now }
     ensures { result ≡ past.message_at (past_at entries.now t) send }
 {
@@ -167,14 +167,14 @@ pub fn message_at(entries: &[Entry], t: usize, send: u32) -> Option<MsgName>
 }
 
 /// The message that the entry at a position sends.
-pub fn message_sent_at(entries: &[Entry], send: u32) -> Option<MsgName>
+pub(crate) fn message_sent_at(entries: &[Entry], send: u32) -> Option<MsgName>
     ensures { result ≡ past.message_at (past_at entries.now (length entries.now)) send }
 {
     message_at(entries, entries.len(), send)
 }
 
 /// Whether the entry at a position is a send to the process.
-pub fn is_sent_to(entries: &[Entry], send: u32, p: Pid) -> bool
+pub(crate) fn is_sent_to(entries: &[Entry], send: u32, p: Pid) -> bool
     ensures { result ≡ past.is_sent_to (past_at entries.now (length entries.now)) send p.0 }
 {
     if send as usize >= entries.len() {
@@ -187,7 +187,7 @@ pub fn is_sent_to(entries: &[Entry], send: u32, p: Pid) -> bool
 }
 
 /// The determinant of the delivery of a message.
-pub fn det_from(to: Pid, rsn: u32, message: Option<MsgName>) -> Option<Det>
+pub(crate) fn det_from(to: Pid, rsn: u32, message: Option<MsgName>) -> Option<Det>
     ensures { result ≡ option_map (past.det_from to rsn) message }
 {
     match message {
@@ -202,7 +202,7 @@ pub fn det_from(to: Pid, rsn: u32, message: Option<MsgName>) -> Option<Det>
 }
 
 /// The determinant of an entry that is a delivery, where the first t entries stand before it.
-pub fn det_of(entries: &[Entry], t: usize, e: &Entry) -> Option<Det>
+pub(crate) fn det_of(entries: &[Entry], t: usize, e: &Entry) -> Option<Det>
     requires { t ≤ length entries.now }
     ensures { result ≡ past.det_of (past_at entries.now t) e.now }
 {
@@ -213,14 +213,14 @@ pub fn det_of(entries: &[Entry], t: usize, e: &Entry) -> Option<Det>
 }
 
 /// The determinant of an entry that is a delivery and comes next.
-pub fn det_of_next(entries: &[Entry], e: &Entry) -> Option<Det>
+pub(crate) fn det_of_next(entries: &[Entry], e: &Entry) -> Option<Det>
     ensures { result ≡ past.det_of (past_at entries.now (length entries.now)) e.now }
 {
     det_of(entries, entries.len(), e)
 }
 
 /// Whether an optional determinant is this one.
-pub fn is_det(own: Option<Det>, d: Det) -> bool
+pub(crate) fn is_det(own: Option<Det>, d: Det) -> bool
     ensures { result ≡ past.is_det own d }
 {
     match own {
@@ -230,7 +230,7 @@ pub fn is_det(own: Option<Det>, d: Det) -> bool
 }
 
 /// Whether an optional message is this one.
-pub fn is_message(found: Option<MsgName>, m: MsgName) -> bool
+pub(crate) fn is_message(found: Option<MsgName>, m: MsgName) -> bool
     ensures { result ≡ past.is_message found m }
 {
     match found {
@@ -240,7 +240,7 @@ pub fn is_message(found: Option<MsgName>, m: MsgName) -> bool
 }
 
 /// Whether the determinant is that of a delivery so far.
-pub fn is_delivered(entries: &[Entry], d: Det) -> bool
+pub(crate) fn is_delivered(entries: &[Entry], d: Det) -> bool
     ensures { result ≡ past.is_delivered (past_at entries.now (length entries.now)) d }
 {
     let mut found = false;
@@ -253,7 +253,7 @@ pub fn is_delivered(entries: &[Entry], d: Det) -> bool
 }
 
 /// Whether the process's present lane has delivered the message.
-pub fn has_delivered(entries: &[Entry], p: Pid, m: MsgName) -> bool
+pub(crate) fn has_delivered(entries: &[Entry], p: Pid, m: MsgName) -> bool
     ensures { result ≡ past.has_delivered (past_at entries.now (length entries.now)) p.0 m }
 {
     let mut found = false;
@@ -276,7 +276,7 @@ pub fn has_delivered(entries: &[Entry], p: Pid, m: MsgName) -> bool
 }
 
 /// Whether the process's present lane has delivered the message, if there is one.
-pub fn has_delivered_any(entries: &[Entry], p: Pid, found: Option<MsgName>) -> bool
+pub(crate) fn has_delivered_any(entries: &[Entry], p: Pid, found: Option<MsgName>) -> bool
     ensures { result ≡ option_map_or (past.has_delivered (past_at entries.now (length entries.now)) p.0) found false }
 {
     match found {
@@ -286,14 +286,14 @@ pub fn has_delivered_any(entries: &[Entry], p: Pid, found: Option<MsgName>) -> b
 }
 
 /// Whether each determinant is that of a delivery so far.
-pub fn are_delivered(entries: &[Entry], listed: &[Det]) -> bool
+pub(crate) fn are_delivered(entries: &[Entry], listed: &[Det]) -> bool
     ensures { result ≡ are_delivered (past_at entries.now (length entries.now)) listed.now }
 {
     listed.iter().all(|d| is_delivered(entries, *d))
 }
 
 /// The same, where one more delivery counts too.
-pub fn are_delivered_with(entries: &[Entry], own: Option<Det>, listed: &[Det]) -> bool
+pub(crate) fn are_delivered_with(entries: &[Entry], own: Option<Det>, listed: &[Det]) -> bool
     ensures { result ≡ are_delivered_with (past_at entries.now (length entries.now)) own listed.now }
 {
     listed
@@ -302,7 +302,7 @@ pub fn are_delivered_with(entries: &[Entry], own: Option<Det>, listed: &[Det]) -
 }
 
 /// The determinant of the delivery at a position.
-pub fn det_at(entries: &[Entry], k: u32) -> Option<Det>
+pub(crate) fn det_at(entries: &[Entry], k: u32) -> Option<Det>
     ensures { result ≡ past.det_at (past_at entries.now (length entries.now)) k }
 {
     if k as usize >= entries.len() {
@@ -312,7 +312,7 @@ pub fn det_at(entries: &[Entry], k: u32) -> Option<Det>
 }
 
 /// Whether each determinant comes before the next.
-pub fn is_ascending(dets: &[Det]) -> bool
+pub(crate) fn is_ascending(dets: &[Det]) -> bool
     ensures { result ≡ past.is_ascending dets.now }
 {
     for i in 1..dets.len() {

@@ -1,0 +1,96 @@
+-- Orphans, by what is known of a delivery at an instant.
+use Rattle.std.proofs.Common.{ℕ, ◌≡◌, ◌<◌, ◌≤◌, inl, inr, Bool, true, false, List, [], Some, refl, sym, ap, subst, ◌∙◌, arith}
+use Rattle.std.specs.Prelude.{◌&&◌, ◌||◌, not}
+use Rattle.std.specs.Ordering.{nat_cmp}
+use Rattle.std.specs.Cmp.{nat_cmp_total}
+use Rattle.std.specs.FinSet.{FinSet, contains, empty, union, difference, len, contains-empty, contains-union, contains-difference}
+use Rattle.std.proofs.lemmas.Bool.{false≢true, or_cases, and_parts}
+use Rattle.causal_name.specs.declared.Det.{Det}
+use Rattle.causal_name.specs.Sets.{count_below}
+use Rattle.causal_holders.specs.Members.{HasMembers, IsLeast}
+use Rattle.causal_holders.proofs.Counting.{members_counted}
+use Rattle.causal_trace.specs.declared.entry.Entry.{Entry}
+use Rattle.causal_trace.specs.Past.{is_down, logs, is_stable, det_at}
+use Rattle.causal_trace.specs.Dependence.{Depends}
+use Rattle.causal_trace.specs.Rows.{AreAccepted}
+use Rattle.causal_trace.specs.Judgement.{HasOrphan, IsCrashSet, IsOrphan}
+use Rattle.causal_audit.specs.declared.sight.Sight.{Sight}
+use Rattle.causal_audit.specs.Sights.{IsSight}
+use Rattle.causal_audit.specs.Laws.{gone}
+use Rattle.causal_audit.specs.Verdicts.{IsLeastOrphan}
+use Rattle.causal_audit.proofs.Dependence.{depends_none}
+use Rattle.causal_audit.proofs.Judged.{exposed, crash_contains, orphan_without, gone_crash, gone_orphan}
+use Rattle.causal_audit.proofs.Legal.{event_inside}
+use Rattle.causal_audit.proofs.Shown.{shows_none, down_inside, logs_inside}
+
+pub sight_none : (k : ℕ) (d : Det) → IsSight [] k d (record { down = empty; holders = empty; stable = false; dependents = empty })
+sight_none k d = record {
+  down = shows_none (λ p. is_down [] p) (λ p. refl);
+  holders = shows_none (λ p. logs [] p d) (λ p. refl);
+  stable = refl;
+  dependents = depends_none k;
+}
+
+not_parts : (a b : Bool) → (a && not b) ≡ true → (a ≡ true) × (b ≡ false)
+not_parts true true h = absurd (false≢true h)
+not_parts true false h = (refl, refl)
+not_parts false b h = absurd (false≢true h)
+
+pub depends_inside : (n : ℕ) (past : List Entry) (k p : ℕ) → AreAccepted n past → Depends past k p → p < n
+depends_inside n past k p formed d = event_inside n past formed d.event p _ d.present
+
+module _ (n f : ℕ) (past : List Entry) (k : ℕ) (d : Det) (formed : AreAccepted n past) (at : det_at past k ≡ Some d) (s : Sight) (sight : IsSight past k d s) where
+  abbrev crash : FinSet nat_cmp
+  crash = union s.down s.holders
+
+  abbrev unheld : FinSet nat_cmp
+  unheld = difference s.dependents s.holders
+
+  crash_is : (q : ℕ) → contains crash q ≡ gone past d q
+  crash_is q = contains-union nat_cmp_total s.down s.holders q ∙ (λ i. sight.down q i || sight.holders q i)
+
+  crash_inside : (q : ℕ) → contains crash q ≡ true → q < n
+  crash_inside q h =
+      elim (or_cases (is_down past q) (logs past q d) (sym (crash_is q) ∙ h)) [
+        | inl down ↦ down_inside n past q formed down
+        | inr held ↦ logs_inside n past q d formed held
+      ]
+
+  crash_members : HasMembers n crash (gone past d)
+  crash_members = record { process = crash_inside; member = λ q low. crash_is q }
+
+  crash_counted : len crash ≡ count_below n (gone past d)
+  crash_counted = members_counted n crash (gone past d) crash_members
+
+  unheld_is : (p : ℕ) → Depends past k p → logs past p d ≡ false → contains unheld p ≡ true
+  unheld_is p depends without =
+      contains-difference nat_cmp_total s.dependents s.holders p
+      ∙ (λ i. (sight.dependents p).1 depends i && not ((sight.holders p ∙ without) i))
+
+  unheld_parts : (p : ℕ) → contains unheld p ≡ true → Depends past k p × (logs past p d ≡ false)
+  unheld_parts p h =
+      let parts = not_parts (contains s.dependents p) (contains s.holders p) (sym (contains-difference nat_cmp_total s.dependents s.holders p) ∙ h) in
+      ((sight.dependents p).0 parts.0, sym (sight.holders p) ∙ parts.1)
+
+  pub not_stable : s.stable ≡ true → HasOrphan n f past k → ⊥
+  not_stable stable has = false≢true (sym (exposed n f past k d at has).unstable ∙ sym sight.stable ∙ stable)
+
+  pub not_many : f < len crash → HasOrphan n f past k → ⊥
+  not_many many has = omega (arith, many, crash_counted, (exposed n f past k d at has).few)
+
+  pub not_none : unheld ≡ empty → HasOrphan n f past k → ⊥
+  not_none none has =
+      let e = exposed n f past k d at has in
+      false≢true (sym (contains-empty nat_cmp e.orphan) ∙ ap (λ x. contains x e.orphan) (sym none) ∙ unheld_is e.orphan e.depends e.without)
+
+  pub least_orphan_is : s.stable ≡ false → len crash ≤ f → (p : ℕ) → IsLeast unheld p → IsLeastOrphan n f past k crash p
+  least_orphan_is unstable few p least =
+      let here = unheld_parts p least.0 in
+      let shown : gone past d ≡ contains crash = λ i q. sym (crash_is q) i in
+      record {
+        process = crash_inside;
+        may_crash = subst (IsCrashSet n f past) shown (gone_crash n f past k d at (omega (arith, few, crash_counted)));
+        is_orphan = subst (λ c. IsOrphan n past k c p) shown (gone_orphan n f past k d at p (depends_inside n past k p formed here.0) (sym sight.stable ∙ unstable) here.0 here.1);
+        least_set = λ other q may orphan w low in_crash. crash_contains n f past k d at other q may orphan w low (sym (crash_is w) ∙ in_crash);
+        least_orphan = λ q orphan. least.1 q (unheld_is q orphan.depends (orphan_without n f past k d at (contains crash) q orphan).1);
+      }

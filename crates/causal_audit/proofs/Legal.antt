@@ -1,0 +1,123 @@
+-- What is known of the entries of a well-formed run.
+use Rattle.std.proofs.Common.{ℕ, zero, suc, ◌≡◌, ◌+◌, ◌<◌, ◌≤◌, inl, inr, Bool, true, false, cond, List, [], ◌∷◌, length, Option, Some, None, refl, sym, ap, subst, ◌∙◌, arith}
+use Rattle.std.specs.Prelude.{◌⊎◌, ◌&&◌, ◌==◌, not, nat_lt, nat_le}
+use Rattle.std.specs.Option.{option_map_or}
+use Rattle.std.proofs.lemmas.Bool.{false≢true, cases_lt, le-ltb, eqb-true}
+use Rattle.std.proofs.lemmas.Bool.Decides.{eqb_tells, nat_tests}
+use Rattle.causal_name.specs.declared.Pid.{Pid}
+use Rattle.causal_name.specs.declared.Det.{Det}
+use Rattle.causal_trace.specs.declared.entry.Entry.{Entry}
+use Rattle.causal_trace.specs.declared.entry.Entry.TheVariants.{Send, Deliver, Stable, Crash, Restart, Forget}
+use Rattle.causal_trace.specs.declared.fault.TraceFault.TheVariants.{NoProcess, NotUp, Lanes}
+use Rattle.causal_trace.specs.Past.{is_down, lane, restarts, listed_in, listed_by, entry_at, is_send_to, is_sent_to, det_of, det_at}
+use Rattle.causal_trace.specs.Rows.{rows, first_fault, AreAccepted}
+use Rattle.causal_trace.specs.Dependence.{actor, is_delivery_of, IsEventOf, Delivers}
+use Rattle.causal_trace.proofs.Accepted.{row_fails, delivers_up, delivers_sent}
+use Rattle.causal_trace.proofs.Formed.{within_limits, limits}
+use Rattle.causal_audit.proofs.Shown.{send_inside, deliver_inside}
+
+module _ (n : ℕ) (past : List Entry) where
+  pub sends_up : (from to : Pid) (ssn : ℕ) → first_fault n past (Send from to ssn) ≡ None → is_down past from.0 ≡ false
+  unfolding rows
+  sends_up from to ssn legal = row_fails (rows n past (Send from to ssn)) legal 2 (is_down past from.0, NotUp) refl
+
+  -- there are lanes left where a restart may come next
+  pub restarts_few : (who : Pid) (listed : List Det) → first_fault n past (Restart who listed) ≡ None → restarts past < 192
+  unfolding rows
+  restarts_few who listed legal = few_of (restarts past) (row_fails (rows n past (Restart who listed)) legal 3 (nat_le 192 (restarts past), Lanes) refl)
+    where
+      few_of : (m : ℕ) → nat_le 192 m ≡ false → m < 192
+      few_of m h = grind (arith, nat_tests)
+
+  -- the process of an event is one of the run, and up
+  pub actor_inside : (e : Entry) (p : ℕ) → first_fault n past e ≡ None → actor e ≡ Some p → p < n
+  actor_inside (Send from to ssn) p legal of = let k : from.0 ≡ p = cc of in omega (arith, k, send_inside n past from to ssn legal)
+  actor_inside (Deliver to send rsn listed) p legal of = let k : to.0 ≡ p = cc of in omega (arith, k, deliver_inside n past to send rsn listed legal)
+  actor_inside (Stable det) p legal of = absurd (let k : None ≡ Some p = of in cc)
+  actor_inside (Crash who) p legal of = absurd (let k : None ≡ Some p = of in cc)
+  actor_inside (Restart who listed) p legal of = absurd (let k : None ≡ Some p = of in cc)
+  actor_inside (Forget who listed) p legal of = absurd (let k : None ≡ Some p = of in cc)
+
+  -- there is room for the entry
+  pub entry_short : (e : Entry) → first_fault n past e ≡ None → length past < 65536
+  entry_short e legal = omega (arith, (limits (length past) (listed_in past) (length (listed_by e)) (within_limits n past e legal)).0)
+
+pub event_inside : (n : ℕ) (past : List Entry) → AreAccepted n past → (i p l : ℕ) → IsEventOf past i p l → p < n
+event_inside n [] h i p l at = absurd at
+event_inside n (e ∷ past) h i p l (inl at) = event_inside n past h.0 i p l at
+event_inside n (e ∷ past) h i p l (inr at) = actor_inside n past e p h.1 at.1
+
+-- where a send is named, there is one
+pub sent_is : (p : ℕ) (o : Option Entry) → option_map_or (is_send_to p) o false ≡ true → (sender : Pid) × (to : Pid) × (ssn : ℕ) × (o ≡ Some (Send sender to ssn))
+sent_is p None h = absurd (false≢true h)
+sent_is p (Some (Send from to ssn)) h = (from, to, ssn, refl)
+sent_is p (Some (Deliver to send rsn listed)) h = absurd (false≢true h)
+sent_is p (Some (Stable det)) h = absurd (false≢true h)
+sent_is p (Some (Crash who)) h = absurd (false≢true h)
+sent_is p (Some (Restart who listed)) h = absurd (false≢true h)
+sent_is p (Some (Forget who listed)) h = absurd (false≢true h)
+
+-- a send is an event
+sends_to : (past : List Entry) (p : ℕ) (e : Entry) → is_send_to p e ≡ true → (q : ℕ) × (actor e ≡ Some q)
+sends_to past p (Send from to ssn) h = (from.0, refl)
+sends_to past p (Deliver to send rsn listed) h = absurd (false≢true h)
+sends_to past p (Stable det) h = absurd (false≢true h)
+sends_to past p (Crash who) h = absurd (false≢true h)
+sends_to past p (Restart who listed) h = absurd (false≢true h)
+sends_to past p (Forget who listed) h = absurd (false≢true h)
+
+pub sent_event : (past : List Entry) (send p : ℕ) → is_sent_to past send p ≡ true → (q : ℕ) × (l : ℕ) × IsEventOf past send q l
+sent_event [] send p h = absurd (false≢true h)
+sent_event (e ∷ past) send p h =
+    elim (send == length past) as (λ b. (send == length past) ≡ b → option_map_or (is_send_to p) (cond b (Some e) (entry_at past send)) false ≡ true → (q : ℕ) × (l : ℕ) × IsEventOf (e ∷ past) send q l) [
+      | true ↦ λ here k. let found = sends_to past p e k in (found.0, lane past found.0, inr (eqb-true send (length past) here, found.1, refl))
+      | false ↦ λ there k. let found = sent_event past send p k in (found.0, found.1, inl found.2)
+    ] refl h
+
+-- an entry that delivers is an event
+delivering : (i : ℕ) (e : Entry) → is_delivery_of i e ≡ true → (p : ℕ) × (actor e ≡ Some p)
+delivering i (Send from to ssn) h = absurd (false≢true h)
+delivering i (Deliver to send rsn listed) h = (to.0, refl)
+delivering i (Stable det) h = absurd (false≢true h)
+delivering i (Crash who) h = absurd (false≢true h)
+delivering i (Restart who listed) h = absurd (false≢true h)
+delivering i (Forget who listed) h = absurd (false≢true h)
+
+-- the receiver of a message, as an event
+pub receiver_event : (past : List Entry) (j i : ℕ) → Delivers past j i → (p : ℕ) × (l : ℕ) × IsEventOf past j p l
+receiver_event [] j i h = absurd h
+receiver_event (e ∷ past) j i (inl h) = let found = receiver_event past j i h in (found.0, found.1, inl found.2)
+receiver_event (e ∷ past) j i (inr h) = let found = delivering i e h.1 in (found.0, lane past found.0, inr (h.0, found.1, refl))
+
+sender_of : (n : ℕ) (past : List Entry) (e : Entry) (i : ℕ) → first_fault n past e ≡ None → is_delivery_of i e ≡ true → (p : ℕ) × (l : ℕ) × IsEventOf past i p l
+sender_of n past (Send from to ssn) i legal is = absurd (false≢true is)
+sender_of n past (Stable det) i legal is = absurd (false≢true is)
+sender_of n past (Crash who) i legal is = absurd (false≢true is)
+sender_of n past (Restart who listed) i legal is = absurd (false≢true is)
+sender_of n past (Forget who listed) i legal is = absurd (false≢true is)
+sender_of n past (Deliver to send rsn listed) i legal is =
+    let found = sent_event past send to.0 (delivers_sent n past to send rsn listed legal) in
+    (found.0, found.1, subst (λ x. IsEventOf past x found.0 found.1) (eqb-true send i is) found.2)
+
+-- and its sender
+pub sender_event : (n : ℕ) (past : List Entry) → AreAccepted n past → (j i : ℕ) → Delivers past j i → (p : ℕ) × (l : ℕ) × IsEventOf past i p l
+sender_event n [] h j i d = absurd d
+sender_event n (e ∷ past) h j i (inl d) = let found = sender_event n past h.0 j i d in (found.0, found.1, inl found.2)
+sender_event n (e ∷ past) h j i (inr d) = let found = sender_of n past e i h.1 d.1 in (found.0, found.1, inl found.2)
+
+-- a delivery is an event
+det_actor : (past : List Entry) (e : Entry) (d : Det) → det_of past e ≡ Some d → (p : ℕ) × (actor e ≡ Some p)
+det_actor past (Send from to ssn) d h = absurd (let k : None ≡ Some d = h in cc)
+det_actor past (Deliver to send rsn listed) d h = (to.0, refl)
+det_actor past (Stable det) d h = absurd (let k : None ≡ Some d = h in cc)
+det_actor past (Crash who) d h = absurd (let k : None ≡ Some d = h in cc)
+det_actor past (Restart who listed) d h = absurd (let k : None ≡ Some d = h in cc)
+det_actor past (Forget who listed) d h = absurd (let k : None ≡ Some d = h in cc)
+
+pub delivery_event : (past : List Entry) (k : ℕ) (d : Det) → det_at past k ≡ Some d → (p : ℕ) × (l : ℕ) × IsEventOf past k p l
+delivery_event [] k d h = absurd (let e : None ≡ Some d = h in cc)
+delivery_event (e ∷ past) k d h =
+    elim (k == length past) as (λ b. (k == length past) ≡ b → cond b (det_of past e) (det_at past k) ≡ Some d → (p : ℕ) × (l : ℕ) × IsEventOf (e ∷ past) k p l) [
+      | true ↦ λ here at. let found = det_actor past e d at in (found.0, lane past found.0, inr (eqb-true k (length past) here, found.1, refl))
+      | false ↦ λ there at. let found = delivery_event past k d at in (found.0, found.1, inl found.2)
+    ] refl h

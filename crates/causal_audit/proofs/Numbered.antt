@@ -1,0 +1,164 @@
+-- Deliveries by their numbers.
+use Rattle.std.proofs.Common.{ℕ, zero, suc, ◌≡◌, ◌+◌, ◌-◌, drop, ◌<◌, ◌≤◌, inl, inr, Bool, true, false, cond, List, [], ◌∷◌, ◌++◌, length, Option, Some, None, refl, sym, ap, subst, ◌∙◌, arith, length-append}
+use Rattle.std.specs.Prelude.{◌==◌, slice_index}
+use Rattle.std.specs.Option.{option_map, option_and_then}
+use Rattle.std.proofs.Math.ListN.{get_or-append}
+use Rattle.std.proofs.Math.Seq.{get_or-append_seam}
+use Rattle.std.proofs.lemmas.Bool.{false≢true, cases_lt, cond-true, cond-false}
+use Rattle.std.proofs.lemmas.Bool.Decides.{eqb_tells}
+use Rattle.causal_name.specs.declared.Pid.{Pid}
+use Rattle.causal_name.specs.declared.Det.{Det}
+use Rattle.causal_name.specs.declared.MsgName.{MsgName}
+use Rattle.causal_trace.specs.declared.entry.Entry.{Entry}
+use Rattle.causal_trace.specs.declared.entry.Entry.TheVariants.{Send, Deliver, Stable, Crash, Restart, Forget}
+use Rattle.causal_trace.specs.Past.{instant, entry_at, det_at, det_of, det_from, message_at, message_sent, deliveries_in}
+use Rattle.causal_trace.specs.Rows.{AreAccepted}
+use Rattle.causal_trace.proofs.Accepted.{delivers_sent}
+use Rattle.causal_audit.specs.Numbers.{is_delivery, IsNumbered, ArePositions}
+use Rattle.causal_audit.proofs.Instants.{instants_stay, one_more_instant}
+use Rattle.causal_audit.proofs.Legal.{sent_is}
+
+pub numbered_place : (past : List Entry) (i k : ℕ) → IsNumbered past i k → k < length past
+numbered_place [] i k n = absurd n
+numbered_place (e ∷ past) i k (inl n) = omega (arith, numbered_place past i k n)
+numbered_place (e ∷ past) i k (inr n) = omega (arith, n.0)
+
+one_more : (e : Entry) (past : List Entry) → is_delivery e ≡ true → deliveries_in (e ∷ past) ≡ deliveries_in past + 1
+one_more (Send from to ssn) past h = absurd (false≢true h)
+one_more (Deliver to send rsn listed) past h = refl
+one_more (Stable det) past h = absurd (false≢true h)
+one_more (Crash who) past h = absurd (false≢true h)
+one_more (Restart who listed) past h = absurd (false≢true h)
+one_more (Forget who listed) past h = absurd (false≢true h)
+
+no_fewer : (e : Entry) (past : List Entry) → deliveries_in past ≤ deliveries_in (e ∷ past)
+no_fewer (Send from to ssn) past = omega arith
+no_fewer (Deliver to send rsn listed) past = omega arith
+no_fewer (Stable det) past = omega arith
+no_fewer (Crash who) past = omega arith
+no_fewer (Restart who listed) past = omega arith
+no_fewer (Forget who listed) past = omega arith
+
+pub deliveries_few : (past : List Entry) → deliveries_in past ≤ length past
+deliveries_few [] = omega arith
+deliveries_few (Send from to ssn ∷ past) = omega (arith, deliveries_few past)
+deliveries_few (Deliver to send rsn listed ∷ past) = omega (arith, deliveries_few past)
+deliveries_few (Stable det ∷ past) = omega (arith, deliveries_few past)
+deliveries_few (Crash who ∷ past) = omega (arith, deliveries_few past)
+deliveries_few (Restart who listed ∷ past) = omega (arith, deliveries_few past)
+deliveries_few (Forget who listed ∷ past) = omega (arith, deliveries_few past)
+
+pub numbered_below : (past : List Entry) (i k : ℕ) → IsNumbered past i k → i < deliveries_in past
+numbered_below [] i k n = absurd n
+numbered_below (e ∷ past) i k (inl n) = omega (arith, numbered_below past i k n, no_fewer e past)
+numbered_below (e ∷ past) i k (inr n) = omega (arith, n.2, one_more e past n.1)
+
+-- a number is of one delivery
+pub numbered_one : (past : List Entry) (i j k : ℕ) → IsNumbered past i j → IsNumbered past i k → j ≡ k
+numbered_one [] i j k a b = absurd a
+numbered_one (e ∷ past) i j k (inl a) (inl b) = numbered_one past i j k a b
+numbered_one (e ∷ past) i j k (inl a) (inr b) = absurd (omega (arith, numbered_below past i j a, b.2))
+numbered_one (e ∷ past) i j k (inr a) (inl b) = absurd (omega (arith, numbered_below past i k b, a.2))
+numbered_one (e ∷ past) i j k (inr a) (inr b) = omega (arith, a.0, b.0)
+
+-- deliveries are numbered in their order
+pub numbered_order : (past : List Entry) (i m j k : ℕ) → IsNumbered past i j → IsNumbered past m k → i ≤ m → j ≤ k
+numbered_order [] i m j k a b h = absurd a
+numbered_order (e ∷ past) i m j k (inl a) (inl b) h = numbered_order past i m j k a b h
+numbered_order (e ∷ past) i m j k (inl a) (inr b) h = omega (arith, numbered_place past i j a, b.0)
+numbered_order (e ∷ past) i m j k (inr a) (inl b) h = absurd (omega (arith, numbered_below past m k b, a.2, h))
+numbered_order (e ∷ past) i m j k (inr a) (inr b) h = omega (arith, a.0, b.0)
+
+delivers : (past : List Entry) (e : Entry) (d : Det) → det_of past e ≡ Some d → is_delivery e ≡ true
+delivers past (Send from to ssn) d h = absurd (let x : None ≡ Some d = h in cc)
+delivers past (Deliver to send rsn listed) d h = refl
+delivers past (Stable det) d h = absurd (let x : None ≡ Some d = h in cc)
+delivers past (Crash who) d h = absurd (let x : None ≡ Some d = h in cc)
+delivers past (Restart who listed) d h = absurd (let x : None ≡ Some d = h in cc)
+delivers past (Forget who listed) d h = absurd (let x : None ≡ Some d = h in cc)
+
+-- a delivery with a determinant has a number
+pub has_number : (past : List Entry) (k : ℕ) (d : Det) → det_at past k ≡ Some d → (i : ℕ) × (i < deliveries_in past) × IsNumbered past i k
+has_number [] k d at = absurd (let x : None ≡ Some d = at in cc)
+has_number (e ∷ past) k d at =
+    elim (eqb_tells k (length past)) [
+      | inl here ↦
+          let is : is_delivery e ≡ true = delivers past e d (sym (cond-true (k == length past) (det_of past e) (det_at past k) here.0) ∙ at) in
+          (deliveries_in past, omega (arith, one_more e past is), inr (here.1, is, refl))
+      | inr there ↦
+          let old : (i : ℕ) × (i < deliveries_in past) × IsNumbered past i k = has_number past k d (sym (cond-false (k == length past) (det_of past e) (det_at past k) there.0) ∙ at) in
+          (old.0, omega (arith, old.1, no_fewer e past), inl old.2)
+    ]
+
+-- and it has the same number at each later instant
+pub numbered_later : (past : List Entry) (t i k : ℕ) → t ≤ length past → IsNumbered (instant past t) i k → IsNumbered past i k
+numbered_later [] t i k within n = elsewhere (0 - t) n
+  where
+    elsewhere : (m : ℕ) → IsNumbered (drop m []) i k → ⊥
+    elsewhere zero n = n
+    elsewhere (suc m) n = n
+numbered_later (e ∷ past) t i k within n =
+    elim (cases_lt (length past) t) [
+      | inl h ↦
+          let whole : instant (e ∷ past) t ≡ e ∷ past = ap (instant (e ∷ past)) (let is : t ≡ length past + 1 = omega (arith, h, within) in is) ∙ one_more_instant e past in
+          subst (λ p. IsNumbered p i k) whole n
+      | inr h ↦ inl (numbered_later past t i k h (subst (λ p. IsNumbered p i k) (instants_stay e past t h) n))
+    ]
+
+-- a numbered delivery has a determinant
+pub numbered_det : (n : ℕ) (past : List Entry) (i k : ℕ) → AreAccepted n past → IsNumbered past i k → det_at past k ≡ None → ⊥
+numbered_det n [] i k a m none = m
+numbered_det n (e ∷ past) i k a (inl m) none =
+    elim (eqb_tells k (length past)) [
+      | inl here ↦ omega (arith, numbered_place past i k m, here.1)
+      | inr there ↦ numbered_det n past i k a.0 m (sym (cond-false (k == length past) (det_of past e) (det_at past k) there.0) ∙ none)
+    ]
+numbered_det n (e ∷ past) i k a (inr m) none =
+    elim (eqb_tells k (length past)) [
+      | inl here ↦ some e past a m.1 (sym (cond-true (k == length past) (det_of past e) (det_at past k) here.0) ∙ none)
+      | inr there ↦ there.1 m.0
+    ]
+  where
+    told : (o : Option Entry) (to sender q : Pid) (rsn ssn : ℕ) → o ≡ Some (Send sender q ssn) → option_map (det_from to rsn) (option_and_then message_sent o) ≡ None → ⊥
+    told o to sender q rsn ssn at none =
+        let d : Det = record { source = sender; ssn = ssn; dest = to; rsn = rsn } in
+        let x : Some d ≡ None = sym (ap (λ y. option_map (det_from to rsn) (option_and_then message_sent y)) at) ∙ none in
+        cc
+
+    some : (e : Entry) (past : List Entry) → AreAccepted n (e ∷ past) → is_delivery e ≡ true → det_of past e ≡ None → ⊥
+    some (Send from to ssn) past a h none = false≢true h
+    some (Deliver to send rsn listed) past a h none =
+        let sent : (sender : Pid) × (q : Pid) × (ssn : ℕ) × (entry_at past send ≡ Some (Send sender q ssn)) = sent_is to.0 (entry_at past send) (delivers_sent n past to send rsn listed a.1) in
+        told (entry_at past send) to sent.0 sent.1 rsn sent.2 sent.3 none
+    some (Stable det) past a h none = false≢true h
+    some (Crash who) past a h none = false≢true h
+    some (Restart who listed) past a h none = false≢true h
+    some (Forget who listed) past a h none = false≢true h
+
+-- the positions, with one more entry
+
+pub positions_none : ArePositions [] []
+positions_none = record { count = refl; each = λ i h. absurd (omega (arith, h)) }
+
+pub positions_more : (e : Entry) (past : List Entry) (ps : List ℕ) → is_delivery e ≡ true → ArePositions past ps → ArePositions (e ∷ past) (ps ++ length past ∷ [])
+positions_more e past ps is p = record {
+  count = omega (arith, p.count, length-append ps (length past ∷ []), one_more e past is);
+  each = λ i h.
+      elim (cases_lt i (length ps)) [
+        | inl low ↦ inl (subst (IsNumbered past i) (sym (get_or-append ps (length past ∷ []) 0 i low)) (p.each i low))
+        | inr high ↦
+            let last : i ≡ length ps = omega (arith, h, high, length-append ps (length past ∷ [])) in
+            inr (ap (slice_index (ps ++ length past ∷ [])) last ∙ get_or-append_seam ps (length past) [] 0, is, last ∙ p.count)
+      ];
+}
+
+pub positions_same : (e : Entry) (past : List Entry) (ps : List ℕ) → is_delivery e ≡ false → ArePositions past ps → ArePositions (e ∷ past) ps
+positions_same e past ps is p = record { count = p.count ∙ sym (no_more e past is); each = λ i h. inl (p.each i h) }
+  where
+    no_more : (e : Entry) (past : List Entry) → is_delivery e ≡ false → deliveries_in (e ∷ past) ≡ deliveries_in past
+    no_more (Send from to ssn) past h = refl
+    no_more (Deliver to send rsn listed) past h = absurd (false≢true (sym h))
+    no_more (Stable det) past h = refl
+    no_more (Crash who) past h = refl
+    no_more (Restart who listed) past h = refl
+    no_more (Forget who listed) past h = refl

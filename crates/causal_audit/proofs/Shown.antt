@@ -1,0 +1,123 @@
+-- What one more entry makes of the sets that show who is down and who holds a determinant.
+use Rattle.std.proofs.Common.{ℕ, zero, suc, ◌≡◌, ◌≢◌, ◌+◌, ◌<◌, ◌≤◌, inl, inr, Bool, true, false, cond, List, [], ◌∷◌, None, refl, sym, ap, subst, ◌∙◌, arith}
+use Rattle.std.specs.Prelude.{◌&&◌, ◌||◌, ◌==◌, not, nat_lt}
+use Rattle.std.specs.Ordering.{nat_cmp}
+use Rattle.std.specs.Cmp.{nat_cmp_total, unsigned_tied}
+use Rattle.std.specs.FinSet.{FinSet, contains, empty, insert, remove, len, contains-empty, contains-insert, contains-remove}
+use Rattle.std.proofs.lemmas.Bool.{false≢true, cases_lt, le-ltb, eqb-true, and_parts, or_cases}
+use Rattle.std.proofs.lemmas.Bool.Decides.{eqb_tells}
+use Rattle.causal_name.specs.declared.Pid.{Pid}
+use Rattle.causal_name.specs.declared.Det.{Det}
+use Rattle.causal_name.specs.Sets.{count_below}
+use Rattle.causal_holders.proofs.Counting.{members_counted}
+use Rattle.causal_trace.specs.declared.entry.Entry.{Entry}
+use Rattle.causal_trace.specs.declared.entry.Entry.TheVariants.{Send, Deliver, Stable, Crash, Restart, Forget}
+use Rattle.causal_trace.specs.declared.fault.TraceFault.TheVariants.{NoProcess}
+use Rattle.causal_trace.specs.Past.{is_down, logs, has}
+use Rattle.causal_trace.specs.Rows.{AreAccepted, rows, first_fault}
+use Rattle.causal_trace.proofs.Accepted.{row_fails}
+use Rattle.causal_audit.specs.Verdicts.{HasMembers}
+use Rattle.causal_audit.specs.Sights.{Shows}
+
+same_number : (p q : ℕ) → (q == p) ≡ (p == q)
+same_number p q =
+    elim (eqb_tells q p) [
+      | inl h ↦ h.0 ∙ sym (elim (eqb_tells p q) [ inl k ↦ k.0 | inr k ↦ absurd (k.1 (sym h.1)) ])
+      | inr h ↦ h.0 ∙ sym (elim (eqb_tells p q) [ inl k ↦ absurd (h.1 (sym k.1)) | inr k ↦ k.0 ])
+    ]
+
+pub inserted : (s : FinSet nat_cmp) (p q : ℕ) → contains (insert s p) q ≡ ((p == q) || contains s q)
+inserted s p q = contains-insert nat_cmp_total s p q ∙ ap (λ b. b || contains s q) (unsigned_tied q p ∙ same_number p q)
+
+pub removed : (s : FinSet nat_cmp) (p q : ℕ) → contains (remove s p) q ≡ (not (p == q) && contains s q)
+removed s p q = contains-remove nat_cmp_total s p q ∙ ap (λ b. not b && contains s q) (unsigned_tied q p ∙ same_number p q)
+
+and_true : (a b : Bool) → b ≡ true → a ≡ (a && b)
+and_true true b h = sym h
+and_true false b h = refl
+
+and_false : (a b : Bool) → b ≡ false → false ≡ (a && b)
+and_false true b h = sym h
+and_false false b h = refl
+
+not_and_true : (a b : Bool) → b ≡ true → not a ≡ not (a && b)
+not_and_true a b h = ap not (and_true a b h)
+
+module _ (s : FinSet nat_cmp) (test : ℕ → Bool) (shown : Shows s test) (p : ℕ) where
+  pub shows_with : Shows (insert s p) (λ q. (p == q) || test q)
+  shows_with q = inserted s p q ∙ ap (λ b. (p == q) || b) (shown q)
+
+  pub shows_without : Shows (remove s p) (λ q. not (p == q) && test q)
+  shows_without q = removed s p q ∙ ap (λ b. not (p == q) && b) (shown q)
+
+  module _ (more : Bool) where
+    -- a list that has the determinant, and one that has it not
+    pub shows_listed : more ≡ true → Shows (insert s p) (λ q. ((p == q) && more) || test q)
+    shows_listed is q = shows_with q ∙ ap (λ b. b || test q) (and_true (p == q) more is)
+
+    pub shows_unlisted : more ≡ false → Shows s (λ q. ((p == q) && more) || test q)
+    shows_unlisted is q = shown q ∙ ap (λ b. b || test q) (and_false (p == q) more is)
+
+    pub shows_forgotten : more ≡ true → Shows (remove s p) (λ q. not ((p == q) && more) && test q)
+    shows_forgotten is q = shows_without q ∙ ap (λ b. b && test q) (not_and_true (p == q) more is)
+
+    pub shows_unforgotten : more ≡ false → Shows s (λ q. not ((p == q) && more) && test q)
+    shows_unforgotten is q = shown q ∙ ap (λ b. not b && test q) (and_false (p == q) more is)
+
+pub shows_none : (test : ℕ → Bool) → ((p : ℕ) → test p ≡ false) → Shows empty test
+shows_none test none p = contains-empty nat_cmp p ∙ sym (none p)
+
+-- ---- only processes of the run go down, or hold a determinant
+
+below : (p n : ℕ) → not (nat_lt p n) ≡ false → p < n
+below p n h = elim (cases_lt p n) [ inl k ↦ k | inr k ↦ absurd (false≢true (sym h ∙ ap not (le-ltb p n k))) ]
+
+below_both : (p q n : ℕ) → not (nat_lt p n && nat_lt q n) ≡ false → p < n
+below_both p q n h = elim (cases_lt p n) [ inl k ↦ k | inr k ↦ absurd (false≢true (sym h ∙ ap (λ b. not (b && nat_lt q n)) (le-ltb p n k))) ]
+
+pub crash_inside : (n : ℕ) (past : List Entry) (who : Pid) → first_fault n past (Crash who) ≡ None → who.0 < n
+unfolding rows
+crash_inside n past who legal = below who.0 n (row_fails (rows n past (Crash who)) legal 1 (not (nat_lt who.0 n), NoProcess) refl)
+
+pub restart_inside : (n : ℕ) (past : List Entry) (who : Pid) (listed : List Det) → first_fault n past (Restart who listed) ≡ None → who.0 < n
+unfolding rows
+restart_inside n past who listed legal = below who.0 n (row_fails (rows n past (Restart who listed)) legal 1 (not (nat_lt who.0 n), NoProcess) refl)
+
+pub deliver_inside : (n : ℕ) (past : List Entry) (to : Pid) (send rsn : ℕ) (listed : List Det) → first_fault n past (Deliver to send rsn listed) ≡ None → to.0 < n
+unfolding rows
+deliver_inside n past to send rsn listed legal = below to.0 n (row_fails (rows n past (Deliver to send rsn listed)) legal 1 (not (nat_lt to.0 n), NoProcess) refl)
+
+pub send_inside : (n : ℕ) (past : List Entry) (from to : Pid) (ssn : ℕ) → first_fault n past (Send from to ssn) ≡ None → from.0 < n
+unfolding rows
+send_inside n past from to ssn legal = below_both from.0 to.0 n (row_fails (rows n past (Send from to ssn)) legal 1 (not (nat_lt from.0 n && nat_lt to.0 n), NoProcess) refl)
+
+pub down_inside : (n : ℕ) (past : List Entry) (p : ℕ) → AreAccepted n past → is_down past p ≡ true → p < n
+down_inside n [] p a h = absurd (false≢true h)
+down_inside n (Send from to ssn ∷ past) p a h = down_inside n past p a.0 h
+down_inside n (Deliver to send rsn listed ∷ past) p a h = down_inside n past p a.0 h
+down_inside n (Stable det ∷ past) p a h = down_inside n past p a.0 h
+down_inside n (Crash who ∷ past) p a h = elim (or_cases (who.0 == p) (is_down past p) h) [ inl k ↦ subst (λ q. q < n) (eqb-true who.0 p k) (crash_inside n past who a.1) | inr k ↦ down_inside n past p a.0 k ]
+down_inside n (Restart who listed ∷ past) p a h = down_inside n past p a.0 (and_parts (not (who.0 == p)) (is_down past p) h).1
+down_inside n (Forget who listed ∷ past) p a h = down_inside n past p a.0 h
+
+pub logs_inside : (n : ℕ) (past : List Entry) (p : ℕ) (d : Det) → AreAccepted n past → logs past p d ≡ true → p < n
+logs_inside n [] p d a h = absurd (false≢true h)
+logs_inside n (Send from to ssn ∷ past) p d a h = logs_inside n past p d a.0 h
+logs_inside n (Deliver to send rsn listed ∷ past) p d a h = elim (or_cases (to.0 == p && has listed d) (logs past p d) h) [
+  | inl k ↦ subst (λ q. q < n) (eqb-true to.0 p (and_parts (to.0 == p) (has listed d) k).0) (deliver_inside n past to send rsn listed a.1)
+  | inr k ↦ logs_inside n past p d a.0 k
+]
+logs_inside n (Stable det ∷ past) p d a h = logs_inside n past p d a.0 h
+logs_inside n (Crash who ∷ past) p d a h = logs_inside n past p d a.0 (and_parts (not (who.0 == p)) (logs past p d) h).1
+logs_inside n (Restart who listed ∷ past) p d a h = elim (or_cases (who.0 == p && has listed d) (logs past p d) h) [
+  | inl k ↦ subst (λ q. q < n) (eqb-true who.0 p (and_parts (who.0 == p) (has listed d) k).0) (restart_inside n past who listed a.1)
+  | inr k ↦ logs_inside n past p d a.0 k
+]
+logs_inside n (Forget who listed ∷ past) p d a h = logs_inside n past p d a.0 (and_parts (not (who.0 == p && has listed d)) (logs past p d) h).1
+
+-- a set that shows who is down has just the processes that are
+pub down_members : (n : ℕ) (past : List Entry) (s : FinSet nat_cmp) → AreAccepted n past → Shows s (λ p. is_down past p) → HasMembers n s (is_down past)
+down_members n past s a shown = record { process = λ p h. down_inside n past p a (sym (shown p) ∙ h); member = λ p low. shown p }
+
+pub counted : (n : ℕ) (s : FinSet nat_cmp) (test : ℕ → Bool) → HasMembers n s test → len s ≡ count_below n test
+counted n s test m = members_counted n s test (record { process = m.process; member = m.member })

@@ -1,0 +1,55 @@
+-- From one instant of a recorded run to the next, by the entry read there.
+use Rattle.std.proofs.Common.{ℕ, ◌≡◌, ◌+◌, ◌<◌, ◌≤◌, inl, inr, List, [], ◌∷◌, length, get_or, sym, ap, subst, ◌∙◌, arith}
+use Rattle.std.specs.Ordering.{nat_cmp}
+use Rattle.std.specs.FinSet.{FinSet, empty, len}
+use Rattle.std.proofs.lemmas.Bool.{cases_lt}
+use Rattle.std.proofs.lemmas.List.{length-reverse}
+use Rattle.causal_name.specs.declared.Det.{Det}
+use Rattle.causal_name.specs.Sets.{count_below}
+use Rattle.causal_trace.specs.declared.entry.Entry.{Entry}
+use Rattle.causal_trace.specs.Past.{instant, is_down, logs, is_stable}
+use Rattle.causal_trace.specs.Rows.{Recording, IsWellFormed}
+use Rattle.causal_trace.specs.State.{past_at, entries_of}
+use Rattle.causal_trace.proofs.Instants.{past_more}
+use Rattle.causal_audit.specs.Sights.{Shows}
+use Rattle.causal_audit.specs.Verdicts.{HasMembers}
+use Rattle.causal_holders.proofs.Counting.{count_below-none}
+use Rattle.causal_audit.proofs.Instants.{read_instant, accepted_then}
+use Rattle.causal_audit.proofs.Shown.{shows_none, down_members, counted}
+
+module _ (r : Recording) (es : List Entry) (read : es ≡ entries_of r) where
+  pub how_many : length es ≡ length r.past
+  how_many = ap length read ∙ length-reverse r.past
+
+  pub state_at : (t : ℕ) → t ≤ length r.past → past_at es t ≡ instant r.past t
+  state_at t within = ap (λ x. past_at x t) read ∙ read_instant r.past t within
+
+  -- one more entry
+  pub next_state : (t : ℕ) (e : Entry) → t < length r.past → e ≡ get_or es t e → instant r.past (t + 1) ≡ e ∷ instant r.past t
+  next_state t e inside is =
+      sym (state_at (t + 1) (omega (arith, inside))) ∙ past_more es t e (omega (arith, inside, how_many)) is ∙ ap (λ p. e ∷ p) (state_at t (omega (arith, inside)))
+
+pub no_entry : (past : List Entry) → instant past 0 ≡ []
+no_entry past = sym (read_instant past 0 (omega arith))
+
+pub nobody_down : (past : List Entry) → Shows empty (λ p. is_down (instant past 0) p)
+nobody_down past = shows_none (λ p. is_down (instant past 0) p) (λ p. ap (λ x. is_down x p) (no_entry past))
+
+pub nobody_holds : (past : List Entry) (d : Det) → Shows empty (λ p. logs (instant past 0) p d)
+nobody_holds past d = shows_none (λ p. logs (instant past 0) p d) (λ p. ap (λ x. logs x p d) (no_entry past))
+
+-- a set that shows who is down has as many members as are down
+pub down_count : (r : Recording) → IsWellFormed r → (t : ℕ) (s : FinSet nat_cmp) → Shows s (λ p. is_down (instant r.past t) p) → len s ≡ count_below r.processes (is_down (instant r.past t))
+down_count r formed t s shown = counted r.processes s (is_down (instant r.past t)) (down_members r.processes (instant r.past t) s (accepted_then r.processes r.past t formed.accepted) shown)
+
+pub few_at_first : (r : Recording) (f u : ℕ) → u ≤ 0 → count_below r.processes (is_down (instant r.past u)) ≤ f
+few_at_first r f u h =
+    let at : u ≡ 0 = omega (arith, h) in
+    omega (arith, count_below-none r.processes (is_down (instant r.past u)) (λ p low. ap (λ t. is_down (instant r.past t) p) at ∙ ap (λ x. is_down x p) (no_entry r.past)))
+
+pub up_to_next : (P : ℕ → Type 0) (t : ℕ) → ((u : ℕ) → u ≤ t → P u) → P (t + 1) → (u : ℕ) → u ≤ t + 1 → P u
+up_to_next P t before here u h =
+    elim (cases_lt u (t + 1)) [
+      | inl low ↦ before u (omega (arith, low))
+      | inr high ↦ let at : t + 1 ≡ u = omega (arith, h, high) in subst P at here
+    ]

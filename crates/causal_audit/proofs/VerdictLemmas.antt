@@ -1,0 +1,81 @@
+-- The verdict, from the first excess and the least breach.
+use Rattle.std.proofs.Common.{ℕ, ◌≡◌, ◌+◌, ◌<◌, ◌≤◌, inl, inr, true, length, Option, Some, None, refl, sym, subst, ◌∙◌, arith}
+use Rattle.std.proofs.lemmas.Bool.{false≢true, cases_lt}
+use Rattle.causal_name.specs.Sets.{count_below}
+use Rattle.causal_trace.specs.Past.{instant, is_down, deliveries_in}
+use Rattle.causal_trace.specs.Rows.{Recording, IsWellFormed}
+use Rattle.causal_trace.specs.Judgement.{HasOrphan, IsSafe}
+use Rattle.causal_audit.specs.declared.breach.Breach.{Breach}
+use Rattle.causal_audit.specs.declared.breach.Excess.{Excess}
+use Rattle.causal_audit.specs.declared.verdict.Verdict.TheVariants.{Accept, Exceeded, Orphan}
+use Rattle.causal_audit.specs.Numbers.{IsNumbered}
+use Rattle.causal_audit.specs.Verdicts.{IsVerdict}
+use Rattle.causal_audit.specs.Breaches.{LeastBreach, IsLeastBreach, FirstExcess, IsFirstExcess}
+use Rattle.causal_audit.proofs.Numbered.{has_number, numbered_later, numbered_below}
+
+module _ (r : Recording) (f : ℕ) where
+  -- no delivery has an orphan before the instant t
+  abbrev pub NoOrphanBefore : ℕ → Type 0
+  NoOrphanBefore t = (u : ℕ) → u < t → u ≤ length r.past → (k : ℕ) → HasOrphan r.processes f (instant r.past u) k → ⊥
+
+  -- at most f are down before the instant t
+  abbrev pub FewBefore : ℕ → Type 0
+  FewBefore t = (u : ℕ) → u < t → u ≤ length r.past → count_below r.processes (is_down (instant r.past u)) ≤ f
+
+  number_of : (t k : ℕ) → t ≤ length r.past → HasOrphan r.processes f (instant r.past t) k → (i : ℕ) × (i < deliveries_in r.past) × IsNumbered r.past i k
+  number_of t k within has =
+      let then : (i : ℕ) × (i < deliveries_in (instant r.past t)) × IsNumbered (instant r.past t) i k = has_number (instant r.past t) k has.is_orphan.det has.is_orphan.delivered in
+      let now : IsNumbered r.past then.0 k = numbered_later r.past t then.0 k within then.2 in
+      (then.0, numbered_below r.past then.0 k now, now)
+
+  pub no_orphan_ever : LeastBreach r f 0 (deliveries_in r.past) None → (t : ℕ) → NoOrphanBefore t
+  no_orphan_ever none t u early within k has =
+      let n = number_of u k within has in
+      none n.0 k u (omega arith) n.1 n.2 within has
+
+  pub no_orphan_before : (b : Breach) → IsLeastBreach r f 0 (deliveries_in r.past) b → (t : ℕ) → t ≤ b.instant → NoOrphanBefore t
+  no_orphan_before b least t low u early within k has =
+      let n = number_of u k within has in
+      let later = least.least n.0 k u (omega arith) n.1 n.2 within has in
+      omega (arith, later.0, early, low)
+
+  pub few_ever : FirstExcess r f None → (t : ℕ) → FewBefore t
+  few_ever none t u early within = none u within
+
+  pub few_before : (x : Excess) → IsFirstExcess r f x → (t : ℕ) → t ≤ x.instant → FewBefore t
+  few_before x first t low u early within = first.before u (omega (arith, early, low))
+
+  safe_before : (t u : ℕ) → NoOrphanBefore t → FewBefore t → u < t → u ≤ length r.past → IsSafe r.processes f (instant r.past u)
+  safe_before t u orphans few early within = record { few_down = few u early within; no_orphan = orphans u early within }
+
+  pub accepted : LeastBreach r f 0 (deliveries_in r.past) None → FirstExcess r f None → IsVerdict r f Accept
+  accepted none few = λ t within. safe_before (t + 1) t (no_orphan_ever none (t + 1)) (few_ever few (t + 1)) (omega arith) within
+
+  pub exceeded : (x : Excess) → IsFirstExcess r f x → NoOrphanBefore x.instant → IsVerdict r f (Exceeded x.instant x.down)
+  exceeded x first orphans = (
+    record {
+      within = first.within;
+      unsafe = λ safe. omega (arith, safe.few_down, first.excess.many);
+      before = λ u early. safe_before x.instant u orphans (few_before x first x.instant (omega arith)) early (omega (arith, early, first.within));
+    },
+    first.excess,
+  )
+
+  pub orphaned : (b : Breach) → IsLeastBreach r f 0 (deliveries_in r.past) b → FewBefore (b.instant + 1) → IsVerdict r f (Orphan b.instant b.delivery b.crash b.orphan)
+  orphaned b least few =
+      let here = least.first.least in
+      let within = least.first.within in (
+        record {
+          within = within;
+          unsafe = λ safe. safe.no_orphan b.delivery (record { crash = _; orphan = b.orphan; may_crash = here.may_crash; is_orphan = here.is_orphan });
+          before = λ u early. safe_before b.instant u (no_orphan_before b least b.instant (omega arith)) (λ v low inside. few v (omega (arith, low)) inside) early (omega (arith, early, within));
+        },
+        record {
+          few_down = few b.instant (omega arith) within;
+          first = λ j low has.
+              let n = number_of b.instant j within has in
+              let later = least.least n.0 j b.instant (omega arith) n.1 n.2 within has in
+              omega (arith, later.1 refl, low);
+          least = here;
+        },
+      )

@@ -1,0 +1,184 @@
+//! What is known of one delivery at an instant, and what one more entry makes of it. Where the delivery has an orphan is
+//! told by counting: no crash set is tried.
+ghost use Rattle.std.specs.Prelude.{◌≡◌, ◌∷◌, [], ℕ, List, MatchOption, Some};
+ghost use Rattle.std.specs.FinSet as set;
+ghost use Rattle.causal_name.specs.declared.Det.{Det};
+ghost use Rattle.causal_trace.specs.declared.entry.Entry.{Entry};
+ghost use Rattle.causal_trace.specs.Past.{det_at, has, is_down, is_stable, logs};
+ghost use Rattle.causal_trace.specs.Rows.{AreAccepted};
+ghost use Rattle.causal_trace.specs.Judgement.{HasOrphan};
+ghost use Rattle.causal_audit.specs.Sights.{AreDependents, IsSight, Shows, TellsReach};
+ghost use Rattle.causal_audit.specs.Verdicts.{IsLeastOrphan};
+
+use causal_holders::Holders;
+use causal_name::Det;
+use causal_trace::entry::{Dets, Entry};
+
+/// What is known of one delivery at an instant: who is down, who holds its determinant, whether that is stable, and who
+/// depends on the delivery.
+#[derive(Clone, Copy, Debug)]
+pub struct Sight {
+    pub down: Holders,
+    pub holders: Holders,
+    pub stable: bool,
+    pub dependents: Holders,
+}
+
+/// A crash set, and an orphan under it.
+#[derive(Clone, Copy, Debug)]
+pub struct Exposed {
+    pub crash: Holders,
+    pub orphan: u8,
+}
+
+fn with(mut members: Holders, p: u8) -> Holders
+    ensures { result ≡ set.insert members p }
+{
+    members.insert(p);
+    members
+}
+
+fn without(mut members: Holders, p: u8) -> Holders
+    ensures { result ≡ set.remove members p }
+{
+    members.remove(p);
+    members
+}
+
+/// Whether the list has the determinant.
+fn has_det(listed: &Dets, det: Det) -> bool
+    ensures { result ≡ has listed.now det }
+{
+    listed.as_slice().iter().any(|d| det == *d)
+}
+
+/// Who is down after one more entry.
+pub fn down_after(down: Holders, entry: &Entry) -> Holders
+    ensures { (past : List Entry) → Shows down (λ p. is_down past p) → Shows result (λ p. is_down (entry.now ∷ past) p) }
+{
+    match entry {
+        Entry::Crash { who } => with(down, who.0),
+        Entry::Restart { who, .. } => without(down, who.0),
+        Entry::Send { .. } => down,
+        Entry::Deliver { .. } => down,
+        Entry::Stable { .. } => down,
+        Entry::Forget { .. } => down,
+    }
+}
+
+/// Who holds the determinant after one more entry.
+fn holders_after(holders: Holders, entry: &Entry, det: Det) -> Holders
+    ensures { (past : List Entry) → Shows holders (λ p. logs past p det) → Shows result (λ p. logs (entry.now ∷ past) p det) }
+{
+    match entry {
+        Entry::Deliver { to, listed, .. } => {
+            if has_det(listed, det) {
+                with(holders, to.0)
+            } else {
+                holders
+            }
+        }
+        Entry::Restart { who, listed } => {
+            if has_det(listed, det) {
+                with(holders, who.0)
+            } else {
+                holders
+            }
+        }
+        Entry::Forget { who, listed } => {
+            if has_det(listed, det) {
+                without(holders, who.0)
+            } else {
+                holders
+            }
+        }
+        Entry::Crash { who } => without(holders, who.0),
+        Entry::Send { .. } => holders,
+        Entry::Stable { .. } => holders,
+    }
+}
+
+/// Whether the determinant is stable after one more entry.
+fn stable_after(stable: bool, entry: &Entry, det: Det) -> bool
+    ensures { (past : List Entry) → stable ≡ is_stable past det → result ≡ is_stable (entry.now ∷ past) det }
+{
+    match entry {
+        Entry::Stable { det: written } => det == *written || stable,
+        _ => stable,
+    }
+}
+
+/// Who depends on the delivery after one more entry, which it reaches or not. An event brings its process in where it is
+/// reached; a crash and a restart take theirs out.
+fn dependents_after(dependents: Holders, entry: &Entry, reached: bool) -> Holders
+    ensures { (n : ℕ) (past : List Entry) (k : ℕ) → AreAccepted n (entry.now ∷ past) → TellsReach past entry.now k reached →
+        AreDependents past k dependents → AreDependents (entry.now ∷ past) k result }
+{
+    match entry {
+        Entry::Send { from, .. } => {
+            if reached {
+                with(dependents, from.0)
+            } else {
+                dependents
+            }
+        }
+        Entry::Deliver { to, .. } => {
+            if reached {
+                with(dependents, to.0)
+            } else {
+                dependents
+            }
+        }
+        Entry::Crash { who } => without(dependents, who.0),
+        Entry::Restart { who, .. } => without(dependents, who.0),
+        Entry::Stable { .. } => dependents,
+        Entry::Forget { .. } => dependents,
+    }
+}
+
+impl Sight {
+    /// Before the first entry.
+    pub fn new() -> Sight
+        ensures { (k : ℕ) (d : Det) → IsSight [] k d result }
+    {
+        Sight {
+            down: Holders::none(),
+            holders: Holders::none(),
+            stable: false,
+            dependents: Holders::none(),
+        }
+    }
+
+    /// Takes in one more entry, which the delivery of this determinant reaches or not.
+    pub fn see(&mut self, entry: &Entry, det: Det, reached: bool)
+        ensures { (n : ℕ) (past : List Entry) (k : ℕ) → AreAccepted n (entry.now ∷ past) → TellsReach past entry.now k reached →
+            IsSight past k det self.old → IsSight (entry.now ∷ past) k det self.new }
+    {
+        *self = Sight {
+            down: down_after(self.down, entry),
+            holders: holders_after(self.holders, entry, det),
+            stable: stable_after(self.stable, entry, det),
+            dependents: dependents_after(self.dependents, entry, reached),
+        };
+    }
+
+    /// The crash set that is contained in each that gives the delivery an orphan, and the least orphan under it. There is
+    /// an orphan where the determinant is not stable, the down processes and the holders together are at most f, and some
+    /// dependent is no holder; no crash set is tried.
+    pub fn exposed(self, f: u16) -> Option<Exposed>
+        ensures { (n : ℕ) (past : List Entry) (k : ℕ) (d : Det) → AreAccepted n past → det_at past k ≡ Some d → IsSight past k d self →
+            MatchOption result (HasOrphan n f past k → ⊥) (λ x. IsLeastOrphan n f past k x.crash x.orphan) }
+    {
+        if self.stable {
+            return None;
+        }
+        let crash = self.down.union(self.holders);
+        if crash.len() > u32::from(f) {
+            return None;
+        }
+        match self.dependents.minus(self.holders).least() {
+            None => None,
+            Some(orphan) => Some(Exposed { crash, orphan }),
+        }
+    }
+}

@@ -1,0 +1,132 @@
+//! What is kept of a recorded run to judge it.
+ghost use Rattle.std.specs.Prelude.{◌≡◌, ◌≤◌, ◌<◌, ◌∷◌, IfOk, List, length, Some};
+ghost use Rattle.causal_trace.specs.declared.entry.Entry.{Entry};
+ghost use Rattle.causal_trace.specs.Limits.{max_entries};
+ghost use Rattle.causal_trace.specs.Past.{deliveries_in, det_at};
+ghost use Rattle.causal_trace.specs.Rows.{IsWellFormed};
+ghost use Rattle.causal_trace.specs.State.{entries_of, past_at};
+ghost use Rattle.causal_audit.specs.Breaches.{FirstBreach};
+ghost use Rattle.causal_audit.specs.Numbers.{IsNumbered, ArePositions};
+
+use crate::breach::Breach;
+use crate::events::clocks_of;
+use crate::orphans;
+use causal_clock::Clocks;
+use causal_name::{Det, NoMemory};
+use causal_trace::entry::Entry;
+use causal_trace::trace::Trace;
+use std::alloc::Global;
+use std::marker::Model;
+
+/// What is kept of a recorded run to judge it: a copy of its trace, the positions of its deliveries, and a clock of its
+/// entries. It is seen as the recording.
+#[derive(Drop)]
+pub struct Tables {
+    trace: Trace,
+    positions: Vec<u32>,
+    clocks: Clocks,
+}
+
+impl Model for Tables {
+    ghost use Rattle.causal_trace.specs.Rows.{Recording};
+    ghost use Rattle.causal_audit.specs.Stored.{AreTables};
+
+    ghost Value = { Recording };
+
+    ghost view = { λ a. a.trace.recording };
+
+    ghost invariant = { λ a. AreTables a.trace.recording a.positions.items a.clocks.events };
+}
+
+impl Tables {
+    /// The tables of a trace.
+    ///
+    /// # Errors
+    /// `NoMemory` where memory was refused.
+    pub fn of(alloc: Global, trace: &Trace) -> Result<Tables, NoMemory>
+        ensures { IfOk result (λ tables. tables ≡ trace.now.recording) }
+    {
+        let _len = trace.len();
+        let positions = positions_of(alloc, trace.entries())?;
+        let clocks = clocks_of(alloc, trace)?;
+        let trace = trace.try_clone()?;
+        Ok(Tables {
+            trace,
+            positions,
+            clocks,
+        })
+    }
+
+    /// How many entries the run has, up to 65,536. A recorded run is well formed.
+    pub fn entries(&self) -> u32
+        ensures length { result ≡ length self.now.past }
+        ensures formed { IsWellFormed self.now }
+        ensures few { result ≤ max_entries }
+    {
+        self.trace.len()
+    }
+
+    /// How many deliveries the run has; they are numbered from 0 in their order.
+    pub fn deliveries(&self) -> u32
+        ensures value { result ≡ deliveries_in self.now.past }
+        ensures formed { IsWellFormed self.now }
+    {
+        self.positions.len() as u32
+    }
+
+    /// The position of the delivery of number i, which is below the number of deliveries.
+    pub fn position(&self, i: u32) -> u32
+        requires { i < deliveries_in self.now.past }
+        ensures { IsNumbered self.now.past i result }
+    {
+        self.positions[i as usize]
+    }
+
+    /// The entries in the order in which they came.
+    pub(crate) fn recorded(&self) -> &[Entry]
+        ensures { result.now ≡ entries_of self.now }
+    {
+        self.trace.entries()
+    }
+
+    /// The determinant of the delivery at a position; None where there is no delivery.
+    pub(crate) fn det_at(&self, k: u32) -> Option<Det>
+        ensures value { result ≡ det_at self.now.past k }
+        ensures formed { IsWellFormed self.now }
+    {
+        self.trace.det_at(k)
+    }
+
+    /// How the delivery at position k, whose determinant this is, first has an orphan; None where it never has one.
+    pub(crate) fn first_orphan(&self, f: u16, k: u32, det: Det) -> Option<Breach>
+        requires { det_at self.now.past k ≡ Some det }
+        ensures { FirstBreach self.now f k result }
+    {
+        orphans::first_orphan(&self.trace, &self.clocks, f, k, det)
+    }
+}
+
+/// Notes the position of an entry, if it is a delivery.
+fn note(positions: &mut Vec<u32>, entry: &Entry, i: u32) -> Result<(), NoMemory>
+    ensures { IfOk result (λ _. (past : List Entry) → length past ≡ i → ArePositions past positions.old.items → ArePositions (entry.now ∷ past) positions.new.items) }
+{
+    match entry {
+        Entry::Deliver { .. } => match positions.push(i) {
+            Ok(()) => Ok(()),
+            Err(_) => Err(NoMemory),
+        },
+        _ => Ok(()),
+    }
+}
+
+/// The positions of the deliveries, in order.
+fn positions_of(alloc: Global, entries: &[Entry]) -> Result<Vec<u32>, NoMemory>
+    requires { length entries.now ≤ max_entries }
+    ensures { IfOk result (λ positions. ArePositions (past_at entries.now (length entries.now)) positions.items) }
+{
+    let mut positions = Vec::new(alloc);
+    for (i, entry) in entries.iter().enumerate() {
+        note(&mut positions, entry, i as u32)?;
+    }
+    Ok(positions)
+}

@@ -1,0 +1,5 @@
+use Rattle.causal_clock.proofs.Growth.{older, newest}
+use Rattle.causal_clock.proofs.laws.growth_law.Goals as goal
+
+pub returns : goal.returns
+returns c = record { older = older; newest = newest }

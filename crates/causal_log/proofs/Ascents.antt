@@ -1,0 +1,85 @@
+-- Entries in the order of a map, and what a filter leaves of them, ascend.
+use Rattle.std.proofs.Common.{zero, suc, ◌≡◌, ◌∙◌, Bool, true, false, cond, ◌&&◌, ◌||◌, List, [], ◌∷◌, filter, refl, sym, ap, arith, add-one, true≢false}
+use Rattle.std.specs.List.{list_any}
+use Rattle.std.specs.FinMap as fin
+use Rattle.std.specs.FinMap.Entries.{is_sorted, below_all}
+use Rattle.std.specs.Map.{keys_of}
+use Rattle.std.specs.List.Sorted.{IsSorted}
+use Rattle.std.specs.Ordering.{is_lt, ordering_reverse}
+use Rattle.std.specs.declared.cmp.Ordering.{Ordering}
+use Rattle.std.specs.declared.cmp.Ordering.TheVariants.{Less, Equal, Greater}
+use Rattle.causal_name.specs.declared.Det.{Det}
+use Rattle.causal_name.specs.Names.{det_cmp, same_det, is_before}
+use Rattle.causal_log.specs.Ascending.{is_ascending}
+use Rattle.causal_log.proofs.DetOrder.{dets_total, same_is}
+use Rattle.causal_log.proofs.Searches.{both, shown}
+
+-- what comes before another does not come after it
+not_after : (r : Ordering) → is_lt r ≡ true → is_lt (ordering_reverse r) ≡ false
+not_after Less h = refl
+not_after Equal h = refl
+not_after Greater h = absurd (true≢false (sym h))
+
+pub ascending_sorted : (ds : List Det) → is_ascending ds ≡ true → IsSorted det_cmp ds
+ascending_sorted [] h k x low high = absurd (omega (arith, high))
+ascending_sorted (d ∷ []) h k x low high = absurd (omega (arith, high))
+ascending_sorted (d ∷ e ∷ ds) h zero x low high =
+    ap is_lt (dets_total.antisymm e d) ∙ not_after (det_cmp d e) (both (is_before d e) (is_ascending (e ∷ ds)) h).0
+ascending_sorted (d ∷ e ∷ ds) h (suc k) x low high =
+    rw add-one (rw add-one at (ascending_sorted (e ∷ ds) (both (is_before d e) (is_ascending (e ∷ ds)) h).1 k x (omega arith) (omega arith)))
+
+pub ascending_tail : (d : Det) (ds : List Det) → is_ascending (d ∷ ds) ≡ true → is_ascending ds ≡ true
+ascending_tail d [] h = refl
+ascending_tail d (e ∷ ds) h = (both (is_before d e) (is_ascending (e ∷ ds)) h).1
+
+before_trans : (x y z : Det) → is_before x y ≡ true → is_before y z ≡ true → is_before x z ≡ true
+before_trans x y z h k = ap is_lt (dets_total.trans x y z (is_less (det_cmp x y) h) (is_less (det_cmp y z) k))
+  where
+    is_less : (r : Ordering) → is_lt r ≡ true → r ≡ Less
+    is_less Less e = refl
+    is_less Equal e = absurd (true≢false (sym e))
+    is_less Greater e = absurd (true≢false (sym e))
+
+-- the first of an ascending list is before the others
+pub first_before : (d : Det) (ds : List Det) (det : Det) → is_ascending (d ∷ ds) ≡ true → list_any (same_det det) ds ≡ true → is_before d det ≡ true
+first_before d [] det h there = absurd (true≢false (sym there))
+first_before d (e ∷ ds) det h there =
+    let two = both (is_before d e) (is_ascending (e ∷ ds)) h in by (same_det det e) refl two.0 there (λ at. first_before e ds det two.1 at)
+  where
+    by : (b : Bool) → same_det det e ≡ b → is_before d e ≡ true → (b || list_any (same_det det) ds) ≡ true → (list_any (same_det det) ds ≡ true → is_before e det ≡ true) → is_before d det ≡ true
+    by true is before at later = ap (is_before d) (same_is det e is) ∙ before
+    by false is before at later = before_trans d e det before (later at)
+
+module _ {X : Type 0} where
+  below_filter : (p : Det × X → Bool) (d : Det) (es : List (Det × X)) → below_all det_cmp d es ≡ true → below_all det_cmp d (filter p es) ≡ true
+  below_filter p d [] h = refl
+  below_filter p d (e ∷ es) h =
+      let two = both (is_before d e.0) (below_all det_cmp d es) h in
+      elim (p e) as (λ b. below_all det_cmp d (cond b (e ∷ filter p es) (filter p es)) ≡ true) [
+        | true ↦ ap (λ b. b && below_all det_cmp d (filter p es)) two.0 ∙ below_filter p d es two.1
+        | false ↦ below_filter p d es two.1
+      ]
+
+  sorted_filter : (p : Det × X → Bool) (es : List (Det × X)) → is_sorted det_cmp es ≡ true → is_sorted det_cmp (filter p es) ≡ true
+  sorted_filter p [] h = refl
+  sorted_filter p (e ∷ es) h =
+      let two = both (below_all det_cmp e.0 es) (is_sorted det_cmp es) h in
+      elim (p e) as (λ b. is_sorted det_cmp (cond b (e ∷ filter p es) (filter p es)) ≡ true) [
+        | true ↦ ap (λ b. b && is_sorted det_cmp (filter p es)) (below_filter p e.0 es two.0) ∙ sorted_filter p es two.1
+        | false ↦ sorted_filter p es two.1
+      ]
+
+  keys_ascend : (es : List (Det × X)) → is_sorted det_cmp es ≡ true → is_ascending (keys_of es) ≡ true
+  keys_ascend [] h = refl
+  keys_ascend (e ∷ []) h = refl
+  keys_ascend (e ∷ f ∷ es) h =
+      let two = both (below_all det_cmp e.0 (f ∷ es)) (is_sorted det_cmp (f ∷ es)) h in
+      ap (λ b. b && is_ascending (keys_of (f ∷ es))) (both (is_before e.0 f.0) (below_all det_cmp e.0 es) two.0).0 ∙ keys_ascend (f ∷ es) two.1
+
+  -- the keys of a map ascend
+  pub map_ascends : (m : fin.FinMap det_cmp X) → is_ascending (fin.keys m) ≡ true
+  map_ascends m = keys_ascend (fin.entries m) (shown _ (fin.entries_sorted m))
+
+  -- and so do those that a filter leaves
+  pub filter_ascends : (p : Det × X → Bool) (m : fin.FinMap det_cmp X) → is_ascending (keys_of (filter p (fin.entries m))) ≡ true
+  filter_ascends p m = keys_ascend (filter p (fin.entries m)) (sorted_filter p (fin.entries m) (shown _ (fin.entries_sorted m)))

@@ -1,0 +1,79 @@
+-- What a log's entries say of the map that they make.
+use Rattle.std.proofs.Common.{◌≡◌, ◌∙◌, false, cond, List, [], ◌∷◌, Some, slice_index_or, true≢false, add-one, suc, refl, sym, ap, arith}
+use Rattle.std.specs.declared.cmp.Ordering.{Ordering}
+use Rattle.std.specs.declared.cmp.Ordering.TheVariants.{Less, Equal, Greater}
+use Rattle.std.specs.Ordering.{ordering_reverse, is_eq, is_lt, eq_by_cmp}
+use Rattle.std.specs.Cmp.{eq_by_cmp_equiv}
+use Rattle.std.proofs.lemmas.List.{nil_from_length}
+use Rattle.std.specs.Map.{lookup}
+use Rattle.std.specs.FinMap.{from_entries, insert, get, get-from_entries, get-insert, same_map, find, entries, empty, entries-insert, len-entries, len-empty}
+use Rattle.std.specs.FinMap.Entries.{put, by_order}
+use Rattle.std.specs.List.{AllByRecursion, IsDistinct}
+use Rattle.std.specs.List.Sorted.{IsSorted, IsStrictlySortedBy}
+use Rattle.std.proofs.lemmas.List.Elements.{recursion_from_All, All-from_recursion}
+use Rattle.std.proofs.lemmas.List.Sorted.{sorted_far, ranks_by}
+use Rattle.std.specs.Map.{keys_of}
+use Rattle.causal_name.specs.declared.Det.{Det}
+use Rattle.causal_name.specs.Names.{det_cmp, same_det}
+use Rattle.causal_log.proofs.DetOrder.{dets_total, exact_dets, det_ties}
+
+module _ {X : Type 0} where
+  find_lookup : (es : List (Det × X)) (q : Det) → find det_cmp q es ≡ lookup (same_det q) es
+  find_lookup [] q = refl
+  find_lookup (e ∷ es) q = ap (λ b. cond b (Some e.1) (find det_cmp q es)) (sym (det_ties q e.0)) ∙ ap (cond (same_det q e.0) (Some e.1)) (find_lookup es q)
+
+  -- what the map that the entries make has at a determinant
+  pub get_log : (es : List (Det × X)) (q : Det) → get (from_entries {R = det_cmp} es) q ≡ lookup (same_det q) es
+  get_log es q = get-from_entries dets_total es q ∙ find_lookup es q
+
+  -- entries that differ at one determinant make maps that differ there
+  pub inserted : (es fs : List (Det × X)) (d : Det) (x : X) → ((q : Det) → lookup (same_det q) fs ≡ cond (same_det d q) (Some x) (lookup (same_det q) es)) → from_entries {R = det_cmp} fs ≡ insert (from_entries es) d x
+  inserted es fs d x h = same_map dets_total exact_dets _ _ (λ q.
+      get_log fs q ∙ h q
+      ∙ ap (λ b. cond b (Some x) (lookup (same_det q) es)) (det_ties d q ∙ (eq_by_cmp_equiv dets_total).symm d q)
+      ∙ sym (get-insert dets_total (from_entries es) d x q ∙ ap (cond (eq_by_cmp det_cmp q d) (Some x)) (get_log es q)))
+
+-- two determinants, of which the second isn't below the first and isn't equal to it
+below : (x y : Det) → is_lt (det_cmp y x) ≡ false → same_det x y ≡ false → det_cmp x y ≡ Less
+below x y low apart = by (det_cmp x y) refl where
+  by : (r : Ordering) → det_cmp x y ≡ r → r ≡ Less
+  by Less e = refl
+  by Equal e = absurd (true≢false (sym (ap is_eq e) ∙ (sym (det_ties x y) ∙ apart)))
+  by Greater e = absurd (true≢false (sym (ap is_lt (dets_total.antisymm y x ∙ ap ordering_reverse e)) ∙ low))
+
+-- the first of some determinants in order is below the others
+head_below : (x : Det) (xs : List Det) → IsSorted det_cmp (x ∷ xs) → AllByRecursion (λ y. same_det x y ≡ false) xs → AllByRecursion (λ y. det_cmp x y ≡ Less) xs
+head_below x xs sorted apart = recursion_from_All _ xs (λ k d h.
+    below x (slice_index_or xs k d)
+    (sorted_far (λ a b. is_lt (det_cmp a b)) (ranks_by dets_total (λ y. y)) (x ∷ xs) sorted 0 (suc k) d (omega arith) (omega arith))
+    (All-from_recursion _ xs apart k d h))
+
+tail_sorted : (x : Det) (xs : List Det) → IsSorted det_cmp (x ∷ xs) → IsSorted det_cmp xs
+tail_sorted x xs sorted k d low high = rw add-one (rw add-one at (sorted (suc k) d (omega arith) (omega arith)))
+
+-- sorted determinants, each there once, strictly ascend
+strictly : (ds : List Det) → IsSorted det_cmp ds → IsDistinct same_det ds → IsStrictlySortedBy det_cmp ds
+unfolding IsDistinct IsStrictlySortedBy
+strictly [] sorted distinct = tt
+strictly (d ∷ ds) sorted distinct = (head_below d ds sorted distinct.0, strictly ds (tail_sorted d ds sorted) distinct.1)
+
+module _ {X : Type 0} where
+  put_first : (e : Det × X) (es : List (Det × X)) → AllByRecursion (λ y. det_cmp e.0 y ≡ Less) (keys_of es) → put det_cmp e.0 e.1 es ≡ e ∷ es
+  put_first e [] h = refl
+  put_first e (f ∷ es) h = ap (λ r. by_order r (e ∷ f ∷ es) ((f.0, e.1) ∷ es) (f ∷ put det_cmp e.0 e.1 es)) h.0
+
+  nothing : entries (empty {X = X} {R = det_cmp}) ≡ []
+  nothing = nil_from_length (entries (empty {X = X} {R = det_cmp})) (sym (len-entries (empty {X = X} {R = det_cmp})) ∙ len-empty det_cmp X)
+
+  -- entries whose determinants strictly ascend are those of the map that they make
+  pub entries_strict : (es : List (Det × X)) → IsStrictlySortedBy det_cmp (keys_of es) → entries (from_entries {R = det_cmp} es) ≡ es
+  unfolding IsStrictlySortedBy
+  entries_strict [] ascend = nothing
+  entries_strict (e ∷ es) ascend =
+      entries-insert dets_total (from_entries es) e.0 e.1
+      ∙ ap (put det_cmp e.0 e.1) (entries_strict es ascend.1)
+      ∙ put_first e es ascend.0
+
+  -- and so are entries in order, each determinant once
+  pub entries_log : (es : List (Det × X)) → IsSorted det_cmp (keys_of es) → IsDistinct same_det (keys_of es) → entries (from_entries {R = det_cmp} es) ≡ es
+  entries_log es sorted distinct = entries_strict es (strictly (keys_of es) sorted distinct)

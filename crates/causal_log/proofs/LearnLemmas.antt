@@ -1,0 +1,94 @@
+-- What a log that has learned something knows of each determinant.
+use Rattle.std.proofs.Common.{ℕ, ◌≡◌, ◌∙◌, ◌==◌, Bool, true, false, cond, ◌&&◌, ◌||◌, List, [], ◌∷◌, map, Some, is_some, unwrap_or, refl, sym, ap}
+use Rattle.std.proofs.Math.Bool.{or_assoc}
+use Rattle.std.specs.List.{list_any}
+use Rattle.std.specs.Cmp.{nat_cmp_total}
+use Rattle.std.specs.FinMap as fin
+use Rattle.std.specs.FinSet as set
+use Rattle.causal_name.specs.declared.Det.{Det}
+use Rattle.causal_name.specs.declared.Pid.{Pid}
+use Rattle.causal_name.specs.Names.{same_det}
+use Rattle.causal_log.specs.declared.known.Known.{Known}
+use Rattle.causal_log.specs.declared.batch.Item.{Item}
+use Rattle.causal_log.specs.Knowledge.{nothing_known, joined, told}
+use Rattle.causal_log.specs.Logs.{LogMap, known_of, learned, learned_all}
+use Rattle.causal_log.proofs.Searches.{or_right, or_nothing, any_map}
+use Rattle.causal_log.proofs.DetOrder.{dets_total, det_ties, same_is, nat_ties}
+
+-- what is learned of one determinant changes its entry alone
+pub get_learned : (log : LogMap) (det : Det) (known : Known) (q : Det) → fin.get (learned log det known) q ≡ cond (same_det q det) (Some (joined (known_of log det) known)) (fin.get log q)
+get_learned log det known q =
+    fin.get-insert dets_total log det _ q ∙ ap (λ b. cond b (Some (joined (known_of log det) known)) (fin.get log q)) (sym (det_ties q det))
+
+logged_one : (log : LogMap) (det : Det) (known : Known) (q : Det) → is_some (fin.get (learned log det known) q) ≡ (is_some (fin.get log q) || same_det q det)
+logged_one log det known q =
+    ap is_some (get_learned log det known q)
+    ∙ elim (same_det q det) as (λ b. is_some (cond b (Some (joined (known_of log det) known)) (fin.get log q)) ≡ (is_some (fin.get log q) || b)) [
+      | true ↦ or_right (is_some (fin.get log q))
+      | false ↦ or_nothing (is_some (fin.get log q))
+    ]
+
+-- by a property of knowledge that two pieces have together where either has it
+module _ (has : Known → Bool) (either : (one other : Known) → has (joined one other) ≡ (has one || has other)) where
+  known_one : (log : LogMap) (det : Det) (known : Known) (q : Det) → has (known_of (learned log det known) q) ≡ (has (known_of log q) || (same_det q det && has known))
+  known_one log det known q = ap (λ o. has (unwrap_or o nothing_known)) (get_learned log det known q) ∙ by (same_det q det) refl
+    where
+      by : (b : Bool) → same_det q det ≡ b → has (unwrap_or (cond b (Some (joined (known_of log det) known)) (fin.get log q)) nothing_known) ≡ (has (known_of log q) || (b && has known))
+      by true e = either (known_of log det) known ∙ ap (λ d. has (known_of log d) || has known) (sym (same_is q det e))
+      by false e = or_nothing (has (known_of log q))
+
+  pub known_all : (es : List (Det × Known)) (log : LogMap) (q : Det) → has (known_of (learned_all es log) q) ≡ (has (known_of log q) || list_any (λ e. same_det q e.0 && has e.1) es)
+  known_all [] log q = or_nothing (has (known_of log q))
+  known_all (e ∷ es) log q =
+      known_all es (learned log e.0 e.1) q
+      ∙ ap (λ b. b || list_any (λ e. same_det q e.0 && has e.1) es) (known_one log e.0 e.1 q)
+      ∙ or_assoc (has (known_of log q)) (same_det q e.0 && has e.1) (list_any (λ e. same_det q e.0 && has e.1) es)
+
+pub logged_all : (es : List (Det × Known)) (log : LogMap) (q : Det) → is_some (fin.get (learned_all es log) q) ≡ (is_some (fin.get log q) || list_any (λ e. same_det q e.0) es)
+logged_all [] log q = or_nothing (is_some (fin.get log q))
+logged_all (e ∷ es) log q =
+    logged_all es (learned log e.0 e.1) q
+    ∙ ap (λ b. b || list_any (λ e. same_det q e.0) es) (logged_one log e.0 e.1 q)
+    ∙ or_assoc (is_some (fin.get log q)) (same_det q e.0) (list_any (λ e. same_det q e.0) es)
+
+-- the two properties
+pub holds_either : (p : ℕ) (one other : Known) → set.contains (joined one other).holders p ≡ (set.contains one.holders p || set.contains other.holders p)
+holds_either p one other = set.contains-union nat_cmp_total one.holders other.holders p
+
+pub stable_either : (one other : Known) → (joined one other).stable ≡ (one.stable || other.stable)
+stable_either one other = refl
+
+module _ (from me : Pid) (q : Det) where
+  pub told_dets : (items : List Item) → list_any (λ e. same_det q e.0) (map (told from me) items) ≡ list_any (λ item. same_det q item.det) items
+  told_dets items = any_map (told from me) (λ e. same_det q e.0) (λ item. same_det q item.det) (λ x. refl) items
+
+  pub told_stable : (items : List Item) → list_any (λ e. same_det q e.0 && e.1.stable) (map (told from me) items) ≡ false
+  told_stable [] = refl
+  told_stable (item ∷ items) = ap (λ b. b || list_any (λ e. same_det q e.0 && e.1.stable) (map (told from me) items)) (never (same_det q item.det)) ∙ told_stable items
+    where
+      never : (b : Bool) → (b && false) ≡ false
+      never true = refl
+      never false = refl
+
+  turned : (a b h : Bool) → (b || (a || h)) ≡ (h || (a || b))
+  turned true true true = refl
+  turned true true false = refl
+  turned true false true = refl
+  turned true false false = refl
+  turned false true true = refl
+  turned false true false = refl
+  turned false false true = refl
+  turned false false false = refl
+
+  told_one : (p : ℕ) (item : Item) → set.contains (told from me item).1.holders p ≡ (set.contains item.holders p || (p == from.0 || p == me.0))
+  told_one p item =
+      set.contains-insert nat_cmp_total (set.insert item.holders from.0) me.0 p
+      ∙ (λ i. sym (nat_ties p me.0) i || (set.contains-insert nat_cmp_total item.holders from.0 p ∙ ap (λ b. b || set.contains item.holders p) (sym (nat_ties p from.0))) i)
+      ∙ turned (p == from.0) (p == me.0) (set.contains item.holders p)
+
+  pub told_holders : (p : ℕ) (items : List Item) →
+      list_any (λ e. same_det q e.0 && set.contains e.1.holders p) (map (told from me) items)
+      ≡ list_any (λ item. same_det q item.det && (set.contains item.holders p || (p == from.0 || p == me.0))) items
+  told_holders p items =
+      any_map (told from me) (λ e. same_det q e.0 && set.contains e.1.holders p)
+      (λ item. same_det q item.det && (set.contains item.holders p || (p == from.0 || p == me.0))) (λ item. ap (λ b. same_det q item.det && b) (told_one p item)) items

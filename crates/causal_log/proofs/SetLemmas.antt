@@ -1,0 +1,71 @@
+-- What a list of ascending determinants says of the set that it makes.
+use Rattle.std.proofs.Common.{◌≡◌, ◌∙◌, Bool, true, false, cond, ◌||◌, List, [], ◌∷◌, map, length, Option, Some, None, is_some, refl, sym, ap, subst}
+use Rattle.std.specs.List.{list_any}
+use Rattle.std.specs.List.Sorted.{IsStrictlySortedBy}
+use Rattle.std.specs.Ordering.{eq_by_cmp, match_ordering}
+use Rattle.std.specs.BTreeSet.{insert_key}
+use Rattle.std.specs.Map.{keys_of}
+use Rattle.std.specs.Cmp.{Equal-is}
+use Rattle.std.specs.FinMap as fin
+use Rattle.std.specs.FinMap.Entries.{put, by_order}
+use Rattle.std.specs.declared.cmp.Ordering.TheVariants.{Less, Equal, Greater}
+use Rattle.causal_name.specs.declared.Det.{Det}
+use Rattle.causal_name.specs.Names.{det_cmp}
+use Rattle.std.proofs.lemmas.List.{length-map}
+use Rattle.causal_log.specs.Stores.{DetSet, set_of, with_det, has, count_in, dets_in}
+use Rattle.causal_log.proofs.DetOrder.{dets_total, exact_dets}
+use Rattle.causal_log.proofs.EntryLemmas.{entries_strict}
+
+abbrev paired : List Det → List (Det × Unit {0})
+paired ds = map (λ d. (d, tt)) ds
+
+keys_paired : (ds : List Det) → keys_of (paired ds) ≡ ds
+keys_paired [] = refl
+keys_paired (d ∷ ds) = ap (λ es. d ∷ es) (keys_paired ds)
+
+entries_set : (ds : List Det) → IsStrictlySortedBy det_cmp ds → fin.entries (set_of ds) ≡ paired ds
+entries_set ds ascend = entries_strict (paired ds) (subst (IsStrictlySortedBy det_cmp) (sym (keys_paired ds)) ascend)
+
+-- the set of an ascending list has just that list
+pub dets_set : (ds : List Det) → IsStrictlySortedBy det_cmp ds → dets_in (set_of ds) ≡ ds
+dets_set ds ascend = ap keys_of (entries_set ds ascend) ∙ keys_paired ds
+
+put_paired : (ds : List Det) (d : Det) → paired (insert_key det_cmp ds d) ≡ put det_cmp d tt (paired ds)
+put_paired [] d = refl
+put_paired (x ∷ ds) d =
+    elim (det_cmp d x) as (λ o. paired (match_ordering o (d ∷ x ∷ ds) (x ∷ ds) (x ∷ insert_key det_cmp ds d)) ≡ by_order o ((d, tt) ∷ (x, tt) ∷ paired ds) ((x, tt) ∷ paired ds) ((x, tt) ∷ put det_cmp d tt (paired ds))) [
+      | Less ↦ refl
+      | Equal ↦ refl
+      | Greater ↦ ap (λ es. (x, tt) ∷ es) (put_paired ds d)
+    ]
+
+-- to put a determinant in its place in an ascending list is to put it into the set
+pub with_det_set : (ds : List Det) (d : Det) → IsStrictlySortedBy det_cmp ds → IsStrictlySortedBy det_cmp (insert_key det_cmp ds d) → set_of (insert_key det_cmp ds d) ≡ with_det (set_of ds) d
+with_det_set ds d ascend new =
+    fin.same_entries_map _ _ (entries_set (insert_key det_cmp ds d) new ∙ put_paired ds d ∙ ap (put det_cmp d tt) (sym (entries_set ds ascend)) ∙ sym (fin.entries-insert dets_total (set_of ds) d tt))
+
+-- a member is among the list's determinants
+pub has_set : (ds : List Det) (d : Det) → has (set_of ds) d ≡ list_any (eq_by_cmp det_cmp d) ds
+has_set ds d = ap is_some (fin.get-from_entries dets_total (paired ds) d) ∙ found ds d
+  where
+    found : (ds : List Det) (d : Det) → is_some (fin.find det_cmp d (paired ds)) ≡ list_any (eq_by_cmp det_cmp d) ds
+    found [] d = refl
+    found (x ∷ ds) d =
+        elim (eq_by_cmp det_cmp d x) as (λ b. is_some (cond b (Some tt) (fin.find det_cmp d (paired ds))) ≡ (b || list_any (eq_by_cmp det_cmp d) ds)) [ true ↦ refl | false ↦ found ds d ]
+
+-- a member put in changes nothing
+pub with_member : (s : DetSet) (d : Det) → has s d ≡ true → with_det s d ≡ s
+with_member s d member =
+    fin.same_map dets_total exact_dets _ _ (λ q. fin.get-insert dets_total s d tt q ∙ at q (eq_by_cmp det_cmp q d) refl)
+  where
+    there : (o : Option (Unit {0})) → is_some o ≡ true → o ≡ Some tt
+    there None h = Prim.cc
+    there (Some u) h = refl
+
+    at : (q : Det) (b : Bool) → eq_by_cmp det_cmp q d ≡ b → cond b (Some tt) (fin.get s q) ≡ fin.get s q
+    at q true e = sym (ap (fin.get s) (exact_dets q d ((Equal-is (det_cmp q d)).0 e)) ∙ there (fin.get s d) member)
+    at q false e = refl
+
+-- the set of an ascending list has as many members
+pub count_set : (ds : List Det) → IsStrictlySortedBy det_cmp ds → count_in (set_of ds) ≡ length ds
+count_set ds ascend = fin.len-entries (set_of ds) ∙ ap length (entries_set ds ascend) ∙ length-map ds (λ d. (d, tt))

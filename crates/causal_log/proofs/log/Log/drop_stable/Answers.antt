@@ -1,0 +1,45 @@
+use Rattle.std.proofs.Common.{◌≡◌, ◌∙◌, ◌+◌, ap, sym, List, length, map, filter, not, true, arith, refl}
+use Rattle.std.specs.FinMap as fin
+use Rattle.std.specs.Map.{keys_of}
+use Rattle.std.proofs.lemmas.List.{length-map}
+use Rattle.std.proofs.lemmas.List.Filters.{length-filter_both}
+use Rattle.causal_name.specs.declared.Det.{Det}
+use Rattle.causal_log.specs.declared.known.Known.{Known}
+use Rattle.causal_log.specs.Ascending.{is_ascending}
+use Rattle.causal_log.specs.Logs.{log_of, unmarked, stable_in}
+use Rattle.causal_log.proofs.Ascents.{ascending_sorted, filter_ascends}
+use Rattle.causal_log.proofs.EntryLemmas.{entries_log}
+use Rattle.causal_log.proofs.log.Log.drop_stable.Goals as goal
+use Rattle.causal_log.proofs.log.Log.drop_stable.Goals.{After-drop_stable}
+
+-- the entries before are those of the map that they make
+own : (c : After-drop_stable) → fin.entries (log_of c.self.inside.entries.entries) ≡ c.self.inside.entries.entries
+own c = entries_log c.self.inside.entries.entries c.self.invariant.sorted c.drop_stable.ensures.unique
+
+-- the marked and the others are all
+parts : (es : List (Det × Known)) → length (map (λ e. e.0) (filter (λ e. e.1.stable) es)) + length (filter (λ e. not e.1.stable) es) ≡ length es
+parts es =
+    ap (λ n. n + length (filter (λ e. not e.1.stable) es)) (length-map (filter (λ e. e.1.stable) es) (λ e. e.0))
+    ∙ length-filter_both (λ e. e.1.stable) (λ e. not e.1.stable) (λ x. refl) es
+
+ascend : (c : After-drop_stable) → is_ascending (keys_of c.drop_stable.new.entries.entries) ≡ true
+ascend c =
+    ap (λ es. is_ascending (keys_of es)) (c.drop_stable.ensures.left ∙ ap (filter (λ e. not e.1.stable)) (sym (own c)))
+    ∙ filter_ascends (λ e. not e.1.stable) (log_of c.self.inside.entries.entries)
+
+pub invariant_of-self : goal.invariant_of-self
+invariant_of-self c = record {
+  sorted = ascending_sorted (keys_of c.drop_stable.new.entries.entries) (ascend c);
+  few = omega (arith, c.drop_stable.ensures.count, c.self.invariant.few, length-map c.drop_stable.new.entries.entries (λ e. e.0), length-map c.self.inside.entries.entries (λ e. e.0));
+}
+
+pub returns-clause-left : goal.returns-clause-left
+returns-clause-left c =
+    ap log_of (c.drop_stable.ensures.left ∙ ap (filter (λ e. not e.1.stable)) (sym (own c))) ∙ ap unmarked c.self.view_is
+
+pub returns-clause-count : goal.returns-clause-count
+returns-clause-count c =
+    let all = parts c.self.inside.entries.entries in
+    let left = ap length c.drop_stable.ensures.left in
+    let count : c.drop_stable.result ≡ length (map (λ e. e.0) (filter (λ e. e.1.stable) c.self.inside.entries.entries)) = omega (arith, all, left, c.drop_stable.ensures.count) in
+    count ∙ ap (λ es. length (map (λ e. e.0) (filter (λ e. e.1.stable) es))) (sym (own c)) ∙ ap (λ m. length (stable_in m)) c.self.view_is

@@ -1,0 +1,28 @@
+-- Stable storage as contracts see it: a set of determinants, which is a map with nothing at each of them.
+use Rattle.std.specs.Prelude.{ℕ, Bool, List, map}
+use Rattle.std.specs.FinMap as fin
+use Rattle.causal_name.specs.declared.Det.{Det}
+use Rattle.causal_name.specs.Names.{det_cmp}
+
+abbrev pub DetSet : Type 0
+DetSet = fin.FinMap det_cmp (Unit {0})
+
+-- the set of a list's determinants
+abbrev pub set_of : List Det → DetSet
+set_of dets = fin.from_entries (map (λ d. (d, tt)) dets)
+
+-- the set with one determinant put in; a member changes nothing
+abbrev pub with_det : DetSet → Det → DetSet
+with_det s det = fin.insert s det tt
+
+-- whether a determinant is a member
+abbrev pub has : DetSet → Det → Bool
+has s det = fin.contains_key s det
+
+-- how many members there are
+abbrev pub count_in : DetSet → ℕ
+count_in s = fin.len s
+
+-- the members, ascending
+abbrev pub dets_in : DetSet → List Det
+dets_in s = fin.keys s

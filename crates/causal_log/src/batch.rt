@@ -1,0 +1,67 @@
+//! What a message carries.
+ghost use Rattle.std.specs.Prelude.{◌≡◌, true, IfOk};
+ghost use Rattle.causal_log.specs.Ascending.{is_ascending};
+ghost use Rattle.causal_log.specs.Logs.{dets_of};
+
+use causal_holders::Holders;
+use causal_name::{Det, NoMemory};
+use std::marker::Model;
+
+/// A determinant that a message carries, with the processes that its sender knew to hold it.
+#[derive(Clone, Copy, Debug, PartialEq, Eq)]
+pub struct Item {
+    pub det: Det,
+    pub holders: Holders,
+}
+
+/// The piggyback of a message: items whose determinants strictly ascend. `Log::choose` makes it.
+#[derive(Debug, Drop)]
+pub struct Batch {
+    items: Vec<Item>,
+}
+
+impl Model for Batch {
+    ghost use Rattle.std.specs.Prelude.{◌≡◌, true, List};
+    ghost use Rattle.causal_log.specs.declared.batch.Item.{Item};
+    ghost use Rattle.std.specs.Coded.{coded_list};
+    ghost use Rattle.causal_log.specs.Knowledge.{coded_item};
+
+    ghost Value = { List Item };
+
+    ghost coded = { coded_list coded_item };
+
+    ghost use Rattle.causal_log.specs.Ascending.{is_ascending};
+    ghost use Rattle.causal_log.specs.Logs.{dets_of};
+
+    ghost view = { λ batch. batch.items.items };
+
+    ghost invariant = { λ batch. is_ascending (dets_of batch.items.items) ≡ true };
+}
+
+impl Batch {
+    /// A batch of items that ascend.
+    pub(crate) fn new(items: Vec<Item>) -> Batch
+        requires { is_ascending (dets_of items.items) ≡ true }
+        ensures { result ≡ items.items }
+    {
+        Batch { items }
+    }
+
+    /// The items, by strictly ascending determinant.
+    pub fn as_slice(&self) -> &[Item]
+        ensures items { result.now ≡ self.now }
+        ensures ascending { is_ascending (dets_of self.now) ≡ true }
+    {
+        self.items.as_slice()
+    }
+
+    /// A copy, as each message of a step carries the same batch. Its only error is want of memory.
+    pub fn try_clone(&self) -> Result<Batch, NoMemory>
+        ensures { IfOk result (λ copy. copy ≡ self.now) }
+    {
+        let Ok(items) = self.items.clone() else {
+            return Err(NoMemory);
+        };
+        Ok(Batch { items })
+    }
+}

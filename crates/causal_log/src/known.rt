@@ -1,0 +1,83 @@
+//! What a process knows of a determinant.
+ghost use Rattle.std.specs.Prelude.{◌≡◌};
+ghost use Rattle.causal_log.specs.Knowledge.{nothing_known, held_by, stable_and_held_by, joined, told, is_carried};
+
+use crate::batch::Item;
+use causal_holders::Holders;
+use causal_name::{Det, Pid};
+
+/// What a process knows of a determinant: who holds it in volatile memory, and whether it is in stable storage.
+#[derive(Clone, Copy, Debug, PartialEq, Eq)]
+pub struct Known {
+    pub holders: Holders,
+    pub stable: bool,
+}
+
+impl Known {
+    /// What is known before anything is heard.
+    pub(crate) fn nothing() -> Known
+        ensures { result ≡ nothing_known }
+    {
+        Known {
+            holders: Holders::none(),
+            stable: false,
+        }
+    }
+
+    /// That a process holds the determinant.
+    pub(crate) fn held(process: Pid) -> Known
+        ensures { result ≡ held_by process }
+    {
+        let mut holders = Holders::none();
+        holders.insert(process.0);
+        Known {
+            holders,
+            stable: false,
+        }
+    }
+
+    /// That a process holds the determinant, and that it is stable.
+    pub(crate) fn stable_and_held(process: Pid) -> Known
+        ensures { result ≡ stable_and_held_by process }
+    {
+        let mut holders = Holders::none();
+        holders.insert(process.0);
+        Known {
+            holders,
+            stable: true,
+        }
+    }
+
+    /// Both together.
+    pub(crate) fn joined(self, other: Known) -> Known
+        ensures { result ≡ joined self other }
+    {
+        Known {
+            holders: self.holders.union(other.holders),
+            stable: self.stable || other.stable,
+        }
+    }
+
+    /// Whether a message carries a determinant of which this is known.
+    pub(crate) fn is_carried(&self, f: u16) -> bool
+        ensures { result ≡ is_carried f self.now }
+    {
+        !self.stable && self.holders.len() <= u32::from(f)
+    }
+}
+
+/// What an item of a message from one process tells another.
+pub(crate) fn told(from: Pid, me: Pid, item: &Item) -> (Det, Known)
+    ensures { result ≡ told from me item.now }
+{
+    let mut holders = item.holders;
+    holders.insert(from.0);
+    holders.insert(me.0);
+    (
+        item.det,
+        Known {
+            holders,
+            stable: false,
+        },
+    )
+}
