@@ -1,0 +1,113 @@
+-- The canonical text of a trace spells it.
+use Rattle.std.proofs.Common.{◌≡◌, ℕ, ◌-◌, ◌<◌, ◌≤◌, ◌^◌, List, [], ◌∷◌, ◌++◌, length, Bool, true, false, cond, Some, Ok, refl, ap, ap₂, sym, ◌∙◌, arith, append_assoc, length-append}
+use Rattle.std.specs.Prelude.{codes, flat_map, map, reverse, nat_le, ◌&&◌}
+use Rattle.std.specs.List.{list_all}
+use Rattle.std.proofs.lemmas.Bool.{leb-true}
+use Rattle.std.proofs.lemmas.List.{reverse-append}
+use Rattle.std.proofs.Math.Seq.{get_or-append_seam, take-append_seam}
+use Rattle.std.proofs.lemmas.List.Concat.{flat_map-cons}
+use Rattle.serde_json.specs.Read.{read}
+use Rattle.causal_trace.specs.declared.entry.Entry.{Entry}
+use Rattle.causal_text.specs.declared.shape.Shape.{Shape}
+use Rattle.causal_text.specs.declared.shape.Shape.TheVariants as shape
+use Rattle.causal_text.specs.declared.stage.Stage.TheVariants.{Ended}
+use Rattle.causal_text.specs.Lines.{lines}
+use Rattle.causal_text.specs.Stages.{content, line_shape}
+use Rattle.causal_text.specs.Spelling.{said}
+use Rattle.causal_text.specs.Canonical.{shape_text, line_text, canonical_version}
+use Rattle.causal_trace.specs.Rows.{Recording}
+use Rattle.causal_trace.specs.Sizes.{EntriesAreSmall, NumbersAreSmall, LimitsAreKept}
+use Rattle.causal_text.specs.declared.version.Version.{Version}
+use Rattle.causal_text.specs.declared.version.Version.TheVariants.{One, Two}
+use Rattle.causal_text.specs.Versions.{number_of, has_line, HasLines, FitsVersion}
+use Rattle.causal_text.specs.Laws.{CanonicalSpells}
+use Rattle.causal_text.proofs.Sizes.{length-canonical}
+use Rattle.causal_text.proofs.ReadsBack.{read-compact_text}
+use Rattle.causal_text.proofs.ShapeData.{data_of, shape_compact, shape_back, shape_simple, shape_shallow, ShapeFits}
+use Rattle.causal_text.proofs.Plain.{plain, plain_shape, plain_utf8, plain_first}
+use Rattle.causal_text.proofs.Values.{json_of-utf8}
+
+lines_plain : (xs rest : List ℕ) → plain xs ≡ true → lines (xs ++ (10 ∷ rest)) ≡ (xs ++ 10 ∷ []) ∷ lines rest
+lines_plain [] rest h = refl
+lines_plain (x ∷ xs) rest h = let p = plain_first x xs h in rw (p.0, lines_plain xs rest p.1) refl
+
+content_line : (xs : List ℕ) → content (xs ++ 10 ∷ []) ≡ xs
+unfolding content
+content_line xs =
+    let len : length (xs ++ 10 ∷ []) - 1 ≡ length xs = omega (arith, length-append xs (10 ∷ [])) in
+    rw (len, get_or-append_seam xs 10 [] 0, take-append_seam xs (10 ∷ [])) refl
+
+pub line_back : (s : Shape) → ShapeFits s → line_shape (line_text s) ≡ Ok s
+unfolding line_shape
+line_back s h =
+    let reads : read (shape_text s) ≡ Some (data_of s) = ap read (sym (shape_compact s)) ∙ read-compact_text (data_of s) (shape_simple s h) (shape_shallow s) in
+    rw (content_line (shape_text s), json_of-utf8 (shape_text s) (data_of s) (plain_utf8 (shape_text s) (plain_shape s h)) reads) (shape_back s h)
+
+abbrev ShapesFit : List Shape → Type 0
+ShapesFit [] = Unit {0}
+ShapesFit (s ∷ ss) = ShapeFits s × ShapesFit ss
+
+lines_of : (ss : List Shape) → ShapesFit ss → lines (flat_map line_text ss) ≡ map line_text ss
+lines_of [] h = refl
+lines_of (s ∷ ss) h =
+    ap lines (flat_map-cons line_text s ss ∙ append_assoc (shape_text s) (codes "\n") (flat_map line_text ss))
+    ∙ lines_plain (shape_text s) (flat_map line_text ss) (plain_shape s h.0)
+    ∙ ap (λ ls. line_text s ∷ ls) (lines_of ss h.1)
+
+shapes_back : (ss : List Shape) → ShapesFit ss → map line_shape (map line_text ss) ≡ map Ok ss
+shapes_back [] h = refl
+shapes_back (s ∷ ss) h = ap₂ (λ x xs. x ∷ xs) (line_back s h.0) (shapes_back ss h.1)
+
+shapes_fit : (es : List Entry) (count : ℕ) → EntriesAreSmall 256 es → count < 2 ^ 32 → ShapesFit (map shape.Entry es ++ shape.End count ∷ [])
+shapes_fit [] count h few = (few, tt)
+shapes_fit (e ∷ es) count h few = (h.0, shapes_fit es count h.1 few)
+
+number_fits : (version : Version) → number_of version < 2 ^ 32
+number_fits One = omega arith
+number_fits Two = omega arith
+
+-- ---- it fits its version
+
+all_of : (a b : Bool) → (a && b) ≡ true → (a ≡ true) × (b ≡ true)
+all_of true b h = (refl, h)
+all_of false b h = absurd (let no : false ≡ true = h in cc)
+
+list_all-last : (es : List Entry) (e : Entry) → list_all (has_line One) (es ++ e ∷ []) ≡ true → (list_all (has_line One) es ≡ true) × (has_line One e ≡ true)
+list_all-last [] e h = (refl, (all_of (has_line One e) true h).0)
+list_all-last (x ∷ es) e h =
+    let first = all_of (has_line One x) (list_all (has_line One) (es ++ e ∷ [])) h in
+    let rest = list_all-last es e first.1 in
+    (rw (first.0, rest.0) refl, rest.1)
+
+lines_of_first : (past : List Entry) → list_all (has_line One) (reverse past) ≡ true → HasLines One past
+lines_of_first [] h = tt
+lines_of_first (e ∷ past) h =
+    let parts = list_all-last (reverse past) e (rw (reverse-append (e ∷ []) past) at h) in
+    (lines_of_first past parts.0, parts.1)
+
+lines_of_second : (past : List Entry) → HasLines Two past
+lines_of_second [] = tt
+lines_of_second (e ∷ past) = (lines_of_second past, refl)
+
+fits_by : (r : Recording) (b : Bool) → (nat_le r.processes 64 && list_all (has_line One) (reverse r.past)) ≡ b → r.processes ≤ 256 → FitsVersion (cond b One Two) r
+fits_by r true h few =
+    let parts = all_of (nat_le r.processes 64) _ h in
+    record { few = leb-true r.processes 64 parts.0; entries = lines_of_first r.past parts.1 }
+fits_by r false h few = record { few = few; entries = lines_of_second r.past }
+
+canonical_fits : (r : Recording) → r.processes ≤ 256 → FitsVersion (canonical_version r) r
+canonical_fits r few = fits_by r (nat_le r.processes 64 && list_all (has_line One) (reverse r.past)) refl few
+
+pub canonical-spells : NumbersAreSmall → LimitsAreKept → CanonicalSpells
+canonical-spells numbers limits r w =
+    let version = canonical_version r in
+    let small = numbers r 256 w w.count.1 in
+    let few = limits r w in
+    let fit : ShapesFit (said (Ended version r)) = ((number_fits version, omega (arith, w.count.1)), shapes_fit (reverse r.past) (length r.past) small (omega (arith, few.0))) in
+    record {
+      version = version;
+      fits = canonical_fits r w.count.1;
+      well_formed = w;
+      said = ap (map line_shape) (lines_of (said (Ended version r)) fit) ∙ shapes_back (said (Ended version r)) fit;
+      within = length-canonical r w.count.1 small few.0 few.1;
+    }

@@ -1,0 +1,144 @@
+-- What a text spells is read.
+use Rattle.std.proofs.Common.{◌≡◌, ℕ, ◌+◌, ◌≤◌, List, [], ◌∷◌, ◌++◌, length, Bool, true, Option, Some, Ok, Err, refl, ap, sym, ◌∙◌, arith, subst, append-nil}
+use Rattle.std.specs.Prelude.{Result, map, sum_by, reverse, ◌==◌, nat_le, ◌&&◌}
+use Rattle.std.proofs.lemmas.Bool.{eq-eqb, le-leb, lt-leb}
+use Rattle.std.proofs.lemmas.List.Sums.{sum_by_push}
+use Rattle.causal_trace.specs.Rows.{Recording, AreAccepted}
+use Rattle.causal_trace.specs.State.{with_entry}
+use Rattle.causal_trace.specs.declared.entry.Entry.{Entry}
+use Rattle.causal_text.specs.declared.kind.TextKind.{TextKind}
+use Rattle.causal_text.specs.declared.kind.TextFault.{TextFault}
+use Rattle.causal_text.specs.declared.shape.Shape.{Shape}
+use Rattle.causal_text.specs.declared.shape.Shape.TheVariants as shape
+use Rattle.causal_text.specs.declared.stage.Stage.{Stage}
+use Rattle.causal_text.specs.declared.stage.Stage.TheVariants.{Opening, Within, Ended}
+use Rattle.causal_text.specs.declared.version.Version.{Version}
+use Rattle.causal_text.specs.declared.version.Version.TheVariants.{One, Two}
+use Rattle.causal_text.specs.Lines.{lines}
+use Rattle.causal_text.specs.Place.{Place, IsPlaceAfter, start, and_then, next, after_lines, ended, reading}
+use Rattle.causal_text.specs.Stages.{opened, max_text, line_shape, begun, follow, within_limit, after_line}
+use Rattle.causal_text.specs.Versions.{number_of, version_of, most_processes, HasLines, FitsVersion}
+use Rattle.causal_text.specs.Spelling.{said, IsSound, Reaches, Spells}
+use Rattle.causal_text.proofs.Joined.{sum_by-lines}
+use Rattle.causal_text.proofs.Steps.{said_entries}
+use Rattle.causal_text.proofs.Spellings.{IsPlaceAfter-lines, IsPlaceAfter-start}
+
+pub in_limit : (end : ℕ) (r : Result Stage TextKind) → end ≤ max_text → within_limit end r ≡ r
+in_limit end r h = rw (lt-leb (max_text + 1) end (omega arith)) refl
+
+-- ---- lines one after another
+
+first_step : (ls ks : List (List ℕ)) (q : Place) (r : Result Place TextFault) → ((o : Place) → after_lines o ls ≡ Ok q → after_lines o (ls ++ ks) ≡ after_lines q ks) →
+    and_then r (λ o. after_lines o ls) ≡ Ok q → and_then r (λ o. after_lines o (ls ++ ks)) ≡ after_lines q ks
+first_step ls ks q (Ok o) rest g = rest o g
+first_step ls ks q (Err e) rest g = absurd (let no : Err e ≡ Ok q = g in cc)
+
+pub after_lines-append : (p q : Place) (ls ks : List (List ℕ)) → after_lines p ls ≡ Ok q → after_lines p (ls ++ ks) ≡ after_lines q ks
+after_lines-append p q [] ks h = let same : p ≡ q = cc in rw same refl
+after_lines-append p q (l ∷ ls) ks h = first_step ls ks q (next p l) (λ o. after_lines-append o q ls ks) h
+
+-- the lines lead from the start to the stage
+abbrev pub Leads : List (List ℕ) → Stage → Type 0
+Leads ls s = (q : Place) × (after_lines start ls ≡ Ok q) × (q.stage ≡ s)
+
+next_ok : (p : Place) (l : List ℕ) (t : Stage) → after_line p.stage (p.size + length l) l ≡ Ok t → next p l ≡ Ok (record { stage = t; count = p.count + 1; size = p.size + length l })
+next_ok p l t h = rw h refl
+
+-- one more line leads to the next stage
+Leads-more : (ls : List (List ℕ)) (l : List ℕ) (s t : Stage) → Leads ls s → after_line s (sum_by length ls + length l) l ≡ Ok t → Leads (ls ++ l ∷ []) t
+Leads-more ls l s t led is =
+    let st = IsPlaceAfter-lines [] ls start led.0 IsPlaceAfter-start led.1 in
+    let taken : after_line led.0.stage (led.0.size + length l) l ≡ Ok t = rw (led.2, st.size) is in
+    let q : Place = record { stage = t; count = led.0.count + 1; size = led.0.size + length l } in
+    (q, after_lines-append start led.0 ls (l ∷ []) led.1 ∙ rw (next_ok led.0 l t taken) refl, refl)
+
+-- ---- what is said last is said by the last line
+
+in_front : (l : List ℕ) (ls ks : List (List ℕ)) → ls ≡ ks → l ∷ ls ≡ l ∷ ks
+in_front l ls ks same = ap (λ ns. l ∷ ns) same
+
+record Last (ls : List (List ℕ)) (xs : List Shape) (x : Shape) : Type 0 where
+  front : List (List ℕ)
+  line : List ℕ
+  whole : ls ≡ front ++ line ∷ []
+  says : map line_shape front ≡ map Ok xs
+  reads : line_shape line ≡ Ok x
+
+last_of : (ls : List (List ℕ)) (xs : List Shape) (x : Shape) → map line_shape ls ≡ map Ok (xs ++ x ∷ []) → Last ls xs x
+last_of [] [] x h = absurd (let no : [] ≡ Ok x ∷ [] = h in cc)
+last_of [] (y ∷ ys) x h = absurd (let no : [] ≡ Ok y ∷ map Ok (ys ++ x ∷ []) = h in cc)
+last_of (l ∷ []) [] x h = record { front = []; line = l; whole = refl; says = refl; reads = cc }
+last_of (l ∷ k ∷ ls) [] x h = absurd (let no : line_shape k ∷ map line_shape ls ≡ [] = cc in cc)
+last_of (l ∷ ls) (y ∷ ys) x h =
+    let is : line_shape l ≡ Ok y = cc in
+    let rest : map line_shape ls ≡ map Ok (ys ++ x ∷ []) = cc in
+    let later = last_of ls ys x rest in record {
+      front = l ∷ later.front;
+      line = later.line;
+      whole = in_front l ls (later.front ++ later.line ∷ []) later.whole;
+      says = rw (is, later.says) refl;
+      reads = later.reads;
+    }
+
+-- ---- the stages that lines reach are read
+
+same_place : (p q : Place) → p.stage ≡ q.stage → p.count ≡ q.count → p.size ≡ q.size → p ≡ q
+same_place p q stage count size = λ i. record { stage = stage i; count = count i; size = size i }
+
+takes_header : (version : Version) (n end : ℕ) (l : List ℕ) → 1 ≤ n → n ≤ most_processes version → end ≤ max_text → line_shape l ≡ Ok (shape.Header (number_of version) n) → after_line Opening end l ≡ Ok (Within version (opened n))
+takes_header One n end l some few h is = in_limit end _ h ∙ rw (is, le-leb 1 n some, le-leb n 64 few) refl
+takes_header Two n end l some few h is = in_limit end _ h ∙ rw (is, le-leb 1 n some, le-leb n 256 few) refl
+
+Leads-opening : (ls : List (List ℕ)) → map line_shape ls ≡ [] → Leads ls Opening
+Leads-opening [] h = (start, refl, refl)
+Leads-opening (l ∷ ls) h = absurd (let no : line_shape l ∷ map line_shape ls ≡ [] = h in cc)
+
+-- a line more
+Leads-last : (ls : List (List ℕ)) (s t : Stage) (x : Shape) → map line_shape ls ≡ map Ok (said s ++ x ∷ []) → sum_by length ls ≤ max_text →
+    ((front : List (List ℕ)) → map line_shape front ≡ map Ok (said s) → sum_by length front ≤ max_text → Leads front s) →
+    ((end : ℕ) (l : List ℕ) → end ≤ max_text → line_shape l ≡ Ok x → after_line s end l ≡ Ok t) → Leads ls t
+Leads-last ls s t x h few led takes =
+    let p = last_of ls (said s) x h in
+    let size : sum_by length ls ≡ sum_by length p.front + length p.line = ap (sum_by length) p.whole ∙ sum_by_push length p.front p.line in
+    let before = led p.front p.says (omega (arith, size)) in
+    let taken = takes (sum_by length p.front + length p.line) p.line (omega (arith, size)) p.reads in
+    subst (λ ks. Leads ks t) (sym p.whole) (Leads-more p.front p.line s t before taken)
+
+Leads-within : (version : Version) (n : ℕ) (past : List Entry) (ls : List (List ℕ)) → 1 ≤ n → n ≤ most_processes version → HasLines version past → AreAccepted n past →
+    map line_shape ls ≡ map Ok (said (Within version (record { processes = n; past = past }))) → sum_by length ls ≤ max_text → Leads ls (Within version (record { processes = n; past = past }))
+Leads-within version n [] ls some few lined ok h size =
+    Leads-last ls Opening (Within version (opened n)) (shape.Header (number_of version) n) h size (λ front is small. Leads-opening front is)
+    (λ end l small is. takes_header version n end l some few small is)
+Leads-within version n (e ∷ past) ls some few lined ok h size =
+    let r : Recording = record { processes = n; past = past } in
+    let said_last : map line_shape ls ≡ map Ok (said (Within version r) ++ shape.Entry e ∷ []) = h ∙ ap (λ xs. map Ok (shape.Header (number_of version) n ∷ xs)) (said_entries e past) in
+    Leads-last ls (Within version r) (Within version (with_entry r e)) (shape.Entry e) said_last size
+    (λ front is small. Leads-within version n past front some few lined.0 ok.0 is small)
+    (λ end l small is. in_limit end _ small ∙ rw (is, lined.1, ok.1) refl)
+
+pub Leads-reached : (ls : List (List ℕ)) (s : Stage) → Reaches ls s → Leads ls s
+Leads-reached ls Opening r = Leads-opening ls r.said
+Leads-reached ls (Within version q) r = Leads-within version q.processes q.past ls r.sound.0.count.0 r.sound.1.few r.sound.1.entries r.sound.0.accepted r.said r.within
+Leads-reached ls (Ended version q) r =
+    Leads-last ls (Within version q) (Ended version q) (shape.End (length q.past)) r.said r.within
+    (λ front is small. Leads-within version q.processes q.past front r.sound.0.count.0 r.sound.1.few r.sound.1.entries r.sound.0.accepted is small)
+    (λ end l small is. in_limit end _ small ∙ rw (is, eq-eqb (length q.past) (length q.past) refl) refl)
+
+-- the place after lines is where they lead
+pub after_lines-place : (ls : List (List ℕ)) (p : Place) → IsPlaceAfter ls p → after_lines start ls ≡ Ok p
+after_lines-place ls p is =
+    let led = Leads-reached ls p.stage is.reaches in
+    let there = IsPlaceAfter-lines [] ls start led.0 IsPlaceAfter-start led.1 in
+    let same : led.0 ≡ p = same_place led.0 p led.2 (there.count ∙ sym is.count) (there.size ∙ sym is.size) in
+    led.1 ∙ ap Ok same
+
+-- ---- what a text spells is read
+
+ended_at : (p : Place) (s : Stage) (version : Version) (r : Recording) → s ≡ Ended version r → ended p s ≡ Ok r
+ended_at p s version r is = rw is refl
+
+pub reading-spelled : (text : List ℕ) (r : Recording) → Spells text r → reading text ≡ Ok r
+reading-spelled text r s =
+    let reached : Reaches (lines text) (Ended s.version r) = record { said = s.said; sound = (s.well_formed, s.fits); within = rw (sum_by-lines text) s.within } in
+    let led = Leads-reached (lines text) (Ended s.version r) reached in
+    ap (λ (q : Result Place TextFault). and_then q (λ p. ended p p.stage)) led.1 ∙ ended_at led.0 led.0.stage s.version r led.2

@@ -1,0 +1,197 @@
+-- Lines of a text that comes in pieces.
+use Rattle.std.proofs.Common.{◌≡◌, ◌≢◌, ℕ, zero, suc, ◌<◌, ◌≤◌, List, [], ◌∷◌, ◌++◌, length, take, Bool, true, false, Result, Ok, Err, refl, ap, sym, ◌∙◌, arith, append_assoc, append-nil, eqb-true, subst}
+use Rattle.std.specs.Prelude.{◌==◌, ◌&&◌, not}
+use Rattle.memchr.specs.Find.{Nowhere, Passes, is_byte}
+use Rattle.causal_text.specs.declared.kind.TextKind.{TextKind}
+use Rattle.causal_text.specs.declared.kind.TextKind.TheVariants as kind
+use Rattle.causal_text.specs.declared.kind.TextFault.{TextFault}
+use Rattle.causal_text.specs.Lines.{lines, before_first_line}
+use Rattle.causal_text.specs.Place.{Place, start, IsTextFaultOf, and_then, next, after_lines, ended, reading}
+use Rattle.causal_text.specs.Pieces.{no_feed, IsComplete, AreComplete, joined, Held, StandsFor, IsFaultOfAll, with_line, IsPast, last_place, ending}
+use Rattle.causal_text.proofs.Spellings.{IsPlaceAfter-next}
+use Rattle.causal_text.proofs.Complete.{after_lines-append, after_lines-place}
+
+not_true : (b : Bool) → (b ≡ true → ⊥) → b ≡ false
+not_true true h = absurd (h refl)
+not_true false h = refl
+
+pub no_feed-nowhere : (xs : List ℕ) (n : ℕ) → n ≤ length xs → Nowhere (Passes (is_byte 10) xs) 0 n → no_feed (take n xs) ≡ true
+no_feed-nowhere xs zero h none = refl
+no_feed-nowhere [] (suc n) h none = refl
+no_feed-nowhere (x ∷ xs) (suc n) h none =
+    let other : (x == 10) ≡ false = not_true _ (none 0 (omega arith) (omega arith)) in
+    rw other (no_feed-nowhere xs n (omega arith) (λ k low high. none (suc k) (omega arith) (omega arith)))
+
+pub complete_at : (xs : List ℕ) (i : ℕ) → i < length xs → Passes (is_byte 10) xs i → Nowhere (Passes (is_byte 10) xs) 0 i → IsComplete (take (suc i) xs)
+complete_at xs i h at none = (take i xs, no_feed-nowhere xs i (omega arith) none, cut xs i h at) where
+  cut : (ys : List ℕ) (j : ℕ) → j < length ys → Passes (is_byte 10) ys j → take (suc j) ys ≡ take j ys ++ 10 ∷ []
+  cut [] j h at = absurd (omega arith)
+  cut (y ∷ ys) zero h at = ap (λ z. z ∷ []) (eqb-true y 10 at)
+  cut (y ∷ ys) (suc j) h at = ap (λ zs. y ∷ zs) (cut ys j (omega arith) at)
+
+-- ---- lists of lines
+
+no_feed-append : (xs ys : List ℕ) → no_feed xs ≡ true → no_feed ys ≡ true → no_feed (xs ++ ys) ≡ true
+no_feed-append [] ys p q = q
+no_feed-append (x ∷ xs) ys p q = both (not (x == 10)) (no_feed xs) _ p (λ r. no_feed-append xs ys r q) where
+  both : (a b c : Bool) → (a && b) ≡ true → (b ≡ true → c ≡ true) → (a && c) ≡ true
+  both true b c h f = f h
+  both false b c h f = absurd (let no : false ≡ true = h in cc)
+
+first_other : (a b : Bool) → (not a && b) ≡ true → (a ≡ false) × (b ≡ true)
+first_other false b h = (refl, h)
+first_other true b h = absurd (let no : false ≡ true = h in cc)
+
+lines_line : (xs rest : List ℕ) → no_feed xs ≡ true → lines (xs ++ 10 ∷ rest) ≡ (xs ++ 10 ∷ []) ∷ lines rest
+lines_line [] rest h = refl
+lines_line (x ∷ xs) rest h = let p = first_other (x == 10) (no_feed xs) h in rw (p.0, lines_line xs rest p.1) refl
+
+lines_complete : (l rest : List ℕ) → IsComplete l → lines (l ++ rest) ≡ l ∷ lines rest
+lines_complete l rest h = rw h.2 (ap lines (append_assoc h.0 (10 ∷ []) rest) ∙ lines_line h.0 rest h.1)
+
+lines_joined : (ls : List (List ℕ)) (rest : List ℕ) → AreComplete ls → lines (joined ls ++ rest) ≡ ls ++ lines rest
+lines_joined [] rest h = refl
+lines_joined (l ∷ ls) rest h =
+    ap lines (append_assoc l (joined ls) rest) ∙ lines_complete l (joined ls ++ rest) h.0 ∙ ap (λ ks. l ∷ ks) (lines_joined ls rest h.1)
+
+lines_other : (x : ℕ) (xs : List ℕ) → (x == 10) ≡ false → lines (x ∷ xs) ≡ before_first_line x (lines xs)
+lines_other x xs h = rw h refl
+
+-- an unfinished line grows
+pub lines_grown : (x : ℕ) (xs more : List ℕ) → no_feed (x ∷ xs) ≡ true → (m : List ℕ) × (ls : List (List ℕ)) × (lines ((x ∷ xs) ++ more) ≡ ((x ∷ xs) ++ m) ∷ ls)
+lines_grown x [] [] h = let p = first_other (x == 10) true h in ([], [], rw p.0 refl)
+lines_grown x [] (y ∷ ys) h = let p = first_other (x == 10) true h in grown (lines (y ∷ ys)) (rw p.0 refl) where
+  grown : (ks : List (List ℕ)) → lines (x ∷ y ∷ ys) ≡ before_first_line x ks → (m : List ℕ) × (ls : List (List ℕ)) × (lines (x ∷ y ∷ ys) ≡ (x ∷ m) ∷ ls)
+  grown [] e = ([], [], e)
+  grown (k ∷ ks) e = (k, ks, e)
+lines_grown x (z ∷ zs) more h =
+    let p = first_other (x == 10) (no_feed (z ∷ zs)) h in
+    let later = lines_grown z zs more p.1 in
+    (later.0, later.1, lines_other x ((z ∷ zs) ++ more) p.0 ∙ ap (before_first_line x) later.2)
+
+joined-append : (ls : List (List ℕ)) (l : List ℕ) → joined (ls ++ l ∷ []) ≡ joined ls ++ l
+joined-append [] l = append-nil l
+joined-append (k ∷ ls) l = ap (λ xs. k ++ xs) (joined-append ls l) ∙ sym (append_assoc k (joined ls) l)
+
+AreComplete-append : (ls : List (List ℕ)) (l : List ℕ) → AreComplete ls → IsComplete l → AreComplete (ls ++ l ∷ [])
+AreComplete-append [] l h c = (c, tt)
+AreComplete-append (k ∷ ls) l h c = (h.0, AreComplete-append ls l h.1 c)
+
+-- ---- what is held stands for the bytes so far
+
+IsComplete-append : (xs l : List ℕ) → no_feed xs ≡ true → IsComplete l → IsComplete (xs ++ l)
+IsComplete-append xs l h c = (xs ++ c.0, no_feed-append xs c.0 h c.1, ap (λ ys. xs ++ ys) c.2 ∙ sym (append_assoc xs c.0 (10 ∷ [])))
+
+pub StandsFor-complete : (h : Held) (b line : List ℕ) (p : Place) → StandsFor h b → IsComplete line → next h.place (h.rest ++ line) ≡ Ok p → StandsFor (record { place = p; rest = [] }) (b ++ line)
+StandsFor-complete h b line p s c taken =
+    let l = h.rest ++ line in
+    let after = IsPlaceAfter-next s.complete h.place p l s.place_is taken in
+    record {
+      complete = s.complete ++ l ∷ [];
+      whole = ap (λ xs. xs ++ line) s.whole ∙ append_assoc (joined s.complete) h.rest line ∙ sym (joined-append s.complete l) ∙ sym (append-nil _);
+      each = AreComplete-append s.complete l s.each (IsComplete-append h.rest line s.unfinished c);
+      unfinished = refl;
+      place_is = after;
+    }
+
+pub StandsFor-hold : (h : Held) (b part : List ℕ) → StandsFor h b → no_feed part ≡ true → StandsFor (record { place = h.place; rest = h.rest ++ part }) (b ++ part)
+StandsFor-hold h b part s none = record {
+  complete = s.complete;
+  whole = ap (λ xs. xs ++ part) s.whole ∙ append_assoc (joined s.complete) h.rest part;
+  each = s.each;
+  unfinished = no_feed-append h.rest part s.unfinished none;
+  place_is = s.place_is;
+}
+
+reading_from : (h : Held) (b more : List ℕ) → StandsFor h b → after_lines start (lines (b ++ more)) ≡ after_lines h.place (lines (h.rest ++ more))
+reading_from h b more s =
+    ap (λ xs. after_lines start (lines (xs ++ more))) s.whole
+    ∙ ap (λ xs. after_lines start (lines xs)) (append_assoc (joined s.complete) h.rest more)
+    ∙ ap (after_lines start) (lines_joined s.complete (h.rest ++ more) s.each)
+    ∙ after_lines-append start h.place s.complete (lines (h.rest ++ more)) (after_lines-place s.complete h.place s.place_is)
+
+pub fault_of_complete : (h : Held) (b line : List ℕ) (f : TextFault) → StandsFor h b → IsComplete line → next h.place (h.rest ++ line) ≡ Err f → IsFaultOfAll (b ++ line) f
+fault_of_complete h b line f s c e more =
+    let same : after_lines start (lines ((b ++ line) ++ more)) ≡ Err f =
+    ap (λ xs. after_lines start (lines xs)) (append_assoc b line more) ∙ reading_from h b (line ++ more) s
+    ∙ ap (λ xs. after_lines h.place (lines xs)) (sym (append_assoc h.rest line more))
+    ∙ ap (after_lines h.place) (lines_complete (h.rest ++ line) more (IsComplete-append h.rest line s.unfinished c)) ∙ rw e refl in
+    ap (λ (r : Result Place TextFault). and_then r (λ p. ended p p.stage)) same
+
+pub fault_of_grown : (h : Held) (b : List ℕ) (f : TextFault) → StandsFor h b → 0 < length h.rest → ((m : List ℕ) → next h.place (h.rest ++ m) ≡ Err f) → IsFaultOfAll b f
+fault_of_grown h b f s some e more = from h.rest some s.unfinished e (reading_from h b more s) where
+  from : (xs : List ℕ) → 0 < length xs → no_feed xs ≡ true → ((m : List ℕ) → next h.place (xs ++ m) ≡ Err f) → after_lines start (lines (b ++ more)) ≡ after_lines h.place (lines (xs ++ more)) → reading (b ++ more) ≡ Err f
+  from [] some none e same = absurd (omega arith)
+  from (x ∷ xs) some none e same =
+      let g = lines_grown x xs more none in
+      let all : after_lines start (lines (b ++ more)) ≡ Err f = same ∙ ap (after_lines h.place) g.2 ∙ rw (e g.0) refl in
+      ap (λ (r : Result Place TextFault). and_then r (λ p. ended p p.stage)) all
+
+-- ---- a piece, part by part
+
+-- after these bytes more, h1 stands where h0 stood
+abbrev pub Comes : Held → List ℕ → Held → Type 0
+Comes h0 done h1 = (b : List ℕ) → StandsFor h0 b → StandsFor h1 (b ++ done)
+
+regrouped : (h : Held) (b done more : List ℕ) → StandsFor h ((b ++ done) ++ more) → StandsFor h (b ++ (done ++ more))
+regrouped h b done more s = subst (λ (xs : List ℕ). StandsFor h xs) (append_assoc b done more) s
+
+with_line_ok : (h h1 : Held) (line : List ℕ) → with_line h line ≡ Ok h1 → (p : Place) × (next h.place (h.rest ++ line) ≡ Ok p) × (record { place = p; rest = [] } ≡ h1)
+with_line_ok h h1 line e = parts (next h.place (h.rest ++ line)) e where
+  parts : (r : Result Place TextFault) → and_then r (λ p. Ok (record { place = p; rest = [] })) ≡ Ok h1 → (p : Place) × (r ≡ Ok p) × (record { place = p; rest = [] } ≡ h1)
+  parts (Ok p) e = (p, refl, cc)
+  parts (Err f) e = absurd (let no : Err f ≡ Ok h1 = e in cc)
+
+with_line_err : (h : Held) (line : List ℕ) (f : TextFault) → with_line h line ≡ Err f → next h.place (h.rest ++ line) ≡ Err f
+with_line_err h line f e = parts (next h.place (h.rest ++ line)) e where
+  parts : (r : Result Place TextFault) → and_then {B = Held} r (λ p. Ok (record { place = p; rest = [] })) ≡ Err f → r ≡ Err f
+  parts (Ok p) e = let k : Held = record { place = p; rest = [] } in absurd (let no : Ok k ≡ Err f = e in cc)
+  parts (Err g) e = let same : g ≡ f = cc in ap Err same
+
+pub Comes-line : (h0 h h1 : Held) (done line : List ℕ) → Comes h0 done h → IsComplete line → with_line h line ≡ Ok h1 → Comes h0 (done ++ line) h1
+Comes-line h0 h h1 done line c complete e b s =
+    let p = with_line_ok h h1 line e in
+    regrouped h1 b done line (subst (λ (k : Held). StandsFor k ((b ++ done) ++ line)) p.2 (StandsFor-complete h (b ++ done) line p.0 (c b s) complete p.1))
+
+IsFaultOfAll-more : (b more : List ℕ) (f : TextFault) → IsFaultOfAll b f → IsFaultOfAll (b ++ more) f
+IsFaultOfAll-more b more f h rest = ap reading (append_assoc b more rest) ∙ h (more ++ rest)
+
+pub fault_of_piece : (h0 h : Held) (done line after : List ℕ) (f : TextFault) → Comes h0 done h → IsComplete line → with_line h line ≡ Err f → (b : List ℕ) → StandsFor h0 b → IsFaultOfAll (b ++ (done ++ (line ++ after))) f
+fault_of_piece h0 h done line after f c complete e b s =
+    let here = fault_of_complete h (b ++ done) line f (c b s) complete (with_line_err h line f e) in
+    let all = IsFaultOfAll-more ((b ++ done) ++ line) after f here in
+    subst (λ (xs : List ℕ). IsFaultOfAll xs f) (append_assoc (b ++ done) line after ∙ append_assoc b done (line ++ after)) all
+
+pub Comes-hold : (h0 h : Held) (done part : List ℕ) → Comes h0 done h → no_feed part ≡ true → Comes h0 (done ++ part) (record { place = h.place; rest = h.rest ++ part })
+Comes-hold h0 h done part c none b s = regrouped (record { place = h.place; rest = h.rest ++ part }) b done part (StandsFor-hold h (b ++ done) part (c b s) none)
+
+pub fault_of_hold : (h0 h : Held) (done part : List ℕ) (f : TextFault) → Comes h0 done h → no_feed part ≡ true → 0 < length (h.rest ++ part) → IsPast (record { place = h.place; rest = h.rest ++ part }) f
+    → (b : List ℕ) → StandsFor h0 b → IsFaultOfAll (b ++ (done ++ part)) f
+fault_of_hold h0 h done part f c none some past b s = fault_of_grown (record { place = h.place; rest = h.rest ++ part }) (b ++ (done ++ part)) f (Comes-hold h0 h done part c none b s) some past
+
+pub told : {A : Type 0} (k : TextKind) (f : TextFault) (read : Result A TextFault) → IsTextFaultOf k f read → k ≢ kind.NoMemory → read ≡ Err f
+told kind.NoMemory f read h other = absurd (other refl)
+told _ f read h other = h
+
+-- ---- the end of the text
+
+lines_rest : (rest : List ℕ) → no_feed rest ≡ true → 0 < length rest → lines rest ≡ rest ∷ []
+lines_rest [] h some = absurd (omega arith)
+lines_rest (x ∷ []) h some = let p = first_other (x == 10) true h in rw p.0 refl
+lines_rest (x ∷ y ∷ ys) h some =
+    let p = first_other (x == 10) (no_feed (y ∷ ys)) h in
+    lines_other x (y ∷ ys) p.0 ∙ ap (before_first_line x) (lines_rest (y ∷ ys) p.1 (omega arith))
+
+last_lines : (p : Place) (rest : List ℕ) → no_feed rest ≡ true → after_lines p (lines rest) ≡ last_place (record { place = p; rest = rest }) rest
+last_lines p [] h = refl
+last_lines p (x ∷ xs) h = ap (after_lines p) (lines_rest (x ∷ xs) h (omega arith)) ∙ one (next p (x ∷ xs)) where
+  one : (r : Result Place TextFault) → and_then r (λ q. after_lines q []) ≡ r
+  one (Ok q) = refl
+  one (Err f) = refl
+
+pub reading-ending : (h : Held) (b : List ℕ) → StandsFor h b → reading b ≡ ending h
+reading-ending h b s =
+    let all = reading_from h b [] s in
+    let same : after_lines start (lines b) ≡ last_place h h.rest =
+    ap (λ xs. after_lines start (lines xs)) (sym (append-nil b)) ∙ all ∙ ap (λ xs. after_lines h.place (lines xs)) (append-nil h.rest) ∙ last_lines h.place h.rest s.unfinished in
+    ap (λ (r : Result Place TextFault). and_then r (λ p. ended p p.stage)) same

@@ -1,0 +1,15 @@
+pub mod Fields
+pub mod Values
+pub mod Joined
+pub mod Steps
+pub mod Spellings
+pub mod Complete
+pub mod Exact
+pub mod Texts
+pub mod ReadsBack
+pub mod ShapeData
+pub mod Plain
+pub mod Sizes
+pub mod Canonicals
+pub mod Feeds
+pub mod StreamLemmas

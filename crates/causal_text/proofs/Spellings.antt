@@ -1,0 +1,163 @@
+-- Reading gives the one trace that a text spells, or its first fault.
+use Rattle.std.proofs.Common.{◌≡◌, ◌≢◌, ◌⊎◌, ℕ, ◌+◌, List, [], ◌∷◌, ◌++◌, length, Ok, Err, refl, ap, sym, ◌∙◌, arith, subst, inl, inr, append_assoc, append-nil, length-append}
+use Rattle.std.specs.Prelude.{Result, sum_by}
+use Rattle.std.proofs.lemmas.List.{map-append}
+use Rattle.std.proofs.lemmas.List.Sums.{sum_by_push}
+use Rattle.causal_trace.specs.Rows.{Recording}
+use Rattle.causal_text.specs.declared.kind.TextKind.{TextKind}
+use Rattle.causal_text.specs.declared.kind.TextKind.TheVariants as kind
+use Rattle.causal_text.specs.declared.kind.TextFault.{TextFault}
+use Rattle.causal_text.specs.declared.stage.Stage.{Stage}
+use Rattle.causal_text.specs.declared.stage.Stage.TheVariants.{Opening, Within, Ended}
+use Rattle.causal_text.specs.Lines.{lines}
+use Rattle.causal_text.specs.declared.version.Version.{Version}
+use Rattle.causal_text.specs.Place.{Place, IsPlaceAfter, start, ◌at◌, and_then, next, after_lines, ended, reading}
+use Rattle.causal_text.specs.Stages.{line_shape, after_line}
+use Rattle.causal_text.specs.Spelling.{said, Spells, Reaches, IsOpen, IsFirstFault}
+use Rattle.causal_text.proofs.Joined.{sum_by-lines}
+use Rattle.causal_text.proofs.Steps.{Accepted-line}
+
+and_then_ok : {A B : Type 0} (r : Result A TextFault) (f : A → Result B TextFault) (y : B) → and_then r f ≡ Ok y → (x : A) × (r ≡ Ok x) × (f x ≡ Ok y)
+and_then_ok (Ok x) f y h = (x, refl, h)
+and_then_ok (Err e) f y h = absurd (let no : Err e ≡ Ok y = h in cc)
+
+and_then_err : {A B : Type 0} (r : Result A TextFault) (f : A → Result B TextFault) (e : TextFault) → and_then r f ≡ Err e → (r ≡ Err e) ⊎ ((x : A) × (r ≡ Ok x) × (f x ≡ Err e))
+and_then_err (Ok x) f e h = inr (x, refl, h)
+and_then_err (Err d) f e h = inl (let same : d ≡ e = cc in ap Err same)
+
+at_ok : {A : Type 0} (r : Result A TextKind) (line : ℕ) (y : A) → (r at line) ≡ Ok y → r ≡ Ok y
+at_ok (Ok x) line y h = let same : x ≡ y = cc in ap Ok same
+at_ok (Err k) line y h = absurd (let no : Err (record { line = line; kind = k }) ≡ Ok y = h in cc)
+
+at_err : {A : Type 0} (r : Result A TextKind) (line : ℕ) (e : TextFault) → (r at line) ≡ Err e → (r ≡ Err e.kind) × (e.line ≡ line)
+at_err (Ok x) line e h = absurd (let no : Ok x ≡ Err e = h in cc)
+at_err (Err k) line e h =
+    let same : record { line = line; kind = k } ≡ e = cc in
+    (ap (λ (f : TextFault). Err f.kind) same, sym (ap (λ (f : TextFault). f.line) same))
+
+pub IsPlaceAfter-start : IsPlaceAfter [] start
+IsPlaceAfter-start = record { reaches = record { said = refl; sound = tt; within = omega arith }; count = refl; size = refl }
+
+Reaches-line : (before : List (List ℕ)) (s : Stage) (line : List ℕ) (t : Stage) → Reaches before s → after_line s (sum_by length before + length line) line ≡ Ok t → Reaches (before ++ line ∷ []) t
+Reaches-line before s line t r h =
+    let a = Accepted-line s _ line t r.sound h in
+    record {
+      said = map-append line_shape before (line ∷ []) ∙ rw (r.said, a.reads) (rw (a.adds.more) (sym (map-append Ok (said s) (a.spoken ∷ []))));
+      sound = a.adds.sound;
+      within = rw (sum_by_push length before line) a.within;
+    }
+
+pub IsPlaceAfter-next : (before : List (List ℕ)) (p q : Place) (line : List ℕ) → IsPlaceAfter before p → next p line ≡ Ok q → IsPlaceAfter (before ++ line ∷ []) q
+IsPlaceAfter-next before p q line st h =
+    let step = and_then_ok (after_line p.stage (p.size + length line) line at (p.count + 1)) _ q h in
+    let taken = at_ok (after_line p.stage (p.size + length line) line) (p.count + 1) step.0 step.1 in
+    let there : record { stage = step.0; count = p.count + 1; size = p.size + length line } ≡ q = cc in
+    subst (λ (u : Place). IsPlaceAfter (before ++ line ∷ []) u) there (record {
+      reaches = Reaches-line before p.stage line step.0 st.reaches (rw (← st.size) taken);
+      count = rw (st.count, length-append before (line ∷ [])) refl;
+      size = rw (st.size, sum_by_push length before line) refl;
+    })
+
+pub IsPlaceAfter-lines : (before ls : List (List ℕ)) (p q : Place) → IsPlaceAfter before p → after_lines p ls ≡ Ok q → IsPlaceAfter (before ++ ls) q
+IsPlaceAfter-lines before [] p q st h =
+    let same : p ≡ q = cc in rw append-nil (subst (λ (u : Place). IsPlaceAfter before u) same st)
+IsPlaceAfter-lines before (l ∷ ls) p q st h =
+    let step = and_then_ok (next p l) (λ x. after_lines x ls) q h in
+    rw (← append_assoc before (l ∷ []) ls) (IsPlaceAfter-lines (before ++ l ∷ []) ls step.0 q (IsPlaceAfter-next before p step.0 l st step.1) step.2)
+
+-- the first line that has a fault
+pub record Breaks (before ls : List (List ℕ)) (fault : TextFault) : Type 0 where
+  pub front : List (List ℕ)
+  pub line : List ℕ
+  pub after : List (List ℕ)
+  pub stage : Stage
+  pub split : before ++ ls ≡ front ++ line ∷ after
+  pub reaches : Reaches front stage
+  pub faulty : after_line stage (sum_by length front + length line) line ≡ Err fault.kind
+  pub number : fault.line ≡ length front + 1
+
+Breaks-here : (before ls : List (List ℕ)) (p : Place) (line : List ℕ) (e : TextFault) → IsPlaceAfter before p → next p line ≡ Err e → Breaks before (line ∷ ls) e
+Breaks-here before ls p line e st h =
+    elim (and_then_err (after_line p.stage (p.size + length line) line at (p.count + 1)) _ e h) [
+      | inl is ↦ (let parts = at_err (after_line p.stage (p.size + length line) line) (p.count + 1) e is in record {
+        front = before;
+        line = line;
+        after = ls;
+        stage = p.stage;
+        split = refl;
+        reaches = st.reaches;
+        faulty = rw (← st.size) parts.0;
+        number = rw (← st.count) parts.1;
+      })
+      | inr is ↦ absurd (let no : Ok (record { stage = is.0; count = p.count + 1; size = p.size + length line }) ≡ Err e = is.2 in cc)
+    ]
+
+Breaks-lines : (before ls : List (List ℕ)) (p : Place) (e : TextFault) → IsPlaceAfter before p → after_lines p ls ≡ Err e → Breaks before ls e
+Breaks-lines before [] p e st h = absurd (let no : Ok p ≡ Err e = h in cc)
+Breaks-lines before (l ∷ ls) p e st h =
+    elim (and_then_err (next p l) (λ x. after_lines x ls) e h) [
+      | inl is ↦ Breaks-here before ls p l e st is
+      | inr is ↦ (let later = Breaks-lines (before ++ l ∷ []) ls is.0 e (IsPlaceAfter-next before p is.0 l st is.1) is.2 in record {
+        front = later.front;
+        line = later.line;
+        after = later.after;
+        stage = later.stage;
+        split = sym (append_assoc before (l ∷ []) ls) ∙ later.split;
+        reaches = later.reaches;
+        faulty = later.faulty;
+        number = later.number;
+      })
+    ]
+
+-- ---- what reading gives is spelled
+
+ended_ok : (p : Place) (s : Stage) (r : Recording) → ended p s ≡ Ok r → (version : Version) × (s ≡ Ended version r)
+ended_ok p Opening r h = absurd (let no : Err (record { line = p.count + 1; kind = kind.Cut }) ≡ Ok r = h in cc)
+ended_ok p (Within version q) r h = absurd (let no : Err (record { line = p.count + 1; kind = kind.Cut }) ≡ Ok r = h in cc)
+ended_ok p (Ended version q) r h = let same : q ≡ r = cc in (version, ap (Ended version) same)
+
+Spells-reached : (text : List ℕ) (version : Version) (r : Recording) → Reaches (lines text) (Ended version r) → Spells text r
+Spells-reached text version r reached = record {
+  version = version;
+  fits = reached.sound.1;
+  well_formed = reached.sound.0;
+  said = reached.said;
+  within = rw sum_by-lines at reached.within;
+}
+
+pub Spells-reading : (text : List ℕ) (r : Recording) → reading text ≡ Ok r → Spells text r
+Spells-reading text r h =
+    let step = and_then_ok (after_lines start (lines text)) _ r h in
+    let stands = IsPlaceAfter-lines [] (lines text) start step.0 IsPlaceAfter-start step.1 in
+    let last = ended_ok step.0 step.0.stage r step.2 in
+    Spells-reached text last.0 r (subst (λ (s : Stage). Reaches (lines text) s) last.1 stands.reaches)
+
+-- ---- a fault that reading gives is the first
+
+cut_parts : (p : Place) (s : Stage) (e : TextFault) → ended p s ≡ Err e → IsOpen s × (e.line ≡ p.count + 1) × (e.kind ≡ kind.Cut)
+cut_parts p Opening e h = let same : record { line = p.count + 1; kind = kind.Cut } ≡ e = cc in (tt, sym (ap (λ (f : TextFault). f.line) same), sym (ap (λ (f : TextFault). f.kind) same))
+cut_parts p (Within version q) e h = let same : record { line = p.count + 1; kind = kind.Cut } ≡ e = cc in (tt, sym (ap (λ (f : TextFault). f.line) same), sym (ap (λ (f : TextFault). f.kind) same))
+cut_parts p (Ended version q) e h = absurd (let no : Ok q ≡ Err e = h in cc)
+
+pub IsFirstFault-reading : (text : List ℕ) (e : TextFault) → reading text ≡ Err e → IsFirstFault text e
+IsFirstFault-reading text e h =
+    elim (and_then_err (after_lines start (lines text)) _ e h) [
+      | inl is ↦ (let b = Breaks-lines [] (lines text) start e IsPlaceAfter-start is in inl (record {
+        before = b.front;
+        line = b.line;
+        after = b.after;
+        stage = b.stage;
+        split = b.split;
+        reaches = b.reaches;
+        faulty = b.faulty;
+        number = b.number;
+      }))
+      | inr is ↦ (let stands = IsPlaceAfter-lines [] (lines text) start is.0 IsPlaceAfter-start is.1 in
+          let parts = cut_parts is.0 is.0.stage e is.2 in inr (record {
+            stage = is.0.stage;
+            reaches = stands.reaches;
+            unended = parts.0;
+            number = rw (← stands.count) parts.1;
+            kind_is = parts.2;
+          }))
+    ]

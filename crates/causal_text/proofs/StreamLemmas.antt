@@ -1,0 +1,73 @@
+-- What a reader has read, piece by piece.
+use Rattle.std.proofs.Common.{◌≡◌, ℕ, zero, suc, ◌+◌, ◌<◌, ◌≤◌, take, List, [], ◌∷◌, ◌++◌, length, Option, Some, None, Ok, Err, refl, ap, sym, ◌∙◌, arith, append_assoc, append-nil, length-append, subst}
+use Rattle.std.specs.Prelude.{IfSome, sum_by}
+use Rattle.std.specs.Io.KnownBytes.{Consumes, IsAtEnd}
+use Rattle.std.proofs.lemmas.List.Sums.{sum_by-cons}
+use Rattle.causal_trace.specs.Rows.{Recording}
+use Rattle.causal_text.specs.declared.kind.TextFault.{TextFault}
+use Rattle.causal_text.specs.declared.stream.State.{State}
+use Rattle.causal_text.specs.declared.stream.State.TheVariants as state
+use Rattle.causal_text.specs.declared.stream.Progress.TheVariants as progress
+use Rattle.causal_text.specs.declared.stream.ReaderFault.{ReaderFault}
+use Rattle.causal_text.specs.declared.stream.ReaderFault.TheVariants as fault
+use Rattle.causal_text.specs.Spelling.{Spells, IsFirstFault}
+use Rattle.causal_text.specs.Pieces.{joined, Held, taken, StandsFor}
+use Rattle.causal_text.specs.Streams.{HasRead, IsReading, Follows, PieceEndsAt, TellsFault, TellsOf, IsFaultAfter}
+
+pub Consumes-then : (a m n : Option (List ℕ)) (xs ys : List ℕ) → Consumes a m xs → Consumes m n ys → Consumes a n (xs ++ ys)
+Consumes-then None m n xs ys p q = tt
+Consumes-then (Some a) None n xs ys p q = absurd p
+Consumes-then (Some a) (Some m) None xs ys p q = absurd q
+Consumes-then (Some a) (Some m) (Some n) xs ys p q = p ∙ ap (λ z. xs ++ z) q ∙ sym (append_assoc xs ys n)
+
+pub IsReading-more : (s : State) → Follows progress.More s → IsReading s
+IsReading-more (state.Reading h) f = f
+IsReading-more (state.Ended r) f = absurd f
+IsReading-more state.Failed f = absurd f
+
+length-joined : (ls : List (List ℕ)) → length (joined ls) ≡ sum_by length ls
+length-joined [] = refl
+length-joined (l ∷ ls) = length-append l (joined ls) ∙ ap (λ n. length l + n) (length-joined ls) ∙ sym (sum_by-cons length l ls)
+
+-- how many bytes there are
+length-taken : (h : Held) (bytes : List ℕ) → StandsFor h bytes → length bytes ≡ taken h
+length-taken h bytes st =
+    let all = length-joined st.complete in
+    ap length st.whole ∙ length-append (joined st.complete) h.rest ∙ omega (arith, st.place_is.size)
+
+pub read_more : (k : Held) (bytes : List ℕ) → StandsFor k bytes → taken k ≤ 33554432 → HasRead (state.Reading k) bytes
+read_more k bytes st few = (st, omega (arith, length-taken k bytes st))
+
+pub length-read : (s : State) (read : List ℕ) → HasRead s read → length read ≤ 33554432
+length-read (state.Reading h) read st = st.1
+length-read (state.Ended r) read st = st.within
+length-read state.Failed read st = absurd st
+
+-- a piece is empty only at the end
+pub piece_ends : (n : ℕ) (buffer : List ℕ) (left : Option (List ℕ)) → n ≤ length buffer → (n ≡ 0 → 0 < length buffer → IsAtEnd left) → 0 < length buffer → PieceEndsAt (take n buffer) left
+piece_ends zero buffer left few ends some = ends refl some
+piece_ends (suc n) [] left few ends some = absurd (omega arith)
+piece_ends (suc n) (x ∷ xs) left few ends some = tt
+
+-- all known bytes were read
+all_read : (bytes xs : List ℕ) (left : Option (List ℕ)) → Consumes (Some bytes) left xs → IsAtEnd left → bytes ≡ xs
+all_read bytes xs None p e = absurd p
+all_read bytes xs (Some ys) p e = p ∙ ap (λ z. xs ++ z) e ∙ append-nil xs
+
+pub spelled_at_end : (known left : Option (List ℕ)) (xs : List ℕ) (t : Recording) → Consumes known left xs → IsAtEnd left → Spells xs t → IfSome known (λ bytes. Spells bytes t)
+spelled_at_end None left xs t p e h = tt
+spelled_at_end (Some bytes) left xs t p e h = subst (λ text. Spells text t) (sym (all_read bytes xs left p e)) h
+
+first_of_source : (bytes read piece : List ℕ) (left : Option (List ℕ)) (f : TextFault) → Consumes (Some bytes) left (read ++ piece) → PieceEndsAt piece left → IsFaultAfter piece (read ++ piece) f → IsFirstFault bytes f
+first_of_source bytes read [] left f p e h = subst (λ text. IsFirstFault text f) (sym (all_read bytes (read ++ []) left p e)) h
+first_of_source bytes read (x ∷ xs) None f p e h = absurd p
+first_of_source bytes read (x ∷ xs) (Some rest) f p e h = subst (λ text. IsFirstFault text f) (sym p) (h rest)
+
+pub TellsOf-faults : (known mid left : Option (List ℕ)) (stood : List ℕ → Type 0) (read : List ℕ) (f : ReaderFault) → Consumes known mid read → stood read → TellsFault mid left stood f → IfSome known (λ bytes. TellsOf bytes f)
+TellsOf-faults None mid left stood read f p s h = tt
+TellsOf-faults (Some bytes) mid left stood read fault.Read p s h = tt
+TellsOf-faults (Some bytes) mid left stood read (fault.Text f) p s h = λ other.
+    let told = h other in
+    first_of_source bytes read told.0 left f (Consumes-then (Some bytes) mid left read told.0 p told.1) told.2 (told.3 read s)
+TellsOf-faults (Some bytes) mid left stood read fault.Failed p s h = absurd (h read s)
+TellsOf-faults (Some bytes) mid left stood read fault.Unfinished p s h = absurd h

@@ -1,0 +1,8 @@
+use Rattle.causal_text.proofs.Canonicals.{canonical-spells}
+use Rattle.causal_text.proofs.laws.canonical_spells.Goals as goal
+
+pub returns-clause-spells : goal.returns-clause-spells
+returns-clause-spells c = canonical-spells c.numbers_are_small.ensures.small c.numbers_are_small.ensures.limits
+
+pub returns-clause-short : goal.returns-clause-short
+returns-clause-short c = λ r w. (canonical-spells c.numbers_are_small.ensures.small c.numbers_are_small.ensures.limits r w).within

@@ -1,0 +1,36 @@
+use Rattle.std.proofs.Common.{◌≡◌, ◌≢◌, ◌<◌, ◌++◌, ◌∙◌, sym, ap, List, ℕ, true, length, Result, Ok, Err, IfOk, IfErr, append_assoc}
+use Rattle.causal_text.specs.declared.kind.TextKind.TheVariants as kind
+use Rattle.causal_text.specs.declared.kind.TextFault.{TextFault}
+use Rattle.causal_text.specs.Pieces.{no_feed, Held, StandsFor, IsFaultOfAll, IsPast}
+use Rattle.std.proofs.lemmas.Result.{err_from_is_err_and}
+use Rattle.causal_text.proofs.Feeds.{Comes, Comes-line, Comes-hold, fault_of_piece, fault_of_hold, told}
+use Rattle.causal_text.proofs.reader.PieceReader.feed.Goals as goal
+
+pub loop-line-preserved : goal.loop-line-preserved
+loop-line-preserved c =
+    let i = c.loop-line.invariant in
+    let some = c.in-Some.ensures.some in
+    (i.0 ++ c.in-Some.line.now, i.1 ∙ ap (λ xs. i.0 ++ xs) some.1 ∙ sym (append_assoc i.0 c.in-Some.line.now c.in-Some.after.now), Comes-line c.args.self c.loop-line.reader c.in_ok-reader.reader i.0 c.in-Some.line.now i.2 some.0 c.in_ok-reader.ensures)
+
+held : (h0 h : Held) (piece done left : List ℕ) (r : Result Held TextFault) → Comes h0 done h → piece ≡ done ++ left → no_feed left ≡ true → IfOk r (λ k. k ≡ record { place = h.place; rest = h.rest ++ left }) → IfOk r (λ k. (b : List ℕ) → StandsFor h0 b → StandsFor k (b ++ piece))
+held h0 h piece done left (Ok k) c is none e = rw (e, is) (Comes-hold h0 h done left c none)
+held h0 h piece done left (Err f) c is none e = tt
+
+past : (h0 h : Held) (piece done left : List ℕ) (r : Result Held TextFault) → Comes h0 done h → piece ≡ done ++ left → no_feed left ≡ true
+    → IfErr r (λ f. f.kind ≢ kind.NoMemory → (0 < length (h.rest ++ left)) × IsPast (record { place = h.place; rest = h.rest ++ left }) f) → IfErr r (λ f. f.kind ≢ kind.NoMemory → (b : List ℕ) → StandsFor h0 b → IsFaultOfAll (b ++ piece) f)
+past h0 h piece done left (Ok k) c is none e = tt
+past h0 h piece done left (Err f) c is none e = λ other b s. rw is (fault_of_hold h0 h done left f c none (e other).0 (e other).1 b s)
+
+pub returns-clause-ok : goal.returns-clause-ok
+returns-clause-ok c = let i = c.loop-line.invariant in held c.args.self c.loop-line.reader _ i.0 c.loop-line.left.now c.hold.result i.2 i.1 c.in_default.ensures.none c.hold.ensures.ok
+
+pub returns-clause-err : goal.returns-clause-err
+returns-clause-err c = let i = c.loop-line.invariant in past c.args.self c.loop-line.reader _ i.0 c.loop-line.left.now c.hold.result i.2 i.1 c.in_default.ensures.none c.hold.ensures.err
+
+pub returns-in_err-reader-clause-err : goal.returns-in_err-reader-clause-err
+returns-in_err-reader-clause-err c =
+    let p = err_from_is_err_and c.from_residual.result c.from_residual.ensures.1 in
+    let i = c.loop-line.invariant in
+    let some = c.in-Some.ensures.some in
+    let piece_is = i.1 ∙ ap (λ xs. i.0 ++ xs) some.1 in
+    rw (p.1, p.2) (λ other b s. rw piece_is (fault_of_piece c.args.self c.loop-line.reader i.0 c.in-Some.line.now c.in-Some.after.now _ i.2 some.0 (told _ _ _ c.in_err-reader.ensures other) b s))

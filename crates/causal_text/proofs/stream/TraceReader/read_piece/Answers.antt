@@ -1,0 +1,14 @@
+use Rattle.std.proofs.Common.{rules, take, arith}
+use Rattle.causal_text.proofs.StreamLemmas.{piece_ends}
+use Rattle.causal_text.proofs.stream.TraceReader.read_piece.Goals as goal
+
+pub returns-after-n-eq0-clause-ok : goal.returns-after-n-eq0-clause-ok
+returns-after-n-eq0-clause-ok g c = rw (← c.self.view_is) (search rules)
+
+pub returns-in-Err-clause-text : goal.returns-in-Err-clause-text
+returns-in-Err-clause-text g c = λ other. (
+  take c.in-Ok.n c.read.new.buf,
+  rw (← c.self.view_is) c.in-Ok.ensures.bytes.0,
+  piece_ends c.in-Ok.n c.read.new.buf _ c.in-Ok.ensures.bound.0 c.in-Ok.ensures.bytes.1 (omega arith),
+  c.in-Err.ensures.err other,
+)

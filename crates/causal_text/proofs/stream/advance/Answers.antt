@@ -1,0 +1,43 @@
+use Rattle.std.proofs.Common.{◌≡◌, ◌++◌, ◌∙◌, sym, ap, List, [], ◌∷◌, ℕ, Bool, true, false, length, Err, append-nil}
+use Rattle.std.specs.Prelude.{◌==◌}
+use Rattle.std.proofs.lemmas.Bool.{eqb-true}
+use Rattle.std.proofs.lemmas.List.{nil_from_length}
+use Rattle.std.proofs.lemmas.Result.{err_from_is_err_and}
+use Rattle.causal_text.specs.declared.kind.TextFault.{TextFault}
+use Rattle.causal_text.specs.Pieces.{IsFaultOfAll}
+use Rattle.causal_text.specs.Streams.{IsFaultAfter}
+use Rattle.causal_text.specs.Place.{reading}
+use Rattle.causal_text.proofs.Feeds.{reading-ending, told}
+use Rattle.causal_text.proofs.Spellings.{Spells-reading, IsFirstFault-reading}
+use Rattle.causal_text.proofs.StreamLemmas.{read_more}
+use Rattle.causal_text.proofs.stream.advance.Goals as goal
+
+is_nil : (xs : List ℕ) (b : Bool) → b ≡ (length xs == 0) → b ≡ true → xs ≡ []
+is_nil xs b e t = nil_from_length xs (eqb-true (length xs) 0 (sym e ∙ t))
+
+fault_after : (piece bytes : List ℕ) (f : TextFault) (b : Bool) → b ≡ (length piece == 0) → b ≡ false → IsFaultOfAll bytes f → IsFaultAfter piece bytes f
+fault_after [] bytes f b e some h = absurd (let bad : true ≡ false = sym e ∙ some in cc)
+fault_after (x ∷ xs) bytes f b e some h = λ more. IsFirstFault-reading (bytes ++ more) f (h more)
+
+fault_at_end : (piece b : List ℕ) (f : TextFault) → piece ≡ [] → reading b ≡ Err f → IsFaultAfter piece (b ++ piece) f
+fault_at_end [] b f e h = IsFirstFault-reading (b ++ []) f (ap reading (append-nil b) ∙ h)
+fault_at_end (x ∷ xs) b f e h = absurd (let no : x ∷ xs ≡ [] = e in cc)
+
+pub returns-in_err-end-clause-err : goal.returns-in_err-end-clause-err
+returns-in_err-end-clause-err c =
+    let p = err_from_is_err_and c.from_residual.result c.from_residual.ensures.1 in
+    let empty = is_nil c.args.piece.now c.is_empty.result c.is_empty.ensures c.if-is_empty.true in
+    rw (p.1, p.2) (λ other b s. fault_at_end c.args.piece.now b _ empty (reading-ending c.args.pieces b s.0 ∙ told _ _ _ c.in_err-end.ensures other))
+
+pub returns-in_err-feed-clause-err : goal.returns-in_err-feed-clause-err
+returns-in_err-feed-clause-err c =
+    let p = err_from_is_err_and c.from_residual-in_err-feed.result c.from_residual-in_err-feed.ensures.1 in
+    rw (p.1, p.2) (λ other b s. fault_after c.args.piece.now _ _ c.is_empty.result c.is_empty.ensures c.if-is_empty.false (c.in_err-feed.ensures.err other b s.0))
+
+pub returns-in_ok-end-clause-ok : goal.returns-in_ok-end-clause-ok
+returns-in_ok-end-clause-ok c =
+    let empty = is_nil c.args.piece.now c.is_empty.result c.is_empty.ensures c.if-is_empty.true in
+    λ b s. Spells-reading _ _ (rw (empty, append-nil b) (reading-ending c.args.pieces b s.0 ∙ c.in_ok-end.ensures))
+
+pub returns-in_ok-feed-clause-ok : goal.returns-in_ok-feed-clause-ok
+returns-in_ok-feed-clause-ok c = λ b s. read_more _ _ (c.in_ok-feed.ensures.ok b s.0) c.in_ok-feed.ensures.room

@@ -1,0 +1,12 @@
+pub mod Lines
+pub mod Reading
+pub mod Shapes
+pub mod Versions
+pub mod Stages
+pub mod Place
+pub mod Spelling
+pub mod Laws
+pub mod FaultLine
+pub mod Canonical
+pub mod Pieces
+pub mod Streams

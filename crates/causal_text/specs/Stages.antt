@@ -1,0 +1,95 @@
+-- What the lines so far have said, and what one more line adds or is refused for.
+use Rattle.std.specs.Prelude.{ℕ, ◌&&◌, ◌==◌, List, [], length, take, slice_index, ◌-◌, nat_lt, nat_le, if◌then◌else◌, Option, Some, None, Result, Ok, Err}
+use Rattle.std.specs.Str.{is_utf8}
+use Rattle.serde_json.specs.Data.{Data}
+use Rattle.serde_json.specs.Read.{read}
+use Rattle.causal_trace.specs.Rows.{Recording, first_fault}
+use Rattle.causal_trace.specs.State.{with_entry}
+use Rattle.causal_trace.specs.declared.entry.Entry.{Entry}
+use Rattle.causal_trace.specs.declared.fault.TraceFault.{TraceFault}
+use Rattle.causal_trace.specs.declared.fault.TraceFault.TheVariants as trace
+use Rattle.causal_text.specs.declared.kind.TextKind.{TextKind}
+use Rattle.causal_text.specs.declared.kind.TextKind.TheVariants as kind
+use Rattle.causal_text.specs.declared.shape.Shape.{Shape}
+use Rattle.causal_text.specs.declared.shape.Shape.TheVariants as shape
+use Rattle.causal_text.specs.declared.stage.Stage.{Stage}
+use Rattle.causal_text.specs.declared.stage.Stage.TheVariants.{Opening, Within, Ended}
+use Rattle.causal_text.specs.declared.version.Version.{Version}
+use Rattle.causal_text.specs.Lines.{line_feed}
+use Rattle.causal_text.specs.Reading.{◌>>=◌}
+use Rattle.causal_text.specs.Shapes.{shape_of}
+use Rattle.causal_text.specs.Versions.{version_of, most_processes, has_line}
+
+-- how many bytes a text may have
+abbrev pub max_text : ℕ
+max_text = 33554432
+
+-- the line without its line feed
+unfoldable pub content : List ℕ → List ℕ
+content line = if slice_index line (length line - 1) == line_feed then take (length line - 1) line else line
+
+abbrev pub or_syntax : Option Data → Result Data TextKind
+or_syntax (Some d) = Ok d
+or_syntax None = Err kind.Syntax
+
+-- the JSON value that these bytes are; bytes that are no UTF-8 are none
+abbrev pub json_of : List ℕ → Result Data TextKind
+json_of bytes = if is_utf8 bytes then or_syntax (read bytes) else Err kind.Syntax
+
+-- the JSON value that a line is
+abbrev pub value_of : List ℕ → Result Data TextKind
+value_of line = json_of (content line)
+
+-- what a line says
+unfoldable pub line_shape : List ℕ → Result Shape TextKind
+line_shape line = value_of line >>= shape_of
+
+-- what stands against an entry has the same name where it stands against a line
+abbrev pub kind_of : TraceFault → TextKind
+kind_of trace.Processes = kind.Processes
+kind_of trace.TooLong = kind.TooLong
+kind_of trace.NoProcess = kind.NoProcess
+kind_of trace.NotUp = kind.NotUp
+kind_of trace.NotDown = kind.NotDown
+kind_of trace.Lanes = kind.Lanes
+kind_of trace.WrongSsn = kind.WrongSsn
+kind_of trace.NoSend = kind.NoSend
+kind_of trace.WrongRsn = kind.WrongRsn
+kind_of trace.Doubled = kind.Doubled
+kind_of trace.Unsorted = kind.Unsorted
+kind_of trace.NoDelivery = kind.NoDelivery
+kind_of trace.NoMemory = kind.NoMemory
+
+-- a recording of no entries
+abbrev pub opened : ℕ → Recording
+opened n = record { processes = n; past = [] }
+
+-- a header begins a text of its version
+abbrev pub begun : Option Version → ℕ → Result Stage TextKind
+begun None n = Err kind.Version
+begun (Some version) n = if nat_le 1 n && nat_le n (most_processes version) then Ok (Within version (opened n)) else Err kind.Processes
+
+-- an entry comes next, where nothing stands against it
+abbrev pub admitted : Version → Recording → Entry → Option TraceFault → Result Stage TextKind
+admitted version r e None = Ok (Within version (with_entry r e))
+admitted version r e (Some f) = Err (kind_of f)
+
+-- what a line adds to those before it, by what it says
+abbrev pub follow : Stage → Shape → Result Stage TextKind
+follow Opening (shape.Header number n) = begun (version_of number) n
+follow Opening (shape.Entry e) = Err kind.Header
+follow Opening (shape.End count) = Err kind.Header
+follow (Within version r) (shape.Header number n) = Err kind.Header
+follow (Within version r) (shape.Entry e) = if has_line version e then admitted version r e (first_fault r.processes r.past e) else Err kind.Form
+follow (Within version r) (shape.End count) = if count == length r.past then Ok (Ended version r) else Err kind.Count
+follow (Ended version r) s = Err kind.After
+
+abbrev pub within_limit : ℕ → Result Stage TextKind → Result Stage TextKind
+within_limit end next = if nat_lt max_text end then Err kind.Big else next
+
+-- What the next line adds, where it goes up to byte number `end` of the text. Nothing follows an end line, whatever it
+-- holds; then the text's limit is asked for, then that the line is a JSON value, then that it has one of the shapes.
+abbrev pub after_line : Stage → ℕ → List ℕ → Result Stage TextKind
+after_line Opening end line = within_limit end (line_shape line >>= follow Opening)
+after_line (Within version r) end line = within_limit end (line_shape line >>= follow (Within version r))
+after_line (Ended version r) end line = Err kind.After

@@ -1,0 +1,82 @@
+-- A text that comes from a reader of bytes.
+use Rattle.std.specs.Prelude.{◌≡◌, ◌≢◌, ◌<◌, ◌≤◌, ℕ, List, [], ◌∷◌, ◌++◌, length, Option, Result, Ok, Err}
+use Rattle.std.specs.Io.KnownBytes.{Consumes, IsAtEnd}
+use Rattle.causal_trace.specs.Rows.{Recording}
+use Rattle.causal_trace.specs.State.{TraceState}
+use Rattle.causal_text.specs.declared.kind.TextKind.TheVariants.{NoMemory}
+use Rattle.causal_text.specs.declared.kind.TextFault.{TextFault}
+use Rattle.causal_text.specs.declared.stream.ReaderFault.{ReaderFault}
+use Rattle.causal_text.specs.declared.stream.ReaderFault.TheVariants as fault
+use Rattle.causal_text.specs.declared.stream.State.{State}
+use Rattle.causal_text.specs.declared.stream.State.TheVariants as state
+use Rattle.causal_text.specs.declared.stream.Progress.{Progress}
+use Rattle.causal_text.specs.declared.stream.Progress.TheVariants as progress
+use Rattle.causal_text.specs.Pieces.{StandsFor}
+use Rattle.causal_text.specs.Spelling.{Spells, IsFirstFault}
+use Rattle.causal_text.specs.Stages.{max_text}
+
+-- what a contract sees of a reader of a trace: its source of bytes, and how far it is
+pub record ReaderState (R : Type 0) : Type 0 where
+  pub source : R
+  pub state : State
+
+-- the state is that of a reader which has read these bytes; one that has failed has read none
+abbrev pub HasRead : State → List ℕ → Type 0
+HasRead (state.Reading held) bytes = StandsFor held bytes × (length bytes ≤ max_text)
+HasRead (state.Ended r) bytes = Spells bytes r
+HasRead state.Failed bytes = ⊥
+
+-- the text goes on
+abbrev pub IsReading : State → Type 0
+IsReading (state.Reading held) = Unit {0}
+IsReading s = ⊥
+
+-- after a piece with bytes the text goes on, and after an empty one it has ended
+abbrev pub HasPiece : Progress → List ℕ → Type 0
+HasPiece progress.More piece = 0 < length piece
+HasPiece progress.Ended piece = piece ≡ []
+
+abbrev pub Follows : Progress → State → Type 0
+Follows progress.More (state.Reading held) = Unit {0}
+Follows progress.Ended (state.Ended r) = Unit {0}
+Follows p s = ⊥
+
+-- at the end the source has no byte left
+abbrev pub EndsAt : Progress → Option (List ℕ) → Type 0
+EndsAt progress.More left = Unit {0}
+EndsAt progress.Ended left = IsAtEnd left
+
+abbrev pub PieceEndsAt : List ℕ → Option (List ℕ) → Type 0
+PieceEndsAt [] left = IsAtEnd left
+PieceEndsAt (x ∷ xs) left = Unit {0}
+
+-- the first fault of the bytes read: however they go on, or of them alone where the last piece was empty
+abbrev pub IsFaultAfter : List ℕ → List ℕ → TextFault → Type 0
+IsFaultAfter [] bytes fault = IsFirstFault bytes fault
+IsFaultAfter (x ∷ xs) bytes fault = (more : List ℕ) → IsFirstFault (bytes ++ more) fault
+
+-- what a fault tells, of a reader that had read what `read` says: a fault of the text is that of the bytes read with one
+-- more piece, unless memory was wanted; only one that failed before is told to have failed
+abbrev pub TellsFault : Option (List ℕ) → Option (List ℕ) → (List ℕ → Type 0) → ReaderFault → Type 0
+TellsFault old new read fault.Read = Unit {0}
+TellsFault old new read (fault.Text f) = f.kind ≢ NoMemory → (piece : List ℕ) × Consumes old new piece × PieceEndsAt piece new × ((b : List ℕ) → read b → IsFaultAfter piece (b ++ piece) f)
+TellsFault old new read fault.Failed = (b : List ℕ) → read b → ⊥
+TellsFault old new read fault.Unfinished = ⊥
+
+-- what a fault tells of a source that is read to its end: the first fault of its bytes, unless memory was wanted
+abbrev pub TellsOf : List ℕ → ReaderFault → Type 0
+TellsOf bytes fault.Read = Unit {0}
+TellsOf bytes (fault.Text f) = f.kind ≢ NoMemory → IsFirstFault bytes f
+TellsOf bytes fault.Failed = ⊥
+TellsOf bytes fault.Unfinished = ⊥
+
+-- the recording, once the text has ended
+abbrev pub held_trace : State → Result Recording ReaderFault
+held_trace (state.Reading held) = Err fault.Unfinished
+held_trace (state.Ended r) = Ok r
+held_trace state.Failed = Err fault.Failed
+
+-- a trace with the recording that is held, or the same fault
+abbrev pub IsHeldTrace : Result TraceState ReaderFault → Result Recording ReaderFault → Type 0
+IsHeldTrace (Ok t) held = held ≡ Ok t.recording
+IsHeldTrace (Err e) held = held ≡ Err e

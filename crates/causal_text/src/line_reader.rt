@@ -1,0 +1,103 @@
+//! A text line by line.
+ghost use Rattle.std.specs.Prelude.{◌≡◌, ◌+◌, ◌<◌, ◌≤◌, ◌++◌, List, ℕ, length, Err, IfSome, IfNone};
+ghost use Rattle.causal_text.specs.Place.{start, next, ended, GivesText};
+
+use crate::kind::{TextFault, TextKind};
+use crate::recorded::Recorded;
+use crate::stage::{MAX_TEXT, Stage, after_line};
+use std::alloc::Global;
+use std::marker::Model;
+
+/// What the lines so far have said, how many they are, and how many bytes they have.
+#[derive(Drop)]
+pub(crate) struct LineReader {
+    stage: Stage,
+    count: u32,
+    size: usize,
+}
+
+impl Model for LineReader {
+    ghost use Rattle.std.specs.Prelude.{◌≤◌};
+    ghost use Rattle.causal_text.specs.Place.{Place};
+
+    ghost Value = { Place };
+
+    ghost view = { λ r. record { stage = r.stage; count = r.count; size = r.size } };
+
+    ghost invariant = { λ r. (r.count ≤ r.size) × (r.size ≤ 33554432) };
+}
+
+impl LineReader {
+    /// Before the first line.
+    pub(crate) fn new() -> LineReader
+        ensures { result ≡ start }
+    {
+        LineReader {
+            stage: Stage::Opening,
+            count: 0,
+            size: 0,
+        }
+    }
+
+    /// Takes the next line.
+    pub(crate) fn take(self, alloc: Global, line: &[u8]) -> Result<LineReader, TextFault>
+        requires { 0 < length line.now }
+        ensures { GivesText result (next self line.now) }
+    {
+        let LineReader { stage, count, size } = self;
+        let end = size.saturating_add(line.len());
+        match after_line(alloc, stage, end, line) {
+            Ok(stage) => Ok(LineReader {
+                stage,
+                count: count + 1,
+                size: end,
+            }),
+            Err(kind) => Err(TextFault {
+                line: count + 1,
+                kind,
+            }),
+        }
+    }
+
+    /// Want of memory at the line that is being read.
+    pub(crate) fn no_memory(&self) -> TextFault
+        ensures { result.kind ≡ TextKind.NoMemory }
+    {
+        TextFault {
+            line: self.count + 1,
+            kind: TextKind::NoMemory,
+        }
+    }
+
+    /// The fault of a line that begins so, where the text is too long already.
+    pub(crate) fn past(&self, begun: &[u8]) -> Option<TextFault>
+        ensures past { IfSome result (λ fault. (0 < length begun.now)
+            × ((more : List ℕ) → next self.now (begun.now ++ more) ≡ Err fault)) }
+        ensures room { IfNone result (self.now.size + length begun.now ≤ 33554432) }
+    {
+        if self.size.saturating_add(begun.len()) <= MAX_TEXT {
+            return None;
+        }
+        let kind = match self.stage {
+            Stage::Ended { .. } => TextKind::After,
+            _ => TextKind::Big,
+        };
+        Some(TextFault {
+            line: self.count + 1,
+            kind,
+        })
+    }
+
+    /// The trace, where its end line has come.
+    pub(crate) fn finish(self) -> Result<Recorded, TextFault>
+        ensures { GivesText result (ended self self.stage) }
+    {
+        match self.stage {
+            Stage::Ended { trace, .. } => Ok(trace),
+            _ => Err(TextFault {
+                line: self.count + 1,
+                kind: TextKind::Cut,
+            }),
+        }
+    }
+}

@@ -1,0 +1,129 @@
+//! From a text, whole or in pieces, to the trace that it spells, or to its first fault.
+ghost use Rattle.std.specs.Prelude.{◌≡◌, ◌≢◌, ◌++◌, ◌<◌, ◌≤◌, List, [], ℕ, length, IfOk, IfErr};
+ghost use Rattle.causal_text.specs.Place.{GivesText, reading};
+ghost use Rattle.causal_text.specs.Pieces.{StandsFor, IsFaultOfAll, with_line, IsPast, ending, taken};
+ghost use Rattle.causal_text.specs.Spelling.{Spells, IsFirstFault};
+
+use crate::kind::{TextFault, TextKind};
+use crate::line_reader::LineReader;
+use crate::lines::split_complete;
+use crate::recorded::Recorded;
+use causal_trace::trace::Trace;
+use std::alloc::Global;
+use std::marker::Model;
+
+/// The complete lines so far, and the unfinished line.
+#[derive(Drop)]
+pub(crate) struct PieceReader {
+    lines: LineReader,
+    rest: Vec<u8>,
+}
+
+impl Model for PieceReader {
+    ghost use Rattle.causal_text.specs.Pieces.{Held};
+
+    ghost Value = { Held };
+
+    ghost view = { λ r. record { place = r.lines; rest = r.rest.items } };
+}
+
+impl PieceReader {
+    /// Before the first piece.
+    pub(crate) fn new(alloc: Global) -> PieceReader
+        ensures stands { StandsFor result [] }
+        ensures room { taken result ≤ 33554432 }
+    {
+        PieceReader {
+            lines: LineReader::new(),
+            rest: Vec::new(alloc),
+        }
+    }
+
+    /// Takes the rest of a line, with its line feed.
+    fn complete(self, alloc: Global, line: &[u8]) -> Result<PieceReader, TextFault>
+        requires { 0 < length line.now }
+        ensures { GivesText result (with_line self line.now) }
+    {
+        let PieceReader { lines, mut rest } = self;
+        if rest.extend_from_slice(line).is_err() {
+            return Err(lines.no_memory());
+        }
+        let lines = lines.take(alloc, rest.as_slice())?;
+        rest.clear();
+        Ok(PieceReader { lines, rest })
+    }
+
+    /// Holds more of a line, unless the text is too long by it.
+    fn hold(self, part: &[u8]) -> Result<PieceReader, TextFault>
+        ensures ok { IfOk result (λ r. r ≡ record { place = self.place; rest = self.rest ++ part.now }) }
+        ensures room { IfOk result (λ r. taken r ≤ 33554432) }
+        ensures err { IfErr result (λ f. f.kind ≢ TextKind.NoMemory
+            → (0 < length (self.rest ++ part.now))
+            × IsPast (record { place = self.place; rest = self.rest ++ part.now }) f) }
+    {
+        let PieceReader { lines, mut rest } = self;
+        if rest.extend_from_slice(part).is_err() {
+            return Err(lines.no_memory());
+        }
+        match lines.past(rest.as_slice()) {
+            Some(fault) => Err(fault),
+            None => Ok(PieceReader { lines, rest }),
+        }
+    }
+
+    /// Takes the next piece of the text.
+    pub(crate) fn feed(self, alloc: Global, piece: &[u8]) -> Result<PieceReader, TextFault>
+        ensures ok { IfOk result (λ r. (b : List ℕ) → StandsFor self b → StandsFor r (b ++ piece.now)) }
+        ensures room { IfOk result (λ r. taken r ≤ 33554432) }
+        ensures err { IfErr result (λ f. f.kind ≢ TextKind.NoMemory
+            → (b : List ℕ) → StandsFor self b → IsFaultOfAll (b ++ piece.now) f) }
+    {
+        let mut reader = self;
+        let mut left = piece;
+        while let Some((line, after)) = split_complete(left) {
+            reader = reader.complete(alloc, line)?;
+            left = after;
+        }
+        reader.hold(left)
+    }
+
+    /// The trace that the bytes so far spell, where they are the whole text.
+    pub(crate) fn end(self, alloc: Global) -> Result<Recorded, TextFault>
+        ensures { GivesText result (ending self) }
+    {
+        let PieceReader { lines, rest } = self;
+        if rest.is_empty() {
+            return lines.finish();
+        }
+        let lines = lines.take(alloc, rest.as_slice())?;
+        lines.finish()
+    }
+}
+
+/// The trace that a text spells. A text has at most 33,554,432 bytes. A fault other than `NoMemory` is the first of the
+/// text: the least line that has one, counted from 1, and within it the first kind in the order of [`TextKind`].
+/// `NoMemory` is answered only where a growth was refused, with the line that was being read.
+pub fn read_trace(alloc: Global, bytes: &[u8]) -> Result<Trace, TextFault>
+    ensures ok { IfOk result (λ trace. Spells bytes.now trace.recording) }
+    ensures err { IfErr result (λ fault. fault.kind ≢ TextKind.NoMemory → IsFirstFault bytes.now fault) }
+{
+    match read_recorded(alloc, bytes) {
+        Ok(recorded) => Ok(recorded.into_trace()),
+        Err(fault) => Err(fault),
+    }
+}
+
+fn read_recorded(alloc: Global, bytes: &[u8]) -> Result<Recorded, TextFault>
+    ensures ok { IfOk result (λ r. Spells bytes.now r) }
+    ensures err { IfErr result (λ fault. fault.kind ≢ TextKind.NoMemory → IsFirstFault bytes.now fault) }
+{
+    read_whole(alloc, bytes)
+}
+
+// the whole text is one piece
+fn read_whole(alloc: Global, bytes: &[u8]) -> Result<Recorded, TextFault>
+    ensures { GivesText result (reading bytes.now) }
+{
+    let reader = PieceReader::new(alloc).feed(alloc, bytes)?;
+    reader.end(alloc)
+}

@@ -1,0 +1,63 @@
+//! A trace of which clauses see the recording alone: what the lines of a text determine.
+ghost use Rattle.std.specs.Prelude.{◌≡◌, length, None, IfOk, IfErr, OnOk, MatchBool, unwrap_or};
+ghost use Rattle.causal_trace.specs.Limits.{IsProcessCount, is_process_count};
+ghost use Rattle.causal_trace.specs.Rows.{first_fault, IsWellFormed};
+ghost use Rattle.causal_trace.specs.State.{with_entry};
+ghost use Rattle.causal_text.specs.Stages.{opened};
+
+use causal_trace::entry::Entry;
+use causal_trace::fault::TraceFault;
+use causal_trace::trace::Trace;
+use std::alloc::Global;
+use std::marker::Model;
+
+/// A trace that is being read.
+#[derive(Drop)]
+pub(crate) struct Recorded {
+    trace: Trace,
+}
+
+impl Model for Recorded {
+    ghost use Rattle.causal_trace.specs.Rows.{Recording};
+
+    ghost Value = { Recording };
+
+    ghost view = { λ a. a.trace.recording };
+}
+
+impl Recorded {
+    /// A trace of so many processes and no entries.
+    pub(crate) fn new(alloc: Global, n: u16) -> Result<Recorded, TraceFault>
+        ensures ok { IfOk result (λ r. IsProcessCount n × (r ≡ opened n)) }
+        ensures refused { IfErr result (λ fault. MatchBool (is_process_count n) (fault ≡ TraceFault.NoMemory) (fault ≡ TraceFault.Processes)) }
+    {
+        match Trace::new(alloc, n) {
+            Ok(trace) => Ok(Recorded { trace }),
+            Err(fault) => Err(fault),
+        }
+    }
+
+    /// Takes one more entry, where nothing stands against it.
+    pub(crate) fn push(&mut self, entry: Entry) -> Result<(), TraceFault>
+        ensures legal { OnOk result (first_fault self.old.processes self.old.past entry ≡ None) }
+        ensures ok { OnOk result (self.new ≡ with_entry self.old entry) }
+        ensures refused { IfErr result (λ fault. fault ≡ unwrap_or (first_fault self.old.processes self.old.past entry) TraceFault.NoMemory) }
+    {
+        self.trace.push(entry)
+    }
+
+    /// How many entries there are.
+    pub(crate) fn len(&self) -> u32
+        ensures length { result ≡ length self.now.past }
+        ensures formed { IsWellFormed self.now }
+    {
+        self.trace.len()
+    }
+
+    /// The trace that was read.
+    pub(crate) fn into_trace(self) -> Trace
+        ensures { result.recording ≡ self }
+    {
+        self.trace
+    }
+}

@@ -1,0 +1,133 @@
+//! The shapes of a line.
+ghost use Rattle.std.specs.Prelude.{◌≡◌, codes};
+ghost use Rattle.serde_json.specs.View.{view};
+ghost use Rattle.causal_text.specs.Reading.{Gives};
+ghost use Rattle.causal_text.specs.Shapes.{begins, header_of, send_of, deliver_of, stable_of, crash_of, restart_of, forget_of, end_of, shape_of};
+
+use crate::kind::TextKind;
+use crate::shape::Shape;
+use crate::shape::fields::{det_of, dets_at, pid_at, size, u32_at};
+use causal_trace::entry::Entry;
+use serde_json::Value;
+use std::alloc::Global;
+
+// an array of n items, the first of which is the name
+fn begins(value: &Value, name: &str, n: usize) -> bool
+    ensures { result ≡ begins (view value.now) name.now n }
+{
+    let first = value.get(0).and_then(Value::as_str).unwrap_or("");
+    first == name && size(value) == n
+}
+
+#[tactic(auto, unfolding(crate::specs::Shapes::header_of))]
+fn header_of(value: &Value) -> Result<Shape, TextKind>
+    ensures { result ≡ header_of (view value.now) }
+{
+    Ok(Shape::Header {
+        version: u32_at(value, 1)?,
+        processes: u32_at(value, 2)?,
+    })
+}
+
+#[tactic(auto, unfolding(crate::specs::Shapes::send_of))]
+fn send_of(value: &Value) -> Result<Shape, TextKind>
+    ensures { result ≡ send_of (view value.now) }
+{
+    let entry = Entry::Send {
+        from: pid_at(value, 1)?,
+        to: pid_at(value, 2)?,
+        ssn: u32_at(value, 3)?,
+    };
+    Ok(Shape::Entry { entry })
+}
+
+#[tactic(auto, unfolding(crate::specs::Shapes::deliver_of))]
+fn deliver_of(alloc: Global, value: &Value) -> Result<Shape, TextKind>
+    ensures { Gives result (deliver_of (view value.now)) }
+{
+    let entry = Entry::Deliver {
+        to: pid_at(value, 1)?,
+        send: u32_at(value, 2)?,
+        rsn: u32_at(value, 3)?,
+        listed: dets_at(alloc, value, 4)?,
+    };
+    Ok(Shape::Entry { entry })
+}
+
+#[tactic(auto, unfolding(crate::specs::Shapes::stable_of))]
+fn stable_of(value: &Value) -> Result<Shape, TextKind>
+    ensures { result ≡ stable_of (view value.now) }
+{
+    let named = value.get(1).ok_or(TextKind::Form)?;
+    let det = det_of(named)?;
+    Ok(Shape::Entry {
+        entry: Entry::Stable { det },
+    })
+}
+
+#[tactic(auto, unfolding(crate::specs::Shapes::crash_of))]
+fn crash_of(value: &Value) -> Result<Shape, TextKind>
+    ensures { result ≡ crash_of (view value.now) }
+{
+    let entry = Entry::Crash {
+        who: pid_at(value, 1)?,
+    };
+    Ok(Shape::Entry { entry })
+}
+
+#[tactic(auto, unfolding(crate::specs::Shapes::restart_of))]
+fn restart_of(alloc: Global, value: &Value) -> Result<Shape, TextKind>
+    ensures { Gives result (restart_of (view value.now)) }
+{
+    let entry = Entry::Restart {
+        who: pid_at(value, 1)?,
+        listed: dets_at(alloc, value, 2)?,
+    };
+    Ok(Shape::Entry { entry })
+}
+
+#[tactic(auto, unfolding(crate::specs::Shapes::forget_of))]
+fn forget_of(alloc: Global, value: &Value) -> Result<Shape, TextKind>
+    ensures { Gives result (forget_of (view value.now)) }
+{
+    let entry = Entry::Forget {
+        who: pid_at(value, 1)?,
+        listed: dets_at(alloc, value, 2)?,
+    };
+    Ok(Shape::Entry { entry })
+}
+
+#[tactic(auto, unfolding(crate::specs::Shapes::end_of))]
+fn end_of(value: &Value) -> Result<Shape, TextKind>
+    ensures { result ≡ end_of (view value.now) }
+{
+    Ok(Shape::End {
+        entries: u32_at(value, 1)?,
+    })
+}
+
+/// What the value of a line says.
+#[tactic(auto, unfolding(crate::specs::Shapes::shape_of))]
+pub(crate) fn shape_of(alloc: Global, value: &Value) -> Result<Shape, TextKind>
+    ensures { Gives result (shape_of (view value.now)) }
+{
+    if begins(value, "trace", 3) {
+        header_of(value)
+    } else if begins(value, "send", 4) {
+        send_of(value)
+    } else if begins(value, "deliver", 5) {
+        deliver_of(alloc, value)
+    } else if begins(value, "stable", 2) {
+        stable_of(value)
+    } else if begins(value, "crash", 2) {
+        crash_of(value)
+    } else if begins(value, "restart", 3) {
+        restart_of(alloc, value)
+    } else if begins(value, "forget", 3) {
+        forget_of(alloc, value)
+    } else if begins(value, "end", 2) {
+        end_of(value)
+    } else {
+        Err(TextKind::Form)
+    }
+}

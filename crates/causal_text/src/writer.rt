@@ -1,0 +1,197 @@
+//! The canonical text of a trace: its tokens with no byte between them, and a line feed after each line.
+ghost use Rattle.std.specs.Prelude.{◌≡◌, ◌++◌, codes, ◌≤◌, length, take, OnOk, IfOk, IfErr, string_bytes};
+ghost use Rattle.std.specs.Io.KnownBytes.{Appends};
+ghost use Rattle.causal_text.specs.Canonical.{det_text, more_dets_text, dets_text, entry_text, entries_text, canonical, canonical_version};
+
+use crate::version::Version;
+use causal_name::{Det, NoMemory};
+use causal_trace::entry::Entry;
+use causal_trace::trace::Trace;
+use std::alloc::{AllocError, Global};
+use std::io::Write;
+use thiserror::Error;
+
+// the first version in which the trace can be written
+fn canonical_version(trace: &Trace) -> Version
+    ensures { result ≡ canonical_version trace.now.recording }
+{
+    let few = trace.processes() as u32 <= Version::One.most_processes();
+    if few && Version::One.has_lines(trace.entries()) {
+        Version::One
+    } else {
+        Version::Two
+    }
+}
+
+fn push_det(out: &mut String, det: &Det) -> Result<(), AllocError>
+    ensures { OnOk result (string_bytes out.new ≡ string_bytes out.old ++ det_text det.now) }
+{
+    let (source, ssn, dest, rsn) = (det.source.0, det.ssn, det.dest.0, det.rsn);
+    write!(out, "[{source},{ssn},{dest},{rsn}]")
+}
+
+fn push_more_dets(out: &mut String, dets: &[Det]) -> Result<(), AllocError>
+    ensures { OnOk result (string_bytes out.new ≡ string_bytes out.old ++ more_dets_text dets.now) }
+{
+    for det in dets {
+        out.push_str(",")?;
+        push_det(out, det)?;
+    }
+    Ok(())
+}
+
+fn push_dets(out: &mut String, dets: &[Det]) -> Result<(), AllocError>
+    ensures { OnOk result (string_bytes out.new ≡ string_bytes out.old ++ dets_text dets.now) }
+{
+    match dets.split_first() {
+        None => out.push_str("[]"),
+        Some((first, more)) => {
+            out.push_str("[")?;
+            push_det(out, first)?;
+            push_more_dets(out, more)?;
+            out.push_str("]")
+        }
+    }
+}
+
+// the list of an entry, which is its last item
+fn push_listed(out: &mut String, dets: &[Det]) -> Result<(), AllocError>
+    ensures { OnOk result (string_bytes out.new ≡ string_bytes out.old ++ (dets_text dets.now ++ codes "]")) }
+{
+    push_dets(out, dets)?;
+    out.push_str("]")?;
+    Ok(())
+}
+
+fn push_entry(out: &mut String, entry: &Entry) -> Result<(), AllocError>
+    ensures { OnOk result (string_bytes out.new ≡ string_bytes out.old ++ entry_text entry.now) }
+{
+    match entry {
+        Entry::Send { from, to, ssn } => {
+            let (from, to) = (from.0, to.0);
+            write!(out, "[\"send\",{from},{to},{ssn}]")
+        }
+        Entry::Deliver {
+            to,
+            send,
+            rsn,
+            listed,
+        } => {
+            let to = to.0;
+            write!(out, "[\"deliver\",{to},{send},{rsn},")?;
+            push_listed(out, listed.as_slice())?;
+            Ok(())
+        }
+        Entry::Stable { det } => {
+            out.push_str("[\"stable\",")?;
+            push_det(out, det)?;
+            out.push_str("]")
+        }
+        Entry::Crash { who } => {
+            let who = who.0;
+            write!(out, "[\"crash\",{who}]")
+        }
+        Entry::Restart { who, listed } => {
+            let who = who.0;
+            write!(out, "[\"restart\",{who},")?;
+            push_listed(out, listed.as_slice())?;
+            Ok(())
+        }
+        Entry::Forget { who, listed } => {
+            let who = who.0;
+            write!(out, "[\"forget\",{who},")?;
+            push_listed(out, listed.as_slice())?;
+            Ok(())
+        }
+    }
+}
+
+fn push_entries(out: &mut String, entries: &[Entry]) -> Result<(), AllocError>
+    ensures { OnOk result (string_bytes out.new ≡ string_bytes out.old ++ entries_text entries.now) }
+{
+    for entry in entries {
+        push_entry(out, entry)?;
+        out.push_str("\n")?;
+    }
+    Ok(())
+}
+
+fn push_trace(out: &mut String, trace: &Trace) -> Result<(), AllocError>
+    ensures { OnOk result (string_bytes out.new ≡ string_bytes out.old ++ canonical trace.now.recording) }
+{
+    let (version, processes) = (canonical_version(trace).number(), trace.processes());
+    write!(out, "[\"trace\",{version},{processes}]\n")?;
+    push_entries(out, trace.entries())?;
+    let entries = trace.len();
+    write!(out, "[\"end\",{entries}]\n")?;
+    Ok(())
+}
+
+/// The canonical text of a trace: in version 1 where the trace has at most 64 processes and no forget entry, else in
+/// version 2. `NoMemory` is answered only where a growth was refused.
+pub fn text_of(alloc: Global, trace: &Trace) -> Result<Vec<u8>, NoMemory>
+    ensures { IfOk result (λ text. text.items ≡ canonical trace.now.recording) }
+{
+    let mut out = String::new(alloc);
+    match push_trace(&mut out, trace) {
+        Ok(()) => Ok(out.into_bytes()),
+        Err(_) => Err(NoMemory),
+    }
+}
+
+/// Why a text was not written whole.
+#[derive(Clone, Copy, Debug, PartialEq, Eq, Error)]
+pub enum WriteCause {
+    /// The writer answered an error, or took no byte.
+    #[error("the writer failed")]
+    Device,
+    /// Memory was asked for and refused.
+    #[error("no memory")]
+    Memory,
+}
+
+/// Why a text was not written whole, and how many bytes of it went out.
+#[derive(Clone, Copy, Debug, PartialEq, Eq, Error)]
+#[error("{cause} after {written} bytes")]
+pub struct WriteFault {
+    pub written: u64,
+    pub cause: WriteCause,
+}
+
+/// Writes the canonical text of a trace. After a fault just the first `written` bytes of it went out. `Device` is
+/// answered only where a write answered an error, of any kind, or took no byte; `Memory` only where a growth was
+/// refused, before the first write.
+pub fn write_trace<W: Write>(alloc: Global, trace: &Trace, writer: &mut W) -> Result<(), WriteFault>
+    ensures ok { OnOk result (Appends (W.contents writer.old) (W.contents writer.new) (canonical trace.now.recording)) }
+    ensures err { IfErr result (λ fault. (fault.written ≤ length (canonical trace.now.recording))
+        × Appends (W.contents writer.old) (W.contents writer.new) (take fault.written (canonical trace.now.recording))) }
+{
+    match text_of(alloc, trace) {
+        Ok(text) => write_counted(text.as_slice(), writer),
+        Err(_) => Err(WriteFault {
+            written: 0,
+            cause: WriteCause::Memory,
+        }),
+    }
+}
+
+fn write_counted<W: Write>(text: &[u8], writer: &mut W) -> Result<(), WriteFault>
+    ensures ok { OnOk result (Appends (W.contents writer.old) (W.contents writer.new) text.now) }
+    ensures err { IfErr result (λ f. (f.written ≤ length text.now)
+        × Appends (W.contents writer.old) (W.contents writer.new) (take f.written text.now)) }
+{
+    let mut written: usize = 0;
+    while written < text.len() {
+        let (_done, rest) = text.split_at(written);
+        match writer.write(rest) {
+            Ok(n) if n > 0 => written += n,
+            _ => {
+                return Err(WriteFault {
+                    written: written as u64,
+                    cause: WriteCause::Device,
+                });
+            }
+        }
+    }
+    Ok(())
+}
