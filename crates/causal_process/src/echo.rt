@@ -1,0 +1,74 @@
+//! Two partners send a count back and forth, and it falls by one each time.
+ghost use Rattle.std.specs.Prelude.{◌≡◌, ◌<◌, List, map};
+ghost use Rattle.causal_process.specs.declared.message.Input.{Input};
+ghost use Rattle.causal_process.specs.Kinds.{partner_of, echo_reaction};
+ghost use Rattle.causal_process.specs.LawsKept.{map_each, map_in_order};
+
+use crate::message::{Input, Outgoing};
+use crate::process::Process;
+use crate::sending::{count_down, send_one};
+use causal_name::{NoMemory, Pid};
+use std::alloc::Global;
+use std::marker::Model;
+
+/// One of two partners, among n processes. The partner of an even number is the one after it, and of an odd number the
+/// one before. When it begins, a process sends its count to its partner, as one byte, where the partner is below n.
+/// Whoever gets a count above 0, as the first byte of a body, sends that count less one back to the sender; an empty
+/// body counts as 0.
+#[derive(Debug, Drop)]
+pub struct Echo {
+    n: u16,
+    me: u8,
+    rounds: u8,
+}
+
+impl Model for Echo {
+    ghost use Rattle.causal_process.specs.Kinds.{Member};
+
+    ghost Value = { Member };
+
+    ghost view = { λ echo. record { n = echo.n; me = echo.me; start = echo.rounds } };
+}
+
+impl Echo {
+    /// Process `me`, 0 to n - 1, of n processes, which starts its count at `rounds`.
+    pub fn new(n: u16, me: u8, rounds: u8) -> Echo
+        requires { me < n }
+        ensures { result ≡ record { n = n; me = me; start = rounds } }
+    {
+        Echo { n, me, rounds }
+    }
+
+    // The number of its partner, which may be no process.
+    fn partner(&self) -> u8
+        ensures { result ≡ partner_of self.now.me }
+    {
+        if self.me % 2 == 0 {
+            self.me + 1
+        } else {
+            self.me - 1
+        }
+    }
+}
+
+impl Process for Echo {
+    ghost answers = { λ echo. map (echo_reaction echo) };
+
+    fn step(&mut self, alloc: Global, input: &Input) -> Result<Vec<Outgoing>, NoMemory> {
+        match input {
+            Input::Begin => {
+                let partner = self.partner();
+                if u16::from(partner) < self.n {
+                    send_one(alloc, Pid(partner), &[self.rounds])
+                } else {
+                    Ok(Vec::new(alloc))
+                }
+            }
+            Input::Message { from, body } => count_down(alloc, *from, body.first_or_zero()),
+        }
+    }
+
+    ghost each = { λ echo. map_each (echo_reaction echo) };
+
+    ghost in_order = { λ echo. map_in_order (echo_reaction echo) };
+}

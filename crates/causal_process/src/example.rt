@@ -1,0 +1,33 @@
+//! The process of the crate's documentation, compiled and proved.
+ghost use Rattle.causal_process.specs.Example.{count_after, numbering_reaction};
+ghost use Rattle.causal_process.specs.LawsKept.{from_each, from_in_order};
+ghost use Rattle.causal_process.specs.Reactions.{answers_from};
+
+use crate::{Body, Input, Outgoing, Process};
+use causal_name::NoMemory;
+use std::alloc::Global;
+
+/// Tells each sender which number its message has.
+#[derive(Debug, Drop)]
+pub struct Numbering {
+    pub count: u8,
+}
+
+impl Process for Numbering {
+    ghost answers = { λ it. answers_from numbering_reaction count_after it.count };
+
+    fn step(&mut self, alloc: Global, input: &Input) -> Result<Vec<Outgoing>, NoMemory> {
+        let Input::Message { from, body: _ } = input else {
+            return Ok(Vec::new(alloc));
+        };
+        let count = self.count.wrapping_add(1);
+        let body = Body::new(vec![in alloc; count].map_err(|_| NoMemory)?);
+        let sends = vec![in alloc; Outgoing { to: *from, body }].map_err(|_| NoMemory)?;
+        self.count = count;
+        Ok(sends)
+    }
+
+    ghost each = { λ it. from_each numbering_reaction count_after it.count };
+
+    ghost in_order = { λ it. from_in_order numbering_reaction count_after it.count };
+}

@@ -1,0 +1,70 @@
+//! A count goes round a ring of processes, and falls by one at each.
+ghost use Rattle.std.specs.Prelude.{◌≡◌, ◌<◌, List, map};
+ghost use Rattle.causal_process.specs.declared.message.Input.{Input};
+ghost use Rattle.causal_process.specs.Kinds.{next_of, ring_reaction};
+ghost use Rattle.causal_process.specs.LawsKept.{map_each, map_in_order};
+
+use crate::message::{Input, Outgoing};
+use crate::process::Process;
+use crate::sending::{count_down, send_one};
+use causal_name::{NoMemory, Pid};
+use std::alloc::Global;
+use std::marker::Model;
+
+/// One process of a ring of n. When they begin, process 0 sends its count to the next one, as one byte. Whoever gets a
+/// count above 0, as the first byte of a body, sends the next one that count less one; an empty body counts as 0.
+///
+/// The next of process `me` is `(me + 1) % n`. A process's number is a byte, so a ring of more than 256 closes at 256.
+#[derive(Debug, Drop)]
+pub struct Ring {
+    n: u16,
+    me: u8,
+    hops: u8,
+}
+
+impl Model for Ring {
+    ghost use Rattle.std.specs.Prelude.{◌<◌};
+    ghost use Rattle.causal_process.specs.Kinds.{Member};
+
+    ghost Value = { Member };
+
+    ghost view = { λ ring. record { n = ring.n; me = ring.me; start = ring.hops } };
+
+    ghost invariant = { λ ring. ring.me < ring.n };
+}
+
+impl Ring {
+    /// Process `me`, 0 to n - 1, of a ring of n. Process 0 starts its count at `hops`; the others start none.
+    pub fn new(n: u16, me: u8, hops: u8) -> Ring
+        requires { me < n }
+        ensures { result ≡ record { n = n; me = me; start = hops } }
+    {
+        Ring { n, me, hops }
+    }
+
+    // The process after this one in the ring.
+    fn next(&self) -> Pid
+        ensures { result ≡ next_of self.now }
+    {
+        let next = (u16::from(self.me) + 1) % self.n.min(256);
+        Pid(next as u8)
+    }
+}
+
+impl Process for Ring {
+    ghost answers = { λ ring. map (ring_reaction ring) };
+
+    fn step(&mut self, alloc: Global, input: &Input) -> Result<Vec<Outgoing>, NoMemory> {
+        match input {
+            Input::Begin if self.me == 0 => send_one(alloc, self.next(), &[self.hops]),
+            Input::Begin => Ok(Vec::new(alloc)),
+            Input::Message { from: _, body } => {
+                count_down(alloc, self.next(), body.first_or_zero())
+            }
+        }
+    }
+
+    ghost each = { λ ring. map_each (ring_reaction ring) };
+
+    ghost in_order = { λ ring. map_in_order (ring_reaction ring) };
+}

@@ -1,0 +1,26 @@
+//! The answers that the kinds give: one message, or none.
+ghost use Rattle.std.specs.Prelude.{◌≡◌, IfOk};
+ghost use Rattle.causal_process.specs.Kinds.{one_message, count_less_one};
+
+use crate::body::Body;
+use crate::message::Outgoing;
+use causal_name::{NoMemory, Pid};
+use std::alloc::Global;
+
+// One message.
+pub(crate) fn send_one(alloc: Global, to: Pid, bytes: &[u8]) -> Result<Vec<Outgoing>, NoMemory>
+    ensures { IfOk result (λ sends. sends.items ≡ one_message to bytes.now) }
+{
+    let body = Body::new(bytes.to_vec(alloc).map_err(|_| NoMemory)?);
+    vec![in alloc; Outgoing { to, body }].map_err(|_| NoMemory)
+}
+
+// The count less one, or nothing where it is 0.
+pub(crate) fn count_down(alloc: Global, to: Pid, count: u8) -> Result<Vec<Outgoing>, NoMemory>
+    ensures { IfOk result (λ sends. sends.items ≡ count_less_one to count) }
+{
+    match count.checked_sub(1) {
+        Some(less) => send_one(alloc, to, &[less]),
+        None => Ok(Vec::new(alloc)),
+    }
+}
