@@ -27,7 +27,7 @@ pub bounds-present-who : goal.bounds-present-who
 bounds-present-who c = restarted_in _ _ _ c.requires _ _ c.in-Restart.is
 
 pub local-requires-in-Restart-clause-room : goal.local-requires-in-Restart-clause-room
-local-requires-in-Restart-clause-room c = omega (arith, room _ _ _ c.requires, ap (λ t. length t.events) c.in-Ok.ensures.ok.1)
+local-requires-in-Restart-clause-room c = omega (arith, room _ _ _ c.requires, ap (λ t. length t.events) c.in-Ok.ensures.opened)
 
 pub local-requires-in-Stable-clause-room : goal.local-requires-in-Stable-clause-room
 local-requires-in-Stable-clause-room c = room _ _ _ c.requires
@@ -39,22 +39,22 @@ pub local-requires-in-Forget-clause-room : goal.local-requires-in-Forget-clause-
 local-requires-in-Forget-clause-room c = room _ _ _ c.requires
 
 pub returns-in_ok-local-in-Send-clause-mirrors : goal.returns-in_ok-local-in-Send-clause-mirrors
-returns-in_ok-local-in-Send-clause-mirrors c = λ n past accepted m. rw c.in_ok-local-in-Send.ensures.ok.1 (after_send n past _ _ _ accepted m _ _ _ c.in-Send.is)
+returns-in_ok-local-in-Send-clause-mirrors c = λ n past accepted m. rw c.in_ok-local-in-Send.ensures.appended (after_send n past _ _ _ accepted m _ _ _ c.in-Send.is)
 
 pub returns-in_ok-receive-in-Deliver-clause-mirrors : goal.returns-in_ok-receive-in-Deliver-clause-mirrors
-returns-in_ok-receive-in-Deliver-clause-mirrors c = λ n past accepted m. rw c.in_ok-receive-in-Deliver.ensures.ok.1 (after_deliver n past _ _ _ accepted m _ _ _ _ c.in-Deliver.is)
+returns-in_ok-receive-in-Deliver-clause-mirrors c = λ n past accepted m. rw c.in_ok-receive-in-Deliver.ensures.appended (after_deliver n past _ _ _ accepted m _ _ _ _ c.in-Deliver.is)
 
 pub returns-in_ok-local-in-Stable-clause-mirrors : goal.returns-in_ok-local-in-Stable-clause-mirrors
-returns-in_ok-local-in-Stable-clause-mirrors c = λ n past accepted m. rw c.in_ok-local-in-Stable.ensures.ok.1 (after_stable n past _ _ _ accepted m _ c.in-Stable.is (some_lane _ _ _ c.requires))
+returns-in_ok-local-in-Stable-clause-mirrors c = λ n past accepted m. rw c.in_ok-local-in-Stable.ensures.appended (after_stable n past _ _ _ accepted m _ c.in-Stable.is (some_lane _ _ _ c.requires))
 
 pub returns-in_ok-local-in-Crash-clause-mirrors : goal.returns-in_ok-local-in-Crash-clause-mirrors
-returns-in_ok-local-in-Crash-clause-mirrors c = λ n past accepted m. rw c.in_ok-local-in-Crash.ensures.ok.1 (after_crash n past _ _ _ accepted m _ c.in-Crash.is (some_lane _ _ _ c.requires))
+returns-in_ok-local-in-Crash-clause-mirrors c = λ n past accepted m. rw c.in_ok-local-in-Crash.ensures.appended (after_crash n past _ _ _ accepted m _ c.in-Crash.is (some_lane _ _ _ c.requires))
 
 pub returns-in_ok-local-in-Forget-clause-mirrors : goal.returns-in_ok-local-in-Forget-clause-mirrors
-returns-in_ok-local-in-Forget-clause-mirrors c = λ n past accepted m. rw c.in_ok-local-in-Forget.ensures.ok.1 (after_forget n past _ _ _ accepted m _ _ c.in-Forget.is (some_lane _ _ _ c.requires))
+returns-in_ok-local-in-Forget-clause-mirrors c = λ n past accepted m. rw c.in_ok-local-in-Forget.ensures.appended (after_forget n past _ _ _ accepted m _ _ c.in-Forget.is (some_lane _ _ _ c.requires))
 
 pub returns-in_ok-local-in-Restart-clause-mirrors : goal.returns-in_ok-local-in-Restart-clause-mirrors
-returns-in_ok-local-in-Restart-clause-mirrors c = λ n past accepted m. rw (c.in_ok-local-in-Restart.ensures.ok.1, c.in-Ok.ensures.ok.1, c.in-Ok.ensures.ok.0) (after_restart n past _ _ _ accepted m _ _ c.in-Restart.is)
+returns-in_ok-local-in-Restart-clause-mirrors c = λ n past accepted m. rw (c.in_ok-local-in-Restart.ensures.appended, c.in-Ok.ensures.opened, c.in-Ok.ensures.number) (after_restart n past _ _ _ accepted m _ _ c.in-Restart.is)
 
 pub returns-in-Err-clause-refused : goal.returns-in-Err-clause-refused
 returns-in-Err-clause-refused c =
