@@ -1,5 +1,5 @@
 -- Deliveries by their numbers.
-use Rattle.std.proofs.Common.{ℕ, zero, suc, ◌≡◌, ◌+◌, ◌-◌, drop, ◌<◌, ◌≤◌, inl, inr, Bool, true, false, cond, List, [], ◌∷◌, ◌++◌, length, Option, Some, None, refl, sym, ap, subst, ◌∙◌, arith, length-append}
+use Rattle.std.proofs.Common.{ℕ, zero, suc, ◌≡◌, ◌+◌, ◌-◌, drop, ◌<◌, ◌≤◌, inl, inr, true, false, List, [], ◌∷◌, ◌++◌, length, Option, Some, None, refl, sym, ap, subst, ◌∙◌, arith, length-append}
 use Rattle.std.specs.Prelude.{◌==◌, slice_index}
 use Rattle.std.specs.Option.{option_map, option_and_then}
 use Rattle.std.proofs.Math.ListN.{get_or-append}
@@ -8,10 +8,9 @@ use Rattle.std.proofs.lemmas.Bool.{false≢true, cases_lt, cond-true, cond-false
 use Rattle.std.proofs.lemmas.Bool.Decides.{eqb_tells}
 use Rattle.causal_name.specs.declared.Pid.{Pid}
 use Rattle.causal_name.specs.declared.Det.{Det}
-use Rattle.causal_name.specs.declared.MsgName.{MsgName}
 use Rattle.causal_trace.specs.declared.entry.Entry.{Entry}
 use Rattle.causal_trace.specs.declared.entry.Entry.TheVariants.{Send, Deliver, Stable, Crash, Restart, Forget}
-use Rattle.causal_trace.specs.Past.{instant, entry_at, det_at, det_of, det_from, message_at, message_sent, deliveries_in}
+use Rattle.causal_trace.specs.Past.{instant, entry_at, det_at, det_of, det_from, message_sent, deliveries_in}
 use Rattle.causal_trace.specs.Rows.{AreAccepted}
 use Rattle.causal_trace.proofs.Accepted.{delivers_sent}
 use Rattle.causal_audit.specs.Numbers.{is_delivery, IsNumbered, ArePositions}
@@ -124,6 +123,7 @@ numbered_det n (e ∷ past) i k a (inr m) none =
         let d : Det = record { source = sender; ssn = ssn; dest = to; rsn = rsn } in
         let x : Some d ≡ None = sym (ap (λ y. option_map (det_from to rsn) (option_and_then message_sent y)) at) ∙ none in
         cc
+
     some : (e : Entry) (past : List Entry) → AreAccepted n (e ∷ past) → is_delivery e ≡ true → det_of past e ≡ None → ⊥
     some (Send from to ssn) past a h none = false≢true h
     some (Deliver to send rsn listed) past a h none =

@@ -43,13 +43,7 @@ pub fn earlier(one: Option<Breach>, other: Option<Breach>) -> Option<Breach>
     ensures { result ≡ earlier one other }
 {
     match (one, other) {
-        (Some(a), Some(b)) => {
-            if b.comes_before(&a) {
-                Some(b)
-            } else {
-                Some(a)
-            }
-        }
+        (Some(a), Some(b)) => { if b.comes_before(&a) { Some(b) } else { Some(a) } }
         (Some(a), None) => Some(a),
         (None, b) => b,
     }

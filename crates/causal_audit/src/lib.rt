@@ -8,4 +8,6 @@ pub mod laws;
 mod orphans;
 mod sight;
 pub mod tables;
+#[cfg(test)]
+mod tests;
 pub mod verdict;

@@ -1,8 +1,6 @@
 use Rattle.std.proofs.Common.{◌≡◌, ◌+◌, ◌∷◌, ◌≤◌, arith, sym, subst}
-use Rattle.std.specs.FinSet.{len}
 use Rattle.causal_name.specs.Sets.{count_below}
 use Rattle.causal_trace.specs.Past.{instant, is_down}
-use Rattle.causal_trace.specs.Rows.{AreAccepted}
 use Rattle.causal_audit.specs.Sights.{Shows}
 use Rattle.causal_audit.proofs.Instants.{accepted_then}
 use Rattle.causal_audit.proofs.Members.{down_members}
