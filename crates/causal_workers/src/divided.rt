@@ -13,6 +13,7 @@ use causal_audit::breach::{Breach, earlier};
 use causal_audit::judge::{decided, first_excess};
 use causal_audit::tables::Tables;
 use causal_audit::verdict::Verdict;
+use causal_name::NoMemory;
 use causal_trace::trace::Trace;
 use std::alloc::Global;
 use std::sync::Wait;
@@ -29,6 +30,16 @@ pub enum AuditFault {
     /// A worker could not be started.
     #[error("no worker")]
     NoWorker,
+}
+
+impl From<NoMemory> for AuditFault {
+    ghost use Rattle.causal_workers.specs.declared.divided.AuditFault.TheVariants as fault;
+
+    ghost from_gives = { λ _ told. told ≡ fault.NoMemory };
+
+    fn from(_refused: NoMemory) -> AuditFault {
+        AuditFault::NoMemory
+    }
 }
 
 /// The verdict on a trace for f, by 1 to 64 workers: the same for every number of them. Worker 0 is the calling thread,
@@ -52,9 +63,7 @@ pub fn audit<G: Gate + Sync, R: Threads + Wait>(
     ensures only { IfOk result (λ verdict. (other : Verdict) → IsVerdict trace.now.recording f other → other ≡ verdict) }
     ensures alone { result ≡ Err AuditFault.NoWorker → 2 ≤ workers }
 {
-    let Ok(tables) = Tables::of(alloc, trace) else {
-        return Err(AuditFault::NoMemory);
-    };
+    let tables = Tables::of(alloc, trace)?;
     let least = least_of_all(rt, alloc, &tables, f, workers, gate)?;
     Ok(decided(first_excess(&tables, f), least))
 }

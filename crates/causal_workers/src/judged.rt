@@ -26,11 +26,31 @@ pub struct Judged {
 #[derive(Clone, Copy, Debug, PartialEq, Eq, Error)]
 pub enum AuditTextFault {
     /// The text spells no trace: this is its first fault. Or memory was refused while it was read.
-    #[error("{0}")]
+    #[error(transparent)]
     Text(TextFault),
     /// The text spells a trace, and its audit gave no verdict.
-    #[error("{0}")]
+    #[error(transparent)]
     Audit(AuditFault),
+}
+
+impl From<TextFault> for AuditTextFault {
+    ghost use Rattle.causal_workers.specs.declared.judged.AuditTextFault.TheVariants.{Text};
+
+    ghost from_gives = { λ fault told. told ≡ Text fault };
+
+    fn from(fault: TextFault) -> AuditTextFault {
+        AuditTextFault::Text(fault)
+    }
+}
+
+impl From<AuditFault> for AuditTextFault {
+    ghost use Rattle.causal_workers.specs.declared.judged.AuditTextFault.TheVariants.{Audit};
+
+    ghost from_gives = { λ fault told. told ≡ Audit fault };
+
+    fn from(fault: AuditFault) -> AuditTextFault {
+        AuditTextFault::Audit(fault)
+    }
 }
 
 /// The verdict for f on the trace that a text spells, by 1 to 64 workers: the same for every number of them.
@@ -52,14 +72,9 @@ pub fn audit_text<G: Gate + Sync, R: Threads + Wait>(
     ensures err { IfErr result (IsFaultOf bytes.now) }
     ensures alone { result ≡ Err (AuditTextFault.Audit AuditFault.NoWorker) → 2 ≤ workers }
 {
-    let trace = match read_trace(alloc, bytes) {
-        Ok(trace) => trace,
-        Err(fault) => return Err(AuditTextFault::Text(fault)),
-    };
-    match audit(rt, alloc, &trace, f, workers, gate) {
-        Ok(verdict) => Ok(judged_of(&trace, verdict)),
-        Err(fault) => Err(AuditTextFault::Audit(fault)),
-    }
+    let trace = read_trace(alloc, bytes)?;
+    let verdict = audit(rt, alloc, &trace, f, workers, gate)?;
+    Ok(judged_of(&trace, verdict))
 }
 
 /// The verdict with the counts of its trace.
