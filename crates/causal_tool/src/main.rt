@@ -17,10 +17,12 @@ use std::rt::Env;
 
 fn main(rt: HostRuntime) -> ExitCode {
     let ended = match words::read_words(&rt) {
-        Ok(Asked::Audit {
-            faults,
-            workers: workers @ 1..=64,
-        }) => audit_stream(
+        Ok(
+            Asked::Audit {
+                faults,
+                workers: workers @ 1..=64,
+            },
+        ) => audit_stream(
             &rt,
             &mut rt.reader(),
             &mut io::writer(&rt),

@@ -286,7 +286,14 @@ fn words_that_ask_for_an_audit(rt: HostRuntime) -> Result<(), Fail> {
     });
     let short = ["causal_tool", "audit", "--faults", "0"];
     assert_eq!(rt; parsed(rt.alloc(), short.as_slice())?, asked);
-    let long = ["causal_tool", "audit", "--workers", "64", "--faults", "65535"];
+    let long = [
+        "causal_tool",
+        "audit",
+        "--workers",
+        "64",
+        "--faults",
+        "65535",
+    ];
     let most = Some(Asked::Audit {
         faults: 65_535,
         workers: 64,

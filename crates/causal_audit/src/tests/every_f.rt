@@ -33,6 +33,7 @@ fn too_many(instant: u32, down: &[u8]) -> Verdict {
 }
 
 const SECOND: Fields = (1, 0, 2, 0);
+
 const THIRD: Fields = (2, 0, 0, 0);
 
 /// The ring's run in a run of more processes.
@@ -59,7 +60,10 @@ fn f_holders_are_too_few(rt: HostRuntime) -> Result<(), TraceFault> {
     let mut missed = started(alloc, 3)?;
     deliver(alloc, &mut missed, 2, 2, 0, &[SECOND])?;
     assert_eq!(rt; verdict_for(alloc, &missed, 0)?, Verdict::Accept);
-    assert_eq!(rt; verdict_for(alloc, &missed, 1)?, orphan_under(4, 1, &[1], 2));
+    assert_eq!(rt;
+        verdict_for(alloc, &missed, 1)?,
+        orphan_under(4, 1, &[1], 2)
+    );
     Ok(())
 }
 
@@ -69,7 +73,10 @@ fn a_chain_of_messages_orphans(rt: HostRuntime) -> Result<(), TraceFault> {
     let around = ring(alloc)?;
     assert_eq!(rt; verdict_for(alloc, &around, 0)?, Verdict::Accept);
     assert_eq!(rt; verdict_for(alloc, &around, 1)?, Verdict::Accept);
-    assert_eq!(rt; verdict_for(alloc, &around, 2)?, orphan_under(6, 1, &[1, 2], 0));
+    assert_eq!(rt;
+        verdict_for(alloc, &around, 2)?,
+        orphan_under(6, 1, &[1, 2], 0)
+    );
     let tables = tables_of(alloc, &around)?;
     let found = Breach {
         instant: 6,
@@ -80,7 +87,10 @@ fn a_chain_of_messages_orphans(rt: HostRuntime) -> Result<(), TraceFault> {
     assert_eq!(rt; first_breach(&tables, 2, 0), Some(found));
     assert_eq!(rt; first_breach(&tables, 2, 1), None);
     assert_eq!(rt; first_breach(&tables, 2, 2), None);
-    assert_eq!(rt; least_between(&tables, 2, 0, 3), first_breach(&tables, 2, 0));
+    assert_eq!(rt;
+        least_between(&tables, 2, 0, 3),
+        first_breach(&tables, 2, 0)
+    );
     assert_eq!(rt; least_between(&tables, 2, 1, 3), None);
     Ok(())
 }
@@ -192,7 +202,10 @@ fn forgetting_loses_a_holder(rt: HostRuntime) -> Result<(), TraceFault> {
     let mut forgotten = ring(alloc)?;
     forget(alloc, &mut forgotten, 1, &[FIRST])?;
     assert_eq!(rt; verdict_for(alloc, &forgotten, 0)?, Verdict::Accept);
-    assert_eq!(rt; verdict_for(alloc, &forgotten, 1)?, orphan_under(7, 1, &[2], 0));
+    assert_eq!(rt;
+        verdict_for(alloc, &forgotten, 1)?,
+        orphan_under(7, 1, &[2], 0)
+    );
     let mut stored = ring(alloc)?;
     stable(&mut stored, FIRST)?;
     forget(alloc, &mut stored, 1, &[FIRST])?;
