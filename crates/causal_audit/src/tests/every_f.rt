@@ -78,6 +78,7 @@ fn a_chain_of_messages_orphans(rt: HostRuntime) -> Result<(), TraceFault> {
         orphan_under(6, 1, &[1, 2], 0)
     );
     let tables = tables_of(alloc, &around)?;
+    assert_eq!(rt; tables.deliveries(), 3);
     let found = Breach {
         instant: 6,
         delivery: 1,
