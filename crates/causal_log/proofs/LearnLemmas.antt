@@ -80,7 +80,8 @@ module _ (from me : Pid) (q : Det) where
   turned false false true = refl
   turned false false false = refl
 
-  told_one : (p : ℕ) (item : Item) → set.contains (told from me item).1.holders p ≡ (set.contains item.holders p || (p == from.0 || p == me.0))
+  -- whom a told item names as holders
+  pub told_one : (p : ℕ) (item : Item) → set.contains (told from me item).1.holders p ≡ (set.contains item.holders p || (p == from.0 || p == me.0))
   told_one p item =
       set.contains-insert nat_cmp_total (set.insert item.holders from.0) me.0 p
       ∙ (λ i. sym (nat_ties p me.0) i || (set.contains-insert nat_cmp_total item.holders from.0 p ∙ ap (λ b. b || set.contains item.holders p) (sym (nat_ties p from.0))) i)

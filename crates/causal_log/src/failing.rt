@@ -8,7 +8,7 @@ use causal_name::{Det, NoMemory, Slot};
 use std::alloc::Global;
 
 /// Stable storage in memory whose device fails once, for tests of what a fault leaves.
-#[derive(Drop)]
+#[derive(Debug, Drop)]
 pub struct FailingStore {
     /// What it has stored.
     pub store: MemStable,

@@ -15,7 +15,7 @@ use std::marker::Model;
 /// The volatile log of a process: what it knows of each determinant that it logs (`Log(e)` of Elnozahy, Alvisi, Wang and
 /// Johnson 2002, from one process's side). Contracts see it as a finite map. Its entries are kept in ascending order, and
 /// are at most 4,294,967,295: further ones are refused as want of memory.
-#[derive(Drop)]
+#[derive(Debug, Drop)]
 pub struct Log {
     entries: IndexMap<Det, Known>,
 }

@@ -10,7 +10,7 @@ use std::collections::BTreeSet;
 use std::marker::Model;
 
 /// Stable storage that has no device, and so no faults but want of memory.
-#[derive(Drop)]
+#[derive(Debug, Drop)]
 pub struct MemStable {
     dets: BTreeSet<Det>,
 }

@@ -1,6 +1,6 @@
 -- What a text spells is read.
-use Rattle.std.proofs.Common.{◌≡◌, ℕ, ◌+◌, ◌≤◌, List, [], ◌∷◌, ◌++◌, length, Bool, true, Option, Some, Ok, Err, refl, ap, sym, ◌∙◌, arith, subst, append-nil}
-use Rattle.std.specs.Prelude.{Result, map, sum_by, reverse, ◌==◌, nat_le, ◌&&◌}
+use Rattle.std.proofs.Common.{◌≡◌, ℕ, ◌+◌, ◌≤◌, List, [], ◌∷◌, ◌++◌, length, Ok, Err, refl, ap, sym, ◌∙◌, arith, subst}
+use Rattle.std.specs.Prelude.{Result, map, sum_by}
 use Rattle.std.proofs.lemmas.Bool.{eq-eqb, le-leb, lt-leb}
 use Rattle.std.proofs.lemmas.List.Sums.{sum_by_push}
 use Rattle.causal_trace.specs.Rows.{Recording, AreAccepted}
@@ -16,9 +16,9 @@ use Rattle.causal_text.specs.declared.version.Version.{Version}
 use Rattle.causal_text.specs.declared.version.Version.TheVariants.{One, Two}
 use Rattle.causal_text.specs.Lines.{lines}
 use Rattle.causal_text.specs.Place.{Place, IsPlaceAfter, start, and_then, next, after_lines, ended, reading}
-use Rattle.causal_text.specs.Stages.{opened, max_text, line_shape, begun, follow, within_limit, after_line}
-use Rattle.causal_text.specs.Versions.{number_of, version_of, most_processes, HasLines, FitsVersion}
-use Rattle.causal_text.specs.Spelling.{said, IsSound, Reaches, Spells}
+use Rattle.causal_text.specs.Stages.{opened, max_text, line_shape, within_limit, after_line}
+use Rattle.causal_text.specs.Versions.{number_of, most_processes, HasLines}
+use Rattle.causal_text.specs.Spelling.{said, Reaches, Spells}
 use Rattle.causal_text.proofs.Joined.{sum_by-lines}
 use Rattle.causal_text.proofs.Steps.{said_entries}
 use Rattle.causal_text.proofs.Spellings.{IsPlaceAfter-lines, IsPlaceAfter-start}

@@ -1,5 +1,5 @@
 -- A text has one reading: a fault that is the first is the one that reading gives.
-use Rattle.std.proofs.Common.{◌≡◌, ℕ, ◌+◌, List, [], ◌∷◌, ◌++◌, length, Result, Ok, Err, inl, inr, refl, ap, ap₂, sym, ◌∙◌, subst}
+use Rattle.std.proofs.Common.{◌≡◌, ℕ, ◌+◌, List, [], ◌∷◌, length, Result, Err, inl, inr, refl, ap, ap₂, sym, ◌∙◌, subst}
 use Rattle.causal_trace.specs.Rows.{Recording}
 use Rattle.causal_text.specs.declared.kind.TextKind.TheVariants as kind
 use Rattle.causal_text.specs.declared.kind.TextFault.{TextFault}

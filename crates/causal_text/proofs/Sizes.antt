@@ -1,6 +1,6 @@
 -- The canonical text of a recording with small numbers is within the limit.
 use Rattle.std.proofs.Common.{◌≡◌, ℕ, ◌+◌, ◌*◌, ◌<◌, ◌≤◌, List, [], ◌∷◌, ◌++◌, length, ap, ◌∙◌, arith, length-append, append-nil}
-use Rattle.std.specs.Prelude.{codes, decimal, reverse, flat_map}
+use Rattle.std.specs.Prelude.{codes, decimal, reverse}
 use Rattle.std.proofs.lemmas.Fmt.{length-decimal-le}
 use Rattle.std.proofs.lemmas.List.{reverse-append}
 use Rattle.std.proofs.lemmas.List.Concat.{flat_map-append, flat_map-cons}
@@ -8,7 +8,7 @@ use Rattle.causal_name.specs.declared.Det.{Det}
 use Rattle.causal_trace.specs.declared.entry.Entry.{Entry}
 use Rattle.causal_trace.specs.declared.entry.Entry.TheVariants.{Send, Deliver, Stable, Crash, Restart, Forget}
 use Rattle.causal_trace.specs.Past.{listed_by, listed_in}
-use Rattle.causal_trace.specs.Rows.{Recording, IsWellFormed}
+use Rattle.causal_trace.specs.Rows.{Recording}
 use Rattle.causal_trace.specs.Sizes.{DetIsSmall, DetsAreSmall, EntryIsSmall, EntriesAreSmall}
 use Rattle.causal_text.specs.declared.shape.Shape.TheVariants as shape
 use Rattle.causal_text.specs.declared.version.Version.{Version}

@@ -1,9 +1,9 @@
 -- What one accepted line adds.
-use Rattle.std.proofs.Common.{◌≡◌, ℕ, ◌+◌, ◌≤◌, List, [], ◌∷◌, ◌++◌, length, Bool, true, false, cond, Option, Some, None, Ok, Err, refl, ap, sym, ◌∙◌, arith, subst}
+use Rattle.std.proofs.Common.{◌≡◌, ℕ, ◌+◌, ◌≤◌, List, [], ◌∷◌, ◌++◌, length, Bool, true, false, cond, Option, Some, None, Ok, Err, refl, ap, ◌∙◌, arith, subst}
 use Rattle.std.specs.Prelude.{Result, ◌==◌, nat_lt, nat_le, ◌&&◌, map, reverse}
 use Rattle.std.proofs.lemmas.Bool.{eqb-true, leb-true, leb-false}
 use Rattle.std.proofs.lemmas.List.{map-append, reverse-append}
-use Rattle.causal_trace.specs.Rows.{Recording, first_fault, IsWellFormed}
+use Rattle.causal_trace.specs.Rows.{Recording, first_fault}
 use Rattle.causal_trace.specs.State.{with_entry}
 use Rattle.causal_trace.specs.declared.entry.Entry.{Entry}
 use Rattle.causal_trace.specs.declared.fault.TraceFault.{TraceFault}
@@ -17,7 +17,7 @@ use Rattle.causal_text.specs.declared.version.Version.{Version}
 use Rattle.causal_text.specs.declared.version.Version.TheVariants.{One, Two}
 use Rattle.causal_text.specs.Reading.{◌>>=◌}
 use Rattle.causal_text.specs.Stages.{opened, kind_of, max_text, line_shape, begun, admitted, follow, within_limit, after_line}
-use Rattle.causal_text.specs.Versions.{number_of, version_of, most_processes, has_line, FitsVersion}
+use Rattle.causal_text.specs.Versions.{number_of, most_processes, has_line}
 use Rattle.causal_text.specs.Spelling.{said, IsSound}
 
 pub bind_ok : {A B : Type 0} (r : Result A TextKind) (f : A → Result B TextKind) (y : B) → (r >>= f) ≡ Ok y → (x : A) × (r ≡ Ok x) × (f x ≡ Ok y)

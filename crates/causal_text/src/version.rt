@@ -6,7 +6,7 @@ ghost use Rattle.causal_text.specs.Versions.{number_of, version_of, most_process
 use causal_trace::entry::Entry;
 
 /// A version, as a header names it by its number.
-#[derive(Clone, Copy, Debug, PartialEq, Eq)]
+#[derive(Clone, Copy)]
 pub(crate) enum Version {
     /// Up to 64 processes, which lose what they log only by a crash.
     One,

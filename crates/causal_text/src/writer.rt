@@ -1,5 +1,5 @@
 //! The canonical text of a trace: its tokens with no byte between them, and a line feed after each line.
-ghost use Rattle.std.specs.Prelude.{◌≡◌, ◌++◌, codes, ◌≤◌, length, take, OnOk, IfOk, IfErr, string_bytes};
+ghost use Rattle.std.specs.Prelude.{◌≡◌, ◌++◌, codes, ◌<◌, length, take, OnOk, IfOk, IfErr, string_bytes};
 ghost use Rattle.std.specs.Io.KnownBytes.{Appends};
 ghost use Rattle.causal_text.specs.Canonical.{det_text, more_dets_text, dets_text, entry_text, entries_text, canonical, canonical_version};
 
@@ -163,7 +163,7 @@ pub struct WriteFault {
 /// refused, before the first write.
 pub fn write_trace<W: Write>(alloc: Global, trace: &Trace, writer: &mut W) -> Result<(), WriteFault>
     ensures ok { OnOk result (Appends (W.contents writer.old) (W.contents writer.new) (canonical trace.now.recording)) }
-    ensures err { IfErr result (λ fault. (fault.written ≤ length (canonical trace.now.recording))
+    ensures err { IfErr result (λ fault. (fault.written < length (canonical trace.now.recording))
         × Appends (W.contents writer.old) (W.contents writer.new) (take fault.written (canonical trace.now.recording))) }
 {
     match text_of(alloc, trace) {
@@ -177,7 +177,7 @@ pub fn write_trace<W: Write>(alloc: Global, trace: &Trace, writer: &mut W) -> Re
 
 fn write_counted<W: Write>(text: &[u8], writer: &mut W) -> Result<(), WriteFault>
     ensures ok { OnOk result (Appends (W.contents writer.old) (W.contents writer.new) text.now) }
-    ensures err { IfErr result (λ f. (f.written ≤ length text.now)
+    ensures err { IfErr result (λ f. (f.written < length text.now)
         × Appends (W.contents writer.old) (W.contents writer.new) (take f.written text.now)) }
 {
     let mut written: usize = 0;

@@ -1,2 +1,2 @@
 mod ByteLemmas
-mod Commas
+mod Known

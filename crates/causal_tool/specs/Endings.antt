@@ -1,7 +1,7 @@
 -- How a run of the program can end.
 use Rattle.std.specs.Prelude.{ℕ, List, Option, Some, None, codes}
 use Rattle.causal_tool.specs.declared.ended.Ended.{Ended}
-use Rattle.causal_tool.specs.declared.ended.Ended.TheVariants.{Accepted, Breached, Faulted, ReadFault, WriteFault, NoMemory}
+use Rattle.causal_tool.specs.declared.ended.Ended.TheVariants.{Accepted, Breached, Faulted, ReadFault, WriteFault, NoMemory, NoWorker}
 
 -- the exit status of each ending
 abbrev pub status_of : Ended → ℕ
@@ -11,6 +11,7 @@ status_of Faulted = 2
 status_of ReadFault = 4
 status_of WriteFault = 4
 status_of NoMemory = 5
+status_of NoWorker = 5
 
 -- what is told on standard error of each ending
 abbrev pub text_of : Ended → Option (List ℕ)
@@ -20,3 +21,4 @@ text_of Faulted = None
 text_of ReadFault = Some (codes "read fault")
 text_of WriteFault = Some (codes "write fault")
 text_of NoMemory = Some (codes "no memory")
+text_of NoWorker = Some (codes "no worker")

@@ -1,23 +1,11 @@
--- What a text is judged to be.
-use Rattle.std.specs.Prelude.{◌≡◌, ◌≢◌, ℕ, List, length}
-use Rattle.causal_trace.specs.Past.{deliveries_in}
-use Rattle.causal_trace.specs.Rows.{Recording}
-use Rattle.causal_text.specs.Spelling.{Spells, IsFirstFault}
+-- Why a text got no verdict.
+use Rattle.std.specs.Prelude.{◌≢◌, ℕ, List}
+use Rattle.causal_text.specs.Spelling.{IsFirstFault}
 use Rattle.causal_text.specs.declared.kind.TextKind.TheVariants as kind
-use Rattle.causal_audit.specs.Verdicts.{IsVerdict}
-use Rattle.causal_tool.specs.declared.judged.Judged.{Judged}
-use Rattle.causal_tool.specs.declared.judged.AuditFault.{AuditFault}
-use Rattle.causal_tool.specs.declared.judged.AuditFault.TheVariants.{Text}
-
--- the text spells a trace, this is its verdict for f, and so many entries and deliveries it has
-pub record IsJudgement (text : List ℕ) (f : ℕ) (judged : Judged) : Type 0 where
-  pub recording : Recording
-  pub spells : Spells text recording
-  pub verdict : IsVerdict recording f judged.verdict
-  pub entries : judged.entries ≡ length recording.past
-  pub deliveries : judged.deliveries ≡ deliveries_in recording.past
+use Rattle.causal_tool.specs.declared.judged.StreamFault.{StreamFault}
+use Rattle.causal_tool.specs.declared.judged.StreamFault.TheVariants.{Text}
 
 -- a fault of the text is its first, and no want of memory
-abbrev pub IsFaultOf : List ℕ → AuditFault → Type 0
+abbrev pub IsFaultOf : List ℕ → StreamFault → Type 0
 IsFaultOf text (Text fault) = IsFirstFault text fault × (fault.kind ≢ kind.NoMemory)
 IsFaultOf text _ = Unit {0}

@@ -1,4 +1,3 @@
 pub mod Endings
 pub mod Judgements
-pub mod Lines
 pub mod Streams

@@ -6,10 +6,10 @@ use Rattle.causal_text.specs.Spelling.{IsFirstFault}
 use Rattle.causal_text.specs.FaultLine.{fault_line}
 use Rattle.causal_audit.specs.declared.verdict.Verdict.TheVariants.{Accept}
 use Rattle.causal_tool.specs.declared.ended.Ended.{Ended}
-use Rattle.causal_tool.specs.declared.ended.Ended.TheVariants.{Accepted, Breached, Faulted, ReadFault, WriteFault, NoMemory}
-use Rattle.causal_tool.specs.declared.judged.Judged.{Judged}
-use Rattle.causal_tool.specs.Judgements.{IsJudgement}
-use Rattle.causal_tool.specs.Lines.{verdict_line}
+use Rattle.causal_tool.specs.declared.ended.Ended.TheVariants.{Accepted, Breached, Faulted, ReadFault, WriteFault, NoMemory, NoWorker}
+use Rattle.causal_workers.specs.declared.judged.Judged.{Judged}
+use Rattle.causal_workers.specs.Judgements.{IsJudgement}
+use Rattle.causal_workers.specs.Lines.{verdict_line}
 
 -- the line that answers a text for f where the program ends so: that of the verdict on the trace that it spells, or that
 -- of its first fault
@@ -24,6 +24,7 @@ IsAnswer text f _ line = ⊥
 abbrev pub Writes : List ℕ → ℕ → Ended → Option (List ℕ) → Option (List ℕ) → Type 0
 Writes text f ReadFault old new = Keeps old new
 Writes text f NoMemory old new = Keeps old new
+Writes text f NoWorker old new = Keeps old new
 Writes text f WriteFault old new =
     (ended : Ended) × (line : List ℕ) × (n : ℕ) × IsAnswer text f ended line × (n < length line) × Appends old new (take n line)
 Writes text f ended old new = (line : List ℕ) × IsAnswer text f ended line × Appends old new line
@@ -32,4 +33,5 @@ Writes text f ended old new = (line : List ℕ) × IsAnswer text f ended line ×
 abbrev pub IsSilent : Ended → Type 0
 IsSilent ReadFault = ⊤
 IsSilent NoMemory = ⊤
+IsSilent NoWorker = ⊤
 IsSilent _ = ⊥

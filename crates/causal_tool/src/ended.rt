@@ -16,13 +16,15 @@ pub enum Ended {
     WriteFault,
     /// Memory was refused. Nothing was written.
     NoMemory,
+    /// A worker could not be started. Nothing was written.
+    NoWorker,
 }
 
 impl Ended {
     ghost use Rattle.causal_tool.specs.Endings.{status_of, text_of};
 
     /// The program's exit status: 0, 1 or 2 after a line that was written whole, 4 where a stream failed, 5 for want of
-    /// memory.
+    /// memory or of a thread.
     pub fn status(self) -> u8
         ensures { result ≡ status_of self }
     {
@@ -31,7 +33,7 @@ impl Ended {
             Ended::Breached => 1,
             Ended::Faulted => 2,
             Ended::ReadFault | Ended::WriteFault => 4,
-            Ended::NoMemory => 5,
+            Ended::NoMemory | Ended::NoWorker => 5,
         }
     }
 
@@ -44,6 +46,7 @@ impl Ended {
             Ended::ReadFault => Some("read fault"),
             Ended::WriteFault => Some("write fault"),
             Ended::NoMemory => Some("no memory"),
+            Ended::NoWorker => Some("no worker"),
         }
     }
 }

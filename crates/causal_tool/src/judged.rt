@@ -1,30 +1,23 @@
 //! From the text of a trace to its verdict.
-ghost use Rattle.std.specs.Prelude.{◌≡◌, ℕ, List, IfOk, IfErr, IfSome, length};
+ghost use Rattle.std.specs.Prelude.{◌≡◌, ◌≤◌, ℕ, List, IfOk, IfErr, IfSome, Err, length};
 ghost use Rattle.causal_trace.specs.Past.{deliveries_in};
 ghost use Rattle.causal_text.specs.Streams.{TellsOf};
 ghost use Rattle.causal_audit.specs.Verdicts.{IsVerdict};
+ghost use Rattle.causal_workers.specs.Judgements.{IsJudgement};
+ghost use Rattle.causal_tool.specs.Judgements.{IsFaultOf};
 
-use causal_audit::judge::judge;
-use causal_audit::tables::Tables;
-use causal_audit::verdict::Verdict;
-use causal_name::NoMemory;
 use causal_text::{ReaderFault, TextFault, TextKind, read_from};
 use causal_trace::trace::Trace;
+use causal_workers::{AuditFault, Gate, Judged, audit};
 use std::alloc::Global;
 use std::io::Read;
+use std::sync::Wait;
+use std::thread::Threads;
 use thiserror::Error;
-
-/// The verdict on a trace, and how many entries and how many deliveries the trace has.
-#[derive(Clone, Copy, Debug, PartialEq, Eq)]
-pub struct Judged {
-    pub verdict: Verdict,
-    pub entries: u32,
-    pub deliveries: u32,
-}
 
 /// Why there is no verdict.
 #[derive(Clone, Copy, Debug, PartialEq, Eq, Error)]
-pub enum AuditFault {
+pub enum StreamFault {
     /// The reader answered an error, of any kind.
     #[error("read fault")]
     Read,
@@ -34,57 +27,81 @@ pub enum AuditFault {
     /// Memory was refused.
     #[error("no memory")]
     NoMemory,
+    /// A worker could not be started.
+    #[error("no worker")]
+    NoWorker,
 }
 
-ghost use Rattle.causal_tool.specs.Judgements.{IsJudgement, IsFaultOf};
-
-/// The verdict for f on the trace that the bytes of a reader spell. The reader is asked for pieces of 4,096 bytes, until
-/// it ends or what was read has a fault.
+/// The verdict for f on the trace that the bytes of a reader spell, by 1 to 64 workers. The reader is asked for pieces of
+/// 4,096 bytes, until it ends or what was read has a fault.
 ///
 /// # Errors
 /// `Read` where the reader failed, `Text` with the text's first fault where it spells no trace, `NoMemory` where memory
-/// was refused.
-pub fn audit_from<I: Read>(alloc: Global, input: &mut I, f: u16) -> Result<Judged, AuditFault>
+/// was refused, `NoWorker` where a worker could not be started, which one worker never answers.
+pub fn audit_from<I: Read, G: Gate + Sync, R: Threads + Wait>(
+    rt: &R,
+    alloc: Global,
+    input: &mut I,
+    f: u16,
+    workers: u32,
+    gate: &G,
+) -> Result<Judged, StreamFault>
+    requires { (1 ≤ workers) × (workers ≤ 64) }
     ensures ok { IfOk result (λ judged. IfSome (I.remaining input.old) (λ text. IsJudgement text f judged)) }
     ensures err { IfErr result (λ fault. IfSome (I.remaining input.old) (λ text. IsFaultOf text fault)) }
+    ensures alone { result ≡ Err StreamFault.NoWorker → 2 ≤ workers }
 {
     let trace = match read_from(alloc, input) {
         Ok(trace) => trace,
         Err(fault) => return Err(fault_of(fault)),
     };
-    match judgement(alloc, &trace, f) {
+    match judgement(rt, alloc, &trace, f, workers, gate) {
         Ok(judged) => Ok(judged),
-        Err(NoMemory) => Err(AuditFault::NoMemory),
+        Err(AuditFault::NoMemory) => Err(StreamFault::NoMemory),
+        Err(AuditFault::NoWorker) => Err(StreamFault::NoWorker),
     }
 }
 
-fn fault_of(fault: ReaderFault) -> AuditFault
-    ensures { (text : List ℕ) → TellsOf text fault → IsFaultOf text result }
+fn fault_of(fault: ReaderFault) -> StreamFault
+    ensures told { (text : List ℕ) → TellsOf text fault → IsFaultOf text result }
+    ensures alone { result ≡ StreamFault.NoWorker → ⊥ }
 {
     match fault {
         ReaderFault::Text(fault) => text_fault(fault),
-        ReaderFault::Read | ReaderFault::Failed | ReaderFault::Unfinished => AuditFault::Read,
+        ReaderFault::Read | ReaderFault::Failed | ReaderFault::Unfinished => StreamFault::Read,
     }
 }
 
-fn text_fault(fault: TextFault) -> AuditFault
-    ensures { (text : List ℕ) → TellsOf text (ReaderFault.Text fault) → IsFaultOf text result }
+fn text_fault(fault: TextFault) -> StreamFault
+    ensures told { (text : List ℕ) → TellsOf text (ReaderFault.Text fault) → IsFaultOf text result }
+    ensures alone { result ≡ StreamFault.NoWorker → ⊥ }
 {
     match fault.kind {
-        TextKind::NoMemory => AuditFault::NoMemory,
-        _ => AuditFault::Text(fault),
+        TextKind::NoMemory => StreamFault::NoMemory,
+        _ => StreamFault::Text(fault),
     }
 }
 
-fn judgement(alloc: Global, trace: &Trace, f: u16) -> Result<Judged, NoMemory>
+fn judgement<G: Gate + Sync, R: Threads + Wait>(
+    rt: &R,
+    alloc: Global,
+    trace: &Trace,
+    f: u16,
+    workers: u32,
+    gate: &G,
+) -> Result<Judged, AuditFault>
+    requires { (1 ≤ workers) × (workers ≤ 64) }
     ensures verdict { IfOk result (λ judged. IsVerdict trace.now.recording f judged.verdict) }
     ensures entries { IfOk result (λ judged. judged.entries ≡ length trace.now.recording.past) }
     ensures deliveries { IfOk result (λ judged. judged.deliveries ≡ deliveries_in trace.now.recording.past) }
+    ensures alone { result ≡ Err AuditFault.NoWorker → 2 ≤ workers }
 {
-    let tables = Tables::of(alloc, trace)?;
-    Ok(Judged {
-        verdict: judge(&tables, f),
-        entries: trace.len(),
-        deliveries: trace.deliveries(),
-    })
+    match audit(rt, alloc, trace, f, workers, gate) {
+        Ok(verdict) => Ok(Judged {
+            verdict,
+            entries: trace.len(),
+            deliveries: trace.deliveries(),
+        }),
+        Err(fault) => Err(fault),
+    }
 }

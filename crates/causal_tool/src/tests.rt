@@ -3,17 +3,18 @@ mod traces;
 
 use self::traces::{FAULTY, JUDGED, RING};
 use crate::ended::Ended;
-use crate::judged::Judged;
-use crate::line::verdict_line;
 use crate::stream::audit_stream;
 use crate::words::{Asked, parsed};
 use causal_audit::verdict::Verdict;
 use causal_holders::Holders;
+use causal_workers::{Judged, OpenGate, verdict_line};
 use clap::error::ErrorKind;
 use std::io;
 use std::io::{Error, Read, Write};
 use std::process::Abort;
+use std::sync::Wait;
 use std::test::Fail;
+use std::thread::Threads;
 
 const RING_LINE: &str = "accept f=0 entries=6 deliveries=3\n";
 
@@ -98,7 +99,7 @@ impl Write for Narrow {
     }
 }
 
-fn answers<R: AllocGlobal + Abort>(
+fn answers<R: AllocGlobal + Abort + Threads + Wait>(
     rt: &R,
     name: &str,
     text: &str,
@@ -108,7 +109,7 @@ fn answers<R: AllocGlobal + Abort>(
 ) {
     let mut input = text.as_bytes();
     let mut output = Vec::new(rt.alloc());
-    let how = audit_stream(rt, &mut input, &mut output, f);
+    let how = audit_stream(rt, &mut input, &mut output, f, 1, &OpenGate);
     assert_eq!(rt; how, ended, "{name}");
     assert!(rt; output.as_slice() == line.as_bytes(), "{name}");
 }
@@ -139,7 +140,7 @@ fn reads_byte_by_byte(rt: HostRuntime) {
     let mut input = Drip::new(RING, 1, usize::MAX);
     let mut output = Vec::new(rt.alloc());
     assert_eq!(rt;
-        audit_stream(&rt, &mut input, &mut output, 0),
+        audit_stream(&rt, &mut input, &mut output, 0, 1, &OpenGate),
         Ended::Accepted
     );
     assert!(rt; output.as_slice() == RING_LINE.as_bytes());
@@ -152,7 +153,7 @@ fn reader_fails_at_each_call(rt: HostRuntime) {
     for fails_at in 0..=RING.len() {
         let mut input = Drip::new(RING, 1, fails_at);
         let mut output = Vec::new(rt.alloc());
-        let ended = audit_stream(&rt, &mut input, &mut output, 0);
+        let ended = audit_stream(&rt, &mut input, &mut output, 0, 1, &OpenGate);
         assert_eq!(rt; ended, Ended::ReadFault, "call {fails_at}");
         assert!(rt; output.is_empty(), "call {fails_at}");
     }
@@ -164,7 +165,7 @@ fn fault_before_the_reader_fails(rt: HostRuntime) {
     let mut input = Drip::new("[\"trace\",1,2]\n[\"send\",0,1,1]\n", 4096, 1);
     let mut output = Vec::new(rt.alloc());
     assert_eq!(rt;
-        audit_stream(&rt, &mut input, &mut output, 0),
+        audit_stream(&rt, &mut input, &mut output, 0, 1, &OpenGate),
         Ended::Faulted
     );
     assert!(rt; output.as_slice() == b"fault line=2 WrongSsn\n".as_slice());
@@ -181,7 +182,7 @@ fn writer_fails_at_each_call(rt: HostRuntime) {
                 fails_at,
                 with_error,
             };
-            let ended = audit_stream(&rt, &mut input, &mut output, 0);
+            let ended = audit_stream(&rt, &mut input, &mut output, 0, 1, &OpenGate);
             let want = if fails_at < RING_LINE.len() {
                 Ended::WriteFault
             } else {
@@ -204,7 +205,7 @@ fn too_long_a_text(rt: HostRuntime) {
     };
     let mut output = Vec::new(rt.alloc());
     assert_eq!(rt;
-        audit_stream(&rt, &mut input, &mut output, 0),
+        audit_stream(&rt, &mut input, &mut output, 0, 1, &OpenGate),
         Ended::Faulted
     );
     assert!(rt; output.as_slice() == b"fault line=1 Big\n".as_slice());
@@ -220,6 +221,7 @@ fn statuses(rt: HostRuntime) {
         (Ended::ReadFault, 4, Some("read fault")),
         (Ended::WriteFault, 4, Some("write fault")),
         (Ended::NoMemory, 5, Some("no memory")),
+        (Ended::NoWorker, 5, Some("no worker")),
     ] {
         assert_eq!(rt; ended.status(), status);
         assert_eq!(rt; ended.text(), text);
@@ -284,8 +286,19 @@ fn words_that_ask_for_an_audit(rt: HostRuntime) -> Result<(), Fail> {
     });
     let short = ["causal_tool", "audit", "--faults", "0"];
     assert_eq!(rt; parsed(rt.alloc(), short.as_slice())?, asked);
-    let long = ["causal_tool", "audit", "--workers", "1", "--faults", "0"];
-    assert_eq!(rt; parsed(rt.alloc(), long.as_slice())?, asked);
+    let long = [
+        "causal_tool",
+        "audit",
+        "--workers",
+        "64",
+        "--faults",
+        "65535",
+    ];
+    let most = Some(Asked::Audit {
+        faults: 65_535,
+        workers: 64,
+    });
+    assert_eq!(rt; parsed(rt.alloc(), long.as_slice())?, most);
     Ok(())
 }
 
@@ -301,7 +314,7 @@ fn words_that_ask_for_nothing(rt: HostRuntime) {
             ErrorKind::ValueValidation,
         ),
         (
-            &["causal_tool", "audit", "--faults", "0", "--workers", "2"],
+            &["causal_tool", "audit", "--faults", "0", "--workers", "65"],
             ErrorKind::ValueValidation,
         ),
         (&["causal_tool", "run"], ErrorKind::InvalidSubcommand),

@@ -91,8 +91,8 @@ fn command<'a>(alloc: Global) -> Result<Command<'a>, AllocError> {
     let workers = Arg::new(alloc, "workers")
         .long("workers")
         .value_name("W")
-        .help("How many threads judge: 1")
-        .value_parser(value_parser!(u32).range(1..=1))
+        .help("How many threads judge, 1 to 64")
+        .value_parser(value_parser!(u32).range(1..=64))
         .default_value("1");
     let audit = Command::new(alloc, "audit")
         .about("Audits the trace on standard input")

@@ -1,9 +1,9 @@
 //! How a verdict prints.
-ghost use Rattle.std.specs.Prelude.{◌≡◌, IfOk, map};
+ghost use Rattle.std.specs.Prelude.{◌≡◌, ℕ, List, IfOk, map};
 ghost use Rattle.std.specs.Fmt.{decimal};
 ghost use Rattle.std.specs.String.{string_bytes};
 ghost use Rattle.causal_holders.specs.Members.{ascending};
-ghost use Rattle.causal_tool.specs.Lines as lines;
+ghost use Rattle.causal_workers.specs.Lines as lines;
 
 use crate::judged::Judged;
 use causal_audit::verdict::Verdict;
@@ -74,6 +74,13 @@ fn set_text(alloc: Global, processes: Holders) -> Result<String, AllocError>
     ensures { IfOk result (λ text. string_bytes text ≡ lines.set_text processes) }
 {
     let numbers = decimals(alloc, processes)?;
+    joined(alloc, numbers.as_slice())
+}
+
+/// Numbers joined by commas; `-` where there is none.
+fn joined(alloc: Global, numbers: &[String]) -> Result<String, AllocError>
+    ensures { (ps : List ℕ) → map string_bytes numbers.now ≡ map decimal ps → IfOk result (λ text. string_bytes text ≡ lines.joined_by_commas ps) }
+{
     if numbers.is_empty() {
         format!(in alloc; "-")
     } else {

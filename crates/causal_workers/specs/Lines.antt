@@ -7,7 +7,7 @@ use Rattle.std.specs.FinSet.{FinSet}
 use Rattle.causal_holders.specs.Members.{ascending}
 use Rattle.causal_audit.specs.declared.verdict.Verdict.{Verdict}
 use Rattle.causal_audit.specs.declared.verdict.Verdict.TheVariants.{Accept, Exceeded, Orphan}
-use Rattle.causal_tool.specs.declared.judged.Judged.{Judged}
+use Rattle.causal_workers.specs.declared.judged.Judged.{Judged}
 
 -- numbers joined by commas; `-` where there is none
 abbrev pub joined_by_commas : List ℕ → List ℕ
@@ -15,7 +15,7 @@ joined_by_commas [] = codes "-"
 joined_by_commas (p ∷ ps) = join_by decimal (codes ",") (p ∷ ps)
 
 -- the processes of a set, ascending
-abbrev pub set_text : FinSet nat_cmp → List ℕ
+unfoldable pub set_text : FinSet nat_cmp → List ℕ
 set_text s = joined_by_commas (ascending s)
 
 abbrev pub accept_line : ℕ → ℕ → ℕ → List ℕ

@@ -1,0 +1,3 @@
+pub mod Commas
+pub mod JudgementLemmas
+pub mod PartLemmas

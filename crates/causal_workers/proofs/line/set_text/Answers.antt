@@ -1,0 +1,8 @@
+use Rattle.std.proofs.Common.{◌∙◌, ap, map, string_bytes}
+use Rattle.causal_holders.specs.Members.{ascending}
+use Rattle.causal_workers.specs.Lines.{set_text}
+use Rattle.causal_workers.proofs.line.set_text.Goals as goal
+
+pub returns : goal.returns
+unfolding set_text
+returns c = c.joined.ensures (ascending c.args.processes) (ap (λ numbers. map string_bytes numbers) c.as_slice.ensures.value ∙ c.in_ok-numbers.ensures)

@@ -1,0 +1,23 @@
+-- What a text is judged to be.
+use Rattle.std.specs.Prelude.{◌≡◌, ◌≢◌, ℕ, List, length}
+use Rattle.causal_trace.specs.Past.{deliveries_in}
+use Rattle.causal_trace.specs.Rows.{Recording}
+use Rattle.causal_text.specs.Spelling.{Spells, IsFirstFault}
+use Rattle.causal_text.specs.declared.kind.TextKind.TheVariants as kind
+use Rattle.causal_audit.specs.Verdicts.{IsVerdict}
+use Rattle.causal_workers.specs.declared.judged.Judged.{Judged}
+use Rattle.causal_workers.specs.declared.judged.AuditTextFault.{AuditTextFault}
+use Rattle.causal_workers.specs.declared.judged.AuditTextFault.TheVariants.{Text, Audit}
+
+-- the text spells a trace, this is its verdict for f, and so many entries and deliveries it has
+pub record IsJudgement (text : List ℕ) (f : ℕ) (judged : Judged) : Type 0 where
+  pub recording : Recording
+  pub spells : Spells text recording
+  pub verdict : IsVerdict recording f judged.verdict
+  pub entries : judged.entries ≡ length recording.past
+  pub deliveries : judged.deliveries ≡ deliveries_in recording.past
+
+-- a fault of the text that is not want of memory is its first, and only a text that spells a trace is audited
+abbrev pub IsFaultOf : List ℕ → AuditTextFault → Type 0
+IsFaultOf text (Text fault) = fault.kind ≢ kind.NoMemory → IsFirstFault text fault
+IsFaultOf text (Audit fault) = (recording : Recording) × Spells text recording

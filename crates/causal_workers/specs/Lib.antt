@@ -1,0 +1,3 @@
+pub mod Judgements
+pub mod Lines
+pub mod Parts

@@ -1,0 +1,19 @@
+//! The audit of a recorded run, divided among workers.
+//!
+//! The deliveries of a trace are divided into consecutive parts, one for each worker. The parts' answers are joined, so
+//! the verdict is the same for every number of workers.
+#![tactic(auto)]
+
+pub mod divided;
+pub mod gate;
+pub mod judged;
+pub mod line;
+mod part;
+
+pub use divided::{AuditFault, audit};
+pub use gate::{Gate, OpenGate};
+pub use judged::{AuditTextFault, Judged, audit_text};
+pub use line::verdict_line;
+
+#[cfg(test)]
+mod tests;

@@ -1,0 +1,232 @@
+//! Verdicts and lines that were worked out by hand, for several numbers of workers, and that two workers run together.
+use crate::divided::audit;
+use crate::gate::{Gate, OpenGate};
+use crate::judged::{AuditTextFault, Judged, audit_text};
+use crate::line::verdict_line;
+use causal_audit::verdict::Verdict;
+use causal_holders::Holders;
+use causal_text::{TextFault, TextKind, read_trace};
+use std::sync::atomic::{AtomicU64, Ordering};
+use std::test::Fail;
+use std::thread;
+
+/// A message goes once round three processes.
+const RING: &str = r#"["trace",1,3]
+["send",0,1,0]
+["deliver",1,0,0,[[0,0,1,0]]]
+["send",1,2,0]
+["deliver",2,2,0,[[0,0,1,0],[1,0,2,0]]]
+["send",2,0,0]
+["deliver",0,4,0,[[1,0,2,0],[2,0,0,0]]]
+["end",6]
+"#;
+
+/// The ring, and then two processes crash.
+const RING_CRASHED: &str = r#"["trace",1,3]
+["send",0,1,0]
+["deliver",1,0,0,[[0,0,1,0]]]
+["send",1,2,0]
+["deliver",2,2,0,[[0,0,1,0],[1,0,2,0]]]
+["send",2,0,0]
+["deliver",0,4,0,[[1,0,2,0],[2,0,0,0]]]
+["crash",1]
+["crash",2]
+["end",8]
+"#;
+
+/// The second delivery has an orphan at once. The first has one later, and only where a process may crash.
+const LATER_FIRST: &str = r#"["trace",1,4]
+["send",0,1,0]
+["deliver",1,0,0,[[0,0,1,0]]]
+["send",1,2,0]
+["send",0,3,1]
+["deliver",3,3,0,[]]
+["deliver",2,2,0,[[1,0,2,0]]]
+["end",6]
+"#;
+
+/// Two deliveries have an orphan first at the same instant.
+const TIE: &str = r#"["trace",1,3]
+["send",0,1,0]
+["send",0,1,1]
+["deliver",1,0,0,[[0,0,1,0]]]
+["deliver",1,1,1,[[0,1,1,1]]]
+["send",1,2,0]
+["deliver",2,4,0,[[1,0,2,0]]]
+["end",6]
+"#;
+
+const EMPTY: &str = "[\"trace\",1,1]\n[\"end\",0]\n";
+
+const JUDGED: [(&str, u16, &[u32], &str); 8] = [
+    (EMPTY, 0, &[1, 2, 64], "accept f=0 entries=0 deliveries=0\n"),
+    (
+        RING,
+        0,
+        &[1, 2, 3, 64],
+        "accept f=0 entries=6 deliveries=3\n",
+    ),
+    (
+        RING,
+        1,
+        &[1, 2, 3, 64],
+        "accept f=1 entries=6 deliveries=3\n",
+    ),
+    (
+        RING,
+        2,
+        &[1, 2, 3, 64],
+        "orphan f=2 instant=6 delivery=1 crash=1,2 orphan=0\n",
+    ),
+    (
+        RING_CRASHED,
+        1,
+        &[1, 2, 3, 64],
+        "exceeded f=1 instant=8 down=1,2\n",
+    ),
+    (
+        LATER_FIRST,
+        0,
+        &[1, 2, 3],
+        "orphan f=0 instant=5 delivery=4 crash=- orphan=3\n",
+    ),
+    (
+        LATER_FIRST,
+        1,
+        &[1, 2, 3],
+        "orphan f=1 instant=5 delivery=4 crash=- orphan=3\n",
+    ),
+    (
+        TIE,
+        1,
+        &[1, 2, 3, 64],
+        "orphan f=1 instant=6 delivery=2 crash=1 orphan=2\n",
+    ),
+];
+
+#[test]
+fn every_number_of_workers_gives_one_line(rt: HostRuntime) -> Result<(), Fail> {
+    for (text, f, numbers, line) in JUDGED {
+        for workers in numbers {
+            let judged = audit_text(
+                &rt,
+                rt.alloc(),
+                text.as_bytes(),
+                f,
+                *workers,
+                &OpenGate,
+            ).map_err(|_| "no judgement")?;
+            let found = verdict_line(rt.alloc(), f, &judged).map_err(|_| "no line")?;
+            assert!(rt;
+                found.as_slice() == line.as_bytes(),
+                "{workers} workers: {line}"
+            );
+        }
+    }
+    Ok(())
+}
+
+#[test]
+fn a_trace_is_audited(rt: HostRuntime) -> Result<(), Fail> {
+    let trace = read_trace(rt.alloc(), RING.as_bytes()).map_err(|_| "no trace")?;
+    let mut crash = Holders::none();
+    crash.insert(1);
+    crash.insert(2);
+    let orphan = Verdict::Orphan {
+        instant: 6,
+        delivery: 1,
+        crash,
+        orphan: 0,
+    };
+    for workers in 1..=64 {
+        let found = audit(&rt, rt.alloc(), &trace, 2, workers, &OpenGate).map_err(
+            |_| "no verdict",
+        )?;
+        assert_eq!(rt; found, orphan, "{workers} workers");
+    }
+    Ok(())
+}
+
+#[test]
+fn a_text_with_a_fault_gets_no_verdict(rt: HostRuntime) {
+    let cut = "[\"trace\",1,2]\n[\"send\",0,1,0]\n[\"deliver\",1,0,0,[[0,0,1,0]]]\n";
+    let doubled = r#"["trace",1,2]
+["send",0,1,0]
+["deliver",1,0,0,[[0,0,1,0]]]
+["deliver",1,0,1,[[0,0,1,1]]]
+["end",3]
+"#;
+    for (text, line, kind) in [(cut, 4, TextKind::Cut), (doubled, 4, TextKind::Doubled)] {
+        let found = audit_text(&rt, rt.alloc(), text.as_bytes(), 0, 2, &OpenGate);
+        assert_eq!(rt; found, Err(AuditTextFault::Text(TextFault { line, kind })));
+    }
+}
+
+#[test]
+fn a_judgement_has_its_counts(rt: HostRuntime) {
+    let found = audit_text(&rt, rt.alloc(), RING.as_bytes(), 1, 2, &OpenGate);
+    let accepted = Judged {
+        verdict: Verdict::Accept,
+        entries: 6,
+        deliveries: 3,
+    };
+    assert_eq!(rt; found, Ok(accepted));
+}
+
+/// How often a worker looks whether the other has come.
+const TURNS: u32 = 10_000_000;
+
+// Holds each of the workers 0 and 1 until the other has entered, or the turns are over.
+#[derive(Drop)]
+struct Meeting {
+    first: AtomicU64,
+    second: AtomicU64,
+    strangers: AtomicU64,
+    missed: AtomicU64,
+}
+
+impl Meeting {
+    fn new() -> Meeting {
+        Meeting {
+            first: AtomicU64::new(0),
+            second: AtomicU64::new(0),
+            strangers: AtomicU64::new(0),
+            missed: AtomicU64::new(0),
+        }
+    }
+}
+
+impl Gate for Meeting {
+    fn enter(&self, worker: u32) {
+        let (own, other) = match worker {
+            0 => (&self.first, &self.second),
+            1 => (&self.second, &self.first),
+            _ => (&self.strangers, &self.strangers),
+        };
+        own.fetch_add(1, Ordering::SeqCst);
+        for _ in 0..TURNS {
+            if other.load(Ordering::SeqCst) > 0 {
+                return;
+            }
+            thread::yield_now();
+        }
+        self.missed.fetch_add(1, Ordering::SeqCst);
+    }
+}
+
+#[test]
+fn audit_workers_overlap(rt: HostRuntime) -> Result<(), Fail> {
+    let trace = read_trace(rt.alloc(), RING.as_bytes()).map_err(|_| "no trace")?;
+    let gate = Meeting::new();
+    let found = audit(&rt, rt.alloc(), &trace, 1, 2, &gate).map_err(|_| "no verdict")?;
+    assert_eq!(rt;
+        gate.missed.load(Ordering::SeqCst),
+        0,
+        "the workers did not meet"
+    );
+    assert_eq!(rt; gate.first.load(Ordering::SeqCst), 1);
+    assert_eq!(rt; gate.second.load(Ordering::SeqCst), 1);
+    assert_eq!(rt; gate.strangers.load(Ordering::SeqCst), 0);
+    assert_eq!(rt; found, Verdict::Accept);
+    Ok(())
+}
