@@ -10,7 +10,7 @@ pub unreachable-requires : goal.unreachable-requires
 unreachable-requires g c =
     let i = c.loop-i.invariant in
     let few = length-read c.loop-i.reader.state i.0 i.2 in
-    let all : 33554434 ≤ c.loop-i._i = c.loop-i-test.false in
+    let all = c.loop-i-test.false in
     let count : c.loop-i._i ≤ length i.0 = i.3 in
     absurd (omega arith)
 
