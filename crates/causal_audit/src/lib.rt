@@ -7,6 +7,8 @@ pub mod judge;
 pub mod laws;
 mod orphans;
 pub mod plain;
+#[cfg(test)]
+mod random_tests;
 mod sight;
 pub mod tables;
 #[cfg(test)]
