@@ -23,7 +23,7 @@ SHAPES = {
     "chain": "one message is on its way at a time, so all entries are one happened-before chain",
     "restarts": "192 crashes and restarts, after each of which the process replays its past",
     "lists": "as many listed determinants as there may be, in lists of 32",
-    "long": "as many listed determinants as there may be, most of them in some 45 lists of up to 32,000",
+    "long": "as many listed determinants as there may be, most of them in some 40 lists of 19,000 and more",
     "bytes": "the trace of `lists` with spaces between the tokens, as long as a text may be",
     "line": "1,048,576 determinants on one line; no trace can have that many deliveries, so the answer is a fault",
 }
@@ -312,7 +312,7 @@ def one_line(part):
     )
 
 
-def processes_of(shape, part):
+def processes_of(shape):
     if shape == "star":
         return 256
     return {"chain": 8, "lists": 32, "long": 32, "bytes": 32}.get(shape, 64)
@@ -322,7 +322,7 @@ def f_of(word, n):
     return n if word == "n" else int(word)
 
 
-def answer_of(variant, f, entries, processes):
+def answer_of(variant, f, entries):
     """What the auditor has to answer, and the status with which it ends."""
     crashes = [i for i, entry in enumerate(entries) if entry[0] == "crash"]
     if f == 0 and crashes:
@@ -334,7 +334,7 @@ def answer_of(variant, f, entries, processes):
 
 
 def simulate(shape, variant, f, part, seed):
-    n = processes_of(shape, part)
+    n = processes_of(shape)
     limit = MAX_ENTRIES // part
     # a crash makes any run unsafe for f = 0, so there the run is the one for f = 1
     kept_for = max(1, f) if shape == "restarts" else f
@@ -357,7 +357,7 @@ def simulate(shape, variant, f, part, seed):
 
 def make(shape, variant, f_word, part=1, seed=1):
     """The text and what is known of it."""
-    n = processes_of(shape, part)
+    n = processes_of(shape)
     f = f_of(f_word, n)
     if shape == "line":
         text = one_line(part)
@@ -368,7 +368,7 @@ def make(shape, variant, f_word, part=1, seed=1):
         text = text_of(2 if n > 64 else 1, n, entries)
         if shape == "bytes":
             text = widened(text, MAX_BYTES // part)
-        answer, status = answer_of(variant, f, entries, n)
+        answer, status = answer_of(variant, f, entries)
         about = {
             "entries": len(entries),
             "deliveries": len(deliveries_of(entries)),
