@@ -369,6 +369,7 @@ def main():
     words.add_argument("--commit", help="the commit of the program, if it is not the one that is checked out")
     given = words.parse_args()
     start = time.monotonic()
+    load = os.getloadavg()[0]
     rows = plan()
     abouts = make_inputs(rows, given.seed)
     rows = [Row(abouts[row[:4]], row[4]) for row in rows]
@@ -384,6 +385,7 @@ def main():
         "Program": "commit " + (given.commit or commit()),
         "Yardsticks": f"`wc`, Python {platform.python_version()}"
         + (", the kit's `serde_json`" if os.path.exists(KIT_JSON) else "; the one over the kit's `serde_json` was not built"),
+        "Load": f"{load:.1f} processes ran in the minute before the first run, this benchmark's aside",
         "Seed": given.seed,
         "Time taken": f"{time.monotonic() - start:.0f} s",
     }
