@@ -45,6 +45,10 @@ impl PieceReader {
         ensures { GivesText result (with_line self line.now) }
     {
         let PieceReader { lines, mut rest } = self;
+        if rest.is_empty() {
+            let lines = lines.take(alloc, line)?;
+            return Ok(PieceReader { lines, rest });
+        }
         if rest.extend_from_slice(line).is_err() {
             return Err(lines.no_memory());
         }

@@ -11,10 +11,10 @@ use causal_trace::trace::Trace;
 use std::alloc::Global;
 use std::marker::Model;
 
-/// A trace that is being read.
+/// A trace that is being read. It is boxed, since what a line adds hands it on by value.
 #[derive(Drop)]
 pub(crate) struct Recorded {
-    trace: Trace,
+    trace: Box<Trace>,
 }
 
 impl Model for Recorded {
@@ -22,7 +22,7 @@ impl Model for Recorded {
 
     ghost Value = { Recording };
 
-    ghost view = { λ a. a.trace.recording };
+    ghost view = { λ a. a.trace.value.recording };
 }
 
 impl Recorded {
@@ -31,9 +31,10 @@ impl Recorded {
         ensures ok { IfOk result (λ r. IsProcessCount n × (r ≡ opened n)) }
         ensures refused { IfErr result (λ fault. MatchBool (is_process_count n) (fault ≡ TraceFault.NoMemory) (fault ≡ TraceFault.Processes)) }
     {
-        match Trace::new(alloc, n) {
+        let trace = Trace::new(alloc, n)?;
+        match Box::new(alloc, trace) {
             Ok(trace) => Ok(Recorded { trace }),
-            Err(fault) => Err(fault),
+            Err(_) => Err(TraceFault::NoMemory),
         }
     }
 
@@ -58,6 +59,6 @@ impl Recorded {
     pub(crate) fn into_trace(self) -> Trace
         ensures { result.recording ≡ self }
     {
-        self.trace
+        Box::into_inner(self.trace)
     }
 }

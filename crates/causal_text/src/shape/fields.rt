@@ -72,7 +72,7 @@ pub(crate) fn det_of(value: &Value) -> Result<Det, TextKind>
 fn dets_of(alloc: Global, values: &[Value]) -> Result<Dets, TextKind>
     ensures { Gives result (dets_of (items_view values.now)) }
 {
-    let mut dets = Vec::new(alloc);
+    let mut dets = Vec::with_capacity(alloc, values.len())?;
     for value in values {
         dets.push(det_of(value)?)?;
     }

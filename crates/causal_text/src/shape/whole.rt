@@ -1,8 +1,8 @@
 //! The shapes of a line.
-ghost use Rattle.std.specs.Prelude.{◌≡◌, codes};
+ghost use Rattle.std.specs.Prelude.{◌≡◌};
 ghost use Rattle.serde_json.specs.View.{view};
 ghost use Rattle.causal_text.specs.Reading.{Gives};
-ghost use Rattle.causal_text.specs.Shapes.{begins, header_of, send_of, deliver_of, stable_of, crash_of, restart_of, forget_of, end_of, shape_of};
+ghost use Rattle.causal_text.specs.Shapes.{header_of, send_of, deliver_of, stable_of, crash_of, restart_of, forget_of, end_of, shape_of};
 
 use crate::kind::TextKind;
 use crate::shape::Shape;
@@ -10,14 +10,6 @@ use crate::shape::fields::{det_of, dets_at, pid_at, size, u32_at};
 use causal_trace::entry::Entry;
 use serde_json::Value;
 use std::alloc::Global;
-
-// an array of n items, the first of which is the name
-fn begins(value: &Value, name: &str, n: usize) -> bool
-    ensures { result ≡ begins (view value.now) name.now n }
-{
-    let first = value.get(0).and_then(Value::as_str).unwrap_or("");
-    first == name && size(value) == n
-}
 
 #[tactic(auto, unfolding(crate::specs::Shapes::header_of))]
 fn header_of(value: &Value) -> Result<Shape, TextKind>
@@ -111,21 +103,23 @@ fn end_of(value: &Value) -> Result<Shape, TextKind>
 pub(crate) fn shape_of(alloc: Global, value: &Value) -> Result<Shape, TextKind>
     ensures { Gives result (shape_of (view value.now)) }
 {
-    if begins(value, "trace", 3) {
+    let name = value.get(0).and_then(Value::as_str).unwrap_or("");
+    let n = size(value);
+    if name == "trace" && n == 3 {
         header_of(value)
-    } else if begins(value, "send", 4) {
+    } else if name == "send" && n == 4 {
         send_of(value)
-    } else if begins(value, "deliver", 5) {
+    } else if name == "deliver" && n == 5 {
         deliver_of(alloc, value)
-    } else if begins(value, "stable", 2) {
+    } else if name == "stable" && n == 2 {
         stable_of(value)
-    } else if begins(value, "crash", 2) {
+    } else if name == "crash" && n == 2 {
         crash_of(value)
-    } else if begins(value, "restart", 3) {
+    } else if name == "restart" && n == 3 {
         restart_of(alloc, value)
-    } else if begins(value, "forget", 3) {
+    } else if name == "forget" && n == 3 {
         forget_of(alloc, value)
-    } else if begins(value, "end", 2) {
+    } else if name == "end" && n == 2 {
         end_of(value)
     } else {
         Err(TextKind::Form)
