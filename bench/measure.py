@@ -102,6 +102,18 @@ def measure(command, path):
     return measured
 
 
+def measure_in_turn(runs):
+    """Runs whose times are compared, one after the other and again, so that a change of the machine's speed meets all of
+    them: five to fifteen times each."""
+    measured = [Measured() for _ in runs]
+    while len(measured[0].walls) < 5 or (len(measured[0].walls) < 15 and sum(sum(each.walls) for each in measured) < 1.0):
+        for each, (command, path) in zip(measured, runs):
+            once(command, path, each)
+            if each.over:
+                return measured
+    return measured
+
+
 def misended(path, about):
     """A copy whose end line has a wrong number: it is read whole, and not judged."""
     copy = os.path.join(INPUTS, "misended.jsonl")
@@ -144,15 +156,21 @@ def measure_row(row, program, path):
     row.check(row.full, about["answer"], about["status"])
     if row.workers > 1:
         return
-    if about["shape"] == "line":
-        row.read = row.full
-    else:
-        row.read = measure(command, misended(path, about))
-        row.check(row.read, f"fault line={about['entries'] + 2} Count", 2)
     row.lines = measure(["wc", "-l"], path)
     row.python = measure([sys.executable, "-I", "-S", os.path.join(HERE, "json_lines.py")], path)
+    unjudged = path if about["shape"] == "line" else misended(path, about)
+    runs = [(command, unjudged)]
     if os.path.exists(KIT_JSON):
-        row.kit = measure([KIT_JSON], path)
+        runs.append(([KIT_JSON], unjudged))
+    row.read, *kit = measure_in_turn(runs)
+    if row.read.over or any(each.over for each in kit):
+        sys.exit(f"reading {' '.join(row.key())} takes over {LIMIT:.0f} s")
+    if about["shape"] == "line":
+        row.check(row.read, about["answer"], about["status"])
+    else:
+        row.check(row.read, f"fault line={about['entries'] + 2} Count", 2)
+    if kit:
+        row.kit = kit[0]
         row.check(row.kit, row.python.line, 0)
 
 
@@ -235,22 +253,26 @@ def columns(row, before):
         "MB/s": f"{less}{about['bytes'] / 1e6 / seconds:.2f}",
         "entries/s": f"{less}{about['entries'] / seconds:,.0f}",
         "read s": "",
+        "read peak MB": "",
         "judge s": "",
         "wc -l s": "",
         "Python JSON s": "",
         "kit JSON s": "",
+        "kit JSON peak MB": "",
         "read / Python": "",
         "read / kit": "",
         "wall / last": "",
     }
     if read is not None:
         cells["read s"] = read.told()
+        cells["read peak MB"] = f"{read.peak / 1e3:.1f}"
         cells["judge s"] = f"over {LIMIT - read.best():.1f}" if full.over else f"{max(0.0, full.best() - read.best()):.3f}"
         cells["wc -l s"] = f"{row.lines.best():.3f}"
         cells["Python JSON s"] = row.python.told()
         cells["read / Python"] = f"{read.best() / row.python.best():.2f}"
         if row.kit is not None:
             cells["kit JSON s"] = row.kit.told()
+            cells["kit JSON peak MB"] = f"{row.kit.peak / 1e3:.1f}"
             cells["read / kit"] = f"{read.best() / row.kit.best():.2f}"
     if row.key() in before and not full.over:
         cells["wall / last"] = f"{full.best() / before[row.key()]:.2f}"
@@ -280,25 +302,46 @@ def earlier_walls(this_machine):
     return walls
 
 
+def own_size(about):
+    """What a trace takes that is held as plainly as can be, in bytes: 40 for an entry and 12 for a listed determinant."""
+    return 40 * about["entries"] + 12 * about["listed"]
+
+
+def worst(rows, ratio):
+    """The greatest ratio, and the trace that has it."""
+    return max(((ratio(row), row.key()[0]) for row in rows), default=(None, "no trace"))
+
+
 def target_line(name, value, bound, over=False):
+    if value is None:
+        return f"| {name} | {bound:.1f} | not measured | no |"
     told = f"over {value:.2f}" if over else f"{value:.2f}"
     return f"| {name} | {bound:.1f} | {told} | {'yes' if value <= bound and not over else 'no'} |"
+
+
+def lists_targets(row):
+    """What is asked of the trace with the most entries and the most listed determinants."""
+    name = "{entries:,} entries with {listed:,} listed determinants by one worker".format(**row.about)
+    seconds = LIMIT if row.full.over else row.full.best()
+    return [
+        target_line(f"reading and checking {name}: seconds / 2", row.read.best() / 2, 1.0),
+        target_line("judging them too: seconds / 2", seconds / 2, 1.0, row.full.over),
+        target_line("reading and checking / Python's JSON reader", row.read.best() / row.python.best(), 1.3),
+    ]
 
 
 def targets(rows):
     lines = ["| Target | At most | Measured | Met |", "|---|---|---|---|"]
     row = next((row for row in rows if row.key() == ("lists safe 1", "1", "1") and row.full), None)
-    if row is None:
-        return lines + ["| not run | | | |"]
-    seconds = LIMIT if row.full.over else row.full.best()
-    name = "checking {entries:,} entries with {listed:,} listed determinants by one worker".format(**row.about)
-    lines.append(target_line(f"{name}: seconds / 2", seconds / 2, 1.0, row.full.over))
-    for yardstick, name in ((row.python, "Python's JSON reader"), (row.kit, "the kit's JSON reader")):
-        if yardstick is None:
-            lines.append(f"| reading that text: seconds / {name}'s | 1.3 | not measured | no |")
-        else:
-            ratio = row.read.best() / yardstick.best()
-            lines.append(target_line(f"reading that text: seconds / {name}'s", ratio, 1.3))
+    lines += lists_targets(row) if row else ["| not run | | | no |"]
+    limits = [row for row in rows if row.read and row.kit and row.about["part"] == 1]
+    for row in limits:
+        name = f"reading and checking `{row.key()[0]}` / the kit's JSON reader"
+        lines.append(target_line(name, row.read.best() / row.kit.best(), 1.3))
+    # a fault keeps no trace
+    kept = [row for row in limits if row.about["shape"] != "line"]
+    value, trace = worst(kept, lambda row: (row.read.peak - row.kit.peak) * 1e3 / own_size(row.about))
+    lines.append(target_line(f"memory beyond the kit's JSON reader's / the trace's own size, at worst: `{trace}`", value, 2.0))
     return lines
 
 
@@ -320,11 +363,13 @@ A trace named `1` stands at the limits, one named `1/{part}` has every limit but
 the `--faults` of the run, for which the trace was made (`n`: as many as there are processes). No run is safe for f = 0 in
 which a process crashes, so there the right answer is `exceeded`.
 
-Each time is the best of three to five runs, with how much longer the longest was; `once` stands beside a run of more than
-{slow:.0f} seconds, and `over {limit:.0f}` where it was stopped after {limit:.0f} seconds without an answer. *wall*, *user*, *peak*, *MB/s* and *entries/s* are
-of a whole run of the program. *read* is a run on the same text with a wrong number in its end line, which is read whole and
-not judged; *judge* is the difference. *wc -l*, *Python JSON* and *kit JSON* are the yardsticks on the same bytes: a count
-of the lines, and programs that read each line to a value by Python's `json` and by the kit's `serde_json`, and drop it.
+Each time is the best of three to five runs, with how much longer the longest was; of *read* and *kit JSON*, which run in
+turn, of five to fifteen. `once` stands beside a run of more than {slow:.0f} seconds, and `over {limit:.0f}` where it was stopped after
+{limit:.0f} seconds without an answer. *wall*, *user*, *peak*, *MB/s* and *entries/s* are of a whole run of the program. *read* is a run
+on the same text with a wrong number in its end line, which is read whole and each entry checked, but not judged; *judge* is
+the difference. *wc -l*, *Python JSON* and *kit JSON* are the yardsticks on the same bytes: a count of the lines, and
+programs that read each line to a value by Python's `json` and by the kit's `serde_json`, and drop it. A trace's own size is
+40 bytes an entry and 12 a listed determinant; what the kit's reader takes is the program and the longest line's value.
 *wall / last* is against the table that stood here before, if that was of a machine of this kind. MB are 10^6 bytes.
 
 {table}
