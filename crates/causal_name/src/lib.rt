@@ -10,6 +10,7 @@ pub mod order;
 ghost use Rattle.std.specs.Prelude.{◌≡◌};
 ghost use Rattle.causal_name.specs.Names.{message_of, slot_of, is_before};
 
+use std::alloc::{AllocError, AllocFailed};
 use thiserror::Error;
 
 /// A process, by its number; the processes of a run are numbered from 0.
@@ -43,6 +44,18 @@ pub struct Slot {
 #[derive(Clone, Copy, Debug, PartialEq, Eq, Error)]
 #[error("no memory")]
 pub struct NoMemory;
+
+impl From<AllocError> for NoMemory {
+    fn from(_refused: AllocError) -> NoMemory {
+        NoMemory
+    }
+}
+
+impl<T: Drop> From<AllocFailed<T>> for NoMemory {
+    fn from(_refused: AllocFailed<T>) -> NoMemory {
+        NoMemory
+    }
+}
 
 impl Det {
     /// The message that was delivered.

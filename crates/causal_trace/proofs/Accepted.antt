@@ -1,7 +1,6 @@
 -- What is known of an entry against which nothing stands.
-use Rattle.std.proofs.Common.{ℕ, zero, suc, ◌≡◌, ◌+◌, ◌<◌, ◌≤◌, inl, inr, Bool, true, false, cond, List, [], ◌∷◌, length, Option, Some, None, refl, sym, ap, subst, ◌∙◌, arith}
-use Rattle.std.specs.Prelude.{◌||◌, ◌&&◌, ◌==◌, not, nat_lt, slice_get}
-use Rattle.std.specs.List.{list_all}
+use Rattle.std.proofs.Common.{ℕ, zero, suc, ◌≡◌, ◌<◌, inl, inr, Bool, true, false, List, [], ◌∷◌, length, Some, None, refl, sym, ap, subst, ◌∙◌, arith}
+use Rattle.std.specs.Prelude.{not, slice_get}
 use Rattle.std.specs.Option.{option_map_or}
 use Rattle.std.proofs.lemmas.Bool.{false≢true, cases_lt, eqb-true}
 use Rattle.causal_name.specs.declared.Pid.{Pid}
@@ -9,10 +8,10 @@ use Rattle.causal_name.specs.declared.Det.{Det}
 use Rattle.causal_trace.specs.declared.entry.Entry.{Entry}
 use Rattle.causal_trace.specs.declared.entry.Entry.TheVariants.{Send, Deliver, Stable, Crash, Restart, Forget}
 use Rattle.causal_trace.specs.declared.fault.TraceFault.{TraceFault}
-use Rattle.causal_trace.specs.declared.fault.TraceFault.TheVariants.{TooLong, NoProcess, NotUp, NotDown, Lanes, WrongSsn, NoSend, WrongRsn, Doubled, Unsorted, NoDelivery}
-use Rattle.causal_trace.specs.Past.{is_down, entry_at, is_send_to, is_sent_to}
+use Rattle.causal_trace.specs.declared.fault.TraceFault.TheVariants.{NotUp, NotDown, NoSend}
+use Rattle.causal_trace.specs.Past.{is_down, is_send_to, is_sent_to}
 use Rattle.causal_trace.specs.Rows.{rows, first_holding, first_fault, AreAccepted}
-use Rattle.causal_trace.specs.Dependence.{is_delivery_of, Delivers}
+use Rattle.causal_trace.specs.Dependence.{is_delivery_of}
 use Rattle.causal_trace.proofs.Formed.{nothing_told}
 use Rattle.causal_trace.proofs.Instants.{entry_beyond}
 use Rattle.causal_trace.proofs.Reached.{AreForward}

@@ -1,18 +1,16 @@
 -- The definitions say what their words say.
-use Rattle.std.proofs.Common.{ℕ, ◌≡◌, ◌+◌, ◌-◌, ◌<◌, ◌≤◌, inr, Bool, true, false, cond, List, [], ◌∷◌, ◌++◌, length, take, drop, reverse, Some, None, refl, sym, ap, subst, ◌∙◌, add-one, arith}
-use Rattle.std.specs.Prelude.{◌||◌, not, ◌&&◌, ◌==◌, slice_get}
+use Rattle.std.proofs.Common.{ℕ, ◌≡◌, ◌+◌, ◌-◌, Bool, true, false, cond, List, [], ◌∷◌, ◌++◌, length, take, drop, reverse, Some, None, refl, sym, ap, subst, ◌∙◌, add-one, arith}
+use Rattle.std.specs.Prelude.{◌||◌, not, ◌&&◌, ◌==◌}
 use Rattle.std.specs.List.{find}
 use Rattle.std.specs.Option.{option_map_or}
-use Rattle.std.proofs.lemmas.List.{reverse-append, length-reverse, length-drop, drop_at, take-append-drop, drop_more}
+use Rattle.std.proofs.lemmas.List.{reverse-append, length-reverse, length-drop, drop_at, take-append-drop}
 use Rattle.std.proofs.lemmas.Option.{slice_get-get_or}
 use Rattle.std.proofs.lemmas.Bool.{false≢true, and_parts, eqb-true}
 use Rattle.causal_name.specs.declared.Pid.{Pid}
 use Rattle.causal_name.specs.declared.Det.{Det}
 use Rattle.causal_trace.specs.declared.entry.Entry.{Entry}
 use Rattle.causal_trace.specs.declared.entry.Entry.TheVariants.{Send, Deliver, Stable, Crash, Restart, Forget}
-use Rattle.causal_trace.specs.Past.{instant, entry_at, has, is_down, logs}
-use Rattle.causal_trace.specs.Rows.{AreAccepted}
-use Rattle.causal_trace.specs.State.{past_at}
+use Rattle.causal_trace.specs.Past.{has, is_down, logs}
 use Rattle.causal_trace.specs.Dependence.{DirectlyPrecedes, Reaches, itself, onward, IsEventOf}
 use Rattle.causal_trace.specs.Agree.{InstantsArePrefixes, InstantsStay, OneMoreInstant, InstantsKeepPlaces, is_crash, is_turn_of, DownIsLastTurn, lists, is_forgetting, present, LogIsLastListing, IsPath, ReachesByPath}
 use Rattle.causal_trace.proofs.Instants.{entry_there}

@@ -1,7 +1,7 @@
 -- What a trace remembers beside its entries, with one more entry.
 use Rattle.std.proofs.Common.{ℕ, ◌≡◌, ◌+◌, ◌<◌, ◌≤◌, inl, inr, Bool, true, false, cond, ◌==◌, List, [], ◌∷◌, length, Option, Some, None, refl, sym, ap, subst, ◌∙◌, arith}
 use Rattle.std.specs.Prelude.{◌||◌, ◌&&◌, not, replicate, IfSome}
-use Rattle.std.specs.Option.{option_map, option_map_or}
+use Rattle.std.specs.Option.{option_map}
 use Rattle.std.specs.List.{list_any}
 use Rattle.std.specs.Map.{lookup}
 use Rattle.std.specs.HashSet.{contains}
@@ -15,9 +15,9 @@ use Rattle.causal_trace.specs.declared.entry.Entry.{Entry}
 use Rattle.causal_trace.specs.declared.entry.Entry.TheVariants.{Send, Deliver, Stable, Crash, Restart, Forget}
 use Rattle.causal_trace.specs.declared.lanes.Lane.{Lane}
 use Rattle.causal_trace.specs.Limits.{IsProcessCount}
-use Rattle.causal_trace.specs.Past.{listed_by, lane, restarts, deliveries_in, message_at, det_from, det_of, is_det, is_message, is_delivered, has_delivered}
+use Rattle.causal_trace.specs.Past.{listed_by, lane, restarts, deliveries_in, message_at, det_from, det_of, is_det, is_message, has_delivered}
 use Rattle.causal_trace.specs.Rows.{Recording, first_fault}
-use Rattle.causal_trace.specs.State.{with_entry, IsKept}
+use Rattle.causal_trace.specs.State.{with_entry}
 use Rattle.causal_trace.specs.Index.{AreLanes, same_receipt, fresh, lanes_after, IsIndexed, Delivered, Received, is_lane, AreDelivered, AreReceived, receipt_after, is_restart, is_delivery}
 use Rattle.causal_trace.proofs.Formed.{kept_push}
 use Rattle.causal_trace.proofs.Laned.{lanes_push, subject_there, no_lanes}

@@ -12,7 +12,7 @@ use Rattle.causal_trace.specs.declared.entry.Entry.{Entry}
 use Rattle.causal_trace.specs.declared.entry.Entry.TheVariants.{Send, Deliver, Stable, Crash, Restart, Forget}
 use Rattle.causal_trace.specs.declared.fault.TraceFault.TheVariants.{NoProcess, Lanes, WrongSsn, WrongRsn, NoDelivery}
 use Rattle.causal_trace.specs.Past.{listed_in, listed_by, restarts, entry_at, message_sent, message_at, det_from, det_of, is_det, is_delivered, sends, deliveries}
-use Rattle.causal_trace.specs.Rows.{Recording, rows, first_fault, are_delivered, are_delivered_with, AreAccepted, IsWellFormed}
+use Rattle.causal_trace.specs.Rows.{rows, first_fault, are_delivered, are_delivered_with, AreAccepted}
 use Rattle.causal_trace.specs.Sizes.{DetIsSmall, DetsAreSmall, EntryIsSmall, EntriesAreSmall, NumbersAreSmall, LimitsAreKept}
 use Rattle.causal_trace.proofs.Formed.{within_limits, limits}
 use Rattle.causal_trace.proofs.Accepted.{not_false, row_fails, delivers_sent, sent_within}

@@ -1,10 +1,10 @@
 -- What the definitions of states and of dependence say, in other words.
-use Rattle.std.specs.Prelude.{◌≡◌, ℕ, ◌+◌, ◌≤◌, ◌<◌, ◌↔◌, Bool, true, false, not, ◌==◌, ◌&&◌, if◌then◌else◌, List, [], ◌∷◌, length, reverse, Option, Some, slice_get, count_by, Contains}
-use Rattle.std.specs.List.{find, list_any}
+use Rattle.std.specs.Prelude.{◌≡◌, ℕ, ◌+◌, ◌≤◌, ◌<◌, ◌↔◌, Bool, true, false, not, ◌==◌, ◌&&◌, if◌then◌else◌, List, [], ◌∷◌, length, reverse, slice_get}
+use Rattle.std.specs.List.{find}
 use Rattle.std.specs.Option.{option_map_or}
 use Rattle.causal_name.specs.declared.Det.{Det}
 use Rattle.causal_trace.specs.declared.entry.Entry.{Entry}
-use Rattle.causal_trace.specs.declared.entry.Entry.TheVariants.{Send, Deliver, Stable, Crash, Restart, Forget}
+use Rattle.causal_trace.specs.declared.entry.Entry.TheVariants.{Deliver, Crash, Restart, Forget}
 use Rattle.causal_trace.specs.Past.{instant, entry_at, is_down, has, logs}
 use Rattle.causal_trace.specs.Rows.{AreAccepted}
 use Rattle.causal_trace.specs.State.{past_at}

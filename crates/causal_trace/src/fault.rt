@@ -1,4 +1,6 @@
 //! Why an entry, or a whole trace, is refused.
+use causal_name::NoMemory;
+use std::alloc::AllocFailed;
 use thiserror::Error;
 
 /// What stands against an entry, or against a trace; where several do, the first in this order is told.
@@ -43,4 +45,26 @@ pub enum TraceFault {
     /// Memory was asked for and refused.
     #[error("no memory")]
     NoMemory,
+}
+
+impl From<NoMemory> for TraceFault {
+    ghost use Rattle.causal_trace.specs.declared.fault.TraceFault.TheVariants as fault;
+    ghost use Rattle.std.specs.Prelude.{◌≡◌};
+
+    ghost from_gives = { λ _ told. told ≡ fault.NoMemory };
+
+    fn from(_refused: NoMemory) -> TraceFault {
+        TraceFault::NoMemory
+    }
+}
+
+impl<T: Drop> From<AllocFailed<T>> for TraceFault {
+    ghost use Rattle.causal_trace.specs.declared.fault.TraceFault.TheVariants as fault;
+    ghost use Rattle.std.specs.Prelude.{◌≡◌};
+
+    ghost from_gives = { λ _ told. told ≡ fault.NoMemory };
+
+    fn from(_refused: AllocFailed<T>) -> TraceFault {
+        TraceFault::NoMemory
+    }
 }

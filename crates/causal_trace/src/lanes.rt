@@ -4,7 +4,7 @@ ghost use Rattle.causal_trace.specs.Index.{lanes_after, subject, HasRoom, fresh,
 
 use crate::entry::Entry;
 use causal_name::NoMemory;
-use std::alloc::{AllocError, Global};
+use std::alloc::Global;
 
 /// The present lane of a process: whether it is down, how many restarts opened its lanes, and how many messages the
 /// lane has sent and delivered.
@@ -39,7 +39,7 @@ pub(crate) fn note_lane(lanes: &mut [Lane], entry: &Entry)
 }
 
 /// The lanes of n processes at first.
-pub(crate) fn fresh_lanes(alloc: Global, n: usize) -> Result<Vec<Lane>, AllocError>
+pub(crate) fn fresh_lanes(alloc: Global, n: usize) -> Result<Vec<Lane>, NoMemory>
     ensures { IfOk result (λ lanes. lanes.items ≡ replicate n fresh) }
 {
     let fresh = Lane {
@@ -48,27 +48,21 @@ pub(crate) fn fresh_lanes(alloc: Global, n: usize) -> Result<Vec<Lane>, AllocErr
         sends: 0,
         deliveries: 0,
     };
-    vec![in alloc; fresh; n]
+    Ok(vec![in alloc; fresh; n]?)
 }
 
 /// Equal lanes.
 pub(crate) fn copied_lanes(lanes: &Vec<Lane>) -> Result<Vec<Lane>, NoMemory>
     ensures { IfOk result (λ copy. copy.items ≡ lanes.now.items) }
 {
-    match lanes.clone() {
-        Ok(copy) => Ok(copy),
-        Err(_) => Err(NoMemory),
-    }
+    Ok(lanes.clone()?)
 }
 
 /// Equal entries.
 pub(crate) fn copied_entries(entries: &Vec<Entry>) -> Result<Vec<Entry>, NoMemory>
     ensures { IfOk result (λ copy. copy.items ≡ entries.now.items) }
 {
-    match entries.clone() {
-        Ok(copy) => Ok(copy),
-        Err(_) => Err(NoMemory),
-    }
+    Ok(entries.clone()?)
 }
 
 /// One for a restart.

@@ -73,13 +73,9 @@ impl PlainTrace {
             return Err(fault);
         }
         let listed = entry.listed() as u32;
-        match self.entries.push(entry) {
-            Ok(()) => {
-                self.listed += listed;
-                Ok(())
-            }
-            Err(_) => Err(TraceFault::NoMemory),
-        }
+        self.entries.push(entry)?;
+        self.listed += listed;
+        Ok(())
     }
 
     /// How many entries there are. A trace is well formed.

@@ -87,10 +87,7 @@ pub(crate) fn note_receipt(received: &mut HashMap<(Pid, MsgName), u32>, own: Opt
 pub(crate) fn copied_dets(delivered: &HashSet<Det>) -> Result<HashSet<Det>, NoMemory>
     ensures { IfOk result (λ copy. copy.keys ≡ delivered.now.keys) }
 {
-    match delivered.clone() {
-        Ok(copy) => Ok(copy),
-        Err(_) => Err(NoMemory),
-    }
+    Ok(delivered.clone()?)
 }
 
 /// An equal map.
@@ -99,8 +96,5 @@ pub(crate) fn copied_receipts(
 ) -> Result<HashMap<(Pid, MsgName), u32>, NoMemory>
     ensures { IfOk result (λ copy. copy.entries ≡ received.now.entries) }
 {
-    match received.clone() {
-        Ok(copy) => Ok(copy),
-        Err(_) => Err(NoMemory),
-    }
+    Ok(received.clone()?)
 }

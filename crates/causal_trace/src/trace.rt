@@ -88,19 +88,16 @@ impl Trace {
         if n == 0 || n > MAX_PROCESSES {
             return Err(TraceFault::Processes);
         }
-        match fresh_lanes(alloc, n as usize) {
-            Ok(lanes) => Ok(Trace {
-                processes: n,
-                entries: Vec::new(alloc),
-                listed: 0,
-                restarts: 0,
-                deliveries: 0,
-                lanes,
-                delivered: HashSet::new(alloc),
-                received: HashMap::new(alloc),
-            }),
-            Err(_) => Err(TraceFault::NoMemory),
-        }
+        Ok(Trace {
+            processes: n,
+            entries: Vec::new(alloc),
+            listed: 0,
+            restarts: 0,
+            deliveries: 0,
+            lanes: fresh_lanes(alloc, n as usize)?,
+            delivered: HashSet::new(alloc),
+            received: HashMap::new(alloc),
+        })
     }
 
     /// Adds the entry at the end, if nothing stands against it. On a refusal the entry is dropped and the trace is as it
@@ -123,9 +120,7 @@ impl Trace {
         if let Some(fault) = self.fault_of(&entry) {
             return Err(fault);
         }
-        if self.reserve(1).is_err() {
-            return Err(TraceFault::NoMemory);
-        }
+        self.reserve(1)?;
         self.note(entry);
         Ok(())
     }
@@ -171,15 +166,9 @@ impl Trace {
         ensures refused { OnErr result (self.old.spare < entries) }
     {
         let room = entries as usize;
-        if self.entries.reserve(room).is_err() {
-            return Err(NoMemory);
-        }
-        if self.delivered.reserve(room).is_err() {
-            return Err(NoMemory);
-        }
-        if self.received.reserve(room).is_err() {
-            return Err(NoMemory);
-        }
+        self.entries.reserve(room)?;
+        self.delivered.reserve(room)?;
+        self.received.reserve(room)?;
         Ok(())
     }
 

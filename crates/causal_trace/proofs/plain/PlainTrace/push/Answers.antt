@@ -23,5 +23,5 @@ overflow_cast-listed c = let k = kept c in omega (arith, k.within, c.listed-list
 pub overflow_add-self : goal.overflow_add-self
 overflow_add-self c = let k = kept (goal.at.overflow_add-self c).After-listed-listed in omega (arith, k.within, c.listed-listed.ensures)
 
-pub invariant_of-self : goal.invariant_of-self
-invariant_of-self c = rw (c.in-Ok.ensures.items, c.listed-listed.ensures, reverse-append) (kept (goal.at.invariant_of-self c).After-listed-listed)
+pub invariant_of-self-2 : goal.invariant_of-self-2
+invariant_of-self-2 c = rw (c.in_ok-push.ensures.items, c.listed-listed.ensures, reverse-append) (kept (goal.at.invariant_of-self-2 c).After-listed-listed)

@@ -1,4 +1,4 @@
-use Rattle.std.proofs.Common.{ℕ, Bool, true, false, cond, suc, ◌≡◌, ◌<◌, ◌≤◌, ◌+◌, length, reverse, [], ◌∷◌, ◌++◌, take, drop, None, arith, sym, ap, subst, ◌∙◌}
+use Rattle.std.proofs.Common.{Bool, true, false, cond, ◌≡◌, ◌<◌, ◌≤◌, ◌+◌, length, reverse, ◌++◌, take, drop, None, arith, sym, ap, subst, ◌∙◌}
 use Rattle.std.specs.Prelude.{◌||◌, All, IfSome}
 use Rattle.std.specs.HashSet.{contains}
 use Rattle.std.specs.HashMap.{get}
