@@ -59,9 +59,7 @@ impl Batch {
     pub fn try_clone(&self) -> Result<Batch, NoMemory>
         ensures { IfOk result (λ copy. copy ≡ self.now) }
     {
-        let Ok(items) = self.items.clone() else {
-            return Err(NoMemory);
-        };
+        let items = self.items.clone()?;
         Ok(Batch { items })
     }
 }

@@ -43,10 +43,7 @@ pub(crate) fn dets(alloc: Global, entries: &IndexMap<Det, Known>) -> Result<Vec<
     ensures items { IfOk result (λ dets. dets.items ≡ keys entries.now) }
     ensures unique { IsUnique ⟦<Det as PartialEq>⟧.eq entries.now }
 {
-    let Ok(dets) = entries.keys().copied().collect(alloc) else {
-        return Err(NoMemory);
-    };
-    Ok(dets)
+    Ok(entries.keys().copied().collect(alloc)?)
 }
 
 /// The determinants that are known to be stable.
@@ -58,10 +55,7 @@ pub(crate) fn stable_dets(
     ensures unique { IsUnique ⟦<Det as PartialEq>⟧.eq entries.now }
 {
     let stable = entries.iter().filter(|(_, known)| known.stable);
-    let Ok(dets) = stable.map(|(det, _)| *det).collect(alloc) else {
-        return Err(NoMemory);
-    };
-    Ok(dets)
+    Ok(stable.map(|(det, _)| *det).collect(alloc)?)
 }
 
 /// The items of the entries that a message carries.
@@ -78,10 +72,7 @@ pub(crate) fn carried(
         det: *det,
         holders: known.holders,
     });
-    let Ok(items) = items.collect(alloc) else {
-        return Err(NoMemory);
-    };
-    Ok(items)
+    Ok(items.collect(alloc)?)
 }
 
 /// The message of the first determinant of a slot.
@@ -116,10 +107,8 @@ pub(crate) fn make_room(
     if additional > MOST_ENTRIES - entries.len() {
         return Err(NoMemory);
     }
-    match entries.reserve(additional) {
-        Ok(()) => Ok(()),
-        Err(_) => Err(NoMemory),
-    }
+    entries.reserve(additional)?;
+    Ok(())
 }
 
 /// Learns something of one determinant; where there is room, it takes no memory.
@@ -143,10 +132,8 @@ pub(crate) fn learn(
         return Err(NoMemory);
     }
     let known = known_of(entries, det).joined(heard);
-    match entries.insert_sorted(det, known) {
-        Ok(_) => Ok(()),
-        Err(_) => Err(NoMemory),
-    }
+    entries.insert_sorted(det, known)?;
+    Ok(())
 }
 
 /// Learns what the items of a message from one process tell another, in room made before.

@@ -79,9 +79,7 @@ impl Log {
     pub fn try_clone(&self) -> Result<Log, NoMemory>
         ensures { IfOk result (λ copy. copy ≡ self.now) }
     {
-        let Ok(entries) = self.entries.clone() else {
-            return Err(NoMemory);
-        };
+        let entries = self.entries.clone()?;
         Ok(Log { entries })
     }
 

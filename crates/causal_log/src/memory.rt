@@ -80,10 +80,7 @@ impl Stable for MemStable {
 fn members(alloc: Global, dets: &BTreeSet<Det>) -> Result<Vec<Det>, NoMemory>
     ensures { IfOk result (λ members. members.items ≡ dets.now.keys) }
 {
-    let Ok(members) = dets.iter().copied().collect(alloc) else {
-        return Err(NoMemory);
-    };
-    Ok(members)
+    Ok(dets.iter().copied().collect(alloc)?)
 }
 
 /// The first member that fills a slot.
