@@ -57,8 +57,8 @@
 //!             return Ok(Vec::new(alloc));
 //!         };
 //!         let count = self.count.wrapping_add(1);
-//!         let body = Body::new(vec![in alloc; count].map_err(|_| NoMemory)?);
-//!         let sends = vec![in alloc; Outgoing { to: *from, body }].map_err(|_| NoMemory)?;
+//!         let body = Body::new(vec![in alloc; count]?);
+//!         let sends = vec![in alloc; Outgoing { to: *from, body }]?;
 //!         self.count = count;
 //!         Ok(sends)
 //!     }

@@ -11,8 +11,8 @@ use std::alloc::Global;
 pub(crate) fn send_one(alloc: Global, to: Pid, bytes: &[u8]) -> Result<Vec<Outgoing>, NoMemory>
     ensures { IfOk result (λ sends. sends.items ≡ one_message to bytes.now) }
 {
-    let body = Body::new(bytes.to_vec(alloc).map_err(|_| NoMemory)?);
-    vec![in alloc; Outgoing { to, body }].map_err(|_| NoMemory)
+    let body = Body::new(bytes.to_vec(alloc)?);
+    Ok(vec![in alloc; Outgoing { to, body }]?)
 }
 
 // The count less one, or nothing where it is 0.

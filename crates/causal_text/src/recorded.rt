@@ -32,10 +32,9 @@ impl Recorded {
         ensures refused { IfErr result (λ fault. MatchBool (is_process_count n) (fault ≡ TraceFault.NoMemory) (fault ≡ TraceFault.Processes)) }
     {
         let trace = Trace::new(alloc, n)?;
-        match Box::new(alloc, trace) {
-            Ok(trace) => Ok(Recorded { trace }),
-            Err(_) => Err(TraceFault::NoMemory),
-        }
+        Ok(Recorded {
+            trace: Box::new(alloc, trace)?,
+        })
     }
 
     /// Takes one more entry, where nothing stands against it.

@@ -40,8 +40,6 @@ pub fn fault_line(alloc: Global, fault: &TextFault) -> Result<Vec<u8>, NoMemory>
     ensures { IfOk result (λ text. text.items ≡ fault_line fault.now) }
 {
     let (line, name) = (fault.line, kind_name(fault.kind));
-    match format!(in alloc; "fault line={line} {name}\n") {
-        Ok(text) => Ok(text.into_bytes()),
-        Err(_) => Err(NoMemory),
-    }
+    let text = format!(in alloc; "fault line={line} {name}\n")?;
+    Ok(text.into_bytes())
 }

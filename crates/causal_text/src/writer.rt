@@ -133,10 +133,8 @@ pub fn text_of(alloc: Global, trace: &Trace) -> Result<Vec<u8>, NoMemory>
     ensures { IfOk result (λ text. text.items ≡ canonical trace.now.recording) }
 {
     let mut out = String::new(alloc);
-    match push_trace(&mut out, trace) {
-        Ok(()) => Ok(out.into_bytes()),
-        Err(_) => Err(NoMemory),
-    }
+    push_trace(&mut out, trace)?;
+    Ok(out.into_bytes())
 }
 
 /// Why a text was not written whole.

@@ -19,10 +19,7 @@ use std::alloc::{AllocError, Global};
 pub fn verdict_line(alloc: Global, f: u16, judged: &Judged) -> Result<Vec<u8>, NoMemory>
     ensures { IfOk result (λ line. line.items ≡ lines.verdict_line f judged.now) }
 {
-    match line_of(alloc, f, judged) {
-        Ok(line) => Ok(line.into_bytes()),
-        Err(_) => Err(NoMemory),
-    }
+    Ok(line_of(alloc, f, judged)?.into_bytes())
 }
 
 fn line_of(alloc: Global, f: u16, judged: &Judged) -> Result<String, AllocError>
