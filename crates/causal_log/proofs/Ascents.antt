@@ -9,8 +9,7 @@ use Rattle.std.specs.Ordering.{is_lt, ordering_reverse}
 use Rattle.std.specs.declared.cmp.Ordering.{Ordering}
 use Rattle.std.specs.declared.cmp.Ordering.TheVariants.{Less, Equal, Greater}
 use Rattle.causal_name.specs.declared.Det.{Det}
-use Rattle.causal_name.specs.Names.{det_cmp, same_det, is_before}
-use Rattle.causal_log.specs.Ascending.{is_ascending}
+use Rattle.causal_name.specs.Names.{det_cmp, same_det, is_before, is_ascending}
 use Rattle.causal_log.proofs.DetOrder.{dets_total, same_is}
 use Rattle.causal_log.proofs.Searches.{both, shown}
 

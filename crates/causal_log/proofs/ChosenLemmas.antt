@@ -4,7 +4,7 @@ use Rattle.std.specs.FinMap as fin
 use Rattle.std.specs.Map.{keys_of}
 use Rattle.causal_name.specs.declared.Det.{Det}
 use Rattle.causal_log.specs.declared.known.Known.{Known}
-use Rattle.causal_log.specs.Ascending.{is_ascending}
+use Rattle.causal_name.specs.Names.{is_ascending}
 use Rattle.causal_log.specs.Knowledge.{is_carried}
 use Rattle.causal_log.specs.Logs.{LogMap, chosen, dets_of, item_of}
 use Rattle.causal_log.proofs.Ascents.{filter_ascends}

@@ -1,4 +1,4 @@
-pub mod Ascending
 pub mod Knowledge
 pub mod Logs
+pub mod Slots
 pub mod Stores

@@ -9,7 +9,7 @@ use Rattle.causal_name.specs.declared.Pid.{Pid}
 use Rattle.causal_name.specs.Names.{det_cmp, message_of}
 use Rattle.causal_log.specs.declared.known.Known.{Known}
 use Rattle.causal_log.specs.declared.batch.Item.{Item}
-use Rattle.causal_log.specs.Ascending.{first_of_slot}
+use Rattle.causal_log.specs.Slots.{first_of_slot}
 use Rattle.causal_log.specs.Knowledge.{nothing_known, joined, as_stable, told, is_carried}
 
 -- what is known of each determinant that is logged

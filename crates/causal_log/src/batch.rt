@@ -1,6 +1,6 @@
 //! What a message carries.
 ghost use Rattle.std.specs.Prelude.{◌≡◌, true, IfOk};
-ghost use Rattle.causal_log.specs.Ascending.{is_ascending};
+ghost use Rattle.causal_name.specs.Names.{is_ascending};
 ghost use Rattle.causal_log.specs.Logs.{dets_of};
 
 use causal_holders::Holders;
@@ -30,7 +30,7 @@ impl Model for Batch {
 
     ghost coded = { coded_list coded_item };
 
-    ghost use Rattle.causal_log.specs.Ascending.{is_ascending};
+    ghost use Rattle.causal_name.specs.Names.{is_ascending};
     ghost use Rattle.causal_log.specs.Logs.{dets_of};
 
     ghost view = { λ batch. batch.items.items };

@@ -4,7 +4,7 @@ ghost use Rattle.std.specs.Option.{option_map};
 ghost use Rattle.std.specs.FinMap as fin;
 ghost use Rattle.indexmap.specs.IndexMap.{keys, spare, IsUnique};
 ghost use Rattle.causal_name.specs.Names.{message_of};
-ghost use Rattle.causal_log.specs.Ascending.{first_of_slot};
+ghost use Rattle.causal_log.specs.Slots.{first_of_slot};
 ghost use Rattle.causal_log.specs.Knowledge.{is_carried};
 ghost use Rattle.causal_log.specs.Logs.{IsKept, log_of, known_of, learned, absorbed, learned_all, item_of};
 

@@ -1,7 +1,7 @@
 //! Stable storage in memory, for programs that need no device.
 ghost use Rattle.std.specs.Prelude.{◌≡◌, IfOk};
 ghost use Rattle.std.specs.FinMap as fin;
-ghost use Rattle.causal_log.specs.Ascending.{first_of_slot};
+ghost use Rattle.causal_log.specs.Slots.{first_of_slot};
 
 use crate::stable::{PutFault, Stable};
 use causal_name::{Det, NoMemory, Slot};

@@ -1,6 +1,6 @@
 //! Stable storage.
 ghost use Rattle.std.specs.Prelude.{◌≡◌, ◌+◌, ◌≤◌, ◌<◌, ◌-◌, ◌^◌, ℕ, true, Err, IfOk, OnOk, OnErr};
-ghost use Rattle.causal_log.specs.Ascending.{first_of_slot};
+ghost use Rattle.causal_log.specs.Slots.{first_of_slot};
 ghost use Rattle.causal_log.specs.Stores.{DetSet, with_det, has, count_in, dets_in};
 
 use causal_name::{Det, NoMemory, Slot};

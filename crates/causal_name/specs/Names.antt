@@ -1,5 +1,5 @@
 -- Processes, messages and determinants: what a determinant tells, and their order (Alvisi and Marzullo 1998).
-use Rattle.std.specs.Prelude.{Bool, ◌==◌, ◌&&◌}
+use Rattle.std.specs.Prelude.{Bool, true, List, [], ◌∷◌, ◌==◌, ◌&&◌}
 use Rattle.std.specs.Ordering.{nat_cmp, ordering_then, is_lt}
 use Rattle.std.specs.declared.cmp.Ordering.{Ordering}
 use Rattle.causal_name.specs.declared.Pid.{Pid}
@@ -36,6 +36,12 @@ det_cmp a b =
 -- whether one determinant comes before another
 abbrev pub is_before : Det → Det → Bool
 is_before a b = is_lt (det_cmp a b)
+
+-- each determinant comes before the next, so none stands there twice
+abbrev pub is_ascending : List Det → Bool
+is_ascending [] = true
+is_ascending (d ∷ []) = true
+is_ascending (d ∷ e ∷ ds) = is_before d e && is_ascending (e ∷ ds)
 
 -- whether two processes, two messages and two determinants are the same
 abbrev pub same_pid : Pid → Pid → Bool

@@ -1,9 +1,9 @@
 -- What a state of a run says of processes, logs and determinants. A state is its past: the list of the entries so far,
 -- the newest first. Positions count from the oldest entry, so the newest entry of `e ∷ past` stands at `length past`.
-use Rattle.std.specs.Prelude.{ℕ, ◌+◌, ◌-◌, Bool, true, false, not, ◌==◌, ◌&&◌, ◌||◌, if◌then◌else◌, List, [], ◌∷◌, length, drop, Option, Some, None}
+use Rattle.std.specs.Prelude.{ℕ, ◌+◌, ◌-◌, Bool, false, not, ◌==◌, ◌&&◌, ◌||◌, if◌then◌else◌, List, [], ◌∷◌, length, drop, Option, Some, None}
 use Rattle.std.specs.List.{list_any}
 use Rattle.std.specs.Option.{option_map, option_map_or, option_and_then}
-use Rattle.causal_name.specs.Names.{same_det, same_message, is_before}
+use Rattle.causal_name.specs.Names.{same_det, same_message}
 use Rattle.causal_name.specs.declared.Pid.{Pid}
 use Rattle.causal_name.specs.declared.Det.{Det}
 use Rattle.causal_name.specs.declared.MsgName.{MsgName}
@@ -140,9 +140,3 @@ abbrev pub deliveries_in : List Entry → ℕ
 deliveries_in [] = 0
 deliveries_in (Deliver to send rsn listed ∷ past) = deliveries_in past + 1
 deliveries_in (_ ∷ past) = deliveries_in past
-
--- whether each determinant comes before the next
-abbrev pub is_ascending : List Det → Bool
-is_ascending [] = true
-is_ascending (d ∷ []) = true
-is_ascending (d ∷ e ∷ ds) = is_before d e && is_ascending (e ∷ ds)

@@ -8,7 +8,8 @@ use Rattle.causal_trace.specs.declared.entry.Entry.TheVariants.{Send, Deliver, S
 use Rattle.causal_trace.specs.declared.fault.TraceFault.{TraceFault}
 use Rattle.causal_trace.specs.declared.fault.TraceFault.TheVariants.{TooLong, NoProcess, NotUp, NotDown, Lanes, WrongSsn, NoSend, WrongRsn, Doubled, Unsorted, NoDelivery}
 use Rattle.causal_trace.specs.Limits.{max_entries, max_listed, max_restarts, IsProcessCount}
-use Rattle.causal_trace.specs.Past.{is_down, sends, deliveries, message_at, is_sent_to, det_of, is_det, is_delivered, has_delivered, listed_in, restarts, is_ascending}
+use Rattle.causal_name.specs.Names.{is_ascending}
+use Rattle.causal_trace.specs.Past.{is_down, sends, deliveries, message_at, is_sent_to, det_of, is_det, is_delivered, has_delivered, listed_in, restarts}
 
 -- whether one more entry that lists so many determinants would pass a limit
 abbrev pub passes_limit : List Entry → ℕ → Bool

@@ -1,6 +1,7 @@
 //! Plain readings of a run's entries, oldest first: each goes over the whole list, and says what a definition says.
 ghost use Rattle.std.specs.Prelude.{◌≡◌, ◌≤◌, false, length, slice_get};
 ghost use Rattle.std.specs.Option.{option_map, option_map_or, option_copied};
+ghost use Rattle.causal_name.specs.Names.{is_ascending};
 ghost use Rattle.causal_trace.specs.Past as past;
 ghost use Rattle.causal_trace.specs.Rows.{are_delivered, are_delivered_with};
 ghost use Rattle.causal_trace.specs.State.{past_at};
@@ -313,7 +314,7 @@ pub(crate) fn det_at(entries: &[Entry], k: u32) -> Option<Det>
 
 /// Whether each determinant comes before the next.
 pub(crate) fn is_ascending(dets: &[Det]) -> bool
-    ensures { result ≡ past.is_ascending dets.now }
+    ensures { result ≡ is_ascending dets.now }
 {
     for i in 1..dets.len() {
         if !dets[i - 1].comes_before(&dets[i]) {

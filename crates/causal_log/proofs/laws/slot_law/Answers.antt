@@ -2,7 +2,8 @@ use Rattle.std.proofs.Common.{◌≡◌, ◌∙◌, ◌⊎◌, inl, inr, ap, sym
 use Rattle.std.specs.List.{list_any}
 use Rattle.causal_name.specs.declared.Det.{Det}
 use Rattle.causal_name.specs.Names.{same_det, is_before}
-use Rattle.causal_log.specs.Ascending.{is_ascending, is_of_slot}
+use Rattle.causal_name.specs.Names.{is_ascending}
+use Rattle.causal_log.specs.Slots.{is_of_slot}
 use Rattle.causal_log.proofs.DetOrder.{same_is, same_itself}
 use Rattle.causal_log.proofs.Ascents.{first_before, ascending_tail}
 use Rattle.causal_log.proofs.Searches.{or_right}

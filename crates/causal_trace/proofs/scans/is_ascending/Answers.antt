@@ -1,8 +1,7 @@
 use Rattle.std.proofs.Common.{ℕ, ◌≡◌, ◌+◌, ◌-◌, ◌<◌, ◌≤◌, length, drop, get_or, List, arith, sym, ap, ◌∙◌}
 use Rattle.std.specs.Prelude.{◌&&◌}
 use Rattle.causal_name.specs.declared.Det.{Det}
-use Rattle.causal_name.specs.Names.{is_before}
-use Rattle.causal_trace.specs.Past.{is_ascending}
+use Rattle.causal_name.specs.Names.{is_before, is_ascending}
 use Rattle.causal_trace.proofs.Ascending.{ascending_more, ascending_last}
 use Rattle.causal_trace.proofs.scans.is_ascending.Goals as goal
 

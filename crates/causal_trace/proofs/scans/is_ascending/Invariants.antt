@@ -1,5 +1,5 @@
 use Rattle.std.proofs.Common.{◌≡◌, ◌-◌, drop}
-use Rattle.causal_trace.specs.Past.{is_ascending}
+use Rattle.causal_name.specs.Names.{is_ascending}
 use Rattle.causal_trace.proofs.scans.is_ascending.Given as goal
 
 -- the rest, with the one before it, decides

@@ -1,5 +1,5 @@
 use Rattle.std.proofs.Common.{◌≡◌, ◌∙◌, ap, sym, subst, map, filter, true}
-use Rattle.causal_log.specs.Ascending.{is_ascending}
+use Rattle.causal_name.specs.Names.{is_ascending}
 use Rattle.causal_log.specs.Knowledge.{is_carried}
 use Rattle.causal_log.specs.Logs.{item_of, chosen, dets_of}
 use Rattle.causal_log.proofs.EntryLemmas.{entries_log}

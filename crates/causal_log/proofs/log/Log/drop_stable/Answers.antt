@@ -5,7 +5,7 @@ use Rattle.std.proofs.lemmas.List.{length-map}
 use Rattle.std.proofs.lemmas.List.Filters.{length-filter_both}
 use Rattle.causal_name.specs.declared.Det.{Det}
 use Rattle.causal_log.specs.declared.known.Known.{Known}
-use Rattle.causal_log.specs.Ascending.{is_ascending}
+use Rattle.causal_name.specs.Names.{is_ascending}
 use Rattle.causal_log.specs.Logs.{log_of, unmarked, stable_in}
 use Rattle.causal_log.proofs.Ascents.{ascending_sorted, filter_ascends}
 use Rattle.causal_log.proofs.EntryLemmas.{entries_log}

@@ -2,7 +2,7 @@ use Rattle.std.proofs.Common.{◌∙◌, ap, sym}
 use Rattle.std.specs.Option.{option_map}
 use Rattle.std.specs.Map.{keys_of}
 use Rattle.causal_name.specs.Names.{message_of}
-use Rattle.causal_log.specs.Ascending.{first_of_slot}
+use Rattle.causal_log.specs.Slots.{first_of_slot}
 use Rattle.causal_log.specs.Logs.{named}
 use Rattle.causal_log.proofs.EntryLemmas.{entries_log}
 use Rattle.causal_log.proofs.log.Log.for_slot.Goals as goal

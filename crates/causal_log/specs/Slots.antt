@@ -1,14 +1,8 @@
--- Lists of determinants in order, and the determinants of a slot.
-use Rattle.std.specs.Prelude.{◌==◌, ◌&&◌, ℕ, Bool, true, List, [], ◌∷◌, Option, find}
+-- The determinants of a slot.
+use Rattle.std.specs.Prelude.{◌==◌, ◌&&◌, ℕ, Bool, List, Option, find}
 use Rattle.causal_name.specs.declared.Det.{Det}
 use Rattle.causal_name.specs.declared.Pid.{Pid}
-use Rattle.causal_name.specs.Names.{is_before, same_pid}
-
--- each determinant comes before the next, so none stands there twice
-abbrev pub is_ascending : List Det → Bool
-is_ascending [] = true
-is_ascending (d ∷ []) = true
-is_ascending (d ∷ e ∷ ds) = is_before d e && is_ascending (e ∷ ds)
+use Rattle.causal_name.specs.Names.{same_pid}
 
 -- whether a determinant fills this slot: the receiver's delivery of this number
 abbrev pub is_of_slot : Pid → ℕ → Det → Bool
