@@ -1,9 +1,11 @@
+pub mod Between
 pub mod Dependence
 pub mod Exposure
 mod Failing
 pub mod Happened
 pub mod Instants
 pub mod Judged
+pub mod Lasting
 pub mod LeastLemmas
 pub mod LeastOrphan
 pub mod Legal

@@ -1,9 +1,11 @@
 pub mod BreachAt
 pub mod Breaches
 pub mod Earlier
+pub mod Lasting
 pub mod Laws
 pub mod Numbers
 pub mod Plain
+pub mod Quiet
 pub mod Sights
 pub mod Stands
 pub mod Stored

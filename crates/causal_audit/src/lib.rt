@@ -9,6 +9,7 @@ mod orphans;
 pub mod plain;
 #[cfg(test)]
 mod random_tests;
+mod releases;
 mod sight;
 pub mod tables;
 #[cfg(test)]

@@ -6,6 +6,7 @@ ghost use Rattle.causal_trace.specs.Past.{det_at};
 ghost use Rattle.causal_trace.specs.Rows.{AreAccepted};
 ghost use Rattle.causal_audit.specs.BreachAt.{BreachAt};
 ghost use Rattle.causal_audit.specs.Breaches.{FirstBreach};
+ghost use Rattle.causal_audit.specs.Lasting.{NoneReleasedFrom};
 ghost use Rattle.causal_audit.specs.Sights.{IsSight};
 ghost use Rattle.causal_audit.specs.Stands.{Stands};
 
@@ -33,9 +34,17 @@ fn breach_at(sight: &Sight, f: u16, k: u32, t: u32) -> Option<Breach>
 }
 
 /// How the delivery at position k, whose determinant this is, first has an orphan; None where it never has one. Each
-/// instant is looked at in turn.
-pub fn first_orphan(trace: &Trace, clocks: &Clocks, f: u16, k: u32, det: Det) -> Option<Breach>
+/// instant is looked at in turn, until no later one can have one; from `lasting_from` on no entry releases a process.
+pub fn first_orphan(
+    trace: &Trace,
+    clocks: &Clocks,
+    lasting_from: u32,
+    f: u16,
+    k: u32,
+    det: Det,
+) -> Option<Breach>
     requires clock { Stands trace.now.recording.past clocks.now.events }
+    requires lasting { NoneReleasedFrom trace.now.recording.past lasting_from }
     requires delivery { det_at trace.now.recording.past k ≡ Some det }
     ensures { FirstBreach trace.now.recording f k result }
 {
@@ -45,6 +54,9 @@ pub fn first_orphan(trace: &Trace, clocks: &Clocks, f: u16, k: u32, det: Det) ->
         sight.see(entry, det, clocks.precedes(k, t as u32));
         if let Some(found) = breach_at(&sight, f, k, t as u32 + 1) {
             return Some(found);
+        }
+        if sight.is_over(f, lasting_from <= t as u32 + 1) {
+            return None;
         }
     }
     None

@@ -11,6 +11,7 @@ ghost use Rattle.causal_audit.specs.Numbers.{IsNumbered, ArePositions};
 use crate::breach::Breach;
 use crate::events::clocks_of;
 use crate::orphans;
+use crate::releases::lasting_from;
 use causal_clock::Clocks;
 use causal_name::{Det, NoMemory};
 use causal_trace::entry::Entry;
@@ -18,13 +19,14 @@ use causal_trace::trace::Trace;
 use std::alloc::Global;
 use std::marker::Model;
 
-/// What is kept of a recorded run to judge it: a copy of its trace, the positions of its deliveries, and a clock of its
-/// entries. It is seen as the recording.
+/// What is kept of a recorded run to judge it: a copy of its trace, the positions of its deliveries, a clock of its
+/// entries, and the position from which on no process is released. It is seen as the recording.
 #[derive(Drop)]
 pub struct Tables {
     trace: Trace,
     positions: Vec<u32>,
     clocks: Clocks,
+    lasting_from: u32,
 }
 
 impl Model for Tables {
@@ -35,7 +37,7 @@ impl Model for Tables {
 
     ghost view = { λ a. a.trace.recording };
 
-    ghost invariant = { λ a. AreTables a.trace.recording a.positions.items a.clocks.events };
+    ghost invariant = { λ a. AreTables a.trace.recording a.positions.items a.clocks.events a.lasting_from };
 }
 
 impl Tables {
@@ -49,11 +51,13 @@ impl Tables {
         let _len = trace.len();
         let positions = positions_of(alloc, trace.entries())?;
         let clocks = clocks_of(alloc, trace)?;
+        let lasting_from = lasting_from(trace.entries());
         let trace = trace.try_clone()?;
         Ok(Tables {
             trace,
             positions,
             clocks,
+            lasting_from,
         })
     }
 
@@ -102,7 +106,7 @@ impl Tables {
         requires { det_at self.now.past k ≡ Some det }
         ensures { FirstBreach self.now f k result }
     {
-        orphans::first_orphan(&self.trace, &self.clocks, f, k, det)
+        orphans::first_orphan(&self.trace, &self.clocks, self.lasting_from, f, k, det)
     }
 }
 
