@@ -1,6 +1,6 @@
 -- Between two changes of what is known of a delivery its instants agree.
-use Rattle.std.proofs.Common.{ℕ, zero, suc, ◌≡◌, ◌+◌, ◌-◌, ◌<◌, ◌≤◌, inl, inr, Bool, true, false, cond, List, [], ◌∷◌, length, Some, None, refl, sym, ap, subst, ◌∙◌, arith}
-use Rattle.std.specs.Prelude.{◌||◌, ◌&&◌, ◌==◌, not, ◌↔◌}
+use Rattle.std.proofs.Common.{ℕ, zero, suc, ◌≡◌, ◌+◌, ◌-◌, ◌<◌, ◌≤◌, inl, inr, Bool, true, false, List, [], ◌∷◌, length, Some, None, refl, sym, ap, subst, ◌∙◌, arith}
+use Rattle.std.specs.Prelude.{◌||◌, ◌&&◌, ◌==◌, not}
 use Rattle.std.proofs.lemmas.Bool.{cases_lt, false≢true, cond-true, cond-false, eq-eqb, ne_eqb}
 use Rattle.causal_name.specs.declared.Det.{Det}
 use Rattle.causal_name.specs.Names.{same_det}
@@ -22,7 +22,6 @@ use Rattle.causal_audit.proofs.Instants.{instants_stay, one_more_instant, last_i
 use Rattle.causal_audit.proofs.Judged.{exposed, unexposed}
 use Rattle.causal_audit.proofs.Legal.{sends_up, delivery_event}
 use Rattle.causal_audit.proofs.Orphaned.{not_yet}
-use Rattle.causal_audit.proofs.Walked.{reaches_then}
 
 -- ---- a quiet entry changes nothing
 
@@ -84,15 +83,13 @@ next_entry [] v below = absurd (omega (arith, below))
 next_entry (e ∷ past) v below =
     elim (cases_lt v (length past)) [
       | inl older ↦
-          let found = next_entry past v older in
-          (
+          let found = next_entry past v older in (
             found.0,
             cond-false (v == length past) (Some e) (entry_at past v) (ne_eqb v (length past) (λ is. omega (arith, older, is))) ∙ found.1,
             instants_stay e past (v + 1) (omega (arith, older)) ∙ found.2 ∙ ap (λ x. found.0 ∷ x) (sym (instants_stay e past v (omega (arith, older)))),
           )
       | inr newest ↦
-          let at : v ≡ length past = omega (arith, newest, below) in
-          (
+          let at : v ≡ length past = omega (arith, newest, below) in (
             e,
             cond-true (v == length past) (Some e) (entry_at past v) (eq-eqb v (length past) at),
             ap (λ x. instant (e ∷ past) (x + 1)) at ∙ one_more_instant e past ∙ ap (λ x. e ∷ x) (sym (ap (λ x. instant (e ∷ past) x) at ∙ instants_stay e past (length past) (omega arith) ∙ last_instant past)),
@@ -164,8 +161,7 @@ pub orphans_agree : OrphansAgree
 orphans_agree n f past k d t u formed at made up within quiet =
     let a = instants_agree n past k d t u formed up within quiet in
     let at_t = det_then past t k made (omega (arith, up, within)) ∙ at in
-    let at_u = det_then past u k (omega (arith, made, up)) within ∙ at in
-    (
+    let at_u = det_then past u k (omega (arith, made, up)) within ∙ at in (
       λ has. unexposed n f (instant past u) k d at_u (exposed_agrees n f (instant past t) (instant past u) k d a (exposed n f (instant past t) k d at_t has)),
       λ has. unexposed n f (instant past t) k d at_t (exposed_agrees n f (instant past u) (instant past t) k d (agree_back k d (instant past t) (instant past u) a) (exposed n f (instant past u) k d at_u has)),
     )

@@ -1,6 +1,8 @@
 pub mod BreachAt
 pub mod Breaches
+pub mod Changes
 pub mod Earlier
+pub mod Filed
 pub mod Lasting
 pub mod Laws
 pub mod Numbers

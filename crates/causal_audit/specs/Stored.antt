@@ -3,6 +3,7 @@ use Rattle.std.specs.Prelude.{ℕ, ◌≤◌, List, length}
 use Rattle.causal_trace.specs.Limits.{max_entries}
 use Rattle.causal_trace.specs.Rows.{Recording, IsWellFormed}
 use Rattle.causal_clock.specs.declared.Event.{Event}
+use Rattle.causal_audit.specs.Filed.{AreLanes, AreMentions, AreTurns, Numbers}
 use Rattle.causal_audit.specs.Lasting.{NoneReleasedFrom}
 use Rattle.causal_audit.specs.Numbers.{ArePositions}
 use Rattle.causal_audit.specs.Stands.{Stands}
@@ -15,3 +16,11 @@ pub record AreTables (r : Recording) (positions : List ℕ) (events : List Event
   pub numbered : ArePositions r.past positions
   pub stands : Stands r.past events
   pub lasting : NoneReleasedFrom r.past lasting_from
+
+-- where something may change for a delivery: for each determinant the entries that mention it, the crashes and restarts,
+-- and the events of each lane, of which there are few
+pub record AreIndexes (r : Recording) (events : List Event) (numbers : Numbers) (mentions : List (List ℕ)) (turns : List ℕ) (lanes : List (List ℕ)) : Type 0 where
+  pub mentioned : AreMentions r.past numbers mentions
+  pub turned : AreTurns r.past turns
+  pub in_lanes : AreLanes r.past events lanes
+  pub few : length lanes ≤ 448

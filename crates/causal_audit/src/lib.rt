@@ -2,9 +2,13 @@
 #![tactic(auto)]
 
 pub mod breach;
+mod changes;
 mod events;
 pub mod judge;
+mod lanes;
 pub mod laws;
+mod lists;
+mod mentions;
 mod orphans;
 pub mod plain;
 #[cfg(test)]
@@ -14,4 +18,5 @@ mod sight;
 pub mod tables;
 #[cfg(test)]
 mod tests;
+mod turns;
 pub mod verdict;
