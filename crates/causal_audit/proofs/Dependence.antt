@@ -29,10 +29,10 @@ reaches_more e past i j (itself p l at) = itself p l (inl at)
 reaches_more e past i k (onward {j} r d) = onward (reaches_more e past i j r) (precedes_more e past j k d)
 
 -- the entry is no crash and no restart of p
-abbrev IsNoTurn : Entry → List Entry → ℕ → Type 0
+abbrev pub IsNoTurn : Entry → List Entry → ℕ → Type 0
 IsNoTurn e past p = (is_down (e ∷ past) p ≡ is_down past p) × (lane (e ∷ past) p ≡ lane past p)
 
-depends_more : (e : Entry) (past : List Entry) (k p : ℕ) → IsNoTurn e past p → Depends past k p → Depends (e ∷ past) k p
+pub depends_more : (e : Entry) (past : List Entry) (k p : ℕ) → IsNoTurn e past p → Depends past k p → Depends (e ∷ past) k p
 depends_more e past k p same d = record {
   up = same.0 ∙ d.up;
   event = d.event;
@@ -41,7 +41,7 @@ depends_more e past k p same d = record {
 }
 
 -- what depends after the entry did before, or the entry is its event and is reached
-depends_before : (n : ℕ) (e : Entry) (past : List Entry) (k p : ℕ) → AreAccepted n (e ∷ past) → IsNoTurn e past p → Depends (e ∷ past) k p → Depends past k p ⊎ ((actor e ≡ Some p) × Reaches (e ∷ past) k (length past))
+pub depends_before : (n : ℕ) (e : Entry) (past : List Entry) (k p : ℕ) → AreAccepted n (e ∷ past) → IsNoTurn e past p → Depends (e ∷ past) k p → Depends past k p ⊎ ((actor e ≡ Some p) × Reaches (e ∷ past) k (length past))
 depends_before n e past k p formed same d = go d.present
   where
     go : IsEventOf (e ∷ past) d.event p (lane (e ∷ past) p) → Depends past k p ⊎ ((actor e ≡ Some p) × Reaches (e ∷ past) k (length past))

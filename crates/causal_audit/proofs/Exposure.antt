@@ -7,7 +7,7 @@ use Rattle.std.specs.FinSet.{FinSet, contains, empty, union, difference, len, co
 use Rattle.std.proofs.lemmas.Bool.{false≢true, or_cases}
 use Rattle.causal_name.specs.declared.Det.{Det}
 use Rattle.causal_name.specs.Sets.{count_below}
-use Rattle.causal_holders.specs.Members.{HasMembers, IsLeast}
+use Rattle.causal_holders.specs.Members.{IsLeast}
 use Rattle.causal_holders.proofs.Counting.{members_counted}
 use Rattle.causal_trace.specs.declared.entry.Entry.{Entry}
 use Rattle.causal_trace.specs.Past.{is_down, logs, det_at}
@@ -39,6 +39,21 @@ not_parts false b h = absurd (false≢true h)
 pub depends_inside : (n : ℕ) (past : List Entry) (k p : ℕ) → AreAccepted n past → Depends past k p → p < n
 depends_inside n past k p formed d = event_inside n past formed d.event p _ d.present
 
+-- as many processes are in a set that shows who is down or holds the determinant
+pub gone_counted : (n : ℕ) (past : List Entry) (k : ℕ) (d : Det) → AreAccepted n past → (s : Sight) → IsSight past k d s → len (union s.down s.holders) ≡ count_below n (gone past d)
+gone_counted n past k d formed s sight =
+    members_counted n (union s.down s.holders) (gone past d) (record {
+      process = λ q h.
+          elim (or_cases (is_down past q) (logs past q d) (sym (shown q) ∙ h)) [
+            | inl down ↦ down_inside n past q formed down
+            | inr held ↦ logs_inside n past q d formed held
+          ];
+      member = λ q low. shown q;
+    })
+  where
+    shown : (q : ℕ) → contains (union s.down s.holders) q ≡ gone past d q
+    shown q = contains-union nat_cmp_total s.down s.holders q ∙ (λ i. sight.down q i || sight.holders q i)
+
 module _ (n f : ℕ) (past : List Entry) (k : ℕ) (d : Det) (formed : AreAccepted n past) (at : det_at past k ≡ Some d) (s : Sight) (sight : IsSight past k d s) where
   abbrev crash : FinSet nat_cmp
   crash = union s.down s.holders
@@ -56,11 +71,8 @@ module _ (n f : ℕ) (past : List Entry) (k : ℕ) (d : Det) (formed : AreAccept
         | inr held ↦ logs_inside n past q d formed held
       ]
 
-  crash_members : HasMembers n crash (gone past d)
-  crash_members = record { process = crash_inside; member = λ q low. crash_is q }
-
   crash_counted : len crash ≡ count_below n (gone past d)
-  crash_counted = members_counted n crash (gone past d) crash_members
+  crash_counted = gone_counted n past k d formed s sight
 
   unheld_is : (p : ℕ) → Depends past k p → logs past p d ≡ false → contains unheld p ≡ true
   unheld_is p depends without =

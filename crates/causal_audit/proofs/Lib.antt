@@ -1,9 +1,14 @@
+pub mod Between
+pub mod Changed
 pub mod Dependence
 pub mod Exposure
 mod Failing
+pub mod Filings
+pub mod Firsts
 pub mod Happened
 pub mod Instants
 pub mod Judged
+pub mod Lasting
 pub mod LeastLemmas
 pub mod LeastOrphan
 pub mod Legal
@@ -11,6 +16,7 @@ pub mod Link
 pub mod Listed
 pub mod Marks
 pub mod Members
+pub mod Mentioned
 pub mod Mirrored
 pub mod Noted
 pub mod Numbered

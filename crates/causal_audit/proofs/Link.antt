@@ -42,7 +42,7 @@ module _ (n : ℕ) (past : List Entry) (formed : AreAccepted n past) (events : L
   in_clock i k (onward {j} r d) = clock.onward (in_clock i j r) (clock_direct j k d)
 
   -- two events of one lane of the clock are of one lane of a process
-  same_event : (i k p q l m : ℕ) → IsEventOf past i p l → IsEventOf past k q m → lane_of events i ≡ lane_of events k → IsEventOf past i q m
+  pub same_event : (i k p q l m : ℕ) → IsEventOf past i p l → IsEventOf past k q m → lane_of events i ≡ lane_of events k → IsEventOf past i q m
   same_event i k p q l m at to same =
       let one = (stands.same_lane i k p q l m at to).0 same in
       subst (λ x. IsEventOf past i q x) one.1 (subst (λ x. IsEventOf past i x l) one.0 at)

@@ -1,9 +1,13 @@
 pub mod BreachAt
 pub mod Breaches
+pub mod Changes
 pub mod Earlier
+pub mod Filed
+pub mod Lasting
 pub mod Laws
 pub mod Numbers
 pub mod Plain
+pub mod Quiet
 pub mod Sights
 pub mod Stands
 pub mod Stored

@@ -1,4 +1,6 @@
 //! Laws over the judgement of recorded runs. Each function does nothing: what it ensures is the law.
+ghost use Rattle.causal_audit.specs.Lasting.{OrphansEnd};
+ghost use Rattle.causal_audit.specs.Quiet.{InstantsAgree, OrphansAgree};
 ghost use Rattle.causal_audit.specs.Laws.{OrphansAreCounted, CrashSetsContain, GoneIsCrashSet, NoOrphansCondition, VerdictsAreOne};
 
 /// No crash set need be tried. A delivery has an orphan under some crash set exactly where its determinant is not
@@ -22,4 +24,18 @@ pub fn no_orphans_condition()
 /// are determined.
 pub fn verdicts_are_one()
     ensures { VerdictsAreOne }
+{}
+
+/// A delivery has no orphan any more once its determinant is stable, nor once more than f processes are down or hold it,
+/// where no later entry restarts a process or forgets.
+pub fn orphans_end()
+    ensures { OrphansEnd }
+{}
+
+/// Between two changes the instants agree: where no entry between them crashes or restarts a process, mentions the
+/// delivery's determinant or brings in a dependent, the same is known of the delivery at both, and once it is made, it
+/// has an orphan at both or at neither.
+pub fn instants_agree()
+    ensures agree { InstantsAgree }
+    ensures orphans { OrphansAgree }
 {}

@@ -6,14 +6,26 @@ ghost use Rattle.causal_trace.specs.Past.{det_at};
 ghost use Rattle.causal_trace.specs.Rows.{AreAccepted};
 ghost use Rattle.causal_audit.specs.BreachAt.{BreachAt};
 ghost use Rattle.causal_audit.specs.Breaches.{FirstBreach};
+ghost use Rattle.causal_audit.specs.Changes.{AreChanges};
+ghost use Rattle.causal_audit.specs.Lasting.{NoneReleasedFrom};
 ghost use Rattle.causal_audit.specs.Sights.{IsSight};
 ghost use Rattle.causal_audit.specs.Stands.{Stands};
 
 use crate::breach::Breach;
+use crate::changes::Changes;
 use crate::sight::Sight;
 use causal_clock::Clocks;
 use causal_name::Det;
 use causal_trace::trace::Trace;
+
+/// What is kept of a recorded run for each of its deliveries: the trace, a clock of its entries, and a position from which
+/// on no entry releases a process.
+#[derive(Clone, Copy)]
+pub struct Run<'a> {
+    pub trace: &'a Trace,
+    pub clocks: &'a Clocks,
+    pub lasting_from: u32,
+}
 
 /// How the delivery at position k has an orphan at the instant t; None where it has none. It has none before it is made.
 fn breach_at(sight: &Sight, f: u16, k: u32, t: u32) -> Option<Breach>
@@ -32,19 +44,42 @@ fn breach_at(sight: &Sight, f: u16, k: u32, t: u32) -> Option<Breach>
     })
 }
 
-/// How the delivery at position k, whose determinant this is, first has an orphan; None where it never has one. Each
-/// instant is looked at in turn.
-pub fn first_orphan(trace: &Trace, clocks: &Clocks, f: u16, k: u32, det: Det) -> Option<Breach>
-    requires clock { Stands trace.now.recording.past clocks.now.events }
-    requires delivery { det_at trace.now.recording.past k ≡ Some det }
-    ensures { FirstBreach trace.now.recording f k result }
+/// How the delivery at position k, whose determinant this is, first has an orphan; None where it never has one. Only the
+/// instants after a change are looked at, until no later one can have an orphan: from `lasting_from` on no entry releases
+/// a process.
+pub fn first_orphan(
+    run: &Run<'_>,
+    changes: &Changes<'_>,
+    f: u16,
+    k: u32,
+    det: Det,
+) -> Option<Breach>
+    requires clock { Stands run.now.trace.now.recording.past run.now.clocks.now.events }
+    requires lasting { NoneReleasedFrom run.now.trace.now.recording.past run.now.lasting_from }
+    requires delivery { det_at run.now.trace.now.recording.past k ≡ Some det }
+    requires changes { AreChanges run.now.trace.now.recording.past k det changes.now.mentions.now changes.now.turns.now changes.now.firsts.now }
+    ensures { FirstBreach run.now.trace.now.recording f k result }
 {
-    let _formed = trace.len();
+    let end = run.trace.len();
+    let entries = run.trace.entries();
     let mut sight = Sight::new();
-    for (t, entry) in trace.entries().iter().enumerate() {
-        sight.see(entry, det, clocks.precedes(k, t as u32));
-        if let Some(found) = breach_at(&sight, f, k, t as u32 + 1) {
+    let mut t = 0;
+    while t < end {
+        let change = changes.next(t, end);
+        if change == end {
+            return None;
+        }
+        sight.see(
+            &entries[change as usize],
+            det,
+            run.clocks.precedes(k, change),
+        );
+        t = change + 1;
+        if let Some(found) = breach_at(&sight, f, k, t) {
             return Some(found);
+        }
+        if sight.is_over(f, run.lasting_from <= t) {
+            return None;
         }
     }
     None

@@ -1,12 +1,13 @@
 //! What is known of one delivery at an instant, and what one more entry makes of it. Where the delivery has an orphan is
 //! told by counting: no crash set is tried.
-ghost use Rattle.std.specs.Prelude.{◌≡◌, ◌∷◌, [], ℕ, List, MatchOption, Some};
+ghost use Rattle.std.specs.Prelude.{◌≡◌, ◌∷◌, [], ℕ, List, MatchOption, Some, true};
 ghost use Rattle.std.specs.FinSet as set;
 ghost use Rattle.causal_name.specs.declared.Det.{Det};
 ghost use Rattle.causal_trace.specs.declared.entry.Entry.{Entry};
 ghost use Rattle.causal_trace.specs.Past.{det_at, has, is_down, is_stable, logs};
 ghost use Rattle.causal_trace.specs.Rows.{AreAccepted};
 ghost use Rattle.causal_trace.specs.Judgement.{HasOrphan};
+ghost use Rattle.causal_audit.specs.Lasting.{IsOverAt};
 ghost use Rattle.causal_audit.specs.Sights.{AreDependents, IsSight, Shows, TellsReach};
 ghost use Rattle.causal_audit.specs.Verdicts.{IsLeastOrphan};
 
@@ -180,5 +181,19 @@ impl Sight {
             None => None,
             Some(orphan) => Some(Exposed { crash, orphan }),
         }
+    }
+    /// Whether the delivery has no orphan now or later: its determinant is stable, or more than f processes are down or
+    /// hold it and `lasting` tells that no later entry releases one of them.
+    pub fn is_over(self, f: u16, lasting: bool) -> bool
+        ensures { (n : ℕ) (past : List Entry) (k : ℕ) (d : Det) → AreAccepted n past → IsSight past k d self → result ≡ true →
+            IsOverAt n f past d lasting }
+    {
+        if self.stable {
+            return true;
+        }
+        if !lasting {
+            return false;
+        }
+        self.down.union(self.holders).len() > u32::from(f)
     }
 }

@@ -9,8 +9,13 @@ ghost use Rattle.causal_audit.specs.Breaches.{FirstBreach};
 ghost use Rattle.causal_audit.specs.Numbers.{IsNumbered, ArePositions};
 
 use crate::breach::Breach;
+use crate::changes::Changes;
 use crate::events::clocks_of;
-use crate::orphans;
+use crate::lanes::{LANES, lanes_of, write_firsts};
+use crate::mentions::{Mentions, mentions_in};
+use crate::orphans::{Run, first_orphan};
+use crate::releases::lasting_from;
+use crate::turns::turns_of;
 use causal_clock::Clocks;
 use causal_name::{Det, NoMemory};
 use causal_trace::entry::Entry;
@@ -18,24 +23,31 @@ use causal_trace::trace::Trace;
 use std::alloc::Global;
 use std::marker::Model;
 
-/// What is kept of a recorded run to judge it: a copy of its trace, the positions of its deliveries, and a clock of its
-/// entries. It is seen as the recording.
+/// What is kept of a recorded run to judge it: a copy of its trace, the positions of its deliveries, a clock of its
+/// entries, the position from which on no process is released, and where something may change for a delivery. It is seen
+/// as the recording.
 #[derive(Drop)]
 pub struct Tables {
     trace: Trace,
     positions: Vec<u32>,
     clocks: Clocks,
+    lasting_from: u32,
+    mentions: Mentions,
+    turns: Vec<u32>,
+    lanes: Vec<Vec<u32>>,
 }
 
 impl Model for Tables {
+    ghost use Rattle.std.specs.Prelude.{map};
     ghost use Rattle.causal_trace.specs.Rows.{Recording};
-    ghost use Rattle.causal_audit.specs.Stored.{AreTables};
+    ghost use Rattle.causal_audit.specs.Stored.{AreIndexes, AreTables};
 
     ghost Value = { Recording };
 
     ghost view = { λ a. a.trace.recording };
 
-    ghost invariant = { λ a. AreTables a.trace.recording a.positions.items a.clocks.events };
+    ghost invariant = { λ a. AreTables a.trace.recording a.positions.items a.clocks.events a.lasting_from
+        × AreIndexes a.trace.recording a.clocks.events a.mentions.numbers (map (λ list. list.items) a.mentions.lists.items) a.turns.items (map (λ list. list.items) a.lanes.items) };
 }
 
 impl Tables {
@@ -47,13 +59,22 @@ impl Tables {
         ensures { IfOk result (λ tables. tables ≡ trace.now.recording) }
     {
         let _len = trace.len();
-        let positions = positions_of(alloc, trace.entries())?;
+        let entries = trace.entries();
+        let positions = positions_of(alloc, entries)?;
         let clocks = clocks_of(alloc, trace)?;
+        let lasting_from = lasting_from(entries);
+        let mentions = mentions_in(alloc, entries)?;
+        let turns = turns_of(alloc, entries)?;
+        let lanes = lanes_of(alloc, entries, &clocks)?;
         let trace = trace.try_clone()?;
         Ok(Tables {
             trace,
             positions,
             clocks,
+            lasting_from,
+            mentions,
+            turns,
+            lanes,
         })
     }
 
@@ -102,7 +123,20 @@ impl Tables {
         requires { det_at self.now.past k ≡ Some det }
         ensures { FirstBreach self.now f k result }
     {
-        orphans::first_orphan(&self.trace, &self.clocks, f, k, det)
+        let run = Run {
+            trace: &self.trace,
+            clocks: &self.clocks,
+            lasting_from: self.lasting_from,
+        };
+        let mut room = [0; LANES];
+        let firsts = &mut room[..self.lanes.len()];
+        write_firsts(firsts, &self.clocks, &self.lanes, k, self.entries());
+        let changes = Changes {
+            mentions: self.mentions.list(det),
+            turns: &self.turns,
+            firsts: &*firsts,
+        };
+        first_orphan(&run, &changes, f, k, det)
     }
 }
 

@@ -10,7 +10,7 @@ pub mod laws;
 
 ghost use Rattle.std.specs.Prelude.{◌≡◌, ℕ, ◌+◌, ◌<◌, ◌≤◌, ◌↔◌, [], length, map, IsTrue, IfOk, IfErr, OnOk, OnErr, Some, None, slice_index};
 ghost use Rattle.std.specs.Option.{ForSome};
-ghost use Rattle.causal_clock.specs.Timeline.{with_event, with_lane};
+ghost use Rattle.causal_clock.specs.Timeline.{lane_of, with_event, with_lane};
 ghost use Rattle.causal_clock.specs.Precedence.{Reaches, FirstReach};
 ghost use Rattle.causal_clock.specs.Kept.{merged};
 ghost use Rattle.causal_clock.specs.Inside.{row_or_none};
@@ -117,6 +117,23 @@ impl Clocks {
         ensures few { result ≤ EVENTS }
     {
         self.entries.len() as u32
+    }
+
+    /// How many lanes there are: at most [`FIRST_LANES`] and [`OPENED_LANES`].
+    pub fn lanes(&self) -> u32
+        ensures counted { result ≡ self.now.lanes }
+        ensures few { result ≤ FIRST_LANES + OPENED_LANES }
+    {
+        self.last.len() as u32
+    }
+
+    /// The lane of an event, which exists.
+    pub fn lane(&self, event: u32) -> u32
+        requires { event < length self.now.events }
+        ensures value { result ≡ lane_of self.now.events event }
+        ensures within { result < self.now.lanes }
+    {
+        self.entries[event as usize].event.lane
     }
 
     /// Opens one more lane and answers its number, which is the number of lanes so far.

@@ -1,57 +1,111 @@
-use Rattle.std.proofs.Common.{◌≡◌, ◌+◌, ◌<◌, ◌∷◌, length, arith, sym, subst, ap}
-use Rattle.std.proofs.lemmas.List.{length-reverse}
-use Rattle.causal_trace.specs.Past.{instant}
+use Rattle.std.proofs.Common.{ℕ, ◌≡◌, ◌+◌, ◌<◌, ◌≤◌, inl, inr, true, length, Some, arith, ◌∙◌}
+use Rattle.std.specs.Prelude.{nat_le}
+use Rattle.std.proofs.lemmas.Bool.{cases_lt, leb-true}
+use Rattle.causal_trace.specs.Past.{instant, det_at}
 use Rattle.causal_trace.specs.Judgement.{HasOrphan}
 use Rattle.causal_trace.proofs.Reached.{event_below}
+use Rattle.causal_audit.specs.Lasting.{IsOver}
+use Rattle.causal_audit.specs.Quiet.{AreQuiet}
 use Rattle.causal_audit.specs.Sights.{IsSight}
-use Rattle.causal_audit.specs.Verdicts.{IsLeastOrphan}
-use Rattle.causal_audit.proofs.Instants.{instant_length}
+use Rattle.causal_audit.proofs.Between.{still_none}
+use Rattle.causal_audit.proofs.Changed.{quiet_until, seen_at}
+use Rattle.causal_audit.proofs.Instants.{accepted_then, instant_length, det_then}
+use Rattle.causal_audit.proofs.Lasting.{orphans_end, over_from}
 use Rattle.causal_audit.proofs.Legal.{delivery_event}
-use Rattle.causal_audit.proofs.Steps.{next_state, no_entry, up_to_next}
-use Rattle.causal_audit.proofs.Orphaned.{not_yet, accepted_next, length_next, tells, det_next, first_breach_is}
+use Rattle.causal_audit.proofs.Steps.{no_entry, up_to_next}
+use Rattle.causal_audit.proofs.Orphaned.{not_yet, first_breach_is}
 use Rattle.causal_audit.proofs.orphans.first_orphan.Goals as goal
 
 pub loop-t-init : goal.loop-t-init
-loop-t-init c = record {
-  sight = rw (no_entry c.args.trace.now.recording.past) (c.new-sight.ensures c.args.k c.args.det);
-  before = λ u h. not_yet c.args.trace.now.recording.processes c.args.f (instant c.args.trace.now.recording.past u) c.args.k (omega (arith, h, instant_length c.args.trace.now.recording.past u (omega (arith, h))));
-}
+loop-t-init c =
+    let r = c.args.run.now.trace.now.recording in
+    record {
+      within = omega arith;
+      sight = rw (no_entry r.past) (c.new-sight.ensures c.args.k c.args.det);
+      before = λ u h. not_yet r.processes c.args.f (instant r.past u) c.args.k (omega (arith, h, instant_length r.past u (omega (arith, h))));
+    }
+
+pub returns-then-change-end : goal.returns-then-change-end
+returns-then-change-end c =
+    let r = c.args.run.now.trace.now.recording in
+    let formed = c.len-end.ensures.formed in
+    let change = c.next-change.result in
+    let at_end : change ≡ length r.past = omega (arith, c.if-change-end.true, c.len-end.ensures.length) in
+    let quiet : AreQuiet r.past c.loop-t.t change c.args.k c.args.det =
+    quiet_until r.processes r.past formed.accepted c.args.k c.args.det c.args.changes.now.mentions.now c.args.changes.now.turns.now c.args.changes.now.firsts.now c.requires.changes
+    c.loop-t.t c.len-end.result change c.next-change.ensures.mentions c.next-change.ensures.turns c.next-change.ensures.firsts (omega (arith, at_end)) in
+    λ u within. still_none r.processes c.args.f r.past c.args.k c.args.det c.loop-t.t change formed.accepted c.requires.delivery (omega (arith, at_end)) c.loop-t.invariant.before quiet u (omega (arith, within, at_end))
 
 pub precedes-requires-clause-earlier : goal.precedes-requires-clause-earlier
 precedes-requires-clause-earlier c =
-    let e = delivery_event c.args.trace.now.recording.past c.args.k c.args.det c.requires.delivery in
-    omega (arith, event_below c.args.trace.now.recording.past c.args.k e.0 e.1 e.2, c.requires.clock.count)
+    let r = c.args.run.now.trace.now.recording in
+    let e = delivery_event r.past c.args.k c.args.det c.requires.delivery in
+    omega (arith, event_below r.past c.args.k e.0 e.1 e.2, c.requires.clock.count)
 
 pub returns-in-Some : goal.returns-in-Some
 returns-in-Some c =
-    let r = c.args.trace.now.recording in
-    let formed = c.len-formed.ensures.formed in
-    let t = c.loop-t.t in
-    let x = c.entry-item.result in
-    let below : t < length r.past = omega (arith, c.loop-t-test.true, ap length c.entries-entry-items.ensures, length-reverse r.past) in
-    let next : instant r.past (t + 1) ≡ x ∷ instant r.past t = next_state r c.entries-entry-items.result.now c.entries-entry-items.ensures t x below c.entry-item.is in
-    let accepted = accepted_next r formed t x below next in
-    let told = tells r formed t x below next c.args.clocks.now.events c.requires.clock c.args.k c.args.det c.requires.delivery c.precedes.result c.precedes.ensures in
-    let seen : IsSight (x ∷ instant r.past t) c.args.k c.args.det c.see.new.self = c.see.ensures r.processes (instant r.past t) c.args.k accepted told c.loop-t.invariant.sight in
-    let made = det_next r formed t x below next c.args.clocks.now.events c.requires.clock c.args.k c.args.det c.requires.delivery c.precedes.result c.precedes.ensures in
-    let e = c.in-Some.ensures r.processes (x ∷ instant r.past t) c.args.det accepted (length_next r formed t x below next) made seen in
-    first_breach_is r c.args.f c.args.k t c.in-Some.found below c.loop-t.invariant.before e.0 e.1
-    (subst (λ p. IsLeastOrphan r.processes c.args.f p c.args.k c.in-Some.found.crash c.in-Some.found.orphan) (sym next) e.2)
+    let r = c.args.run.now.trace.now.recording in
+    let formed = c.len-end.ensures.formed in
+    let change = c.next-change.result in
+    let below : change < length r.past = omega (arith, c.next-change.ensures.mentions.within, c.if-change-end.false, c.len-end.ensures.length) in
+    let quiet : AreQuiet r.past c.loop-t.t change c.args.k c.args.det =
+    quiet_until r.processes r.past formed.accepted c.args.k c.args.det c.args.changes.now.mentions.now c.args.changes.now.turns.now c.args.changes.now.firsts.now c.requires.changes
+    c.loop-t.t c.len-end.result change c.next-change.ensures.mentions c.next-change.ensures.turns c.next-change.ensures.firsts (omega (arith, below)) in
+    let none : (u : ℕ) → u ≤ change → HasOrphan r.processes c.args.f (instant r.past u) c.args.k → ⊥ =
+    still_none r.processes c.args.f r.past c.args.k c.args.det c.loop-t.t change formed.accepted c.requires.delivery (omega (arith, below)) c.loop-t.invariant.before quiet in
+    let seen : IsSight (instant r.past (change + 1)) c.args.k c.args.det c.see.new.self =
+    seen_at r formed c.entries-entries.result.now c.entries-entries.ensures c.args.run.now.clocks.now.events c.requires.clock c.args.k c.args.det c.requires.delivery c.loop-t.t change c.index-entries-change.result
+    c.next-change.ensures.mentions.least below quiet c.index-entries-change.is c.precedes.result c.precedes.ensures c.loop-t.sight c.see.new.self c.see.ensures c.loop-t.invariant.sight in
+    let accepted = accepted_then r.processes r.past (change + 1) formed.accepted in
+    let made : c.args.k < change + 1 → det_at (instant r.past (change + 1)) c.args.k ≡ Some c.args.det = λ early. det_then r.past (change + 1) c.args.k early (omega (arith, below)) ∙ c.requires.delivery in
+    let long : length (instant r.past (change + 1)) ≡ change + 1 = instant_length r.past (change + 1) (omega (arith, below)) in
+    let e = c.in-Some.ensures r.processes (instant r.past (change + 1)) c.args.det accepted long made seen in
+    first_breach_is r c.args.f c.args.k change c.in-Some.found below none e.0 e.1 e.2
+
+pub returns-then-is_over : goal.returns-then-is_over
+returns-then-is_over c =
+    let r = c.args.run.now.trace.now.recording in
+    let formed = c.len-end.ensures.formed in
+    let change = c.next-change.result in
+    let below : change < length r.past = omega (arith, c.next-change.ensures.mentions.within, c.if-change-end.false, c.len-end.ensures.length) in
+    let quiet : AreQuiet r.past c.loop-t.t change c.args.k c.args.det =
+    quiet_until r.processes r.past formed.accepted c.args.k c.args.det c.args.changes.now.mentions.now c.args.changes.now.turns.now c.args.changes.now.firsts.now c.requires.changes
+    c.loop-t.t c.len-end.result change c.next-change.ensures.mentions c.next-change.ensures.turns c.next-change.ensures.firsts (omega (arith, below)) in
+    let none : (u : ℕ) → u ≤ change → HasOrphan r.processes c.args.f (instant r.past u) c.args.k → ⊥ =
+    still_none r.processes c.args.f r.past c.args.k c.args.det c.loop-t.t change formed.accepted c.requires.delivery (omega (arith, below)) c.loop-t.invariant.before quiet in
+    let seen : IsSight (instant r.past (change + 1)) c.args.k c.args.det c.see.new.self =
+    seen_at r formed c.entries-entries.result.now c.entries-entries.ensures c.args.run.now.clocks.now.events c.requires.clock c.args.k c.args.det c.requires.delivery c.loop-t.t change c.index-entries-change.result
+    c.next-change.ensures.mentions.least below quiet c.index-entries-change.is c.precedes.result c.precedes.ensures c.loop-t.sight c.see.new.self c.see.ensures c.loop-t.invariant.sight in
+    let accepted = accepted_then r.processes r.past (change + 1) formed.accepted in
+    let lasting : nat_le c.args.run.now.lasting_from (change + 1) ≡ true → c.args.run.now.lasting_from ≤ change + 1 = leb-true c.args.run.now.lasting_from (change + 1) in
+    let over : IsOver r.processes c.args.f r.past (change + 1) c.args.det =
+    over_from r.processes c.args.f r.past (change + 1) c.args.run.now.lasting_from c.args.det (nat_le c.args.run.now.lasting_from (change + 1)) c.requires.lasting lasting
+    (c.is_over.ensures r.processes (instant r.past (change + 1)) c.args.k c.args.det accepted seen c.if-is_over.true) in
+    λ u within has. elim (cases_lt change u) [
+      | inl late ↦ orphans_end r.processes c.args.f r.past c.args.k c.args.det (change + 1) u c.requires.delivery over (omega (arith, late)) within has
+      | inr early ↦ none u early has
+    ]
 
 pub loop-t-preserved : goal.loop-t-preserved
 loop-t-preserved c =
-    let r = c.args.trace.now.recording in
-    let formed = c.len-formed.ensures.formed in
-    let t = c.loop-t.t in
-    let x = c.entry-item.result in
-    let below : t < length r.past = omega (arith, c.loop-t-test.true, ap length c.entries-entry-items.ensures, length-reverse r.past) in
-    let next : instant r.past (t + 1) ≡ x ∷ instant r.past t = next_state r c.entries-entry-items.result.now c.entries-entry-items.ensures t x below c.entry-item.is in
-    let accepted = accepted_next r formed t x below next in
-    let told = tells r formed t x below next c.args.clocks.now.events c.requires.clock c.args.k c.args.det c.requires.delivery c.precedes.result c.precedes.ensures in
-    let seen : IsSight (x ∷ instant r.past t) c.args.k c.args.det c.see.new.self = c.see.ensures r.processes (instant r.past t) c.args.k accepted told c.loop-t.invariant.sight in
-    let made = det_next r formed t x below next c.args.clocks.now.events c.requires.clock c.args.k c.args.det c.requires.delivery c.precedes.result c.precedes.ensures in
-    let none : HasOrphan r.processes c.args.f (x ∷ instant r.past t) c.args.k → ⊥ = c.in_default.ensures r.processes (x ∷ instant r.past t) c.args.det accepted (length_next r formed t x below next) made seen in
+    let r = c.args.run.now.trace.now.recording in
+    let formed = c.len-end.ensures.formed in
+    let change = c.next-change.result in
+    let below : change < length r.past = omega (arith, c.next-change.ensures.mentions.within, c.if-change-end.false, c.len-end.ensures.length) in
+    let quiet : AreQuiet r.past c.loop-t.t change c.args.k c.args.det =
+    quiet_until r.processes r.past formed.accepted c.args.k c.args.det c.args.changes.now.mentions.now c.args.changes.now.turns.now c.args.changes.now.firsts.now c.requires.changes
+    c.loop-t.t c.len-end.result change c.next-change.ensures.mentions c.next-change.ensures.turns c.next-change.ensures.firsts (omega (arith, below)) in
+    let none : (u : ℕ) → u ≤ change → HasOrphan r.processes c.args.f (instant r.past u) c.args.k → ⊥ =
+    still_none r.processes c.args.f r.past c.args.k c.args.det c.loop-t.t change formed.accepted c.requires.delivery (omega (arith, below)) c.loop-t.invariant.before quiet in
+    let seen : IsSight (instant r.past (change + 1)) c.args.k c.args.det c.see.new.self =
+    seen_at r formed c.entries-entries.result.now c.entries-entries.ensures c.args.run.now.clocks.now.events c.requires.clock c.args.k c.args.det c.requires.delivery c.loop-t.t change c.index-entries-change.result
+    c.next-change.ensures.mentions.least below quiet c.index-entries-change.is c.precedes.result c.precedes.ensures c.loop-t.sight c.see.new.self c.see.ensures c.loop-t.invariant.sight in
+    let accepted = accepted_then r.processes r.past (change + 1) formed.accepted in
+    let made : c.args.k < change + 1 → det_at (instant r.past (change + 1)) c.args.k ≡ Some c.args.det = λ early. det_then r.past (change + 1) c.args.k early (omega (arith, below)) ∙ c.requires.delivery in
+    let long : length (instant r.past (change + 1)) ≡ change + 1 = instant_length r.past (change + 1) (omega (arith, below)) in
+    let here : HasOrphan r.processes c.args.f (instant r.past (change + 1)) c.args.k → ⊥ = c.in_default.ensures r.processes (instant r.past (change + 1)) c.args.det accepted long made seen in
     record {
-      sight = rw next seen;
-      before = up_to_next (λ u. HasOrphan r.processes c.args.f (instant r.past u) c.args.k → ⊥) t c.loop-t.invariant.before (rw next none);
+      within = omega (arith, below);
+      sight = seen;
+      before = up_to_next (λ u. HasOrphan r.processes c.args.f (instant r.past u) c.args.k → ⊥) change none here;
     }

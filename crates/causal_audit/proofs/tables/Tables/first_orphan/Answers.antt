@@ -1,10 +1,59 @@
+use Rattle.std.proofs.Common.{◌≡◌, ℕ, Vec, Global, List, length, map, Some, arith, subst, sym}
+use Rattle.std.specs.Prelude.{Contains}
+use Rattle.std.specs.List.{All}
+use Rattle.std.specs.List.Sorted.{IsNonDecreasing}
+use Rattle.causal_trace.specs.Past.{det_at}
+use Rattle.causal_audit.specs.Changes.{HasMentions, HasTurns}
+use Rattle.causal_audit.specs.Filed.{Ascends, AreFirsts, list_at}
+use Rattle.causal_audit.proofs.Firsts.{firsts_listed}
+use Rattle.causal_audit.proofs.Instants.{det_within}
+use Rattle.causal_audit.proofs.Mentioned.{mentions_ascend}
 use Rattle.causal_audit.proofs.tables.Tables.first_orphan.Goals as goal
 
+abbrev positions : Vec ℕ Global → List ℕ
+positions list = list.items
+
+pub write_firsts-requires-clause-delivery : goal.write_firsts-requires-clause-delivery
+write_firsts-requires-clause-delivery c =
+    let at : det_at c.self.inside.trace.recording.past c.args.k ≡ Some c.args.det = rw (← c.self.view_is) at c.requires in
+    omega (arith, det_within c.self.inside.trace.recording.past c.args.k c.args.det at, c.self.invariant.0.stands.count)
+
+pub write_firsts-requires-clause-ascend : goal.write_firsts-requires-clause-ascend
+write_firsts-requires-clause-ascend c =
+    let events = c.self.inside.clocks.events in
+    subst (λ lanes. All (Ascends (length events)) (map (λ list. list.items) lanes)) (sym c.deref.ensures.value)
+    (subst (λ n. All (Ascends n) (map (λ list. list.items) c.self.inside.lanes.items)) (sym c.self.invariant.0.stands.count) c.self.invariant.1.in_lanes.ascend)
+
+pub write_firsts-requires-clause-inside : goal.write_firsts-requires-clause-inside
+write_firsts-requires-clause-inside c m v has =
+    (c.self.invariant.1.in_lanes.inside m v (subst (λ lanes. Contains (list_at (map (λ list. list.items) lanes) m) v) c.deref.ensures.value has)).0
+
 pub first_orphan-requires-clause-clock : goal.first_orphan-requires-clause-clock
-first_orphan-requires-clause-clock c = c.self.invariant.stands
+first_orphan-requires-clause-clock c = c.self.invariant.0.stands
 
 pub first_orphan-requires-clause-delivery : goal.first_orphan-requires-clause-delivery
 first_orphan-requires-clause-delivery c = rw (← c.self.view_is) at c.requires
+
+pub first_orphan-requires-clause-changes : goal.first_orphan-requires-clause-changes
+first_orphan-requires-clause-changes c =
+    let r = c.self.inside.trace.recording in
+    let kept = c.self.invariant.0 in
+    let indexes = c.self.invariant.1 in
+    let events = c.self.inside.clocks.events in
+    let lanes = map positions c.self.inside.lanes.items in
+    let numbers = c.self.inside.mentions.numbers in
+    let mentions = map positions c.self.inside.mentions.lists.items in
+    let at : det_at r.past c.args.k ≡ Some c.args.det = rw (← c.self.view_is) at c.requires in
+    let firsts : AreFirsts events c.args.k lanes c.write_firsts.new.firsts =
+    subst (λ ls. AreFirsts events c.args.k (map positions ls) c.write_firsts.new.firsts) c.deref.ensures.value c.write_firsts.ensures.firsts in
+    record {
+      mentions_ascend = subst IsNonDecreasing (sym c.list.ensures) (mentions_ascend r.past numbers mentions indexes.mentioned c.args.det);
+      turns_ascend = subst IsNonDecreasing (sym c.deref-2.ensures.value) indexes.turned.ascends.ascending;
+      firsts_ascend = c.write_firsts.ensures.ascending;
+      mentioned = subst (HasMentions r.past c.args.det) (sym c.list.ensures) (indexes.mentioned.mentioned c.args.det);
+      turned = subst (HasTurns r.past) (sym c.deref-2.ensures.value) indexes.turned.turned;
+      first = firsts_listed r.processes r.past kept.formed.accepted events kept.stands lanes indexes.in_lanes c.args.k c.args.det at c.write_firsts.new.firsts firsts;
+    }
 
 pub returns : goal.returns
 returns c = rw (← c.self.view_is) c.first_orphan.ensures

@@ -1,18 +1,30 @@
-use Rattle.std.proofs.Common.{◌≡◌, length, reverse, arith, ap, subst, ◌∙◌}
-use Rattle.std.proofs.lemmas.List.{reverse-reverse}
+use Rattle.std.proofs.Common.{◌≡◌, ℕ, Vec, Global, List, length, map, reverse, arith, ap, subst, ◌∙◌}
+use Rattle.std.proofs.lemmas.List.{length-map, reverse-reverse}
 use Rattle.causal_trace.specs.State.{past_at}
 use Rattle.causal_trace.proofs.Instants.{past_whole}
+use Rattle.causal_audit.specs.Filed.{AreLanes, AreMentions, AreTurns}
+use Rattle.causal_audit.specs.Lasting.{NoneReleasedFrom}
 use Rattle.causal_audit.specs.Numbers.{ArePositions}
 use Rattle.causal_audit.proofs.tables.Tables.of.Goals as goal
 
 pub invariant_of-result : goal.invariant_of-result
 invariant_of-result c =
     let past = c.args.trace.now.recording.past in
-    let whole : past_at c.entries.result.now (length c.entries.result.now) ≡ past =
-    past_whole c.entries.result.now ∙ ap reverse c.entries.ensures ∙ reverse-reverse past in
-    rw c.in_ok-trace.ensures (record {
-      formed = c.len-len.ensures.formed;
-      short = omega (arith, c.len-len.ensures);
-      numbered = subst (λ p. ArePositions p c.in_ok-positions.positions.items) whole c.in_ok-positions.ensures;
-      stands = c.in_ok-clocks.ensures;
-    })
+    let positions : Vec ℕ Global → List ℕ = λ list. list.items in
+    let whole : past_at c.entries-entries.result.now (length c.entries-entries.result.now) ≡ past =
+    past_whole c.entries-entries.result.now ∙ ap reverse c.entries-entries.ensures ∙ reverse-reverse past in
+    rw c.in_ok-trace.ensures (
+      record {
+        formed = c.len-len.ensures.formed;
+        short = omega (arith, c.len-len.ensures);
+        numbered = subst (λ p. ArePositions p c.in_ok-positions.positions.items) whole c.in_ok-positions.ensures;
+        stands = c.in_ok-clocks.ensures;
+        lasting = subst (λ p. NoneReleasedFrom p c.lasting_from-lasting_from.result) whole c.lasting_from-lasting_from.ensures;
+      },
+      record {
+        mentioned = subst (λ p. AreMentions p c.in_ok-mentions.mentions.numbers (map positions c.in_ok-mentions.mentions.lists.items)) whole c.in_ok-mentions.ensures;
+        turned = subst (λ p. AreTurns p c.in_ok-turns.turns.items) whole c.in_ok-turns.ensures;
+        in_lanes = subst (λ p. AreLanes p c.in_ok-clocks.clocks.events (map positions c.in_ok-lanes.lanes.items)) whole c.in_ok-lanes.ensures.lanes;
+        few = omega (arith, c.in_ok-lanes.ensures.few, length-map c.in_ok-lanes.lanes.items positions);
+      },
+    )

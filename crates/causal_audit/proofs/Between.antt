@@ -1,0 +1,213 @@
+-- Between two changes of what is known of a delivery its instants agree.
+use Rattle.std.proofs.Common.{ℕ, zero, suc, ◌≡◌, ◌+◌, ◌-◌, ◌<◌, ◌≤◌, inl, inr, Bool, true, false, List, [], ◌∷◌, length, Some, None, refl, sym, ap, subst, ◌∙◌, arith}
+use Rattle.std.specs.Prelude.{◌||◌, ◌&&◌, ◌==◌, not}
+use Rattle.std.proofs.lemmas.Bool.{cases_lt, false≢true, cond-true, cond-false, eq-eqb, ne_eqb}
+use Rattle.causal_name.specs.declared.Det.{Det}
+use Rattle.causal_name.specs.Names.{same_det}
+use Rattle.causal_name.specs.Sets.{count_below}
+use Rattle.causal_trace.specs.declared.entry.Entry.{Entry}
+use Rattle.causal_trace.specs.declared.entry.Entry.TheVariants.{Send, Deliver, Stable, Crash, Restart, Forget}
+use Rattle.causal_trace.specs.Past.{instant, entry_at, det_at, is_down, is_stable, logs, has, lane}
+use Rattle.causal_trace.specs.Rows.{AreAccepted, first_fault}
+use Rattle.causal_trace.specs.Dependence.{actor, IsEventOf, Reaches, itself, Depends}
+use Rattle.causal_trace.specs.Judgement.{HasOrphan}
+use Rattle.causal_trace.proofs.Accepted.{delivers_up}
+use Rattle.causal_trace.proofs.Reached.{reaches_begins}
+use Rattle.causal_audit.specs.declared.sight.Sight.{Sight}
+use Rattle.causal_audit.specs.Laws.{gone, IsExposed}
+use Rattle.causal_audit.specs.Quiet.{is_turn, mentioned_by, IsQuiet, AreQuiet, Agree, InstantsAgree, OrphansAgree}
+use Rattle.causal_audit.specs.Sights.{IsSight}
+use Rattle.causal_audit.proofs.Dependence.{IsNoTurn, depends_more, depends_before}
+use Rattle.causal_audit.proofs.Instants.{instants_stay, one_more_instant, last_instant, instant_length, accepted_then, det_then, det_within}
+use Rattle.causal_audit.proofs.Judged.{exposed, unexposed}
+use Rattle.causal_audit.proofs.Legal.{sends_up, delivery_event}
+use Rattle.causal_audit.proofs.Orphaned.{not_yet}
+
+-- ---- a quiet entry changes nothing
+
+no_turn_stays : (e : Entry) (past : List Entry) → is_turn e ≡ false → (p : ℕ) → IsNoTurn e past p
+no_turn_stays (Send from to ssn) past h p = (refl, refl)
+no_turn_stays (Deliver to send rsn listed) past h p = (refl, refl)
+no_turn_stays (Stable det) past h p = (refl, refl)
+no_turn_stays (Crash who) past h p = absurd (false≢true (sym h))
+no_turn_stays (Restart who listed) past h p = absurd (false≢true (sym h))
+no_turn_stays (Forget who listed) past h p = (refl, refl)
+
+or_unlisted : (w l b : Bool) → l ≡ false → b ≡ ((w && l) || b)
+or_unlisted true l b h = ap (λ x. x || b) (sym h)
+or_unlisted false l b h = refl
+
+and_unlisted : (w l b : Bool) → l ≡ false → b ≡ (not (w && l) && b)
+and_unlisted true l b h = ap (λ x. not x && b) (sym h)
+and_unlisted false l b h = refl
+
+or_false : (a b : Bool) → (a || false) ≡ false → b ≡ (a || b)
+or_false true b h = absurd (false≢true (sym h))
+or_false false b h = refl
+
+logs_stay : (e : Entry) (past : List Entry) (d : Det) → is_turn e ≡ false → has (mentioned_by e) d ≡ false → (p : ℕ) → logs past p d ≡ logs (e ∷ past) p d
+logs_stay (Send from to ssn) past d h l p = refl
+logs_stay (Deliver to send rsn listed) past d h l p = or_unlisted (to.0 == p) (has listed d) (logs past p d) l
+logs_stay (Stable det) past d h l p = refl
+logs_stay (Crash who) past d h l p = absurd (false≢true (sym h))
+logs_stay (Restart who listed) past d h l p = absurd (false≢true (sym h))
+logs_stay (Forget who listed) past d h l p = and_unlisted (who.0 == p) (has listed d) (logs past p d) l
+
+stable_stays : (e : Entry) (past : List Entry) (d : Det) → has (mentioned_by e) d ≡ false → is_stable past d ≡ is_stable (e ∷ past) d
+stable_stays (Send from to ssn) past d l = refl
+stable_stays (Deliver to send rsn listed) past d l = refl
+stable_stays (Stable det) past d l = or_false (same_det d det) (is_stable past d) l
+stable_stays (Crash who) past d l = refl
+stable_stays (Restart who listed) past d l = refl
+stable_stays (Forget who listed) past d l = refl
+
+quiet_step : (n : ℕ) (e : Entry) (past : List Entry) (k : ℕ) (d : Det) → AreAccepted n (e ∷ past) → IsQuiet past e k d → Agree past (e ∷ past) k d
+quiet_step n e past k d formed quiet = record {
+  down = λ p. sym (no_turn_stays e past quiet.no_turn p).0;
+  logged = logs_stay e past d quiet.no_turn quiet.unmentioned;
+  stable = stable_stays e past d quiet.unmentioned;
+  dependents = λ p. (
+    depends_more e past k p (no_turn_stays e past quiet.no_turn p),
+    λ depends. elim (depends_before n e past k p formed (no_turn_stays e past quiet.no_turn p) depends) [
+      | inl old ↦ old
+      | inr new ↦ quiet.known p new.0 new.1
+    ],
+  );
+}
+
+-- ---- from instant to instant
+
+-- the entry at a position, and the instant after it
+pub next_entry : (past : List Entry) (v : ℕ) → v < length past → (e : Entry) × (entry_at past v ≡ Some e) × (instant past (v + 1) ≡ e ∷ instant past v)
+next_entry [] v below = absurd (omega (arith, below))
+next_entry (e ∷ past) v below =
+    elim (cases_lt v (length past)) [
+      | inl older ↦
+          let found = next_entry past v older in (
+            found.0,
+            cond-false (v == length past) (Some e) (entry_at past v) (ne_eqb v (length past) (λ is. omega (arith, older, is))) ∙ found.1,
+            instants_stay e past (v + 1) (omega (arith, older)) ∙ found.2 ∙ ap (λ x. found.0 ∷ x) (sym (instants_stay e past v (omega (arith, older)))),
+          )
+      | inr newest ↦
+          let at : v ≡ length past = omega (arith, newest, below) in (
+            e,
+            cond-true (v == length past) (Some e) (entry_at past v) (eq-eqb v (length past) at),
+            ap (λ x. instant (e ∷ past) (x + 1)) at ∙ one_more_instant e past ∙ ap (λ x. e ∷ x) (sym (ap (λ x. instant (e ∷ past) x) at ∙ instants_stay e past (length past) (omega arith) ∙ last_instant past)),
+          )
+    ]
+
+agree_then : (k : ℕ) (d : Det) (one two three : List Entry) → Agree one two k d → Agree two three k d → Agree one three k d
+agree_then k d one two three a b = record {
+  down = λ p. a.down p ∙ b.down p;
+  logged = λ p. a.logged p ∙ b.logged p;
+  stable = a.stable ∙ b.stable;
+  dependents = λ p. (λ x. (b.dependents p).0 ((a.dependents p).0 x), λ x. (a.dependents p).1 ((b.dependents p).1 x));
+}
+
+agree_itself : (k : ℕ) (d : Det) (past : List Entry) → Agree past past k d
+agree_itself k d past = record { down = λ p. refl; logged = λ p. refl; stable = refl; dependents = λ p. (λ x. x, λ x. x) }
+
+pub agree_back : (k : ℕ) (d : Det) (one other : List Entry) → Agree one other k d → Agree other one k d
+agree_back k d one other a = record {
+  down = λ p. sym (a.down p);
+  logged = λ p. sym (a.logged p);
+  stable = sym a.stable;
+  dependents = λ p. ((a.dependents p).1, (a.dependents p).0);
+}
+
+agree_next : (n : ℕ) (past : List Entry) (k : ℕ) (d : Det) (v : ℕ) → AreAccepted n past → v < length past → ((e : Entry) → entry_at past v ≡ Some e → IsQuiet (instant past v) e k d) → Agree (instant past v) (instant past (v + 1)) k d
+agree_next n past k d v formed below quiet =
+    let found = next_entry past v below in
+    subst (λ x. Agree (instant past v) x k d) (sym found.2)
+    (quiet_step n found.0 (instant past v) k d (subst (AreAccepted n) found.2 (accepted_then n past (v + 1) formed)) (quiet found.0 found.1))
+
+agree_for : (n : ℕ) (past : List Entry) (k : ℕ) (d : Det) (t more : ℕ) → AreAccepted n past → t + more ≤ length past → AreQuiet past t (t + more) k d → Agree (instant past t) (instant past (t + more)) k d
+agree_for n past k d t zero formed within quiet = let same : t ≡ t + 0 = omega arith in subst (λ x. Agree (instant past t) (instant past x) k d) same (agree_itself k d (instant past t))
+agree_for n past k d t (suc more) formed within quiet =
+    let same : t + more + 1 ≡ t + suc more = omega arith in
+    subst (λ x. Agree (instant past t) (instant past x) k d) same
+    (agree_then k d (instant past t) (instant past (t + more)) (instant past (t + more + 1))
+    (agree_for n past k d t more formed (omega (arith, within)) (λ v e above below at. quiet v e above (omega (arith, below)) at))
+    (agree_next n past k d (t + more) formed (omega (arith, within)) (λ e at. quiet (t + more) e (omega arith) (omega arith) at)))
+
+pub instants_agree : InstantsAgree
+instants_agree n past k d t u formed up within quiet =
+    let same : t + (u - t) ≡ u = omega (arith, up) in
+    subst (λ x. Agree (instant past t) (instant past x) k d) same
+    (agree_for n past k d t (u - t) formed (omega (arith, same, within)) (λ v e above below at. quiet v e above (omega (arith, below, same)) at))
+
+-- so what is known at one is known at the other
+pub sight_agrees : (one other : List Entry) (k : ℕ) (d : Det) (s : Sight) → Agree one other k d → IsSight one k d s → IsSight other k d s
+sight_agrees one other k d s a sight = record {
+  down = λ p. sight.down p ∙ a.down p;
+  holders = λ p. sight.holders p ∙ a.logged p;
+  stable = sight.stable ∙ a.stable;
+  dependents = λ p. (λ h. (a.dependents p).0 ((sight.dependents p).0 h), λ x. (sight.dependents p).1 ((a.dependents p).1 x));
+}
+
+exposed_agrees : (n f : ℕ) (one other : List Entry) (k : ℕ) (d : Det) → Agree one other k d → IsExposed n f one k d → IsExposed n f other k d
+exposed_agrees n f one other k d a e =
+    let same : gone one d ≡ gone other d = λ i p. a.down p i || a.logged p i in
+    record {
+      unstable = sym a.stable ∙ e.unstable;
+      few = omega (arith, e.few, ap (count_below n) same);
+      orphan = e.orphan;
+      process = e.process;
+      depends = (a.dependents e.orphan).0 e.depends;
+      without = sym (a.logged e.orphan) ∙ e.without;
+    }
+
+pub orphans_agree : OrphansAgree
+orphans_agree n f past k d t u formed at made up within quiet =
+    let a = instants_agree n past k d t u formed up within quiet in
+    let at_t = det_then past t k made (omega (arith, up, within)) ∙ at in
+    let at_u = det_then past u k (omega (arith, made, up)) within ∙ at in (
+      λ has. unexposed n f (instant past u) k d at_u (exposed_agrees n f (instant past t) (instant past u) k d a (exposed n f (instant past t) k d at_t has)),
+      λ has. unexposed n f (instant past t) k d at_t (exposed_agrees n f (instant past u) (instant past t) k d (agree_back k d (instant past t) (instant past u) a) (exposed n f (instant past u) k d at_u has)),
+    )
+
+-- ---- which entries are quiet
+
+-- an event adds nobody where k reaches an earlier one of its lane
+pub known_already : (n : ℕ) (past : List Entry) (e : Entry) (k i p : ℕ) → first_fault n past e ≡ None → actor e ≡ Some p → IsEventOf past i p (lane past p) → Reaches past k i → Depends past k p
+known_already n past (Send from to ssn) k i p legal of present reach =
+    let one : from.0 ≡ p = cc of in
+    record { up = subst (λ q. is_down past q ≡ false) one (sends_up n past from to ssn legal); event = i; present = present; reached = reach }
+known_already n past (Deliver to send rsn listed) k i p legal of present reach =
+    let one : to.0 ≡ p = cc of in
+    record { up = subst (λ q. is_down past q ≡ false) one (delivers_up n past to send rsn listed legal); event = i; present = present; reached = reach }
+known_already n past (Stable det) k i p legal of present reach = absurd (let x : None ≡ Some p = of in cc)
+known_already n past (Crash who) k i p legal of present reach = absurd (let x : None ≡ Some p = of in cc)
+known_already n past (Restart who listed) k i p legal of present reach = absurd (let x : None ≡ Some p = of in cc)
+known_already n past (Forget who listed) k i p legal of present reach = absurd (let x : None ≡ Some p = of in cc)
+
+-- the delivery itself is a change
+own_change : (n : ℕ) (past : List Entry) (k : ℕ) (d : Det) → AreAccepted n past → det_at past k ≡ Some d → ((e : Entry) → entry_at past k ≡ Some e → IsQuiet (instant past k) e k d) → ⊥
+own_change n past k d formed at quiet =
+    let below : k < length past = det_within past k d at in
+    let found = next_entry past k below in
+    let long : length (instant past k) ≡ k = instant_length past k (omega (arith, below)) in
+    let made : det_at (found.0 ∷ instant past k) k ≡ Some d = ap (λ x. det_at x k) (sym found.2) ∙ det_then past (k + 1) k (omega arith) (omega (arith, below)) ∙ at in
+    let event = delivery_event (found.0 ∷ instant past k) k d made in
+    newest event.0 event.1 long found.0 (quiet found.0 found.1) event.2
+  where
+    newest : (p l : ℕ) → length (instant past k) ≡ k → (e : Entry) → IsQuiet (instant past k) e k d → IsEventOf (e ∷ instant past k) k p l → ⊥
+    newest p l long e quiet (inl older) = omega (arith, long, reaches_begins (instant past k) k k (itself p l older))
+    newest p l long e quiet (inr own) =
+        let depends : Depends (instant past k) k p = quiet.known p own.1 (subst (Reaches (e ∷ instant past k) k) own.0 (itself p l (inr own))) in
+        omega (arith, long, reaches_begins (instant past k) k depends.event depends.reached)
+
+-- where no instant so far has an orphan, none has before the next change
+pub still_none : (n f : ℕ) (past : List Entry) (k : ℕ) (d : Det) (t v : ℕ) → AreAccepted n past → det_at past k ≡ Some d → v ≤ length past → ((u : ℕ) → u ≤ t → HasOrphan n f (instant past u) k → ⊥) → AreQuiet past t v k d
+    → (u : ℕ) → u ≤ v → HasOrphan n f (instant past u) k → ⊥
+still_none n f past k d t v formed at within before quiet u low has =
+    elim (cases_lt t u) [
+      | inr early ↦ before u early has
+      | inl late ↦ elim (cases_lt k t) [
+        | inl made ↦ before t (omega arith) ((orphans_agree n f past k d t u formed at made (omega (arith, late)) (omega (arith, low, within)) (λ w e above below there. quiet w e above (omega (arith, below, low)) there)).1 has)
+        | inr ahead ↦ elim (cases_lt k u) [
+          | inr coming ↦ not_yet n f (instant past u) k (omega (arith, coming, instant_length past u (omega (arith, low, within)))) has
+          | inl passed ↦ own_change n past k d formed at (λ e there. quiet k e ahead (omega (arith, passed, low)) there)
+        ]
+      ]
+    ]

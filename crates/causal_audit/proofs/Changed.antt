@@ -1,0 +1,129 @@
+-- From change to change: which entries are quiet, and what is known after the next change.
+use Rattle.std.proofs.Common.{ℕ, zero, suc, ◌≡◌, ◌+◌, ◌-◌, ◌<◌, ◌≤◌, inl, inr, Bool, true, false, List, [], ◌∷◌, length, drop, get_or, Some, refl, sym, ap, subst, ◌∙◌, arith}
+use Rattle.std.specs.Prelude.{Contains, ◌↔◌, min}
+use Rattle.std.specs.List.Sorted.{IsNonDecreasing, IsPartitionPoint}
+use Rattle.std.proofs.lemmas.Bool.{cases_lt, false_from_ne_true, ltb-true, ltb-false}
+use Rattle.std.proofs.lemmas.List.{get_or_default}
+use Rattle.std.proofs.Math.Dec.{ltb}
+use Rattle.causal_name.specs.declared.Det.{Det}
+use Rattle.causal_trace.specs.declared.entry.Entry.{Entry}
+use Rattle.causal_trace.specs.Past.{instant, entry_at, det_at, has, lane}
+use Rattle.causal_trace.specs.State.{entries_of}
+use Rattle.causal_trace.specs.Rows.{Recording, IsWellFormed, AreAccepted}
+use Rattle.causal_trace.specs.Dependence.{actor, IsEventOf, Reaches}
+use Rattle.causal_clock.specs.declared.Event.{Event}
+use Rattle.causal_clock.specs.Precedence as clock
+use Rattle.causal_audit.specs.declared.sight.Sight.{Sight}
+use Rattle.causal_audit.specs.Changes.{AreChanges, IsNext}
+use Rattle.causal_audit.specs.Quiet.{is_turn, mentioned_by, IsQuiet, AreQuiet}
+use Rattle.causal_audit.specs.Sights.{IsSight, TellsReach}
+use Rattle.causal_audit.specs.Stands.{Stands}
+use Rattle.causal_audit.proofs.Between.{next_entry, known_already, instants_agree, sight_agrees}
+use Rattle.causal_audit.proofs.Instants.{accepted_then, instant_length}
+use Rattle.causal_audit.proofs.Orphaned.{tells}
+use Rattle.causal_audit.proofs.Steps.{next_state}
+use Rattle.causal_audit.proofs.Walked.{reaches_then, reaches_whole, event_whole}
+
+-- ---- an event is one at each later instant
+
+event_dropped : (m : ℕ) (past : List Entry) (i p l : ℕ) → i < length past - m → IsEventOf past i p l → IsEventOf (drop m past) i p l
+event_dropped zero past i p l below at = at
+event_dropped (suc m) [] i p l below at = at
+event_dropped (suc m) (e ∷ past) i p l below (inl at) = event_dropped m past i p l (omega (arith, below)) at
+event_dropped (suc m) (e ∷ past) i p l below (inr at) = absurd (omega (arith, below, at.0))
+
+event_then : (past : List Entry) (t i p l : ℕ) → t ≤ length past → i < t → IsEventOf past i p l → IsEventOf (instant past t) i p l
+event_then past t i p l within below at = event_dropped (length past - t) past i p l (omega (arith, within, below)) at
+
+-- ---- what is in none of the lists is quiet
+
+module _ (n : ℕ) (past : List Entry) (formed : AreAccepted n past) (k : ℕ) (d : Det) (mentions turns firsts : List ℕ) (changes : AreChanges past k d mentions turns firsts) where
+  module _ (v : ℕ) (e : Entry) (at : entry_at past v ≡ Some e) (below : v < length past) (first : Contains firsts v → ⊥) where
+    same_entry : (next_entry past v below).0 ≡ e
+    same_entry = let x : Some (next_entry past v below).0 ≡ Some e = sym (next_entry past v below).1 ∙ at in cc
+
+    next : instant past (v + 1) ≡ e ∷ instant past v
+    next = (next_entry past v below).2 ∙ ap (λ x. x ∷ instant past v) same_entry
+
+    long : length (instant past v) ≡ v
+    long = instant_length past v (omega (arith, below))
+
+    known : (p : ℕ) → actor e ≡ Some p → Reaches (e ∷ instant past v) k (length (instant past v)) → Reaches past k v × IsEventOf past v p (lane (instant past v) p)
+    known p of reach =
+        let here : IsEventOf (e ∷ instant past v) v p (lane (instant past v) p) = inr (sym long, of, refl) in (
+          reaches_whole past (v + 1) k v (subst (λ x. Reaches x k v) (sym next) (subst (Reaches (e ∷ instant past v) k) long reach)),
+          event_whole past (v + 1) v p (lane (instant past v) p) (subst (λ x. IsEventOf x v p (lane (instant past v) p)) (sym next) here),
+        )
+
+    quiet : is_turn e ≡ false → has (mentioned_by e) d ≡ false → IsQuiet (instant past v) e k d
+    quiet no_turn unmentioned = record {
+      no_turn = no_turn;
+      unmentioned = unmentioned;
+      known = λ p of reach.
+          let here = known p of reach in
+          elim (changes.first v p (lane (instant past v) p) here.1 here.0) [
+            | inl listed ↦ absurd (first listed)
+            | inr found ↦
+                known_already n (instant past v) e k found.0 p (subst (AreAccepted n) next (accepted_then n past (v + 1) formed)).1 of
+                (event_then past v found.0 p (lane (instant past v) p) (omega (arith, below)) found.1 found.2)
+                (reaches_then n past v k found.0 formed (omega (arith, below)) found.1 found.3)
+          ];
+    }
+
+  pub quiet_until : (t end u : ℕ) → IsNext mentions t end u → IsNext turns t end u → IsNext firsts t end u → u ≤ length past → AreQuiet past t u k d
+  quiet_until t end u mention turn first within v e above below at =
+      quiet v e at (omega (arith, below, within)) (first.skipped v above below)
+      (false_from_ne_true (is_turn e) (λ is. turn.skipped v above below (changes.turned v e at is)))
+      (false_from_ne_true (has (mentioned_by e) d) (λ is. mention.skipped v above below (changes.mentioned v e at is)))
+
+-- ---- what is known after the next change
+
+pub seen_next : (n : ℕ) (past : List Entry) (formed : AreAccepted n past) (k : ℕ) (d : Det) (t u : ℕ) (x : Entry) → t ≤ u → u < length past → AreQuiet past t u k d → instant past (u + 1) ≡ x ∷ instant past u
+    → (reached : Bool) → TellsReach (instant past u) x k reached → (before after : Sight)
+    → ((n : ℕ) (past : List Entry) (k : ℕ) → AreAccepted n (x ∷ past) → TellsReach past x k reached → IsSight past k d before → IsSight (x ∷ past) k d after)
+    → IsSight (instant past t) k d before → IsSight (instant past (u + 1)) k d after
+seen_next n past formed k d t u x up below quiet next reached tells before after sees sight =
+    let here : IsSight (instant past u) k d before = sight_agrees (instant past t) (instant past u) k d before (instants_agree n past k d t u formed up (omega (arith, below)) quiet) sight in
+    subst (λ p. IsSight p k d after) (sym next) (sees n (instant past u) k (subst (AreAccepted n) next (accepted_then n past (u + 1) formed)) tells here)
+
+-- the same in a recorded run, by its entries and its clock
+pub seen_at : (r : Recording) (formed : IsWellFormed r) (es : List Entry) → es ≡ entries_of r → (events : List Event) → Stands r.past events → (k : ℕ) (d : Det) → det_at r.past k ≡ Some d → (t u : ℕ) (x : Entry) → t ≤ u → u < length r.past → AreQuiet r.past t u k d → x ≡ get_or es u x
+    → (reached : Bool) → (reached ≡ true) ↔ clock.Reaches events k u → (before after : Sight)
+    → ((n : ℕ) (past : List Entry) (k : ℕ) → AreAccepted n (x ∷ past) → TellsReach past x k reached → IsSight past k d before → IsSight (x ∷ past) k d after)
+    → IsSight (instant r.past t) k d before → IsSight (instant r.past (u + 1)) k d after
+seen_at r formed es read events stands k d at t u x up below quiet is reached same before after sees sight =
+    let next : instant r.past (u + 1) ≡ x ∷ instant r.past u = next_state r es read u x below is in
+    seen_next r.processes r.past formed.accepted k d t u x up below quiet next reached (tells r formed u x below next events stands k d at reached same) before after sees sight
+
+-- the lowest of several next numbers
+pub next_lower : (list : List ℕ) (from end next lower : ℕ) → IsNext list from end next → from ≤ lower → lower ≤ next → IsNext list from end lower
+next_lower list from end next lower is above below = record {
+  least = above;
+  within = omega (arith, is.within, below);
+  skipped = λ v late early. is.skipped v late (omega (arith, early, below));
+}
+
+-- ---- the first number of an ascending list that is not below another
+
+module _ (list : List ℕ) (from end i : ℕ) (ascending : IsNonDecreasing list) (point : IsPartitionPoint (λ y. ltb y from ≡ true) (λ y. ltb y from ≡ false) list i) (within : from ≤ end) where
+  pub next_found : (p : ℕ) → i < length list → p ≡ get_or list i p → IsNext list from end (min p end)
+  next_found p there is =
+      let above : from ≤ p = ltb-false p from (subst (λ y. ltb y from ≡ false) (sym is) (point.1 i p (omega arith) there)) in
+      record {
+        least = omega (arith, above, within);
+        within = omega arith;
+        skipped = λ v late early listed.
+            elim (cases_lt listed.0 i) [
+              | inl passed ↦ let low : v < from = ltb-true v from (subst (λ y. ltb y from ≡ true) listed.2 (point.0 listed.0 v (omega arith) passed)) in omega (arith, low, late)
+              | inr ahead ↦ let more : get_or list i v ≤ get_or list listed.0 v = ascending i listed.0 v ahead listed.1 in omega (arith, more, listed.2, early, is, get_or_default list i p v there)
+            ];
+      }
+
+  pub next_none : length list ≤ i → IsNext list from end end
+  next_none beyond = record {
+    least = within;
+    within = omega arith;
+    skipped = λ v late early listed.
+        let low : v < from = ltb-true v from (subst (λ y. ltb y from ≡ true) listed.2 (point.0 listed.0 v (omega arith) (omega (arith, listed.1, beyond)))) in
+        omega (arith, low, late);
+  }

@@ -1,0 +1,78 @@
+-- The first event of each lane that a delivery reaches.
+use Rattle.std.proofs.Common.{ℕ, ◌≡◌, ◌+◌, ◌<◌, ◌≤◌, inl, inr, List, [], length, get_or, Some, sym, ap, subst, ◌∙◌, arith}
+use Rattle.std.specs.Prelude.{Contains}
+use Rattle.std.specs.List.Sorted.{IsPermutation}
+use Rattle.std.proofs.Math.ListN.{get_or-eq_default}
+use Rattle.std.proofs.lemmas.List.Sorted.{Contains-permutation}
+use Rattle.std.proofs.lemmas.Bool.{cases_lt}
+use Rattle.std.proofs.lemmas.Bool.Decides.{eqb_tells}
+use Rattle.std.proofs.lemmas.List.{get_or_default}
+use Rattle.std.proofs.lemmas.List.Elements.{Contains-get_or}
+use Rattle.causal_name.specs.declared.Det.{Det}
+use Rattle.causal_trace.specs.declared.entry.Entry.{Entry}
+use Rattle.causal_trace.specs.Past.{det_at}
+use Rattle.causal_trace.specs.Rows.{AreAccepted}
+use Rattle.causal_clock.specs.declared.Event.{Event}
+use Rattle.causal_clock.specs.Timeline.{lane_of}
+use Rattle.causal_clock.specs.Precedence.{Reaches, onward}
+use Rattle.causal_audit.specs.Changes.{HasFirsts}
+use Rattle.causal_audit.specs.Filed.{Ascends, AreLanes, AreFirsts, IsFirstReached, list_at}
+use Rattle.causal_audit.specs.Stands.{Stands}
+use Rattle.causal_audit.proofs.Legal.{delivery_event}
+use Rattle.causal_audit.proofs.Link.{in_clock, clock_tells, same_event}
+
+-- what reaches an event reaches the later ones of its lane
+reaches_later : (events : List Event) (k v w : ℕ) → w < length events → lane_of events v ≡ lane_of events w → v ≤ w → Reaches events k v → Reaches events k w
+reaches_later events k v w within one up reach =
+    elim (cases_lt v w) [
+      | inl less ↦ onward reach (record { earlier = less; within = within; because = inl one })
+      | inr same ↦ let is : v ≡ w = omega (arith, same, up) in subst (Reaches events k) is reach
+    ]
+
+-- a lane of which k does not reach an event reaches none before that
+module _ (events : List Event) (k : ℕ) (lane : List ℕ) (ascends : Ascends (length events) lane) (one : (v w : ℕ) → Contains lane v → Contains lane w → lane_of events v ≡ lane_of events w) where
+  pub none_before : (i : ℕ) → i < length lane → (Reaches events k (get_or lane i 0) → ⊥) → (j : ℕ) → j < i + 1 → Reaches events k (get_or lane j 0) → ⊥
+  none_before i there none j low reach =
+      none (reaches_later events k (get_or lane j 0) (get_or lane i 0) (ascends.below i 0 there)
+      (one (get_or lane j 0) (get_or lane i 0) (Contains-get_or lane j 0 (omega (arith, low, there))) (Contains-get_or lane i 0 there))
+      (ascends.ascending j i 0 (omega (arith, low)) there) reach)
+
+  -- where none before a place is reached, the one there is the first
+  pub first_at : (i : ℕ) → i < length lane → ((j : ℕ) → j < i → Reaches events k (get_or lane j 0) → ⊥) → Reaches events k (get_or lane i 0) → IsFirstReached events k lane (get_or lane i 0)
+  first_at i there none reach v listed to =
+      let at : get_or lane listed.0 0 ≡ v = get_or_default lane listed.0 0 v listed.1 ∙ listed.2 in
+      elim (cases_lt listed.0 i) [
+        | inl early ↦ absurd (none listed.0 early (subst (Reaches events k) (sym at) to))
+        | inr late ↦ let up : get_or lane i 0 ≤ get_or lane listed.0 0 = ascends.ascending i listed.0 0 late listed.1 in (omega (arith, up, at), Contains-get_or lane i 0 there, reach)
+      ]
+
+  pub first_none : (end i : ℕ) → length lane ≤ i → ((j : ℕ) → j < i → Reaches events k (get_or lane j 0) → ⊥) → IsFirstReached events k lane end
+  first_none end i beyond none v listed to =
+      let at : get_or lane listed.0 0 ≡ v = get_or_default lane listed.0 0 v listed.1 ∙ listed.2 in
+      absurd (none listed.0 (omega (arith, beyond, listed.1)) (subst (Reaches events k) (sym at) to))
+
+-- the first ones in the clock are those in the run
+pub firsts_listed : (n : ℕ) (past : List Entry) (formed : AreAccepted n past) (events : List Event) (stands : Stands past events) (lanes : List (List ℕ)) → AreLanes past events lanes → (k : ℕ) (d : Det) → det_at past k ≡ Some d → (firsts : List ℕ) → AreFirsts events k lanes firsts → HasFirsts past k firsts
+firsts_listed n past formed events stands lanes are k d at firsts all v p l event reach =
+    let from = delivery_event past k d at in
+    let first = all (lane_of events v) v (are.each v p l event) (in_clock n past formed events stands k v reach) in
+    let inside = are.inside (lane_of events v) first.0 first.3 in
+    elim (eqb_tells first.0 v) [
+      | inl same ↦ inl (subst (Contains firsts) same.1 first.1)
+      | inr apart ↦ inr (
+        first.0,
+        (let ne : first.0 ≡ v → ⊥ = apart.1 in omega (arith, first.2)),
+        same_event n past formed events stands first.0 v inside.1 p inside.2 l inside.3 event inside.0,
+        (clock_tells n past formed events stands k first.0 from.0 inside.1 from.1 inside.2 from.2 inside.3).0 first.4,
+      )
+    ]
+
+-- the first ones of all lanes, in any order
+pub firsts_from : (events : List Event) (k : ℕ) (lanes : List (List ℕ)) (firsts sorted : List ℕ) → length firsts ≡ length lanes → IsPermutation firsts sorted → ((m : ℕ) → m < length lanes → IsFirstReached events k (list_at lanes m) (get_or firsts m 0)) → AreFirsts events k lanes sorted
+firsts_from events k lanes firsts sorted count same each m v listed reach =
+    elim (cases_lt m (length lanes)) [
+      | inl there ↦
+          let found = each m there v listed reach in
+          (get_or firsts m 0, Contains-permutation firsts sorted (get_or firsts m 0) same (Contains-get_or firsts m 0 (omega (arith, there, count))), found.0, found.1, found.2)
+      | inr beyond ↦ let none : list_at lanes m ≡ [] = get_or-eq_default lanes [] beyond in absurd (omega (arith, listed.1, ap length none))
+    ]

@@ -1,0 +1,150 @@
+-- The lists of the entries that mention each determinant.
+use Rattle.std.proofs.Common.{ℕ, ◌≡◌, ◌+◌, ◌<◌, inl, inr, Bool, true, false, cond, List, [], ◌∷◌, ◌++◌, length, Option, Some, None, refl, sym, ap, subst, ◌∙◌, arith, length-append}
+use Rattle.std.specs.Prelude.{◌==◌, ◌&&◌, ◌||◌, Contains}
+use Rattle.std.specs.HashMap.{get}
+use Rattle.std.specs.List.{All}
+use Rattle.std.specs.List.Sorted.{IsNonDecreasing}
+use Rattle.std.specs.Option.{option_map_or}
+use Rattle.std.proofs.Math.ListN.{get_or-append}
+use Rattle.std.proofs.Math.Seq.{get_or-append_seam}
+use Rattle.std.proofs.lemmas.Bool.{false≢true, eqb-true, and_parts, or_cases, cases_Bool, cond-true, cond-false}
+use Rattle.std.proofs.lemmas.Bool.Decides.{eqb_tells}
+use Rattle.std.proofs.lemmas.List.{length-set}
+use Rattle.std.proofs.lemmas.List.Elements.{All-push}
+use Rattle.causal_name.specs.declared.Det.{Det}
+use Rattle.causal_name.specs.Names.{same_det}
+use Rattle.causal_trace.specs.declared.entry.Entry.{Entry}
+use Rattle.causal_trace.specs.Past.{entry_at, has}
+use Rattle.causal_audit.specs.Changes.{HasMentions}
+use Rattle.causal_audit.specs.Filed.{Ascends, AreMentions, AreMentionsWith, AreNumbered, Numbers, list_at, mentions_of, with_added}
+use Rattle.causal_audit.specs.Quiet.{mentioned_by}
+use Rattle.causal_audit.proofs.Filings.{added_has, added_keeps, added_ascend, ascend_weaker}
+
+-- determinants that are the same are one
+same_is : (x y : Det) → same_det x y ≡ true → x ≡ y
+same_is x y h =
+    let source = and_parts (x.source.0 == y.source.0) (x.ssn == y.ssn && (x.dest.0 == y.dest.0 && x.rsn == y.rsn)) h in
+    let ssn = and_parts (x.ssn == y.ssn) (x.dest.0 == y.dest.0 && x.rsn == y.rsn) source.1 in
+    let dest = and_parts (x.dest.0 == y.dest.0) (x.rsn == y.rsn) ssn.1 in
+    λ i. record {
+      source = record { 0 = eqb-true x.source.0 y.source.0 source.0 i };
+      ssn = eqb-true x.ssn y.ssn ssn.0 i;
+      dest = record { 0 = eqb-true x.dest.0 y.dest.0 dest.0 i };
+      rsn = eqb-true x.rsn y.rsn dest.1 i;
+    }
+
+-- ---- a new list, for a determinant that has none
+
+module _ (numbers new : Numbers) (lists : List (List ℕ)) (det : Det) (none : get same_det numbers det ≡ None) (updates : (q : Det) → get same_det new q ≡ cond (same_det det q) (Some (length lists)) (get same_det numbers q)) (numbered : AreNumbered numbers lists) where
+  longer : length (lists ++ [] ∷ []) ≡ length lists + 1
+  longer = length-append lists ([] ∷ [])
+
+  pub new_numbered : AreNumbered new (lists ++ [] ∷ [])
+  new_numbered d m at =
+      elim (cases_Bool (same_det det d)) [
+        | inl same ↦
+            let is : Some (length lists) ≡ Some m = sym (updates d ∙ cond-true (same_det det d) (Some (length lists)) (get same_det numbers d) same) ∙ at in
+            let it : length lists ≡ m = cc is in
+            omega (arith, longer, it)
+        | inr other ↦ omega (arith, longer, numbered d m (sym (updates d ∙ cond-false (same_det det d) (Some (length lists)) (get same_det numbers d) other) ∙ at))
+      ]
+
+  old_list : (o : Option ℕ) → ((m : ℕ) → o ≡ Some m → m < length lists) → option_map_or (list_at (lists ++ [] ∷ [])) o [] ≡ option_map_or (list_at lists) o []
+  old_list None inside = refl
+  old_list (Some m) inside = get_or-append lists ([] ∷ []) [] m (inside m refl)
+
+  pub new_same : (d : Det) → mentions_of new (lists ++ [] ∷ []) d ≡ mentions_of numbers lists d
+  new_same d =
+      elim (cases_Bool (same_det det d)) [
+        | inl same ↦
+            ap (λ o. option_map_or (list_at (lists ++ [] ∷ [])) o []) (updates d ∙ cond-true (same_det det d) (Some (length lists)) (get same_det numbers d) same)
+            ∙ get_or-append_seam lists [] [] []
+            ∙ sym (ap (λ o. option_map_or (list_at lists) o []) (ap (get same_det numbers) (sym (same_is det d same)) ∙ none))
+        | inr other ↦
+            ap (λ o. option_map_or (list_at (lists ++ [] ∷ [])) o []) (updates d ∙ cond-false (same_det det d) (Some (length lists)) (get same_det numbers d) other)
+            ∙ old_list (get same_det numbers d) (numbered d)
+      ]
+
+pub new_ascend : (bound : ℕ) (lists : List (List ℕ)) → All (Ascends bound) lists → All (Ascends bound) (lists ++ [] ∷ [])
+new_ascend bound lists all = All-push (Ascends bound) lists [] all (record { ascending = λ i j d low high. absurd (omega (arith, high)); below = λ i d low. absurd (omega (arith, low)) })
+
+-- ---- one more position in the list of a determinant
+
+has_more : (dets : List Det) (det d : Det) → has (dets ++ det ∷ []) d ≡ (has dets d || same_det d det)
+has_more [] det d = or_none (same_det d det)
+  where
+    or_none : (a : Bool) → (a || false) ≡ a
+    or_none true = refl
+    or_none false = refl
+has_more (x ∷ dets) det d = ap (λ b. same_det d x || b) (has_more dets det d) ∙ or_or (same_det d x) (has dets d) (same_det d det)
+  where
+    or_or : (a b c : Bool) → (a || (b || c)) ≡ ((a || b) || c)
+    or_or true b c = refl
+    or_or false b c = refl
+
+-- what the list of a determinant has, it has with one more position in some list
+keeps_of : (o : Option ℕ) (lists : List (List ℕ)) (m v w : ℕ) → m < length lists → Contains (option_map_or (list_at lists) o []) w → Contains (option_map_or (list_at (with_added lists m v)) o []) w
+keeps_of None lists m v w there has = has
+keeps_of (Some j) lists m v w there has = added_keeps lists m v there j w has
+
+pub mentions_more : (past : List Entry) (dets : List Det) (numbers : Numbers) (lists : List (List ℕ)) (det : Det) (m : ℕ) → get same_det numbers det ≡ Some m → AreMentionsWith past dets numbers lists → AreMentionsWith past (dets ++ det ∷ []) numbers (with_added lists m (length past))
+mentions_more past dets numbers lists det m at are =
+    let there = are.numbered det m at in
+    record {
+      numbered = λ d j is. omega (arith, are.numbered d j is, length-set lists m (list_at lists m ++ length past ∷ []));
+      ascend = added_ascend lists m (length past) there are.ascend;
+      mentioned = λ d v e is mentions. keeps_of (get same_det numbers d) lists m (length past) v there (are.mentioned d v e is mentions);
+      noted = λ d listed. elim (or_cases (has dets d) (same_det d det) (sym (has_more dets det d) ∙ listed)) [
+        | inl before ↦ keeps_of (get same_det numbers d) lists m (length past) (length past) there (are.noted d before)
+        | inr now ↦
+            subst (λ o. Contains (option_map_or (list_at (with_added lists m (length past))) o []) (length past)) (sym (ap (get same_det numbers) (same_is d det now) ∙ at))
+            (added_has lists m (length past) there)
+      ];
+    }
+
+-- ---- with a new number the lists say the same
+
+pub mentions_alike : (past : List Entry) (dets : List Det) (numbers new : Numbers) (lists more : List (List ℕ)) → AreNumbered new more → ((bound : ℕ) → All (Ascends bound) lists → All (Ascends bound) more) → ((d : Det) → mentions_of new more d ≡ mentions_of numbers lists d) → AreMentionsWith past dets numbers lists → AreMentionsWith past dets new more
+mentions_alike past dets numbers new lists more numbered ascend same are = record {
+  numbered = numbered;
+  ascend = ascend (length past + 1) are.ascend;
+  mentioned = λ d. subst (HasMentions past d) (sym (same d)) (are.mentioned d);
+  noted = λ d listed. subst (λ list. Contains list (length past)) (sym (same d)) (are.noted d listed);
+}
+
+-- ---- one more entry
+
+pub mentions_begun : (past : List Entry) (numbers : Numbers) (lists : List (List ℕ)) → AreMentions past numbers lists → AreMentionsWith past [] numbers lists
+mentions_begun past numbers lists are = record {
+  numbered = are.numbered;
+  ascend = ascend_weaker (length past) (length past + 1) lists (omega arith) are.ascend;
+  mentioned = are.mentioned;
+  noted = λ d listed. absurd (false≢true listed);
+}
+
+pub mentions_done : (e : Entry) (past : List Entry) (numbers : Numbers) (lists : List (List ℕ)) → AreMentionsWith past (mentioned_by e) numbers lists → AreMentions (e ∷ past) numbers lists
+mentions_done e past numbers lists are = record {
+  numbered = are.numbered;
+  ascend = let more : length past + 1 ≡ length (e ∷ past) = omega arith in subst (λ n. All (Ascends n) lists) more are.ascend;
+  mentioned = λ d v x at listed. elim (eqb_tells v (length past)) [
+    | inl newest ↦
+        let is : Some e ≡ Some x = sym (cond-true (v == length past) (Some e) (entry_at past v) newest.0) ∙ at in
+        let it : e ≡ x = cc is in
+        subst (λ w. Contains (mentions_of numbers lists d) w) (sym newest.1) (are.noted d (ap (λ y. has (mentioned_by y) d) it ∙ listed))
+    | inr older ↦ are.mentioned d v x (sym (cond-false (v == length past) (Some e) (entry_at past v) older.0) ∙ at) listed
+  ];
+}
+
+pub mentions_none : (numbers : Numbers) → ((d : Det) → get same_det numbers d ≡ None) → AreMentions [] numbers []
+mentions_none numbers none = record {
+  numbered = λ d m at. absurd (let x : None ≡ Some m = sym (none d) ∙ at in cc);
+  ascend = λ k d low. absurd (omega (arith, low));
+  mentioned = λ d v e at. absurd (let x : None ≡ Some e = at in cc);
+}
+
+pub mentions_ascend : (past : List Entry) (numbers : Numbers) (lists : List (List ℕ)) → AreMentions past numbers lists → (d : Det) → IsNonDecreasing (mentions_of numbers lists d)
+mentions_ascend past numbers lists are d = list_of (get same_det numbers d) (are.numbered d)
+  where
+    list_of : (o : Option ℕ) → ((m : ℕ) → o ≡ Some m → m < length lists) → IsNonDecreasing (option_map_or (list_at lists) o [])
+    list_of None inside = λ i j x low high. absurd (omega (arith, high))
+    list_of (Some m) inside = (are.ascend m [] (inside m refl)).ascending

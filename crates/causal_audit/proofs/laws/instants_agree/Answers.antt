@@ -1,0 +1,5 @@
+use Rattle.causal_audit.proofs.Between.{instants_agree, orphans_agree}
+use Rattle.causal_audit.proofs.laws.instants_agree.Goals as goal
+
+pub returns : goal.returns
+returns c = record { agree = instants_agree; orphans = orphans_agree }

@@ -1,0 +1,5 @@
+use Rattle.causal_audit.proofs.Lasting.{orphans_end}
+use Rattle.causal_audit.proofs.laws.orphans_end.Goals as goal
+
+pub returns : goal.returns
+returns c = orphans_end

@@ -1,0 +1,33 @@
+//! Numbered lists of positions.
+ghost use Rattle.std.specs.Prelude.{◌≡◌, ◌<◌, [], IfOk, OnOk, map, vec_len};
+ghost use Rattle.std.specs.List.{All};
+ghost use Rattle.causal_audit.specs.Filed.{with_added};
+
+use causal_name::NoMemory;
+use std::alloc::Global;
+
+/// So many empty lists.
+pub fn empty_lists(alloc: Global, count: u32) -> Result<Vec<Vec<u32>>, NoMemory>
+    ensures count { IfOk result (λ lists. vec_len lists ≡ count) }
+    ensures empty { IfOk result (λ lists. All (λ list. list.items ≡ []) lists.items) }
+{
+    let mut lists = Vec::new(alloc);
+    for _ in 0..count {
+        if lists.push(Vec::new(alloc)).is_err() {
+            return Err(NoMemory);
+        }
+    }
+    Ok(lists)
+}
+
+/// Puts a position at the end of one of the lists.
+pub fn add_to(lists: &mut Vec<Vec<u32>>, number: usize, position: u32) -> Result<(), NoMemory>
+    requires { number < vec_len lists.old }
+    ensures added { OnOk result (map (λ list. list.items) lists.new.items ≡ with_added (map (λ list. list.items) lists.old.items) number position) }
+    ensures count { vec_len lists.new ≡ vec_len lists.old }
+{
+    match lists[number].push(position) {
+        Ok(()) => Ok(()),
+        Err(_) => Err(NoMemory),
+    }
+}

@@ -1,0 +1,120 @@
+//! The positions of the entries that mention each determinant.
+ghost use Rattle.std.specs.Prelude.{◌≡◌, ◌<◌, ◌≤◌, ◌∷◌, ◌++◌, [], ℕ, List, IfOk, OnOk, Some, length, map, vec_len};
+ghost use Rattle.std.specs.HashMap.{get};
+ghost use Rattle.std.specs.List.{All};
+ghost use Rattle.causal_name.specs.declared.Det.{Det};
+ghost use Rattle.causal_name.specs.Names.{same_det};
+ghost use Rattle.causal_trace.specs.declared.entry.Entry.{Entry};
+ghost use Rattle.causal_trace.specs.Limits.{max_entries};
+ghost use Rattle.causal_trace.specs.State.{past_at};
+ghost use Rattle.causal_audit.specs.Quiet.{mentioned_by};
+ghost use Rattle.causal_audit.specs.Filed.{Ascends, AreMentions, AreMentionsWith, AreNumbered, mentions_of};
+
+use crate::lists::add_to;
+use causal_name::{Det, NoMemory};
+use causal_trace::entry::Entry;
+use std::alloc::Global;
+use std::collections::HashMap;
+use std::slice;
+
+/// Lists of positions, and the number of each determinant's list.
+#[derive(Drop)]
+pub struct Mentions {
+    pub numbers: HashMap<Det, usize>,
+    pub lists: Vec<Vec<u32>>,
+}
+
+impl Mentions {
+    /// The list of a determinant.
+    pub fn list(&self, det: Det) -> &[u32]
+        requires { AreNumbered self.now.numbers (map (λ list. list.items) self.now.lists.items) }
+        ensures { result.now ≡ mentions_of self.now.numbers (map (λ list. list.items) self.now.lists.items) det }
+    {
+        match self.numbers.get(&det) {
+            Some(number) => self.lists[*number].as_slice(),
+            None => &[],
+        }
+    }
+
+    /// The number of a determinant's list, which is a new one where it has none.
+    fn number(&mut self, alloc: Global, det: Det) -> Result<usize, NoMemory>
+        requires { AreNumbered self.old.numbers (map (λ list. list.items) self.old.lists.items) }
+        ensures number { IfOk result (λ m. get same_det self.new.numbers det ≡ Some m) }
+        ensures numbered { OnOk result (AreNumbered self.new.numbers (map (λ list. list.items) self.new.lists.items)) }
+        ensures ascend { OnOk result ((bound : ℕ) → All (Ascends bound) (map (λ list. list.items) self.old.lists.items) → All (Ascends bound) (map (λ list. list.items) self.new.lists.items)) }
+        ensures same { OnOk result ((d : Det) → mentions_of self.new.numbers (map (λ list. list.items) self.new.lists.items) d ≡ mentions_of self.old.numbers (map (λ list. list.items) self.old.lists.items) d) }
+    {
+        if let Some(number) = self.numbers.get(&det) {
+            return Ok(*number);
+        }
+        let number = self.lists.len();
+        if self.lists.push(Vec::new(alloc)).is_err() {
+            return Err(NoMemory);
+        }
+        if self.numbers.insert(det, number).is_err() {
+            return Err(NoMemory);
+        }
+        Ok(number)
+    }
+
+    /// Puts the position of an entry into the list of a determinant that it mentions.
+    fn add(&mut self, alloc: Global, det: Det, i: u32) -> Result<(), NoMemory>
+        requires { AreNumbered self.old.numbers (map (λ list. list.items) self.old.lists.items) }
+        ensures numbered { OnOk result (AreNumbered self.new.numbers (map (λ list. list.items) self.new.lists.items)) }
+        ensures noted { OnOk result ((past : List Entry) (dets : List Det) → length past ≡ i →
+            AreMentionsWith past dets self.old.numbers (map (λ list. list.items) self.old.lists.items) → AreMentionsWith past (dets ++ det ∷ []) self.new.numbers (map (λ list. list.items) self.new.lists.items)) }
+    {
+        let number = self.number(alloc, det)?;
+        add_to(&mut self.lists, number, i)
+    }
+
+    /// Puts the position of an entry into the lists of the determinants that it mentions.
+    fn add_each(&mut self, alloc: Global, dets: &[Det], i: u32) -> Result<(), NoMemory>
+        requires { AreNumbered self.old.numbers (map (λ list. list.items) self.old.lists.items) }
+        ensures { OnOk result ((past : List Entry) → length past ≡ i →
+            AreMentionsWith past [] self.old.numbers (map (λ list. list.items) self.old.lists.items) → AreMentionsWith past dets.now self.new.numbers (map (λ list. list.items) self.new.lists.items)) }
+    {
+        for det in dets {
+            self.add(alloc, *det, i)?;
+        }
+        Ok(())
+    }
+
+    /// Notes one more entry, at position i.
+    fn note(&mut self, alloc: Global, entry: &Entry, i: u32) -> Result<(), NoMemory>
+        requires { AreNumbered self.old.numbers (map (λ list. list.items) self.old.lists.items) }
+        ensures { OnOk result ((past : List Entry) → length past ≡ i →
+            AreMentions past self.old.numbers (map (λ list. list.items) self.old.lists.items) → AreMentions (entry.now ∷ past) self.new.numbers (map (λ list. list.items) self.new.lists.items)) }
+    {
+        self.add_each(alloc, mentioned(entry), i)
+    }
+}
+
+/// The determinants that an entry lists or writes to stable storage.
+fn mentioned(entry: &Entry) -> &[Det]
+    ensures { result.now ≡ mentioned_by entry.now }
+{
+    match entry {
+        Entry::Stable { det } => slice::from_ref(det),
+        Entry::Deliver { listed, .. } => listed.as_slice(),
+        Entry::Restart { listed, .. } => listed.as_slice(),
+        Entry::Forget { listed, .. } => listed.as_slice(),
+        Entry::Send { .. } => &[],
+        Entry::Crash { .. } => &[],
+    }
+}
+
+/// The positions of the entries that mention each determinant, in order.
+pub fn mentions_in(alloc: Global, entries: &[Entry]) -> Result<Mentions, NoMemory>
+    requires { length entries.now ≤ max_entries }
+    ensures { IfOk result (λ mentions. AreMentions (past_at entries.now (length entries.now)) mentions.numbers (map (λ list. list.items) mentions.lists.items)) }
+{
+    let mut mentions = Mentions {
+        numbers: HashMap::new(alloc),
+        lists: Vec::new(alloc),
+    };
+    for (i, entry) in entries.iter().enumerate() {
+        mentions.note(alloc, entry, i as u32)?;
+    }
+    Ok(mentions)
+}

@@ -1,0 +1,39 @@
+//! From which position on no process is released: who is down or holds a determinant then stays so.
+ghost use Rattle.std.specs.Prelude.{◌≡◌, ◌<◌, ◌≤◌, ◌∷◌, ℕ, List, length};
+ghost use Rattle.causal_trace.specs.declared.entry.Entry.{Entry};
+ghost use Rattle.causal_trace.specs.Limits.{max_entries};
+ghost use Rattle.causal_trace.specs.State.{past_at};
+ghost use Rattle.causal_audit.specs.Lasting.{may_release, NoneReleasedFrom};
+
+use causal_trace::entry::Entry;
+
+/// Whether an entry may take a process out of those that are down or hold a determinant.
+fn may_release(entry: &Entry) -> bool
+    ensures { result ≡ may_release entry.now }
+{
+    match entry {
+        Entry::Restart { .. } => true,
+        Entry::Forget { .. } => true,
+        _ => false,
+    }
+}
+
+/// The position from which on no process is released, after one more entry, at position i.
+fn lasting_after(from: u32, entry: &Entry, i: u32) -> u32
+    requires { i < max_entries }
+    ensures { (past : List Entry) → length past ≡ i → NoneReleasedFrom past from → NoneReleasedFrom (entry.now ∷ past) result }
+{
+    if may_release(entry) { i + 1 } else { from }
+}
+
+/// The position from which on no entry is a restart or a forgetting.
+pub fn lasting_from(entries: &[Entry]) -> u32
+    requires { length entries.now ≤ max_entries }
+    ensures { NoneReleasedFrom (past_at entries.now (length entries.now)) result }
+{
+    let mut from = 0;
+    for (i, entry) in entries.iter().enumerate() {
+        from = lasting_after(from, entry, i as u32);
+    }
+    from
+}
