@@ -9,7 +9,7 @@ use causal_clock::{ClockFault, Clocks};
 use causal_name::NoMemory;
 use causal_trace::entry::Entry;
 use causal_trace::trace::Trace;
-use std::alloc::{AllocFailed, Global};
+use std::alloc::Global;
 
 /// Adds the event of one more entry. `present` has the clock's lane of each process's present lane.
 fn note(entry: &Entry, clocks: &mut Clocks, present: &mut [u32]) -> Result<(), ClockFault>
@@ -47,7 +47,7 @@ fn note(entry: &Entry, clocks: &mut Clocks, present: &mut [u32]) -> Result<(), C
 }
 
 /// The lanes of n processes before the first entry: each process has the lane of its own number.
-fn first_lanes(alloc: Global, n: u16) -> Result<Vec<u32>, AllocFailed<u32>>
+fn first_lanes(alloc: Global, n: u16) -> Result<Vec<u32>, NoMemory>
     ensures count { IfOk result (λ lanes. length lanes.items ≡ n) }
     ensures each { IfOk result (λ lanes. (p : ℕ) → p < n → slice_index lanes.items p ≡ p) }
 {
@@ -67,9 +67,7 @@ pub fn clocks_of(alloc: Global, trace: &Trace) -> Result<Clocks, NoMemory>
     let Ok(mut clocks) = Clocks::new(alloc, n) else {
         return Err(NoMemory);
     };
-    let Ok(mut present) = first_lanes(alloc, n) else {
-        return Err(NoMemory);
-    };
+    let mut present = first_lanes(alloc, n)?;
     for entry in trace.entries() {
         if note(entry, &mut clocks, present.as_mut_slice()).is_err() {
             return Err(NoMemory);

@@ -13,9 +13,7 @@ pub fn empty_lists(alloc: Global, count: u32) -> Result<Vec<Vec<u32>>, NoMemory>
 {
     let mut lists = Vec::new(alloc);
     for _ in 0..count {
-        if lists.push(Vec::new(alloc)).is_err() {
-            return Err(NoMemory);
-        }
+        lists.push(Vec::new(alloc))?;
     }
     Ok(lists)
 }
@@ -26,8 +24,6 @@ pub fn add_to(lists: &mut Vec<Vec<u32>>, number: usize, position: u32) -> Result
     ensures added { OnOk result (map (λ list. list.items) lists.new.items ≡ with_added (map (λ list. list.items) lists.old.items) number position) }
     ensures count { vec_len lists.new ≡ vec_len lists.old }
 {
-    match lists[number].push(position) {
-        Ok(()) => Ok(()),
-        Err(_) => Err(NoMemory),
-    }
+    lists[number].push(position)?;
+    Ok(())
 }

@@ -48,12 +48,8 @@ impl Mentions {
             return Ok(*number);
         }
         let number = self.lists.len();
-        if self.lists.push(Vec::new(alloc)).is_err() {
-            return Err(NoMemory);
-        }
-        if self.numbers.insert(det, number).is_err() {
-            return Err(NoMemory);
-        }
+        self.lists.push(Vec::new(alloc))?;
+        self.numbers.insert(det, number)?;
         Ok(number)
     }
 

@@ -26,8 +26,5 @@ pub fn judge(alloc: Global, trace: &Trace, f: u16) -> Result<Verdict, NoMemory>
     ensures { IfOk result (IsVerdict trace.now.recording f) }
 {
     let _len = trace.len();
-    match judging::judged(alloc, trace.entries(), trace.processes(), f) {
-        Ok(verdict) => Ok(verdict),
-        Err(_) => Err(NoMemory),
-    }
+    Ok(judging::judged(alloc, trace.entries(), trace.processes(), f)?)
 }

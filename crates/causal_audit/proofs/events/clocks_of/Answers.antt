@@ -14,9 +14,9 @@ pub loop-entry-init : goal.loop-entry-init
 loop-entry-init c = record {
   items = c.entries-entry-items.ensures;
   mirrors = rw (no_entry c.args.trace.now.recording.past, c.in-Ok.ensures.ok, c.processes-n.ensures)
-      (mirrors_none c.args.trace.now.recording.processes c.in-Ok-first_lanes.present.items
-      (c.in-Ok-first_lanes.ensures.count ∙ c.processes-n.ensures)
-      (λ p low. c.in-Ok-first_lanes.ensures.each p (omega (arith, low, c.processes-n.ensures))));
+      (mirrors_none c.args.trace.now.recording.processes c.in_ok-present.present.items
+      (c.in_ok-present.ensures.count ∙ c.processes-n.ensures)
+      (λ p low. c.in_ok-present.ensures.each p (omega (arith, low, c.processes-n.ensures))));
 }
 
 pub note-requires : goal.note-requires

@@ -9,9 +9,9 @@ use Rattle.causal_audit.proofs.plain.judge.Goals as goal
 same_run : (r : Recording) (n : ℕ) (past : List Entry) → n ≡ r.processes → past ≡ r.past → record { processes = n; past = past } ≡ r
 same_run r n past count all = λ i. record { processes = count i; past = all i }
 
-pub returns-in-Ok : goal.returns-in-Ok
-returns-in-Ok c =
+pub returns : goal.returns
+returns c =
     let r = c.args.trace.now.recording in
-    subst (λ x. IsVerdict x c.args.f c.in-Ok.verdict)
+    subst (λ x. IsVerdict x c.args.f c.in_ok-judged.field-0)
     (same_run r c.processes.result (reverse c.entries.result.now) c.processes.ensures (ap reverse c.entries.ensures ∙ reverse-reverse r.past))
-    c.in-Ok.ensures
+    c.in_ok-judged.ensures
