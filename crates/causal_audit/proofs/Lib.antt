@@ -1,6 +1,7 @@
 pub mod Between
 pub mod Changed
 pub mod Dependence
+pub mod DetSearch
 pub mod Exposure
 mod Failing
 pub mod Filings

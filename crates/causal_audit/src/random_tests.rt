@@ -204,49 +204,124 @@ fn agree(alloc: Global, trace: &Trace, f: u16) -> Result<(bool, bool), NoMemory>
     Ok((fast == plain, fast == Verdict::Accept))
 }
 
-/// Judges so many random traces for each f up to one more than there are processes: how many verdicts differ, and how
-/// many accept.
-fn compared(alloc: Global, seed: u64, n: u16, traces: u32) -> Result<(u32, u32), TraceFault> {
+/// Whether a restarted process has delivered again what it had delivered before, with the same determinant.
+fn has_replay(trace: &Trace) -> bool {
+    for k in 0..trace.len() {
+        let det = trace.det_at(k);
+        for j in 0..k {
+            if det != None && trace.det_at(j) == det {
+                return true;
+            }
+        }
+    }
+    false
+}
+
+/// Whether a determinant is forgotten or restored after the last delivery.
+fn ends_in_release(trace: &Trace) -> bool {
+    let mut late = false;
+    for entry in trace.entries() {
+        match entry {
+            Entry::Forget { .. } => late = true,
+            Entry::Restart { .. } => late = true,
+            Entry::Deliver { .. } => late = false,
+            _ => {}
+        }
+    }
+    late
+}
+
+/// How many random traces there were: of how many verdicts the programs differ, how many accept, and how many traces
+/// replay a delivery or end in a release.
+#[derive(Clone, Copy)]
+struct Comparison {
+    differ: u32,
+    accepted: u32,
+    replays: u32,
+    releases: u32,
+}
+
+/// Judges so many random traces, each after so many tries, for each f up to one more than there are processes.
+fn compared(
+    alloc: Global,
+    seed: u64,
+    n: u16,
+    traces: u32,
+    tries: u32,
+) -> Result<Comparison, TraceFault> {
     let mut walk = Walk {
         state: seed,
         sends: [0; 4],
         deliveries: [0; 4],
     };
-    let mut differ: u32 = 0;
-    let mut accepted: u32 = 0;
+    let mut found = Comparison {
+        differ: 0,
+        accepted: 0,
+        replays: 0,
+        releases: 0,
+    };
     for _ in 0..traces {
-        let trace = trace_of(alloc, &mut walk, n, 24)?;
+        let trace = trace_of(alloc, &mut walk, n, tries)?;
+        if has_replay(&trace) {
+            found.replays = found.replays.saturating_add(1);
+        }
+        if ends_in_release(&trace) {
+            found.releases = found.releases.saturating_add(1);
+        }
         for f in 0..=n.saturating_add(1) {
             let Ok((same, accepts)) = agree(alloc, &trace, f) else {
                 return Err(TraceFault::NoMemory);
             };
             if !same {
-                differ = differ.saturating_add(1);
+                found.differ = found.differ.saturating_add(1);
             }
             if accepts {
-                accepted = accepted.saturating_add(1);
+                found.accepted = found.accepted.saturating_add(1);
             }
         }
     }
-    Ok((differ, accepted))
+    Ok(found)
 }
 
 #[test]
 fn both_programs_give_the_same_verdict(rt: HostRuntime) {
     for (n, seed) in [(1, 11), (2, 2026), (3, 77_777), (4, 5)] {
-        let Ok((differ, accepted)) = compared(rt.alloc(), seed, n, 600) else {
+        let Ok(found) = compared(rt.alloc(), seed, n, 600, 24) else {
             assert!(rt; false);
             return;
         };
         let judged = 600 * (u32::from(n) + 2);
-        assert_eq!(rt; differ, 0, "with {n} processes");
+        assert_eq!(rt; found.differ, 0, "with {n} processes");
         assert!(rt;
-            accepted > judged / 20,
-            "{accepted} of {judged} with {n} processes"
+            found.accepted > judged / 20,
+            "{} of {judged} with {n} processes",
+            found.accepted
         );
         assert!(rt;
-            accepted < judged / 20 * 19,
-            "{accepted} of {judged} with {n} processes"
+            found.accepted < judged / 20 * 19,
+            "{} of {judged} with {n} processes",
+            found.accepted
+        );
+        assert!(rt;
+            found.releases > 100,
+            "{} releases with {n} processes",
+            found.releases
+        );
+    }
+}
+
+#[test]
+fn both_say_the_same_of_longer_traces(rt: HostRuntime) {
+    for (n, seed) in [(2, 9), (3, 4242)] {
+        let Ok(found) = compared(rt.alloc(), seed, n, 40, 120) else {
+            assert!(rt; false);
+            return;
+        };
+        assert_eq!(rt; found.differ, 0, "with {n} processes");
+        assert!(rt;
+            found.replays > 4,
+            "{} replays with {n} processes",
+            found.replays
         );
     }
 }

@@ -4,7 +4,7 @@ ghost use Rattle.std.specs.Prelude.{◌≡◌, ◌∷◌, [], ℕ, List, MatchOp
 ghost use Rattle.std.specs.FinSet as set;
 ghost use Rattle.causal_name.specs.declared.Det.{Det};
 ghost use Rattle.causal_trace.specs.declared.entry.Entry.{Entry};
-ghost use Rattle.causal_trace.specs.Past.{det_at, has, is_down, is_stable, logs};
+ghost use Rattle.causal_trace.specs.Past.{det_at, has, is_ascending, is_down, is_stable, logs};
 ghost use Rattle.causal_trace.specs.Rows.{AreAccepted};
 ghost use Rattle.causal_trace.specs.Judgement.{HasOrphan};
 ghost use Rattle.causal_audit.specs.Lasting.{IsOverAt};
@@ -46,11 +46,11 @@ fn without(mut members: Holders, p: u8) -> Holders
     members
 }
 
-/// Whether the list has the determinant.
+/// Whether an ascending list has the determinant.
 fn has_det(listed: &Dets, det: Det) -> bool
-    ensures { result ≡ has listed.now det }
+    ensures { is_ascending listed.now ≡ true → result ≡ has listed.now det }
 {
-    listed.as_slice().iter().any(|d| det == *d)
+    listed.as_slice().binary_search(&det).is_ok()
 }
 
 /// Who is down after one more entry.
@@ -69,7 +69,8 @@ pub fn down_after(down: Holders, entry: &Entry) -> Holders
 
 /// Who holds the determinant after one more entry.
 fn holders_after(holders: Holders, entry: &Entry, det: Det) -> Holders
-    ensures { (past : List Entry) → Shows holders (λ p. logs past p det) → Shows result (λ p. logs (entry.now ∷ past) p det) }
+    ensures { (n : ℕ) (past : List Entry) → AreAccepted n (entry.now ∷ past) → Shows holders (λ p. logs past p det) →
+        Shows result (λ p. logs (entry.now ∷ past) p det) }
 {
     match entry {
         Entry::Deliver { to, listed, .. } => {

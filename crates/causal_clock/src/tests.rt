@@ -19,6 +19,9 @@ fn three_lanes_in_a_ring(rt: HostRuntime) -> Result<(), ClockFault> {
         assert_eq!(rt; clocks.reach(5, lane), 2, "lane {lane}");
     }
     assert_eq!(rt; clocks.reach(2, 2), 0);
+    assert_eq!(rt; clocks.lanes(), 3);
+    assert_eq!(rt; clocks.lane(2), 1);
+    assert_eq!(rt; clocks.lane(5), 0);
     Ok(())
 }
 
