@@ -4,7 +4,8 @@ ghost use Rattle.std.specs.Prelude.{◌≡◌, ◌∷◌, [], ℕ, List, MatchOp
 ghost use Rattle.std.specs.FinSet as set;
 ghost use Rattle.causal_name.specs.declared.Det.{Det};
 ghost use Rattle.causal_trace.specs.declared.entry.Entry.{Entry};
-ghost use Rattle.causal_trace.specs.Past.{det_at, has, is_ascending, is_down, is_stable, logs};
+ghost use Rattle.causal_name.specs.Names.{is_ascending};
+ghost use Rattle.causal_trace.specs.Past.{det_at, has, is_down, is_stable, logs};
 ghost use Rattle.causal_trace.specs.Rows.{AreAccepted};
 ghost use Rattle.causal_trace.specs.Judgement.{HasOrphan};
 ghost use Rattle.causal_audit.specs.Lasting.{IsOverAt};

@@ -1,31 +1,16 @@
 -- Entries in the order of a map, and what a filter leaves of them, ascend.
-use Rattle.std.proofs.Common.{zero, suc, ◌≡◌, ◌∙◌, Bool, true, false, cond, ◌&&◌, ◌||◌, List, [], ◌∷◌, filter, refl, sym, ap, arith, add-one, true≢false}
+use Rattle.std.proofs.Common.{◌≡◌, ◌∙◌, Bool, true, false, cond, ◌&&◌, ◌||◌, List, [], ◌∷◌, filter, refl, sym, ap, true≢false}
 use Rattle.std.specs.List.{list_any}
 use Rattle.std.specs.FinMap as fin
 use Rattle.std.specs.FinMap.Entries.{is_sorted, below_all}
 use Rattle.std.specs.Map.{keys_of}
-use Rattle.std.specs.List.Sorted.{IsSorted}
-use Rattle.std.specs.Ordering.{is_lt, ordering_reverse}
+use Rattle.std.specs.Ordering.{is_lt}
 use Rattle.std.specs.declared.cmp.Ordering.{Ordering}
 use Rattle.std.specs.declared.cmp.Ordering.TheVariants.{Less, Equal, Greater}
 use Rattle.causal_name.specs.declared.Det.{Det}
 use Rattle.causal_name.specs.Names.{det_cmp, same_det, is_before, is_ascending}
-use Rattle.causal_log.proofs.DetOrder.{dets_total, same_is}
+use Rattle.causal_name.proofs.DetOrder.{dets_total, same_is}
 use Rattle.causal_log.proofs.Searches.{both, shown}
-
--- what comes before another does not come after it
-not_after : (r : Ordering) → is_lt r ≡ true → is_lt (ordering_reverse r) ≡ false
-not_after Less h = refl
-not_after Equal h = refl
-not_after Greater h = absurd (true≢false (sym h))
-
-pub ascending_sorted : (ds : List Det) → is_ascending ds ≡ true → IsSorted det_cmp ds
-ascending_sorted [] h k x low high = absurd (omega (arith, high))
-ascending_sorted (d ∷ []) h k x low high = absurd (omega (arith, high))
-ascending_sorted (d ∷ e ∷ ds) h zero x low high =
-    ap is_lt (dets_total.antisymm e d) ∙ not_after (det_cmp d e) (both (is_before d e) (is_ascending (e ∷ ds)) h).0
-ascending_sorted (d ∷ e ∷ ds) h (suc k) x low high =
-    rw add-one (rw add-one at (ascending_sorted (e ∷ ds) (both (is_before d e) (is_ascending (e ∷ ds)) h).1 k x (omega arith) (omega arith)))
 
 pub ascending_tail : (d : Det) (ds : List Det) → is_ascending (d ∷ ds) ≡ true → is_ascending ds ≡ true
 ascending_tail d [] h = refl

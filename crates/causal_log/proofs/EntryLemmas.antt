@@ -15,7 +15,7 @@ use Rattle.std.proofs.lemmas.List.Sorted.{sorted_far, ranks_by}
 use Rattle.std.specs.Map.{keys_of}
 use Rattle.causal_name.specs.declared.Det.{Det}
 use Rattle.causal_name.specs.Names.{det_cmp, same_det}
-use Rattle.causal_log.proofs.DetOrder.{dets_total, exact_dets, det_ties}
+use Rattle.causal_name.proofs.DetOrder.{dets_total, exact_dets, det_ties}
 
 module _ {X : Type 0} where
   find_lookup : (es : List (Det × X)) (q : Det) → find det_cmp q es ≡ lookup (same_det q) es

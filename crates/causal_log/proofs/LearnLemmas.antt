@@ -13,7 +13,7 @@ use Rattle.causal_log.specs.declared.batch.Item.{Item}
 use Rattle.causal_log.specs.Knowledge.{nothing_known, joined, told}
 use Rattle.causal_log.specs.Logs.{LogMap, known_of, learned, learned_all}
 use Rattle.causal_log.proofs.Searches.{or_right, or_nothing, any_map}
-use Rattle.causal_log.proofs.DetOrder.{dets_total, det_ties, same_is, nat_ties}
+use Rattle.causal_name.proofs.DetOrder.{dets_total, det_ties, same_is, nat_ties}
 
 -- what is learned of one determinant changes its entry alone
 pub get_learned : (log : LogMap) (det : Det) (known : Known) (q : Det) → fin.get (learned log det known) q ≡ cond (same_det q det) (Some (joined (known_of log det) known)) (fin.get log q)

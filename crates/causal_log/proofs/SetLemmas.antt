@@ -13,7 +13,7 @@ use Rattle.causal_name.specs.declared.Det.{Det}
 use Rattle.causal_name.specs.Names.{det_cmp}
 use Rattle.std.proofs.lemmas.List.{length-map}
 use Rattle.causal_log.specs.Stores.{DetSet, set_of, with_det, has, count_in, dets_in}
-use Rattle.causal_log.proofs.DetOrder.{dets_total, exact_dets}
+use Rattle.causal_name.proofs.DetOrder.{dets_total, exact_dets}
 use Rattle.causal_log.proofs.EntryLemmas.{entries_strict}
 
 abbrev paired : List Det → List (Det × Unit {0})

@@ -4,8 +4,7 @@ use Rattle.std.specs.Prelude.{◌&&◌}
 use Rattle.std.proofs.lemmas.List.{drop_more, drop_all, length-drop}
 use Rattle.std.proofs.lemmas.Bool.{cases_lt}
 use Rattle.causal_name.specs.declared.Det.{Det}
-use Rattle.causal_name.specs.Names.{is_before}
-use Rattle.causal_name.specs.Names.{is_ascending}
+use Rattle.causal_name.specs.Names.{is_before, is_ascending}
 
 pub ascending_more : (ds : List Det) (j : ℕ) (d : Det) → j + 1 < length ds → is_ascending (drop j ds) ≡ (is_before (get_or ds j d) (get_or ds (j + 1) d) && is_ascending (drop (j + 1) ds))
 ascending_more ds j d h =

@@ -6,7 +6,7 @@ use Rattle.causal_name.specs.Names.{same_det}
 use Rattle.causal_log.specs.declared.known.Known.{Known}
 use Rattle.causal_log.specs.Knowledge.{nothing_known, as_stable}
 use Rattle.causal_log.specs.Logs.{LogMap, mark}
-use Rattle.causal_log.proofs.DetOrder.{dets_total, det_ties, same_is}
+use Rattle.causal_name.proofs.DetOrder.{dets_total, det_ties, same_is}
 use Rattle.causal_log.proofs.Searches.{find_kept, kept_if, shown}
 use Rattle.causal_log.proofs.laws.marking_law.Goals as goal
 

@@ -4,7 +4,7 @@ use Rattle.causal_name.specs.declared.Det.{Det}
 use Rattle.causal_name.specs.Names.{same_det, is_before}
 use Rattle.causal_name.specs.Names.{is_ascending}
 use Rattle.causal_log.specs.Slots.{is_of_slot}
-use Rattle.causal_log.proofs.DetOrder.{same_is, same_itself}
+use Rattle.causal_name.proofs.DetOrder.{same_is, same_itself}
 use Rattle.causal_log.proofs.Ascents.{first_before, ascending_tail}
 use Rattle.causal_log.proofs.Searches.{or_right}
 use Rattle.causal_log.proofs.laws.slot_law.Goals as goal

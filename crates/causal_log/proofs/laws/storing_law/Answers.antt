@@ -6,7 +6,7 @@ use Rattle.causal_name.specs.declared.Det.{Det}
 use Rattle.causal_name.specs.Names.{det_cmp, same_det}
 use Rattle.causal_log.specs.Stores.{dets_in}
 use Rattle.causal_log.proofs.Ascents.{map_ascends}
-use Rattle.causal_log.proofs.DetOrder.{dets_total, det_ties}
+use Rattle.causal_name.proofs.DetOrder.{dets_total, det_ties}
 use Rattle.causal_log.proofs.laws.storing_law.Goals as goal
 
 ties : (q : Det) (ds : List Det) → list_any (eq_by_cmp det_cmp q) ds ≡ list_any (same_det q) ds

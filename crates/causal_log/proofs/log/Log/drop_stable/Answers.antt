@@ -7,7 +7,8 @@ use Rattle.causal_name.specs.declared.Det.{Det}
 use Rattle.causal_log.specs.declared.known.Known.{Known}
 use Rattle.causal_name.specs.Names.{is_ascending}
 use Rattle.causal_log.specs.Logs.{log_of, unmarked, stable_in}
-use Rattle.causal_log.proofs.Ascents.{ascending_sorted, filter_ascends}
+use Rattle.causal_log.proofs.Ascents.{filter_ascends}
+use Rattle.causal_name.proofs.DetOrder.{ascending_sorted}
 use Rattle.causal_log.proofs.EntryLemmas.{entries_log}
 use Rattle.causal_log.proofs.log.Log.drop_stable.Goals as goal
 use Rattle.causal_log.proofs.log.Log.drop_stable.Goals.{After-drop_stable}
