@@ -1,10 +1,7 @@
 -- From change to change: which entries are quiet, and what is known after the next change.
 use Rattle.std.proofs.Common.{ℕ, zero, suc, ◌≡◌, ◌+◌, ◌-◌, ◌<◌, ◌≤◌, inl, inr, Bool, true, false, List, [], ◌∷◌, length, drop, get_or, Some, refl, sym, ap, subst, ◌∙◌, arith}
-use Rattle.std.specs.Prelude.{Contains, ◌↔◌, min}
-use Rattle.std.specs.List.Sorted.{IsNonDecreasing, IsPartitionPoint}
-use Rattle.std.proofs.lemmas.Bool.{cases_lt, false_from_ne_true, ltb-true, ltb-false}
-use Rattle.std.proofs.lemmas.List.{get_or_default}
-use Rattle.std.proofs.Math.Dec.{ltb}
+use Rattle.std.specs.Prelude.{Contains, ◌↔◌}
+use Rattle.std.proofs.lemmas.Bool.{false_from_ne_true}
 use Rattle.causal_name.specs.declared.Det.{Det}
 use Rattle.causal_trace.specs.declared.entry.Entry.{Entry}
 use Rattle.causal_trace.specs.Past.{instant, entry_at, det_at, has, lane}
@@ -14,7 +11,9 @@ use Rattle.causal_trace.specs.Dependence.{actor, IsEventOf, Reaches}
 use Rattle.causal_clock.specs.declared.Event.{Event}
 use Rattle.causal_clock.specs.Precedence as clock
 use Rattle.causal_audit.specs.declared.sight.Sight.{Sight}
-use Rattle.causal_audit.specs.Changes.{AreChanges, IsNext}
+use Rattle.causal_audit.specs.Ahead.{AreNoneUntil}
+use Rattle.causal_audit.specs.Changes.{AreChanges}
+use Rattle.causal_audit.specs.declared.changes.Changes.{Changes}
 use Rattle.causal_audit.specs.Quiet.{is_turn, mentioned_by, IsQuiet, AreQuiet}
 use Rattle.causal_audit.specs.Sights.{IsSight, TellsReach}
 use Rattle.causal_audit.specs.Stands.{Stands}
@@ -37,8 +36,8 @@ event_then past t i p l within below at = event_dropped (length past - t) past i
 
 -- ---- what is in none of the lists is quiet
 
-module _ (n : ℕ) (past : List Entry) (formed : AreAccepted n past) (k : ℕ) (d : Det) (mentions turns firsts : List ℕ) (changes : AreChanges past k d mentions turns firsts) where
-  module _ (v : ℕ) (e : Entry) (at : entry_at past v ≡ Some e) (below : v < length past) (first : Contains firsts v → ⊥) where
+module _ (n : ℕ) (past : List Entry) (formed : AreAccepted n past) (k : ℕ) (d : Det) (lists : Changes) (changes : AreChanges past k d lists.mentions.now lists.turns.now lists.firsts.now) where
+  module _ (v : ℕ) (e : Entry) (at : entry_at past v ≡ Some e) (below : v < length past) (first : Contains lists.firsts.now v → ⊥) where
     same_entry : (next_entry past v below).0 ≡ e
     same_entry = let x : Some (next_entry past v below).0 ≡ Some e = sym (next_entry past v below).1 ∙ at in cc
 
@@ -70,11 +69,11 @@ module _ (n : ℕ) (past : List Entry) (formed : AreAccepted n past) (k : ℕ) (
           ];
     }
 
-  pub quiet_until : (t end u : ℕ) → IsNext mentions t end u → IsNext turns t end u → IsNext firsts t end u → u ≤ length past → AreQuiet past t u k d
-  quiet_until t end u mention turn first within v e above below at =
-      quiet v e at (omega (arith, below, within)) (first.skipped v above below)
-      (false_from_ne_true (is_turn e) (λ is. turn.skipped v above below (changes.turned v e at is)))
-      (false_from_ne_true (has (mentioned_by e) d) (λ is. mention.skipped v above below (changes.mentioned v e at is)))
+  pub quiet_until : (t u : ℕ) → AreNoneUntil lists t u → u ≤ length past → AreQuiet past t u k d
+  quiet_until t u none within v e above below at =
+      quiet v e at (omega (arith, below, within)) (none.firsts v above below)
+      (false_from_ne_true (is_turn e) (λ is. none.turns v above below (changes.turned v e at is)))
+      (false_from_ne_true (has (mentioned_by e) d) (λ is. none.mentions v above below (changes.mentioned v e at is)))
 
 -- ---- what is known after the next change
 
@@ -94,36 +93,3 @@ pub seen_at : (r : Recording) (formed : IsWellFormed r) (es : List Entry) → es
 seen_at r formed es read events stands k d at t u x up below quiet is reached same before after sees sight =
     let next : instant r.past (u + 1) ≡ x ∷ instant r.past u = next_state r es read u x below is in
     seen_next r.processes r.past formed.accepted k d t u x up below quiet next reached (tells r formed u x below next events stands k d at reached same) before after sees sight
-
--- the lowest of several next numbers
-pub next_lower : (list : List ℕ) (from end next lower : ℕ) → IsNext list from end next → from ≤ lower → lower ≤ next → IsNext list from end lower
-next_lower list from end next lower is above below = record {
-  least = above;
-  within = omega (arith, is.within, below);
-  skipped = λ v late early. is.skipped v late (omega (arith, early, below));
-}
-
--- ---- the first number of an ascending list that is not below another
-
-module _ (list : List ℕ) (from end i : ℕ) (ascending : IsNonDecreasing list) (point : IsPartitionPoint (λ y. ltb y from ≡ true) (λ y. ltb y from ≡ false) list i) (within : from ≤ end) where
-  pub next_found : (p : ℕ) → i < length list → p ≡ get_or list i p → IsNext list from end (min p end)
-  next_found p there is =
-      let above : from ≤ p = ltb-false p from (subst (λ y. ltb y from ≡ false) (sym is) (point.1 i p (omega arith) there)) in
-      record {
-        least = omega (arith, above, within);
-        within = omega arith;
-        skipped = λ v late early listed.
-            elim (cases_lt listed.0 i) [
-              | inl passed ↦ let low : v < from = ltb-true v from (subst (λ y. ltb y from ≡ true) listed.2 (point.0 listed.0 v (omega arith) passed)) in omega (arith, low, late)
-              | inr ahead ↦ let more : get_or list i v ≤ get_or list listed.0 v = ascending i listed.0 v ahead listed.1 in omega (arith, more, listed.2, early, is, get_or_default list i p v there)
-            ];
-      }
-
-  pub next_none : length list ≤ i → IsNext list from end end
-  next_none beyond = record {
-    least = within;
-    within = omega arith;
-    skipped = λ v late early listed.
-        let low : v < from = ltb-true v from (subst (λ y. ltb y from ≡ true) listed.2 (point.0 listed.0 v (omega arith) (omega (arith, listed.1, beyond)))) in
-        omega (arith, low, late);
-  }

@@ -1,5 +1,6 @@
 pub mod Between
 pub mod Changed
+pub mod Cursors
 pub mod Dependence
 pub mod DetSearch
 pub mod Exposure

@@ -1,5 +1,5 @@
 -- Where something may change for a delivery.
-use Rattle.std.specs.Prelude.{◌≡◌, ℕ, ◌<◌, ◌≤◌, true, ◌⊎◌, List, Some, Contains}
+use Rattle.std.specs.Prelude.{◌≡◌, ℕ, ◌<◌, true, ◌⊎◌, List, Some, Contains}
 use Rattle.std.specs.List.Sorted.{IsNonDecreasing}
 use Rattle.causal_name.specs.declared.Det.{Det}
 use Rattle.causal_trace.specs.declared.entry.Entry.{Entry}
@@ -29,9 +29,3 @@ pub record AreChanges (past : List Entry) (k : ℕ) (d : Det) (mentions turns fi
   pub mentioned : HasMentions past d mentions
   pub turned : HasTurns past turns
   pub first : HasFirsts past k firsts
-
--- from `from` on the list has no number below `next`
-pub record IsNext (list : List ℕ) (from end next : ℕ) : Type 0 where
-  pub least : from ≤ next
-  pub within : next ≤ end
-  pub skipped : (v : ℕ) → from ≤ v → v < next → Contains list v → ⊥

@@ -1,3 +1,4 @@
+pub mod Ahead
 pub mod BreachAt
 pub mod Breaches
 pub mod Changes

@@ -1,7 +1,10 @@
 //! Where something may change for a delivery: between two changes its instants agree.
 ghost use Rattle.std.specs.Prelude.{◌≤◌};
 ghost use Rattle.std.specs.List.Sorted.{IsNonDecreasing};
-ghost use Rattle.causal_audit.specs.Changes.{IsNext};
+ghost use Rattle.causal_audit.specs.declared.changes.Changes.{Changes};
+ghost use Rattle.causal_audit.specs.Ahead.{AreAhead, AreNoneUntil};
+
+use crate::cursor::Cursor;
 
 /// Ascending positions at which something may change for a delivery: of the entries that mention its determinant, of the
 /// crashes and restarts, and of the first event of each lane that it reaches. There may be others among them.
@@ -12,33 +15,41 @@ pub struct Changes<'a> {
     pub firsts: &'a [u32],
 }
 
-/// The first number of an ascending list that is not below `from`, or `end` if that comes first.
-fn next_in(list: &[u32], from: u32, end: u32) -> u32
-    requires ascending { IsNonDecreasing list.now }
-    requires within { from ≤ end }
-    ensures { IsNext list.now from end result }
-{
-    let passed = list.partition_point(|position| *position < from);
-    match list.get(passed) {
-        Some(position) => (*position).min(end),
-        None => end,
-    }
+/// The changes that are still ahead.
+#[derive(Clone, Copy)]
+pub struct Ahead<'a> {
+    pub mentions: Cursor<'a>,
+    pub turns: Cursor<'a>,
+    pub firsts: Cursor<'a>,
 }
 
-impl Changes<'_> {
-    /// The first of the positions that is not below `from`, or `end` if that comes first.
-    pub fn next(&self, from: u32, end: u32) -> u32
+impl<'a> Changes<'a> {
+    /// Those that are not below `from`.
+    pub fn ahead(&self, from: u32) -> Ahead<'a>
         requires mentions_ascend { IsNonDecreasing self.now.mentions.now }
         requires turns_ascend { IsNonDecreasing self.now.turns.now }
         requires firsts_ascend { IsNonDecreasing self.now.firsts.now }
-        requires within { from ≤ end }
-        ensures mentions { IsNext self.now.mentions.now from end result }
-        ensures turns { IsNext self.now.turns.now from end result }
-        ensures firsts { IsNext self.now.firsts.now from end result }
+        ensures { AreAhead self.now from result }
     {
-        let mention = next_in(self.mentions, from, end);
-        let turn = next_in(self.turns, from, end);
-        let first = next_in(self.firsts, from, end);
+        Ahead {
+            mentions: Cursor::at(self.mentions, from),
+            turns: Cursor::at(self.turns, from),
+            firsts: Cursor::at(self.firsts, from),
+        }
+    }
+}
+
+impl Ahead<'_> {
+    /// The first of them that is not below `from`, or `end` if that comes first. Those before it are passed.
+    pub fn next(&mut self, from: u32, end: u32) -> u32
+        requires { from ≤ end }
+        ensures bounds { (from ≤ result) × (result ≤ end) }
+        ensures ahead { (changes : Changes) → AreAhead changes from self.old → AreAhead changes from self.new }
+        ensures none { (changes : Changes) → AreAhead changes from self.old → AreNoneUntil changes from result }
+    {
+        let mention = self.mentions.next(from, end);
+        let turn = self.turns.next(from, end);
+        let first = self.firsts.next(from, end);
         mention.min(turn).min(first)
     }
 }

@@ -3,6 +3,7 @@
 
 pub mod breach;
 mod changes;
+mod cursor;
 mod events;
 pub mod judge;
 mod lanes;

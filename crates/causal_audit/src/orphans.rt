@@ -63,9 +63,10 @@ pub fn first_orphan(
     let end = run.trace.len();
     let entries = run.trace.entries();
     let mut sight = Sight::new();
+    let mut ahead = changes.ahead(0);
     let mut t = 0;
     while t < end {
-        let change = changes.next(t, end);
+        let change = ahead.next(t, end);
         if change == end {
             return None;
         }

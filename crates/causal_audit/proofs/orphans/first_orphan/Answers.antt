@@ -9,6 +9,7 @@ use Rattle.causal_audit.specs.Quiet.{AreQuiet}
 use Rattle.causal_audit.specs.Sights.{IsSight}
 use Rattle.causal_audit.proofs.Between.{still_none}
 use Rattle.causal_audit.proofs.Changed.{quiet_until, seen_at}
+use Rattle.causal_audit.proofs.Cursors.{ahead_later}
 use Rattle.causal_audit.proofs.Instants.{accepted_then, instant_length, det_then}
 use Rattle.causal_audit.proofs.Lasting.{orphans_end, over_from}
 use Rattle.causal_audit.proofs.Legal.{delivery_event}
@@ -21,6 +22,7 @@ loop-t-init c =
     let r = c.args.run.now.trace.now.recording in
     record {
       within = omega arith;
+      ahead = c.ahead-ahead.ensures;
       sight = rw (no_entry r.past) (c.new-sight.ensures c.args.k c.args.det);
       before = λ u h. not_yet r.processes c.args.f (instant r.past u) c.args.k (omega (arith, h, instant_length r.past u (omega (arith, h))));
     }
@@ -32,8 +34,7 @@ returns-then-change-end c =
     let change = c.next-change.result in
     let at_end : change ≡ length r.past = omega (arith, c.if-change-end.true, c.len-end.ensures.length) in
     let quiet : AreQuiet r.past c.loop-t.t change c.args.k c.args.det =
-    quiet_until r.processes r.past formed.accepted c.args.k c.args.det c.args.changes.now.mentions.now c.args.changes.now.turns.now c.args.changes.now.firsts.now c.requires.changes
-    c.loop-t.t c.len-end.result change c.next-change.ensures.mentions c.next-change.ensures.turns c.next-change.ensures.firsts (omega (arith, at_end)) in
+    quiet_until r.processes r.past formed.accepted c.args.k c.args.det c.args.changes.now c.requires.changes c.loop-t.t change (c.next-change.ensures.none c.args.changes.now c.loop-t.invariant.ahead) (omega (arith, at_end)) in
     λ u within. still_none r.processes c.args.f r.past c.args.k c.args.det c.loop-t.t change formed.accepted c.requires.delivery (omega (arith, at_end)) c.loop-t.invariant.before quiet u (omega (arith, within, at_end))
 
 pub precedes-requires-clause-earlier : goal.precedes-requires-clause-earlier
@@ -47,15 +48,14 @@ returns-in-Some c =
     let r = c.args.run.now.trace.now.recording in
     let formed = c.len-end.ensures.formed in
     let change = c.next-change.result in
-    let below : change < length r.past = omega (arith, c.next-change.ensures.mentions.within, c.if-change-end.false, c.len-end.ensures.length) in
+    let below : change < length r.past = omega (arith, c.next-change.ensures.bounds, c.if-change-end.false, c.len-end.ensures.length) in
     let quiet : AreQuiet r.past c.loop-t.t change c.args.k c.args.det =
-    quiet_until r.processes r.past formed.accepted c.args.k c.args.det c.args.changes.now.mentions.now c.args.changes.now.turns.now c.args.changes.now.firsts.now c.requires.changes
-    c.loop-t.t c.len-end.result change c.next-change.ensures.mentions c.next-change.ensures.turns c.next-change.ensures.firsts (omega (arith, below)) in
+    quiet_until r.processes r.past formed.accepted c.args.k c.args.det c.args.changes.now c.requires.changes c.loop-t.t change (c.next-change.ensures.none c.args.changes.now c.loop-t.invariant.ahead) (omega (arith, below)) in
     let none : (u : ℕ) → u ≤ change → HasOrphan r.processes c.args.f (instant r.past u) c.args.k → ⊥ =
     still_none r.processes c.args.f r.past c.args.k c.args.det c.loop-t.t change formed.accepted c.requires.delivery (omega (arith, below)) c.loop-t.invariant.before quiet in
     let seen : IsSight (instant r.past (change + 1)) c.args.k c.args.det c.see.new.self =
     seen_at r formed c.entries-entries.result.now c.entries-entries.ensures c.args.run.now.clocks.now.events c.requires.clock c.args.k c.args.det c.requires.delivery c.loop-t.t change c.index-entries-change.result
-    c.next-change.ensures.mentions.least below quiet c.index-entries-change.is c.precedes.result c.precedes.ensures c.loop-t.sight c.see.new.self c.see.ensures c.loop-t.invariant.sight in
+    c.next-change.ensures.bounds.0 below quiet c.index-entries-change.is c.precedes.result c.precedes.ensures c.loop-t.sight c.see.new.self c.see.ensures c.loop-t.invariant.sight in
     let accepted = accepted_then r.processes r.past (change + 1) formed.accepted in
     let made : c.args.k < change + 1 → det_at (instant r.past (change + 1)) c.args.k ≡ Some c.args.det = λ early. det_then r.past (change + 1) c.args.k early (omega (arith, below)) ∙ c.requires.delivery in
     let long : length (instant r.past (change + 1)) ≡ change + 1 = instant_length r.past (change + 1) (omega (arith, below)) in
@@ -67,15 +67,14 @@ returns-then-is_over c =
     let r = c.args.run.now.trace.now.recording in
     let formed = c.len-end.ensures.formed in
     let change = c.next-change.result in
-    let below : change < length r.past = omega (arith, c.next-change.ensures.mentions.within, c.if-change-end.false, c.len-end.ensures.length) in
+    let below : change < length r.past = omega (arith, c.next-change.ensures.bounds, c.if-change-end.false, c.len-end.ensures.length) in
     let quiet : AreQuiet r.past c.loop-t.t change c.args.k c.args.det =
-    quiet_until r.processes r.past formed.accepted c.args.k c.args.det c.args.changes.now.mentions.now c.args.changes.now.turns.now c.args.changes.now.firsts.now c.requires.changes
-    c.loop-t.t c.len-end.result change c.next-change.ensures.mentions c.next-change.ensures.turns c.next-change.ensures.firsts (omega (arith, below)) in
+    quiet_until r.processes r.past formed.accepted c.args.k c.args.det c.args.changes.now c.requires.changes c.loop-t.t change (c.next-change.ensures.none c.args.changes.now c.loop-t.invariant.ahead) (omega (arith, below)) in
     let none : (u : ℕ) → u ≤ change → HasOrphan r.processes c.args.f (instant r.past u) c.args.k → ⊥ =
     still_none r.processes c.args.f r.past c.args.k c.args.det c.loop-t.t change formed.accepted c.requires.delivery (omega (arith, below)) c.loop-t.invariant.before quiet in
     let seen : IsSight (instant r.past (change + 1)) c.args.k c.args.det c.see.new.self =
     seen_at r formed c.entries-entries.result.now c.entries-entries.ensures c.args.run.now.clocks.now.events c.requires.clock c.args.k c.args.det c.requires.delivery c.loop-t.t change c.index-entries-change.result
-    c.next-change.ensures.mentions.least below quiet c.index-entries-change.is c.precedes.result c.precedes.ensures c.loop-t.sight c.see.new.self c.see.ensures c.loop-t.invariant.sight in
+    c.next-change.ensures.bounds.0 below quiet c.index-entries-change.is c.precedes.result c.precedes.ensures c.loop-t.sight c.see.new.self c.see.ensures c.loop-t.invariant.sight in
     let accepted = accepted_then r.processes r.past (change + 1) formed.accepted in
     let lasting : nat_le c.args.run.now.lasting_from (change + 1) ≡ true → c.args.run.now.lasting_from ≤ change + 1 = leb-true c.args.run.now.lasting_from (change + 1) in
     let over : IsOver r.processes c.args.f r.past (change + 1) c.args.det =
@@ -91,21 +90,21 @@ loop-t-preserved c =
     let r = c.args.run.now.trace.now.recording in
     let formed = c.len-end.ensures.formed in
     let change = c.next-change.result in
-    let below : change < length r.past = omega (arith, c.next-change.ensures.mentions.within, c.if-change-end.false, c.len-end.ensures.length) in
+    let below : change < length r.past = omega (arith, c.next-change.ensures.bounds, c.if-change-end.false, c.len-end.ensures.length) in
     let quiet : AreQuiet r.past c.loop-t.t change c.args.k c.args.det =
-    quiet_until r.processes r.past formed.accepted c.args.k c.args.det c.args.changes.now.mentions.now c.args.changes.now.turns.now c.args.changes.now.firsts.now c.requires.changes
-    c.loop-t.t c.len-end.result change c.next-change.ensures.mentions c.next-change.ensures.turns c.next-change.ensures.firsts (omega (arith, below)) in
+    quiet_until r.processes r.past formed.accepted c.args.k c.args.det c.args.changes.now c.requires.changes c.loop-t.t change (c.next-change.ensures.none c.args.changes.now c.loop-t.invariant.ahead) (omega (arith, below)) in
     let none : (u : ℕ) → u ≤ change → HasOrphan r.processes c.args.f (instant r.past u) c.args.k → ⊥ =
     still_none r.processes c.args.f r.past c.args.k c.args.det c.loop-t.t change formed.accepted c.requires.delivery (omega (arith, below)) c.loop-t.invariant.before quiet in
     let seen : IsSight (instant r.past (change + 1)) c.args.k c.args.det c.see.new.self =
     seen_at r formed c.entries-entries.result.now c.entries-entries.ensures c.args.run.now.clocks.now.events c.requires.clock c.args.k c.args.det c.requires.delivery c.loop-t.t change c.index-entries-change.result
-    c.next-change.ensures.mentions.least below quiet c.index-entries-change.is c.precedes.result c.precedes.ensures c.loop-t.sight c.see.new.self c.see.ensures c.loop-t.invariant.sight in
+    c.next-change.ensures.bounds.0 below quiet c.index-entries-change.is c.precedes.result c.precedes.ensures c.loop-t.sight c.see.new.self c.see.ensures c.loop-t.invariant.sight in
     let accepted = accepted_then r.processes r.past (change + 1) formed.accepted in
     let made : c.args.k < change + 1 → det_at (instant r.past (change + 1)) c.args.k ≡ Some c.args.det = λ early. det_then r.past (change + 1) c.args.k early (omega (arith, below)) ∙ c.requires.delivery in
     let long : length (instant r.past (change + 1)) ≡ change + 1 = instant_length r.past (change + 1) (omega (arith, below)) in
     let here : HasOrphan r.processes c.args.f (instant r.past (change + 1)) c.args.k → ⊥ = c.in_default.ensures r.processes (instant r.past (change + 1)) c.args.det accepted long made seen in
     record {
       within = omega (arith, below);
+      ahead = ahead_later c.args.changes.now c.loop-t.t (change + 1) c.next-change.new.self (omega (arith, c.next-change.ensures.bounds)) (c.next-change.ensures.ahead c.args.changes.now c.loop-t.invariant.ahead);
       sight = seen;
       before = up_to_next (λ u. HasOrphan r.processes c.args.f (instant r.past u) c.args.k → ⊥) change none here;
     }

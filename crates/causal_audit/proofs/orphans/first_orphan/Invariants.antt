@@ -1,12 +1,14 @@
 use Rattle.std.proofs.Common.{ℕ, ◌≤◌, ◌-◌, length}
 use Rattle.causal_trace.specs.Past.{instant}
 use Rattle.causal_trace.specs.Judgement.{HasOrphan}
+use Rattle.causal_audit.specs.Ahead.{AreAhead}
 use Rattle.causal_audit.specs.Sights.{IsSight}
 use Rattle.causal_audit.proofs.orphans.first_orphan.Given as goal
 
 abbrev pub invariant-loop-t : goal.invariant-loop-t
 invariant-loop-t l = record {
   within : l.t ≤ length l.run.trace.now.recording.past;
+  ahead : AreAhead l.changes l.t l.ahead;
   sight : IsSight (instant l.run.trace.now.recording.past l.t) l.k l.det l.sight;
   before : (u : ℕ) → u ≤ l.t → HasOrphan l.run.trace.now.recording.processes l.f (instant l.run.trace.now.recording.past u) l.k → ⊥;
 }

@@ -1,0 +1,28 @@
+-- The changes that are still ahead in a walk over them.
+use Rattle.std.specs.Prelude.{◌≡◌, ℕ, ◌<◌, ◌≤◌, List, Contains, slice_index_or}
+use Rattle.std.specs.List.Sorted.{IsNonDecreasing}
+use Rattle.causal_audit.specs.declared.changes.Changes.{Changes}
+use Rattle.causal_audit.specs.declared.changes.Ahead.{Ahead}
+use Rattle.causal_audit.specs.declared.cursor.Cursor.{Cursor}
+
+-- a cursor over an ascending list that has passed only numbers below `from`
+pub record IsCursor (list : List ℕ) (from : ℕ) (cursor : Cursor) : Type 0 where
+  pub over : cursor.list.now ≡ list
+  pub ascending : IsNonDecreasing list
+  pub passed : (i v : ℕ) → i < cursor.passed → slice_index_or list i v < from
+
+-- from `from` on the list has no number below `next`
+abbrev pub HasNoneUntil : List ℕ → ℕ → ℕ → Type 0
+HasNoneUntil list from next = (v : ℕ) → from ≤ v → v < next → Contains list v → ⊥
+
+-- cursors over the three lists that have passed only positions below `from`
+pub record AreAhead (changes : Changes) (from : ℕ) (ahead : Ahead) : Type 0 where
+  pub mentions : IsCursor changes.mentions.now from ahead.mentions
+  pub turns : IsCursor changes.turns.now from ahead.turns
+  pub firsts : IsCursor changes.firsts.now from ahead.firsts
+
+-- from `from` on none of the three lists has a position below `next`
+pub record AreNoneUntil (changes : Changes) (from next : ℕ) : Type 0 where
+  pub mentions : HasNoneUntil changes.mentions.now from next
+  pub turns : HasNoneUntil changes.turns.now from next
+  pub firsts : HasNoneUntil changes.firsts.now from next
