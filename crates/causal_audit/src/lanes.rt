@@ -18,7 +18,7 @@ use causal_name::NoMemory;
 use causal_trace::entry::Entry;
 use std::alloc::Global;
 
-/// How many lanes there can be.
+/// How many lanes there can be: one for each of 256 processes, and one for each of 192 restarts.
 pub const LANES: usize = 448;
 
 /// Whether an entry is a send or a delivery.
