@@ -25,7 +25,7 @@ use Rattle.causal_audit.proofs.Orphaned.{not_yet}
 
 -- ---- a quiet entry changes nothing
 
-no_turn_stays : (e : Entry) (past : List Entry) → is_turn e ≡ false → (p : ℕ) → IsNoTurn e past p
+pub no_turn_stays : (e : Entry) (past : List Entry) → is_turn e ≡ false → (p : ℕ) → IsNoTurn e past p
 no_turn_stays (Send from to ssn) past h p = (refl, refl)
 no_turn_stays (Deliver to send rsn listed) past h p = (refl, refl)
 no_turn_stays (Stable det) past h p = (refl, refl)
@@ -53,7 +53,7 @@ logs_stay (Crash who) past d h l p = absurd (false≢true (sym h))
 logs_stay (Restart who listed) past d h l p = absurd (false≢true (sym h))
 logs_stay (Forget who listed) past d h l p = and_unlisted (who.0 == p) (has listed d) (logs past p d) l
 
-stable_stays : (e : Entry) (past : List Entry) (d : Det) → has (mentioned_by e) d ≡ false → is_stable past d ≡ is_stable (e ∷ past) d
+pub stable_stays : (e : Entry) (past : List Entry) (d : Det) → has (mentioned_by e) d ≡ false → is_stable past d ≡ is_stable (e ∷ past) d
 stable_stays (Send from to ssn) past d l = refl
 stable_stays (Deliver to send rsn listed) past d l = refl
 stable_stays (Stable det) past d l = or_false (same_det d det) (is_stable past d) l

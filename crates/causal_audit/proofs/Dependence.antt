@@ -1,8 +1,8 @@
 -- What one more entry makes of who depends on a delivery.
-use Rattle.std.proofs.Common.{ℕ, ◌≡◌, ◌≢◌, ◌+◌, inl, inr, Bool, true, false, cond, List, [], ◌∷◌, length, Some, None, refl, sym, ap, subst, ◌∙◌}
+use Rattle.std.proofs.Common.{ℕ, ◌≡◌, ◌≢◌, ◌+◌, inl, inr, Bool, true, false, cond, List, ◌∷◌, length, Some, None, refl, sym, ap, subst, ◌∙◌}
 use Rattle.std.specs.Prelude.{◌⊎◌, ◌↔◌, ◌&&◌, ◌||◌, not}
 use Rattle.std.specs.Ordering.{nat_cmp}
-use Rattle.std.specs.FinSet.{FinSet, contains, insert, remove, empty, contains-empty}
+use Rattle.std.specs.FinSet.{FinSet, contains, insert, remove}
 use Rattle.std.proofs.lemmas.Bool.{false≢true, eq-eqb, ne_eqb}
 use Rattle.std.proofs.lemmas.Bool.Decides.{eqb_tells}
 use Rattle.causal_name.specs.declared.Pid.{Pid}
@@ -52,9 +52,6 @@ depends_before n e past k p formed same d = go d.present
       reached = reaches_old e past k (accepted_forward n (e ∷ past) formed) d.event (event_below past d.event p (lane (e ∷ past) p) h) d.reached;
     })
     go (inr h) = inr (h.1, subst (Reaches (e ∷ past) k) h.0 d.reached)
-
-pub depends_none : (k : ℕ) → AreDependents [] k empty
-depends_none k p = (λ h. absurd (false≢true (sym (contains-empty nat_cmp p) ∙ h)), λ d. absurd d.present)
 
 inserted_here : (s : FinSet nat_cmp) (p q : ℕ) → q ≡ p → contains (insert s p) q ≡ true
 inserted_here s p q same = inserted s p q ∙ ap (λ b. b || contains s q) (eq-eqb p q (sym same))

@@ -1,5 +1,5 @@
 -- Orphans, by what is known of a delivery at an instant.
-use Rattle.std.proofs.Common.{ℕ, ◌≡◌, ◌<◌, ◌≤◌, inl, inr, Bool, true, false, List, [], Some, refl, sym, ap, subst, ◌∙◌, arith}
+use Rattle.std.proofs.Common.{ℕ, ◌≡◌, ◌<◌, ◌≤◌, inl, inr, Bool, true, false, List, Some, refl, sym, ap, subst, ◌∙◌, arith}
 use Rattle.std.specs.Prelude.{◌&&◌, ◌||◌, not}
 use Rattle.std.specs.Ordering.{nat_cmp}
 use Rattle.std.specs.Cmp.{nat_cmp_total}
@@ -15,20 +15,19 @@ use Rattle.causal_trace.specs.Dependence.{Depends}
 use Rattle.causal_trace.specs.Rows.{AreAccepted}
 use Rattle.causal_trace.specs.Judgement.{HasOrphan, IsCrashSet, IsOrphan}
 use Rattle.causal_audit.specs.declared.sight.Sight.{Sight}
-use Rattle.causal_audit.specs.Sights.{IsSight}
+use Rattle.causal_audit.specs.Sights.{IsSight, IsUnheard, Shows}
 use Rattle.causal_audit.specs.Laws.{gone}
 use Rattle.causal_audit.specs.Verdicts.{IsLeastOrphan}
-use Rattle.causal_audit.proofs.Dependence.{depends_none}
 use Rattle.causal_audit.proofs.Judged.{exposed, crash_contains, orphan_without, gone_crash, gone_orphan}
 use Rattle.causal_audit.proofs.Legal.{event_inside}
 use Rattle.causal_audit.proofs.Shown.{shows_none, down_inside, logs_inside}
 
-pub sight_none : (k : ℕ) (d : Det) → IsSight [] k d (record { down = empty; holders = empty; stable = false; dependents = empty })
-sight_none k d = record {
-  down = shows_none (λ p. is_down [] p) (λ p. refl);
-  holders = shows_none (λ p. logs [] p d) (λ p. refl);
-  stable = refl;
-  dependents = depends_none k;
+pub sight_begun : (past : List Entry) (k : ℕ) (d : Det) (down : FinSet nat_cmp) → Shows down (λ p. is_down past p) → IsUnheard past k d → IsSight past k d (record { down = down; holders = empty; stable = false; dependents = empty })
+sight_begun past k d down shown none = record {
+  down = shown;
+  holders = shows_none (λ p. logs past p d) none.unlogged;
+  stable = sym none.unstable;
+  dependents = λ p. (λ has. absurd (false≢true (sym (contains-empty nat_cmp p) ∙ has)), λ depends. absurd (none.independent p depends));
 }
 
 not_parts : (a b : Bool) → (a && not b) ≡ true → (a ≡ true) × (b ≡ false)

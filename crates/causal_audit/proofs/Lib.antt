@@ -1,3 +1,4 @@
+pub mod Begun
 pub mod Between
 pub mod Changed
 pub mod Cursors
@@ -28,5 +29,6 @@ mod Prefix
 pub mod Shown
 pub mod Steps
 mod Subsets
+pub mod Turned
 pub mod VerdictLemmas
 pub mod Walked

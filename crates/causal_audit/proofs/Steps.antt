@@ -4,10 +4,9 @@ use Rattle.std.specs.Ordering.{nat_cmp}
 use Rattle.std.specs.FinSet.{FinSet, empty, len}
 use Rattle.std.proofs.lemmas.Bool.{cases_lt}
 use Rattle.std.proofs.lemmas.List.{length-reverse}
-use Rattle.causal_name.specs.declared.Det.{Det}
 use Rattle.causal_name.specs.Sets.{count_below}
 use Rattle.causal_trace.specs.declared.entry.Entry.{Entry}
-use Rattle.causal_trace.specs.Past.{instant, is_down, logs}
+use Rattle.causal_trace.specs.Past.{instant, is_down}
 use Rattle.causal_trace.specs.Rows.{Recording, IsWellFormed}
 use Rattle.causal_trace.specs.State.{past_at, entries_of}
 use Rattle.causal_trace.proofs.Instants.{past_more}
@@ -33,9 +32,6 @@ no_entry past = sym (read_instant past 0 (omega arith))
 
 pub nobody_down : (past : List Entry) → Shows empty (λ p. is_down (instant past 0) p)
 nobody_down past = shows_none (λ p. is_down (instant past 0) p) (λ p. ap (λ x. is_down x p) (no_entry past))
-
-pub nobody_holds : (past : List Entry) (d : Det) → Shows empty (λ p. logs (instant past 0) p d)
-nobody_holds past d = shows_none (λ p. logs (instant past 0) p d) (λ p. ap (λ x. logs x p d) (no_entry past))
 
 -- a set that shows who is down has as many members as are down
 pub down_count : (r : Recording) → IsWellFormed r → (t : ℕ) (s : FinSet nat_cmp) → Shows s (λ p. is_down (instant r.past t) p) → len s ≡ count_below r.processes (is_down (instant r.past t))

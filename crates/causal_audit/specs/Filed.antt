@@ -6,15 +6,18 @@ use Rattle.std.specs.Option.{option_map_or}
 use Rattle.std.specs.declared.hash.FoldHasher.{FoldHasher}
 use Rattle.std.specs.declared.hash.BuildHasherDefault.{BuildHasherDefault}
 use Rattle.std.specs.HashMap.{HashMap, get}
+use Rattle.std.specs.Ordering.{nat_cmp}
+use Rattle.std.specs.FinSet.{FinSet}
 use Rattle.causal_name.specs.declared.Det.{Det}
 use Rattle.causal_name.specs.Names.{same_det}
 use Rattle.causal_trace.specs.declared.entry.Entry.{Entry}
-use Rattle.causal_trace.specs.Past.{has}
+use Rattle.causal_trace.specs.Past.{has, instant, is_down}
 use Rattle.causal_trace.specs.Dependence.{IsEventOf}
 use Rattle.causal_clock.specs.declared.Event.{Event}
 use Rattle.causal_clock.specs.Timeline.{lane_of}
 use Rattle.causal_clock.specs.Precedence.{Reaches}
 use Rattle.causal_audit.specs.Changes.{HasMentions, HasTurns}
+use Rattle.causal_audit.specs.Sights.{Shows}
 
 -- a list ascends, and has only numbers below a bound
 pub record Ascends (bound : ℕ) (list : List ℕ) : Type 0 where
@@ -29,10 +32,12 @@ list_at lists m = slice_index_or lists m []
 abbrev pub with_added : List (List ℕ) → ℕ → ℕ → List (List ℕ)
 with_added lists m v = slice_set lists m (list_at lists m ++ v ∷ [])
 
--- the positions of the crashes and restarts
-pub record AreTurns (past : List Entry) (list : List ℕ) : Type 0 where
+-- the positions of the crashes and restarts, and who is down after each
+pub record AreTurns (past : List Entry) (list : List ℕ) (downs : List (FinSet nat_cmp)) : Type 0 where
   pub ascends : Ascends (length past) list
   pub turned : HasTurns past list
+  pub counted : length downs ≡ length list
+  pub shown : (i : ℕ) (s : FinSet nat_cmp) → i < length list → Shows (slice_index_or downs i s) (λ p. is_down (instant past (slice_index_or list i 0 + 1)) p)
 
 -- for each lane of the clock the positions of its sends and deliveries
 pub record AreLanes (past : List Entry) (events : List Event) (lanes : List (List ℕ)) : Type 0 where

@@ -1,6 +1,6 @@
 -- What is known of one delivery at a state: who is down, who holds its determinant, whether that is stable, and who
 -- depends on the delivery.
-use Rattle.std.specs.Prelude.{◌≡◌, ℕ, ◌↔◌, Bool, true, List, ◌∷◌, length, Some}
+use Rattle.std.specs.Prelude.{◌≡◌, ℕ, ◌↔◌, Bool, true, false, List, ◌∷◌, length, Some}
 use Rattle.std.specs.Ordering.{nat_cmp}
 use Rattle.std.specs.FinSet.{FinSet, contains}
 use Rattle.causal_name.specs.declared.Det.{Det}
@@ -27,3 +27,9 @@ pub record IsSight (past : List Entry) (k : ℕ) (d : Det) (s : Sight) : Type 0 
   pub holders : Shows s.holders (λ p. logs past p d)
   pub stable : s.stable ≡ is_stable past d
   pub dependents : AreDependents past k s.dependents
+
+-- nobody holds d, it is not stable, and nobody depends on the delivery at position k
+pub record IsUnheard (past : List Entry) (k : ℕ) (d : Det) : Type 0 where
+  pub unlogged : (p : ℕ) → logs past p d ≡ false
+  pub unstable : is_stable past d ≡ false
+  pub independent : (p : ℕ) → Depends past k p → ⊥

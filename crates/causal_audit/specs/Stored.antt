@@ -1,5 +1,7 @@
 -- What the tables of a recorded run keep of it.
 use Rattle.std.specs.Prelude.{ℕ, ◌≤◌, List, length}
+use Rattle.std.specs.Ordering.{nat_cmp}
+use Rattle.std.specs.FinSet.{FinSet}
 use Rattle.causal_trace.specs.Limits.{max_entries}
 use Rattle.causal_trace.specs.Rows.{Recording, IsWellFormed}
 use Rattle.causal_clock.specs.declared.Event.{Event}
@@ -17,10 +19,10 @@ pub record AreTables (r : Recording) (positions : List ℕ) (events : List Event
   pub stands : Stands r.past events
   pub lasting : NoneReleasedFrom r.past lasting_from
 
--- where something may change for a delivery: for each determinant the entries that mention it, the crashes and restarts,
--- and the events of each lane, of which there are few
-pub record AreIndexes (r : Recording) (events : List Event) (numbers : Numbers) (mentions : List (List ℕ)) (turns : List ℕ) (lanes : List (List ℕ)) : Type 0 where
+-- where something may change for a delivery: for each determinant the entries that mention it, the crashes and restarts
+-- with who is down after each, and the events of each lane, of which there are few
+pub record AreIndexes (r : Recording) (events : List Event) (numbers : Numbers) (mentions : List (List ℕ)) (turns : List ℕ) (downs : List (FinSet nat_cmp)) (lanes : List (List ℕ)) : Type 0 where
   pub mentioned : AreMentions r.past numbers mentions
-  pub turned : AreTurns r.past turns
+  pub turned : AreTurns r.past turns downs
   pub in_lanes : AreLanes r.past events lanes
   pub few : length lanes ≤ 448

@@ -2,7 +2,7 @@
 ghost use Rattle.std.specs.Prelude.{◌≤◌};
 ghost use Rattle.std.specs.List.Sorted.{IsNonDecreasing};
 ghost use Rattle.causal_audit.specs.declared.changes.Changes.{Changes};
-ghost use Rattle.causal_audit.specs.Ahead.{AreAhead, AreNoneUntil};
+ghost use Rattle.causal_audit.specs.Ahead.{AreAhead, AreNoneUntil, HasNoneUntil};
 
 use crate::cursor::Cursor;
 
@@ -24,6 +24,18 @@ pub struct Ahead<'a> {
 }
 
 impl<'a> Changes<'a> {
+    /// Where the walk for the delivery at k begins: at the first mention of its determinant, or at k if that comes first.
+    pub fn start(&self, k: u32) -> u32
+        requires mentions_ascend { IsNonDecreasing self.now.mentions.now }
+        ensures made { result ≤ k }
+        ensures unmentioned { HasNoneUntil self.now.mentions.now 0 result }
+    {
+        match self.mentions.first() {
+            Some(position) => (*position).min(k),
+            None => k,
+        }
+    }
+
     /// Those that are not below `from`.
     pub fn ahead(&self, from: u32) -> Ahead<'a>
         requires mentions_ascend { IsNonDecreasing self.now.mentions.now }

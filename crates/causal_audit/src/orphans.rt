@@ -7,6 +7,7 @@ ghost use Rattle.causal_trace.specs.Rows.{AreAccepted};
 ghost use Rattle.causal_audit.specs.BreachAt.{BreachAt};
 ghost use Rattle.causal_audit.specs.Breaches.{FirstBreach};
 ghost use Rattle.causal_audit.specs.Changes.{AreChanges};
+ghost use Rattle.causal_audit.specs.Filed.{AreTurns};
 ghost use Rattle.causal_audit.specs.Lasting.{NoneReleasedFrom};
 ghost use Rattle.causal_audit.specs.Sights.{IsSight};
 ghost use Rattle.causal_audit.specs.Stands.{Stands};
@@ -14,17 +15,19 @@ ghost use Rattle.causal_audit.specs.Stands.{Stands};
 use crate::breach::Breach;
 use crate::changes::Changes;
 use crate::sight::Sight;
+use crate::turns::Turns;
 use causal_clock::Clocks;
 use causal_name::Det;
 use causal_trace::trace::Trace;
 
-/// What is kept of a recorded run for each of its deliveries: the trace, a clock of its entries, and a position from which
-/// on no entry releases a process.
+/// What is kept of a recorded run for each of its deliveries: the trace, a clock of its entries, a position from which on
+/// no entry releases a process, and who is down after each crash and restart.
 #[derive(Clone, Copy)]
 pub struct Run<'a> {
     pub trace: &'a Trace,
     pub clocks: &'a Clocks,
     pub lasting_from: u32,
+    pub turns: &'a Turns,
 }
 
 /// How the delivery at position k has an orphan at the instant t; None where it has none. It has none before it is made.
@@ -45,8 +48,8 @@ fn breach_at(sight: &Sight, f: u16, k: u32, t: u32) -> Option<Breach>
 }
 
 /// How the delivery at position k, whose determinant this is, first has an orphan; None where it never has one. Only the
-/// instants after a change are looked at, until no later one can have an orphan: from `lasting_from` on no entry releases
-/// a process.
+/// instants after a change are looked at, from the delivery or the first mention of its determinant on, until no later one
+/// can have an orphan: from `lasting_from` on no entry releases a process.
 pub fn first_orphan(
     run: &Run<'_>,
     changes: &Changes<'_>,
@@ -56,15 +59,16 @@ pub fn first_orphan(
 ) -> Option<Breach>
     requires clock { Stands run.now.trace.now.recording.past run.now.clocks.now.events }
     requires lasting { NoneReleasedFrom run.now.trace.now.recording.past run.now.lasting_from }
+    requires turns { AreTurns run.now.trace.now.recording.past run.now.turns.now.positions.items run.now.turns.now.downs.items }
     requires delivery { det_at run.now.trace.now.recording.past k ≡ Some det }
     requires changes { AreChanges run.now.trace.now.recording.past k det changes.now.mentions.now changes.now.turns.now changes.now.firsts.now }
     ensures { FirstBreach run.now.trace.now.recording f k result }
 {
     let end = run.trace.len();
     let entries = run.trace.entries();
-    let mut sight = Sight::new();
-    let mut ahead = changes.ahead(0);
-    let mut t = 0;
+    let mut t = changes.start(k);
+    let mut ahead = changes.ahead(t);
+    let mut sight = Sight::begin(run.turns.down_at(t));
     while t < end {
         let change = ahead.next(t, end);
         if change == end {

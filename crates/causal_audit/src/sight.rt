@@ -1,6 +1,6 @@
 //! What is known of one delivery at an instant, and what one more entry makes of it. Where the delivery has an orphan is
 //! told by counting: no crash set is tried.
-ghost use Rattle.std.specs.Prelude.{◌≡◌, ◌∷◌, [], ℕ, List, MatchOption, Some, true};
+ghost use Rattle.std.specs.Prelude.{◌≡◌, ◌∷◌, ℕ, List, MatchOption, Some, true};
 ghost use Rattle.std.specs.FinSet as set;
 ghost use Rattle.causal_name.specs.declared.Det.{Det};
 ghost use Rattle.causal_trace.specs.declared.entry.Entry.{Entry};
@@ -9,7 +9,7 @@ ghost use Rattle.causal_trace.specs.Past.{det_at, has, is_down, is_stable, logs}
 ghost use Rattle.causal_trace.specs.Rows.{AreAccepted};
 ghost use Rattle.causal_trace.specs.Judgement.{HasOrphan};
 ghost use Rattle.causal_audit.specs.Lasting.{IsOverAt};
-ghost use Rattle.causal_audit.specs.Sights.{AreDependents, IsSight, Shows, TellsReach};
+ghost use Rattle.causal_audit.specs.Sights.{AreDependents, IsSight, IsUnheard, Shows, TellsReach};
 ghost use Rattle.causal_audit.specs.Verdicts.{IsLeastOrphan};
 
 use causal_holders::Holders;
@@ -140,12 +140,12 @@ fn dependents_after(dependents: Holders, entry: &Entry, reached: bool) -> Holder
 }
 
 impl Sight {
-    /// Before the first entry.
-    pub fn new() -> Sight
-        ensures { (k : ℕ) (d : Det) → IsSight [] k d result }
+    /// Where nothing is known of the delivery yet but who is down.
+    pub fn begin(down: Holders) -> Sight
+        ensures { (past : List Entry) (k : ℕ) (d : Det) → Shows down (λ p. is_down past p) → IsUnheard past k d → IsSight past k d result }
     {
         Sight {
-            down: Holders::none(),
+            down,
             holders: Holders::none(),
             stable: false,
             dependents: Holders::none(),

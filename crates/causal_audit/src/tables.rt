@@ -15,7 +15,7 @@ use crate::lanes::{LANES, lanes_of, write_firsts};
 use crate::mentions::{Mentions, mentions_in};
 use crate::orphans::{Run, first_orphan};
 use crate::releases::lasting_from;
-use crate::turns::turns_of;
+use crate::turns::{Turns, turns_of};
 use causal_clock::Clocks;
 use causal_name::{Det, NoMemory};
 use causal_trace::entry::Entry;
@@ -33,7 +33,7 @@ pub struct Tables {
     clocks: Clocks,
     lasting_from: u32,
     mentions: Mentions,
-    turns: Vec<u32>,
+    turns: Turns,
     lanes: Vec<Vec<u32>>,
 }
 
@@ -47,7 +47,7 @@ impl Model for Tables {
     ghost view = { λ a. a.trace.recording };
 
     ghost invariant = { λ a. AreTables a.trace.recording a.positions.items a.clocks.events a.lasting_from
-        × AreIndexes a.trace.recording a.clocks.events a.mentions.numbers (map (λ list. list.items) a.mentions.lists.items) a.turns.items (map (λ list. list.items) a.lanes.items) };
+        × AreIndexes a.trace.recording a.clocks.events a.mentions.numbers (map (λ list. list.items) a.mentions.lists.items) a.turns.positions.items a.turns.downs.items (map (λ list. list.items) a.lanes.items) };
 }
 
 impl Tables {
@@ -127,13 +127,14 @@ impl Tables {
             trace: &self.trace,
             clocks: &self.clocks,
             lasting_from: self.lasting_from,
+            turns: &self.turns,
         };
         let mut room = [0; LANES];
         let firsts = &mut room[..self.lanes.len()];
         write_firsts(firsts, &self.clocks, &self.lanes, k, self.entries());
         let changes = Changes {
             mentions: self.mentions.list(det),
-            turns: &self.turns,
+            turns: &self.turns.positions,
             firsts: &*firsts,
         };
         first_orphan(&run, &changes, f, k, det)

@@ -1,14 +1,41 @@
-//! The positions of the crashes and restarts.
+//! The positions of the crashes and restarts, and who is down after each.
 ghost use Rattle.std.specs.Prelude.{◌≡◌, ◌≤◌, ◌∷◌, ℕ, List, IfOk, length};
+ghost use Rattle.std.specs.List.Sorted.{IsNonDecreasing};
 ghost use Rattle.causal_trace.specs.declared.entry.Entry.{Entry};
 ghost use Rattle.causal_trace.specs.Limits.{max_entries};
+ghost use Rattle.causal_trace.specs.Past.{instant, is_down};
 ghost use Rattle.causal_trace.specs.State.{past_at};
 ghost use Rattle.causal_audit.specs.Quiet.{is_turn};
 ghost use Rattle.causal_audit.specs.Filed.{AreTurns};
+ghost use Rattle.causal_audit.specs.Sights.{Shows};
 
+use crate::sight::down_after;
+use causal_holders::Holders;
 use causal_name::NoMemory;
 use causal_trace::entry::Entry;
 use std::alloc::Global;
+
+/// The positions of the crashes and restarts, and for each who is down after it.
+#[derive(Drop)]
+pub struct Turns {
+    pub positions: Vec<u32>,
+    pub downs: Vec<Holders>,
+}
+
+impl Turns {
+    /// Who is down at the instant t: those who were after the last crash or restart before it.
+    pub fn down_at(&self, t: u32) -> Holders
+        requires ascending { IsNonDecreasing self.now.positions.items }
+        requires counted { length self.now.downs.items ≡ length self.now.positions.items }
+        ensures { (past : List Entry) → t ≤ length past → AreTurns past self.now.positions.items self.now.downs.items → Shows result (λ p. is_down (instant past t) p) }
+    {
+        let passed = self.positions.partition_point(|position| *position < t);
+        if passed == 0 {
+            return Holders::none();
+        }
+        self.downs[passed - 1]
+    }
+}
 
 /// Whether an entry is a crash or a restart.
 fn is_turn(entry: &Entry) -> bool
@@ -21,27 +48,36 @@ fn is_turn(entry: &Entry) -> bool
     }
 }
 
-/// Notes the position of an entry, if it is a crash or a restart.
-fn note_turn(turns: &mut Vec<u32>, entry: &Entry, i: u32) -> Result<(), NoMemory>
-    ensures { IfOk result (λ _. (past : List Entry) → length past ≡ i → AreTurns past turns.old.items → AreTurns (entry.now ∷ past) turns.new.items) }
+/// Notes the position of an entry after which these processes are down, if it is a crash or a restart.
+fn note_turn(turns: &mut Turns, entry: &Entry, down: Holders, i: u32) -> Result<(), NoMemory>
+    ensures { IfOk result (λ _. (past : List Entry) → length past ≡ i → Shows down (λ p. is_down (entry.now ∷ past) p) →
+        AreTurns past turns.old.positions.items turns.old.downs.items → AreTurns (entry.now ∷ past) turns.new.positions.items turns.new.downs.items) }
 {
     if !is_turn(entry) {
         return Ok(());
     }
-    match turns.push(i) {
-        Ok(()) => Ok(()),
-        Err(_) => Err(NoMemory),
+    if turns.positions.push(i).is_err() {
+        return Err(NoMemory);
     }
+    if turns.downs.push(down).is_err() {
+        return Err(NoMemory);
+    }
+    Ok(())
 }
 
-/// The positions of the crashes and restarts, in order.
-pub fn turns_of(alloc: Global, entries: &[Entry]) -> Result<Vec<u32>, NoMemory>
+/// The positions of the crashes and restarts, in order, and who is down after each.
+pub fn turns_of(alloc: Global, entries: &[Entry]) -> Result<Turns, NoMemory>
     requires { length entries.now ≤ max_entries }
-    ensures { IfOk result (λ turns. AreTurns (past_at entries.now (length entries.now)) turns.items) }
+    ensures { IfOk result (λ turns. AreTurns (past_at entries.now (length entries.now)) turns.positions.items turns.downs.items) }
 {
-    let mut turns = Vec::new(alloc);
+    let mut turns = Turns {
+        positions: Vec::new(alloc),
+        downs: Vec::new(alloc),
+    };
+    let mut down = Holders::none();
     for (i, entry) in entries.iter().enumerate() {
-        note_turn(&mut turns, entry, i as u32)?;
+        down = down_after(down, entry);
+        note_turn(&mut turns, entry, down, i as u32)?;
     }
     Ok(turns)
 }

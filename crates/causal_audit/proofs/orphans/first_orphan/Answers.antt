@@ -7,24 +7,28 @@ use Rattle.causal_trace.proofs.Reached.{event_below}
 use Rattle.causal_audit.specs.Lasting.{IsOver}
 use Rattle.causal_audit.specs.Quiet.{AreQuiet}
 use Rattle.causal_audit.specs.Sights.{IsSight}
+use Rattle.causal_audit.proofs.Begun.{unheard_until}
 use Rattle.causal_audit.proofs.Between.{still_none}
 use Rattle.causal_audit.proofs.Changed.{quiet_until, seen_at}
 use Rattle.causal_audit.proofs.Cursors.{ahead_later}
-use Rattle.causal_audit.proofs.Instants.{accepted_then, instant_length, det_then}
+use Rattle.causal_audit.proofs.Instants.{accepted_then, instant_length, det_then, det_within}
 use Rattle.causal_audit.proofs.Lasting.{orphans_end, over_from}
 use Rattle.causal_audit.proofs.Legal.{delivery_event}
-use Rattle.causal_audit.proofs.Steps.{no_entry, up_to_next}
+use Rattle.causal_audit.proofs.Steps.{up_to_next}
 use Rattle.causal_audit.proofs.Orphaned.{not_yet, first_breach_is}
 use Rattle.causal_audit.proofs.orphans.first_orphan.Goals as goal
 
 pub loop-t-init : goal.loop-t-init
 loop-t-init c =
     let r = c.args.run.now.trace.now.recording in
+    let start = c.start-t.result in
+    let within : start ≤ length r.past = omega (arith, c.start-t.ensures.made, det_within r.past c.args.k c.args.det c.requires.delivery) in
     record {
-      within = omega arith;
+      within = within;
       ahead = c.ahead-ahead.ensures;
-      sight = rw (no_entry r.past) (c.new-sight.ensures c.args.k c.args.det);
-      before = λ u h. not_yet r.processes c.args.f (instant r.past u) c.args.k (omega (arith, h, instant_length r.past u (omega (arith, h))));
+      sight = c.begin-sight.ensures (instant r.past start) c.args.k c.args.det (c.down_at.ensures r.past within c.requires.turns)
+          (unheard_until r.past c.args.k c.args.det c.args.changes.now.mentions.now start c.requires.changes.mentioned c.start-t.ensures.unmentioned c.start-t.ensures.made within);
+      before = λ u h. not_yet r.processes c.args.f (instant r.past u) c.args.k (omega (arith, h, c.start-t.ensures.made, instant_length r.past u (omega (arith, h, within))));
     }
 
 pub returns-then-change-end : goal.returns-then-change-end

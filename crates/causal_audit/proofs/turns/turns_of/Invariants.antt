@@ -1,7 +1,12 @@
+use Rattle.causal_trace.specs.Past.{is_down}
 use Rattle.causal_trace.specs.State.{past_at}
 use Rattle.causal_audit.specs.Filed.{AreTurns}
+use Rattle.causal_audit.specs.Sights.{Shows}
 use Rattle.causal_audit.proofs.turns.turns_of.Given as goal
 
--- those of the entries so far
+-- those of the entries so far, and who is down after these
 abbrev pub invariant-loop-i : goal.invariant-loop-i
-invariant-loop-i l = AreTurns (past_at l.entries l.i) l.turns.items
+invariant-loop-i l = record {
+  down : Shows l.down (λ p. is_down (past_at l.entries l.i) p);
+  turns : AreTurns (past_at l.entries l.i) l.turns.positions.items l.turns.downs.items;
+}

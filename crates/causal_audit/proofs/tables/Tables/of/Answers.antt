@@ -23,7 +23,7 @@ invariant_of-result c =
       },
       record {
         mentioned = subst (λ p. AreMentions p c.in_ok-mentions.mentions.numbers (map positions c.in_ok-mentions.mentions.lists.items)) whole c.in_ok-mentions.ensures;
-        turned = subst (λ p. AreTurns p c.in_ok-turns.turns.items) whole c.in_ok-turns.ensures;
+        turned = subst (λ p. AreTurns p c.in_ok-turns.turns.positions.items c.in_ok-turns.turns.downs.items) whole c.in_ok-turns.ensures;
         in_lanes = subst (λ p. AreLanes p c.in_ok-clocks.clocks.events (map positions c.in_ok-lanes.lanes.items)) whole c.in_ok-lanes.ensures.lanes;
         few = omega (arith, c.in_ok-lanes.ensures.few, length-map c.in_ok-lanes.lanes.items positions);
       },
