@@ -1,8 +1,8 @@
 -- What the tables of a recorded run keep of it.
-use Rattle.std.specs.Prelude.{ℕ, ◌≤◌, List, length}
+use Rattle.std.specs.Prelude.{ℕ, ◌+◌, ◌≤◌, List, length}
 use Rattle.std.specs.Ordering.{nat_cmp}
 use Rattle.std.specs.FinSet.{FinSet}
-use Rattle.causal_trace.specs.Limits.{max_entries}
+use Rattle.causal_trace.specs.Limits.{max_processes, max_entries, max_restarts}
 use Rattle.causal_trace.specs.Rows.{Recording, IsWellFormed}
 use Rattle.causal_clock.specs.declared.Event.{Event}
 use Rattle.causal_audit.specs.Filed.{AreLanes, AreMentions, AreTurns, Numbers}
@@ -25,4 +25,4 @@ pub record AreIndexes (r : Recording) (events : List Event) (numbers : Numbers) 
   pub mentioned : AreMentions r.past numbers mentions
   pub turned : AreTurns r.past turns downs
   pub in_lanes : AreLanes r.past events lanes
-  pub few : length lanes ≤ 448
+  pub few : length lanes ≤ max_processes + max_restarts

@@ -184,6 +184,7 @@ impl Sight {
             Some(orphan) => Some(Exposed { crash, orphan }),
         }
     }
+
     /// Whether the delivery has no orphan now or later: its determinant is stable, or more than f processes are down or
     /// hold it and `lasting` tells that no later entry releases one of them.
     pub fn is_over(self, f: u16, lasting: bool) -> bool
