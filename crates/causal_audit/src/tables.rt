@@ -146,10 +146,7 @@ fn note(positions: &mut Vec<u32>, entry: &Entry, i: u32) -> Result<(), NoMemory>
     ensures { IfOk result (λ _. (past : List Entry) → length past ≡ i → ArePositions past positions.old.items → ArePositions (entry.now ∷ past) positions.new.items) }
 {
     match entry {
-        Entry::Deliver { .. } => match positions.push(i) {
-            Ok(()) => Ok(()),
-            Err(_) => Err(NoMemory),
-        },
+        Entry::Deliver { .. } => Ok(positions.push(i)?),
         _ => Ok(()),
     }
 }

@@ -56,12 +56,8 @@ fn note_turn(turns: &mut Turns, entry: &Entry, down: Holders, i: u32) -> Result<
     if !is_turn(entry) {
         return Ok(());
     }
-    if turns.positions.push(i).is_err() {
-        return Err(NoMemory);
-    }
-    if turns.downs.push(down).is_err() {
-        return Err(NoMemory);
-    }
+    turns.positions.push(i)?;
+    turns.downs.push(down)?;
     Ok(())
 }
 
