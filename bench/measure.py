@@ -26,7 +26,6 @@ KIT_JSON = os.path.join(HERE, "out", "json_lines")
 TIME = shutil.which("time")
 LIMIT = 20.0  # seconds that one run may take
 SLOW = 5.0  # a run that takes so long is not repeated
-PARTS = 8  # the smaller traces are so many times below the limits
 FAULTS = ("0", "1", "3", "n")
 
 
@@ -106,7 +105,7 @@ def measure_in_turn(runs):
     """Runs whose times are compared, one after the other and again, so that a change of the machine's speed meets all of
     them: five to fifteen times each."""
     measured = [Measured() for _ in runs]
-    while len(measured[0].walls) < 5 or (len(measured[0].walls) < 15 and sum(sum(each.walls) for each in measured) < 1.0):
+    while len(measured[0].walls) < 5 or (len(measured[0].walls) < 15 and sum(sum(each.walls) for each in measured) < 2.0):
         for each, (command, path) in zip(measured, runs):
             once(command, path, each)
             if each.over:
@@ -141,8 +140,7 @@ class Row:
 
     def key(self):
         about = self.about
-        part = "1" if about["part"] == 1 else f"1/{about['part']}"
-        return f"{about['shape']} {about['variant']} {part}", about["f_word"], str(self.workers)
+        return f"{about['shape']} {about['variant']}", about["f_word"], str(self.workers)
 
     def check(self, measured, line, status):
         if not measured.over and (measured.line, measured.status) != (line, status):
@@ -157,7 +155,8 @@ def measure_row(row, program, path):
     if row.workers > 1:
         return
     row.lines = measure(["wc", "-l"], path)
-    row.python = measure([sys.executable, "-I", "-S", os.path.join(HERE, "json_lines.py")], path)
+    if (about["variant"], about["f_word"]) == ("safe", "1"):
+        row.python = measure([sys.executable, "-I", "-S", os.path.join(HERE, "json_lines.py")], path)
     unjudged = path if about["shape"] == "line" else misended(path, about)
     runs = [(command, unjudged)]
     if os.path.exists(KIT_JSON):
@@ -171,20 +170,18 @@ def measure_row(row, program, path):
         row.check(row.read, f"fault line={about['entries'] + 2} Count", 2)
     if kit:
         row.kit = kit[0]
-        row.check(row.kit, row.python.line, 0)
+        row.check(row.kit, row.lines.line.split()[0], 0)
 
 
 def plan():
-    """What is measured: shape, variant, f, part and workers, the most telling first."""
-    rows = [("lists", "safe", "1", 1, 1), ("line", "safe", "1", 1, 1)]
-    rows += [(shape, "safe", "1", 1, 1) for shape in generate.SHAPES if shape not in ("lists", "line")]
-    rows += [("lists", "safe", "1", 1, workers) for workers in (2, 4)]
+    """What is measured: shape, variant, f and workers, the most telling first."""
     shapes = [shape for shape in generate.SHAPES if shape != "line"]
-    for shape in shapes:
-        rows += [(shape, "safe", "1", PARTS, workers) for workers in (1, 2, 4)]
-        rows += [(shape, "safe", f, PARTS, 1) for f in FAULTS if f != "1"]
+    rows = [("lists", "safe", "1", 1), ("line", "safe", "1", 1)]
+    rows += [(shape, "safe", "1", 1) for shape in shapes if shape != "lists"]
+    rows += [(shape, "safe", "1", workers) for shape in shapes for workers in (2, 4)]
+    rows += [(shape, "safe", f, 1) for f in FAULTS if f != "1" for shape in shapes]
     for variant in ("breach", "stable"):
-        rows += [(shape, variant, f, PARTS, 1) for shape in shapes for f in FAULTS]
+        rows += [(shape, variant, f, 1) for f in FAULTS for shape in shapes]
     return rows
 
 
@@ -193,16 +190,16 @@ def path_of(text):
 
 
 def make_input(text):
-    shape, variant, f, part, seed = text
-    written, about = generate.make(shape, variant, f, part, seed)
-    with open(path_of(text[:4]), "w") as file:
+    shape, variant, f, seed = text
+    written, about = generate.make(shape, variant, f, 1, seed)
+    with open(path_of(text[:3]), "w") as file:
         file.write(written)
-    return text[:4], about
+    return text[:3], about
 
 
 def make_inputs(rows, seed):
     os.makedirs(INPUTS, exist_ok=True)
-    texts = list(dict.fromkeys((*row[:4], seed) for row in rows))
+    texts = list(dict.fromkeys((*row[:3], seed) for row in rows))
     with concurrent.futures.ProcessPoolExecutor(2) as pool:
         return dict(pool.map(make_input, texts))
 
@@ -268,8 +265,9 @@ def columns(row, before):
         cells["read peak MB"] = f"{read.peak / 1e3:.1f}"
         cells["judge s"] = f"over {LIMIT - read.best():.1f}" if full.over else f"{max(0.0, full.best() - read.best()):.3f}"
         cells["wc -l s"] = f"{row.lines.best():.3f}"
-        cells["Python JSON s"] = row.python.told()
-        cells["read / Python"] = f"{read.best() / row.python.best():.2f}"
+        if row.python is not None:
+            cells["Python JSON s"] = row.python.told()
+            cells["read / Python"] = f"{read.best() / row.python.best():.2f}"
         if row.kit is not None:
             cells["kit JSON s"] = row.kit.told()
             cells["kit JSON peak MB"] = f"{row.kit.peak / 1e3:.1f}"
@@ -309,7 +307,7 @@ def own_size(about):
 
 def worst(rows, ratio):
     """The greatest ratio, and the trace that has it."""
-    return max(((ratio(row), row.key()[0]) for row in rows), default=(None, "no trace"))
+    return max(((ratio(row), " ".join(row.key()[:2])) for row in rows), default=(None, "no trace"))
 
 
 def target_line(name, value, bound, over=False):
@@ -332,14 +330,16 @@ def lists_targets(row):
 
 def targets(rows):
     lines = ["| Target | At most | Measured | Met |", "|---|---|---|---|"]
-    row = next((row for row in rows if row.key() == ("lists safe 1", "1", "1") and row.full), None)
+    row = next((row for row in rows if row.key() == ("lists safe", "1", "1") and row.full), None)
     lines += lists_targets(row) if row else ["| not run | | | no |"]
-    limits = [row for row in rows if row.read and row.kit and row.about["part"] == 1]
-    for row in limits:
+    compared = [row for row in rows if row.read and row.kit]
+    for row in compared[: len(generate.SHAPES)]:
         name = f"reading and checking `{row.key()[0]}` / the kit's JSON reader"
         lines.append(target_line(name, row.read.best() / row.kit.best(), 1.3))
+    value, trace = worst(compared, lambda row: row.read.best() / row.kit.best())
+    lines.append(target_line(f"the same at worst, of all rows: `{trace}`", value, 1.3))
     # a fault keeps no trace
-    kept = [row for row in limits if row.about["shape"] != "line"]
+    kept = [row for row in compared if row.about["shape"] != "line"]
     value, trace = worst(kept, lambda row: (row.read.peak - row.kit.peak) * 1e3 / own_size(row.about))
     lines.append(target_line(f"memory beyond the kit's JSON reader's / the trace's own size, at worst: `{trace}`", value, 2.0))
     return lines
@@ -359,9 +359,8 @@ ABOUT = """\
 {shapes}
 - {variants}.
 
-A trace named `1` stands at the limits, one named `1/{part}` has every limit but the number of processes divided by {part}. *f* is
-the `--faults` of the run, for which the trace was made (`n`: as many as there are processes). No run is safe for f = 0 in
-which a process crashes, so there the right answer is `exceeded`.
+Every trace stands at a limit. *f* is the `--faults` of the run, for which the trace was made (`n`: as many as there are
+processes). No run is safe for f = 0 in which a process crashes, so there the right answer is `exceeded`.
 
 Each time is the best of three to five runs, with how much longer the longest was; of *read* and *kit JSON*, which run in
 turn, of five to fifteen. `once` stands beside a run of more than {slow:.0f} seconds, and `over {limit:.0f}` where it was stopped after
@@ -399,7 +398,6 @@ def report(rows, facts, before):
         targets="\n".join(targets(rows)),
         shapes="\n".join(f"- `{name}`: {text}." for name, text in generate.SHAPES.items()),
         variants="; ".join(f"`{name}`: {text}" for name, text in generate.VARIANTS.items()),
-        part=PARTS,
         slow=SLOW,
         limit=LIMIT,
         table=table_of(rows, before),
@@ -417,10 +415,10 @@ def main():
     load = os.getloadavg()[0]
     rows = plan()
     abouts = make_inputs(rows, given.seed)
-    rows = [Row(abouts[row[:4]], row[4]) for row in rows]
+    rows = [Row(abouts[row[:3]], row[3]) for row in rows]
     for row in rows:
         if time.monotonic() - start < given.seconds:
-            text = (row.about["shape"], row.about["variant"], row.about["f_word"], row.about["part"])
+            text = (row.about["shape"], row.about["variant"], row.about["f_word"])
             measure_row(row, given.program, path_of(text))
             print(*row.key(), row.full.told(), *row.wrong, file=sys.stderr, flush=True)
     facts = {
