@@ -9,7 +9,7 @@ use Rattle.std.proofs.lemmas.List.Sums.{sum_by-append}
 use Rattle.causal_clock.specs.declared.Event.{Event}
 use Rattle.causal_clock.specs.Timeline.{lane_of, send_of, lane_length, place_of}
 use Rattle.causal_clock.specs.Precedence.{DirectlyPrecedes, Reaches, itself, onward, FirstReach}
-use Rattle.causal_clock.specs.Kept.{LastOf}
+use Rattle.causal_clock.specs.Inside.Kept.{LastOf}
 
 -- ---- a list with one more event
 

@@ -1,45 +1,65 @@
--- The events and the counters that the entries stand for.
-use Rattle.std.specs.Prelude.{◌≡◌, ℕ, ◌<◌, ◌≤◌, ◌++◌, ◌∷◌, Option, Some, None, List, [], length, map, slice_index}
-use Rattle.std.proofs.Common.{refl, ap, sym, ◌∙◌, get_or}
-use Rattle.std.proofs.Math.ListN.{get_or-append, get_or-eq_default}
-use Rattle.std.proofs.Math.Seq.{get_or-append_seam}
+-- What the entries stand for, and what a clock keeps where no event comes.
+use Rattle.std.specs.Prelude.{◌≡◌, ℕ, ◌<◌, ◌≤◌, Option, Some, None, List, [], ◌∷◌, ◌++◌, length, map, slice_index}
+use Rattle.std.proofs.Common.{suc, refl, arith, ap, sym, ◌∙◌, subst, inl, inr, get_or, length-append}
+use Rattle.std.proofs.Math.ListN.{get_or-eq_default}
+use Rattle.std.proofs.lemmas.Bool.Decides.{leb_tells}
 use Rattle.std.proofs.lemmas.List.{get_or-map, length-map}
 use Rattle.causal_clock.specs.declared.Event.{Event}
 use Rattle.causal_clock.specs.declared.Entry.{Entry}
-use Rattle.causal_clock.specs.Timeline.{lane_of}
-use Rattle.causal_clock.specs.Kept.{count_or_none}
-use Rattle.causal_clock.specs.Inside.{row_at, row_or_none, counter_at}
-
-abbrev pub rows_in : List Entry → List (List ℕ)
-rows_in entries = map (λ x. x.counters.items) entries
+use Rattle.causal_clock.specs.declared.column.Rise.{Rise}
+use Rattle.causal_clock.specs.Timeline.{lane_of, lane_length}
+use Rattle.causal_clock.specs.Inside.Kept.{LastOf, Keeps}
+use Rattle.causal_clock.specs.Inside.Fields.{counts_in, KeepsColumns}
+use Rattle.causal_clock.proofs.Columns.{no_column}
+use Rattle.causal_clock.proofs.Lanes.{told_default}
+use Rattle.causal_clock.proofs.Steps.{keeps_none, keeps_lane}
 
 abbrev pub events_in : List Entry → List Event
 events_in entries = map (λ x. x.event) entries
 
-pub row_of_entry : (entries : List Entry) (j : ℕ) (x : Entry) → x ≡ get_or entries j x → j < length entries → row_at (rows_in entries) j ≡ x.counters.items
-row_of_entry entries j x is h = get_or-map (λ y. y.counters.items) entries j x [] h ∙ ap (λ (y : Entry). y.counters.items) (sym is)
+abbrev pub places_in : List Entry → List ℕ
+places_in entries = map (λ x. x.place) entries
 
 pub lane_of_entry : (entries : List Entry) (j : ℕ) (x : Entry) → x ≡ get_or entries j x → j < length entries → lane_of (events_in entries) j ≡ x.event.lane
 lane_of_entry entries j x is h = ap (λ (e : Event). e.lane) (get_or-map (λ y. y.event) entries j x _ h) ∙ ap (λ (y : Entry). y.event.lane) (sym is)
 
-pub as_many_entries : (entries : List Entry) → length (events_in entries) ≡ length entries
-as_many_entries entries = simp length-map
+pub place_of_entry : (entries : List Entry) (j : ℕ) (x : Entry) → x ≡ get_or entries j x → j < length entries → slice_index (places_in entries) j ≡ x.place
+place_of_entry entries j x is h = get_or-map (λ y. y.place) entries j x 0 h ∙ ap (λ (y : Entry). y.place) (sym is)
 
-pub as_many_rows : (entries : List Entry) → length (rows_in entries) ≡ length entries
-as_many_rows entries = simp length-map
+pub as_many_events : (entries : List Entry) → length (events_in entries) ≡ length entries
+as_many_events entries = simp length-map
 
--- ---- rows as counts
+pub as_many_places : (entries : List Entry) → length (places_in entries) ≡ length entries
+as_many_places entries = simp length-map
 
-pub counts_of_row : (rows : List (List ℕ)) (event : Option ℕ) (lane : ℕ) → slice_index (row_or_none rows event) lane ≡ count_or_none (counter_at rows) event lane
-counts_of_row rows None lane = refl
-counts_of_row rows (Some j) lane = refl
+-- what is kept says nothing of how columns are stored
+pub keeps_same : (es : List Event) (places lengths : List ℕ) (column column' : ℕ → ℕ → List Rise) → ((lane source : ℕ) → column' lane source ≡ column lane source) → KeepsColumns es places lengths column → KeepsColumns es places lengths column'
+keeps_same es places lengths column column' same k = subst (KeepsColumns es places lengths) (λ i lane source. sym (same lane source) i) k
 
-pub counter_at-old : (rows : List (List ℕ)) (row : List ℕ) (j lane : ℕ) → j < length rows → counter_at (rows ++ row ∷ []) j lane ≡ counter_at rows j lane
-counter_at-old rows row j lane h = ap (λ (r : List ℕ). slice_index r lane) (get_or-append rows (row ∷ []) [] j h)
+-- with no event nothing is kept
+pub keeps_nothing : (places lengths : List ℕ) (column : ℕ → ℕ → List Rise) → ((lane : ℕ) → slice_index lengths lane ≡ 0) → ((lane source : ℕ) → column lane source ≡ []) → KeepsColumns [] places lengths column
+keeps_nothing places lengths column none empty = record {
+  keeps = keeps_none (counts_in [] column) (length lengths);
+  places = λ j lt. absurd (omega arith);
+  lengths = λ lane lt. none lane;
+  columns = λ lane source. rw (empty lane source) (no_column 0 0);
+}
 
-pub counter_at-new : (rows : List (List ℕ)) (row : List ℕ) (j lane : ℕ) → j ≡ length rows → counter_at (rows ++ row ∷ []) j lane ≡ slice_index row lane
-counter_at-new rows row j lane is = ap (λ (k : ℕ). counter_at (rows ++ row ∷ []) k lane) is ∙ ap (λ (r : List ℕ). slice_index r lane) (get_or-append_seam rows row [] [])
+-- a lane that is not there has no events
+pub no_events : (es : List Event) (counts : ℕ → ℕ → ℕ) (lanes lane : ℕ) → Keeps es counts lanes → lanes ≤ lane → (event : Option ℕ) → LastOf es event lane → lane_length es lane ≡ 0
+no_events es counts lanes lane k past None last = last.empty refl
+no_events es counts lanes lane k past (Some p) last = let at = last.inside p refl in absurd (omega (arith, k.lanes p at.0, at.1, past))
 
--- a lane without a counter counts 0
-pub counter_past : (row : List ℕ) (lane : ℕ) → length row ≤ lane → slice_index row lane ≡ 0
-counter_past row lane h = get_or-eq_default row 0 h
+-- one more lane
+pub keeps_open : (es : List Event) (places lengths : List ℕ) (column : ℕ → ℕ → List Rise) → KeepsColumns es places lengths column → KeepsColumns es places (lengths ++ 0 ∷ []) column
+keeps_open es places lengths column k = record {
+  keeps = rw (length-append lengths (0 ∷ [])) (keeps_lane es (counts_in es column) (length lengths) k.keeps);
+  places = k.places;
+  lengths = λ lane lt. told_default lengths 0 0 refl lane ∙ elim (leb_tells (suc lane) (length lengths)) [
+    | inl old ↦ k.lengths lane old.1
+    | inr new ↦
+        let past : length lengths ≤ lane = omega (arith, new.1) in
+        get_or-eq_default lengths 0 past ∙ sym (no_events es (counts_in es column) (length lengths) lane k.keeps past (k.keeps.last lane).0 (k.keeps.last lane).1)
+  ];
+  columns = k.columns;
+}

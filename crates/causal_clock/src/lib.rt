@@ -2,20 +2,27 @@
 //!
 //! A lane is one incarnation of a process: its events follow one another, and a receive also follows its send. Which
 //! event happened before which is Lamport's relation ("Time, Clocks, and the Ordering of Events in a Distributed
-//! System", CACM 21(7), 1978), here with each event also before itself. A clock keeps for each event one counter for
-//! each lane, so that a question costs one comparison.
+//! System", CACM 21(7), 1978), here with each event also before itself.
+//!
+//! Begin at [`Clocks`]: [`Clocks::new`], then [`Clocks::local`] and [`Clocks::receive`] for each event as it comes, and
+//! [`Clocks::precedes`] and [`Clocks::reach`] for the questions. [`laws`] says what the relation is like.
+//!
+//! A clock keeps no row of counters for an event, but for each lane and each source lane a column: where in the lane the
+//! count of the source's events rose. What it costs stands at [`Clocks`].
 #![tactic(auto)]
 
+mod column;
+mod lane;
 pub mod laws;
 
-ghost use Rattle.std.specs.Prelude.{◌≡◌, ℕ, ◌+◌, ◌<◌, ◌≤◌, ◌↔◌, [], length, map, IsTrue, IfOk, IfErr, OnOk, OnErr, Some, None, slice_index};
+ghost use Rattle.std.specs.Prelude.{◌≡◌, ◌≢◌, ℕ, ◌+◌, ◌<◌, ◌≤◌, ◌↔◌, [], ◌∷◌, ◌++◌, length, vec_len, vec_capacity, IsTrue, IfOk, IfErr, OnOk, OnErr, Some, None, slice_index};
 ghost use Rattle.std.specs.Option.{ForSome};
 ghost use Rattle.causal_clock.specs.Timeline.{lane_of, with_event, with_lane};
 ghost use Rattle.causal_clock.specs.Precedence.{Reaches, FirstReach};
-ghost use Rattle.causal_clock.specs.Kept.{merged};
-ghost use Rattle.causal_clock.specs.Inside.{row_or_none};
+ghost use Rattle.causal_clock.specs.Inside.Lanes.{AreEmpty};
 ghost use Rattle.causal_clock.specs.declared.ClockFault.TheVariants.{NoMemory};
 
+use crate::lane::Lane;
 use std::alloc::{AllocError, AllocFailed, Global};
 use std::marker::Model;
 use thiserror::Error;
@@ -43,7 +50,7 @@ pub enum ClockFault {
     #[error("no further lane can be opened")]
     Lanes,
     /// Memory was asked for and refused.
-    #[error("out of memory")]
+    #[error("no memory")]
     NoMemory,
 }
 
@@ -63,22 +70,27 @@ impl<T: Drop> From<AllocFailed<T>> for ClockFault {
     }
 }
 
-/// An event, and how many events of each lane precede or equal it.
-#[derive(Drop)]
+/// An event, and how many events of its own lane came before it.
+#[derive(Clone, Copy)]
 struct Entry {
     event: Event,
-    counters: Vec<u32>,
+    place: u16,
 }
 
 /// A growing list of events in lanes, which answers which of them happened before which.
 ///
 /// Lanes and events are numbered from 0 in the order in which they came. Contracts see the number of lanes, how many of
 /// them were opened after the start, and the list of events.
+///
+/// What it costs: an event 16 bytes, and nothing for each lane. A receive adds 4 bytes for each lane of which it brings
+/// news, at most twice that with what growing leaves spare, so a column has no more items than its source lane has
+/// events. A lane that receives has a column of 24 bytes for each lane, 4.8 MB in all where 448 lanes receive. A receive
+/// takes time for each lane, and a question the logarithm of how many rises of one column stand after what is asked.
 #[derive(Drop)]
 pub struct Clocks {
     alloc: Global,
     entries: Vec<Entry>,
-    last: Vec<Option<u32>>,
+    lanes: Vec<Lane>,
     opened: u32,
 }
 
@@ -87,7 +99,7 @@ impl Model for Clocks {
 
     ghost Value = { Timeline };
 
-    ghost use Rattle.causal_clock.specs.Inside.{timeline_of, IsClock};
+    ghost use Rattle.causal_clock.specs.Inside.Fields.{timeline_of, IsClock};
 
     ghost view = { timeline_of };
 
@@ -103,10 +115,11 @@ impl Clocks {
         ensures ok { IfOk result (λ clocks. clocks ≡ record { lanes = lanes; opened = 0; events = [] }) }
         ensures refusal { IfErr result (λ fault. fault ≡ ClockFault.NoMemory) }
     {
+        let count = usize::from(lanes);
         Ok(Self {
             alloc,
             entries: Vec::new(alloc),
-            last: vec![in alloc; None; usize::from(lanes)]?,
+            lanes: first_lanes(alloc, count)?,
             opened: 0,
         })
     }
@@ -124,7 +137,7 @@ impl Clocks {
         ensures counted { result ≡ self.now.lanes }
         ensures few { result ≤ FIRST_LANES + OPENED_LANES }
     {
-        self.last.len() as u32
+        self.lanes.len() as u32
     }
 
     /// The lane of an event, which exists.
@@ -149,8 +162,8 @@ impl Clocks {
         if self.opened >= OPENED_LANES {
             return Err(ClockFault::Lanes);
         }
-        let lane = self.last.len() as u32;
-        self.last.push(None)?;
+        let lane = self.lanes.len() as u32;
+        self.lanes.push(Lane::new(self.alloc))?;
         self.opened += 1;
         Ok(lane)
     }
@@ -165,7 +178,12 @@ impl Clocks {
         ensures unchanged { OnErr result (self.new ≡ self.old) }
         ensures refusal { IfErr result (λ fault. fault ≡ ClockFault.NoMemory) }
     {
-        self.append(Event { lane, send: None })
+        self.entries.reserve(1)?;
+        Ok(append(
+            &mut self.entries,
+            &mut self.lanes[lane as usize],
+            Event { lane, send: None },
+        ))
     }
 
     /// Appends an event of that lane which receives what an earlier event sent, and answers its number. The lane and the
@@ -180,29 +198,36 @@ impl Clocks {
         ensures unchanged { OnErr result (self.new ≡ self.old) }
         ensures refusal { IfErr result (λ fault. fault ≡ ClockFault.NoMemory) }
     {
-        self.append(Event {
+        let counts = self.counts_of(send_event, lane)?;
+        self.entries.reserve(1)?;
+        let own = &mut self.lanes[lane as usize];
+        own.make_room(self.alloc, counts.as_slice())?;
+        own.raise(counts.as_slice());
+        let event = Event {
             lane,
             send: Some(send_event),
-        })
+        };
+        Ok(append(&mut self.entries, own, event))
     }
 
-    fn append(&mut self, event: Event) -> Result<u32, ClockFault>
-        requires lane { event.lane < self.old.lanes }
-        requires sent { ForSome event.send (λ s. s < length self.old.events) }
-        requires room { length self.old.events < EVENTS }
-        ensures number { IfOk result (λ number. number ≡ length self.old.events) }
-        ensures appended { OnOk result (self.new ≡ with_event self.old event) }
-        ensures unchanged { OnErr result (self.new ≡ self.old) }
-        ensures refusal { IfErr result (λ fault. fault ≡ ClockFault.NoMemory) }
+    // How many events of each lane reach an event; of the lane `own` none, since no column has them.
+    fn counts_of(&self, event: u32, own: u32) -> Result<Vec<u16>, AllocError>
+        requires event { event < length self.now.events }
+        requires room { length self.now.events < EVENTS }
+        ensures count { IfOk result (λ counts. length counts.items ≡ self.now.lanes) }
+        ensures own { IfOk result (λ counts. slice_index counts.items own ≡ 0) }
+        ensures each { IfOk result (λ counts. (lane : ℕ) → lane < self.now.lanes → lane ≢ own →
+            FirstReach self.now.events event lane (slice_index counts.items lane)) }
     {
-        let lane = event.lane as usize;
-        let previous = counters_of(&self.entries, self.last[lane]);
-        let sent = counters_of(&self.entries, event.send);
-        let counters = merge(self.alloc, self.last.len(), lane, previous, sent)?;
-        let number = self.len();
-        self.entries.push(Entry { event, counters })?;
-        self.last[lane] = Some(number);
-        Ok(number)
+        let mut counts = Vec::with_capacity(self.alloc, self.lanes.len())?;
+        for lane in 0..self.lanes() {
+            counts.push(if lane == own {
+                0
+            } else {
+                self.reach(event, lane) as u16
+            })?;
+        }
+        Ok(counts)
     }
 
     /// Whether event i is event j, or happened before it. Both exist.
@@ -211,10 +236,8 @@ impl Clocks {
         requires later { j < length self.now.events }
         ensures { IsTrue result ↔ Reaches self.now.events i j }
     {
-        let first = &self.entries[i as usize];
-        let second = &self.entries[j as usize];
-        let lane = first.event.lane as usize;
-        counter(&first.counters, lane) <= counter(&second.counters, lane)
+        let first = self.entries[i as usize];
+        u32::from(first.place) < self.reach(j, first.event.lane)
     }
 
     /// How many of the lane's events precede or equal that event: they are the lane's first ones. The event and the lane
@@ -224,48 +247,40 @@ impl Clocks {
         requires lane { lane < self.now.lanes }
         ensures { FirstReach self.now.events event lane result }
     {
-        counter(&self.entries[event as usize].counters, lane as usize)
+        let entry = self.entries[event as usize];
+        if entry.event.lane == lane {
+            u32::from(entry.place) + 1
+        } else {
+            u32::from(self.lanes[entry.event.lane as usize].count_at(lane, entry.place))
+        }
     }
 }
 
-// A lane's counter. A lane that was opened after the event has none there.
-fn counter(counters: &[u32], lane: usize) -> u32
-    ensures { result ≡ slice_index counters.now lane }
+// That many lanes with no event.
+fn first_lanes(alloc: Global, count: usize) -> Result<Vec<Lane>, AllocError>
+    ensures { IfOk result (λ lanes. AreEmpty lanes.items count) }
 {
-    counters.get(lane).copied().unwrap_or(0)
+    let mut lanes = Vec::with_capacity(alloc, count)?;
+    for _ in 0..count {
+        lanes.push(Lane::new(alloc))?;
+    }
+    Ok(lanes)
 }
 
-// The counters of an event, or none where there is no event.
-fn counters_of(entries: &[Entry], event: Option<u32>) -> &[u32]
-    requires { ForSome event (λ j. j < length entries.now) }
-    ensures { result.now ≡ row_or_none (map (λ x. x.counters.items) entries.now) event }
+// Appends an event of the lane, for which there is room, and answers its number.
+fn append(entries: &mut Vec<Entry>, lane: &mut Lane, event: Event) -> u32
+    requires place { lane.old.events < EVENTS }
+    requires few { vec_len entries.old < EVENTS }
+    requires room { vec_len entries.old < vec_capacity entries.old }
+    ensures number { result ≡ vec_len entries.old }
+    ensures appended { entries.new.items ≡ entries.old.items ++ record { event = event; place = lane.old.events } ∷ [] }
+    ensures counted { lane.new ≡ record lane.old { events = lane.old.events + 1 } }
 {
-    match event {
-        Some(event) => &entries[event as usize].counters,
-        None => &[],
-    }
-}
-
-// The greater of two counters in each lane, and one more in the event's own.
-fn merge(
-    alloc: Global,
-    lanes: usize,
-    own: usize,
-    previous: &[u32],
-    sent: &[u32],
-) -> Result<Vec<u32>, AllocError>
-    requires previous { (k : ℕ) → slice_index previous.now k ≤ EVENTS }
-    requires sent { (k : ℕ) → slice_index sent.now k ≤ EVENTS }
-    ensures count { IfOk result (λ counters. length counters.items ≡ lanes) }
-    ensures each { IfOk result (λ counters. (k : ℕ) → k < lanes →
-        slice_index counters.items k ≡ merged (slice_index previous.now k) (slice_index sent.now k) own k) }
-{
-    let mut counters = Vec::new(alloc);
-    for lane in 0..lanes {
-        let most = counter(previous, lane).max(counter(sent, lane));
-        counters.push(if lane == own { most + 1 } else { most })?;
-    }
-    Ok(counters)
+    let number = entries.len() as u32;
+    let place = lane.events as u16;
+    entries.push_reserved(Entry { event, place });
+    lane.events += 1;
+    number
 }
 
 #[cfg(test)]

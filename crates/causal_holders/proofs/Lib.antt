@@ -1,5 +1,3 @@
-pub mod Counting
-pub mod CrashLaw
+pub mod Lemmas
 pub mod Order
-pub mod Sets
 pub mod Words

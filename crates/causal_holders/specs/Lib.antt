@@ -1,5 +1,2 @@
-pub mod CrashSets
+pub mod Inside
 pub mod Members
-pub mod Same
-pub mod Words
-pub mod WordsTold

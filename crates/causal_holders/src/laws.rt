@@ -6,29 +6,8 @@ ghost use Rattle.std.specs.Ordering.{nat_cmp};
 ghost use Rattle.std.specs.FinSet as set;
 ghost use Rattle.causal_name.specs.Sets.{count_below, either, IsWithin};
 ghost use Rattle.causal_holders.specs.declared.TheConstants.{PROCESSES};
-ghost use Rattle.causal_holders.specs.CrashSets.{IsCrashSet, IsOrphan, CanOrphan, AreUp};
 ghost use Rattle.causal_holders.specs.Members.{AreProcesses, ascending, HasMembers};
-ghost use Rattle.causal_holders.specs.Same.{have_same_members};
-
-/// Whether a crash can orphan a process is a matter of counting: no crash set need be tried.
-///
-/// `exactly`: some crash set, which has at most f members and contains those that are down, contains all holders and
-/// leaves out a dependent, exactly where the down processes and the holders together are at most f and not all
-/// dependents are holders. `least`: their union is in each such set. `itself`: it is such a set, and the dependents that
-/// hold nothing are its orphans. (The notions are those of Elnozahy, Alvisi, Wang and Johnson 2002; the bound f on the
-/// processes that are down together is this project's.)
-pub fn crash_law()
-    ensures exactly { (down holders dependents : set.FinSet nat_cmp) (f : ℕ) → AreUp down dependents →
-        CanOrphan down holders dependents f ↔
-        ((set.len (set.union down holders) ≤ f) × (set.is_subset dependents holders ≡ false)) }
-    ensures least { (down holders dependents crash : set.FinSet nat_cmp) (f p : ℕ) → IsCrashSet down f crash →
-        IsOrphan holders dependents crash p → set.is_subset (set.union down holders) crash ≡ true }
-    ensures itself { (down holders dependents : set.FinSet nat_cmp) (f p : ℕ) → AreUp down dependents →
-        set.len (set.union down holders) ≤ f →
-        set.contains (set.difference dependents holders) p ≡ true →
-        IsCrashSet down f (set.union down holders)
-        × IsOrphan holders dependents (set.union down holders) p }
-{}
+ghost use Rattle.causal_holders.specs.Inside.Same.{have_same_members};
 
 /// The list that [`crate::Holders::iter`] gives has just the members, ascends, and has each once.
 pub fn ascending_law()

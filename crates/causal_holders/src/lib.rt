@@ -1,4 +1,4 @@
-//! Sets of processes by their numbers, and the law that tells whether a crash can orphan a process.
+//! Sets of processes by their numbers. Begin at [`Holders`]; [`laws`] says what its sets are to tests of numbers.
 //!
 //! A set is four words of which each bit is one process, so that union, difference and number of members are a few word
 //! operations, and a set is copied like a number.
@@ -36,8 +36,8 @@ impl Model for Holders {
     ghost use Rattle.std.specs.FinSet as set;
     ghost use Rattle.std.specs.Coded.{coded_ℕ};
     ghost use Rattle.causal_holders.specs.declared.TheConstants.{PROCESSES};
-    ghost use Rattle.causal_holders.specs.Words.{numbers_below, has_member, words_of, AreWords};
-    ghost use Rattle.causal_holders.specs.WordsTold.{words_shown};
+    ghost use Rattle.causal_holders.specs.Inside.Words.{numbers_below, has_member, words_of, AreWords};
+    ghost use Rattle.causal_holders.specs.Inside.WordsTold.{words_shown};
 
     ghost Value = { set.FinSet nat_cmp };
 
@@ -144,7 +144,7 @@ impl Holders {
 }
 
 impl PartialEq for Holders {
-    ghost use Rattle.causal_holders.specs.Same.{have_same_members, same_members_laws};
+    ghost use Rattle.causal_holders.specs.Inside.Same.{have_same_members, same_members_laws};
 
     ghost eq = { have_same_members };
 
@@ -156,7 +156,7 @@ impl PartialEq for Holders {
 }
 
 impl Eq for Holders {
-    ghost use Rattle.causal_holders.specs.Same.{same_members_equivalence};
+    ghost use Rattle.causal_holders.specs.Inside.Same.{same_members_equivalence};
 
     ghost laws = { same_members_equivalence };
 }

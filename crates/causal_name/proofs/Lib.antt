@@ -1,1 +1,1 @@
-pub mod DetOrder
+pub mod Lemmas

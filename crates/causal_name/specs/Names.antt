@@ -43,12 +43,15 @@ is_ascending [] = true
 is_ascending (d ∷ []) = true
 is_ascending (d ∷ e ∷ ds) = is_before d e && is_ascending (e ∷ ds)
 
--- whether two processes, two messages and two determinants are the same
+-- whether two processes, two messages, two slots and two determinants are the same
 abbrev pub same_pid : Pid → Pid → Bool
 same_pid a b = a.0 == b.0
 
 abbrev pub same_message : MsgName → MsgName → Bool
 same_message a b = same_pid a.source b.source && a.ssn == b.ssn
+
+abbrev pub same_slot : Slot → Slot → Bool
+same_slot a b = same_pid a.dest b.dest && a.rsn == b.rsn
 
 abbrev pub same_det : Det → Det → Bool
 same_det a b = same_pid a.source b.source && (a.ssn == b.ssn && (same_pid a.dest b.dest && a.rsn == b.rsn))

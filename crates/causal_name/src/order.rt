@@ -1,7 +1,7 @@
-//! That the derived orders are lexicographic and the derived equalities exact. Callers compare by `<` and `==`; a proof
-//! in another crate can't look into a derived comparison, and cites these.
+//! That the derived orders are lexicographic and the derived equalities exact. Callers compare by `<` and `==`; these say
+//! what the comparisons tell.
 ghost use Rattle.std.specs.Prelude.{◌≡◌, ◌↔◌, IsTrue};
-ghost use Rattle.causal_name.specs.Names.{pid_cmp, message_cmp, slot_cmp, det_cmp, same_pid, same_message, same_det};
+ghost use Rattle.causal_name.specs.Names.{pid_cmp, message_cmp, slot_cmp, det_cmp, same_pid, same_message, same_slot, same_det};
 
 use crate::{Det, MsgName, Pid, Slot};
 use std::cmp::Ordering;
@@ -48,6 +48,14 @@ pub fn are_same_messages(message: MsgName, other: MsgName) -> bool
     ensures same { IsTrue result ↔ (message ≡ other) }
 {
     message == other
+}
+
+/// Equality of slots.
+pub fn are_same_slots(slot: Slot, other: Slot) -> bool
+    ensures tested { result ≡ same_slot slot other }
+    ensures same { IsTrue result ↔ (slot ≡ other) }
+{
+    slot == other
 }
 
 /// Equality of determinants.

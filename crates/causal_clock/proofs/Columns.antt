@@ -1,0 +1,276 @@
+-- What a column tells at a place, and what one more rise changes.
+use Rattle.std.specs.Prelude.{◌≡◌, ℕ, ◌+◌, ◌-◌, ◌<◌, ◌≤◌, max, ◌⊎◌, leb, if◌then◌else◌, true, false, List, [], ◌∷◌, ◌++◌, length, take, drop}
+use Rattle.std.proofs.Common.{zero, suc, refl, arith, ap, sym, ◌∙◌, subst, inl, inr, length-append}
+use Rattle.std.proofs.Math.ListN.{get_or-append}
+use Rattle.std.proofs.Math.Seq.{get_or-append_seam}
+use Rattle.std.proofs.lemmas.Bool.{le-leb, lt-ltb, lt-leb, le-ltb, leb-true, leb-false}
+use Rattle.std.proofs.lemmas.Bool.Decides.{leb_tells}
+use Rattle.std.specs.List.Sorted.{IsPartitionPoint, IsPartitionedBy}
+use Rattle.std.proofs.lemmas.List.Sorted.{IsPartitionedBy-leb, IsNonDecreasingBy-from_default}
+use Rattle.std.proofs.lemmas.List.{get_or-drop, length-drop, take_all}
+use Rattle.causal_clock.specs.declared.column.Rise.{Rise}
+use Rattle.causal_clock.specs.Inside.Columns.{rise_at, count_at, RisesStrictly, IsColumn, raised}
+
+-- ---- the count at a place
+
+count_at-append : (xs ys : List Rise) (place : ℕ) → count_at (xs ++ ys) place ≡ max (count_at xs place) (count_at ys place)
+count_at-append [] ys place = omega arith
+count_at-append (x ∷ xs) ys place = omega (arith, count_at-append xs ys place)
+
+-- a rise up to the place counts there
+no_less : (rises : List Rise) (place i : ℕ) → i < length rises → (rise_at rises i).place ≤ place → (rise_at rises i).count ≤ count_at rises place
+no_less [] place i lt le = absurd (omega arith)
+no_less (r ∷ rises) place zero lt le =
+    let here : ◌≡◌ {A = ℕ} (if leb r.place place then r.count else 0) r.count = ap (λ b. if b then r.count else 0) (le-leb r.place place le) in
+    omega (arith, here)
+no_less (r ∷ rises) place (suc i) lt le = omega (arith, no_less rises place i (omega arith) le)
+
+-- the count is that of some rise up to the place, or there is none
+pub record IsCountOf (rises : List Rise) (place count i : ℕ) : Type 0 where
+  pub within : i < length rises
+  pub reached : (rise_at rises i).place ≤ place
+  pub count_is : count ≡ (rise_at rises i).count
+
+some_rise : (rises : List Rise) (place : ℕ) → (count_at rises place ≡ 0) ⊎ ((i : ℕ) × IsCountOf rises place (count_at rises place) i)
+some_rise [] place = inl refl
+some_rise (r ∷ rises) place =
+    elim (leb_tells r.place place) [
+      | inl here ↦
+          let is : ◌≡◌ {A = ℕ} (if leb r.place place then r.count else 0) r.count = ap (λ b. if b then r.count else 0) here.0 in
+          elim (leb_tells (count_at rises place) r.count) [
+            | inl le ↦ inr (0, record { within = omega arith; reached = here.1; count_is = omega (arith, is, le.1) })
+            | inr gt ↦ later (omega (arith, is, gt.1)) (some_rise rises place)
+          ]
+      | inr past ↦
+          let is : ◌≡◌ {A = ℕ} (if leb r.place place then r.count else 0) 0 = ap (λ b. if b then r.count else 0) past.0 in
+          later (omega (arith, is)) (some_rise rises place)
+    ]
+  where
+    later : count_at (r ∷ rises) place ≡ count_at rises place → (count_at rises place ≡ 0) ⊎ ((i : ℕ) × IsCountOf rises place (count_at rises place) i) → (count_at (r ∷ rises) place ≡ 0) ⊎ ((i : ℕ) × IsCountOf (r ∷ rises) place (count_at (r ∷ rises) place) i)
+    later is (inl none) = inl (omega (arith, is, none))
+    later is (inr some) =
+        let at = some.1 in
+        inr (suc some.0, record { within = omega (arith, at.within); reached = at.reached; count_is = omega (arith, is, at.count_is) })
+
+-- no rise up to the place: the count is 0
+pub count_of_none : (rises : List Rise) (place : ℕ) → ((i : ℕ) → i < length rises → place < (rise_at rises i).place) → count_at rises place ≡ 0
+count_of_none rises place later =
+    elim (some_rise rises place) [
+      | inl none ↦ none
+      | inr some ↦ absurd (omega (arith, some.1.reached, later some.0 some.1.within))
+    ]
+
+-- the first n rises stand up to the place: the last of them tells the count
+pub count_of_last : (rises : List Rise) (place n : ℕ) → RisesStrictly rises → n < length rises → ((i : ℕ) → i ≤ n → (rise_at rises i).place ≤ place) → ((i : ℕ) → n < i → i < length rises → place < (rise_at rises i).place) → count_at rises place ≡ (rise_at rises n).count
+count_of_last rises place n strictly lt before after =
+    let least = no_less rises place n lt (before n (omega arith)) in
+    elim (some_rise rises place) [
+      | inl none ↦ omega (arith, none, least)
+      | inr some ↦ last_of some.0 some.1 least
+    ]
+  where
+    last_of : (i : ℕ) → IsCountOf rises place (count_at rises place) i → (rise_at rises n).count ≤ count_at rises place → count_at rises place ≡ (rise_at rises n).count
+    last_of i at least =
+        elim (leb_tells (suc n) i) [
+          | inl gt ↦ absurd (omega (arith, at.reached, after i gt.1 at.within))
+          | inr le ↦ elim (leb_tells n i) [
+            | inl same ↦ at.count_is ∙ ap (λ k. (rise_at rises k).count) (omega (arith, same.1, le.1))
+            | inr less ↦ omega (arith, least, at.count_is, strictly.counts i n less.1 lt)
+          ]
+        ]
+
+-- from a place that no rise stands after the count stays
+pub settled : (rises : List Rise) (p q : ℕ) → ((i : ℕ) → i < length rises → ((rise_at rises i).place ≤ p) × ((rise_at rises i).place ≤ q)) → count_at rises p ≡ count_at rises q
+settled [] p q h = refl
+settled (r ∷ rises) p q h =
+    let here = h 0 (omega arith) in
+    let same : leb r.place p ≡ leb r.place q = le-leb r.place p here.0 ∙ sym (le-leb r.place q here.1) in
+    let rest = settled rises p q (λ i lt. h (suc i) (omega (arith, lt))) in
+    λ k. max (if same k then r.count else 0) (rest k)
+
+-- ---- where a search stops
+
+-- just the first n rises stand up to the place
+pub record IsParted (rises : List Rise) (place n : ℕ) : Type 0 where
+  pub inside : n ≤ length rises
+  pub before : (i : ℕ) → i < n → (rise_at rises i).place ≤ place
+  pub after : (i : ℕ) → n ≤ i → i < length rises → place < (rise_at rises i).place
+
+-- rises before one that stands up to the place stand there too
+pub up_to : (rises : List Rise) (place n i : ℕ) → RisesStrictly rises → n < length rises → (rise_at rises n).place ≤ place → i ≤ n → (rise_at rises i).place ≤ place
+up_to rises place n i strictly lt le before =
+    elim (leb_tells n i) [
+      | inl same ↦
+          let is : (rise_at rises i).place ≡ (rise_at rises n).place = ap (λ k. (rise_at rises k).place) (omega (arith, same.1, before)) in
+          omega (arith, is, le)
+      | inr less ↦ omega (arith, strictly.places i n less.1 lt, le)
+    ]
+
+partitioned : (rises : List Rise) (place start : ℕ) → RisesStrictly rises → IsPartitionedBy (λ y. leb y.place place) (drop start rises)
+partitioned rises place start strictly = IsPartitionedBy-leb (λ y. y.place) (drop start rises) place (IsNonDecreasingBy-from_default (λ y. y.place) (drop start rises) _ ascend)
+  where
+    ascend : (i j : ℕ) → i ≤ j → j < length (drop start rises) → (rise_at (drop start rises) i).place ≤ (rise_at (drop start rises) j).place
+    ascend i j le lt =
+        let in_i : (rise_at (drop start rises) i).place ≡ (rise_at rises (start + i)).place = ap (λ (r : Rise). r.place) (get_or-drop start rises i _) in
+        let in_j : (rise_at (drop start rises) j).place ≡ (rise_at rises (start + j)).place = ap (λ (r : Rise). r.place) (get_or-drop start rises j _) in
+        let long : length (drop start rises) ≡ length rises - start = length-drop start rises in
+        omega (arith, in_i, in_j, up_to rises ((rise_at rises (start + j)).place) (start + j) (start + i) strictly (omega (arith, lt, long)) (omega arith) (omega (arith, le)))
+
+parted : (rises : List Rise) (place start n : ℕ) → start ≤ length rises → ((i : ℕ) → i < start → (rise_at rises i).place ≤ place) → IsPartitionPoint (λ y. leb y.place place ≡ true) (λ y. leb y.place place ≡ false) (drop start rises) n → n ≤ length (drop start rises) → IsParted rises place (start + n)
+parted rises place start n inside passed point bound = record { inside = omega (arith, bound, long); before = before; after = after }
+  where
+    long : length (drop start rises) ≡ length rises - start
+    long = length-drop start rises
+
+    place_is : (i : ℕ) → start ≤ i → (rise_at (drop start rises) (i - start)).place ≡ (rise_at rises i).place
+    place_is i le =
+        let at : start + (i - start) ≡ i = omega (arith, le) in
+        ap (λ (r : Rise). r.place) (get_or-drop start rises (i - start) _) ∙ ap (λ k. (rise_at rises k).place) at
+
+    before : (i : ℕ) → i < start + n → (rise_at rises i).place ≤ place
+    before i lt =
+        elim (leb_tells (suc i) start) [
+          | inl h ↦ passed i h.1
+          | inr h ↦ omega (arith, place_is i (omega (arith, h.1)), leb-true _ _ (point.0 (i - start) (record { place = 0; count = 0 }) (omega arith) (omega (arith, lt, h.1))))
+        ]
+
+    after : (i : ℕ) → start + n ≤ i → i < length rises → place < (rise_at rises i).place
+    after i le lt = omega (arith, place_is i (omega (arith, le)), leb-false _ _ (point.1 (i - start) (record { place = 0; count = 0 }) (omega (arith, le)) (omega (arith, lt, long, le))))
+
+-- the same at the list that a slice from `start` on gives
+pub tail_is : (rises : List Rise) (start : ℕ) → take (length rises - start) (drop start rises) ≡ drop start rises
+tail_is rises start = take_all (length rises - start) (drop start rises) (omega (arith, length-drop start rises))
+
+pub tail_partitioned : (rises : List Rise) (place start : ℕ) → RisesStrictly rises → IsPartitionedBy (λ y. leb y.place place) (take (length rises - start) (drop start rises))
+tail_partitioned rises place start strictly = subst (IsPartitionedBy (λ y. leb y.place place)) (sym (tail_is rises start)) (partitioned rises place start strictly)
+
+pub tail_parted : (rises : List Rise) (place start n : ℕ) → start ≤ length rises → ((i : ℕ) → i < start → (rise_at rises i).place ≤ place) → IsPartitionPoint (λ y. leb y.place place ≡ true) (λ y. leb y.place place ≡ false) (take (length rises - start) (drop start rises)) n → n ≤ length (take (length rises - start) (drop start rises)) → IsParted rises place (start + n)
+tail_parted rises place start n inside passed point bound =
+    parted rises place start n inside passed
+    (subst (λ (l : List Rise). IsPartitionPoint (λ y. leb y.place place ≡ true) (λ y. leb y.place place ≡ false) l n) (tail_is rises start) point)
+    (subst (λ (l : List Rise). n ≤ length l) (tail_is rises start) bound)
+
+-- ---- one more rise
+
+raised_cases : (rises : List Rise) (place count : ℕ) → ((raised rises place count ≡ rises ++ record { place = place; count = count } ∷ []) × (count_at rises place < count)) ⊎ ((raised rises place count ≡ rises) × (count ≤ count_at rises place))
+raised_cases rises place count =
+    elim (leb_tells (suc (count_at rises place)) count) [
+      | inl less ↦ inl (ap (λ b. if b then rises ++ record { place = place; count = count } ∷ [] else rises) (lt-ltb _ _ less.1), less.1)
+      | inr more ↦ inr (ap (λ b. if b then rises ++ record { place = place; count = count } ∷ [] else rises) (le-ltb _ _ (omega (arith, more.1))), omega (arith, more.1))
+    ]
+
+-- nothing rises to 0
+pub raised_none : (rises : List Rise) (place : ℕ) → raised rises place 0 ≡ rises
+raised_none rises place =
+    elim (raised_cases rises place 0) [
+      | inl more ↦ absurd (omega (arith, more.1))
+      | inr same ↦ same.0
+    ]
+
+-- before its place the count is as it was
+pub raised_before : (rises : List Rise) (place count q : ℕ) → q < place → count_at (raised rises place count) q ≡ count_at rises q
+raised_before rises place count q before =
+    elim (raised_cases rises place count) [
+      | inl more ↦
+          let none : ◌≡◌ {A = ℕ} (if leb place q then count else 0) 0 = ap (λ b. if b then count else 0) (lt-leb place q before) in
+          ap (λ xs. count_at xs q) more.0 ∙ count_at-append rises _ q ∙ omega (arith, none)
+      | inr same ↦ ap (λ xs. count_at xs q) same.0
+    ]
+
+-- and at its place the greater one
+pub raised_there : (rises : List Rise) (place count : ℕ) → count_at (raised rises place count) place ≡ max (count_at rises place) count
+raised_there rises place count =
+    elim (raised_cases rises place count) [
+      | inl more ↦
+          let here : ◌≡◌ {A = ℕ} (if leb place place then count else 0) count = ap (λ b. if b then count else 0) (le-leb place place (omega arith)) in
+          ap (λ xs. count_at xs place) more.0 ∙ count_at-append rises _ place ∙ omega (arith, here)
+      | inr same ↦ ap (λ xs. count_at xs place) same.0 ∙ omega (arith, same.1)
+    ]
+
+-- ---- columns
+
+pub no_column : (events from_events : ℕ) → IsColumn [] events from_events
+no_column events from_events = record {
+  strictly = record { some = λ i lt. absurd (omega arith); places = λ i k lt inside. absurd (omega arith); counts = λ i k lt inside. absurd (omega arith) };
+  places = λ i lt. absurd (omega arith);
+  counts = λ i lt. absurd (omega arith);
+  few = omega arith;
+}
+
+pub column_more : (rises : List Rise) (events from_events events' from_events' : ℕ) → events ≤ events' → from_events ≤ from_events' → IsColumn rises events from_events → IsColumn rises events' from_events'
+column_more rises events from_events events' from_events' le le' is = record {
+  strictly = is.strictly;
+  places = λ i lt. omega (arith, is.places i lt);
+  counts = λ i lt. omega (arith, is.counts i lt);
+  few = omega (arith, is.few);
+}
+
+-- with strict counts from 1 on rise i counts more than i
+at_least : (rises : List Rise) → RisesStrictly rises → (i : ℕ) → i < length rises → i < (rise_at rises i).count
+at_least rises strictly zero lt = strictly.some 0 lt
+at_least rises strictly (suc i) lt = omega (arith, at_least rises strictly i (omega (arith, lt)), strictly.counts i (suc i) (omega arith) lt)
+
+-- so there are no more rises than the count
+no_more_rises : (rises : List Rise) (events from_events place : ℕ) → IsColumn rises events from_events → events ≤ place → length rises ≤ count_at rises place
+no_more_rises rises events from_events place is le =
+    elim (leb_tells (length rises) 0) [
+      | inl none ↦ omega (arith, none.1)
+      | inr some ↦
+          let last : length rises - 1 < length rises = omega (arith, some.1) in
+          omega (arith, at_least rises is.strictly (length rises - 1) last, no_less rises place (length rises - 1) last (omega (arith, is.places (length rises - 1) last)))
+    ]
+
+module _ (rises : List Rise) (own from_events from_events' count : ℕ) (is : IsColumn rises own from_events) (grown : from_events ≤ from_events') (few : count ≤ from_events') (more : count_at rises own < count) where
+  abbrev next : Rise
+  next = record { place = own; count = count }
+
+  old_rise : (i : ℕ) → i < length rises → rise_at (rises ++ next ∷ []) i ≡ rise_at rises i
+  old_rise i lt = get_or-append rises (next ∷ []) _ i lt
+
+  new_rise : (i : ℕ) → i ≡ length rises → rise_at (rises ++ next ∷ []) i ≡ next
+  new_rise i same = ap (rise_at (rises ++ next ∷ [])) same ∙ get_or-append_seam rises next [] _
+
+  old_or_next : (i : ℕ) → i < length (rises ++ next ∷ []) → (i < length rises) ⊎ (i ≡ length rises)
+  old_or_next i lt =
+      elim (leb_tells (suc i) (length rises)) [
+        | inl h ↦ inl (omega (arith, h.1))
+        | inr h ↦ inr (omega (arith, h.1, lt, length-append rises (next ∷ [])))
+      ]
+
+  below_next : (i : ℕ) → i < length rises → (rise_at rises i).count < count
+  below_next i lt = omega (arith, more, no_less rises own i lt (omega (arith, is.places i lt)))
+
+  pub appended : IsColumn (rises ++ next ∷ []) (own + 1) from_events'
+  appended = record {
+    strictly = record {
+      some = λ i lt. elim (old_or_next i lt) [
+        | inl old ↦ rw (old_rise i old) (is.strictly.some i old)
+        | inr new ↦ rw (new_rise i new) (omega (arith, more))
+      ];
+      places = λ i k before lt. elim (old_or_next k lt) [
+        | inl old ↦ rw (old_rise k old, old_rise i (omega (arith, before, old))) (is.strictly.places i k before old)
+        | inr new ↦ rw (new_rise k new, old_rise i (omega (arith, before, new))) (is.places i (omega (arith, before, new)))
+      ];
+      counts = λ i k before lt. elim (old_or_next k lt) [
+        | inl old ↦ rw (old_rise k old, old_rise i (omega (arith, before, old))) (is.strictly.counts i k before old)
+        | inr new ↦ rw (new_rise k new, old_rise i (omega (arith, before, new))) (below_next i (omega (arith, before, new)))
+      ];
+    };
+    places = λ i lt. elim (old_or_next i lt) [
+      | inl old ↦ rw (old_rise i old) (omega (arith, is.places i old))
+      | inr new ↦ rw (new_rise i new) (omega arith)
+    ];
+    counts = λ i lt. elim (old_or_next i lt) [
+      | inl old ↦ rw (old_rise i old) (omega (arith, is.counts i old, grown))
+      | inr new ↦ rw (new_rise i new) few
+    ];
+    few = omega (arith, length-append rises (next ∷ []), no_more_rises rises own from_events own is (omega arith), more, few);
+  }
+
+-- a column after an event of its lane
+pub raised_column : (rises : List Rise) (own from_events from_events' count : ℕ) → from_events ≤ from_events' → count ≤ from_events' → IsColumn rises own from_events → IsColumn (raised rises own count) (own + 1) from_events'
+raised_column rises own from_events from_events' count grown few is =
+    elim (raised_cases rises own count) [
+      | inl more ↦ rw more.0 (appended rises own from_events from_events' count is grown few more.1)
+      | inr same ↦ rw same.0 (column_more rises own from_events (own + 1) from_events' (omega arith) grown is)
+    ]

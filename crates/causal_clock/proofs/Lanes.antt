@@ -1,0 +1,58 @@
+-- What lists tell of their elements, as a lane's columns or a clock's lanes, when one is written back or added.
+use Rattle.std.specs.Prelude.{◌≡◌, ◌≢◌, ℕ, ◌<◌, List, [], ◌∷◌, ◌++◌, length, map}
+use Rattle.std.proofs.Common.{zero, suc, refl, arith, ap, subst, inl, inr, sym, ◌∙◌, get_or, get_or-set_same, get_or-set_other}
+use Rattle.std.proofs.Math.ListN.{set}
+use Rattle.std.proofs.lemmas.Bool.Decides.{eqb_tells}
+use Rattle.causal_clock.specs.declared.lane.Lane.{Lane}
+use Rattle.causal_clock.specs.Inside.Columns.{column_in, column_of}
+use Rattle.causal_clock.specs.Inside.Lanes.{rises_in, SameColumns}
+use Rattle.std.proofs.lemmas.List.{map-append, map-set, set-get_or, get_or-map, length-map}
+
+pub as_many : {V B : Type 0} (f : V → B) (xs : List V) → length (map f xs) ≡ length xs
+as_many f xs = simp length-map
+
+module _ {V B : Type 0} (f : V → B) (xs : List V) (i : ℕ) (x y : V) where
+  -- what is told of it, and of the others
+  pub told_here : (d : B) → i < length (map f xs) → get_or (map f (set xs i y)) i d ≡ f y
+  told_here d lt = ap (λ ys. get_or ys i d) (map-set f xs i y) ∙ get_or-set_same (map f xs) i (f y) d lt
+
+  pub told_elsewhere : (d : B) (k : ℕ) → k ≢ i → get_or (map f (set xs i y)) k d ≡ get_or (map f xs) k d
+  told_elsewhere d k other = ap (λ ys. get_or ys k d) (map-set f xs i y) ∙ get_or-set_other (map f xs) i k (f y) d other
+
+  pub told_was : (d : B) → i < length xs → x ≡ get_or xs i x → get_or (map f xs) i d ≡ f x
+  told_was d lt is = get_or-map f xs i x d lt ∙ ap f (sym is)
+
+  -- written back as it was
+  pub told_same : i < length xs → x ≡ get_or xs i x → f y ≡ f x → map f (set xs i y) ≡ map f xs
+  told_same lt is same =
+      map-set f xs i y ∙ ap (set (map f xs) i) (same ∙ sym (told_was (f x) lt is)) ∙ set-get_or (map f xs) i (f x)
+
+-- one more element that tells the default tells nothing new
+pub told_default : {B : Type 0} (ys : List B) (b d : B) → b ≡ d → (k : ℕ) → get_or (ys ++ b ∷ []) k d ≡ get_or ys k d
+told_default [] b d is zero = is
+told_default [] b d is (suc k) = refl
+told_default (y ∷ ys) b d is zero = refl
+told_default (y ∷ ys) b d is (suc k) = told_default ys b d is k
+
+-- ---- the columns of a clock's lanes, when a lane is written back
+
+module _ (xs : List Lane) (l : ℕ) (x y : Lane) (lt : l < length xs) where
+  pub column_here : (source : ℕ) → column_of (map rises_in (set xs l y)) l source ≡ column_in (rises_in y) source
+  column_here source = ap (λ columns. column_in columns source) (told_here rises_in xs l x y [] (omega (arith, lt, as_many rises_in xs)))
+
+  pub column_elsewhere : (lane source : ℕ) → lane ≢ l → column_of (map rises_in (set xs l y)) lane source ≡ column_of (map rises_in xs) lane source
+  column_elsewhere lane source other = ap (λ columns. column_in columns source) (told_elsewhere rises_in xs l x y [] lane other)
+
+  pub column_was : x ≡ get_or xs l x → (source : ℕ) → column_of (map rises_in xs) l source ≡ column_in (rises_in x) source
+  column_was is source = ap (λ columns. column_in columns source) (told_was rises_in xs l x y [] lt is)
+
+  -- where it tells the same of each source lane nothing changes
+  pub columns_same : x ≡ get_or xs l x → SameColumns x y → (lane source : ℕ) → column_of (map rises_in (set xs l y)) lane source ≡ column_of (map rises_in xs) lane source
+  columns_same is same lane source =
+      elim (eqb_tells lane l) [
+        | inl s ↦ subst (λ (n : ℕ). column_of (map rises_in (set xs l y)) n source ≡ column_of (map rises_in xs) n source) (sym s.1) (column_here source ∙ same source ∙ sym (column_was is source))
+        | inr s ↦ column_elsewhere lane source s.1
+      ]
+
+pub column_more : (xs : List Lane) (x : Lane) → rises_in x ≡ [] → (lane source : ℕ) → column_of (map rises_in (xs ++ x ∷ [])) lane source ≡ column_of (map rises_in xs) lane source
+column_more xs x is lane source = ap (λ columns. column_in (get_or columns lane []) source) (map-append rises_in xs (x ∷ [])) ∙ ap (λ columns. column_in columns source) (told_default (map rises_in xs) (rises_in x) [] is lane)

@@ -1,0 +1,85 @@
+-- What a clock keeps goes on through its calls, over its fields.
+use Rattle.std.specs.Prelude.{◌≡◌, ◌≢◌, ℕ, ◌+◌, ◌<◌, ◌≤◌, ◌↔◌, nat_lt, ◌==◌, IsTrue, Some, List, [], ◌∷◌, ◌++◌, length, map}
+use Rattle.std.proofs.Common.{suc, arith, ap, sym, ◌∙◌, inl, inr, get_or}
+use Rattle.std.proofs.Math.ListN.{set, get_or-eq_default}
+use Rattle.std.proofs.lemmas.Bool.Decides.{nat_tests, leb_tells}
+use Rattle.std.proofs.lemmas.List.{map-append, map-set}
+use Rattle.std.proofs.lemmas.List.Sums.{count_by-le-length}
+use Rattle.causal_clock.specs.declared.Event.{Event}
+use Rattle.causal_clock.specs.declared.Entry.{Entry}
+use Rattle.causal_clock.specs.declared.column.Rise.{Rise}
+use Rattle.causal_clock.specs.declared.lane.Lane.{Lane}
+use Rattle.causal_clock.specs.Timeline.{lane_length}
+use Rattle.causal_clock.specs.Precedence.{FirstReach}
+use Rattle.causal_clock.specs.Inside.Columns.{column_in, column_of, raised}
+use Rattle.causal_clock.specs.Inside.Kept.{count_or_none}
+use Rattle.causal_clock.specs.Inside.Lanes.{rises_in, SameColumns}
+use Rattle.causal_clock.specs.Inside.Fields.{counts_in, KeepsColumns}
+use Rattle.causal_clock.proofs.Fields.{events_in, places_in, as_many_events, as_many_places, keeps_same, keeps_open, no_events}
+use Rattle.causal_clock.proofs.Lanes.{as_many, told_was, told_same, column_here, column_elsewhere, column_was, columns_same, column_more}
+use Rattle.causal_clock.proofs.Places.{reach_unique}
+use Rattle.causal_clock.proofs.Rising.{keeps_next}
+
+abbrev pub lengths_in : List Lane → List ℕ
+lengths_in xs = map (λ x. x.events) xs
+
+abbrev pub columns_in : List Lane → ℕ → ℕ → List Rise
+columns_in xs = column_of (map rises_in xs)
+
+-- the test of `precedes`
+pub told_by_place : (a n place : ℕ) (P : Type 0) → P ↔ (place < n) → a ≡ place → IsTrue (nat_lt a n) ↔ P
+told_by_place a n place P both is = (λ t. both.1 (omega (arith, below t, is)), λ p. above (omega (arith, both.0 p, is)))
+  where
+    below : IsTrue (nat_lt a n) → a < n
+    below t = grind (arith, nat_tests)
+
+    above : a < n → IsTrue (nat_lt a n)
+    above lt = grind (arith, nat_tests)
+
+-- one more lane
+pub keeps_opened : (es : List Event) (places : List ℕ) (xs ys : List Lane) (x : Lane) → ys ≡ xs ++ x ∷ [] → x.events ≡ 0 → rises_in x ≡ [] → KeepsColumns es places (lengths_in xs) (columns_in xs) → KeepsColumns es places (lengths_in ys) (columns_in ys)
+keeps_opened es places xs ys x is events columns k =
+    let lengths : lengths_in (xs ++ x ∷ []) ≡ lengths_in xs ++ 0 ∷ [] = map-append (λ (y : Lane). y.events) xs (x ∷ []) ∙ ap (λ (n : ℕ). lengths_in xs ++ n ∷ []) events in
+    rw (is, lengths) (keeps_same es places _ (columns_in xs) (columns_in (xs ++ x ∷ [])) (column_more xs x columns) (keeps_open es places (lengths_in xs) (columns_in xs) k))
+
+-- a lane written back that tells the same
+pub keeps_unchanged : (es : List Event) (places : List ℕ) (xs : List Lane) (l : ℕ) (x y : Lane) → l < length xs → x ≡ get_or xs l x → y.events ≡ x.events → SameColumns x y → KeepsColumns es places (lengths_in xs) (columns_in xs) → KeepsColumns es places (lengths_in (set xs l y)) (columns_in (set xs l y))
+keeps_unchanged es places xs l x y lt is events same k =
+    let lengths : lengths_in (set xs l y) ≡ lengths_in xs = told_same (λ (z : Lane). z.events) xs l x y lt is events in
+    rw lengths (keeps_same es places (lengths_in xs) (columns_in xs) (columns_in (set xs l y)) (columns_same xs l x y lt is same) k)
+
+-- the counts that a receive is told are those of its send's event
+pub received : (es : List Event) (places lengths : List ℕ) (column : ℕ → ℕ → List Rise) → KeepsColumns es places lengths column → (send own : ℕ) → send < length es → (counts : List ℕ) → length counts ≡ length lengths → ((k : ℕ) → k < length lengths → k ≢ own → FirstReach es send k (get_or counts k 0)) → (source : ℕ) → source ≢ own → get_or counts source 0 ≡ counts_in es column send source
+received es places lengths column k send own lt counts long each source other =
+    elim (leb_tells (suc source) (length lengths)) [
+      | inl there ↦ reach_unique es send source _ _ (each source there.1 other) (k.keeps.reach send lt source)
+      | inr past ↦
+          let beyond : length lengths ≤ source = omega (arith, past.1) in
+          let none = no_events es (counts_in es column) (length lengths) source k.keeps beyond (k.keeps.last source).0 (k.keeps.last source).1 in
+          let here : get_or counts source 0 ≡ 0 = get_or-eq_default counts 0 (omega (arith, long, beyond)) in
+          omega (arith, here, (k.keeps.reach send lt source).no_more, none)
+    ]
+
+-- no lane has more events than there are
+pub small_lane : (es : List Event) (places : List ℕ) (xs : List Lane) (l : ℕ) (x : Lane) → l < length xs → x ≡ get_or xs l x → KeepsColumns es places (lengths_in xs) (columns_in xs) → x.events ≤ length es
+small_lane es places xs l x lt is k =
+    omega (arith, told_was (λ (y : Lane). y.events) xs l x x 0 lt is, k.lengths l (omega (arith, lt, as_many (λ (y : Lane). y.events) xs)), count_by-le-length (λ (e : Event). e.lane == l) es)
+
+-- one more event
+module _ (entries : List Entry) (xs : List Lane) (k : KeepsColumns (events_in entries) (places_in entries) (lengths_in xs) (columns_in xs)) (e : Event) (lt : e.lane < length xs) (x z : Lane) (is : x ≡ get_or xs e.lane x) (sent : (s : ℕ) → e.send ≡ Some s → s < length (events_in entries)) (room : length (events_in entries) < 65536) (counts : ℕ → ℕ) (own_none : counts e.lane ≡ 0) (counts_are : (source : ℕ) → source ≢ e.lane → counts source ≡ count_or_none (counts_in (events_in entries) (columns_in xs)) e.send source) (events : z.events ≡ x.events + 1) (risen : (source : ℕ) → column_in (rises_in z) source ≡ raised (column_in (rises_in x) source) x.events (counts source)) where
+  inside : e.lane < length (lengths_in xs)
+  inside = omega (arith, lt, as_many (λ (y : Lane). y.events) xs)
+
+  length_is : x.events ≡ lane_length (events_in entries) e.lane
+  length_is = sym (told_was (λ (y : Lane). y.events) xs e.lane x z 0 lt is) ∙ k.lengths e.lane inside
+
+  all_risen : (source : ℕ) → columns_in (set xs e.lane z) e.lane source ≡ raised (columns_in xs e.lane source) (lane_length (events_in entries) e.lane) (counts source)
+  all_risen source = column_here xs e.lane x z lt source ∙ risen source ∙ (λ i. raised (sym (column_was xs e.lane x z lt is source) i) (length_is i) (counts source))
+
+  pub keeps_more : KeepsColumns (events_in (entries ++ record { event = e; place = x.events } ∷ [])) (places_in (entries ++ record { event = e; place = x.events } ∷ [])) (lengths_in (set xs e.lane z)) (columns_in (set xs e.lane z))
+  keeps_more =
+      let places : places_in (entries ++ record { event = e; place = x.events } ∷ []) ≡ places_in entries ++ lane_length (events_in entries) e.lane ∷ [] = map-append (λ (y : Entry). y.place) entries (record { event = e; place = x.events } ∷ []) ∙ ap (λ (n : ℕ). places_in entries ++ n ∷ []) length_is in
+      let lengths : lengths_in (set xs e.lane z) ≡ set (lengths_in xs) e.lane (lane_length (events_in entries) e.lane + 1) = map-set (λ (y : Lane). y.events) xs e.lane z ∙ ap (set (lengths_in xs) e.lane) (omega (arith, events, length_is)) in
+      rw (map-append (λ (y : Entry). y.event) entries (record { event = e; place = x.events } ∷ []), places, lengths)
+      (keeps_next (events_in entries) (places_in entries) (lengths_in xs) (columns_in xs) k e inside sent room counts own_none counts_are (columns_in (set xs e.lane z)) (λ lane source. column_elsewhere xs e.lane x z lt lane source) all_risen
+      (omega (arith, as_many_places entries, as_many_events entries)))

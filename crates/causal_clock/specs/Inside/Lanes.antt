@@ -1,0 +1,31 @@
+-- What a lane keeps.
+use Rattle.std.specs.Prelude.{◌≡◌, ℕ, ◌-◌, ◌<◌, ◌≤◌, List, [], length, map, slice_index, vec_len, vec_capacity}
+use Rattle.causal_clock.specs.declared.column.Rise.{Rise}
+use Rattle.causal_clock.specs.declared.lane.Lane.{Lane}
+use Rattle.causal_clock.specs.Inside.Columns.{count_at, column_in, column_of, RisesStrictly}
+
+-- its columns
+abbrev pub rises_in : Lane → List (List Rise)
+rises_in x = map (λ c. c.items) x.columns.items
+
+-- for how many more rises each of them has room
+abbrev pub spares_in : Lane → List ℕ
+spares_in x = map (λ c. vec_capacity c - vec_len c) x.columns.items
+
+abbrev pub AllStrict : Lane → Type 0
+AllStrict x = (source : ℕ) → RisesStrictly (column_in (rises_in x) source)
+
+-- both tell the same of each source lane
+abbrev pub SameColumns : Lane → Lane → Type 0
+SameColumns x y = (source : ℕ) → column_in (rises_in y) source ≡ column_in (rises_in x) source
+
+-- there is a column for each count, and room in it where the count is to rise at the next place
+pub record HasRoom (x : Lane) (counts : List ℕ) : Type 0 where
+  pub wide : length counts ≤ length (rises_in x)
+  pub spare : (k : ℕ) → k < length counts → count_at (column_in (rises_in x) k) x.events < slice_index counts k → 0 < slice_index (spares_in x) k
+
+-- that many lanes without events
+pub record AreEmpty (lanes : List Lane) (count : ℕ) : Type 0 where
+  pub many : length lanes ≡ count
+  pub lengths : (lane : ℕ) → slice_index (map (λ x. x.events) lanes) lane ≡ 0
+  pub columns : (lane source : ℕ) → column_of (map rises_in lanes) lane source ≡ []

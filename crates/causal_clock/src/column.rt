@@ -1,0 +1,64 @@
+//! Columns: for a lane and a source lane, where in the lane the count of the source's events rose.
+ghost use Rattle.std.specs.Prelude.{◌≡◌, ℕ, ◌-◌, ◌<◌, ◌≤◌, length, OnOk, vec_len, vec_capacity};
+ghost use Rattle.causal_clock.specs.Inside.Columns.{rise_at, count_at, raised, RisesStrictly};
+
+use std::alloc::AllocError;
+
+/// From that place of the lane on, so many events of the source lane are reached.
+#[derive(Clone, Copy, Debug, PartialEq, Eq)]
+pub struct Rise {
+    pub place: u16,
+    pub count: u16,
+}
+
+// Where a search for the place may begin: each rise before it stands before the place. It is sought from the end by
+// steps that double, since a place that is asked for is mostly a late one.
+fn search_start(column: &[Rise], place: u16) -> usize
+    requires strictly { RisesStrictly column.now }
+    ensures inside { result ≤ length column.now }
+    ensures passed { (i : ℕ) → i < result → (rise_at column.now i).place ≤ place }
+{
+    let mut back = 1;
+    while back < column.len() && place < column[column.len() - back].place {
+        back *= 2;
+    }
+    column.len().saturating_sub(back)
+}
+
+/// How many events of the source lane are reached from that place of the lane: what the last rise up to there tells. It
+/// costs the logarithm of how many rises stand after that one.
+pub fn count_at(column: &[Rise], place: u16) -> u16
+    requires strictly { RisesStrictly column.now }
+    ensures { result ≡ count_at column.now place }
+{
+    let start = search_start(column, place);
+    let passed = start + column[start..].partition_point(|rise| rise.place <= place);
+    if passed == 0 {
+        0
+    } else {
+        column[passed - 1].count
+    }
+}
+
+/// Makes room for one more rise, if the count is to rise at the place. Nothing else changes.
+pub fn reserve_rise(column: &mut Vec<Rise>, place: u16, count: u16) -> Result<(), AllocError>
+    requires strictly { RisesStrictly column.old.items }
+    ensures items { column.new.items ≡ column.old.items }
+    ensures room { OnOk result (count_at column.old.items place < count → 0 < vec_capacity column.new - vec_len column.new) }
+{
+    if count_at(column, place) < count {
+        column.reserve(1)?;
+    }
+    Ok(())
+}
+
+/// Raises the count from that place on, if it is to rise there: there is room for it.
+pub fn raise(column: &mut Vec<Rise>, place: u16, count: u16)
+    requires strictly { RisesStrictly column.old.items }
+    requires room { count_at column.old.items place < count → 0 < vec_capacity column.old - vec_len column.old }
+    ensures { column.new.items ≡ raised column.old.items place count }
+{
+    if count_at(column, place) < count {
+        column.push_reserved(Rise { place, count });
+    }
+}

@@ -1,0 +1,69 @@
+-- That determinants are totally ordered, that `==` holds of those alone that the order does not tell apart, and that an
+-- ascending list is sorted. For the crates above.
+use Rattle.std.proofs.Common.{◌≡◌, ◌∙◌, ℕ, zero, suc, Bool, true, false, ◌&&◌, nat_eq, List, [], ◌∷◌, refl, sym, ap, arith, add-one}
+use Rattle.std.specs.declared.cmp.Ordering.{Ordering}
+use Rattle.std.specs.declared.cmp.Ordering.TheVariants.{Less, Equal, Greater}
+use Rattle.std.specs.Ordering.{nat_cmp, ordering_then, ordering_reverse, is_eq, is_lt, eq_by_cmp}
+use Rattle.std.specs.Cmp.{Equal-is, tied_itself, IsTotalOrder, nat_cmp_total}
+use Rattle.std.specs.List.Sorted.{IsSorted}
+use Rattle.std.proofs.lemmas.Bool.{false≢true, and_parts}
+use Rattle.std.proofs.lemmas.Bool.Decides.{nat_tests}
+use Rattle.std.proofs.lemmas.Cmp.{on_total, then_total}
+use Rattle.std.proofs.lemmas.Map.Lookups.{CmpEqualImpliesEq, exact_pairs, exact_unsigned}
+use Rattle.causal_name.specs.declared.Det.{Det}
+use Rattle.causal_name.specs.Names.{det_cmp, same_det, is_before, is_ascending}
+
+-- the order of determinants is total
+pub dets_total : IsTotalOrder det_cmp
+dets_total =
+    then_total (on_total (λ d. d.source.0) nat_cmp_total)
+    (then_total (on_total (λ d. d.ssn) nat_cmp_total) (then_total (on_total (λ d. d.dest.0) nat_cmp_total) (on_total (λ d. d.rsn) nat_cmp_total)))
+
+-- determinants that compare alike are one
+pub exact_dets : CmpEqualImpliesEq det_cmp
+exact_dets a b h =
+    ap (λ (p : ℕ × (ℕ × (ℕ × ℕ))). record { source = record { 0 = p.0 }; ssn = p.1.0; dest = record { 0 = p.1.1.0 }; rsn = p.1.1.1 })
+    (exact_pairs nat_cmp (λ x y. ordering_then (nat_cmp x.0 y.0) (ordering_then (nat_cmp x.1.0 y.1.0) (nat_cmp x.1.1 y.1.1))) exact_unsigned
+    (exact_pairs nat_cmp (λ x y. ordering_then (nat_cmp x.0 y.0) (nat_cmp x.1 y.1)) exact_unsigned (exact_pairs nat_cmp nat_cmp exact_unsigned exact_unsigned))
+    (a.source.0, (a.ssn, (a.dest.0, a.rsn))) (b.source.0, (b.ssn, (b.dest.0, b.rsn))) h)
+
+-- numbers are equal where the order does not tell them apart
+pub nat_ties : (x y : ℕ) → nat_eq x y ≡ is_eq (nat_cmp x y)
+nat_ties x y = grind (arith, nat_tests)
+
+then_ties : (r s : Ordering) (p q : Bool) → p ≡ is_eq r → q ≡ is_eq s → (p && q) ≡ is_eq (ordering_then r s)
+then_ties Less s p q e f = ap (λ b. b && q) e
+then_ties Equal s p q e f = ap (λ b. b && q) e ∙ f
+then_ties Greater s p q e f = ap (λ b. b && q) e
+
+number_ties : (x y : ℕ) (s : Ordering) (q : Bool) → q ≡ is_eq s → (nat_eq x y && q) ≡ is_eq (ordering_then (nat_cmp x y) s)
+number_ties x y s q h = then_ties (nat_cmp x y) s (nat_eq x y) q (nat_ties x y) h
+
+-- `==` holds of what `cmp` does not tell apart
+pub det_ties : (x y : Det) → same_det x y ≡ eq_by_cmp det_cmp x y
+det_ties x y =
+    number_ties x.source.0 y.source.0 (ordering_then (nat_cmp x.ssn y.ssn) (ordering_then (nat_cmp x.dest.0 y.dest.0) (nat_cmp x.rsn y.rsn))) _
+    (number_ties x.ssn y.ssn (ordering_then (nat_cmp x.dest.0 y.dest.0) (nat_cmp x.rsn y.rsn)) _
+    (number_ties x.dest.0 y.dest.0 (nat_cmp x.rsn y.rsn) _ (nat_ties x.rsn y.rsn)))
+
+-- determinants that `==` holds of are one
+pub same_is : (x y : Det) → same_det x y ≡ true → x ≡ y
+same_is x y h = exact_dets x y ((Equal-is (det_cmp x y)).0 (sym (det_ties x y) ∙ h))
+
+-- `==` holds of a determinant and itself
+pub same_itself : (x : Det) → same_det x x ≡ true
+same_itself x = det_ties x x ∙ ap is_eq (tied_itself dets_total x)
+
+-- what comes before another does not come after it
+not_after : (r : Ordering) → is_lt r ≡ true → is_lt (ordering_reverse r) ≡ false
+not_after Less h = refl
+not_after Equal h = refl
+not_after Greater h = absurd (false≢true h)
+
+-- an ascending list is sorted
+pub ascending_sorted : (ds : List Det) → is_ascending ds ≡ true → IsSorted det_cmp ds
+ascending_sorted [] h k x low high = absurd (omega (arith, high))
+ascending_sorted (d ∷ []) h k x low high = absurd (omega (arith, high))
+ascending_sorted (d ∷ e ∷ ds) h zero x low high = ap is_lt (dets_total.antisymm e d) ∙ not_after (det_cmp d e) (and_parts (is_before d e) (is_ascending (e ∷ ds)) h).0
+ascending_sorted (d ∷ e ∷ ds) h (suc k) x low high =
+    rw add-one (rw add-one at (ascending_sorted (e ∷ ds) (and_parts (is_before d e) (is_ascending (e ∷ ds)) h).1 k x (omega arith) (omega arith)))
