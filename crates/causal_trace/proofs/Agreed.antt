@@ -1,5 +1,5 @@
 -- The definitions say what their words say.
-use Rattle.std.proofs.Common.{ℕ, ◌≡◌, ◌+◌, ◌-◌, Bool, true, false, cond, List, [], ◌∷◌, ◌++◌, length, take, drop, reverse, Some, None, refl, sym, ap, subst, ◌∙◌, add-one, arith}
+use Rattle.std.proofs.Common.{ℕ, ◌≡◌, ◌-◌, Bool, true, false, cond, List, [], ◌∷◌, ◌++◌, length, take, drop, reverse, Some, None, refl, sym, ap, subst, ◌∙◌, arith}
 use Rattle.std.specs.Prelude.{◌||◌, not, ◌&&◌, ◌==◌}
 use Rattle.std.specs.List.{find}
 use Rattle.std.specs.Option.{option_map_or}
@@ -13,8 +13,9 @@ use Rattle.causal_trace.specs.declared.entry.Entry.TheVariants.{Send, Deliver, S
 use Rattle.causal_trace.specs.Past.{has, is_down, logs}
 use Rattle.causal_trace.specs.Dependence.{DirectlyPrecedes, Reaches, itself, onward, IsEventOf}
 use Rattle.causal_trace.specs.Agree.{InstantsArePrefixes, InstantsStay, OneMoreInstant, InstantsKeepPlaces, is_crash, is_turn_of, DownIsLastTurn, lists, is_forgetting, present, LogIsLastListing, IsPath, ReachesByPath}
-use Rattle.causal_trace.proofs.Instants.{entry_there}
-use Rattle.causal_trace.proofs.Accepted.{delivers_up, restarts_down}
+use Rattle.causal_trace.proofs.Lemmas.Instants.{entry_there}
+use Rattle.causal_trace.proofs.Lemmas.AtInstants as at
+use Rattle.causal_trace.proofs.Lemmas.Accepted.{delivers_up, restarts_down}
 
 -- instants
 
@@ -25,13 +26,10 @@ instants_prefixes entries t within =
     ∙ drop_at (reverse (drop t entries)) (reverse (take t entries)) (length (reverse entries) - t) (length-reverse (drop t entries) ∙ length-drop t entries ∙ ap (λ n. n - t) (sym (length-reverse entries)))
 
 pub instants_stay : InstantsStay
-instants_stay e past t within = ap (λ n. drop n (e ∷ past)) (let later : length (e ∷ past) - t ≡ (length past - t) + 1 = omega (arith, within) in later) ∙ dropped (length past - t) e past
-  where
-    dropped : (n : ℕ) (e : Entry) (past : List Entry) → drop (n + 1) (e ∷ past) ≡ drop n past
-    dropped n e past = rw add-one refl
+instants_stay e past t within = at.instants_stay e past t within
 
 pub one_more_instant : OneMoreInstant
-one_more_instant e past = ap (λ n. drop n (e ∷ past)) (let none : length (e ∷ past) - (length past + 1) ≡ 0 = omega arith in none)
+one_more_instant e past = at.one_more_instant e past
 
 pub instants_keep_places : InstantsKeepPlaces
 instants_keep_places entries t k within below =

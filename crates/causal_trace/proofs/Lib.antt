@@ -1,9 +1,9 @@
-pub mod Accepted
+pub mod Lemmas
 mod Agreed
 mod Ascending
-pub mod Formed
+mod Chained
 mod Indexed
-pub mod Instants
 mod Laned
-pub mod Reached
+mod Receipts
+mod Rooms
 pub mod Sizes

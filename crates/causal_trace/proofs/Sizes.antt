@@ -14,8 +14,8 @@ use Rattle.causal_trace.specs.declared.fault.TraceFault.TheVariants.{NoProcess, 
 use Rattle.causal_trace.specs.Past.{listed_in, listed_by, restarts, entry_at, message_sent, message_at, det_from, det_of, is_det, is_delivered, sends, deliveries}
 use Rattle.causal_trace.specs.Rows.{rows, first_fault, are_delivered, are_delivered_with, AreAccepted}
 use Rattle.causal_trace.specs.Sizes.{DetIsSmall, DetsAreSmall, EntryIsSmall, EntriesAreSmall, NumbersAreSmall, LimitsAreKept}
-use Rattle.causal_trace.proofs.Formed.{within_limits, limits}
-use Rattle.causal_trace.proofs.Accepted.{not_false, row_fails, delivers_sent, sent_within}
+use Rattle.causal_trace.proofs.Lemmas.Formed.{within_limits, limits}
+use Rattle.causal_trace.proofs.Lemmas.Accepted.{not_false, row_fails, delivers_sent, sent_within}
 
 both : (a b : Bool) → (a && b) ≡ true → (a ≡ true) × (b ≡ true)
 both true b h = (refl, h)

@@ -26,6 +26,10 @@ abbrev pub Delivers : List Entry → ℕ → ℕ → Type 0
 Delivers [] j i = ⊥
 Delivers (e ∷ past) j i = Delivers past j i ⊎ ((j ≡ length past) × (is_delivery_of i e ≡ true))
 
+-- each delivery names an earlier position
+abbrev pub AreForward : List Entry → Type 0
+AreForward past = (j i : ℕ) → Delivers past j i → i < j
+
 -- i directly precedes j: both are events of one lane, in this order, or j delivers what i sends
 pub data DirectlyPrecedes (past : List Entry) (i j : ℕ) : Type 0 where
   in_order : (p l : ℕ) → i < j → IsEventOf past i p l → IsEventOf past j p l → DirectlyPrecedes past i j

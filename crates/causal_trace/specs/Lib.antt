@@ -1,10 +1,9 @@
+pub mod Inside
 pub mod Limits
 pub mod Past
 pub mod Rows
 pub mod Sizes
 pub mod State
-pub mod Index
 pub mod Dependence
 pub mod Judgement
-pub mod SameDets
 pub mod Agree

@@ -1,6 +1,6 @@
 //! What a trace remembers of each process.
 ghost use Rattle.std.specs.Prelude.{◌≡◌, ◌<◌, length, IfSome, IfOk, All, replicate, if◌then◌else◌};
-ghost use Rattle.causal_trace.specs.Index.{lanes_after, subject, HasRoom, fresh, is_restart, is_delivery, is_lane};
+ghost use Rattle.causal_trace.specs.Inside.Index.{lanes_after, subject, HasRoom, fresh, is_restart};
 
 use crate::entry::Entry;
 use causal_name::NoMemory;
@@ -73,26 +73,5 @@ pub(crate) fn restarts_in(e: &Entry) -> u32
         1
     } else {
         0
-    }
-}
-
-/// One for a delivery.
-pub(crate) fn deliveries_in(e: &Entry) -> u32
-    ensures { result ≡ (if is_delivery e.now then 1 else 0) }
-{
-    if matches!(e, Entry::Deliver { .. }) {
-        1
-    } else {
-        0
-    }
-}
-
-/// Whether the lane is this one.
-pub(crate) fn is_lane(found: Option<u32>, lane: u32) -> bool
-    ensures { result ≡ is_lane found lane }
-{
-    match found {
-        Some(l) => l == lane,
-        None => false,
     }
 }

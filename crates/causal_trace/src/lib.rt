@@ -1,6 +1,8 @@
-//! Traces: recorded runs of processes that send, deliver, log, crash and restart.
+//! Traces: recorded runs of processes that send, deliver, log, crash and restart. `Trace::push` adds an `Entry`, or tells
+//! by a `TraceFault` what stands against it.
 #![tactic(auto)]
 
+mod chains;
 pub mod entry;
 pub mod fault;
 mod lanes;
@@ -9,8 +11,11 @@ pub mod limits;
 pub mod plain;
 #[cfg(test)]
 mod random_tests;
-mod receipts;
 mod scans;
 #[cfg(test)]
 mod tests;
 pub mod trace;
+
+pub use entry::{Dets, Entry};
+pub use fault::TraceFault;
+pub use trace::Trace;

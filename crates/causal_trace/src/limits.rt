@@ -1,6 +1,4 @@
 //! How large a trace may be.
-ghost use Rattle.std.specs.Prelude.{◌≡◌};
-ghost use Rattle.causal_trace.specs.Limits as limits;
 
 /// The greatest number of processes.
 pub const MAX_PROCESSES: u16 = 256;

@@ -135,21 +135,6 @@ pub(crate) fn restarts(entries: &[Entry]) -> usize
     count
 }
 
-/// How many deliveries there were.
-pub(crate) fn deliveries_in(entries: &[Entry]) -> usize
-    ensures value { result ≡ past.deliveries_in (past_at entries.now (length entries.now)) }
-    ensures few { result ≤ length entries.now }
-{
-    let mut count = 0;
-    for e in entries {
-        match e {
-            Entry::Deliver { .. } => count += 1,
-            _ => {}
-        }
-    }
-    count
-}
-
 /// The message that the entry at a position sends, if it is among the first t.
 pub(crate) fn message_at(entries: &[Entry], t: usize, send: u32) -> Option<MsgName>
     requires { t ≤ length entries.now }

@@ -1,21 +1,19 @@
 //! A recorded run that is well formed.
 ghost use Rattle.std.specs.Prelude.{◌≡◌, ◌≤◌, ◌+◌, [], ◌<◌, false, Some, None, IfSome, IfOk, IfErr, OnOk, OnErr, MatchBool, unwrap_or, length};
 ghost use Rattle.std.specs.Option.{option_copied, option_map_or};
+ghost use Rattle.causal_name.specs.Names.{message_of};
+ghost use Rattle.causal_trace.specs.Limits.{max_entries};
+ghost use Rattle.causal_trace.specs.Past.{message_sent};
+ghost use Rattle.causal_trace.specs.Inside.Chains.{HasHead, heads_after, nodes_after};
 
+use crate::chains::{Chains, Receipt, Sought};
 use crate::entry::{Dets, Entry};
 use crate::fault::TraceFault;
-use crate::lanes::{
-    Lane, copied_entries, copied_lanes, deliveries_in, fresh_lanes, is_lane, note_lane, restarts_in,
-};
+use crate::lanes::{Lane, copied_entries, copied_lanes, fresh_lanes, note_lane, restarts_in};
 use crate::limits::{MAX_ENTRIES, MAX_LISTED, MAX_PROCESSES, MAX_RESTARTS};
-use crate::receipts::{
-    are_noted, are_noted_with, copied_dets, copied_receipts, is_noted, note_delivered,
-    note_receipt, received_in,
-};
 use crate::scans;
 use causal_name::{Det, MsgName, NoMemory, Pid};
 use std::alloc::Global;
-use std::collections::{HashMap, HashSet};
 use std::marker::Model;
 
 /// A trace: a recorded run of 1 to 256 processes, each of whose entries may stand where it stands. It keeps its limits,
@@ -24,32 +22,29 @@ use std::marker::Model;
 /// It is seen as its recording, and as the number of pushes that are sure of their memory, of which equality does not
 /// speak.
 ///
-/// Beside the entries it remembers each process's present lane, the determinants that were delivered and the lane in
-/// which each process last delivered each message, so that a push decides each row in constant expected time.
+/// Beside the entries it remembers each process's present lane, and of each message by whom and in which lanes it was
+/// delivered. So a push takes constant time, and for each determinant that the entry names, and for the message that it
+/// delivers, at most one step for each lane that there is: no input makes it longer.
 #[derive(Drop)]
 pub struct Trace {
     processes: u16,
     entries: Vec<Entry>,
     listed: u32,
     restarts: u32,
-    deliveries: u32,
     lanes: Vec<Lane>,
-    delivered: HashSet<Det>,
-    received: HashMap<(Pid, MsgName), u32>,
+    chains: Chains,
 }
 
 impl Model for Trace {
     ghost use Rattle.std.specs.Prelude.{◌-◌, min, vec_len, vec_capacity, reverse};
-    ghost use Rattle.std.specs.HashSet as hash_set;
-    ghost use Rattle.std.specs.HashMap as hash_map;
     ghost use Rattle.causal_trace.specs.State.{TraceState};
-    ghost use Rattle.causal_trace.specs.Index.{IsIndexed};
+    ghost use Rattle.causal_trace.specs.Inside.Index.{IsIndexed};
 
     ghost Value = { TraceState };
 
-    ghost view = { λ a. record { recording = record { processes = a.processes; past = reverse a.entries.items }; spare = min (vec_capacity a.entries - vec_len a.entries) (min (hash_set.spare a.delivered) (hash_map.spare a.received)) } };
+    ghost view = { λ a. record { recording = record { processes = a.processes; past = reverse a.entries.items }; spare = min (vec_capacity a.entries - vec_len a.entries) a.chains.spare } };
 
-    ghost invariant = { λ a. IsIndexed (record { processes = a.processes; past = reverse a.entries.items }) a.listed a.restarts a.deliveries a.lanes.items a.delivered a.received };
+    ghost invariant = { λ a. IsIndexed (record { processes = a.processes; past = reverse a.entries.items }) a.listed a.restarts a.lanes.items a.chains };
 }
 
 impl PartialEq for Trace {
@@ -70,11 +65,11 @@ impl PartialEq for Trace {
 }
 
 impl Trace {
-    ghost use Rattle.causal_trace.specs.Limits.{max_entries, max_listed, IsProcessCount, is_process_count};
+    ghost use Rattle.causal_trace.specs.Limits.{max_listed, IsProcessCount, is_process_count};
     ghost use Rattle.causal_name.specs.declared.Det.{Det};
     ghost use Rattle.causal_trace.specs.Past.{lane, entry_at, listed_in, deliveries_in, det_at, is_delivered, has_delivered};
     ghost use Rattle.causal_trace.specs.Rows.{first_fault, passes_limit, are_delivered, are_delivered_with, IsWellFormed};
-    ghost use Rattle.causal_trace.specs.Index.{lane_of};
+    ghost use Rattle.causal_trace.specs.Inside.Index.{lane_of};
     ghost use Rattle.causal_trace.specs.State.{entries_of, with_entry, is_up_at, lane_at};
 
     /// A trace of n processes with no entries.
@@ -93,10 +88,8 @@ impl Trace {
             entries: Vec::new(alloc),
             listed: 0,
             restarts: 0,
-            deliveries: 0,
             lanes: fresh_lanes(alloc, n as usize)?,
-            delivered: HashSet::new(alloc),
-            received: HashMap::new(alloc),
+            chains: Chains::new(alloc, n as usize)?,
         })
     }
 
@@ -120,31 +113,41 @@ impl Trace {
         if let Some(fault) = self.fault_of(&entry) {
             return Err(fault);
         }
-        self.reserve(1)?;
-        self.note(entry);
+        self.append(entry)?;
         Ok(())
     }
 
-    /// Adds an entry against which nothing stands, where there is room.
-    fn note(&mut self, entry: Entry)
+    /// Adds an entry against which no row stands, where there is room for it: it takes no memory and refuses nothing.
+    pub fn push_reserved(&mut self, entry: Entry)
         requires legal { first_fault self.old.recording.processes self.old.recording.past entry ≡ None }
         requires room { 1 ≤ self.old.spare }
         ensures recording { self.new.recording ≡ with_entry self.old.recording entry }
         ensures spare { self.old.spare ≤ self.new.spare + 1 }
     {
+        let _ = self.append(entry);
+    }
+
+    /// Adds an entry against which no row stands.
+    fn append(&mut self, entry: Entry) -> Result<(), NoMemory>
+        requires { first_fault self.old.recording.processes self.old.recording.past entry ≡ None }
+        ensures ok { OnOk result (self.new.recording ≡ with_entry self.old.recording entry) }
+        ensures err { OnErr result (self.new.recording ≡ self.old.recording) }
+        ensures spare { self.old.spare ≤ self.new.spare + 1 }
+        ensures full { OnErr result (self.old.spare ≡ 0) }
+    {
         let own = scans::det_of_next(self.entries.as_slice(), &entry);
         let lane = self.receipt_lane(own);
-        note_receipt(&mut self.received, own, lane);
-        note_delivered(&mut self.delivered, own);
+        self.entries.reserve(1)?;
+        note(&mut self.chains, &entry, own, lane)?;
         note_lane(self.lanes.as_mut_slice(), &entry);
         self.restarts += restarts_in(&entry);
-        self.deliveries += deliveries_in(&entry);
         self.listed += entry.listed() as u32;
         self.entries.push_reserved(entry);
+        Ok(())
     }
 
     /// The present lane of a determinant's receiver.
-    #[tactic(auto, unfolding(crate::specs::Index::lane_of))]
+    #[tactic(auto, unfolding(crate::specs::Inside::Index::lane_of))]
     fn receipt_lane(&self, own: Option<Det>) -> u32
         requires { IfSome own (λ d. d.dest.0 < self.now.recording.processes) }
         ensures { (d : Det) → own ≡ Some d → result ≡ lane self.now.recording.past d.dest.0 }
@@ -155,7 +158,8 @@ impl Trace {
         }
     }
 
-    /// Makes the next `entries` pushes sure of their memory: none of them answers `NoMemory`.
+    /// Makes the next `entries` pushes sure of their memory: none of them answers `NoMemory`. It takes room for so many
+    /// entries, deliveries and, for each process, sends.
     ///
     /// # Errors
     /// `NoMemory` where a growth was refused; the trace is as it was.
@@ -167,8 +171,7 @@ impl Trace {
     {
         let room = entries as usize;
         self.entries.reserve(room)?;
-        self.delivered.reserve(room)?;
-        self.received.reserve(room)?;
+        self.chains.reserve(room)?;
         Ok(())
     }
 
@@ -221,10 +224,11 @@ impl Trace {
     pub fn deliveries(&self) -> u32
         ensures { result ≡ deliveries_in self.now.recording.past }
     {
-        self.deliveries
+        self.chains.len() as u32
     }
 
-    /// Whether the process is up after the first t entries; no number that is not below `processes` is.
+    /// Whether the process is up after the first t entries; no number that is not below `processes` is. It reads these
+    /// entries: whoever asks at each instant goes over `entries` instead.
     pub fn up(&self, t: u32, p: Pid) -> bool
         requires { t ≤ length self.now.recording.past }
         ensures { result ≡ is_up_at self.now.recording t p.0 }
@@ -233,7 +237,7 @@ impl Trace {
     }
 
     /// The process's lane after the first t entries: how many restarts it has made. None where it is not below
-    /// `processes`.
+    /// `processes`. It reads these entries: whoever asks at each instant goes over `entries` instead.
     pub fn lane(&self, t: u32, p: Pid) -> Option<u32>
         requires { t ≤ length self.now.recording.past }
         ensures { result ≡ lane_at self.now.recording t p.0 }
@@ -254,17 +258,14 @@ impl Trace {
     {
         let entries = copied_entries(&self.entries)?;
         let lanes = copied_lanes(&self.lanes)?;
-        let delivered = copied_dets(&self.delivered)?;
-        let received = copied_receipts(&self.received)?;
+        let chains = self.chains.try_clone()?;
         Ok(Trace {
             processes: self.processes,
             entries,
             listed: self.listed,
             restarts: self.restarts,
-            deliveries: self.deliveries,
             lanes,
-            delivered,
-            received,
+            chains,
         })
     }
 
@@ -283,7 +284,7 @@ impl Trace {
     {
         let lane = self.present_lane(p).restarts;
         match message {
-            Some(m) => is_lane(received_in(&self.received, p, m), lane),
+            Some(m) => self.chains.has(m, p, Sought::InLane(lane)),
             None => false,
         }
     }
@@ -292,21 +293,23 @@ impl Trace {
     fn is_delivered(&self, det: Det) -> bool
         ensures { result ≡ is_delivered self.now.recording.past det }
     {
-        is_noted(&self.delivered, det)
+        self.chains
+            .has(det.message(), det.dest, Sought::AsNumber(det.rsn))
     }
 
     /// Whether each determinant is that of a delivery so far.
     fn are_delivered(&self, dets: &[Det]) -> bool
         ensures { result ≡ are_delivered self.now.recording.past dets.now }
     {
-        are_noted(&self.delivered, dets)
+        dets.iter().all(|d| self.is_delivered(*d))
     }
 
     /// The same, where one more delivery counts too.
     fn are_delivered_with(&self, own: Option<Det>, dets: &[Det]) -> bool
         ensures { result ≡ are_delivered_with self.now.recording.past own dets.now }
     {
-        are_noted_with(&self.delivered, own, dets)
+        dets.iter()
+            .all(|d| scans::is_det(own, *d) || self.is_delivered(*d))
     }
 
     /// Whether one more entry that lists so many determinants would pass a limit.
@@ -463,5 +466,36 @@ impl Trace {
             Entry::Restart { who, listed } => self.restart_fault(*who, listed),
             Entry::Forget { who, listed } => self.forget_fault(*who, listed),
         }
+    }
+}
+
+/// Notes one more entry, whose own determinant is this one, delivered in this lane.
+fn note(chains: &mut Chains, entry: &Entry, own: Option<Det>, lane: u32) -> Result<(), NoMemory>
+    requires sent { IfSome (message_sent entry.now) (λ m. m.source.0 < length chains.old.heads) }
+    requires delivered { IfSome own (λ d. HasHead chains.old.heads (message_of d)) }
+    requires few { length chains.old.nodes < max_entries }
+    ensures heads { OnOk result (chains.new.heads ≡ heads_after (message_sent entry.now) own chains.old) }
+    ensures nodes { OnOk result (chains.new.nodes ≡ nodes_after (message_sent entry.now) own lane chains.old) }
+    ensures err { OnErr result ((chains.new.heads ≡ chains.old.heads) × (chains.new.nodes ≡ chains.old.nodes)) }
+    ensures spare { chains.old.spare ≤ chains.new.spare + 1 }
+    ensures full { OnErr result (chains.old.spare ≡ 0) }
+{
+    if let Entry::Send { from, ssn, .. } = entry {
+        let message = MsgName {
+            source: *from,
+            ssn: *ssn,
+        };
+        return chains.add_message(message);
+    }
+    match own {
+        Some(det) => {
+            let receipt = Receipt {
+                dest: det.dest,
+                lane,
+                rsn: det.rsn,
+            };
+            chains.add_receipt(det.message(), receipt)
+        }
+        None => Ok(()),
     }
 }

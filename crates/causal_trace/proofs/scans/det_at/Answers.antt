@@ -1,7 +1,7 @@
 use Rattle.std.proofs.Common.{arith, sym, ap, ◌∙◌, length}
 use Rattle.causal_trace.specs.State.{past_at}
 use Rattle.causal_trace.specs.Past.{det_of}
-use Rattle.causal_trace.proofs.Instants.{past_length, det_there, det_beyond}
+use Rattle.causal_trace.proofs.Lemmas.Instants.{past_length, det_there, det_beyond}
 use Rattle.causal_trace.proofs.scans.det_at.Goals as goal
 
 pub returns-then-k-entries : goal.returns-then-k-entries

@@ -1,6 +1,6 @@
 use Rattle.std.proofs.Common.{◌∙◌, ap, take}
 use Rattle.causal_trace.specs.Past.{is_down}
-use Rattle.causal_trace.proofs.Instants.{past_whole}
+use Rattle.causal_trace.proofs.Lemmas.Instants.{past_whole}
 use Rattle.causal_trace.proofs.scans.is_down_at.Goals as goal
 
 pub returns : goal.returns

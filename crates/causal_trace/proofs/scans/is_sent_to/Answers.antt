@@ -5,7 +5,7 @@ use Rattle.causal_trace.specs.declared.entry.Entry.{Entry}
 use Rattle.causal_trace.specs.declared.entry.Entry.TheVariants.{Send, Deliver, Stable, Crash, Restart, Forget}
 use Rattle.causal_trace.specs.State.{past_at}
 use Rattle.causal_trace.specs.Past.{is_send_to}
-use Rattle.causal_trace.proofs.Instants.{past_length, entry_there, entry_beyond}
+use Rattle.causal_trace.proofs.Lemmas.Instants.{past_length, entry_there, entry_beyond}
 use Rattle.causal_trace.proofs.scans.is_sent_to.Goals as goal
 
 sends_none : (p : ℕ) (e : Entry) → ((from to : Pid) (ssn : ℕ) → e ≡ Send from to ssn → ⊥) → is_send_to p e ≡ false

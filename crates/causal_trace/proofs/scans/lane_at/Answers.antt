@@ -1,7 +1,7 @@
 use Rattle.std.proofs.Common.{◌∙◌, ap, take, arith}
 use Rattle.std.proofs.lemmas.List.{length-take-le}
 use Rattle.causal_trace.specs.Past.{lane}
-use Rattle.causal_trace.proofs.Instants.{past_whole}
+use Rattle.causal_trace.proofs.Lemmas.Instants.{past_whole}
 use Rattle.causal_trace.proofs.scans.lane_at.Goals as goal
 
 pub returns : goal.returns

@@ -4,7 +4,7 @@ use Rattle.causal_trace.specs.Past.{listed_by}
 use Rattle.causal_trace.specs.Rows.{first_fault}
 use Rattle.causal_trace.specs.State.{with_entry, IsKept}
 use Rattle.std.proofs.lemmas.List.{reverse-append}
-use Rattle.causal_trace.proofs.Formed.{no_memory_told, kept_push}
+use Rattle.causal_trace.proofs.Lemmas.Formed.{no_memory_told, kept_push}
 use Rattle.causal_trace.proofs.plain.PlainTrace.push.Goals as goal
 use Rattle.causal_trace.proofs.plain.PlainTrace.push.Goals.{After-listed-listed}
 

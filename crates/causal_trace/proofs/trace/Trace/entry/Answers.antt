@@ -1,7 +1,7 @@
 use Rattle.std.proofs.Common.{sym, ap, ◌∙◌}
 use Rattle.std.specs.Prelude.{slice_get}
 use Rattle.causal_trace.specs.Past.{entry_at}
-use Rattle.causal_trace.proofs.Instants.{entry_of}
+use Rattle.causal_trace.proofs.Lemmas.Instants.{entry_of}
 use Rattle.causal_trace.proofs.trace.Trace.entry.Goals as goal
 
 pub returns : goal.returns

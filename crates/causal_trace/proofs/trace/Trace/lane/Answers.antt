@@ -4,7 +4,7 @@ use Rattle.std.proofs.lemmas.Bool.Decides.{nat_tests}
 use Rattle.std.proofs.lemmas.List.{length-reverse}
 use Rattle.causal_trace.specs.Past.{instant, lane}
 use Rattle.causal_trace.specs.State.{past_at}
-use Rattle.causal_trace.proofs.Instants.{instant_past}
+use Rattle.causal_trace.proofs.Lemmas.Instants.{instant_past}
 use Rattle.causal_trace.proofs.trace.Trace.lane.Goals as goal
 
 below : (p n : ℕ) → p < n → nat_lt p n ≡ true

@@ -1,6 +1,6 @@
 use Rattle.std.proofs.Common.{◌≡◌, Some, sym, ap, ◌∙◌}
 use Rattle.causal_trace.specs.declared.fault.TraceFault.TheVariants.{NoMemory}
-use Rattle.causal_trace.proofs.Formed.{no_memory_told}
+use Rattle.causal_trace.proofs.Lemmas.Formed.{no_memory_told}
 use Rattle.causal_trace.proofs.trace.Trace.push.Goals as goal
 
 pub returns-in-Some-clause-memory : goal.returns-in-Some-clause-memory

@@ -12,10 +12,11 @@ use Rattle.causal_trace.specs.declared.fault.TraceFault.TheVariants.{NotUp, NotD
 use Rattle.causal_trace.specs.Past.{is_down, is_send_to, is_sent_to}
 use Rattle.causal_trace.specs.Rows.{rows, first_holding, first_fault, AreAccepted}
 use Rattle.causal_trace.specs.Dependence.{is_delivery_of}
-use Rattle.causal_trace.proofs.Formed.{nothing_told}
-use Rattle.causal_trace.proofs.Instants.{entry_beyond}
-use Rattle.causal_trace.proofs.Reached.{AreForward}
+use Rattle.causal_trace.proofs.Lemmas.Formed.{nothing_told}
+use Rattle.causal_trace.proofs.Lemmas.Instants.{entry_beyond}
+use Rattle.causal_trace.specs.Dependence.{AreForward}
 
+-- a test that does not fail holds
 pub not_false : (b : Bool) → not b ≡ false → b ≡ true
 not_false true h = refl
 not_false false h = sym h
@@ -43,6 +44,7 @@ pub delivers_sent : (n : ℕ) (past : List Entry) (to : Pid) (send rsn : ℕ) (l
 unfolding rows
 delivers_sent n past to send rsn listed h = not_false (is_sent_to past send to.0) (row_fails (rows n past (Deliver to send rsn listed)) h 3 (not (is_sent_to past send to.0), NoSend) refl)
 
+-- a send to a process stands within the past
 pub sent_within : (past : List Entry) (send p : ℕ) → is_sent_to past send p ≡ true → send < length past
 sent_within past send p h =
     elim (cases_lt send (length past)) [

@@ -27,6 +27,7 @@ within_limits n past (Crash who) h = (nothing_told _ _ _ h).0
 within_limits n past (Restart who listed) h = (nothing_told _ _ _ h).0
 within_limits n past (Forget who listed) h = (nothing_told _ _ _ h).0
 
+-- a run that passes no limit, in numbers
 pub limits : (n a b : ℕ) → (nat_lt 65536 (n + 1) || nat_lt 1048576 (a + b)) ≡ false → (n + 1 ≤ 65536) × (a + b ≤ 1048576)
 limits n a b h = grind (arith, nat_tests)
 
@@ -58,6 +59,7 @@ no_memory_told n past (Crash who) = no_memory_in (rows n past (Crash who)) refl
 no_memory_told n past (Restart who listed) = no_memory_in (rows n past (Restart who listed)) refl
 no_memory_told n past (Forget who listed) = no_memory_in (rows n past (Forget who listed)) refl
 
+-- a well-formed recording with an entry that may come next is well formed
 pub formed_push : (r : Recording) (e : Entry) → IsWellFormed r → first_fault r.processes r.past e ≡ None → IsWellFormed (with_entry r e)
 formed_push r e formed next = record { count = formed.count; accepted = (formed.accepted, next) }
 

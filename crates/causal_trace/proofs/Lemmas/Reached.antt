@@ -4,8 +4,9 @@ use Rattle.std.specs.Prelude.{◌⊎◌, ◌==◌}
 use Rattle.causal_trace.specs.declared.entry.Entry.{Entry}
 use Rattle.causal_trace.specs.declared.entry.Entry.TheVariants.{Send, Deliver, Stable, Crash, Restart, Forget}
 use Rattle.causal_trace.specs.Past.{is_down, lane}
-use Rattle.causal_trace.specs.Dependence.{actor, is_delivery_of, IsEventOf, Delivers, DirectlyPrecedes, in_order, by_message, Reaches, itself, onward, Depends}
+use Rattle.causal_trace.specs.Dependence.{AreForward, actor, is_delivery_of, IsEventOf, Delivers, DirectlyPrecedes, in_order, by_message, Reaches, itself, onward, Depends}
 
+-- an event stands within the past
 pub event_below : (past : List Entry) (i p l : ℕ) → IsEventOf past i p l → i < length past
 event_below [] i p l h = absurd h
 event_below (e ∷ past) i p l (inl h) = omega (arith, event_below past i p l h)
@@ -19,6 +20,7 @@ lane_grows (Crash who) past p = omega arith
 lane_grows (Forget who listed) past p = omega arith
 lane_grows (Restart who listed) past p = elim (who.0 == p) as (λ b. lane past p ≤ cond b (lane past p + 1) (lane past p)) [ true ↦ omega arith | false ↦ omega arith ]
 
+-- no event is of a lane that is yet to come
 pub event_lane : (past : List Entry) (i p l : ℕ) → IsEventOf past i p l → l ≤ lane past p
 event_lane [] i p l h = absurd h
 event_lane (e ∷ past) i p l (inl h) = omega (arith, event_lane past i p l h, lane_grows e past p)
@@ -37,10 +39,6 @@ delivers_old : (e : Entry) (past : List Entry) (j i : ℕ) → j < length past �
 delivers_old e past j i below (inl h) = h
 delivers_old e past j i below (inr h) = absurd (omega (arith, below, h.0))
 
--- deliveries name earlier sends
-abbrev pub AreForward : List Entry → Type 0
-AreForward past = (j i : ℕ) → Delivers past j i → i < j
-
 precedes_before : (past : List Entry) (i j : ℕ) → AreForward past → DirectlyPrecedes past i j → i < j
 precedes_before past i j forward (in_order p l h a b) = h
 precedes_before past i j forward (by_message h) = forward j i h
@@ -55,6 +53,7 @@ reaches_old e past i forward j below (itself p l at) = itself p l (event_old e p
 reaches_old e past i forward k below (onward {j} r d) =
     onward (reaches_old e past i forward j (let h : j < k = precedes_before (e ∷ past) j k forward d in omega (arith, below, h)) r) (precedes_old e past j k below d)
 
+-- what reaches an event stands within the past
 pub reaches_begins : (past : List Entry) (i j : ℕ) → Reaches past i j → i < length past
 reaches_begins past i j (itself p l at) = event_below past i p l at
 reaches_begins past i j (onward {j = h} r d) = reaches_begins past i h r
@@ -75,6 +74,7 @@ preceded e past i p j k forward is who r (by_message (inl h)) = absurd (omega (a
 preceded e past i p j k forward is who r (by_message (inr h)) =
     through_message j h.1 (reaches_old e past i forward j (omega (arith, forward k j (inr h), is)) r)
 
+-- an event that reaches the newest one is it, or reaches one of its lane, or the send of its message
 pub reaches_newest : (e : Entry) (past : List Entry) (i p k : ℕ) → AreForward (e ∷ past) → k ≡ length past → actor e ≡ Some p → Reaches (e ∷ past) i k → ReachesNewest e past i p
 reaches_newest e past i p k forward is who (itself q l at) = is_newest is
 reaches_newest e past i p k forward is who (onward {j} r d) = preceded e past i p j k forward is who r d

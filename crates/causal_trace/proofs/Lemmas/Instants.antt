@@ -14,12 +14,10 @@ use Rattle.causal_trace.specs.Past.{instant, entry_at, det_of, det_at}
 pub past_more : (es : List Entry) (i : ℕ) (x : Entry) → i < length es → x ≡ get_or es i x → past_at es (i + 1) ≡ x ∷ past_at es i
 past_more es i x below is = ap reverse (take_more es i x below ∙ ap (λ y. take i es ++ y ∷ []) (sym is)) ∙ reverse-append (take i es) (x ∷ [])
 
-pub past_all : (es : List Entry) (i : ℕ) → length es ≤ i → past_at es i ≡ past_at es (length es)
-past_all es i above = ap reverse (take_all i es above ∙ sym (take_all (length es) es (omega arith)))
-
 past_next : (es : List Entry) (i : ℕ) (d : Entry) → i < length es → past_at es (i + 1) ≡ get_or es i d ∷ past_at es i
 past_next es i d below = ap reverse (take_more es i d below) ∙ reverse-append (take i es) (get_or es i d ∷ [])
 
+-- a state has so many entries
 pub past_length : (es : List Entry) (t : ℕ) → t ≤ length es → length (past_at es t) ≡ t
 past_length es t within = length-reverse (take t es) ∙ length-take-le t es within
 
@@ -33,6 +31,7 @@ entry_there es (suc t) k d within below =
       | inr older ↦ cond-false (k == length (past_at es t)) _ _ (ne_eqb k (length (past_at es t)) (λ e. older.1 (e ∙ past_length es t (omega (arith, within))))) ∙ entry_there es t k d (omega (arith, within)) (let ne : k ≡ t → ⊥ = older.1 in omega (arith, below))
     ]
 
+-- no entry stands beyond the past
 pub entry_beyond : (past : List Entry) (k : ℕ) → length past ≤ k → entry_at past k ≡ None
 entry_beyond [] k above = refl
 entry_beyond (e ∷ past) k above = cond-false (k == length past) _ _ (ne_eqb k (length past) (λ is. omega (arith, above, is))) ∙ entry_beyond past k (omega (arith, above))
@@ -51,10 +50,12 @@ det_there es (suc t) k d within below =
           ∙ det_there es t k d (omega (arith, within)) (let ne : k ≡ t → ⊥ = older.1 in omega (arith, below))
     ]
 
+-- no delivery stands beyond the past
 pub det_beyond : (past : List Entry) (k : ℕ) → length past ≤ k → det_at past k ≡ None
 det_beyond [] k above = refl
 det_beyond (e ∷ past) k above = cond-false (k == length past) _ _ (ne_eqb k (length past) (λ is. omega (arith, above, is))) ∙ det_beyond past k (omega (arith, above))
 
+-- the state after all entries
 pub past_whole : (es : List Entry) → past_at es (length es) ≡ reverse es
 past_whole es = ap reverse (take_all (length es) es (omega arith))
 

@@ -1,0 +1,70 @@
+-- What holds of a run holds of its instants.
+use Rattle.std.proofs.Common.{ℕ, zero, suc, inl, inr, ◌≡◌, ◌+◌, ◌-◌, ◌<◌, ◌≤◌, List, [], ◌∷◌, ◌++◌, length, take, drop, reverse, Some, None, refl, sym, ap, ◌∙◌, add-one, arith}
+use Rattle.std.specs.Prelude.{◌==◌}
+use Rattle.std.proofs.lemmas.List.{length-drop, length-reverse, reverse-append, reverse-reverse, drop_at, take-append-drop}
+use Rattle.std.proofs.lemmas.Bool.{cases_lt, cond-false, ne_eqb}
+use Rattle.causal_name.specs.declared.Det.{Det}
+use Rattle.causal_trace.specs.declared.entry.Entry.{Entry}
+use Rattle.causal_trace.specs.Past.{instant, det_at, det_of}
+use Rattle.causal_trace.specs.Rows.{AreAccepted}
+use Rattle.causal_trace.specs.State.{past_at}
+use Rattle.causal_trace.proofs.Lemmas.Instants.{det_beyond}
+
+-- one more entry leaves the instants that there were, and makes one more
+pub instants_stay : (e : Entry) (past : List Entry) (t : ℕ) → t ≤ length past → instant (e ∷ past) t ≡ instant past t
+instants_stay e past t within = ap (λ n. drop n (e ∷ past)) (let later : length (e ∷ past) - t ≡ (length past - t) + 1 = omega (arith, within) in later) ∙ dropped (length past - t) e past
+  where
+    dropped : (n : ℕ) (e : Entry) (past : List Entry) → drop (n + 1) (e ∷ past) ≡ drop n past
+    dropped n e past = rw add-one refl
+
+-- and the newest instant is the whole with it
+pub one_more_instant : (e : Entry) (past : List Entry) → instant (e ∷ past) (length past + 1) ≡ e ∷ past
+one_more_instant e past = ap (λ n. drop n (e ∷ past)) (let none : length (e ∷ past) - (length past + 1) ≡ 0 = omega arith in none)
+
+-- what holds of a past wherever it holds with one more entry holds of each part of it
+pub older : (P : List Entry → Type 0) → ((e : Entry) (past : List Entry) → P (e ∷ past) → P past) → (n : ℕ) (past : List Entry) → P past → P (drop n past)
+older P step zero past h = h
+older P step (suc n) [] h = h
+older P step (suc n) (e ∷ past) h = older P step n past (step e past h)
+
+-- what holds of a past, and of each part of one that it holds of, holds at each instant
+pub at_instant : (P : List Entry → Type 0) → ((e : Entry) (past : List Entry) → P (e ∷ past) → P past) → (past : List Entry) (t : ℕ) → P past → P (instant past t)
+at_instant P step past t h = older P step (length past - t) past h
+
+-- a well-formed run is well formed at each instant
+pub accepted_then : (n : ℕ) (past : List Entry) (t : ℕ) → AreAccepted n past → AreAccepted n (instant past t)
+accepted_then n past t h = at_instant (AreAccepted n) (λ e p k. k.0) past t h
+
+-- an instant has so many entries
+pub instant_length : (past : List Entry) (t : ℕ) → t ≤ length past → length (instant past t) ≡ t
+instant_length past t within = length-drop (length past - t) past ∙ (let e : length past - (length past - t) ≡ t = omega (arith, within) in e)
+
+-- the last instant is the whole
+pub last_instant : (past : List Entry) → instant past (length past) ≡ past
+last_instant past = ap (λ n. drop n past) (let none : length past - length past ≡ 0 = omega arith in none)
+
+-- the states of the entries in their order are the instants
+pub read_instant : (past : List Entry) (t : ℕ) → t ≤ length past → past_at (reverse past) t ≡ instant past t
+read_instant past t within =
+    let es = reverse past in
+    let split : past ≡ reverse (drop t es) ++ reverse (take t es) = sym (reverse-reverse past) ∙ ap reverse (sym (take-append-drop t es)) ∙ reverse-append (take t es) (drop t es) in
+    sym (ap (λ x. drop (length past - t) x) split ∙ drop_at (reverse (drop t es)) (reverse (take t es)) (length past - t) (length-reverse (drop t es) ∙ length-drop t es ∙ ap (λ n. n - t) (length-reverse past)))
+
+-- a delivery stands within the past
+pub det_within : (past : List Entry) (k : ℕ) (d : Det) → det_at past k ≡ Some d → k < length past
+det_within past k d at =
+    elim (cases_lt k (length past)) [
+      | inl h ↦ h
+      | inr h ↦ absurd (let e : None ≡ Some d = sym (det_beyond past k h) ∙ at in cc)
+    ]
+
+-- a delivery's determinant is the same at each later instant
+pub det_then : (past : List Entry) (t k : ℕ) → k < t → t ≤ length past → det_at (instant past t) k ≡ det_at past k
+det_then [] t k below within = absurd (omega (arith, below, within))
+det_then (e ∷ past) t k below within =
+    elim (cases_lt (length past) t) [
+      | inl h ↦ let is : t ≡ length past + 1 = omega (arith, h, within) in ap (λ u. det_at (instant (e ∷ past) u) k) is ∙ ap (λ x. det_at x k) (one_more_instant e past)
+      | inr h ↦
+          ap (λ x. det_at x k) (instants_stay e past t h) ∙ det_then past t k below h
+          ∙ sym (cond-false (k == length past) (det_of past e) (det_at past k) (ne_eqb k (length past) (λ is. omega (arith, below, h, is))))
+    ]

@@ -1,0 +1,45 @@
+use Rattle.std.proofs.Common.{ℕ, ◌<◌, ◌≤◌, ◌≡◌, length, get_or, set, ◌∙◌, arith}
+use Rattle.std.proofs.Math.Seq.{map-set_same}
+use Rattle.causal_trace.specs.Inside.Chains.{least_room}
+use Rattle.causal_trace.proofs.Rooms.{room, least_at, least_each, least_grown, room_set, on_err}
+use Rattle.causal_trace.proofs.chains.reserve_each.Goals as goal
+use Rattle.causal_trace.proofs.chains.reserve_each.Goals.{After-reserve}
+
+inside : (c : After-reserve) → c.loop-list.list-index < length c.loop-list.lists
+inside c = omega (arith, c.loop-list-test.true, c.loop-list.auto.lists)
+
+-- the list keeps its items, and has as much room
+same : (c : After-reserve) → c.reserve.new.self.items ≡ (get_or c.loop-list.lists c.loop-list.list-index c.list-item.result).items
+same c = c.reserve.ensures.items
+
+grown : (c : After-reserve) → (other : ℕ) → least_room c.args.lists.now other ≤ least_room (set c.loop-list.lists c.loop-list.list-index c.reserve.new.self) other
+grown c other =
+    let here : room (get_or c.loop-list.lists c.loop-list.list-index c.list-item.result) ≤ room c.reserve.new.self = omega (arith, c.reserve.ensures.capacity, c.reserve.ensures.len) in
+    omega (arith, c.loop-list.invariant.grown other, least_grown c.loop-list.lists c.loop-list.list-index other c.reserve.new.self c.list-item.result (inside c) here)
+
+pub returns-in_err-reserve-clause-items : goal.returns-in_err-reserve-clause-items
+returns-in_err-reserve-clause-items c =
+    let d : After-reserve = (goal.at.returns-in_err-reserve-clause-items c).After-reserve in
+    map-set_same (λ list. list.items) c.loop-list.lists c.loop-list.list-index c.reserve.new.self c.list-item.result (same d) ∙ c.loop-list.invariant.items
+
+pub returns-in_err-reserve-clause-grown : goal.returns-in_err-reserve-clause-grown
+returns-in_err-reserve-clause-grown c = grown (goal.at.returns-in_err-reserve-clause-grown c).After-reserve
+
+pub returns-in_err-reserve-clause-full : goal.returns-in_err-reserve-clause-full
+returns-in_err-reserve-clause-full c =
+    let d : After-reserve = (goal.at.returns-in_err-reserve-clause-full c).After-reserve in
+    let few : (other : ℕ) → least_room c.args.lists.now other < c.args.room = λ other.
+    omega (arith, c.loop-list.invariant.grown other, least_at c.loop-list.lists other c.loop-list.list-index c.list-item.result (inside d), c.in_err-reserve.ensures.full, (get_or c.loop-list.lists c.loop-list.list-index c.list-item.result).ok.1) in
+    on_err c.from_residual.result few
+
+pub loop-list-preserved : goal.loop-list-preserved
+loop-list-preserved c =
+    let d : After-reserve = (goal.at.loop-list-preserved c).After-reserve in
+    record {
+      items = map-set_same (λ list. list.items) c.loop-list.lists c.loop-list.list-index c.reserve.new.self c.list-item.result (same d) ∙ c.loop-list.invariant.items;
+      grown = grown d;
+      done = room_set c.loop-list.lists c.loop-list.list-index c.args.room c.reserve.new.self (inside d) (omega (arith, c.in_ok-reserve.ensures.ok)) c.loop-list.invariant.done;
+    }
+
+pub returns-clause-ok : goal.returns-clause-ok
+returns-clause-ok c = λ other h. least_each c.loop-list.lists c.args.room other h (λ k d below. c.loop-list.invariant.done k d (omega (arith, below, c.loop-list-test.false, c.loop-list.auto.lists)))

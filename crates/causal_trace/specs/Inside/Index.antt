@@ -1,0 +1,82 @@
+-- What a trace remembers beside its entries, so that a push need not read them: each process's present lane, and the
+-- deliveries of each message.
+use Rattle.std.specs.Prelude.{◌≡◌, ℕ, ◌+◌, ◌<◌, ◌≤◌, Bool, true, false, List, length, slice_index_or, slice_set, Option, Some, None, IfSome}
+use Rattle.causal_name.specs.declared.Pid.{Pid}
+use Rattle.causal_name.specs.declared.MsgName.{MsgName}
+use Rattle.causal_trace.specs.declared.entry.Entry.{Entry}
+use Rattle.causal_trace.specs.declared.entry.Entry.TheVariants.{Send, Deliver, Stable, Crash, Restart, Forget}
+use Rattle.causal_trace.specs.declared.lanes.Lane.{Lane}
+use Rattle.causal_trace.specs.Past.{is_down, lane, sends, deliveries, restarts, deliveries_in, message_at}
+use Rattle.causal_trace.specs.Rows.{Recording}
+use Rattle.causal_trace.specs.State.{IsKept}
+use Rattle.causal_trace.specs.Inside.Chains.{Heads, AreLinked, HasHead, ChainsState, chain, head_of, heads_of, receipts}
+use Rattle.causal_trace.specs.declared.chains.Node.{Node}
+
+-- p's present lane
+abbrev pub lane_of : List Entry → ℕ → Lane
+lane_of past p = record { down = is_down past p; restarts = lane past p; sends = sends past p; deliveries = deliveries past p }
+
+abbrev pub fresh : Lane
+fresh = record { down = false; restarts = 0; sends = 0; deliveries = 0 }
+
+-- the lane of the process that an entry is of, after the entry
+abbrev pub lane_after : Entry → Lane → Lane
+lane_after (Send from to ssn) l = record { down = l.down; restarts = l.restarts; sends = l.sends + 1; deliveries = l.deliveries }
+lane_after (Deliver to send rsn listed) l = record { down = l.down; restarts = l.restarts; sends = l.sends; deliveries = l.deliveries + 1 }
+lane_after (Crash who) l = record { down = true; restarts = l.restarts; sends = l.sends; deliveries = l.deliveries }
+lane_after (Restart who listed) l = record { down = false; restarts = l.restarts + 1; sends = 0; deliveries = 0 }
+lane_after (Stable det) l = l
+lane_after (Forget who listed) l = l
+
+-- the process that an entry is of
+abbrev pub subject : Entry → Option Pid
+subject (Send from to ssn) = Some from
+subject (Deliver to send rsn listed) = Some to
+subject (Stable det) = None
+subject (Crash who) = Some who
+subject (Restart who listed) = Some who
+subject (Forget who listed) = Some who
+
+-- the lanes after an entry: only that of its process changes
+abbrev pub lanes_after_of : Option Pid → Entry → List Lane → List Lane
+lanes_after_of None e lanes = lanes
+lanes_after_of (Some p) e lanes = slice_set lanes p.0 (lane_after e (slice_index_or lanes p.0 fresh))
+
+abbrev pub lanes_after : Entry → List Lane → List Lane
+lanes_after e lanes = lanes_after_of (subject e) e lanes
+
+-- the present lanes of n processes
+pub record AreLanes (n : ℕ) (past : List Entry) (lanes : List Lane) : Type 0 where
+  pub count : length lanes ≡ n
+  pub each : (p : ℕ) (d : Lane) → p < n → slice_index_or lanes p d ≡ lane_of past p
+
+-- the counters have room for one more
+pub record HasRoom (l : Lane) : Type 0 where
+  pub restarts : l.restarts < 65536
+  pub sends : l.sends < 65536
+  pub deliveries : l.deliveries < 65536
+
+-- a message of the run has a head
+abbrev pub HasHeads : List Entry → Heads → Type 0
+HasHeads past heads = (k : ℕ) → IfSome (message_at past k) (HasHead heads)
+
+-- heads and nodes have the deliveries of a run of n processes
+pub record AreChains (n : ℕ) (past : List Entry) (heads : Heads) (nodes : List Node) : Type 0 where
+  pub count : length heads ≡ n
+  pub linked : AreLinked heads nodes
+  pub counted : length nodes ≡ deliveries_in past
+  pub sent : (p : ℕ) → p < n → sends past p ≤ length (heads_of heads p)
+  pub named : HasHeads past heads
+  pub each : (m : MsgName) → chain nodes (head_of heads m) ≡ receipts past m
+
+-- a recording with what is remembered of it
+pub record IsIndexed (r : Recording) (n_listed n_restarts : ℕ) (by_process : List Lane) (by_message : ChainsState) : Type 0 where
+  pub kept : IsKept r n_listed
+  pub restarted : n_restarts ≡ restarts r.past
+  pub lanes : AreLanes r.processes r.past by_process
+  pub chains : AreChains r.processes r.past by_message.heads by_message.nodes
+
+-- one for a restart
+abbrev pub is_restart : Entry → Bool
+is_restart (Restart who listed) = true
+is_restart _ = false
