@@ -1,11 +1,12 @@
 -- Lines of a text that comes in pieces.
-use Rattle.std.proofs.Common.{◌≡◌, ◌≢◌, ℕ, zero, suc, ◌<◌, ◌≤◌, List, [], ◌∷◌, ◌++◌, length, take, Bool, true, false, Result, Ok, Err, refl, ap, sym, ◌∙◌, arith, append_assoc, append-nil, eqb-true, subst}
+use Rattle.std.proofs.Common.{◌≡◌, ◌≢◌, ℕ, zero, suc, ◌+◌, ◌<◌, ◌≤◌, List, [], ◌∷◌, ◌++◌, length, take, Bool, true, false, Result, Ok, Err, refl, ap, sym, ◌∙◌, arith, append_assoc, append-nil, eqb-true, subst}
 use Rattle.std.specs.Prelude.{◌==◌, ◌&&◌, not}
 use Rattle.memchr.specs.Find.{Nowhere, Passes, is_byte}
 use Rattle.causal_text.specs.declared.kind.TextKind.{TextKind}
 use Rattle.causal_text.specs.declared.kind.TextKind.TheVariants as kind
 use Rattle.causal_text.specs.declared.kind.TextFault.{TextFault}
 use Rattle.causal_text.specs.Lines.{lines, before_first_line}
+use Rattle.causal_text.specs.Spelling.{IsReadUpTo, IsReadAt}
 use Rattle.causal_text.specs.Place.{Place, start, IsTextFaultOf, and_then, next, after_lines, ended, reading}
 use Rattle.causal_text.specs.Pieces.{no_feed, IsComplete, AreComplete, joined, Held, StandsFor, IsFaultOfAll, with_line, IsPast, last_place, ending}
 use Rattle.causal_text.proofs.Spellings.{IsPlaceAfter-next}
@@ -195,3 +196,23 @@ reading-ending h b s =
     let same : after_lines start (lines b) ≡ last_place h h.rest =
     ap (λ xs. after_lines start (lines xs)) (sym (append-nil b)) ∙ all ∙ ap (λ xs. after_lines h.place (lines xs)) (append-nil h.rest) ∙ last_lines h.place h.rest s.unfinished in
     ap (λ (r : Result Place TextFault). and_then r (λ p. ended p p.stage)) same
+
+-- ---- the line that is being read
+
+pub IsReadAt-stands : (h : Held) (b : List ℕ) (line : ℕ) → StandsFor h b → line ≡ h.place.count + 1 → IsReadAt b line
+IsReadAt-stands h b line s is more = record {
+  before = s.complete;
+  after = lines (h.rest ++ more);
+  stage = h.place.stage;
+  split = ap (λ xs. lines (xs ++ more)) s.whole ∙ ap lines (append_assoc (joined s.complete) h.rest more) ∙ lines_joined s.complete (h.rest ++ more) s.each;
+  reaches = s.place_is.reaches;
+  number = is ∙ ap (λ n. n + 1) s.place_is.count;
+}
+
+pub IsReadAt-more : (b piece : List ℕ) (line : ℕ) → IsReadAt b line → IsReadAt (b ++ piece) line
+IsReadAt-more b piece line h more = subst (λ (text : List ℕ). IsReadUpTo text line) (sym (append_assoc b piece more)) (h (piece ++ more))
+
+-- the line that was begun when a part of the piece had come
+pub line_of_part : (h0 h : Held) (done left b : List ℕ) (line : ℕ) → Comes h0 done h → StandsFor h0 b → line ≡ h.place.count + 1 → IsReadAt (b ++ (done ++ left)) line
+line_of_part h0 h done left b line c s is =
+    subst (λ (bytes : List ℕ). IsReadAt bytes line) (append_assoc b done left) (IsReadAt-more (b ++ done) left line (IsReadAt-stands h (b ++ done) line (c b s) is))

@@ -1,10 +1,12 @@
+pub mod Lemmas
 pub mod Fields
 pub mod Values
+pub mod Passed
+pub mod Outlines
 pub mod Joined
 pub mod Steps
 pub mod Spellings
 pub mod Complete
-pub mod Exact
 pub mod Texts
 pub mod ReadsBack
 pub mod ShapeData

@@ -10,9 +10,9 @@ use Rattle.causal_text.specs.declared.stream.State.TheVariants as state
 use Rattle.causal_text.specs.declared.stream.Progress.TheVariants as progress
 use Rattle.causal_text.specs.declared.stream.ReaderFault.{ReaderFault}
 use Rattle.causal_text.specs.declared.stream.ReaderFault.TheVariants as fault
-use Rattle.causal_text.specs.Spelling.{Spells, IsFirstFault}
+use Rattle.causal_text.specs.Spelling.{Spells, IsFirstFault, IsReadUpTo, IsReadAt}
 use Rattle.causal_text.specs.Pieces.{joined, Held, taken, StandsFor}
-use Rattle.causal_text.specs.Streams.{HasRead, IsReading, Follows, PieceEndsAt, TellsFault, TellsOf, IsFaultAfter}
+use Rattle.causal_text.specs.Streams.{HasRead, IsReading, Follows, PieceEndsAt, TellsFault, TellsOf, TellsLine, TellsLineOf, IsFaultAfter}
 
 pub Consumes-then : (a m n : Option (List ℕ)) (xs ys : List ℕ) → Consumes a m xs → Consumes m n ys → Consumes a n (xs ++ ys)
 Consumes-then None m n xs ys p q = tt
@@ -71,3 +71,16 @@ TellsOf-faults (Some bytes) mid left stood read (fault.Text f) p s h = λ other.
     first_of_source bytes read told.0 left f (Consumes-then (Some bytes) mid left read told.0 p told.1) told.2 (told.3 read s)
 TellsOf-faults (Some bytes) mid left stood read fault.Failed p s h = absurd (h read s)
 TellsOf-faults (Some bytes) mid left stood read fault.Unfinished p s h = absurd h
+
+line_of_source : (bytes read piece : List ℕ) (left : Option (List ℕ)) (line : ℕ) → Consumes (Some bytes) left (read ++ piece) → IsReadAt (read ++ piece) line → IsReadUpTo bytes line
+line_of_source bytes read piece None line p h = absurd p
+line_of_source bytes read piece (Some rest) line p h = subst (λ text. IsReadUpTo text line) (sym p) (h rest)
+
+pub TellsLineOf-faults : (known mid left : Option (List ℕ)) (stood : List ℕ → Type 0) (read : List ℕ) (f : ReaderFault) → Consumes known mid read → stood read → TellsLine mid left stood f → IfSome known (λ bytes. TellsLineOf bytes f)
+TellsLineOf-faults None mid left stood read f p s h = tt
+TellsLineOf-faults (Some bytes) mid left stood read fault.Read p s h = tt
+TellsLineOf-faults (Some bytes) mid left stood read (fault.Text f) p s h = λ wants.
+    let told = h wants in
+    line_of_source bytes read told.0 left f.line (Consumes-then (Some bytes) mid left read told.0 p told.1) (told.2 read s)
+TellsLineOf-faults (Some bytes) mid left stood read fault.Failed p s h = tt
+TellsLineOf-faults (Some bytes) mid left stood read fault.Unfinished p s h = tt

@@ -1,3 +1,4 @@
+pub mod Inside
 pub mod Lines
 pub mod Reading
 pub mod Shapes

@@ -1,5 +1,5 @@
 -- Where a reader of lines stands, and where each line takes it.
-use Rattle.std.specs.Prelude.{◌≡◌, ℕ, ◌+◌, List, [], ◌∷◌, length, sum_by, Result, Ok, Err}
+use Rattle.std.specs.Prelude.{◌≡◌, ℕ, ◌+◌, ◌≤◌, List, [], ◌∷◌, length, sum_by, Result, Ok, Err}
 use Rattle.causal_trace.specs.Rows.{Recording}
 use Rattle.causal_text.specs.declared.kind.TextKind.{TextKind}
 use Rattle.causal_text.specs.declared.kind.TextKind.TheVariants as kind
@@ -39,6 +39,10 @@ and_then (Err e) f = Err e
 -- the place after one more line
 abbrev pub next : Place → List ℕ → Result Place TextFault
 next p line = and_then (after_line p.stage (p.size + length line) line at (p.count + 1)) (λ s. Ok (record { stage = s; count = p.count + 1; size = p.size + length line }))
+
+-- each line of at least so many bytes has the fault, whatever it holds
+abbrev pub IsFaultFrom : Place → ℕ → TextFault → Type 0
+IsFaultFrom p n fault = (line : List ℕ) → n ≤ length line → next p line ≡ Err fault
 
 -- the place after these lines, or the fault of the first of them that has one
 abbrev pub after_lines : Place → List (List ℕ) → Result Place TextFault

@@ -68,3 +68,18 @@ pub record IsCut (text : List ℕ) (fault : TextFault) : Type 0 where
 -- the first fault of a text: that of the least line that has one, or that the text ends too early
 abbrev pub IsFirstFault : List ℕ → TextFault → Type 0
 IsFirstFault text fault = IsFaultOfLine text fault ⊎ IsCut text fault
+
+-- ---- the line that is being read
+
+-- no line before the one of this number has a fault
+pub record IsReadUpTo (text : List ℕ) (line : ℕ) : Type 0 where
+  pub before : List (List ℕ)
+  pub after : List (List ℕ)
+  pub stage : Stage
+  pub split : lines text ≡ before ++ after
+  pub reaches : Reaches before stage
+  pub number : line ≡ length before + 1
+
+-- the same of each text that begins so
+abbrev pub IsReadAt : List ℕ → ℕ → Type 0
+IsReadAt bytes line = (more : List ℕ) → IsReadUpTo (bytes ++ more) line

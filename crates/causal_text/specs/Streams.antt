@@ -12,7 +12,7 @@ use Rattle.causal_text.specs.declared.stream.State.TheVariants as state
 use Rattle.causal_text.specs.declared.stream.Progress.{Progress}
 use Rattle.causal_text.specs.declared.stream.Progress.TheVariants as progress
 use Rattle.causal_text.specs.Pieces.{StandsFor}
-use Rattle.causal_text.specs.Spelling.{Spells, IsFirstFault}
+use Rattle.causal_text.specs.Spelling.{Spells, IsFirstFault, IsReadUpTo, IsReadAt}
 use Rattle.causal_text.specs.Stages.{max_text}
 
 -- what a contract sees of a reader of a trace: its source of bytes, and how far it is
@@ -31,9 +31,13 @@ abbrev pub IsReading : State → Type 0
 IsReading (state.Reading held) = Unit {0}
 IsReading s = ⊥
 
+-- how many bytes a piece may have
+abbrev pub max_piece : ℕ
+max_piece = 4096
+
 -- after a piece with bytes the text goes on, and after an empty one it has ended
 abbrev pub HasPiece : Progress → List ℕ → Type 0
-HasPiece progress.More piece = 0 < length piece
+HasPiece progress.More piece = (0 < length piece) × (length piece ≤ max_piece)
 HasPiece progress.Ended piece = piece ≡ []
 
 abbrev pub Follows : Progress → State → Type 0
@@ -62,6 +66,17 @@ TellsFault old new read fault.Read = Unit {0}
 TellsFault old new read (fault.Text f) = f.kind ≢ NoMemory → (piece : List ℕ) × Consumes old new piece × PieceEndsAt piece new × ((b : List ℕ) → read b → IsFaultAfter piece (b ++ piece) f)
 TellsFault old new read fault.Failed = (b : List ℕ) → read b → ⊥
 TellsFault old new read fault.Unfinished = ⊥
+
+-- which line a want of memory tells, of a reader that had read what `read` says: one before which the bytes read have no
+-- fault
+abbrev pub TellsLine : Option (List ℕ) → Option (List ℕ) → (List ℕ → Type 0) → ReaderFault → Type 0
+TellsLine old new read (fault.Text f) = f.kind ≡ NoMemory → (piece : List ℕ) × Consumes old new piece × ((b : List ℕ) → read b → IsReadAt (b ++ piece) f.line)
+TellsLine old new read fault = Unit {0}
+
+-- the same of a source that is read to its end
+abbrev pub TellsLineOf : List ℕ → ReaderFault → Type 0
+TellsLineOf bytes (fault.Text f) = f.kind ≡ NoMemory → IsReadUpTo bytes f.line
+TellsLineOf bytes fault = Unit {0}
 
 -- what a fault tells of a source that is read to its end: the first fault of its bytes, unless memory was wanted
 abbrev pub TellsOf : List ℕ → ReaderFault → Type 0

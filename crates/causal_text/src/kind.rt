@@ -96,6 +96,6 @@ impl<T: Drop> From<AllocFailed<T>> for TextKind {
     ghost from_gives = { λ _ e. e ≡ NoMemory };
 
     fn from(_refused: AllocFailed<T>) -> TextKind {
-        TextKind::NoMemory
+        Self::NoMemory
     }
 }

@@ -8,6 +8,7 @@ pub mod kind;
 pub mod laws;
 mod line_reader;
 mod lines;
+mod outline;
 pub mod reader;
 mod recorded;
 pub mod report;

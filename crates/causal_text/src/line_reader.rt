@@ -1,6 +1,6 @@
 //! A text line by line.
-ghost use Rattle.std.specs.Prelude.{◌≡◌, ◌+◌, ◌<◌, ◌≤◌, ◌++◌, List, ℕ, length, Err, IfSome, IfNone};
-ghost use Rattle.causal_text.specs.Place.{start, next, ended, GivesText};
+ghost use Rattle.std.specs.Prelude.{◌≡◌, ◌≢◌, ◌+◌, ◌<◌, ◌≤◌, length, IfSome, IfNone, IfErr};
+ghost use Rattle.causal_text.specs.Place.{start, next, ended, GivesText, IsFaultFrom};
 
 use crate::kind::{TextFault, TextKind};
 use crate::recorded::Recorded;
@@ -42,7 +42,8 @@ impl LineReader {
     /// Takes the next line.
     pub(crate) fn take(self, alloc: Global, line: &[u8]) -> Result<LineReader, TextFault>
         requires { 0 < length line.now }
-        ensures { GivesText result (next self line.now) }
+        ensures value { GivesText result (next self line.now) }
+        ensures line { IfErr result (λ fault. fault.line ≡ self.count + 1) }
     {
         let LineReader { stage, count, size } = self;
         let end = size.saturating_add(line.len());
@@ -61,7 +62,8 @@ impl LineReader {
 
     /// Want of memory at the line that is being read.
     pub(crate) fn no_memory(&self) -> TextFault
-        ensures { result.kind ≡ TextKind.NoMemory }
+        ensures kind { result.kind ≡ TextKind.NoMemory }
+        ensures line { result.line ≡ self.now.count + 1 }
     {
         TextFault {
             line: self.count + 1,
@@ -69,18 +71,21 @@ impl LineReader {
         }
     }
 
-    /// The fault of a line that begins so, where the text is too long already.
-    pub(crate) fn past(&self, begun: &[u8]) -> Option<TextFault>
-        ensures past { IfSome result (λ fault. (0 < length begun.now)
-            × ((more : List ℕ) → next self.now (begun.now ++ more) ≡ Err fault)) }
-        ensures room { IfNone result (self.now.size + length begun.now ≤ 33554432) }
+    /// The fault of each line that has so many bytes or more, where it is known by their number: no byte follows an end
+    /// line, and none goes past the text's limit. So it is told before any of them is held.
+    pub(crate) fn past(&self, len: usize) -> Option<TextFault>
+        ensures past { IfSome result (λ fault. (0 < len) × IsFaultFrom self.now len fault) }
+        ensures line { IfSome result (λ fault. fault.line ≡ self.now.count + 1) }
+        ensures room { IfNone result (self.now.size + len ≤ 33554432) }
     {
-        if self.size.saturating_add(begun.len()) <= MAX_TEXT {
+        let end = self.size.saturating_add(len);
+        if len == 0 {
             return None;
         }
         let kind = match self.stage {
             Stage::Ended { .. } => TextKind::After,
-            _ => TextKind::Big,
+            _ if end > MAX_TEXT => TextKind::Big,
+            _ => return None,
         };
         Some(TextFault {
             line: self.count + 1,
@@ -90,7 +95,8 @@ impl LineReader {
 
     /// The trace, where its end line has come.
     pub(crate) fn finish(self) -> Result<Recorded, TextFault>
-        ensures { GivesText result (ended self self.stage) }
+        ensures value { GivesText result (ended self self.stage) }
+        ensures kind { IfErr result (λ fault. fault.kind ≢ TextKind.NoMemory) }
     {
         match self.stage {
             Stage::Ended { trace, .. } => Ok(trace),

@@ -1,8 +1,8 @@
 //! From a text, whole or in pieces, to the trace that it spells, or to its first fault.
-ghost use Rattle.std.specs.Prelude.{◌≡◌, ◌≢◌, ◌++◌, ◌<◌, ◌≤◌, List, [], ℕ, length, IfOk, IfErr};
+ghost use Rattle.std.specs.Prelude.{◌≡◌, ◌≢◌, ◌++◌, ◌+◌, ◌<◌, ◌≤◌, List, [], ℕ, length, IfOk, IfErr};
 ghost use Rattle.causal_text.specs.Place.{GivesText, reading};
 ghost use Rattle.causal_text.specs.Pieces.{StandsFor, IsFaultOfAll, with_line, IsPast, ending, taken};
-ghost use Rattle.causal_text.specs.Spelling.{Spells, IsFirstFault};
+ghost use Rattle.causal_text.specs.Spelling.{Spells, IsFirstFault, IsReadUpTo, IsReadAt};
 
 use crate::kind::{TextFault, TextKind};
 use crate::line_reader::LineReader;
@@ -42,12 +42,16 @@ impl PieceReader {
     /// Takes the rest of a line, with its line feed.
     fn complete(self, alloc: Global, line: &[u8]) -> Result<PieceReader, TextFault>
         requires { 0 < length line.now }
-        ensures { GivesText result (with_line self line.now) }
+        ensures value { GivesText result (with_line self line.now) }
+        ensures line { IfErr result (λ fault. fault.line ≡ self.place.count + 1) }
     {
         let PieceReader { lines, mut rest } = self;
         if rest.is_empty() {
             let lines = lines.take(alloc, line)?;
             return Ok(PieceReader { lines, rest });
+        }
+        if let Some(fault) = lines.past(rest.len().saturating_add(line.len())) {
+            return Err(fault);
         }
         if rest.extend_from_slice(line).is_err() {
             return Err(lines.no_memory());
@@ -57,22 +61,23 @@ impl PieceReader {
         Ok(PieceReader { lines, rest })
     }
 
-    /// Holds more of a line, unless the text is too long by it.
+    /// Holds more of a line, unless no line may stand there or the text is too long by it.
     fn hold(self, part: &[u8]) -> Result<PieceReader, TextFault>
         ensures ok { IfOk result (λ r. r ≡ record { place = self.place; rest = self.rest ++ part.now }) }
         ensures room { IfOk result (λ r. taken r ≤ 33554432) }
         ensures err { IfErr result (λ f. f.kind ≢ TextKind.NoMemory
             → (0 < length (self.rest ++ part.now))
             × IsPast (record { place = self.place; rest = self.rest ++ part.now }) f) }
+        ensures line { IfErr result (λ fault. fault.line ≡ self.place.count + 1) }
     {
         let PieceReader { lines, mut rest } = self;
+        if let Some(fault) = lines.past(rest.len().saturating_add(part.len())) {
+            return Err(fault);
+        }
         if rest.extend_from_slice(part).is_err() {
             return Err(lines.no_memory());
         }
-        match lines.past(rest.as_slice()) {
-            Some(fault) => Err(fault),
-            None => Ok(PieceReader { lines, rest }),
-        }
+        Ok(PieceReader { lines, rest })
     }
 
     /// Takes the next piece of the text.
@@ -81,6 +86,7 @@ impl PieceReader {
         ensures room { IfOk result (λ r. taken r ≤ 33554432) }
         ensures err { IfErr result (λ f. f.kind ≢ TextKind.NoMemory
             → (b : List ℕ) → StandsFor self b → IsFaultOfAll (b ++ piece.now) f) }
+        ensures line { IfErr result (λ f. (b : List ℕ) → StandsFor self b → IsReadAt (b ++ piece.now) f.line) }
     {
         let mut reader = self;
         let mut left = piece;
@@ -93,7 +99,8 @@ impl PieceReader {
 
     /// The trace that the bytes so far spell, where they are the whole text.
     pub(crate) fn end(self, alloc: Global) -> Result<Recorded, TextFault>
-        ensures { GivesText result (ending self) }
+        ensures value { GivesText result (ending self) }
+        ensures memory { IfErr result (λ fault. fault.kind ≡ TextKind.NoMemory → fault.line ≡ self.place.count + 1) }
     {
         let PieceReader { lines, rest } = self;
         if rest.is_empty() {
@@ -106,10 +113,12 @@ impl PieceReader {
 
 /// The trace that a text spells. A text has at most 33,554,432 bytes. A fault other than `NoMemory` is the first of the
 /// text: the least line that has one, counted from 1, and within it the first kind in the order of [`TextKind`].
-/// `NoMemory` is answered only where a growth was refused, with the line that was being read.
+/// `NoMemory` is answered only where a growth was refused, with the line that was being read: no line before it has a
+/// fault.
 pub fn read_trace(alloc: Global, bytes: &[u8]) -> Result<Trace, TextFault>
     ensures ok { IfOk result (λ trace. Spells bytes.now trace.recording) }
     ensures err { IfErr result (λ fault. fault.kind ≢ TextKind.NoMemory → IsFirstFault bytes.now fault) }
+    ensures memory { IfErr result (λ fault. fault.kind ≡ TextKind.NoMemory → IsReadUpTo bytes.now fault.line) }
 {
     match read_recorded(alloc, bytes) {
         Ok(recorded) => Ok(recorded.into_trace()),
@@ -120,13 +129,15 @@ pub fn read_trace(alloc: Global, bytes: &[u8]) -> Result<Trace, TextFault>
 fn read_recorded(alloc: Global, bytes: &[u8]) -> Result<Recorded, TextFault>
     ensures ok { IfOk result (λ r. Spells bytes.now r) }
     ensures err { IfErr result (λ fault. fault.kind ≢ TextKind.NoMemory → IsFirstFault bytes.now fault) }
+    ensures memory { IfErr result (λ fault. fault.kind ≡ TextKind.NoMemory → IsReadUpTo bytes.now fault.line) }
 {
     read_whole(alloc, bytes)
 }
 
 // the whole text is one piece
 fn read_whole(alloc: Global, bytes: &[u8]) -> Result<Recorded, TextFault>
-    ensures { GivesText result (reading bytes.now) }
+    ensures value { GivesText result (reading bytes.now) }
+    ensures memory { IfErr result (λ fault. fault.kind ≡ TextKind.NoMemory → IsReadUpTo bytes.now fault.line) }
 {
     let reader = PieceReader::new(alloc).feed(alloc, bytes)?;
     reader.end(alloc)

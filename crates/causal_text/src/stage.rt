@@ -6,6 +6,7 @@ ghost use Rattle.causal_text.specs.Stages.{content, json_of, line_shape, begun, 
 ghost use Rattle.causal_text.specs.Versions.{version_of};
 
 use crate::kind::TextKind;
+use crate::outline::may_have_shape;
 use crate::recorded::Recorded;
 use crate::shape::{Shape, shape_of};
 use crate::version::Version;
@@ -15,6 +16,9 @@ use serde_json::Value;
 use std::alloc::Global;
 
 pub(crate) const MAX_TEXT: usize = 33_554_432;
+
+// a line that has more bytes is looked at before a tree is built of it
+const LONG: usize = 65_536;
 
 /// No line, a trace that goes on, or a trace with its end line.
 #[derive(Drop)]
@@ -81,7 +85,11 @@ fn json_of(alloc: Global, bytes: &[u8]) -> Result<Value, TextKind>
 fn line_shape(alloc: Global, line: &[u8]) -> Result<Shape, TextKind>
     ensures { Gives result (line_shape line.now) }
 {
-    let value = json_of(alloc, content(line))?;
+    let bytes = content(line);
+    if bytes.len() > LONG && !may_have_shape(alloc, bytes)? {
+        return Err(TextKind::Form);
+    }
+    let value = json_of(alloc, bytes)?;
     shape_of(alloc, &value)
 }
 

@@ -2,8 +2,8 @@
 ghost use Rattle.std.specs.Prelude.{◌≡◌, ◌≢◌, ◌++◌, ◌<◌, List, [], ℕ, length, Ok, Err, IfOk, IfErr, IfSome, OnErr};
 ghost use Rattle.std.specs.Io.KnownBytes.{Consumes};
 ghost use Rattle.causal_trace.specs.Rows.{Recording};
-ghost use Rattle.causal_text.specs.Spelling.{Spells};
-ghost use Rattle.causal_text.specs.Streams.{HasRead, IsReading, HasPiece, Follows, EndsAt, IsFaultAfter, TellsFault, TellsOf, held_trace, IsHeldTrace};
+ghost use Rattle.causal_text.specs.Spelling.{Spells, IsReadAt};
+ghost use Rattle.causal_text.specs.Streams.{HasRead, IsReading, HasPiece, Follows, EndsAt, IsFaultAfter, TellsFault, TellsLine, TellsOf, TellsLineOf, held_trace, IsHeldTrace};
 
 use crate::kind::{TextFault, TextKind};
 use crate::reader::PieceReader;
@@ -57,6 +57,8 @@ fn advance(alloc: Global, pieces: PieceReader, piece: &[u8]) -> Result<State, Te
     ensures ok { IfOk result (λ s. (b : List ℕ) → HasRead (State.Reading pieces) b → HasRead s (b ++ piece.now)) }
     ensures err { IfErr result (λ f. f.kind ≢ TextKind.NoMemory
         → (b : List ℕ) → HasRead (State.Reading pieces) b → IsFaultAfter piece.now (b ++ piece.now) f) }
+    ensures memory { IfErr result (λ f. f.kind ≡ TextKind.NoMemory
+        → (b : List ℕ) → HasRead (State.Reading pieces) b → IsReadAt (b ++ piece.now) f.line) }
     ensures more { 0 < length piece.now → IfOk result (Follows Progress.More) }
     ensures ended { length piece.now ≡ 0 → IfOk result (Follows Progress.Ended) }
 {
@@ -67,8 +69,8 @@ fn advance(alloc: Global, pieces: PieceReader, piece: &[u8]) -> Result<State, Te
     }
 }
 
-/// Reads a trace from a source of bytes, a piece at a time. Only the unfinished line and the trace are kept. After an
-/// error each call answers `Failed`.
+/// Reads a trace from a source of bytes, a piece at a time. Only the unfinished line and the trace are kept, and of a line
+/// that is too long or follows the end line no byte more. After an error each call answers `Failed`.
 #[derive(Drop)]
 pub struct TraceReader<R: Drop> {
     source: R,
@@ -108,6 +110,7 @@ impl<R: Read + Drop> TraceReader<R> {
         ensures follows { IfOk result (λ progress. Follows progress self.new.state) }
         ensures end { IfOk result (λ progress. EndsAt progress (R.remaining self.new.source)) }
         ensures text { IfErr result (λ fault. TellsFault (R.remaining self.old.source) (R.remaining self.new.source) (HasRead (State.Reading pieces)) fault) }
+        ensures memory { IfErr result (λ fault. TellsLine (R.remaining self.old.source) (R.remaining self.new.source) (HasRead (State.Reading pieces)) fault) }
         ensures failed { OnErr result (self.new.state ≡ State.Failed) }
     {
         let mut buffer = [0u8; PIECE];
@@ -128,9 +131,9 @@ impl<R: Read + Drop> TraceReader<R> {
     }
 
     /// Reads the next piece, by one call of the source for 4,096 bytes. A line is judged when its line feed has come, or
-    /// the text is too long, or has ended. After `Ended` it answers `Ended` again and reads nothing. `Read` is answered
+    /// the text is too long, or has ended; a line that follows the end line with its first byte. After `Ended` it answers `Ended` again and reads nothing. `Read` is answered
     /// only where the source answered an error; a fault of the text with the kind `NoMemory` only where a growth was
-    /// refused.
+    /// refused, with a line before which no line has a fault.
     pub fn next_piece(&mut self) -> Result<Progress, ReaderFault>
         // One more piece was read, which is empty at the end.
         ensures ok { IfOk result (λ progress. (piece : List ℕ)
@@ -140,6 +143,7 @@ impl<R: Read + Drop> TraceReader<R> {
         ensures follows { IfOk result (λ progress. Follows progress self.new.state) }
         ensures end { IsReading self.old.state → IfOk result (λ progress. EndsAt progress (R.remaining self.new.source)) }
         ensures text { IfErr result (λ fault. TellsFault (R.remaining self.old.source) (R.remaining self.new.source) (HasRead self.old.state) fault) }
+        ensures memory { IfErr result (λ fault. TellsLine (R.remaining self.old.source) (R.remaining self.new.source) (HasRead self.old.state) fault) }
         ensures failed { OnErr result (self.new.state ≡ State.Failed) }
         ensures ended { (r : Recording) → self.old.state ≡ State.Ended r
             → (result ≡ Ok Progress.Ended) × (self.new ≡ self.old) }
@@ -191,6 +195,7 @@ const MAX_PIECES: u32 = 33_554_434;
 pub fn read_from<R: Read + Drop>(alloc: Global, source: R) -> Result<Trace, ReaderFault>
     ensures ok { IfOk result (λ trace. IfSome (R.remaining source) (λ bytes. Spells bytes trace.recording)) }
     ensures err { IfErr result (λ fault. IfSome (R.remaining source) (λ bytes. TellsOf bytes fault)) }
+    ensures memory { IfErr result (λ fault. IfSome (R.remaining source) (λ bytes. TellsLineOf bytes fault)) }
 {
     let mut reader = TraceReader::new(alloc, source);
     for _i in 0..MAX_PIECES {

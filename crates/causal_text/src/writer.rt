@@ -163,6 +163,7 @@ pub fn write_trace<W: Write>(alloc: Global, trace: &Trace, writer: &mut W) -> Re
     ensures ok { OnOk result (Appends (W.contents writer.old) (W.contents writer.new) (canonical trace.now.recording)) }
     ensures err { IfErr result (λ fault. (fault.written < length (canonical trace.now.recording))
         × Appends (W.contents writer.old) (W.contents writer.new) (take fault.written (canonical trace.now.recording))) }
+    ensures cause { IfErr result (λ fault. fault.cause ≡ WriteCause.Memory → fault.written ≡ 0) }
 {
     match text_of(alloc, trace) {
         Ok(text) => write_counted(text.as_slice(), writer),
@@ -177,6 +178,7 @@ fn write_counted<W: Write>(text: &[u8], writer: &mut W) -> Result<(), WriteFault
     ensures ok { OnOk result (Appends (W.contents writer.old) (W.contents writer.new) text.now) }
     ensures err { IfErr result (λ f. (f.written < length text.now)
         × Appends (W.contents writer.old) (W.contents writer.new) (take f.written text.now)) }
+    ensures cause { IfErr result (λ fault. fault.cause ≡ WriteCause.Device) }
 {
     let mut written: usize = 0;
     while written < text.len() {

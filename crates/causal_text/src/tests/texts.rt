@@ -303,3 +303,57 @@ fn the_first_version_where_it_serves(rt: HostRuntime) -> Result<(), Fail> {
     );
     Ok(())
 }
+
+// What begins a line, what is repeated in it so often that it is long, what ends it, and the fault that is told. Each
+// stands after a header and a send.
+const LONG: [(&str, &str, &str, &str); 14] = [
+    ("[\"end\"", " ", ",1]", ""),
+    ("[\"end\"", " ", ",1]\n[\"end\",1]", "fault line=4 After\n"),
+    ("[\"end\"", " ", ",1,1]", "fault line=3 Form\n"),
+    ("[\"end\"", " ", ",1", "fault line=3 Syntax\n"),
+    ("[\"end\",1]", " ", "1", "fault line=3 Syntax\n"),
+    ("\"end", " ", "\"", "fault line=3 Form\n"),
+    ("[{\"\":0}", ",{\"\":0}", "]", "fault line=3 Form\n"),
+    ("[{\"\":0}", ",{\"\":0}", ",1e400]", "fault line=3 Syntax\n"),
+    ("[[0]", ",[0]", "]", "fault line=3 Form\n"),
+    ("[[0]", ",[0]", "}", "fault line=3 Syntax\n"),
+    ("[0", ",-0", ",-1e308]", "fault line=3 Form\n"),
+    (
+        "[\"deliver\",1,0,0,[[0,0,1,0]",
+        ",[0,0,1,0]",
+        "]]",
+        "fault line=3 Unsorted\n",
+    ),
+    (
+        "[\"deliver\",1,0,0,[[0,0,1,0]",
+        ",[0,0,1]",
+        "]]",
+        "fault line=3 Form\n",
+    ),
+    (
+        "[\"deliver\",1,0,0,[[0,0,1,0]",
+        ",[0,0,1,[0]]",
+        "]]",
+        "fault line=3 Form\n",
+    ),
+];
+
+#[test]
+fn long_lines(rt: HostRuntime) -> Result<(), Fail> {
+    for (begin, unit, end, want) in LONG {
+        let mut text = String::new(rt.alloc());
+        text.push_str(SENT)?;
+        text.push_str(begin)?;
+        for _i in 0..70_000 {
+            text.push_str(unit)?;
+        }
+        text.push_str(end)?;
+        let line = told(rt.alloc(), text.as_bytes())?;
+        assert_eq!(rt;
+            line.as_slice(),
+            want.as_bytes(),
+            "of {begin}{unit} .. {end}"
+        );
+    }
+    Ok(())
+}

@@ -4,7 +4,7 @@ use Rattle.causal_text.specs.declared.kind.TextFault.{TextFault}
 use Rattle.causal_text.specs.Place.{reading}
 use Rattle.causal_text.specs.Spelling.{Spells, IsFirstFault}
 use Rattle.causal_text.proofs.Spellings.{Spells-reading, IsFirstFault-reading}
-use Rattle.causal_text.proofs.Exact.{one_recording, one_fault, not_both}
+use Rattle.causal_text.proofs.Lemmas.Exact.{one_recording, one_fault, not_both}
 use Rattle.causal_text.proofs.laws.one_reading.Goals as goal
 
 cases : (text : List ℕ) (r : Result Recording TextFault) → reading text ≡ r → ((t : Recording) × Spells text t) ⊎ ((f : TextFault) × IsFirstFault text f)

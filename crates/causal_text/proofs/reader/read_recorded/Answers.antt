@@ -21,7 +21,7 @@ first text (Ok t) h = tt
 first text (Err f) h = λ other. IsFirstFault-reading text f (told f.kind f (reading text) h other)
 
 pub returns-clause-ok : goal.returns-clause-ok
-returns-clause-ok c = spelled _ c.read_whole.result c.read_whole.ensures
+returns-clause-ok c = spelled _ c.read_whole.result c.read_whole.ensures.value
 
 pub returns-clause-err : goal.returns-clause-err
-returns-clause-err c = first _ c.read_whole.result c.read_whole.ensures
+returns-clause-err c = first _ c.read_whole.result c.read_whole.ensures.value

@@ -1,11 +1,13 @@
-use Rattle.std.proofs.Common.{◌≡◌, ◌≢◌, ◌∙◌, sym, ap, [], Result, Err, append-nil, subst}
+use Rattle.std.proofs.Common.{◌≡◌, ◌≢◌, ◌∙◌, sym, ap, ℕ, ◌+◌, List, [], Result, Ok, Err, IfErr, append-nil, subst}
 use Rattle.std.proofs.lemmas.Result.{err_from_is_err_and}
 use Rattle.causal_trace.specs.Rows.{Recording}
 use Rattle.causal_text.specs.declared.kind.TextKind.{TextKind}
 use Rattle.causal_text.specs.declared.kind.TextKind.TheVariants as kind
 use Rattle.causal_text.specs.declared.kind.TextFault.{TextFault}
 use Rattle.causal_text.specs.Place.{GivesText, IsTextFaultOf, reading}
-use Rattle.causal_text.proofs.Feeds.{reading-ending}
+use Rattle.causal_text.specs.Spelling.{IsReadUpTo, IsReadAt}
+use Rattle.causal_text.specs.Pieces.{Held, StandsFor}
+use Rattle.causal_text.proofs.Feeds.{reading-ending, IsReadAt-stands}
 use Rattle.causal_text.proofs.reader.read_whole.Goals as goal
 
 -- a fault is told, or it is want of memory
@@ -32,10 +34,25 @@ fault_told kind.NoDelivery f read h = h (λ e. cc)
 fault_told kind.Count f read h = h (λ e. cc)
 fault_told kind.Cut f read h = h (λ e. cc)
 
-pub returns-in_err-reader : goal.returns-in_err-reader
-returns-in_err-reader c =
+pub returns-in_err-reader-clause-value : goal.returns-in_err-reader-clause-value
+returns-in_err-reader-clause-value c =
     let p = err_from_is_err_and c.from_residual.result c.from_residual.ensures.1 in
     rw (p.1, p.2) (fault_told _ _ (reading c.args.bytes.now) (λ other. ap reading (sym (append-nil c.args.bytes.now)) ∙ c.in_err-reader.ensures.err other [] c.new.ensures.stands []))
 
-pub returns : goal.returns
-returns c = subst (λ (read : Result Recording TextFault). GivesText c.end.result read) (sym (reading-ending c.in_ok-reader.reader c.args.bytes.now (c.in_ok-reader.ensures.ok [] c.new.ensures.stands))) c.end.ensures
+whole_line : (b : List ℕ) (line : ℕ) → IsReadAt b line → IsReadUpTo b line
+whole_line b line h = subst (λ (text : List ℕ). IsReadUpTo text line) (append-nil b) (h [])
+
+pub returns-in_err-reader-clause-memory : goal.returns-in_err-reader-clause-memory
+returns-in_err-reader-clause-memory c =
+    let p = err_from_is_err_and c.from_residual.result c.from_residual.ensures.1 in
+    rw (p.1, p.2) (λ wants. whole_line c.args.bytes.now _ (c.in_err-reader.ensures.line [] c.new.ensures.stands))
+
+pub returns-clause-value : goal.returns-clause-value
+returns-clause-value c = subst (λ (read : Result Recording TextFault). GivesText c.end.result read) (sym (reading-ending c.in_ok-reader.reader c.args.bytes.now (c.in_ok-reader.ensures.ok [] c.new.ensures.stands))) c.end.ensures.value
+
+last_line : (h : Held) (b : List ℕ) (r : Result Recording TextFault) → StandsFor h b → IfErr r (λ f. f.kind ≡ kind.NoMemory → f.line ≡ h.place.count + 1) → IfErr r (λ f. f.kind ≡ kind.NoMemory → IsReadUpTo b f.line)
+last_line h b (Ok x) s e = tt
+last_line h b (Err f) s e = λ wants. whole_line b f.line (IsReadAt-stands h b f.line s (e wants))
+
+pub returns-clause-memory : goal.returns-clause-memory
+returns-clause-memory c = last_line c.in_ok-reader.reader c.args.bytes.now c.end.result (c.in_ok-reader.ensures.ok [] c.new.ensures.stands) c.end.ensures.memory

@@ -7,7 +7,7 @@ use Rattle.causal_text.specs.declared.kind.TextFault.{TextFault}
 use Rattle.causal_text.specs.Pieces.{IsFaultOfAll}
 use Rattle.causal_text.specs.Streams.{IsFaultAfter}
 use Rattle.causal_text.specs.Place.{reading}
-use Rattle.causal_text.proofs.Feeds.{reading-ending, told}
+use Rattle.causal_text.proofs.Feeds.{reading-ending, IsReadAt-stands, IsReadAt-more, told}
 use Rattle.causal_text.proofs.Spellings.{Spells-reading, IsFirstFault-reading}
 use Rattle.causal_text.proofs.StreamLemmas.{read_more}
 use Rattle.causal_text.proofs.stream.advance.Goals as goal
@@ -27,7 +27,7 @@ pub returns-in_err-end-clause-err : goal.returns-in_err-end-clause-err
 returns-in_err-end-clause-err c =
     let p = err_from_is_err_and c.from_residual.result c.from_residual.ensures.1 in
     let empty = is_nil c.args.piece.now c.is_empty.result c.is_empty.ensures c.if-is_empty.true in
-    rw (p.1, p.2) (λ other b s. fault_at_end c.args.piece.now b _ empty (reading-ending c.args.pieces b s.0 ∙ told _ _ _ c.in_err-end.ensures other))
+    rw (p.1, p.2) (λ other b s. fault_at_end c.args.piece.now b _ empty (reading-ending c.args.pieces b s.0 ∙ told _ _ _ c.in_err-end.ensures.value other))
 
 pub returns-in_err-feed-clause-err : goal.returns-in_err-feed-clause-err
 returns-in_err-feed-clause-err c =
@@ -37,7 +37,12 @@ returns-in_err-feed-clause-err c =
 pub returns-in_ok-end-clause-ok : goal.returns-in_ok-end-clause-ok
 returns-in_ok-end-clause-ok c =
     let empty = is_nil c.args.piece.now c.is_empty.result c.is_empty.ensures c.if-is_empty.true in
-    λ b s. Spells-reading _ _ (rw (empty, append-nil b) (reading-ending c.args.pieces b s.0 ∙ c.in_ok-end.ensures))
+    λ b s. Spells-reading _ _ (rw (empty, append-nil b) (reading-ending c.args.pieces b s.0 ∙ c.in_ok-end.ensures.value))
 
 pub returns-in_ok-feed-clause-ok : goal.returns-in_ok-feed-clause-ok
 returns-in_ok-feed-clause-ok c = λ b s. read_more _ _ (c.in_ok-feed.ensures.ok b s.0) c.in_ok-feed.ensures.room
+
+pub returns-in_err-end-clause-memory : goal.returns-in_err-end-clause-memory
+returns-in_err-end-clause-memory c =
+    let p = err_from_is_err_and c.from_residual.result c.from_residual.ensures.1 in
+    rw (p.1, p.2) (λ wants b s. IsReadAt-more b c.args.piece.now _ (IsReadAt-stands c.args.pieces b _ s.0 (c.in_err-end.ensures.memory wants)))

@@ -1,16 +1,17 @@
-use Rattle.std.proofs.Common.{◌≡◌, ◌≢◌, ◌<◌, ◌++◌, ◌∙◌, sym, ap, List, ℕ, true, length, Result, Ok, Err, IfOk, IfErr, append_assoc}
+use Rattle.std.proofs.Common.{◌≡◌, ◌≢◌, ◌+◌, ◌<◌, ◌++◌, ◌∙◌, sym, ap, List, ℕ, true, length, Result, Ok, Err, IfOk, IfErr, append_assoc}
 use Rattle.causal_text.specs.declared.kind.TextKind.TheVariants as kind
 use Rattle.causal_text.specs.declared.kind.TextFault.{TextFault}
+use Rattle.causal_text.specs.Spelling.{IsReadAt}
 use Rattle.causal_text.specs.Pieces.{no_feed, Held, StandsFor, IsFaultOfAll, IsPast}
 use Rattle.std.proofs.lemmas.Result.{err_from_is_err_and}
-use Rattle.causal_text.proofs.Feeds.{Comes, Comes-line, Comes-hold, fault_of_piece, fault_of_hold, told}
+use Rattle.causal_text.proofs.Feeds.{Comes, Comes-line, Comes-hold, fault_of_piece, fault_of_hold, line_of_part, told}
 use Rattle.causal_text.proofs.reader.PieceReader.feed.Goals as goal
 
 pub loop-line-preserved : goal.loop-line-preserved
 loop-line-preserved c =
     let i = c.loop-line.invariant in
     let some = c.in-Some.ensures.some in
-    (i.0 ++ c.in-Some.line.now, i.1 ∙ ap (λ xs. i.0 ++ xs) some.1 ∙ sym (append_assoc i.0 c.in-Some.line.now c.in-Some.after.now), Comes-line c.args.self c.loop-line.reader c.in_ok-reader.reader i.0 c.in-Some.line.now i.2 some.0 c.in_ok-reader.ensures)
+    (i.0 ++ c.in-Some.line.now, i.1 ∙ ap (λ xs. i.0 ++ xs) some.1 ∙ sym (append_assoc i.0 c.in-Some.line.now c.in-Some.after.now), Comes-line c.args.self c.loop-line.reader c.in_ok-reader.reader i.0 c.in-Some.line.now i.2 some.0 c.in_ok-reader.ensures.value)
 
 held : (h0 h : Held) (piece done left : List ℕ) (r : Result Held TextFault) → Comes h0 done h → piece ≡ done ++ left → no_feed left ≡ true → IfOk r (λ k. k ≡ record { place = h.place; rest = h.rest ++ left }) → IfOk r (λ k. (b : List ℕ) → StandsFor h0 b → StandsFor k (b ++ piece))
 held h0 h piece done left (Ok k) c is none e = rw (e, is) (Comes-hold h0 h done left c none)
@@ -33,4 +34,17 @@ returns-in_err-reader-clause-err c =
     let i = c.loop-line.invariant in
     let some = c.in-Some.ensures.some in
     let piece_is = i.1 ∙ ap (λ xs. i.0 ++ xs) some.1 in
-    rw (p.1, p.2) (λ other b s. rw piece_is (fault_of_piece c.args.self c.loop-line.reader i.0 c.in-Some.line.now c.in-Some.after.now _ i.2 some.0 (told _ _ _ c.in_err-reader.ensures other) b s))
+    rw (p.1, p.2) (λ other b s. rw piece_is (fault_of_piece c.args.self c.loop-line.reader i.0 c.in-Some.line.now c.in-Some.after.now _ i.2 some.0 (told _ _ _ c.in_err-reader.ensures.value other) b s))
+
+lined : (h0 h : Held) (piece done left : List ℕ) (r : Result Held TextFault) → Comes h0 done h → piece ≡ done ++ left → IfErr r (λ f. f.line ≡ h.place.count + 1) → IfErr r (λ f. (b : List ℕ) → StandsFor h0 b → IsReadAt (b ++ piece) f.line)
+lined h0 h piece done left (Ok k) c is e = tt
+lined h0 h piece done left (Err f) c is e = λ b s. rw is (line_of_part h0 h done left b f.line c s e)
+
+pub returns-clause-line : goal.returns-clause-line
+returns-clause-line c = let i = c.loop-line.invariant in lined c.args.self c.loop-line.reader _ i.0 c.loop-line.left.now c.hold.result i.2 i.1 c.hold.ensures.line
+
+pub returns-in_err-reader-clause-line : goal.returns-in_err-reader-clause-line
+returns-in_err-reader-clause-line c =
+    let p = err_from_is_err_and c.from_residual.result c.from_residual.ensures.1 in
+    let i = c.loop-line.invariant in
+    rw (p.1, p.2) (λ b s. rw i.1 (line_of_part c.args.self c.loop-line.reader i.0 c.loop-line.left.now b _ i.2 s c.in_err-reader.ensures.line))

@@ -12,3 +12,6 @@ returns-in-Err-clause-text g c = λ other. (
   piece_ends c.in-Ok.n c.read.new.buf _ c.in-Ok.ensures.bound.0 c.in-Ok.ensures.bytes.1 (omega arith),
   c.in-Err.ensures.err other,
 )
+
+pub returns-in-Err-clause-memory : goal.returns-in-Err-clause-memory
+returns-in-Err-clause-memory g c = λ wants. (take c.in-Ok.n c.read.new.buf, rw (← c.self.view_is) c.in-Ok.ensures.bytes.0, c.in-Err.ensures.memory wants)

@@ -1,0 +1,2 @@
+-- What models and private functions keep. No public clause cites these.
+pub mod Outline
