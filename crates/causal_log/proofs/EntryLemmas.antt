@@ -1,12 +1,12 @@
 -- What a log's entries say of the map that they make.
-use Rattle.std.proofs.Common.{◌≡◌, ◌∙◌, false, cond, List, [], ◌∷◌, Some, slice_index_or, true≢false, add-one, suc, refl, sym, ap, arith}
+use Rattle.std.proofs.Common.{ℕ, ◌≡◌, ◌∙◌, true, false, cond, ◌&&◌, List, [], ◌∷◌, Some, is_some, unwrap_or, slice_get, get_or, length, slice_index_or, true≢false, add-one, zero, suc, refl, sym, ap, subst, arith}
 use Rattle.std.specs.declared.cmp.Ordering.{Ordering}
 use Rattle.std.specs.declared.cmp.Ordering.TheVariants.{Less, Equal, Greater}
 use Rattle.std.specs.Ordering.{ordering_reverse, is_eq, is_lt, eq_by_cmp}
-use Rattle.std.specs.Cmp.{eq_by_cmp_equiv}
+use Rattle.std.specs.Cmp.{eq_by_cmp_equiv, IsEquivalence}
 use Rattle.std.proofs.lemmas.List.{nil_from_length}
 use Rattle.std.specs.Map.{lookup}
-use Rattle.std.specs.FinMap.{from_entries, insert, get, get-from_entries, get-insert, same_map, find, entries, empty, entries-insert, len-entries, len-empty}
+use Rattle.std.specs.FinMap.{FinMap, len, from_entries, insert, get, get-from_entries, get-insert, same_map, find, entries, empty, entries-insert, len-entries, len-empty}
 use Rattle.std.specs.FinMap.Entries.{put, by_order}
 use Rattle.std.specs.List.{AllByRecursion, IsDistinct}
 use Rattle.std.specs.List.Sorted.{IsSorted, IsStrictlySortedBy}
@@ -14,8 +14,14 @@ use Rattle.std.proofs.lemmas.List.Elements.{recursion_from_All, All-from_recursi
 use Rattle.std.proofs.lemmas.List.Sorted.{sorted_far, ranks_by}
 use Rattle.std.specs.Map.{keys_of}
 use Rattle.causal_name.specs.declared.Det.{Det}
-use Rattle.causal_name.specs.Names.{det_cmp, same_det}
-use Rattle.causal_name.proofs.DetOrder.{dets_total, exact_dets, det_ties}
+use Rattle.causal_name.specs.Names.{det_cmp, same_det, is_before, is_ascending}
+use Rattle.causal_log.proofs.Lemmas.Searches.{both}
+use Rattle.causal_log.proofs.Lemmas.Ascents.{map_ascends, ascending_skip, ascending_tail, is_less}
+use Rattle.causal_name.proofs.Lemmas.DetOrder.{dets_total, exact_dets, det_ties}
+
+-- to be the same determinant is an equivalence
+pub det_equiv : IsEquivalence same_det
+det_equiv = subst IsEquivalence (sym (λ i x y. det_ties x y i)) (eq_by_cmp_equiv dets_total)
 
 module _ {X : Type 0} where
   find_lookup : (es : List (Det × X)) (q : Det) → find det_cmp q es ≡ lookup (same_det q) es
@@ -25,6 +31,10 @@ module _ {X : Type 0} where
   -- what the map that the entries make has at a determinant
   pub get_log : (es : List (Det × X)) (q : Det) → get (from_entries {R = det_cmp} es) q ≡ lookup (same_det q) es
   get_log es q = get-from_entries dets_total es q ∙ find_lookup es q
+
+  -- entries with the same look-ups make the same map
+  pub same_log : (es fs : List (Det × X)) → ((q : Det) → lookup (same_det q) es ≡ lookup (same_det q) fs) → from_entries {R = det_cmp} es ≡ from_entries fs
+  same_log es fs h = same_map dets_total exact_dets _ _ (λ q. get_log es q ∙ h q ∙ sym (get_log fs q))
 
   -- entries that differ at one determinant make maps that differ there
   pub inserted : (es fs : List (Det × X)) (d : Det) (x : X) → ((q : Det) → lookup (same_det q) fs ≡ cond (same_det d q) (Some x) (lookup (same_det q) es)) → from_entries {R = det_cmp} fs ≡ insert (from_entries es) d x
@@ -57,6 +67,17 @@ unfolding IsDistinct IsStrictlySortedBy
 strictly [] sorted distinct = tt
 strictly (d ∷ ds) sorted distinct = (head_below d ds sorted distinct.0, strictly ds (tail_sorted d ds sorted) distinct.1)
 
+-- the first of an ascending list is below the others
+below_each : (d : Det) (ds : List Det) → is_ascending (d ∷ ds) ≡ true → AllByRecursion (λ y. det_cmp d y ≡ Less) ds
+below_each d [] h = tt
+below_each d (e ∷ ds) h = (is_less (det_cmp d e) (both (is_before d e) (is_ascending (e ∷ ds)) h).0, below_each d ds (ascending_skip d e ds h))
+
+-- determinants that ascend do so strictly
+pub strict : (ds : List Det) → is_ascending ds ≡ true → IsStrictlySortedBy det_cmp ds
+unfolding IsStrictlySortedBy
+strict [] h = tt
+strict (d ∷ ds) h = (below_each d ds h, strict ds (ascending_tail d ds h))
+
 module _ {X : Type 0} where
   put_first : (e : Det × X) (es : List (Det × X)) → AllByRecursion (λ y. det_cmp e.0 y ≡ Less) (keys_of es) → put det_cmp e.0 e.1 es ≡ e ∷ es
   put_first e [] h = refl
@@ -74,6 +95,23 @@ module _ {X : Type 0} where
       ∙ ap (put det_cmp e.0 e.1) (entries_strict es ascend.1)
       ∙ put_first e es ascend.0
 
-  -- and so are entries in order, each determinant once
-  pub entries_log : (es : List (Det × X)) → IsSorted det_cmp (keys_of es) → IsDistinct same_det (keys_of es) → entries (from_entries {R = det_cmp} es) ≡ es
+  -- so do entries in order, each determinant once
+  entries_log : (es : List (Det × X)) → IsSorted det_cmp (keys_of es) → IsDistinct same_det (keys_of es) → entries (from_entries {R = det_cmp} es) ≡ es
   entries_log es sorted distinct = entries_strict es (strictly (keys_of es) sorted distinct)
+
+  pub ascending_log : (es : List (Det × X)) → IsSorted det_cmp (keys_of es) → IsDistinct same_det (keys_of es) → is_ascending (keys_of es) ≡ true
+  ascending_log es sorted distinct = ap (λ xs. is_ascending (keys_of xs)) (sym (entries_log es sorted distinct)) ∙ map_ascends (from_entries es)
+
+  -- and entries whose determinants ascend
+  pub own_entries : (es : List (Det × X)) → is_ascending (keys_of es) ≡ true → entries (from_entries {R = det_cmp} es) ≡ es
+  own_entries es ascend = entries_strict es (strict (keys_of es) ascend)
+
+  -- and there are as many of them
+  pub own_len : (es : List (Det × X)) (m : FinMap det_cmp X) → is_ascending (keys_of es) ≡ true → from_entries es ≡ m → len m ≡ length es
+  own_len es m ascend same = ap len (sym same) ∙ len-entries (from_entries es) ∙ ap length (own_entries es ascend)
+
+  -- the determinant at a place
+  pub get_or_keys : (es : List (Det × X)) (i : ℕ) (e : Det × X) (d : Det) → slice_get es i ≡ Some e → get_or (keys_of es) i d ≡ e.0
+  get_or_keys [] i e d h = absurd (true≢false (sym (ap is_some h)))
+  get_or_keys (f ∷ es) zero e d h = ap (λ o. (unwrap_or o f).0) h
+  get_or_keys (f ∷ es) (suc i) e d h = get_or_keys es i e d h

@@ -1,6 +1,3 @@
-pub mod Ascents
-pub mod ChosenLemmas
+pub mod Lemmas
 pub mod EntryLemmas
-pub mod LearnLemmas
-pub mod Searches
-pub mod SetLemmas
+pub mod PartLemmas

@@ -1,3 +1,4 @@
+pub mod Inside
 pub mod Knowledge
 pub mod Logs
 pub mod Slots

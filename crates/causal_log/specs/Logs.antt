@@ -1,20 +1,30 @@
 -- A volatile log as contracts see it: what is known of each of some determinants (Alvisi and Marzullo 1998).
-use Rattle.std.specs.Prelude.{ℕ, Bool, false, not, List, [], ◌∷◌, length, map, filter, Option, Some, None, unwrap_or, ◌<◌, ◌^◌}
-use Rattle.std.specs.List.Sorted.{IsSorted}
+use Rattle.std.specs.Prelude.{◌≡◌, ℕ, Bool, true, false, not, List, [], ◌∷◌, length, map, filter, Option, Some, None, is_none, unwrap_or, ◌+◌, ◌<◌, ◌≤◌, ◌^◌, refl}
+use Rattle.std.specs.Coded.{Coded, code_by, coded×, coded_ℕ}
 use Rattle.std.specs.Option.{option_map}
 use Rattle.std.specs.FinMap as fin
 use Rattle.causal_name.specs.declared.Det.{Det}
 use Rattle.causal_name.specs.declared.MsgName.{MsgName}
 use Rattle.causal_name.specs.declared.Pid.{Pid}
-use Rattle.causal_name.specs.Names.{det_cmp, message_of}
+use Rattle.causal_name.specs.Names.{det_cmp, message_of, is_ascending}
 use Rattle.causal_log.specs.declared.known.Known.{Known}
 use Rattle.causal_log.specs.declared.batch.Item.{Item}
 use Rattle.causal_log.specs.Slots.{first_of_slot}
-use Rattle.causal_log.specs.Knowledge.{nothing_known, joined, as_stable, told, is_carried}
+use Rattle.causal_log.specs.Knowledge.{nothing_known, held_by, joined, as_stable, told, is_carried, coded_det, coded_known}
 
 -- what is known of each determinant that is logged
 abbrev pub LogMap : Type 0
 LogMap = fin.FinMap det_cmp Known
+
+-- what a contract sees of a log: the map, and how many insertions are sure of their memory
+pub record LogState : Type 0 where
+  pub map : LogMap
+  pub spare : ℕ
+
+abbrev pub coded_log : Coded LogState
+coded_log =
+    code_by (LogMap × ℕ) (coded× (fin.code coded_det coded_known) coded_ℕ)
+    (λ log. (log.map, log.spare)) (λ p. record { map = p.0; spare = p.1 }) (λ _. refl)
 
 -- the map that entries make
 abbrev pub log_of : List (Det × Known) → LogMap
@@ -23,6 +33,10 @@ log_of es = fin.from_entries es
 -- what is known of a determinant, logged or not
 abbrev pub known_of : LogMap → Det → Known
 known_of log det = unwrap_or (fin.get log det) nothing_known
+
+-- those of some determinants that are not logged
+abbrev pub unknown_to : LogMap → List Det → List Det
+unknown_to log dets = filter (λ det. is_none (fin.get log det)) dets
 
 -- this is learned of one determinant, and of no other
 abbrev pub learned : LogMap → Det → Known → LogMap
@@ -36,6 +50,10 @@ learned_all (e ∷ es) log = learned_all es (learned log e.0 e.1)
 -- what a message with these items, from one process to another, tells the receiver is learned
 abbrev pub absorbed : List Item → Pid → Pid → LogMap → LogMap
 absorbed items from me log = learned_all (map (told from me) items) log
+
+-- a delivery to a process is learned: what the message carries, and that the receiver holds the new determinant
+abbrev pub grown : List Item → Det → Pid → Pid → LogMap → LogMap
+grown items own from me log = learned (absorbed items from me log) own (held_by me)
 
 -- all that another log knows is learned
 abbrev pub united : LogMap → LogMap → LogMap
@@ -52,6 +70,10 @@ marked log det = mark log det (fin.get log det)
 -- the determinants that are known to be stable, ascending
 abbrev pub stable_in : LogMap → List Det
 stable_in log = map (λ e. e.0) (filter (λ e. e.1.stable) (fin.entries log))
+
+-- the other determinants, ascending
+abbrev pub unstable_in : LogMap → List Det
+unstable_in log = map (λ e. e.0) (filter (λ e. not e.1.stable) (fin.entries log))
 
 -- the other entries
 abbrev pub unmarked : LogMap → LogMap
@@ -77,8 +99,3 @@ dets_of items = map (λ item. item.det) items
 -- the message that the log names for a slot: that of the slot's least determinant
 abbrev pub named : Pid → ℕ → LogMap → Option MsgName
 named dest rsn log = option_map message_of (first_of_slot dest rsn (fin.keys log))
-
--- how the entries are kept: ascending, and few enough for a number of 32 bits
-pub record IsKept (dets : List Det) : Type 0 where
-  pub sorted : IsSorted det_cmp dets
-  pub few : length dets < 2 ^ 32

@@ -14,7 +14,10 @@ pub struct Item {
     pub holders: Holders,
 }
 
-/// The piggyback of a message: items whose determinants strictly ascend. `Log::choose` makes it.
+/// The piggyback of a message: items whose determinants strictly ascend. `Log::choose` and `Log::choose_grown` make it.
+///
+/// All messages of a step carry the same batch. So a runtime keeps one for each step, and not one for each message: batches
+/// kept for each message would multiply the memory of a long one.
 #[derive(Debug, Drop)]
 pub struct Batch {
     items: Vec<Item>,
@@ -55,7 +58,7 @@ impl Batch {
         self.items.as_slice()
     }
 
-    /// A copy, as each message of a step carries the same batch. Its only error is want of memory.
+    /// A copy, for who has to hand the batch out of its keeping. Its only error is want of memory.
     pub fn try_clone(&self) -> Result<Batch, NoMemory>
         ensures { IfOk result (λ copy. copy ≡ self.now) }
     {

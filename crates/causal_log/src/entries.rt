@@ -1,12 +1,13 @@
 //! The entries of a volatile log, in ascending order. A log's methods work on its entries by these functions.
-ghost use Rattle.std.specs.Prelude.{◌≡◌, ◌<◌, ◌≤◌, ◌+◌, ◌^◌, IsSome, IsOk, IfOk, OnOk, OnErr, length, slice_get, filter, map, not};
+ghost use Rattle.std.specs.Prelude.{◌≡◌, ◌↔◌, ◌<◌, ◌≤◌, ◌+◌, ◌^◌, true, Some, None, IsTrue, IsSome, IfSome, IfOk, OnOk, length, slice_get, filter, map, not};
 ghost use Rattle.std.specs.Option.{option_map};
 ghost use Rattle.std.specs.FinMap as fin;
-ghost use Rattle.indexmap.specs.IndexMap.{keys, spare, IsUnique};
-ghost use Rattle.causal_name.specs.Names.{message_of};
+ghost use Rattle.indexmap.specs.IndexMap.{keys, spare};
+ghost use Rattle.causal_name.specs.Names.{message_of, is_ascending};
 ghost use Rattle.causal_log.specs.Slots.{first_of_slot};
 ghost use Rattle.causal_log.specs.Knowledge.{is_carried};
-ghost use Rattle.causal_log.specs.Logs.{IsKept, log_of, known_of, learned, absorbed, learned_all, item_of};
+ghost use Rattle.causal_log.specs.Inside.Parts.{with_copy, with_copies};
+ghost use Rattle.causal_log.specs.Logs.{log_of, known_of, learned, absorbed, learned_all, item_of, dets_of, marked};
 
 use crate::batch::Item;
 use crate::known::{Known, told};
@@ -15,24 +16,20 @@ use indexmap::IndexMap;
 use std::alloc::Global;
 
 /// The most entries of a log, so that a number of 32 bits counts them; further ones are refused as want of memory.
-const MOST_ENTRIES: usize = 0xffff_ffff;
+pub(crate) const MOST_ENTRIES: usize = 0xffff_ffff;
 
 /// How many there are.
 pub(crate) fn count(entries: &IndexMap<Det, Known>) -> u32
     requires { length entries.now.entries < 2 ^ 32 }
-    ensures len { result ≡ length entries.now.entries }
-    ensures unique { IsUnique ⟦<Det as PartialEq>⟧.eq entries.now }
+    ensures { result ≡ length entries.now.entries }
 {
     entries.len() as u32
 }
 
 /// The entry at a place.
 pub(crate) fn entry_at(entries: &IndexMap<Det, Known>, i: u32) -> Option<(Det, Known)>
-    ensures value { result ≡ slice_get entries.now.entries i }
-    ensures unique { IsUnique ⟦<Det as PartialEq>⟧.eq entries.now }
+    ensures { result ≡ slice_get entries.now.entries i }
 {
-    // `len` is called for its clause that the keys are unique.
-    let _len = entries.len();
     entries
         .get_index(i as usize)
         .map(|(det, known)| (*det, *known))
@@ -40,8 +37,7 @@ pub(crate) fn entry_at(entries: &IndexMap<Det, Known>, i: u32) -> Option<(Det, K
 
 /// The determinants.
 pub(crate) fn dets(alloc: Global, entries: &IndexMap<Det, Known>) -> Result<Vec<Det>, NoMemory>
-    ensures items { IfOk result (λ dets. dets.items ≡ keys entries.now) }
-    ensures unique { IsUnique ⟦<Det as PartialEq>⟧.eq entries.now }
+    ensures { IfOk result (λ dets. dets.items ≡ keys entries.now) }
 {
     Ok(entries.keys().copied().collect(alloc)?)
 }
@@ -51,11 +47,37 @@ pub(crate) fn stable_dets(
     alloc: Global,
     entries: &IndexMap<Det, Known>,
 ) -> Result<Vec<Det>, NoMemory>
-    ensures items { IfOk result (λ dets. dets.items ≡ map (λ e. e.0) (filter (λ e. e.1.stable) entries.now.entries)) }
-    ensures unique { IsUnique ⟦<Det as PartialEq>⟧.eq entries.now }
+    ensures { IfOk result (λ dets. dets.items ≡ map (λ e. e.0) (filter (λ e. e.1.stable) entries.now.entries)) }
 {
     let stable = entries.iter().filter(|(_, known)| known.stable);
     Ok(stable.map(|(det, _)| *det).collect(alloc)?)
+}
+
+/// The other determinants.
+pub(crate) fn unstable_dets(
+    alloc: Global,
+    entries: &IndexMap<Det, Known>,
+) -> Result<Vec<Det>, NoMemory>
+    ensures { IfOk result (λ dets. dets.items ≡ map (λ e. e.0) (filter (λ e. not e.1.stable) entries.now.entries)) }
+{
+    let unstable = entries.iter().filter(|(_, known)| !known.stable);
+    Ok(unstable.map(|(det, _)| *det).collect(alloc)?)
+}
+
+/// How many determinants are known to be stable.
+pub(crate) fn stable_len(entries: &IndexMap<Det, Known>) -> u32
+    requires { length entries.now.entries < 2 ^ 32 }
+    ensures { result ≡ length (filter (λ e. e.1.stable) entries.now.entries) }
+{
+    entries.iter().filter(|(_, known)| known.stable).count() as u32
+}
+
+/// How many determinants are not known to be stable.
+pub(crate) fn unstable_len(entries: &IndexMap<Det, Known>) -> u32
+    requires { length entries.now.entries < 2 ^ 32 }
+    ensures { result ≡ length (filter (λ e. not e.1.stable) entries.now.entries) }
+{
+    entries.iter().filter(|(_, known)| !known.stable).count() as u32
 }
 
 /// The items of the entries that a message carries.
@@ -64,8 +86,7 @@ pub(crate) fn carried(
     entries: &IndexMap<Det, Known>,
     f: u16,
 ) -> Result<Vec<Item>, NoMemory>
-    ensures items { IfOk result (λ items. items.items ≡ map item_of (filter (λ e. is_carried f e.1) entries.now.entries)) }
-    ensures unique { IsUnique ⟦<Det as PartialEq>⟧.eq entries.now }
+    ensures { IfOk result (λ items. items.items ≡ map item_of (filter (λ e. is_carried f e.1) entries.now.entries)) }
 {
     let carried = entries.iter().filter(|(_, known)| known.is_carried(f));
     let items = carried.map(|(det, known)| Item {
@@ -77,13 +98,139 @@ pub(crate) fn carried(
 
 /// The message of the first determinant of a slot.
 pub(crate) fn message_for(entries: &IndexMap<Det, Known>, dest: Pid, rsn: u32) -> Option<MsgName>
-    ensures value { result ≡ option_map message_of (first_of_slot dest rsn (keys entries.now)) }
-    ensures unique { IsUnique ⟦<Det as PartialEq>⟧.eq entries.now }
+    ensures { result ≡ option_map message_of (first_of_slot dest rsn (keys entries.now)) }
 {
     entries
         .keys()
         .find(|det| det.dest == dest && det.rsn == rsn)
         .map(|det| det.message())
+}
+
+/// The place of a determinant and what is known of it, where it is logged.
+pub(crate) fn place_of(entries: &IndexMap<Det, Known>, det: Det) -> Option<(usize, Known)>
+    ensures known { option_map (λ found. found.1) result ≡ fin.get (log_of entries.now.entries) det }
+    ensures place { IfSome result (λ found. slice_get entries.now.entries found.0 ≡ Some (det, found.1)) }
+{
+    let place = entries.get_index_of(&det)?;
+    let (_, known) = entries.get_index(place)?;
+    Some((place, *known))
+}
+
+/// Changes what is known of the determinant at a place.
+pub(crate) fn put_at(entries: &mut IndexMap<Det, Known>, place: usize, known: Known)
+    requires { place < length entries.old.entries }
+    ensures put { (det : Det) (was : Known) → slice_get entries.old.entries place ≡ Some (det, was) →
+        log_of entries.new.entries ≡ fin.insert (log_of entries.old.entries) det known }
+    ensures keys { keys entries.new ≡ keys entries.old }
+    ensures spare { spare entries.new ≡ spare entries.old }
+{
+    let Some(slot) = entries.get_index_mut(place) else {
+        unreachable!()
+    };
+    *slot = known;
+}
+
+/// Adds a determinant that is not logged, in room made before.
+pub(crate) fn add(entries: &mut IndexMap<Det, Known>, det: Det, heard: Known)
+    requires ascending { is_ascending (keys entries.old) ≡ true }
+    requires room { 1 ≤ spare entries.old }
+    requires new { fin.get (log_of entries.old.entries) det ≡ None }
+    ensures learned { log_of entries.new.entries ≡ learned (log_of entries.old.entries) det heard }
+    ensures ascending { is_ascending (keys entries.new) ≡ true }
+    ensures spare { spare entries.old ≤ spare entries.new + 1 }
+    ensures len { length entries.new.entries ≡ length entries.old.entries + 1 }
+{
+    let known = Known::nothing().joined(heard);
+    match entries.insert_sorted(det, known) {
+        Ok(_) => {}
+        Err(_) => unreachable!(),
+    }
+}
+
+/// Learns something of one determinant. It takes no memory: where the determinant is not logged, there is room.
+pub(crate) fn learn(entries: &mut IndexMap<Det, Known>, det: Det, heard: Known)
+    requires ascending { is_ascending (keys entries.old) ≡ true }
+    requires room { fin.get (log_of entries.old.entries) det ≡ None → 1 ≤ spare entries.old }
+    ensures learned { log_of entries.new.entries ≡ learned (log_of entries.old.entries) det heard }
+    ensures ascending { is_ascending (keys entries.new) ≡ true }
+    ensures spare { spare entries.old ≤ spare entries.new + 1 }
+    ensures len { length entries.new.entries ≤ length entries.old.entries + 1 }
+{
+    match place_of(entries, det) {
+        Some((place, known)) => put_at(entries, place, known.joined(heard)),
+        None => add(entries, det, heard),
+    }
+}
+
+/// Learns what the items of a message from one process tell another, in room made before.
+pub(crate) fn learn_items(entries: &mut IndexMap<Det, Known>, items: &[Item], from: Pid, me: Pid)
+    requires ascending { is_ascending (keys entries.old) ≡ true }
+    requires room { length items.now ≤ spare entries.old }
+    ensures learned { log_of entries.new.entries ≡ absorbed items.now from me (log_of entries.old.entries) }
+    ensures ascending { is_ascending (keys entries.new) ≡ true }
+    ensures spare { spare entries.old ≤ spare entries.new + length items.now }
+    ensures len { length entries.new.entries ≤ length entries.old.entries + length items.now }
+{
+    for item in items {
+        let (det, heard) = told(from, me, item);
+        learn(entries, det, heard);
+    }
+}
+
+/// Learns what other entries say, in room made before.
+pub(crate) fn learn_entries(entries: &mut IndexMap<Det, Known>, others: &IndexMap<Det, Known>)
+    requires ascending { is_ascending (keys entries.old) ≡ true }
+    requires room { length others.now.entries ≤ spare entries.old }
+    ensures learned { log_of entries.new.entries ≡ learned_all others.now.entries (log_of entries.old.entries) }
+    ensures ascending { is_ascending (keys entries.new) ≡ true }
+    ensures spare { spare entries.old ≤ spare entries.new + length others.now.entries }
+    ensures len { length entries.new.entries ≤ length entries.old.entries + length others.now.entries }
+{
+    for (det, heard) in others.iter() {
+        learn(entries, *det, *heard);
+    }
+}
+
+/// Copies the entry of a determinant behind some others, where it is logged.
+pub(crate) fn copy(
+    part: &mut IndexMap<Det, Known>,
+    entries: &IndexMap<Det, Known>,
+    det: Det,
+) -> Result<(), NoMemory>
+    ensures { OnOk result (log_of part.new.entries ≡ with_copy (log_of entries.now.entries) det (log_of part.old.entries)) }
+{
+    let Some(known) = entries.get(&det) else {
+        return Ok(());
+    };
+    part.insert(det, *known)?;
+    Ok(())
+}
+
+/// Copies the entries of the items' determinants behind some others, where they are logged.
+pub(crate) fn copy_items(
+    part: &mut IndexMap<Det, Known>,
+    entries: &IndexMap<Det, Known>,
+    items: &[Item],
+) -> Result<(), NoMemory>
+    ensures { OnOk result (log_of part.new.entries ≡ with_copies (log_of entries.now.entries) (dets_of items.now) (log_of part.old.entries)) }
+{
+    for item in items {
+        copy(part, entries, item.det)?;
+    }
+    Ok(())
+}
+
+/// Puts entries in order. More entries than a log may have are refused as want of memory.
+pub(crate) fn sort(entries: &mut IndexMap<Det, Known>) -> Result<(), NoMemory>
+    ensures same { OnOk result (log_of entries.new.entries ≡ log_of entries.old.entries) }
+    ensures ascending { OnOk result (is_ascending (keys entries.new) ≡ true) }
+    ensures few { OnOk result (length entries.new.entries < 2 ^ 32) }
+{
+    if entries.len() > MOST_ENTRIES {
+        return Err(NoMemory);
+    }
+    entries.sort_keys()?;
+    Ok(())
 }
 
 /// What is known of a determinant, logged or not.
@@ -94,88 +241,96 @@ fn known_of(entries: &IndexMap<Det, Known>, det: Det) -> Known
     entries.get(&det).copied().unwrap_or(nothing)
 }
 
-/// Makes room for more entries.
-pub(crate) fn make_room(
-    entries: &mut IndexMap<Det, Known>,
-    additional: usize,
-) -> Result<(), NoMemory>
-    requires { IsKept (keys entries.old) }
-    ensures same { entries.new.entries ≡ entries.old.entries }
-    ensures room { OnOk result (additional ≤ spare entries.new) }
-    ensures few { OnOk result (length entries.old.entries + additional < 2 ^ 32) }
+/// Learns something of one determinant, behind the others where it is not logged.
+fn append(entries: &mut IndexMap<Det, Known>, det: Det, heard: Known) -> Result<(), NoMemory>
+    ensures { OnOk result (log_of entries.new.entries ≡ learned (log_of entries.old.entries) det heard) }
 {
-    if additional > MOST_ENTRIES - entries.len() {
-        return Err(NoMemory);
-    }
-    entries.reserve(additional)?;
-    Ok(())
-}
-
-/// Learns something of one determinant; where there is room, it takes no memory.
-pub(crate) fn learn(
-    entries: &mut IndexMap<Det, Known>,
-    det: Det,
-    heard: Known,
-) -> Result<(), NoMemory>
-    requires { IsKept (keys entries.old) }
-    ensures ok { OnOk result (log_of entries.new.entries ≡ learned (log_of entries.old.entries) det heard) }
-    ensures err { OnErr result (entries.new.entries ≡ entries.old.entries) }
-    ensures kept { IsKept (keys entries.new) }
-
-    // It succeeds for a determinant that is logged, and where there is room.
-    ensures logged { IsSome (fin.get (log_of entries.old.entries) det) → IsOk result }
-    ensures succeeds { 0 < spare entries.old → length entries.old.entries + 1 < 2 ^ 32 → IsOk result }
-    ensures spare { spare entries.old ≤ spare entries.new + 1 }
-    ensures len { length entries.new.entries ≤ length entries.old.entries + 1 }
-{
-    if entries.len() == MOST_ENTRIES && !entries.contains_key(&det) {
-        return Err(NoMemory);
-    }
     let known = known_of(entries, det).joined(heard);
-    entries.insert_sorted(det, known)?;
+    entries.insert(det, known)?;
     Ok(())
 }
 
-/// Learns what the items of a message from one process tell another, in room made before.
-pub(crate) fn learn_items(entries: &mut IndexMap<Det, Known>, items: &[Item], from: Pid, me: Pid)
-    requires kept { IsKept (keys entries.old) }
-    requires room { length items.now ≤ spare entries.old }
-    requires few { length entries.old.entries + length items.now < 2 ^ 32 }
-    ensures learned { log_of entries.new.entries ≡ absorbed items.now from me (log_of entries.old.entries) }
-    ensures kept { IsKept (keys entries.new) }
+/// Learns what the items of a message tell, behind the others.
+fn append_items(
+    entries: &mut IndexMap<Det, Known>,
+    items: &[Item],
+    from: Pid,
+    me: Pid,
+) -> Result<(), NoMemory>
+    ensures { OnOk result (log_of entries.new.entries ≡ absorbed items.now from me (log_of entries.old.entries)) }
 {
     for item in items {
         let (det, heard) = told(from, me, item);
-        match learn(entries, det, heard) {
-            Ok(()) => {}
-            Err(_) => unreachable!(),
-        }
+        append(entries, det, heard)?;
     }
+    Ok(())
 }
 
-/// Learns what other entries say, in room made before.
-pub(crate) fn learn_entries(entries: &mut IndexMap<Det, Known>, others: &IndexMap<Det, Known>)
-    requires kept { IsKept (keys entries.old) }
-    requires room { length others.now.entries ≤ spare entries.old }
-    requires few { length entries.old.entries + length others.now.entries < 2 ^ 32 }
-    ensures learned { log_of entries.new.entries ≡ learned_all others.now.entries (log_of entries.old.entries) }
-    ensures kept { IsKept (keys entries.new) }
-    ensures unique { IsUnique ⟦<Det as PartialEq>⟧.eq others.now }
+/// Learns what other entries say, behind the others.
+fn append_entries(
+    entries: &mut IndexMap<Det, Known>,
+    others: &IndexMap<Det, Known>,
+) -> Result<(), NoMemory>
+    ensures { OnOk result (log_of entries.new.entries ≡ learned_all others.now.entries (log_of entries.old.entries)) }
 {
     for (det, heard) in others.iter() {
-        match learn(entries, *det, *heard) {
-            Ok(()) => {}
-            Err(_) => unreachable!(),
-        }
+        append(entries, *det, *heard)?;
     }
+    Ok(())
+}
+
+/// The entries with what the items of a message tell. It takes the time of a sort, however many of the items are new.
+pub(crate) fn merged_items(
+    entries: &IndexMap<Det, Known>,
+    items: &[Item],
+    from: Pid,
+    me: Pid,
+) -> Result<IndexMap<Det, Known>, NoMemory>
+    ensures learned { IfOk result (λ merged. log_of merged.entries ≡ absorbed items.now from me (log_of entries.now.entries)) }
+    ensures ascending { IfOk result (λ merged. is_ascending (keys merged) ≡ true) }
+    ensures few { IfOk result (λ merged. length merged.entries < 2 ^ 32) }
+{
+    let mut merged = entries.clone()?;
+    append_items(&mut merged, items, from, me)?;
+    sort(&mut merged)?;
+    Ok(merged)
+}
+
+/// The entries with what others say. It takes the time of a sort, however many of the others are new.
+pub(crate) fn merged(
+    entries: &IndexMap<Det, Known>,
+    others: &IndexMap<Det, Known>,
+) -> Result<IndexMap<Det, Known>, NoMemory>
+    ensures learned { IfOk result (λ merged. log_of merged.entries ≡ learned_all others.now.entries (log_of entries.now.entries)) }
+    ensures ascending { IfOk result (λ merged. is_ascending (keys merged) ≡ true) }
+    ensures few { IfOk result (λ merged. length merged.entries < 2 ^ 32) }
+{
+    let mut merged = entries.clone()?;
+    append_entries(&mut merged, others)?;
+    sort(&mut merged)?;
+    Ok(merged)
+}
+
+/// Marks a determinant as stable, and says whether it is logged.
+pub(crate) fn mark(entries: &mut IndexMap<Det, Known>, det: Det) -> bool
+    ensures found { IsTrue result ↔ IsSome (fin.get (log_of entries.old.entries) det) }
+    ensures marked { log_of entries.new.entries ≡ marked (log_of entries.old.entries) det }
+    ensures keys { keys entries.new ≡ keys entries.old }
+    ensures spare { spare entries.new ≡ spare entries.old }
+{
+    let Some((place, known)) = place_of(entries, det) else {
+        return false;
+    };
+    put_at(entries, place, known.marked());
+    true
 }
 
 /// Takes out the entries that are known to be stable, and counts them.
 pub(crate) fn drop_stable(entries: &mut IndexMap<Det, Known>) -> u32
-    requires { IsKept (keys entries.old) }
+    requires { length entries.old.entries < 2 ^ 32 }
     ensures left { entries.new.entries ≡ filter (λ e. not e.1.stable) entries.old.entries }
+    ensures spare { spare entries.old ≤ spare entries.new }
     ensures count { result + length entries.new.entries ≡ length entries.old.entries }
-    ensures unique { IsUnique ⟦<Det as PartialEq>⟧.eq entries.old }
 {
     let before = entries.len();
     entries.retain(

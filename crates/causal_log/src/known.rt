@@ -1,6 +1,6 @@
 //! What a process knows of a determinant.
 ghost use Rattle.std.specs.Prelude.{◌≡◌};
-ghost use Rattle.causal_log.specs.Knowledge.{nothing_known, held_by, stable_and_held_by, joined, told, is_carried};
+ghost use Rattle.causal_log.specs.Knowledge.{nothing_known, held_by, stable_and_held_by, joined, as_stable, told, is_carried};
 
 use crate::batch::Item;
 use causal_holders::Holders;
@@ -55,6 +55,16 @@ impl Known {
         Known {
             holders: self.holders.union(other.holders),
             stable: self.stable || other.stable,
+        }
+    }
+
+    /// The same, and that it is stable.
+    pub(crate) fn marked(self) -> Known
+        ensures { result ≡ as_stable self }
+    {
+        Known {
+            holders: self.holders,
+            stable: true,
         }
     }
 

@@ -3,6 +3,33 @@
 //! In causal message logging a process adds to each message the determinants that it knows of and that are not yet known
 //! to be safe (Alvisi and Marzullo, "Message Logging: Pessimistic, Optimistic, Causal, and Optimal", IEEE TSE 24(2),
 //! 1998). Here a determinant is safe once it is in stable storage or more than f processes are known to hold it.
+//!
+//! # A delivery
+//!
+//! What a delivery may be refused for comes before its step, and what changes the log comes after it and can't fail:
+//!
+//! 1. `Log::choose_grown` gives what the messages of the step will carry, and leaves the log as it is.
+//! 2. `Log::reserve` makes room for the determinants of the message's batch and for the delivery's own.
+//! 3. Once the process has stepped, `Log::grow` takes both in, in that room.
+//!
+//! # Writing a store
+//!
+//! Implement [`Stable`]. Whoever does owes this, and the check refuses an `impl` that does not keep it:
+//!
+//! - `contents` says which set of determinants a value of the store has, and `faults` how many faults of its device it has
+//!   counted. Callers know the store by these two alone.
+//! - A `put` that is refused leaves the set as it was, also where the device had taken a part. A `put` of a member is no
+//!   fault and changes neither the set nor the count.
+//! - `PutFault::Device` comes with one more counted fault, and only a call that has asked `failures` before may come to a
+//!   count that can't be told: `put` asks its caller for a count below the greatest u64.
+//! - `all` and `least_of` go by ascending determinant.
+//!
+//! Not part of any proof: that the set outlives a crash of the machine, and that `PutFault::NoMemory` comes only where memory
+//! was refused.
+//!
+//! A store that keeps an ascending list, such as a `BTreeSet`, takes `set_of` of the list as its contents; the lemmas of
+//! `proofs/Lemmas/Storing.antt` prove its answers. One that wraps another store passes on that one's contents, and adds its own
+//! faults. `MemStable` is an example of the first, `FailingStore` of the second.
 #![tactic(auto)]
 
 mod batch;

@@ -1,8 +1,10 @@
 //! The volatile log of a process.
-ghost use Rattle.std.specs.Prelude.{◌≡◌, ◌↔◌, IsTrue, IsSome, IsOk, IfOk, OnOk, OnErr, length, slice_get};
+ghost use Rattle.std.specs.Prelude.{◌≡◌, ◌↔◌, ◌<◌, ◌≤◌, ◌+◌, IsTrue, IsFalse, IsSome, IsOk, IfOk, OnOk, OnErr, length, slice_get};
 ghost use Rattle.std.specs.FinMap as fin;
 ghost use Rattle.causal_log.specs.Knowledge.{held_by, stable_and_held_by};
-ghost use Rattle.causal_log.specs.Logs.{learned, absorbed, united, marked, stable_in, unmarked, chosen, named};
+ghost use Rattle.causal_log.specs.Logs.{learned, absorbed, grown, united, marked, stable_in, unstable_in, unmarked, chosen, named};
+ghost use Rattle.causal_log.specs.Inside.Parts.{part_for};
+ghost use Rattle.causal_log.specs.declared.known.Known.{Known};
 
 use crate::batch::Batch;
 use crate::entries;
@@ -12,161 +14,310 @@ use indexmap::IndexMap;
 use std::alloc::Global;
 use std::marker::Model;
 
+/// How many determinants are learned one by one: about so many insertions cost what a sort of all entries does.
+const FEW: usize = 64;
+
 /// The volatile log of a process: what it knows of each determinant that it logs (`Log(e)` of Elnozahy, Alvisi, Wang and
-/// Johnson 2002, from one process's side). Contracts see it as a finite map. Its entries are kept in ascending order, and
-/// are at most 4,294,967,295: further ones are refused as want of memory.
+/// Johnson 2002, from one process's side).
+///
+/// It is seen as a finite map, and as the number of insertions that are sure of their memory, of which equality does not
+/// speak. Its entries are kept in ascending order, and are at most 4,294,967,295: further ones are refused as want of
+/// memory.
 #[derive(Debug, Drop)]
 pub struct Log {
     entries: IndexMap<Det, Known>,
+    room: u32,
 }
 
 impl Model for Log {
     ghost use Rattle.std.specs.FinMap as fin;
-    ghost use Rattle.indexmap.specs.IndexMap.{keys};
-    ghost use Rattle.causal_name.specs.Names.{det_cmp};
-    ghost use Rattle.causal_log.specs.declared.known.Known.{Known};
-    ghost use Rattle.causal_log.specs.Knowledge.{coded_det, coded_known};
-    ghost use Rattle.causal_log.specs.Logs.{IsKept};
+    ghost use Rattle.indexmap.specs.IndexMap.{keys, spare};
+    ghost use Rattle.causal_log.specs.Logs.{LogState, coded_log};
+    ghost use Rattle.causal_log.specs.Inside.Kept.{IsKept};
 
-    ghost Value = { fin.FinMap det_cmp Known };
+    ghost Value = { LogState };
 
-    ghost coded = { fin.code coded_det coded_known };
+    ghost coded = { coded_log };
 
-    ghost view = { λ log. fin.from_entries log.entries.entries };
+    ghost view = { λ log. record { map = fin.from_entries log.entries.entries; spare = log.room } };
 
-    ghost invariant = { λ log. IsKept (keys log.entries) };
+    ghost invariant = { λ log. IsKept (keys log.entries) log.room (spare log.entries) };
 }
 
 impl Log {
     /// A log of nothing.
     pub fn new(alloc: Global) -> Log
-        ensures { result ≡ fin.empty }
+        ensures { result.map ≡ fin.empty }
     {
         Log {
             entries: IndexMap::new(alloc),
+            room: 0,
         }
     }
 
     /// What is known of a determinant, if it is logged.
     pub fn known(&self, det: Det) -> Option<Known>
-        ensures { result ≡ fin.get self.now det }
+        ensures { result ≡ fin.get self.now.map det }
     {
         self.entries.get(&det).copied()
     }
 
     /// The number of determinants.
     pub fn len(&self) -> u32
-        ensures { result ≡ fin.len self.now }
+        ensures { result ≡ fin.len self.now.map }
     {
         entries::count(&self.entries)
     }
 
     /// The entry at a place, in ascending order of determinants; none from `len` on.
     pub fn at(&self, i: u32) -> Option<(Det, Known)>
-        ensures { result ≡ slice_get (fin.entries self.now) i }
+        ensures { result ≡ slice_get (fin.entries self.now.map) i }
     {
         entries::entry_at(&self.entries, i)
     }
 
     /// The determinants, ascending. Its only error is want of memory.
     pub fn dets(&self, alloc: Global) -> Result<Vec<Det>, NoMemory>
-        ensures { IfOk result (λ dets. dets.items ≡ fin.keys self.now) }
+        ensures { IfOk result (λ dets. dets.items ≡ fin.keys self.now.map) }
     {
         entries::dets(alloc, &self.entries)
     }
 
     /// A copy. Its only error is want of memory.
     pub fn try_clone(&self) -> Result<Log, NoMemory>
-        ensures { IfOk result (λ copy. copy ≡ self.now) }
+        ensures { IfOk result (λ copy. copy.map ≡ self.now.map) }
     {
         let entries = self.entries.clone()?;
-        Ok(Log { entries })
+        Ok(Log { entries, room: 0 })
     }
 
     /// What the messages of a step carry: the determinants that are not known to be stable and of which at most `f`
     /// holders are known, ascending. All others are safe where at most `f` processes fail. Its only error is want of
     /// memory.
     pub fn choose(&self, alloc: Global, f: u16) -> Result<Batch, NoMemory>
-        ensures { IfOk result (λ batch. batch ≡ chosen f self.now) }
+        ensures { IfOk result (λ batch. batch ≡ chosen f self.now.map) }
     {
         let items = entries::carried(alloc, &self.entries, f)?;
         Ok(Batch::new(items))
     }
 
+    /// What the messages of a step would carry once `grow` has taken in a delivery. The log is not changed. Its only error
+    /// is want of memory.
+    pub fn choose_grown(
+        &self,
+        alloc: Global,
+        carried: &Batch,
+        own: Det,
+        from: Pid,
+        me: Pid,
+        f: u16,
+    ) -> Result<Batch, NoMemory>
+        ensures { IfOk result (λ batch. batch ≡ chosen f (grown carried.now own from me self.now.map)) }
+    {
+        let mut part = self.part_for(alloc, carried, own, f)?;
+        part.absorb(carried, from, me)?;
+        part.add_own(own, me)?;
+        part.choose(alloc, f)
+    }
+
+    /// The entries that a message carries now, and those that a delivery touches: the batch of the delivery's sends depends
+    /// on no others.
+    fn part_for(&self, alloc: Global, carried: &Batch, own: Det, f: u16) -> Result<Log, NoMemory>
+        ensures { IfOk result (λ part. part.map ≡ part_for f carried.now own self.now.map) }
+    {
+        let chosen = self.choose(alloc, f)?;
+        let mut entries = IndexMap::new(alloc);
+        entries::copy_items(&mut entries, &self.entries, chosen.as_slice())?;
+        entries::copy_items(&mut entries, &self.entries, carried.as_slice())?;
+        entries::copy(&mut entries, &self.entries, own)?;
+        entries::sort(&mut entries)?;
+        Ok(Log { entries, room: 0 })
+    }
+
     /// The determinants that are known to be stable, ascending. Its only error is want of memory.
     pub fn stable_dets(&self, alloc: Global) -> Result<Vec<Det>, NoMemory>
-        ensures { IfOk result (λ dets. dets.items ≡ stable_in self.now) }
+        ensures { IfOk result (λ dets. dets.items ≡ stable_in self.now.map) }
     {
         entries::stable_dets(alloc, &self.entries)
+    }
+
+    /// The determinants that are not known to be stable, ascending. Its only error is want of memory.
+    pub fn unstable_dets(&self, alloc: Global) -> Result<Vec<Det>, NoMemory>
+        ensures { IfOk result (λ dets. dets.items ≡ unstable_in self.now.map) }
+    {
+        entries::unstable_dets(alloc, &self.entries)
+    }
+
+    /// How many determinants are known to be stable. Takes no memory.
+    pub fn stable_len(&self) -> u32
+        ensures { result ≡ length (stable_in self.now.map) }
+    {
+        entries::stable_len(&self.entries)
+    }
+
+    /// How many determinants are not known to be stable. Takes no memory.
+    pub fn unstable_len(&self) -> u32
+        ensures { result ≡ length (unstable_in self.now.map) }
+    {
+        entries::unstable_len(&self.entries)
     }
 
     /// The message that the log names for a slot, the delivery of number `rsn` to `dest`: that of the least determinant
     /// logged for it.
     pub fn for_slot(&self, dest: Pid, rsn: u32) -> Option<MsgName>
-        ensures { result ≡ named dest rsn self.now }
+        ensures { result ≡ named dest rsn self.now.map }
     {
         entries::message_for(&self.entries, dest, rsn)
     }
 
-    /// Adds a determinant that process `me` has made by a delivery: that it holds the determinant becomes known. The only
-    /// error is want of memory, which comes for a determinant that is not logged yet.
-    pub fn add_own(&mut self, det: Det, me: Pid) -> Result<(), NoMemory>
-        ensures ok { OnOk result (self.new ≡ learned self.old det (held_by me)) }
-        ensures err { OnErr result (self.new ≡ self.old) }
-        ensures logged { IsSome (fin.get self.old det) → IsOk result }
+    /// Makes the next `more` insertions sure of their memory. Where it is refused nothing changes, and its only error is
+    /// want of memory.
+    pub fn reserve(&mut self, more: u32) -> Result<(), NoMemory>
+        ensures map { self.new.map ≡ self.old.map }
+        ensures ok { OnOk result (more ≤ self.new.spare) }
+        ensures spare { self.old.spare ≤ self.new.spare }
+        ensures refused { OnErr result ((self.new ≡ self.old) × (self.old.spare < more)) }
     {
-        entries::learn(&mut self.entries, det, Known::held(me))
+        self.make_room(more as usize)
+    }
+
+    /// The same for a number that may not fit 32 bits, which is refused as want of memory.
+    fn make_room(&mut self, more: usize) -> Result<(), NoMemory>
+        ensures map { self.new.map ≡ self.old.map }
+        ensures ok { OnOk result (more ≤ self.new.spare) }
+        ensures spare { self.old.spare ≤ self.new.spare }
+        ensures refused { OnErr result ((self.new ≡ self.old) × (self.old.spare < more)) }
+    {
+        if more <= self.room as usize {
+            return Ok(());
+        }
+        if more > entries::MOST_ENTRIES - self.entries.len() {
+            return Err(NoMemory);
+        }
+        self.entries.reserve(more)?;
+        self.room = more as u32;
+        Ok(())
+    }
+
+    /// Learns something of one determinant. The only error is want of memory, which comes for a determinant that is not
+    /// logged yet.
+    fn learn(&mut self, det: Det, heard: Known) -> Result<(), NoMemory>
+        ensures ok { OnOk result (self.new.map ≡ learned self.old.map det heard) }
+        ensures err { OnErr result (self.new.map ≡ self.old.map) }
+        ensures logged { IsSome (fin.get self.old.map det) → IsOk result }
+        ensures succeeds { 1 ≤ self.old.spare → IsOk result }
+        ensures spare { self.old.spare ≤ self.new.spare + 1 }
+    {
+        if let Some((place, known)) = entries::place_of(&self.entries, det) {
+            entries::put_at(&mut self.entries, place, known.joined(heard));
+            return Ok(());
+        }
+        self.make_room(1)?;
+        entries::add(&mut self.entries, det, heard);
+        self.room -= 1;
+        Ok(())
+    }
+
+    /// Adds a determinant that process `me` has made by a delivery: that it holds the determinant becomes known. The only
+    /// error is want of memory, which comes for a determinant that is not logged yet and for which no room was made.
+    pub fn add_own(&mut self, det: Det, me: Pid) -> Result<(), NoMemory>
+        ensures ok { OnOk result (self.new.map ≡ learned self.old.map det (held_by me)) }
+        ensures err { OnErr result (self.new.map ≡ self.old.map) }
+        ensures logged { IsSome (fin.get self.old.map det) → IsOk result }
+        ensures succeeds { 1 ≤ self.old.spare → IsOk result }
+        ensures spare { self.old.spare ≤ self.new.spare + 1 }
+    {
+        self.learn(det, Known::held(me))
     }
 
     /// Adds a determinant that process `me` has read from stable storage: that it holds the determinant and that it is
-    /// stable become known. The only error is want of memory, which comes for a determinant that is not logged yet.
+    /// stable become known. The only error is want of memory, which comes for a determinant that is not logged yet and for
+    /// which no room was made.
     pub fn add_stable(&mut self, det: Det, me: Pid) -> Result<(), NoMemory>
-        ensures ok { OnOk result (self.new ≡ learned self.old det (stable_and_held_by me)) }
-        ensures err { OnErr result (self.new ≡ self.old) }
-        ensures logged { IsSome (fin.get self.old det) → IsOk result }
+        ensures ok { OnOk result (self.new.map ≡ learned self.old.map det (stable_and_held_by me)) }
+        ensures err { OnErr result (self.new.map ≡ self.old.map) }
+        ensures logged { IsSome (fin.get self.old.map det) → IsOk result }
+        ensures succeeds { 1 ≤ self.old.spare → IsOk result }
+        ensures spare { self.old.spare ≤ self.new.spare + 1 }
     {
-        entries::learn(&mut self.entries, det, Known::stable_and_held(me))
+        self.learn(det, Known::stable_and_held(me))
+    }
+
+    /// Whether so many determinants are learned one by one, each in its place: few ones, and those for which room was made.
+    /// More are learned all at once, since each one that is put in its place moves the entries behind it.
+    fn is_few(&self, more: usize) -> bool
+        ensures { IsFalse result → self.now.spare < more }
+    {
+        more <= FEW || more <= self.room as usize
     }
 
     /// Takes in what a message from process `from` carries to process `me`: the known holders of each of its determinants
     /// grow by the item's holders, the sender and the receiver. On want of memory nothing changes.
     pub fn absorb(&mut self, batch: &Batch, from: Pid, me: Pid) -> Result<(), NoMemory>
-        ensures ok { OnOk result (self.new ≡ absorbed batch.now from me self.old) }
-        ensures err { OnErr result (self.new ≡ self.old) }
+        ensures ok { OnOk result (self.new.map ≡ absorbed batch.now from me self.old.map) }
+        ensures err { OnErr result (self.new.map ≡ self.old.map) }
+        ensures succeeds { length batch.now ≤ self.old.spare → IsOk result }
+        ensures spare { self.old.spare ≤ self.new.spare + length batch.now }
     {
         let items = batch.as_slice();
-        entries::make_room(&mut self.entries, items.len())?;
-        entries::learn_items(&mut self.entries, items, from, me);
+        if self.is_few(items.len()) {
+            self.make_room(items.len())?;
+            entries::learn_items(&mut self.entries, items, from, me);
+            self.room -= items.len() as u32;
+            return Ok(());
+        }
+        self.entries = entries::merged_items(&self.entries, items, from, me)?;
+        self.room = 0;
         Ok(())
+    }
+
+    /// Takes in a delivery to process `me`, in room made by `reserve`: what the message from process `from` carries, as
+    /// `absorb` does, and then the delivery's own determinant, as `add_own` does. It takes no memory, so that it can follow
+    /// all that may be refused.
+    pub fn grow(&mut self, carried: &Batch, own: Det, from: Pid, me: Pid)
+        requires room { length carried.now + 1 ≤ self.old.spare }
+        ensures map { self.new.map ≡ grown carried.now own from me self.old.map }
+        ensures spare { self.old.spare ≤ self.new.spare + (length carried.now + 1) }
+    {
+        let items = carried.as_slice();
+        entries::learn_items(&mut self.entries, items, from, me);
+        entries::learn(&mut self.entries, own, Known::held(me));
+        self.room -= items.len() as u32 + 1;
     }
 
     /// Takes in all that another log knows: holders are united, and a determinant is known to be stable where either log
     /// says so. On want of memory nothing changes.
     pub fn union_from(&mut self, other: &Log) -> Result<(), NoMemory>
-        ensures ok { OnOk result (self.new ≡ united self.old other.now) }
-        ensures err { OnErr result (self.new ≡ self.old) }
+        ensures ok { OnOk result (self.new.map ≡ united self.old.map other.now.map) }
+        ensures err { OnErr result (self.new.map ≡ self.old.map) }
+        ensures succeeds { fin.len other.now.map ≤ self.old.spare → IsOk result }
+        ensures spare { self.old.spare ≤ self.new.spare + fin.len other.now.map }
     {
-        entries::make_room(&mut self.entries, other.entries.len())?;
-        entries::learn_entries(&mut self.entries, &other.entries);
+        if self.is_few(other.entries.len()) {
+            self.make_room(other.entries.len())?;
+            entries::learn_entries(&mut self.entries, &other.entries);
+            self.room -= other.entries.len() as u32;
+            return Ok(());
+        }
+        self.entries = entries::merged(&self.entries, &other.entries)?;
+        self.room = 0;
         Ok(())
     }
 
     /// Marks a determinant as stable, and says whether it is logged; where it is not, nothing changes. Takes no memory.
     pub fn mark_stable(&mut self, det: Det) -> bool
-        ensures found { IsTrue result ↔ IsSome (fin.get self.old det) }
-        ensures marked { self.new ≡ marked self.old det }
+        ensures found { IsTrue result ↔ IsSome (fin.get self.old.map det) }
+        ensures marked { self.new.map ≡ marked self.old.map det }
+        ensures spare { self.new.spare ≡ self.old.spare }
     {
-        let Some(known) = self.entries.get_mut(&det) else {
-            return false;
-        };
-        known.stable = true;
-        true
+        entries::mark(&mut self.entries, det)
     }
 
     /// Takes out the determinants that are known to be stable, and says how many these were. Takes no memory.
     pub fn drop_stable(&mut self) -> u32
-        ensures left { self.new ≡ unmarked self.old }
-        ensures count { result ≡ length (stable_in self.old) }
+        ensures left { self.new.map ≡ unmarked self.old.map }
+        ensures count { result ≡ length (stable_in self.old.map) }
+        ensures spare { self.new.spare ≡ self.old.spare }
     {
         entries::drop_stable(&mut self.entries)
     }

@@ -1,12 +1,14 @@
-use Rattle.std.proofs.Common.{◌≡◌, ◌≤◌, ◌<◌, ◌+◌, ◌^◌, drop, length}
+use Rattle.std.proofs.Common.{◌≡◌, ◌≤◌, ◌+◌, true, drop, length}
 use Rattle.indexmap.specs.IndexMap.{keys, spare}
-use Rattle.causal_log.specs.Logs.{IsKept, absorbed, log_of}
+use Rattle.causal_name.specs.Names.{is_ascending}
+use Rattle.causal_log.specs.Logs.{absorbed, log_of}
 use Rattle.causal_log.proofs.entries.learn_items.Given as goal
 
 abbrev pub invariant-loop-item : goal.invariant-loop-item
 invariant-loop-item l = record {
   learned : absorbed (drop l.item-index l.items) l.from l.me (log_of l.entries.entries) ≡ absorbed l.items l.from l.me (log_of l.fn.entries.entries);
   room : length l.items ≤ spare l.entries + l.item-index;
-  few : length l.entries.entries + length l.items < 2 ^ 32 + l.item-index;
-  kept : IsKept (keys l.entries);
+  spare : spare l.fn.entries ≤ spare l.entries + l.item-index;
+  len : length l.entries.entries ≤ length l.fn.entries.entries + l.item-index;
+  ascending : is_ascending (keys l.entries) ≡ true;
 }

@@ -1,5 +1,8 @@
-use Rattle.causal_log.proofs.LearnLemmas.{get_learned}
+use Rattle.causal_log.proofs.Lemmas.Learning.{get_learned, size_one}
 use Rattle.causal_log.proofs.laws.learning_law.Goals as goal
 
-pub returns : goal.returns
-returns c = λ log det other known. get_learned log det known other
+pub returns-clause-known : goal.returns-clause-known
+returns-clause-known c = λ log det other known. get_learned log det known other
+
+pub returns-clause-size : goal.returns-clause-size
+returns-clause-size c = size_one

@@ -1,55 +1,12 @@
-use Rattle.std.proofs.Common.{◌≡◌, ◌∙◌, ◌⊎◌, inl, inr, ap, sym, refl, cond, Bool, true, false, ◌||◌, List, [], ◌∷◌, find, Some, None, is_some, unwrap_or, true≢false}
-use Rattle.std.specs.List.{list_any}
-use Rattle.causal_name.specs.declared.Det.{Det}
-use Rattle.causal_name.specs.Names.{same_det, is_before}
-use Rattle.causal_name.specs.Names.{is_ascending}
 use Rattle.causal_log.specs.Slots.{is_of_slot}
-use Rattle.causal_name.proofs.DetOrder.{same_is, same_itself}
-use Rattle.causal_log.proofs.Ascents.{first_before, ascending_tail}
-use Rattle.causal_log.proofs.Searches.{or_right}
+use Rattle.causal_log.proofs.Lemmas.Slots.{first_fits, first_least, none_fits}
 use Rattle.causal_log.proofs.laws.slot_law.Goals as goal
 
-module _ (p : Det → Bool) where
-  fills : (ds : List Det) (least : Det) → find p ds ≡ Some least → (p least ≡ true) × (list_any (same_det least) ds ≡ true)
-  fills [] least h = absurd (true≢false (sym (ap is_some h)))
-  fills (d ∷ ds) least h = by (p d) refl h (λ at. fills ds least at)
-    where
-      by : (b : Bool) → p d ≡ b → cond b (Some d) (find p ds) ≡ Some least → (find p ds ≡ Some least → (p least ≡ true) × (list_any (same_det least) ds ≡ true)) → (p least ≡ true) × (list_any (same_det least) (d ∷ ds) ≡ true)
-      by true is at later =
-          let one : d ≡ least = ap (λ o. unwrap_or o d) at in
-          (ap p (sym one) ∙ is, ap (λ x. same_det least x || list_any (same_det least) ds) one ∙ ap (λ b. b || list_any (same_det least) ds) (same_itself least))
-      by false is at later = let rest = later at in (rest.0, ap (λ b. same_det least d || b) rest.1 ∙ sym (or_right (same_det least d)))
-
-  among : (a b : Bool) → (a || b) ≡ true → (a ≡ true) ⊎ (b ≡ true)
-  among true b h = inl refl
-  among false b h = inr h
-
-  none : (ds : List Det) (det : Det) → find p ds ≡ None → list_any (same_det det) ds ≡ true → p det ≡ false
-  none [] det h there = absurd (true≢false (sym there))
-  none (d ∷ ds) det h there = by (p d) refl h (among (same_det det d) (list_any (same_det det) ds) there) (λ at rest. none ds det at rest)
-    where
-      by : (b : Bool) → p d ≡ b → cond b (Some d) (find p ds) ≡ None → (same_det det d ≡ true) ⊎ (list_any (same_det det) ds ≡ true)
-          → (find p ds ≡ None → list_any (same_det det) ds ≡ true → p det ≡ false) → p det ≡ false
-      by true is at found later = absurd (true≢false (ap is_some at))
-      by false is at (inl same) later = ap p (same_is det d same) ∙ is
-      by false is at (inr rest) later = later at rest
-
-  least_one : (ds : List Det) (least det : Det) → is_ascending ds ≡ true → find p ds ≡ Some least → list_any (same_det det) ds ≡ true → p det ≡ true → (least ≡ det) ⊎ (is_before least det ≡ true)
-  least_one [] least det ascend h there fit = absurd (true≢false (sym there))
-  least_one (d ∷ ds) least det ascend h there fit = by (p d) refl h (among (same_det det d) (list_any (same_det det) ds) there) (λ at rest. least_one ds least det (ascending_tail d ds ascend) at rest fit)
-    where
-      by : (b : Bool) → p d ≡ b → cond b (Some d) (find p ds) ≡ Some least → (same_det det d ≡ true) ⊎ (list_any (same_det det) ds ≡ true)
-          → (find p ds ≡ Some least → list_any (same_det det) ds ≡ true → (least ≡ det) ⊎ (is_before least det ≡ true)) → (least ≡ det) ⊎ (is_before least det ≡ true)
-      by true is at (inl same) later = inl (sym (ap (λ o. unwrap_or o d) at) ∙ sym (same_is det d same))
-      by true is at (inr rest) later = inr (ap (λ x. is_before x det) (sym (ap (λ o. unwrap_or o d) at)) ∙ first_before d ds det ascend rest)
-      by false is at (inl same) later = absurd (true≢false (sym fit ∙ ap p (same_is det d same) ∙ is))
-      by false is at (inr rest) later = later at rest
-
 pub returns-clause-fills : goal.returns-clause-fills
-returns-clause-fills c = λ dest rsn dets least h. fills (is_of_slot dest rsn) dets least h
+returns-clause-fills c = λ dest rsn. first_fits (is_of_slot dest rsn)
 
 pub returns-clause-least : goal.returns-clause-least
-returns-clause-least c = λ dest rsn dets least det ascend h there fit. least_one (is_of_slot dest rsn) dets least det ascend h there fit
+returns-clause-least c = λ dest rsn. first_least (is_of_slot dest rsn)
 
 pub returns-clause-none : goal.returns-clause-none
-returns-clause-none c = λ dest rsn dets det h there. none (is_of_slot dest rsn) dets det h there
+returns-clause-none c = λ dest rsn. none_fits (is_of_slot dest rsn)

@@ -7,15 +7,14 @@ use Rattle.causal_name.specs.declared.Det.{Det}
 use Rattle.causal_log.specs.declared.known.Known.{Known}
 use Rattle.causal_name.specs.Names.{is_ascending}
 use Rattle.causal_log.specs.Logs.{log_of, unmarked, stable_in}
-use Rattle.causal_log.proofs.Ascents.{filter_ascends}
-use Rattle.causal_name.proofs.DetOrder.{ascending_sorted}
-use Rattle.causal_log.proofs.EntryLemmas.{entries_log}
+use Rattle.causal_log.proofs.Lemmas.Ascents.{filter_ascends}
+use Rattle.causal_log.proofs.EntryLemmas.{own_entries}
 use Rattle.causal_log.proofs.log.Log.drop_stable.Goals as goal
 use Rattle.causal_log.proofs.log.Log.drop_stable.Goals.{After-drop_stable}
 
 -- the entries before are those of the map that they make
 own : (c : After-drop_stable) → fin.entries (log_of c.self.inside.entries.entries) ≡ c.self.inside.entries.entries
-own c = entries_log c.self.inside.entries.entries c.self.invariant.sorted c.drop_stable.ensures.unique
+own c = own_entries c.self.inside.entries.entries c.self.invariant.ascending
 
 -- the marked and the others are all
 parts : (es : List (Det × Known)) → length (map (λ e. e.0) (filter (λ e. e.1.stable) es)) + length (filter (λ e. not e.1.stable) es) ≡ length es
@@ -30,17 +29,18 @@ ascend c =
 
 pub invariant_of-self : goal.invariant_of-self
 invariant_of-self c = record {
-  sorted = ascending_sorted (keys_of c.drop_stable.new.entries.entries) (ascend c);
+  ascending = ascend c;
   few = omega (arith, c.drop_stable.ensures.count, c.self.invariant.few, length-map c.drop_stable.new.entries.entries (λ e. e.0), length-map c.self.inside.entries.entries (λ e. e.0));
+  sure = omega (arith, c.self.invariant.sure, c.drop_stable.ensures.spare);
 }
 
 pub returns-clause-left : goal.returns-clause-left
 returns-clause-left c =
-    ap log_of (c.drop_stable.ensures.left ∙ ap (filter (λ e. not e.1.stable)) (sym (own c))) ∙ ap unmarked c.self.view_is
+    ap log_of (c.drop_stable.ensures.left ∙ ap (filter (λ e. not e.1.stable)) (sym (own c))) ∙ ap (λ log. unmarked log.map) c.self.view_is
 
 pub returns-clause-count : goal.returns-clause-count
 returns-clause-count c =
     let all = parts c.self.inside.entries.entries in
     let left = ap length c.drop_stable.ensures.left in
     let count : c.drop_stable.result ≡ length (map (λ e. e.0) (filter (λ e. e.1.stable) c.self.inside.entries.entries)) = omega (arith, all, left, c.drop_stable.ensures.count) in
-    count ∙ ap (λ es. length (map (λ e. e.0) (filter (λ e. e.1.stable) es))) (sym (own c)) ∙ ap (λ m. length (stable_in m)) c.self.view_is
+    count ∙ ap (λ es. length (map (λ e. e.0) (filter (λ e. e.1.stable) es))) (sym (own c)) ∙ ap (λ m. length (stable_in m.map)) c.self.view_is

@@ -5,4 +5,4 @@ use Rattle.causal_log.proofs.log.Log.known.Goals as goal
 
 pub returns : goal.returns
 returns c =
-    c.copied.ensures ∙ c.get.ensures.value ∙ sym (get_log c.self.inside.entries.entries c.args.det) ∙ ap (λ m. fin.get m c.args.det) c.self.view_is
+    c.copied.ensures ∙ c.get.ensures.value ∙ sym (get_log c.self.inside.entries.entries c.args.det) ∙ ap (λ log. fin.get log.map c.args.det) c.self.view_is

@@ -1,12 +1,12 @@
 use Rattle.std.proofs.Common.{◌∙◌, ap, sym, map, filter}
 use Rattle.std.proofs.lemmas.Result.{IfOk-weaker}
 use Rattle.causal_log.specs.Logs.{stable_in}
-use Rattle.causal_log.proofs.EntryLemmas.{entries_log}
+use Rattle.causal_log.proofs.EntryLemmas.{own_entries}
 use Rattle.causal_log.proofs.log.Log.stable_dets.Goals as goal
 
 pub returns : goal.returns
 returns c =
     IfOk-weaker c.stable_dets.result _ _ (λ dets is.
     is
-    ∙ ap (λ es. map (λ e. e.0) (filter (λ e. e.1.stable) es)) (sym (entries_log c.self.inside.entries.entries c.self.invariant.sorted c.stable_dets.ensures.unique))
-    ∙ ap stable_in c.self.view_is) c.stable_dets.ensures.items
+    ∙ ap (λ es. map (λ e. e.0) (filter (λ e. e.1.stable) es)) (sym (own_entries c.self.inside.entries.entries c.self.invariant.ascending))
+    ∙ ap (λ log. stable_in log.map) c.self.view_is) c.stable_dets.ensures

@@ -1,7 +1,7 @@
 use Rattle.std.proofs.Common.{◌∙◌, ap, sym}
 use Rattle.std.proofs.lemmas.Result.{IfOk-weaker}
 use Rattle.causal_log.specs.Stores.{dets_in}
-use Rattle.causal_log.proofs.SetLemmas.{dets_set}
+use Rattle.causal_log.proofs.Lemmas.Storing.{dets_set}
 use Rattle.causal_log.proofs.memory.MemStableStable.all.Goals as goal
 
 pub returns : goal.returns

@@ -1,6 +1,6 @@
 use Rattle.std.proofs.Common.{◌∙◌, ap, sym}
 use Rattle.causal_log.specs.Stores.{has}
-use Rattle.causal_log.proofs.SetLemmas.{has_set}
+use Rattle.causal_log.proofs.Lemmas.Storing.{has_set}
 use Rattle.causal_log.proofs.memory.MemStableStable.contains.Goals as goal
 
 pub returns : goal.returns

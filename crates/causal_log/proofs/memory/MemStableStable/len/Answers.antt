@@ -1,6 +1,6 @@
 use Rattle.std.proofs.Common.{◌∙◌, ap, sym}
 use Rattle.causal_log.specs.Stores.{count_in}
-use Rattle.causal_log.proofs.SetLemmas.{count_set}
+use Rattle.causal_log.proofs.Lemmas.Storing.{count_set}
 use Rattle.causal_log.proofs.memory.MemStableStable.len.Goals as goal
 
 pub returns : goal.returns

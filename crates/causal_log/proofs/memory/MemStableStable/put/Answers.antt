@@ -2,7 +2,7 @@ use Rattle.std.proofs.Common.{◌≡◌, ◌∙◌, ap, subst, refl}
 use Rattle.std.specs.List.Sorted.{IsStrictlySortedBy}
 use Rattle.causal_name.specs.Names.{det_cmp}
 use Rattle.causal_log.specs.Stores.{set_of, with_det}
-use Rattle.causal_log.proofs.SetLemmas.{with_det_set, with_member}
+use Rattle.causal_log.proofs.Lemmas.Storing.{with_det_set, with_member}
 use Rattle.causal_log.proofs.memory.MemStableStable.put.Goals as goal
 
 stored : (c : goal.In-Ok) → set_of c.insert.new.self.keys ≡ with_det c.args.self.now c.args.det

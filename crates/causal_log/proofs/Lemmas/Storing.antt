@@ -1,4 +1,4 @@
--- What a list of ascending determinants says of the set that it makes.
+-- Sets of determinants, and what a list of ascending determinants says of the set that it makes: for writers of stores.
 use Rattle.std.proofs.Common.{◌≡◌, ◌∙◌, Bool, true, false, cond, ◌||◌, List, [], ◌∷◌, map, length, Option, Some, None, is_some, refl, sym, ap, subst}
 use Rattle.std.specs.List.{list_any}
 use Rattle.std.specs.List.Sorted.{IsStrictlySortedBy}
@@ -10,10 +10,10 @@ use Rattle.std.specs.FinMap as fin
 use Rattle.std.specs.FinMap.Entries.{put, by_order}
 use Rattle.std.specs.declared.cmp.Ordering.TheVariants.{Less, Equal, Greater}
 use Rattle.causal_name.specs.declared.Det.{Det}
-use Rattle.causal_name.specs.Names.{det_cmp}
+use Rattle.causal_name.specs.Names.{det_cmp, same_det}
 use Rattle.std.proofs.lemmas.List.{length-map}
 use Rattle.causal_log.specs.Stores.{DetSet, set_of, with_det, has, count_in, dets_in}
-use Rattle.causal_name.proofs.DetOrder.{dets_total, exact_dets}
+use Rattle.causal_name.proofs.Lemmas.DetOrder.{dets_total, exact_dets, det_ties}
 use Rattle.causal_log.proofs.EntryLemmas.{entries_strict}
 
 abbrev paired : List Det → List (Det × Unit {0})
@@ -69,3 +69,24 @@ with_member s d member =
 -- the set of an ascending list has as many members
 pub count_set : (ds : List Det) → IsStrictlySortedBy det_cmp ds → count_in (set_of ds) ≡ length ds
 count_set ds ascend = fin.len-entries (set_of ds) ∙ ap length (entries_set ds ascend) ∙ length-map ds (λ d. (d, tt))
+
+-- a determinant is a member where it is one of the members
+pub listed : (s : DetSet) (d : Det) → has s d ≡ list_any (same_det d) (dets_in s)
+listed s d = fin.contains_key-keys s d ∙ ties (dets_in s)
+  where
+    ties : (ds : List Det) → list_any (eq_by_cmp det_cmp d) ds ≡ list_any (same_det d) ds
+    ties [] = refl
+    ties (x ∷ ds) = λ i. sym (det_ties d x) i || ties ds i
+
+-- one put in is a member beside those before
+pub stored : (s : DetSet) (d other : Det) → has (with_det s d) other ≡ (same_det other d || has s other)
+stored s d other =
+    ap is_some (fin.get-insert dets_total s d tt other) ∙ either (eq_by_cmp det_cmp other d) (fin.get s other) ∙ ap (λ b. b || has s other) (sym (det_ties other d))
+  where
+    either : (b : Bool) (o : Option (Unit {0})) → is_some (cond b (Some tt) o) ≡ (b || is_some o)
+    either true o = refl
+    either false o = refl
+
+-- a store that counts no member is empty
+pub none_stored : (s : DetSet) → count_in s ≡ 0 → s ≡ fin.empty
+none_stored s h = fin.empty_of_len s h

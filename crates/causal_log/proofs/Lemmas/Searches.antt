@@ -10,7 +10,7 @@ use Rattle.std.specs.declared.cmp.Ordering.TheVariants.{Less, Equal, Greater}
 use Rattle.causal_name.specs.declared.Det.{Det}
 use Rattle.causal_name.specs.Names.{det_cmp, same_det, is_before}
 use Rattle.std.specs.Cmp.{eq_by_cmp_equiv, tied_itself}
-use Rattle.causal_name.proofs.DetOrder.{dets_total, det_ties, same_is}
+use Rattle.causal_name.proofs.Lemmas.DetOrder.{dets_total, det_ties, same_is}
 
 pub both : (a b : Bool) → (a && b) ≡ true → (a ≡ true) × (b ≡ true)
 both true b h = (refl, h)
@@ -45,8 +45,12 @@ apart Equal h = absurd (true≢false (sym h))
 apart Greater h = absurd (true≢false (sym h))
 
 -- a determinant before another is another one
-before_apart : (d e : Det) → is_before d e ≡ true → same_det d e ≡ false
+pub before_apart : (d e : Det) → is_before d e ≡ true → same_det d e ≡ false
 before_apart d e h = det_ties d e ∙ apart (det_cmp d e) h
+
+-- the same determinant either way round
+pub same_turned : (d e : Det) → same_det d e ≡ same_det e d
+same_turned d e = det_ties d e ∙ (eq_by_cmp_equiv dets_total).symm d e ∙ sym (det_ties e d)
 
 -- whether there is a value that passes
 abbrev pub passes : {X : Type 0} → (X → Bool) → Option X → Bool

@@ -9,20 +9,28 @@ use Rattle.std.specs.declared.cmp.Ordering.{Ordering}
 use Rattle.std.specs.declared.cmp.Ordering.TheVariants.{Less, Equal, Greater}
 use Rattle.causal_name.specs.declared.Det.{Det}
 use Rattle.causal_name.specs.Names.{det_cmp, same_det, is_before, is_ascending}
-use Rattle.causal_name.proofs.DetOrder.{dets_total, same_is}
-use Rattle.causal_log.proofs.Searches.{both, shown}
+use Rattle.causal_name.proofs.Lemmas.DetOrder.{dets_total, same_is}
+use Rattle.causal_log.proofs.Lemmas.Searches.{both, shown}
 
 pub ascending_tail : (d : Det) (ds : List Det) → is_ascending (d ∷ ds) ≡ true → is_ascending ds ≡ true
 ascending_tail d [] h = refl
 ascending_tail d (e ∷ ds) h = (both (is_before d e) (is_ascending (e ∷ ds)) h).1
 
-before_trans : (x y z : Det) → is_before x y ≡ true → is_before y z ≡ true → is_before x z ≡ true
+pub is_less : (r : Ordering) → is_lt r ≡ true → r ≡ Less
+is_less Less e = refl
+is_less Equal e = absurd (true≢false (sym e))
+is_less Greater e = absurd (true≢false (sym e))
+
+pub before_trans : (x y z : Det) → is_before x y ≡ true → is_before y z ≡ true → is_before x z ≡ true
 before_trans x y z h k = ap is_lt (dets_total.trans x y z (is_less (det_cmp x y) h) (is_less (det_cmp y z) k))
-  where
-    is_less : (r : Ordering) → is_lt r ≡ true → r ≡ Less
-    is_less Less e = refl
-    is_less Equal e = absurd (true≢false (sym e))
-    is_less Greater e = absurd (true≢false (sym e))
+
+-- an ascending list without its second
+pub ascending_skip : (d e : Det) (ds : List Det) → is_ascending (d ∷ e ∷ ds) ≡ true → is_ascending (d ∷ ds) ≡ true
+ascending_skip d e [] h = refl
+ascending_skip d e (f ∷ ds) h =
+    let two = both (is_before d e) (is_ascending (e ∷ f ∷ ds)) h in
+    let rest = both (is_before e f) (is_ascending (f ∷ ds)) two.1 in
+    (λ i. before_trans d e f two.0 rest.0 i && rest.1 i)
 
 -- the first of an ascending list is before the others
 pub first_before : (d : Det) (ds : List Det) (det : Det) → is_ascending (d ∷ ds) ≡ true → list_any (same_det det) ds ≡ true → is_before d det ≡ true

@@ -1,5 +1,5 @@
 -- What a log that has learned something knows of each determinant.
-use Rattle.std.proofs.Common.{ℕ, ◌≡◌, ◌∙◌, ◌==◌, Bool, true, false, cond, ◌&&◌, ◌||◌, List, [], ◌∷◌, map, Some, is_some, unwrap_or, refl, sym, ap}
+use Rattle.std.proofs.Common.{ℕ, ◌≡◌, ◌∙◌, ◌==◌, ◌+◌, Bool, true, false, cond, ◌&&◌, ◌||◌, List, [], ◌∷◌, map, filter, length, Option, Some, None, is_some, is_none, unwrap_or, refl, sym, ap, arith}
 use Rattle.std.proofs.Math.Bool.{or_assoc}
 use Rattle.std.specs.List.{list_any}
 use Rattle.std.specs.Cmp.{nat_cmp_total}
@@ -7,13 +7,15 @@ use Rattle.std.specs.FinMap as fin
 use Rattle.std.specs.FinSet as set
 use Rattle.causal_name.specs.declared.Det.{Det}
 use Rattle.causal_name.specs.declared.Pid.{Pid}
-use Rattle.causal_name.specs.Names.{same_det}
+use Rattle.std.specs.Map.{keys_of}
+use Rattle.causal_name.specs.Names.{same_det, is_before, is_ascending}
 use Rattle.causal_log.specs.declared.known.Known.{Known}
 use Rattle.causal_log.specs.declared.batch.Item.{Item}
 use Rattle.causal_log.specs.Knowledge.{nothing_known, joined, told}
-use Rattle.causal_log.specs.Logs.{LogMap, known_of, learned, learned_all}
-use Rattle.causal_log.proofs.Searches.{or_right, or_nothing, any_map}
-use Rattle.causal_name.proofs.DetOrder.{dets_total, det_ties, same_is, nat_ties}
+use Rattle.causal_log.specs.Logs.{LogMap, known_of, learned, learned_all, unknown_to, dets_of}
+use Rattle.causal_log.proofs.Lemmas.Searches.{both, or_right, or_nothing, any_map, before_apart, same_turned}
+use Rattle.causal_log.proofs.Lemmas.Ascents.{ascending_tail, ascending_skip}
+use Rattle.causal_name.proofs.Lemmas.DetOrder.{dets_total, det_ties, same_is, nat_ties}
 
 -- what is learned of one determinant changes its entry alone
 pub get_learned : (log : LogMap) (det : Det) (known : Known) (q : Det) → fin.get (learned log det known) q ≡ cond (same_det q det) (Some (joined (known_of log det) known)) (fin.get log q)
@@ -58,6 +60,11 @@ holds_either p one other = set.contains-union nat_cmp_total one.holders other.ho
 pub stable_either : (one other : Known) → (joined one other).stable ≡ (one.stable || other.stable)
 stable_either one other = refl
 
+-- the determinants of told items
+pub told_keys : (from me : Pid) (items : List Item) → keys_of (map (told from me) items) ≡ dets_of items
+told_keys from me [] = refl
+told_keys from me (item ∷ items) = ap (λ ds. item.det ∷ ds) (told_keys from me items)
+
 module _ (from me : Pid) (q : Det) where
   pub told_dets : (items : List Item) → list_any (λ e. same_det q e.0) (map (told from me) items) ≡ list_any (λ item. same_det q item.det) items
   told_dets items = any_map (told from me) (λ e. same_det q e.0) (λ item. same_det q item.det) (λ x. refl) items
@@ -93,3 +100,32 @@ module _ (from me : Pid) (q : Det) where
   told_holders p items =
       any_map (told from me) (λ e. same_det q e.0 && set.contains e.1.holders p)
       (λ item. same_det q item.det && (set.contains item.holders p || (p == from.0 || p == me.0))) (λ item. ap (λ b. same_det q item.det && b) (told_one p item)) items
+
+-- one determinant learned adds one where it was not logged
+pub size_one : (log : LogMap) (det : Det) (known : Known) → fin.len (learned log det known) ≡ fin.len log + cond (is_some (fin.get log det)) 0 1
+size_one log det known = fin.len-insert dets_total log det _ ∙ by (is_some (fin.get log det))
+  where
+    by : (b : Bool) → cond b (fin.len log) (fin.len log + 1) ≡ fin.len log + cond b 0 1
+    by true = omega (arith)
+    by false = refl
+
+-- what is learned of one determinant changes nothing of those that come after it
+unknown_after : (log : LogMap) (det : Det) (known : Known) (ds : List Det) → is_ascending (det ∷ ds) ≡ true → unknown_to (learned log det known) ds ≡ unknown_to log ds
+unknown_after log det known [] h = refl
+unknown_after log det known (d ∷ ds) h =
+    let two = both (is_before det d) (is_ascending (d ∷ ds)) h in
+    let same : fin.get (learned log det known) d ≡ fin.get log d =
+    get_learned log det known d ∙ ap (λ b. cond b (Some (joined (known_of log det) known)) (fin.get log d)) (same_turned d det ∙ before_apart det d two.0) in
+    λ i. cond (is_none (same i)) (d ∷ unknown_after log det known ds (ascending_skip det d ds h) i) (unknown_after log det known ds (ascending_skip det d ds h) i)
+
+-- determinants that ascend add as many as were not logged
+pub size_all : (es : List (Det × Known)) (log : LogMap) → is_ascending (keys_of es) ≡ true → fin.len (learned_all es log) ≡ fin.len log + length (unknown_to log (keys_of es))
+size_all [] log h = omega (arith)
+size_all (e ∷ es) log h =
+    size_all es (learned log e.0 e.1) (ascending_tail e.0 (keys_of es) h)
+    ∙ (λ i. size_one log e.0 e.1 i + length (unknown_after log e.0 e.1 (keys_of es) h i))
+    ∙ by (fin.get log e.0)
+  where
+    by : (o : Option Known) → (fin.len log + cond (is_some o) 0 1) + length (unknown_to log (keys_of es)) ≡ fin.len log + length (cond (is_none o) (e.0 ∷ unknown_to log (keys_of es)) (unknown_to log (keys_of es)))
+    by None = omega (arith)
+    by (Some known) = omega (arith)

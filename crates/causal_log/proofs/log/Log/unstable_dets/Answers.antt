@@ -1,0 +1,12 @@
+use Rattle.std.proofs.Common.{◌∙◌, ap, sym, map, filter, not}
+use Rattle.std.proofs.lemmas.Result.{IfOk-weaker}
+use Rattle.causal_log.specs.Logs.{unstable_in}
+use Rattle.causal_log.proofs.EntryLemmas.{own_entries}
+use Rattle.causal_log.proofs.log.Log.unstable_dets.Goals as goal
+
+pub returns : goal.returns
+returns c =
+    IfOk-weaker c.unstable_dets.result _ _ (λ dets is.
+    is
+    ∙ ap (λ es. map (λ e. e.0) (filter (λ e. not e.1.stable) es)) (sym (own_entries c.self.inside.entries.entries c.self.invariant.ascending))
+    ∙ ap (λ log. unstable_in log.map) c.self.view_is) c.unstable_dets.ensures

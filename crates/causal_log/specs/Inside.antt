@@ -1,0 +1,3 @@
+-- What only models and private functions cite.
+pub mod Kept
+pub mod Parts

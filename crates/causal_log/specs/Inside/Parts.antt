@@ -1,0 +1,24 @@
+-- The part of a log on which the batch of a delivery's sends depends.
+use Rattle.std.specs.Prelude.{ℕ, List, [], ◌∷◌, Option, Some, None}
+use Rattle.std.specs.FinMap as fin
+use Rattle.causal_name.specs.declared.Det.{Det}
+use Rattle.causal_log.specs.declared.known.Known.{Known}
+use Rattle.causal_log.specs.declared.batch.Item.{Item}
+use Rattle.causal_log.specs.Logs.{LogMap, chosen, dets_of}
+
+abbrev pub copied : Det → Option Known → LogMap → LogMap
+copied det None part = part
+copied det (Some known) part = fin.insert part det known
+
+-- a log's entry of one determinant is copied, where it is logged
+abbrev pub with_copy : LogMap → Det → LogMap → LogMap
+with_copy log det part = copied det (fin.get log det) part
+
+-- and those of some determinants
+abbrev pub with_copies : LogMap → List Det → LogMap → LogMap
+with_copies log [] part = part
+with_copies log (det ∷ dets) part = with_copies log dets (with_copy log det part)
+
+-- the entries that a message carries now, and those that a delivery touches
+abbrev pub part_for : ℕ → List Item → Det → LogMap → LogMap
+part_for f items own log = with_copy log own (with_copies log (dets_of items) (with_copies log (dets_of (chosen f log)) fin.empty))
