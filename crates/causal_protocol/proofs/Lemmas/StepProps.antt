@@ -1,0 +1,29 @@
+-- A legal step has one proof at most.
+use Rattle.std.specs.Prelude.{ℕ, List, Option, None, Some}
+use Rattle.std.proofs.Props.{props}
+use Rattle.causal_trace.specs.declared.entry.Entry.{Entry}
+use Rattle.causal_protocol.specs.declared.request.Request.{Request}
+use Rattle.causal_protocol.specs.declared.request.Request.TheVariants as Ask
+use Rattle.causal_protocol.specs.declared.request.Reply.{Reply}
+use Rattle.causal_protocol.specs.declared.request.Reply.TheVariants as Told
+use Rattle.causal_protocol.specs.declared.request.CoreFault.{CoreFault}
+use Rattle.causal_protocol.specs.Run.{Run}
+use Rattle.causal_protocol.specs.Steps.{LegalStep, IsPart}
+
+pub IsPart-prop : (reason : Option CoreFault) (done all : ℕ) → IsProp (IsPart reason done all)
+IsPart-prop None done all = Prim.hlevel props
+IsPart-prop (Some fault) done all = Prim.hlevel props
+
+pub LegalStep-prop : (r : Run) (request : Request) (reply : Reply) (appended : List Entry) → IsProp (LegalStep r request reply appended)
+unfolding LegalStep
+LegalStep-prop r (Ask.Deliver q source ssn) (Told.Delivered d) appended = Prim.hlevel props
+LegalStep-prop r (Ask.Deliver q source ssn) (Told.Refused fault) appended = Prim.hlevel props
+LegalStep-prop r (Ask.Crash p) (Told.Crashed first) appended = Prim.hlevel props
+LegalStep-prop r (Ask.Crash p) (Told.Refused fault) appended = Prim.hlevel props
+LegalStep-prop r (Ask.Restart p) (Told.Restarted d) appended = Prim.hlevel props
+LegalStep-prop r (Ask.Restart p) (Told.Refused fault) appended = Prim.hlevel props
+LegalStep-prop r (Ask.Flush p) (Told.Flushed count) appended = Prim.hlevel props
+LegalStep-prop r (Ask.Flush p) (Told.FlushRefused f) appended = Prim.hlevel (props, IsPart-prop)
+LegalStep-prop r (Ask.Forget p) (Told.Forgotten count) appended = Prim.hlevel props
+LegalStep-prop r (Ask.Forget p) (Told.Refused fault) appended = Prim.hlevel props
+LegalStep-prop r request reply appended = Prim.hlevel props

@@ -1,0 +1,101 @@
+-- What a legal step appends, by number: as many entries as its reply tells, and as many stable ones as it has writers.
+use Rattle.std.proofs.Common.{◌≡◌, ◌≤◌, ◌+◌, ◌∙◌, sym, refl, ap, ℕ, zero, suc, List, [], ◌∷◌, length, take, drop, map, count_by, cond, length-take, arith, Some, None, Option}
+use Rattle.std.specs.Prelude.{replicate}
+use Rattle.std.proofs.lemmas.List.{length-map}
+use Rattle.std.proofs.lemmas.List.Sums.{sum_by-append}
+use Rattle.causal_name.specs.declared.Pid.{Pid}
+use Rattle.causal_name.specs.declared.Det.{Det}
+use Rattle.causal_trace.specs.declared.entry.Entry.{Entry}
+use Rattle.causal_trace.specs.declared.entry.Entry.TheVariants.{Stable}
+use Rattle.causal_protocol.specs.declared.request.Request.{Request}
+use Rattle.causal_protocol.specs.declared.request.Request.TheVariants as Ask
+use Rattle.causal_protocol.specs.declared.request.Reply.{Reply}
+use Rattle.causal_protocol.specs.declared.request.Reply.TheVariants as Told
+use Rattle.causal_protocol.specs.declared.request.CoreFault.{CoreFault}
+use Rattle.causal_protocol.specs.Run.{Run}
+use Rattle.causal_protocol.specs.Refusals.{unwritten, forgettable}
+use Rattle.causal_protocol.specs.Steps.{LegalStep, IsPart, AreSends, pushed, sends_of, forget_entries, writers_of, flush_reason_of}
+use Rattle.causal_protocol.specs.Runs.{RepliesTellEntries}
+use Rattle.causal_protocol.specs.Telling.{is_written, told_entries, one_for_some}
+
+written-sends_of : (q : Pid) (ssn : ℕ) (tos : List Pid) → count_by is_written (sends_of q ssn tos) ≡ 0
+unfolding sends_of
+written-sends_of q ssn [] = refl
+written-sends_of q ssn (to ∷ tos) = written-sends_of q (ssn + 1) tos
+
+written-sends : (n : ℕ) (q : Pid) (ssn number : ℕ) (es : List Entry) → AreSends n q ssn number es → count_by is_written es ≡ 0
+written-sends n q ssn number es sends = ap (count_by is_written) sends.sends ∙ written-sends_of q ssn _
+
+written-stable : (ds : List Det) → count_by is_written (map Stable ds) ≡ length (map Stable ds)
+written-stable [] = refl
+written-stable (d ∷ ds) =
+    let rest = written-stable ds in
+    let count : count_by is_written (map Stable (d ∷ ds)) ≡ 1 + count_by is_written (map Stable ds) = sum_by-append (λ x. cond (is_written x) 1 0) (Stable d ∷ []) (map Stable ds) in
+    let long : length (map Stable (d ∷ ds)) ≡ 1 + length (map Stable ds) = omega arith in
+    omega (arith, rest, count, long)
+
+length-writers : (p : Pid) (n : ℕ) → length (replicate n p) ≡ n
+length-writers p zero = refl
+length-writers p (suc n) = let rest = length-writers p n in omega (arith, rest)
+
+written-flush : (p : Pid) (ds : List Det) (es : List Entry) → es ≡ map Stable ds → count_by is_written es ≡ length (writers_of (Ask.Flush p) es)
+written-flush p ds es is = ap (count_by is_written) is ∙ (written-stable ds ∙ (ap length (sym is) ∙ sym (length-writers p (length es))))
+
+written-forget : (p : Pid) (ds : List Det) → count_by is_written (forget_entries p ds) ≡ 0
+written-forget p [] = refl
+written-forget p (d ∷ ds) = refl
+
+-- a step appends as many stable entries as it names writers
+pub written-step : (r : Run) (request : Request) (reply : Reply) (es : List Entry) → LegalStep r request reply es → count_by is_written es ≡ length (writers_of request es)
+unfolding LegalStep
+written-step r (Ask.Deliver q source ssn) (Told.Delivered d) es legal = ap (count_by is_written) legal.3 ∙ written-sends _ q _ d.sends (drop 1 es) legal.4
+written-step r (Ask.Deliver q source ssn) (Told.Refused fault) es legal = ap (count_by is_written) legal.1
+written-step r (Ask.Crash p) (Told.Crashed first) es legal = ap (count_by is_written) legal.2
+written-step r (Ask.Crash p) (Told.Refused fault) es legal = ap (count_by is_written) legal.1
+written-step r (Ask.Restart p) (Told.Restarted d) es legal = ap (count_by is_written) legal.3 ∙ written-sends _ p _ d.sends (drop 1 es) legal.4
+written-step r (Ask.Restart p) (Told.Refused fault) es legal = ap (count_by is_written) legal.1
+written-step r (Ask.Flush p) (Told.Flushed count) es legal = written-flush p (unwritten r p) es legal.2
+written-step r (Ask.Flush p) (Told.FlushRefused f) es legal = written-flush p (take f.done (unwritten r p)) es legal.2
+written-step r (Ask.Forget p) (Told.Forgotten count) es legal = ap (count_by is_written) legal.2 ∙ written-forget p (forgettable r p)
+written-step r (Ask.Forget p) (Told.Refused fault) es legal = ap (count_by is_written) legal.1
+written-step r request reply es legal = absurd legal
+
+length-first : (e : Entry) (es : List Entry) (number : ℕ) → es ≡ e ∷ drop 1 es → length (drop 1 es) ≡ number → length es ≡ 1 + number
+length-first e es number is count = let one : length es ≡ length (e ∷ drop 1 es) = ap length is in omega (arith, one, count)
+
+IsPart-le : (reason : Option CoreFault) (done all : ℕ) → IsPart reason done all → done ≤ all
+IsPart-le None done all part = part
+IsPart-le (Some fault) done all part = omega (arith, part)
+
+length-part : (done : ℕ) (ds : List Det) → done ≤ length ds → length (map Stable (take done ds)) ≡ done
+length-part done ds le = omega (arith, length-map (take done ds) Stable, length-take done ds, le)
+
+length-forget : (p : Pid) (ds : List Det) → length (forget_entries p ds) ≡ one_for_some (length ds)
+length-forget p [] = refl
+length-forget p (d ∷ ds) = refl
+
+-- a reply tells how many entries the step appended
+pub told_entries-is : (r : Run) (request : Request) (reply : Reply) (es : List Entry) → LegalStep r request reply es → length es ≡ told_entries reply
+unfolding LegalStep
+told_entries-is r (Ask.Deliver q source ssn) (Told.Delivered d) es legal = length-first _ es d.sends legal.3 legal.4.count
+told_entries-is r (Ask.Deliver q source ssn) (Told.Refused fault) es legal = ap length legal.1
+told_entries-is r (Ask.Crash p) (Told.Crashed first) es legal = ap length legal.2
+told_entries-is r (Ask.Crash p) (Told.Refused fault) es legal = ap length legal.1
+told_entries-is r (Ask.Restart p) (Told.Restarted d) es legal = length-first _ es d.sends legal.3 legal.4.count
+told_entries-is r (Ask.Restart p) (Told.Refused fault) es legal = ap length legal.1
+told_entries-is r (Ask.Flush p) (Told.Flushed count) es legal = ap length legal.2 ∙ (length-map (unwritten r p) Stable ∙ sym legal.1)
+told_entries-is r (Ask.Flush p) (Told.FlushRefused f) es legal = ap length legal.2 ∙ length-part f.done (unwritten r p) (IsPart-le (flush_reason_of f.fault) f.done (length (unwritten r p)) legal.1)
+told_entries-is r (Ask.Forget p) (Told.Forgotten count) es legal = ap length legal.2 ∙ (length-forget p (forgettable r p) ∙ ap one_for_some (sym legal.1))
+told_entries-is r (Ask.Forget p) (Told.Refused fault) es legal = ap length legal.1
+told_entries-is r request reply es legal = absurd legal
+
+pub length-pushed : (es past : List Entry) → length (pushed es past) ≡ length es + length past
+length-pushed [] past = omega arith
+length-pushed (e ∷ es) past = let rest = length-pushed es (e ∷ past) in omega (arith, rest)
+
+pub replies_tell_entries : RepliesTellEntries
+replies_tell_entries old new request reply step =
+    let more = told_entries-is old request reply step.appended step.legal in
+    let long = length-pushed step.appended old.recording.past in
+    let same : length new.recording.past ≡ length (pushed step.appended old.recording.past) = ap (λ (r : Run). length r.recording.past) step.grown in
+    omega (arith, same, long, more)

@@ -1,0 +1,10 @@
+pub mod Memory
+pub mod Gathering
+pub mod Run
+pub mod Naming
+pub mod Refusals
+pub mod Steps
+pub mod Telling
+pub mod Sight
+pub mod Kept
+pub mod Runs
