@@ -1,0 +1,94 @@
+-- A cell among others: what is read at its place, and what a write there changes.
+use Rattle.std.proofs.Common.{ℕ, zero, suc, ◌≡◌, ◌+◌, ◌<◌, ◌≤◌, Bool, true, false, cond, List, [], ◌∷◌, ◌++◌, length, get_or, map, Option, Some, None, refl, sym, ap, ◌∙◌, arith, slice_get, slice_set}
+use Rattle.std.specs.Prelude.{is_none, is_some, unwrap_or}
+use Rattle.std.specs.Option as Option
+use Rattle.std.specs.Option.{option_map, option_map_or, option_and_then}
+use Rattle.std.proofs.lemmas.Option.{slice_get_read}
+use Rattle.std.proofs.lemmas.Bool.{false≢true}
+use Rattle.causal_core.specs.declared.cell.Cell.{Cell}
+use Rattle.causal_protocol.specs.Memory.{Memory, Memories, at}
+use Rattle.causal_core.specs.View.{memory_of, memories_in, memory_at, bodies_of, bodies_in, with_bodies, Room, no_room, room_of, rooms_in, room_at}
+use Rattle.causal_core.proofs.Sending.{set_same, set_twice}
+
+pub get-map : {X Y : Type 0} (f : X → Y) (xs : List X) (p : ℕ) → slice_get (map f xs) p ≡ option_map f (slice_get xs p)
+get-map f [] p = refl
+get-map f (x ∷ xs) zero = refl
+get-map f (x ∷ xs) (suc p) = get-map f xs p
+
+pub map-set : {X Y : Type 0} (f : X → Y) (xs : List X) (i : ℕ) (x : X) → map f (slice_set xs i x) ≡ slice_set (map f xs) i (f x)
+map-set f [] i x = refl
+map-set f (y ∷ ys) zero x = refl
+map-set f (y ∷ ys) (suc i) x = ap (λ zs. f y ∷ zs) (map-set f ys i x)
+
+pub get-set_same : {X : Type 0} (xs : List X) (i : ℕ) (x : X) → i < length xs → slice_get (slice_set xs i x) i ≡ Some x
+get-set_same [] i x h = absurd (omega arith)
+get-set_same (y ∷ ys) zero x h = refl
+get-set_same (y ∷ ys) (suc i) x h = get-set_same ys i x (omega arith)
+
+pub set_read : {X : Type 0} (xs : List X) (i : ℕ) (x : X) → slice_get xs i ≡ Some x → slice_set xs i x ≡ xs
+set_read [] i x h = refl
+set_read (y ∷ ys) zero x h = let e : Some y ≡ Some x = h in ap (λ z. z ∷ ys) (sym (let is : y ≡ x = cc e in is))
+set_read (y ∷ ys) (suc i) x h = ap (λ zs. y ∷ zs) (set_read ys i x h)
+
+pub get_within : {X : Type 0} (xs : List X) (i : ℕ) (x : X) → slice_get xs i ≡ Some x → i < length xs
+get_within [] i x h = absurd (let e : None ≡ Some x = h in cc)
+get_within (y ∷ ys) zero x h = omega arith
+get_within (y ∷ ys) (suc i) x h = omega (arith, get_within ys i x h)
+
+-- an element that is read
+pub read_at : {X : Type 0} (xs : List X) (i : ℕ) (x y : X) → i < length xs → x ≡ get_or xs i x → x ≡ y → slice_get xs i ≡ Some y
+read_at xs i x y h is same = slice_get_read xs (length xs) i x refl h is ∙ ap Some same
+
+pub memories_length : (cells : List (Option Cell)) → length (memories_in cells) ≡ length cells
+memories_length [] = refl
+memories_length (c ∷ cells) = ap suc (memories_length cells)
+
+pub up_within : (cells : List (Option Cell)) (p : ℕ) → is_some (at (memories_in cells) p) ≡ true → p < length cells
+up_within [] p h = absurd (false≢true h)
+up_within (c ∷ cells) zero h = omega arith
+up_within (c ∷ cells) (suc p) h = omega (arith, up_within cells p h)
+
+pub some_within : (ms : Memories) (p : ℕ) (m : Memory) → at ms p ≡ Some m → p < length ms
+some_within [] p m h = absurd (let e : None ≡ Some m = h in cc)
+some_within (x ∷ ms) zero m h = omega arith
+some_within (x ∷ ms) (suc p) m h = omega (arith, some_within ms p m h)
+
+module _ (cells : List (Option Cell)) (p : ℕ) (cell : Cell) (found : slice_get cells p ≡ Some (Some cell)) where
+  pub there : at (memories_in cells) p ≡ Some (memory_of cell)
+  there = ap (λ o. option_and_then (λ x. x) o) (get-map (option_map memory_of) cells p ∙ ap (option_map (option_map memory_of)) found)
+
+  pub memory_there : memory_at (memories_in cells) p ≡ memory_of cell
+  memory_there = ap (λ o. unwrap_or o (memory_at [] 0)) there
+
+  pub room_there : room_at (rooms_in cells) p ≡ room_of cell
+  room_there = ap (λ o. unwrap_or o no_room) (get-map (λ c. option_map_or room_of c no_room) cells p ∙ ap (option_map (λ c. option_map_or room_of c no_room)) found)
+
+  pub bodies_there : slice_get (bodies_in cells) p ≡ Some (bodies_of cell)
+  bodies_there = get-map (λ c. option_map_or bodies_of c []) cells p ∙ ap (option_map (λ c. option_map_or bodies_of c [])) found
+
+  module _ (x : Option Cell) (new : Cell) where
+    put : slice_set (slice_set cells p x) p (Some new) ≡ slice_set cells p (Some new)
+    put = set_twice cells p x (Some new)
+
+    pub memories_put : memories_in (slice_set (slice_set cells p x) p (Some new)) ≡ slice_set (memories_in cells) p (Some (memory_of new))
+    memories_put = ap memories_in put ∙ map-set (option_map memory_of) cells p (Some new)
+
+    pub memories_kept : memory_of new ≡ memory_of cell → memories_in (slice_set (slice_set cells p x) p (Some new)) ≡ memories_in cells
+    memories_kept same = memories_put ∙ ap (λ m. slice_set (memories_in cells) p (Some m)) same ∙ set_same (memories_in cells) p (memory_of cell) there
+
+    pub bodies_put : bodies_in (slice_set (slice_set cells p x) p (Some new)) ≡ slice_set (bodies_in cells) p (bodies_of new)
+    bodies_put = ap bodies_in put ∙ map-set (λ c. option_map_or bodies_of c []) cells p (Some new)
+
+    pub bodies_kept : bodies_of new ≡ bodies_of cell → bodies_in (slice_set (slice_set cells p x) p (Some new)) ≡ bodies_in cells
+    bodies_kept same = bodies_put ∙ ap (slice_set (bodies_in cells) p) same ∙ set_read (bodies_in cells) p (bodies_of cell) bodies_there
+
+    pub bodies_more : (more : List (List ℕ)) → bodies_of new ≡ bodies_of cell ++ more → bodies_in (slice_set (slice_set cells p x) p (Some new)) ≡ with_bodies (bodies_in cells) p more
+    bodies_more more is =
+        bodies_put ∙ ap (slice_set (bodies_in cells) p) is
+        ∙ ap (λ o. slice_set (bodies_in cells) p (unwrap_or o [] ++ more)) (sym bodies_there)
+
+    pub room_put : room_at (rooms_in (slice_set (slice_set cells p x) p (Some new))) p ≡ room_of new
+    room_put =
+        ap (λ cs. room_at (rooms_in cs) p) put
+        ∙ ap (λ o. unwrap_or o no_room) (get-map (λ c. option_map_or room_of c no_room) (slice_set cells p (Some new)) p
+        ∙ ap (option_map (λ c. option_map_or room_of c no_room)) (get-set_same cells p (Some new) (get_within cells p (Some cell) found)))

@@ -1,0 +1,49 @@
+-- To forget what is marked is to keep the rest.
+use Rattle.std.proofs.Common.{ℕ, ◌≡◌, ◌≢◌, ◌+◌, ◌<◌, ◌≤◌, ◌∙◌, Bool, true, false, cond, List, [], ◌∷◌, ◌++◌, length, take, map, filter, Option, Some, None, is_some, refl, sym, ap, subst, arith, slice_get, slice_set}
+use Rattle.std.specs.Prelude.{◌&&◌, ◌||◌, not}
+use Rattle.std.specs.List.{list_any, list_all}
+use Rattle.std.specs.Option.{option_map}
+use Rattle.std.specs.FinMap as fin
+use Rattle.std.specs.Map.{keys_of}
+use Rattle.std.specs.declared.cmp.Ordering.{Ordering}
+use Rattle.std.specs.declared.cmp.Ordering.TheVariants.{Equal}
+use Rattle.causal_name.specs.declared.Pid.{Pid}
+use Rattle.causal_name.specs.declared.Det.{Det}
+use Rattle.causal_name.specs.Names.{same_det, det_cmp}
+use Rattle.causal_name.proofs.Lemmas.DetOrder.{dets_total, exact_dets}
+use Rattle.causal_log.specs.declared.known.Known.{Known}
+use Rattle.causal_log.specs.Logs.{LogMap, stable_in, unmarked}
+use Rattle.causal_log.proofs.Lemmas.Searches.{any_kept, any_logged, find_kept, kept_if, passes, shown}
+use Rattle.causal_trace.specs.Past.{has}
+use Rattle.causal_protocol.specs.Gathering.{without}
+
+swap : (a b : Bool) → (a && b) ≡ (b && a)
+swap true true = refl
+swap true false = refl
+swap false true = refl
+swap false false = refl
+
+pub has_marked : (log : LogMap) (d : Det) → has (stable_in log) d ≡ passes (λ k. k.stable) (fin.get log d)
+has_marked log d =
+    any_kept (λ e. e.0) (λ e. e.1.stable) (same_det d) (λ e. same_det d e.0 && e.1.stable) (λ e. swap e.1.stable (same_det d e.0)) (fin.entries log)
+    ∙ any_logged (λ k. k.stable) d log
+
+get_without : (log : LogMap) (ds : List Det) (d : Det) → fin.get (without ds log) d ≡ cond (not (has ds d)) (fin.get log d) None
+get_without log ds d = fin.get-retain_keys log (λ x. not (has ds x)) d (λ x t. ap (λ y. not (has ds y)) (sym (exact_dets d x t)))
+
+pub get_unmarked : (log : LogMap) (d : Det) → fin.get (unmarked log) d ≡ kept_if (λ k. not k.stable) (fin.get log d)
+get_unmarked log d =
+    fin.get-from_entries dets_total _ d
+    ∙ find_kept (λ k. not k.stable) d (fin.entries log) (shown _ (fin.entries_sorted log))
+    ∙ ap (kept_if (λ k. not k.stable)) (sym (fin.get-entries log d))
+
+left : (o : Option Known) → cond (not (passes (λ k. k.stable) o)) o None ≡ kept_if (λ k. not k.stable) o
+left None = refl
+left (Some k) = refl
+
+pub forgets_marked : (log : LogMap) → without (stable_in log) log ≡ unmarked log
+forgets_marked log = fin.same_map dets_total exact_dets _ _ (λ d.
+    get_without log (stable_in log) d
+    ∙ ap (λ b. cond (not b) (fin.get log d) None) (has_marked log d)
+    ∙ left (fin.get log d)
+    ∙ sym (get_unmarked log d))

@@ -1,0 +1,54 @@
+-- What is pending, process by process.
+use Rattle.std.proofs.Common.{ℕ, zero, suc, ◌≡◌, ◌+◌, ◌<◌, ◌≤◌, ◌∙◌, inl, inr, List, [], ◌∷◌, ◌++◌, length, get_or, drop, filter, map, Option, Some, None, refl, sym, ap, arith, append_assoc, append-nil}
+use Rattle.std.specs.Option.{option_map, option_map_or, option_and_then}
+use Rattle.std.proofs.lemmas.Bool.{cases_lt}
+use Rattle.std.proofs.lemmas.List.{drop_more, drop_all}
+use Rattle.std.proofs.lemmas.List.Elements.{filter-append}
+use Rattle.causal_name.specs.declared.MsgName.{MsgName}
+use Rattle.causal_name.specs.declared.Pid.{Pid}
+use Rattle.causal_trace.proofs.Sizes.{sends_few}
+use Rattle.causal_trace.specs.declared.entry.Entry.{Entry}
+use Rattle.causal_protocol.specs.Memory.{Memory, Memories, at}
+use Rattle.causal_core.specs.declared.cell.Cell.{Cell}
+use Rattle.causal_core.specs.Inside.Facts.{Fits, FitsAt, AllFit}
+use Rattle.causal_core.specs.View.{memory_of, memories_in}
+use Rattle.causal_core.specs.Pendings.{is_pending, names_sent, names_from}
+use Rattle.causal_core.proofs.Cells.{get-map, read_at, memories_length}
+
+module _ (ms : Memories) (q : Pid) (cells : List (Option Cell)) (p : ℕ) (c : Option Cell) (h : p < length cells) (is : c ≡ get_or cells p c) where
+  here : memories_in (drop p cells) ≡ option_map memory_of c ∷ memories_in (drop (p + 1) cells)
+  here = ap memories_in (drop_more cells p c h ∙ ap (λ y. y ∷ drop (p + 1) cells) (sym is))
+
+  -- one process more
+  pub pending_more : (names : List MsgName) → (names ++ filter (is_pending ms q) (names_sent p (option_map memory_of c))) ++ filter (is_pending ms q) (names_from (p + 1) (memories_in (drop (p + 1) cells))) ≡ names ++ filter (is_pending ms q) (names_from p (memories_in (drop p cells)))
+  pending_more names =
+      append_assoc names (filter (is_pending ms q) (names_sent p (option_map memory_of c))) (filter (is_pending ms q) (names_from (p + 1) (memories_in (drop (p + 1) cells))))
+      ∙ ap (λ xs. names ++ xs) (sym (filter-append (is_pending ms q) (names_sent p (option_map memory_of c)) (names_from (p + 1) (memories_in (drop (p + 1) cells)))))
+      ∙ ap (λ xs. names ++ filter (is_pending ms q) (names_from p xs)) (sym here)
+
+  pub sent_there : option_map_or (λ m. length m.sent) (at (memories_in cells) p) 0 ≡ option_map_or (λ m. length m.sent) (option_map memory_of c) 0
+  sent_there =
+      ap (λ o. option_map_or (λ m. length m.sent) (option_and_then (λ x. x) o) 0) (get-map (option_map memory_of) cells p ∙ ap (option_map (option_map memory_of)) (read_at cells p c c h is refl))
+
+pub pending_end : (ms : Memories) (q : Pid) (cells : List (Option Cell)) (p : ℕ) (names : List MsgName) → length cells ≤ p → names ++ filter (is_pending ms q) (names_from p (memories_in (drop p cells))) ≡ names
+pending_end ms q cells p names h = ap (λ cs. names ++ filter (is_pending ms q) (names_from p (memories_in cs))) (drop_all p cells h) ∙ append-nil names
+
+-- a process has sent no more messages than there are entries
+sent_fits : (past : List Entry) (p : ℕ) (o : Option Memory) → FitsAt past p o → length past ≤ 65536 → option_map_or (λ m. length m.sent) o 0 ≤ 65536
+sent_fits past p None fit short = omega arith
+sent_fits past p (Some m) fit short = let few = sends_few past p in let count = fit.sent in omega (arith, few, count, short)
+
+beyond : (ms : Memories) (p : ℕ) → length ms ≤ p → at ms p ≡ None
+beyond [] p h = refl
+beyond (m ∷ ms) zero h = absurd (omega (arith, h))
+beyond (m ∷ ms) (suc p) h = beyond ms p (omega (arith, h))
+
+pub sent_few : (n : ℕ) (past : List Entry) (ms : Memories) (p : ℕ) → AllFit n past ms → length past ≤ 65536 → option_map_or (λ m. length m.sent) (at ms p) 0 ≤ 65536
+sent_few n past ms p fit short = elim (cases_lt p n) [
+  | inl h ↦ sent_fits past p (at ms p) (fit.each p h) short
+  | inr h ↦ sent_none (at ms p) (beyond ms p (omega (arith, h, fit.count)))
+]
+  where
+    sent_none : (o : Option Memory) → o ≡ None → option_map_or (λ m. length m.sent) o 0 ≤ 65536
+    sent_none None is = omega arith
+    sent_none (Some m) is = absurd (let e : Some m ≡ None = is in cc)

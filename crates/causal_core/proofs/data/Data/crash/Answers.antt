@@ -1,0 +1,57 @@
+use Rattle.std.proofs.Common.{◌≡◌, ◌∙◌, ◌<◌, ◌≤◌, ◌∷◌, [], ap, sym, subst, refl, None, arith, length}
+use Rattle.std.proofs.lemmas.Grind.{common_steps}
+use Rattle.causal_trace.specs.declared.entry.Entry.TheVariants as Entries
+use Rattle.causal_trace.specs.Rows as Rows
+use Rattle.causal_protocol.specs.declared.request.CoreFault.TheVariants as Why
+use Rattle.causal_protocol.specs.declared.request.Request.TheVariants as Ask
+use Rattle.causal_protocol.specs.declared.request.Reply.TheVariants as Told
+use Rattle.causal_protocol.specs.Run.{Run}
+use Rattle.causal_protocol.specs.Refusals.{first_fault}
+use Rattle.causal_protocol.specs.Steps.{Steps, LegalStep, extended}
+use Rattle.causal_core.specs.View.{run_from, memories_in}
+use Rattle.causal_core.proofs.Cells.{memories_length}
+use Rattle.causal_core.proofs.Legal.{tells_reason, held_fit, crash_legal, crash_held}
+use Rattle.causal_core.proofs.Refused.{refused_crash}
+use Rattle.causal_core.proofs.data.Data.crash.Goals as goal
+use Rattle.causal_core.proofs.data.Data.crash.Goals.{After-len-first}
+
+abbrev run : After-len-first → Run
+run c = run_from c.self.inside.trace.recording c.self.inside.faults c.self.inside.writers.items
+
+none : (c : After-len-first) → first_fault (run c) (Ask.Crash c.args.p) ≡ None
+none c = ap (λ s. first_fault s.run (Ask.Crash c.args.p)) c.self.view_is ∙ sym c.crash_fault.ensures ∙ c.in_default.is
+
+legal : (c : After-len-first) → (c.args.p.0 < c.self.inside.trace.recording.processes) × (Rows.first_fault c.self.inside.trace.recording.processes c.self.inside.trace.recording.past (Entries.Crash c.args.p) ≡ None)
+legal c =
+    let within = rw c.reserve.ensures.recording at c.listed-listed.ensures.value in
+    crash_legal (run c) c.args.p (held_fit (run c) (memories_in c.self.inside.cells.items) c.self.invariant) (omega (arith, within, c.listed-listed.ensures.few)) (none c)
+
+pub returns-in-Some-clause-step : goal.returns-in-Some-clause-step
+returns-in-Some-clause-step c = refused_crash c.args.self.now.run c.args.self.now.run c.in-Some.fault refl c.args.p (tells_reason c.args.self.now.run (Ask.Crash c.args.p) c.in-Some.fault (sym c.crash_fault.ensures ∙ c.in-Some.is))
+
+pub returns-then-is_err-clause-step : goal.returns-then-is_err-clause-step
+returns-then-is_err-clause-step c =
+    refused_crash c.args.self.now.run _ Why.NoMemory (ap (λ x. run_from x c.self.inside.faults c.self.inside.writers.items) c.reserve.ensures.recording ∙ ap (λ s. s.run) c.self.view_is) c.args.p (sym c.crash_fault.ensures ∙ c.in_default.is)
+
+pub push_reserved-requires-clause-legal : goal.push_reserved-requires-clause-legal
+push_reserved-requires-clause-legal c = rw c.reserve.ensures.recording (legal (goal.at.push_reserved-requires-clause-legal c).After-len-first).1
+
+pub empty-requires : goal.empty-requires
+empty-requires c = let l = legal (goal.at.empty-requires c).After-len-first in
+    grind (arith, common_steps, l.0, c.self.invariant.fit.count, memories_length c.self.inside.cells.items, c.from.ensures)
+
+pub invariant_of-self-2 : goal.invariant_of-self-2
+invariant_of-self-2 c =
+    let l = legal (goal.at.invariant_of-self-2 c).After-len-first in
+    rw (c.empty.ensures.memories, c.push_reserved.ensures.recording, c.reserve.ensures.recording, c.from.ensures)
+    (crash_held (run_from c.self.inside.trace.recording c.self.inside.faults c.self.inside.writers.items) (memories_in c.self.inside.cells.items) c.args.p c.self.invariant l.0)
+
+pub returns-clause-step : goal.returns-clause-step
+unfolding LegalStep
+returns-clause-step c =
+    let at = (goal.at.returns-clause-step c).After-len-first in
+    let first = rw c.reserve.ensures.recording at c.len-first.ensures.length in
+    let r = run at in
+    rw (c.push_reserved.ensures.recording, c.reserve.ensures.recording)
+    (subst (λ x. Steps x (Ask.Crash c.args.p) (Told.Crashed c.len-first.result) (extended r (Ask.Crash c.args.p) (Entries.Crash c.args.p ∷ []))) (ap (λ s. s.run) c.self.view_is)
+    (record { appended = Entries.Crash c.args.p ∷ []; grown = refl; legal = (none at, first, refl) }))

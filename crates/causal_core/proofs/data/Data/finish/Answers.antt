@@ -1,0 +1,154 @@
+use Rattle.std.proofs.Common.{◌≡◌, ◌∙◌, ◌<◌, ◌≤◌, ◌+◌, ◌∷◌, [], Some, None, true, false, refl, ap, sym, subst, arith, length, vec_len, slice_set}
+use Rattle.std.specs.Prelude.{is_some, ◌-◌, vec_capacity, drop}
+use Rattle.std.specs.FinMap as fin
+use Rattle.std.proofs.lemmas.Bool.Decides.{nat_tests}
+use Rattle.causal_name.specs.Names.{message_of, is_ascending}
+use Rattle.causal_log.specs.Logs.{chosen, dets_of}
+use Rattle.causal_log.proofs.Lemmas.ChosenLemmas.{chosen_ascend}
+use Rattle.causal_trace.specs.declared.entry.Entry.TheVariants.{Deliver}
+use Rattle.causal_trace.specs.Past.{message_at, det_at, det_from}
+use Rattle.std.specs.Option.{option_map}
+use Rattle.causal_core.proofs.Dets.{det_at-pushed, det_at-newest}
+use Rattle.causal_trace.specs.Rows as Rows
+use Rattle.causal_trace.specs.Rows.{are_delivered}
+use Rattle.causal_protocol.specs.declared.request.Request.TheVariants as Ask
+use Rattle.causal_protocol.specs.declared.request.Reply.TheVariants as Told
+use Rattle.causal_protocol.specs.Memory.{at, gained}
+use Rattle.causal_protocol.specs.Run.{Run, memories_of}
+use Rattle.causal_protocol.specs.Naming.{name, next_ssn}
+use Rattle.causal_protocol.specs.Refusals.{first_fault}
+use Rattle.causal_protocol.specs.Steps.{LegalStep, Steps, extended, delivery_of, pushed, sends_of}
+use Rattle.causal_core.specs.Inside.Facts.{AllFit}
+use Rattle.causal_core.specs.View.{DataState, IsGrown, run_from, memories_in, memory_at, log_at, bodies_in, rooms_in, receivers, first_batch}
+use Rattle.causal_core.proofs.Sending.{are_sends, receivers_below, receivers_long, addressed_few}
+use Rattle.causal_core.proofs.Legal.{held_fit}
+use Rattle.causal_core.proofs.Delivering.{MayDeliver, may_deliver, legal, sent_name, ssn_is}
+use Rattle.causal_core.proofs.Making.{memory_here, all_delivered, chosen_delivered, same_memories, log}
+use Rattle.causal_core.proofs.data.Data.finish.Goals as goal
+use Rattle.causal_core.proofs.data.Data.finish.Goals.{After-len-first}
+
+abbrev state : After-len-first → DataState
+state c = record { run = run_from c.self.inside.trace.recording c.self.inside.faults c.self.inside.writers.items; bodies = bodies_in c.self.inside.cells.items; spare = c.self.inside.trace.spare; rooms = rooms_in c.self.inside.cells.items; writers_room = vec_capacity c.self.inside.writers - vec_len c.self.inside.writers }
+
+grown : (c : After-len-first) → IsGrown (state c) c.args.q (message_of c.args.grown.own) c.args.grown
+grown c = subst (λ d. IsGrown d c.args.q (message_of c.args.grown.own) c.args.grown) (sym c.self.view_is) c.requires.grown
+
+none : (c : After-len-first) → first_fault (state c).run (Ask.Deliver c.args.q c.args.grown.own.source c.args.grown.own.ssn) ≡ None
+none c = ap (λ s. first_fault s.run (Ask.Deliver c.args.q c.args.grown.own.source c.args.grown.own.ssn)) c.self.view_is ∙ c.requires.legal
+
+may : (c : After-len-first) → MayDeliver (state c).run c.args.q c.args.grown.own.source c.args.grown.own.ssn
+may c = may_deliver (state c).run c.args.q c.args.grown.own.source c.args.grown.own.ssn (held_fit (state c).run (memories_in c.self.inside.cells.items) c.self.invariant) (none c)
+
+pub commit_at-sends-requires-clause-up : goal.commit_at-sends-requires-clause-up
+commit_at-sends-requires-clause-up c =
+    let at0 = (goal.at.commit_at-sends-requires-clause-up c).After-len-first in
+    ap (λ xs. is_some (at xs c.args.q.0)) c.self.invariant.same ∙ ap is_some (may at0).memory_is
+
+pub commit_at-sends-requires-clause-legal : goal.commit_at-sends-requires-clause-legal
+commit_at-sends-requires-clause-legal c =
+    let at0 = (goal.at.commit_at-sends-requires-clause-legal c).After-len-first in
+    let g = grown at0 in
+    (λ i. Rows.first_fault c.self.inside.trace.recording.processes c.self.inside.trace.recording.past (Deliver c.args.q (g.send i) (g.own i).rsn (g.listed i)))
+    ∙ legal (state at0).run c.args.q c.args.grown.own.source c.args.grown.own.ssn (may at0)
+
+pub commit_at-sends-requires-clause-sent : goal.commit_at-sends-requires-clause-sent
+commit_at-sends-requires-clause-sent c =
+    let at0 = (goal.at.commit_at-sends-requires-clause-sent c).After-len-first in
+    ap (message_at c.self.inside.trace.recording.past) (grown at0).send ∙ sent_name (state at0).run c.args.q c.args.grown.own.source c.args.grown.own.ssn (may at0)
+
+pub commit_at-sends-requires-clause-logged : goal.commit_at-sends-requires-clause-logged
+commit_at-sends-requires-clause-logged c =
+    let at0 = (goal.at.commit_at-sends-requires-clause-logged c).After-len-first in
+    let g = grown at0 in
+    let count = sym (ap length c.self.invariant.same) ∙ c.self.invariant.fit.count in
+    let same = c.self.invariant.same in
+    (λ i. are_delivered (Deliver c.args.q (g.send i) (g.own i).rsn (g.listed i) ∷ c.self.inside.trace.recording.past) (fin.keys (gained (g.carried i) (g.own i) (memory_at (same i) c.args.q.0).log)))
+    ∙ all_delivered (state at0).run c.args.q c.args.grown.own.source c.args.grown.own.ssn (may at0) count
+
+pub commit_at-sends-requires-clause-ascending : goal.commit_at-sends-requires-clause-ascending
+commit_at-sends-requires-clause-ascending c =
+    let at0 = (goal.at.commit_at-sends-requires-clause-ascending c).After-len-first in
+    ap (λ cs. is_ascending (dets_of (first_batch cs))) (grown at0).copies ∙ chosen_ascend c.self.inside.faults (gained c.args.grown.carried c.args.grown.own (log_at (memories_of (state at0).run) c.args.q.0))
+
+pub commit_at-sends-requires-clause-delivered : goal.commit_at-sends-requires-clause-delivered
+commit_at-sends-requires-clause-delivered c =
+    let at0 = (goal.at.commit_at-sends-requires-clause-delivered c).After-len-first in
+    let g = grown at0 in
+    let count = sym (ap length c.self.invariant.same) ∙ c.self.invariant.fit.count in
+    ap (λ cs. are_delivered (Deliver c.args.q c.args.grown.send c.args.grown.own.rsn c.args.grown.listed.items ∷ c.self.inside.trace.recording.past) (dets_of (first_batch cs))) g.copies
+    ∙ (λ i. are_delivered (Deliver c.args.q (g.send i) (g.own i).rsn (g.listed i) ∷ c.self.inside.trace.recording.past) (dets_of (chosen c.self.inside.faults (gained (g.carried i) (g.own i) (log_at (memories_of (state at0).run) c.args.q.0)))))
+    ∙ chosen_delivered (state at0).run c.args.q c.args.grown.own.source c.args.grown.own.ssn (may at0) count
+
+pub commit_at-sends-requires-clause-short : goal.commit_at-sends-requires-clause-short
+commit_at-sends-requires-clause-short c = let long = (may (goal.at.commit_at-sends-requires-clause-short c).After-len-first).long in grind (arith, nat_tests, long)
+
+pub invariant_of-self : goal.invariant_of-self
+invariant_of-self c =
+    let at0 = (goal.at.invariant_of-self c).After-len-first in
+    let g = grown at0 in
+    let count = sym (ap length c.self.invariant.same) ∙ c.self.invariant.fit.count in
+    let tos = receivers c.self.inside.trace.recording.processes c.args.sends.items in
+    let same = c.self.invariant.same in
+    let new = c.commit_at-sends.ensures.recording in
+    let fit : AllFit c.self.inside.trace.recording.processes c.commit_at-sends.new.trace.recording.past (memories_in c.commit_at-sends.new.cells.items) = c.commit_at-sends.ensures.fit in
+    let fit_new = subst (λ x. AllFit c.self.inside.trace.recording.processes x.past (memories_in c.commit_at-sends.new.cells.items)) new fit in
+    rw new
+    (record {
+      same =
+          c.commit_at-sends.ensures.memories
+          ∙ same_memories (state at0).run c.args.q c.args.grown.own.source c.args.grown.own.ssn (may at0) count (memories_in c.self.inside.cells.items) (gained c.args.grown.carried c.args.grown.own (memory_at (memories_in c.self.inside.cells.items) c.args.q.0).log) (first_batch c.args.grown.copies.items) c.args.grown.own c.args.grown.send c.args.grown.listed.items tos same (λ i. gained (g.carried i) (g.own i) (memory_at (same i) c.args.q.0).log) (ap first_batch g.copies ∙ ap (λ xs. chosen c.self.inside.faults (gained c.args.grown.carried c.args.grown.own (memory_at xs c.args.q.0).log)) (sym same)) g.own g.send g.listed;
+      fit = fit_new;
+    })
+
+pub returns-clause-step : goal.returns-clause-step
+unfolding LegalStep
+returns-clause-step c =
+    let at0 = (goal.at.returns-clause-step c).After-len-first in
+    let g = grown at0 in
+    let r = (state at0).run in
+    let n = c.self.inside.trace.recording.processes in
+    let source = c.args.grown.own.source in
+    let ssn = c.args.grown.own.ssn in
+    let tos = receivers n c.args.sends.items in
+    let number = next_ssn (memories_of r) c.args.q in
+    let few = addressed_few n c.args.sends.items in
+    let d = may at0 in
+    let count = sym (ap length c.self.invariant.same) ∙ c.self.invariant.fit.count in
+    let num : length (memory_at (memories_in c.self.inside.cells.items) c.args.q.0).sent ≡ number =
+    ap (λ xs. length (memory_at xs c.args.q.0).sent) c.self.invariant.same ∙ ap (λ m. length m.sent) (memory_here r c.args.q source ssn d count) ∙ sym (ssn_is r c.args.q source ssn d) in
+    let new : run_from c.commit_at-sends.new.trace.recording c.self.inside.faults c.self.inside.writers.items ≡ extended r (Ask.Deliver c.args.q source ssn) (delivery_of r c.args.q (name source ssn) ∷ sends_of c.args.q number tos) =
+    ap (λ x. run_from x c.self.inside.faults c.self.inside.writers.items) c.commit_at-sends.ensures.recording
+    ∙ (λ i. run_from (record { processes = n; past = pushed (sends_of c.args.q (num i) tos) (Deliver c.args.q (g.send i) (g.own i).rsn (g.listed i) ∷ c.self.inside.trace.recording.past) }) c.self.inside.faults c.self.inside.writers.items) in
+    let told = Told.Delivered (record { first = c.len-first.result; det = c.args.grown.own; sends = c.commit_at-sends.result }) in
+    let step : Steps r (Ask.Deliver c.args.q source ssn) told (run_from c.commit_at-sends.new.trace.recording c.self.inside.faults c.self.inside.writers.items) =
+    record {
+      appended = delivery_of r c.args.q (name source ssn) ∷ sends_of c.args.q number tos;
+      grown = new;
+      legal = (
+        none at0,
+        c.len-first.ensures.length,
+        g.own,
+        refl,
+        are_sends n c.args.q number c.commit_at-sends.result tos (receivers_below n c.args.sends.items) (sym c.commit_at-sends.ensures.number) (let long = receivers_long n c.args.sends.items in omega (arith, c.requires.few, few, long, c.commit_at-sends.ensures.number)),
+      );
+    } in
+    subst (λ x. Steps x (Ask.Deliver c.args.q source ssn) told (run_from c.commit_at-sends.new.trace.recording c.self.inside.faults c.self.inside.writers.items)) (ap (λ s. s.run) c.self.view_is) step
+
+pub returns-clause-det : goal.returns-clause-det
+returns-clause-det c =
+    let at0 = (goal.at.returns-clause-det c).After-len-first in
+    let g = grown at0 in
+    let r = (state at0).run in
+    let q = c.args.q in
+    let asked = message_of c.args.grown.own in
+    let past = c.self.inside.trace.recording.past in
+    let tos = receivers c.self.inside.trace.recording.processes c.args.sends.items in
+    let entry = Deliver q c.args.grown.send c.args.grown.own.rsn c.args.grown.listed.items in
+    let es = sends_of q (length (memory_at (memories_in c.self.inside.cells.items) q.0).sent) tos in
+    let sent : message_at past c.args.grown.send ≡ Some asked = ap (message_at past) g.send ∙ sent_name r q c.args.grown.own.source c.args.grown.own.ssn (may at0) in
+    ap (λ x. det_at x.past c.len-first.result) c.commit_at-sends.ensures.recording
+    ∙ ap (det_at (pushed es (entry ∷ past))) c.len-first.ensures.length
+    ∙ det_at-pushed es (entry ∷ past) (length past) (omega arith)
+    ∙ det_at-newest entry past
+    ∙ ap (option_map (det_from q c.args.grown.own.rsn)) sent
+    ∙ ap Some (λ i. record { source = c.args.grown.own.source; ssn = c.args.grown.own.ssn; dest = (sym g.own i).dest; rsn = c.args.grown.own.rsn })

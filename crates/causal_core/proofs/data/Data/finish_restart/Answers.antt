@@ -1,0 +1,182 @@
+use Rattle.std.proofs.Common.{List, ◌≡◌, ◌∙◌, ◌<◌, ◌≤◌, ◌+◌, ◌∷◌, Some, None, true, refl, ap, sym, subst, arith, length, vec_len, slice_set}
+use Rattle.std.specs.Prelude.{◌-◌, vec_capacity}
+use Rattle.std.specs.FinMap as fin
+use Rattle.std.proofs.lemmas.Grind.{common_steps}
+use Rattle.causal_name.specs.declared.Pid.{Pid}
+use Rattle.causal_name.specs.Names.{is_ascending}
+use Rattle.causal_log.specs.Logs.{LogMap, chosen, dets_of}
+use Rattle.causal_log.proofs.Lemmas.ChosenLemmas.{chosen_ascend}
+use Rattle.causal_trace.specs.declared.entry.Entry.TheVariants.{Restart}
+use Rattle.causal_trace.specs.Past.{is_delivered}
+use Rattle.causal_trace.specs.Rows as Rows
+use Rattle.causal_trace.specs.Rows.{Recording, are_delivered}
+use Rattle.causal_protocol.specs.declared.request.Request.TheVariants as Ask
+use Rattle.causal_protocol.specs.declared.request.Reply.TheVariants as Told
+use Rattle.causal_protocol.specs.Memory.{fresh}
+use Rattle.causal_protocol.specs.Gathering.{gathered_log}
+use Rattle.causal_protocol.specs.Run.{Run, memories_of, stable_of}
+use Rattle.causal_protocol.specs.Refusals.{first_fault, gathered}
+use Rattle.causal_protocol.specs.Steps.{LegalStep, Steps, extended, pushed, sends_of}
+use Rattle.causal_core.specs.Inside.Facts.{Fits, FitsAt, AllFit, IsHeld}
+use Rattle.causal_core.specs.Inside.Gathers.{IsGathered}
+use Rattle.causal_core.specs.View.{DataState, run_from, memory_of, memories_in, bodies_in, rooms_in, receivers, first_batch, keep_all}
+use Rattle.causal_core.proofs.Fitting.{fits_other, all_fit_set, delivered_more}
+use Rattle.causal_core.proofs.Sending.{are_sends, receivers_below, receivers_long, addressed_few}
+use Rattle.causal_core.proofs.Receiving.{chosen_all}
+use Rattle.causal_core.proofs.Cells.{memories_length}
+use Rattle.causal_core.proofs.Legal.{held_fit}
+use Rattle.causal_core.proofs.Restarting.{MayRestart, may_restart, gathered_delivered, restart_legal, restart_apart, restart_fits, restart_memories}
+use Rattle.causal_core.proofs.data.Data.finish_restart.Goals as goal
+use Rattle.causal_core.proofs.data.Data.finish_restart.Goals.{After-len-first, After-put}
+
+abbrev state : After-len-first → DataState
+state c = record { run = run_from c.self.inside.trace.recording c.self.inside.faults c.self.inside.writers.items; bodies = bodies_in c.self.inside.cells.items; spare = c.self.inside.trace.spare; rooms = rooms_in c.self.inside.cells.items; writers_room = vec_capacity c.self.inside.writers - vec_len c.self.inside.writers }
+
+abbrev run : After-len-first → Run
+run c = (state c).run
+
+-- the log that the process comes up with
+abbrev log : After-len-first → LogMap
+log c = gathered_log (memories_of (run c)) (stable_of (run c)) c.args.p
+
+made : (c : After-len-first) → IsGathered c.self.inside.faults (log c) c.args.gathered
+made c = subst (λ s. IsGathered s.run.faults (gathered_log (memories_of s.run) (stable_of s.run) c.args.p) c.args.gathered) (sym c.self.view_is) c.requires.gathered
+
+none : (c : After-len-first) → first_fault (run c) (Ask.Restart c.args.p) ≡ None
+none c = ap (λ s. first_fault s.run (Ask.Restart c.args.p)) c.self.view_is ∙ c.requires.legal
+
+fit : (c : After-len-first) → AllFit c.self.inside.trace.recording.processes c.self.inside.trace.recording.past (memories_of (run c))
+fit c = held_fit (run c) (memories_in c.self.inside.cells.items) c.self.invariant
+
+may : (c : After-len-first) → MayRestart (run c) c.args.p
+may c = may_restart (run c) c.args.p (fit c) (none c)
+
+delivered : (c : After-len-first) → are_delivered c.self.inside.trace.recording.past (gathered (run c) c.args.p) ≡ true
+delivered c = gathered_delivered c.self.inside.trace.recording.processes c.self.inside.trace.recording.past (memories_of (run c)) c.args.p c.len-first.ensures.formed.accepted (fit c)
+
+pub overflow_cast-count : goal.overflow_cast-count
+overflow_cast-count c =
+    let at = (goal.at.overflow_cast-count c).After-len-first in
+    let few = (may at).listed in
+    let long = ap length (made at).listed in
+    omega (arith, few, long, c.len-count.ensures)
+
+pub push_reserved-requires-clause-legal : goal.push_reserved-requires-clause-legal
+push_reserved-requires-clause-legal c =
+    let at = (goal.at.push_reserved-requires-clause-legal c).After-len-first in
+    ap (λ l. Rows.first_fault c.self.inside.trace.recording.processes c.self.inside.trace.recording.past (Restart c.args.p l)) (c.new.ensures ∙ (made at).listed)
+    ∙ restart_legal (run at) c.args.p (may at) (delivered at)
+
+pub append_sends-sends-requires-clause-process : goal.append_sends-sends-requires-clause-process
+append_sends-sends-requires-clause-process c = rw c.push_reserved.ensures.recording (may (goal.at.append_sends-sends-requires-clause-process c).After-len-first).process
+
+pub append_sends-sends-requires-clause-fit : goal.append_sends-sends-requires-clause-fit
+append_sends-sends-requires-clause-fit c =
+    let at = (goal.at.append_sends-sends-requires-clause-fit c).After-len-first in
+    subst (λ (x : Recording). Fits x.past c.args.p.0 (memory_of c.args.gathered.cell)) (sym c.push_reserved.ensures.recording)
+    (subst (λ m. Fits (Restart c.args.p c.new.result ∷ c.self.inside.trace.recording.past) c.args.p.0 m) (sym (made at).memory)
+    (restart_fits c.self.inside.trace.recording.past c.args.p c.new.result (log at) (delivered at)))
+
+pub append_sends-sends-requires-clause-ascending : goal.append_sends-sends-requires-clause-ascending
+append_sends-sends-requires-clause-ascending c =
+    let at = (goal.at.append_sends-sends-requires-clause-ascending c).After-len-first in
+    ap (λ cs. is_ascending (dets_of (first_batch cs))) (made at).copies ∙ chosen_ascend c.self.inside.faults (log at)
+
+pub append_sends-sends-requires-clause-delivered : goal.append_sends-sends-requires-clause-delivered
+append_sends-sends-requires-clause-delivered c =
+    let at = (goal.at.append_sends-sends-requires-clause-delivered c).After-len-first in
+    let past = c.self.inside.trace.recording.past in
+    (λ i. are_delivered (c.push_reserved.ensures.recording i).past (dets_of (first_batch ((made at).copies i))))
+    ∙ delivered_more (Restart c.args.p c.new.result) past _ (chosen_all (is_delivered past) c.self.inside.faults (log at) (delivered at))
+
+pub append_sends-sends-requires-clause-short : goal.append_sends-sends-requires-clause-short
+append_sends-sends-requires-clause-short c =
+    let long = (may (goal.at.append_sends-sends-requires-clause-short c).After-len-first).long in
+    let more = ap (λ (x : Recording). length x.past) c.push_reserved.ensures.recording in
+    omega (arith, long, more)
+
+pub put-requires : goal.put-requires
+put-requires c =
+    let process = (may (goal.at.put-requires c).After-len-first).process in
+    grind (arith, common_steps, process, c.self.invariant.fit.count, memories_length c.self.inside.cells.items, c.from.ensures)
+
+abbrev here : After-put → After-len-first
+here c = (goal.at.invariant_of-self c).After-len-first
+
+-- to whom it sends
+abbrev tos : After-put → List Pid
+tos c = receivers c.self.inside.trace.recording.processes c.args.sends.items
+
+abbrev recorded : After-put → Recording
+recorded c = record { processes = c.self.inside.trace.recording.processes; past = pushed (sends_of c.args.p 0 (tos c)) (Restart c.args.p (gathered (run (here c)) c.args.p) ∷ c.self.inside.trace.recording.past) }
+
+-- what is recorded after it
+whole : (c : After-put) → c.append_sends-sends.new.trace.recording ≡ recorded c
+whole c =
+    let g = made (here c) in
+    let one : c.push_reserved.new.self.recording ≡ record { processes = c.self.inside.trace.recording.processes; past = Restart c.args.p (gathered (run (here c)) c.args.p) ∷ c.self.inside.trace.recording.past } =
+    c.push_reserved.ensures.recording
+    ∙ ap (λ l. record { processes = c.self.inside.trace.recording.processes; past = Restart c.args.p l ∷ c.self.inside.trace.recording.past }) (c.new.ensures ∙ g.listed) in
+    c.append_sends-sends.ensures.recording
+    ∙ (λ i. record { processes = (one i).processes; past = pushed (sends_of c.args.p (length (g.memory i).sent) (receivers (one i).processes c.args.sends.items)) (one i).past })
+
+pub invariant_of-self : goal.invariant_of-self
+invariant_of-self c =
+    let at = here c in
+    let g = made at in
+    let r = run at in
+    let d = may at in
+    let n = c.self.inside.trace.recording.processes in
+    let past = c.self.inside.trace.recording.past in
+    let next = c.append_sends-sends.new.trace.recording in
+    let held = c.self.invariant in
+    let count = sym (ap length held.same) ∙ held.fit.count in
+    let inside : c.args.p.0 < length (memories_of r) = let process = d.process in omega (arith, process, count) in
+    let placed : memories_in c.put.new.cells.items ≡ slice_set (memories_in c.self.inside.cells.items) c.args.p.0 (Some (memory_of c.append_sends-sends.new.cell)) =
+    c.put.ensures.memories ∙ ap (λ k. slice_set (memories_in c.self.inside.cells.items) k (Some (memory_of c.append_sends-sends.new.cell))) c.from.ensures in
+    let one = c.push_reserved.ensures.recording in
+    let memory : memory_of c.append_sends-sends.new.cell ≡ keep_all (length (Restart c.args.p (gathered r c.args.p) ∷ past)) (chosen c.self.inside.faults (log at)) (tos c) (fresh (log at)) =
+    c.append_sends-sends.ensures.memory
+    ∙ (λ i. keep_all (length (one i).past) (first_batch (g.copies i)) (receivers (one i).processes c.args.sends.items) (g.memory i)) in
+    let fits : AllFit n next.past (slice_set (memories_in c.self.inside.cells.items) c.args.p.0 (Some (memory_of c.append_sends-sends.new.cell))) =
+    all_fit_set n past next.past (memories_in c.self.inside.cells.items) c.args.p.0 (Some (memory_of c.append_sends-sends.new.cell)) d.process held.fit
+    (λ q o apart was. c.append_sends-sends.ensures.others q o apart (subst (λ (x : Recording). FitsAt x.past q o) (sym one) (fits_other (Restart c.args.p c.new.result) past q (restart_apart q c.args.p c.new.result apart) o was)))
+    c.append_sends-sends.ensures.fit in
+    record {
+      same =
+          placed
+          ∙ (λ i. slice_set (held.same i) c.args.p.0 (Some (memory i)))
+          ∙ restart_memories r c.args.p (gathered r c.args.p) (tos c) inside
+          ∙ sym (ap (λ x. memories_of (run_from x c.self.inside.faults c.self.inside.writers.items)) (whole c));
+      fit =
+          subst (λ k. AllFit k next.past (memories_in c.put.new.cells.items)) (sym (ap (λ (x : Recording). x.processes) (whole c)))
+          (subst (AllFit n next.past) (sym placed) fits);
+    }
+
+pub returns-clause-step : goal.returns-clause-step
+unfolding LegalStep
+returns-clause-step c =
+    let at = here c in
+    let g = made at in
+    let r = run at in
+    let n = c.self.inside.trace.recording.processes in
+    let few = addressed_few n c.args.sends.items in
+    let long = receivers_long n c.args.sends.items in
+    let number : length (tos c) ≡ c.append_sends-sends.result =
+    sym (c.append_sends-sends.ensures.number ∙ ap (λ (x : Recording). length (receivers x.processes c.args.sends.items)) c.push_reserved.ensures.recording) in
+    let listed : c.len-count.result ≡ length (gathered r c.args.p) = let l = ap length g.listed in omega (arith, l, c.len-count.ensures) in
+    let new = run_from c.append_sends-sends.new.trace.recording c.self.inside.faults c.self.inside.writers.items in
+    let told = Told.Restarted (record { first = c.len-first.result; listed = c.len-count.result; sends = c.append_sends-sends.result }) in
+    let step : Steps r (Ask.Restart c.args.p) told new =
+    record {
+      appended = Restart c.args.p (gathered r c.args.p) ∷ sends_of c.args.p 0 (tos c);
+      grown = ap (λ x. run_from x c.self.inside.faults c.self.inside.writers.items) (whole c);
+      legal = (
+        none at,
+        c.len-first.ensures.length,
+        listed,
+        refl,
+        are_sends n c.args.p 0 c.append_sends-sends.result (tos c) (receivers_below n c.args.sends.items) number (omega (arith, c.requires.few, few, long, number)),
+      );
+    } in
+    subst (λ x. Steps x (Ask.Restart c.args.p) told new) (ap (λ s. s.run) c.self.view_is) step

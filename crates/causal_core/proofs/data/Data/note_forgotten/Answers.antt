@@ -1,0 +1,28 @@
+use Rattle.std.proofs.Common.{◌≡◌, ◌∙◌, ap, sym, arith, length, None}
+use Rattle.std.proofs.lemmas.Grind.{common_steps}
+use Rattle.causal_protocol.specs.declared.request.Request.TheVariants as Ask
+use Rattle.causal_protocol.specs.Refusals.{first_fault, forgettable}
+use Rattle.causal_core.specs.View.{run_from, memories_in}
+use Rattle.causal_core.proofs.Legal.{held_fit}
+use Rattle.causal_core.proofs.Forgotten.{forgotten_held, forget_legal, forget_few}
+use Rattle.causal_core.proofs.data.Data.note_forgotten.Goals as goal
+
+pub overflow_cast-count : goal.overflow_cast-count
+overflow_cast-count c =
+    let few = forget_few c.args.self.now.run c.args.p c.args.listed.items c.requires.legal c.requires.listed in grind (arith, common_steps, few, c.len-count.ensures)
+
+pub push_reserved-requires-clause-legal : goal.push_reserved-requires-clause-legal
+push_reserved-requires-clause-legal c =
+    let r = run_from c.self.inside.trace.recording c.self.inside.faults c.self.inside.writers.items in
+    let none : first_fault r (Ask.Forget c.args.p) ≡ None = ap (λ s. first_fault s.run (Ask.Forget c.args.p)) c.self.view_is ∙ c.requires.legal in
+    let listed : c.args.listed.items ≡ forgettable r c.args.p = c.requires.listed ∙ sym (ap (λ s. forgettable s.run c.args.p) c.self.view_is) in
+    rw c.new.ensures (forget_legal r c.args.p c.args.listed.items (held_fit r (memories_in c.self.inside.cells.items) c.self.invariant) none listed c.requires.some).1
+
+pub invariant_of-self : goal.invariant_of-self
+invariant_of-self c =
+    let r = run_from c.self.inside.trace.recording c.self.inside.faults c.self.inside.writers.items in
+    let none : first_fault r (Ask.Forget c.args.p) ≡ None = ap (λ s. first_fault s.run (Ask.Forget c.args.p)) c.self.view_is ∙ c.requires.legal in
+    let listed : c.args.listed.items ≡ forgettable r c.args.p = c.requires.listed ∙ sym (ap (λ s. forgettable s.run c.args.p) c.self.view_is) in
+    let process = (forget_legal r c.args.p c.args.listed.items (held_fit r (memories_in c.self.inside.cells.items) c.self.invariant) none listed c.requires.some).0 in
+    rw (c.drop_stable_at.ensures.memories, c.push_reserved.ensures.recording, c.new.ensures)
+    (forgotten_held r (memories_in c.self.inside.cells.items) c.args.p c.args.listed.items c.self.invariant process listed)

@@ -1,0 +1,68 @@
+use Rattle.std.proofs.Common.{◌≡◌, ◌∙◌, ◌<◌, ◌∷◌, Some, ap, sym, subst, refl, arith, map, length, is_some, true, slice_set}
+use Rattle.std.proofs.lemmas.Grind.{common_steps}
+use Rattle.std.proofs.lemmas.List.{length-map}
+use Rattle.causal_process.specs.declared.message.Input.TheVariants.{Begin}
+use Rattle.causal_trace.specs.declared.entry.Entry.TheVariants.{Restart}
+use Rattle.causal_protocol.specs.declared.request.CoreFault.TheVariants as Why
+use Rattle.causal_protocol.specs.declared.request.Request.TheVariants as Ask
+use Rattle.causal_protocol.specs.declared.request.Reply.TheVariants as Told
+use Rattle.causal_protocol.specs.Run.{memories_of}
+use Rattle.causal_protocol.specs.Refusals.{gathered}
+use Rattle.causal_protocol.specs.Runs.{IsRun}
+use Rattle.causal_protocol.specs.Steps.{extended, sends_of}
+use Rattle.causal_protocol.proofs.Lemmas.Carried.{step_carried}
+use Rattle.causal_core.specs.Boxes.{after, answers_at}
+use Rattle.causal_core.specs.View.{receivers, sent_bodies}
+use Rattle.causal_core.proofs.BoxLemmas.{elsewhere_same}
+use Rattle.causal_core.proofs.Filled.{memories_count}
+use Rattle.causal_core.proofs.Refused.{refused_restart}
+use Rattle.causal_core.proofs.Restarting.{restart_below, restart_filled, restart_stable}
+use Rattle.causal_core.proofs.restart.Core+S.restart.Goals as goal
+
+pub returns-in-Err-clause-step : goal.returns-in-Err-clause-step
+returns-in-Err-clause-step g c = refused_restart c.args.self.now.held.run c.prepare_restart.new.self.run c.in-Err.fault c.prepare_restart.ensures.run c.args.p c.in-Err.ensures.refused
+
+pub fill_at-requires : goal.fill_at-requires
+fill_at-requires g c =
+    let r = c.args.self.now.held.run in
+    let below = restart_below r c.args.p c.in-Ok.ensures.legal in
+    let count = memories_count r.recording.processes r.faults r.writers r.recording.past in
+    let one = ap length c.args.self.now.filled in
+    let a = length-map c.args.self.now.slots.items is_some in
+    let b = length-map (memories_of r) is_some in
+    grind (arith, common_steps, below, count, one, a, b, c.from.ensures)
+
+pub invariant_of-self-in-Ok-begin_box : goal.invariant_of-self-in-Ok-begin_box
+invariant_of-self-in-Ok-begin_box g c =
+    let r = c.args.self.now.held.run in
+    let mid = c.prepare_restart.new.self.run in
+    let next = c.finish_restart.new.self.run in
+    let p = c.args.p in
+    let tos = receivers mid.recording.processes c.in-Ok-begin_box.sends.items in
+    let bits = rw c.from.ensures at c.fill_at.ensures.filled in
+    record {
+      filled = bits ∙ ap (λ xs. slice_set xs p.0 true) c.args.self.now.filled ∙ sym (restart_filled r mid next p (gathered mid p) tos c.prepare_restart.ensures.run c.finish_restart.ensures.run);
+      stored = λ d. c.args.self.now.stored d ∙ sym (restart_stable r mid next p (gathered mid p) tos c.prepare_restart.ensures.run c.finish_restart.ensures.run d);
+      kept =
+          step_carried mid next (Ask.Restart p) (Told.Restarted c.finish_restart.result) c.finish_restart.ensures.step
+          (subst (λ x. ∥ IsRun x ∥₁) (sym c.prepare_restart.ensures.run) c.args.self.now.kept);
+    }
+
+pub returns-in-Ok-begin_box-clause-ok : goal.returns-in-Ok-begin_box-clause-ok
+returns-in-Ok-begin_box-clause-ok g c =
+    let p = c.args.p in
+    let same = c.prepare_restart.ensures.run in
+    let sends = c.in-Ok-begin_box.sends.items in
+    let there = rw c.from.ensures at c.fill_at.ensures.there in
+    record {
+      sends = sends;
+      box = λ inputs. ap Some (c.in-Ok-begin_box.ensures.ok inputs) ∙ sym (ap (after sends) (there inputs));
+      others = elsewhere_same _ _ _ _ _ c.from.ensures c.fill_at.ensures.others;
+      run =
+          c.finish_restart.ensures.run
+          ∙ (λ i. extended (same i) (Ask.Restart p) (Restart p (gathered (same i) p) ∷ sends_of p 0 (receivers (same i).recording.processes sends)));
+      bodies = c.finish_restart.ensures.bodies ∙ (λ i. slice_set (c.prepare_restart.ensures.bodies i) p.0 (sent_bodies (same i).recording.processes sends));
+    }
+
+pub returns-in-Err-begin_box-clause-step : goal.returns-in-Err-begin_box-clause-step
+returns-in-Err-begin_box-clause-step g c = refused_restart c.args.self.now.held.run c.prepare_restart.new.self.run Why.NoMemory c.prepare_restart.ensures.run c.args.p c.in-Ok.ensures.legal

@@ -1,0 +1,44 @@
+-- How memories fit the entries: what the words of the trace say of each process, said of its memory.
+use Rattle.std.specs.Prelude.{◌≡◌, ℕ, ◌<◌, true, false, List, length, Option, Some, None, slice_get}
+use Rattle.std.specs.List.{list_any}
+use Rattle.std.specs.FinMap as fin
+use Rattle.causal_name.specs.declared.Pid.{Pid}
+use Rattle.causal_name.specs.declared.MsgName.{MsgName}
+use Rattle.causal_name.specs.Names.{same_message, is_ascending}
+use Rattle.causal_trace.specs.declared.entry.Entry.{Entry}
+use Rattle.causal_trace.specs.declared.entry.Entry.TheVariants.{Send}
+use Rattle.causal_trace.specs.Past.{entry_at, is_down, sends, deliveries, has_delivered}
+use Rattle.causal_trace.specs.Rows.{are_delivered}
+use Rattle.causal_log.specs.Logs.{dets_of}
+use Rattle.causal_protocol.specs.Memory.{Kept, Memory, Memories, at}
+use Rattle.causal_protocol.specs.Run.{Run, memories_of}
+
+-- a message that p keeps stands where it was sent; what it carries ascends, and all of it was delivered
+pub record IsPlaced (past : List Entry) (p ssn : ℕ) (k : Kept) : Type 0 where
+  pub source : Pid
+  pub source_is : source.0 ≡ p
+  pub sent : entry_at past k.send ≡ Some (Send source k.to ssn)
+  pub ascending : is_ascending (dets_of k.batch) ≡ true
+  pub delivered : are_delivered past (dets_of k.batch) ≡ true
+
+-- the memory of the up process p fits the entries
+pub record Fits (past : List Entry) (p : ℕ) (m : Memory) : Type 0 where
+  pub up : is_down past p ≡ false
+  pub sent : length m.sent ≡ sends past p
+  pub count : length m.received ≡ deliveries past p
+  pub received : (k : MsgName) → has_delivered past p k ≡ list_any (λ r. same_message r k) m.received
+  pub logged : are_delivered past (fin.keys m.log) ≡ true
+  pub placed : (ssn : ℕ) (k : Kept) → slice_get m.sent ssn ≡ Some k → IsPlaced past p ssn k
+
+abbrev pub FitsAt : List Entry → ℕ → Option Memory → Type 0
+FitsAt past p (Some m) = Fits past p m
+FitsAt past p None = is_down past p ≡ true
+
+pub record AllFit (n : ℕ) (past : List Entry) (ms : Memories) : Type 0 where
+  pub count : length ms ≡ n
+  pub each : (p : ℕ) → p < n → FitsAt past p (at ms p)
+
+-- what is held is what the run makes each process remember, and it fits the entries
+pub record IsHeld (r : Run) (ms : Memories) : Type 0 where
+  pub same : ms ≡ memories_of r
+  pub fit : AllFit r.recording.processes r.recording.past ms

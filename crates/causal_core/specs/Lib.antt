@@ -1,0 +1,9 @@
+pub mod Inside
+pub mod View
+pub mod Boxes
+pub mod CoreView
+pub mod Restarts
+pub mod Replays
+pub mod Flushes
+pub mod Pendings
+pub mod Starts

@@ -1,0 +1,78 @@
+-- What a replay does to a core.
+use Rattle.std.specs.Prelude.{◌≡◌, ℕ, ◌<◌, List, [], ◌∷◌, ◌++◌, length, Option, None, Some, Result, Ok, Err}
+use Rattle.causal_name.specs.declared.Pid.{Pid}
+use Rattle.causal_name.specs.declared.MsgName.{MsgName}
+use Rattle.causal_name.specs.Names.{message_of}
+use Rattle.causal_process.specs.declared.message.Input.{Input}
+use Rattle.causal_process.specs.declared.message.Input.TheVariants.{Message as Given}
+use Rattle.causal_process.specs.declared.message.Outgoing.{Outgoing}
+use Rattle.causal_protocol.specs.declared.request.Request.TheVariants as Ask
+use Rattle.causal_protocol.specs.declared.request.Reply.TheVariants as Told
+use Rattle.causal_protocol.specs.declared.request.CoreFault.{CoreFault}
+use Rattle.causal_protocol.specs.declared.request.Delivered.{Delivered}
+use Rattle.causal_protocol.specs.Run.{Run}
+use Rattle.causal_protocol.specs.Refusals.{first_fault}
+use Rattle.causal_protocol.specs.Steps.{Steps, reason_of}
+use Rattle.causal_core.specs.Boxes.{answers_at, after_all, SameElsewhere}
+use Rattle.causal_core.specs.View.{body_at, naming}
+use Rattle.causal_core.specs.CoreView.{CoreState, IsUnchanged, Delivers}
+
+-- a delivery of a replay: what is told of it, what the box was given, and what it sent
+pub record Redelivery : Type 0 where
+  pub told : Delivered
+  pub input : Input
+  pub sends : List Outgoing
+
+-- what the box was given, and what it sent, in the order in which it came; deliveries stand newest first
+abbrev pub inputs_of : List Redelivery → List Input
+inputs_of [] = []
+inputs_of (x ∷ xs) = inputs_of xs ++ x.input ∷ []
+
+abbrev pub sends_in : List Redelivery → List (List Outgoing)
+sends_in [] = []
+sends_in (x ∷ xs) = sends_in xs ++ x.sends ∷ []
+
+-- where what is named is answered so, p's next delivery is refused for this
+abbrev pub IsRefused : Run → Pid → CoreFault → Result (Option MsgName) CoreFault → Type 0
+IsRefused r p fault (Err told) = fault ≡ told
+IsRefused r p fault (Ok None) = ⊥
+IsRefused r p fault (Ok (Some m)) = first_fault r (Ask.Deliver p m.source m.ssn) ≡ reason_of fault
+
+-- the delivery of the message that is named for p's next one is refused for this
+abbrev pub RefusesNamed : Run → Pid → CoreFault → Type 0
+RefusesNamed r p fault = IsRefused r p fault (naming r p)
+
+-- where a replay of so many deliveries ends: at its limit, where no message is named, or where the delivery of the one that
+-- is named is refused
+pub data Ends (p : Pid) (limit count : ℕ) (r : Run) : Type 0 where
+  at_limit : count ≡ limit → Ends p limit count r
+  unnamed : naming r p ≡ Ok None → Ends p limit count r
+  refused : (fault : CoreFault) → 0 < count → RefusesNamed r p fault → Ends p limit count r
+
+module _ {B : Type 0} (answers : B → List Input → List (List Outgoing)) where
+  -- the message that is named for p's next delivery is delivered, with this told, given and sent
+  pub record Redelivers (p : Pid) (x : Redelivery) (old new : CoreState B) : Type 0 where
+    pub named : naming old.run p ≡ Ok (Some (message_of x.told.det))
+    pub step : Steps old.run (Ask.Deliver p x.told.det.source x.told.det.ssn) (Told.Delivered x.told) new.run
+    pub given : x.input ≡ Given x.told.det.source (body_at old.bodies (message_of x.told.det))
+    pub delivers : Delivers answers p x.told.det.source x.told.det.ssn old new
+    pub sent : delivers.sends ≡ x.sends
+
+  -- these deliveries to p, one after the other
+  abbrev pub Replays : Pid → List Redelivery → CoreState B → CoreState B → Type 0
+  Replays p [] old new = IsUnchanged answers old new
+  Replays p (x ∷ xs) old new = (mid : CoreState B) × Replays p xs old mid × Redelivers p x mid new
+
+  -- so many deliveries to p, each of the message that is named for its next one; p's box then answers as it would have
+  -- after what it was given, and the others as before
+  pub record Replayed (p : Pid) (count : ℕ) (old new : CoreState B) : Type 0 where
+    pub deliveries : List Redelivery
+    pub number : length deliveries ≡ count
+    pub made : Replays p deliveries old new
+    pub box : (inputs : List Input) → answers_at answers old.slots p.0 (inputs_of deliveries ++ inputs) ≡ after_all (sends_in deliveries) (answers_at answers new.slots p.0 inputs)
+    pub others : SameElsewhere answers p.0 old.slots new.slots
+
+  -- where a message was named and delivered, this was told of it
+  abbrev pub Redelivered : Pid → Option Delivered → CoreState B → CoreState B → Type 0
+  Redelivered p None old new = (naming old.run p ≡ Ok None) × IsUnchanged answers old new
+  Redelivered p (Some d) old new = (x : Redelivery) × Redelivers p x old new

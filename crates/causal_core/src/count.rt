@@ -1,0 +1,82 @@
+//! How many determinants a restart lists, counted without memory.
+ghost use Rattle.std.specs.Prelude.{◌≡◌, ◌≤◌, ◌<◌, ◌^◌, not, ◌||◌, length, is_some, count_by, get_or, false};
+ghost use Rattle.std.specs.Option.{option_map, option_map_or};
+ghost use Rattle.std.specs.FinMap as fin;
+ghost use Rattle.causal_name.specs.declared.Det.{Det as Determinant};
+ghost use Rattle.causal_name.specs.declared.Pid.{Pid as Process};
+ghost use Rattle.causal_log.specs.Stores.{has, count_in};
+ghost use Rattle.causal_protocol.specs.Gathering.{gathered_log};
+ghost use Rattle.causal_core.specs.View.{memory_of, memories_in};
+ghost use Rattle.causal_core.specs.Inside.Gathers.{is_logged};
+
+use crate::cell::Cell;
+use causal_log::{Log, Stable};
+use causal_name::Det;
+
+/// Whether an up process logs the determinant.
+fn logs(cell: &Option<Cell>, det: Det) -> bool
+    ensures { result ≡ option_map_or (λ m. is_some (fin.get m.log det)) (option_map memory_of cell.now) false }
+{
+    match cell {
+        Some(cell) => cell.log.known(det).is_some(),
+        None => false,
+    }
+}
+
+/// Whether one of these processes logs it.
+fn is_logged(cells: &[Option<Cell>], det: Det) -> bool
+    ensures { result ≡ is_logged (memories_in cells.now) det }
+{
+    for cell in cells {
+        if logs(cell, det) {
+            return true;
+        }
+    }
+    false
+}
+
+/// Whether neither the store nor one of these processes has it.
+fn is_new<S: Stable>(cells: &[Option<Cell>], store: &S, det: Det) -> bool
+    ensures { result ≡ not (has (S.contents store.now) det || is_logged (memories_in cells.now) det) }
+{
+    !store.contains(det) && !is_logged(cells, det)
+}
+
+/// The same of the determinant at a place of a log.
+fn is_new_at<S: Stable>(cells: &[Option<Cell>], store: &S, log: &Log, i: u32) -> bool
+    ensures { (d : Determinant) → i < length (fin.keys log.now.map) → result ≡ not (has (S.contents store.now) (get_or (fin.keys log.now.map) i d) || is_logged (memories_in cells.now) (get_or (fin.keys log.now.map) i d)) }
+{
+    match log.at(i) {
+        Some((det, _)) => is_new(cells, store, det),
+        None => false,
+    }
+}
+
+/// How many determinants of a log neither the store nor one of these processes has.
+fn count_new<S: Stable>(cells: &[Option<Cell>], store: &S, log: &Log) -> usize
+    ensures value { result ≡ count_by (λ d. not (has (S.contents store.now) d || is_logged (memories_in cells.now) d)) (fin.keys log.now.map) }
+    ensures few { result < 2 ^ 32 }
+{
+    let mut count = 0;
+    for i in 0..log.len() {
+        if is_new_at(cells, store, log, i) {
+            count += 1;
+        }
+    }
+    count
+}
+
+/// How many determinants the store has or an up process logs.
+pub(crate) fn count_gathered<S: Stable>(cells: &[Option<Cell>], store: &S) -> usize
+    requires processes { length cells.now ≤ 256 }
+    requires few { count_in (S.contents store.now) ≤ 65536 }
+    ensures { (p : Process) → result ≡ length (fin.keys (gathered_log (memories_in cells.now) (S.contents store.now) p)) }
+{
+    let mut count = store.len() as usize;
+    for (i, cell) in cells.iter().enumerate() {
+        if let Some(cell) = cell {
+            count += count_new(&cells[..i], store, &cell.log);
+        }
+    }
+    count
+}

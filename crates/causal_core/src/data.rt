@@ -1,0 +1,357 @@
+//! The plain data of a core.
+ghost use Rattle.std.specs.Prelude.{◌≡◌, ◌<◌, ◌≤◌, ◌+◌, [], ◌∷◌, length, OnOk, OnErr, IfOk, IfErr, is_none, is_some, nat_lt, ◌&&◌, ◌||◌, true, None, Some, slice_set, vec_len};
+ghost use Rattle.causal_name.specs.Names.{message_of};
+ghost use Rattle.causal_trace.specs.declared.entry.Entry.TheVariants as Entries;
+ghost use Rattle.causal_trace.specs.Past.{listed_in, det_at};
+ghost use Rattle.causal_protocol.specs.declared.request.Request.TheVariants as Ask;
+ghost use Rattle.causal_protocol.specs.declared.request.Reply.TheVariants as Told;
+ghost use Rattle.std.specs.FinMap as fin;
+ghost use Rattle.causal_log.specs.Logs.{marked};
+ghost use Rattle.causal_protocol.specs.Memory.{at, changed, with_log};
+ghost use Rattle.causal_log.specs.Stores.{dets_in};
+ghost use Rattle.causal_protocol.specs.Gathering.{gathered_log};
+ghost use Rattle.causal_protocol.specs.Run.{memories_of, stable_of};
+ghost use Rattle.causal_protocol.specs.Naming.{name, next_rsn, next_ssn};
+ghost use Rattle.causal_protocol.specs.Refusals.{first_fault};
+ghost use Rattle.causal_protocol.specs.Steps.{reason_of, extended, delivery_of, sends_of, Steps, told_crash};
+ghost use Rattle.causal_core.specs.View.{memory_of, bodies_of, log_at, memories_in, bodies_in, naming, gathering_fault, stored_for, IsGrown, HasRoom, receivers, sent_bodies, with_bodies};
+
+use crate::cell::Cell;
+use crate::commit::{commit_at, make_room_at};
+use crate::gather::gather;
+use crate::grow::grow;
+use crate::grown::Grown;
+use crate::insertion::listed_len;
+use crate::named::{named, other_named};
+use crate::search::{cell_at, count_down, has_received, message};
+use causal_log::Log;
+use causal_name::{Det, MsgName, NoMemory, Pid};
+use causal_process::Outgoing;
+use causal_protocol::request::{CoreFault, Delivered};
+use causal_trace::entry::Entry;
+use causal_trace::limits::{MAX_ENTRIES, MAX_LISTED};
+use causal_trace::trace::Trace;
+use std::alloc::Global;
+use std::marker::Model;
+
+/// What is recorded, and what each process has in volatile memory.
+#[derive(Drop)]
+pub struct Data {
+    pub(crate) trace: Trace,
+    pub(crate) faults: u16,
+    pub(crate) writers: Vec<Pid>,
+    pub(crate) cells: Vec<Option<Cell>>,
+}
+
+impl Model for Data {
+    ghost use Rattle.std.specs.Prelude.{◌-◌, vec_capacity, vec_len};
+    ghost use Rattle.causal_core.specs.Inside.Facts.{IsHeld};
+    ghost use Rattle.causal_core.specs.View.{DataState, run_from, memories_in, bodies_in, rooms_in};
+
+    ghost Value = { DataState };
+
+    ghost view = { λ d. record { run = run_from d.trace.recording d.faults d.writers.items; bodies = bodies_in d.cells.items; spare = d.trace.spare; rooms = rooms_in d.cells.items; writers_room = vec_capacity d.writers - vec_len d.writers } };
+
+    ghost invariant = { λ d. IsHeld (run_from d.trace.recording d.faults d.writers.items) (memories_in d.cells.items) };
+}
+
+/// Whether the number is that of a process.
+pub(crate) fn is_process(p: Pid, n: u16) -> bool
+    ensures { result ≡ nat_lt p.0 n }
+{
+    u16::from(p.0) < n
+}
+
+/// Whether both numbers are.
+fn are_processes(q: Pid, source: Pid, n: u16) -> bool
+    ensures { result ≡ (nat_lt q.0 n && nat_lt source.0 n) }
+{
+    is_process(q, n) && is_process(source, n)
+}
+
+/// Whether so many more entries would pass the limit.
+pub(crate) fn is_long(trace: &Trace, entries: u32) -> bool
+    ensures { result ≡ nat_lt 65536 (length trace.now.recording.past + entries) }
+{
+    entries > MAX_ENTRIES as u32 - trace.len()
+}
+
+/// Whether so many more entries, or such a list, would pass a limit.
+pub(crate) fn is_full(trace: &Trace, entries: u32, listed: usize) -> bool
+    ensures { result ≡ (nat_lt 65536 (length trace.now.recording.past + entries) || nat_lt 1048576 (listed_in trace.now.recording.past + listed)) }
+{
+    is_long(trace, entries) || listed > MAX_LISTED - trace.listed() as usize
+}
+
+/// Drops what a process has.
+fn empty(cells: &mut Vec<Option<Cell>>, p: usize)
+    requires { p < vec_len cells.old }
+    ensures memories { memories_in cells.new.items ≡ slice_set (memories_in cells.old.items) p None }
+    ensures bodies { bodies_in cells.new.items ≡ slice_set (bodies_in cells.old.items) p [] }
+{
+    cells[p] = None;
+}
+
+/// That a determinant is stable becomes known to p.
+fn mark_at(cells: &mut Vec<Option<Cell>>, p: Pid, det: Det)
+    requires { is_some (at (memories_in cells.old.items) p.0) ≡ true }
+    ensures memories { memories_in cells.new.items ≡ changed (with_log (λ log. marked log det)) (memories_in cells.old.items) p.0 }
+    ensures bodies { bodies_in cells.new.items ≡ bodies_in cells.old.items }
+{
+    let Some(mut cell) = cells[usize::from(p.0)].take() else {
+        unreachable!()
+    };
+    mark(&mut cell, det);
+    cells[usize::from(p.0)] = Some(cell);
+}
+
+fn mark(cell: &mut Cell, det: Det)
+    ensures memory { memory_of cell.new ≡ with_log (λ log. marked log det) (memory_of cell.old) }
+    ensures bodies { bodies_of cell.new ≡ bodies_of cell.old }
+{
+    cell.log.mark_stable(det);
+}
+
+impl Data {
+    /// The trace.
+    pub fn trace(&self) -> &Trace
+        ensures { result.now.recording ≡ self.now.run.recording }
+    {
+        &self.trace
+    }
+
+    /// For how many failures it runs.
+    pub fn faults(&self) -> u16
+        ensures { result ≡ self.now.run.faults }
+    {
+        self.faults
+    }
+
+    /// What stands against a crash.
+    #[tactic(auto, unfolding(causal_protocol::specs::Refusals::rows))]
+    fn crash_fault(&self, p: Pid) -> Option<CoreFault>
+        ensures { result ≡ first_fault self.now.run (Ask.Crash p) }
+    {
+        if !is_process(p, self.trace.processes()) {
+            return Some(CoreFault::NoProcess);
+        }
+        if cell_at(self.cells.as_slice(), p).is_none() {
+            return Some(CoreFault::Down);
+        }
+        if count_down(self.cells.as_slice()) >= usize::from(self.faults) {
+            return Some(CoreFault::OverFaults);
+        }
+        if is_long(&self.trace, 1) {
+            return Some(CoreFault::Full);
+        }
+        None
+    }
+
+    /// Takes process p down.
+    pub(crate) fn crash(&mut self, p: Pid) -> Result<u32, CoreFault>
+        ensures step { Steps self.old.run (Ask.Crash p) (told_crash result) self.new.run }
+        ensures ok { OnOk result (self.new.bodies ≡ slice_set self.old.bodies p.0 []) }
+        ensures err { OnErr result (self.new.bodies ≡ self.old.bodies) }
+    {
+        if let Some(fault) = self.crash_fault(p) {
+            return Err(fault);
+        }
+        if self.trace.reserve(1).is_err() {
+            return Err(CoreFault::NoMemory);
+        }
+        let _listed = self.trace.listed();
+        let first = self.trace.len();
+        self.trace.push_reserved(Entry::Crash { who: p });
+        empty(&mut self.cells, usize::from(p.0));
+        Ok(first)
+    }
+
+    /// What stands against a delivery, where stable storage has this for q's next one.
+    fn delivery_fault(
+        &self,
+        q: Pid,
+        source: Pid,
+        ssn: u32,
+        stored: Option<Det>,
+    ) -> Option<CoreFault>
+        requires { stored ≡ stored_for self.now.run q }
+        ensures { result ≡ first_fault self.now.run (Ask.Deliver q source ssn) }
+    {
+        let _len = self.trace.len();
+        if !are_processes(q, source, self.trace.processes()) {
+            return Some(CoreFault::NoProcess);
+        }
+        let cells = self.cells.as_slice();
+        let Some(cell) = cell_at(cells, q) else {
+            return Some(CoreFault::Down);
+        };
+        let asked = MsgName { source, ssn };
+        if let Some(fault) = other_named(cell, q, stored, asked) {
+            return Some(fault);
+        }
+        let Some(message) = message(cells, q, source, ssn) else {
+            return Some(CoreFault::NotAvailable);
+        };
+        if has_received(cell, asked) {
+            return Some(CoreFault::AlreadyDelivered);
+        }
+        let own = Det {
+            source,
+            ssn,
+            dest: q,
+            rsn: cell.received.len() as u32,
+        };
+        if is_full(&self.trace, 9, listed_len(own, message.batch.as_slice())) {
+            return Some(CoreFault::Full);
+        }
+        None
+    }
+
+    /// How many messages q's present lane has received; 0 where q is down.
+    pub(crate) fn next_rsn(&self, q: Pid) -> u32
+        ensures { result ≡ next_rsn (memories_of self.now.run) q }
+    {
+        let _len = self.trace.len();
+        match cell_at(self.cells.as_slice(), q) {
+            Some(cell) => cell.received.len() as u32,
+            None => 0,
+        }
+    }
+
+    /// What a delivery puts in place.
+    fn grown(&self, alloc: Global, q: Pid, source: Pid, ssn: u32) -> Result<Grown, NoMemory>
+        requires { first_fault self.now.run (Ask.Deliver q source ssn) ≡ None }
+        ensures { IfOk result (λ g. IsGrown self.now q (name source ssn) g) }
+    {
+        let _len = self.trace.len();
+        let cells = self.cells.as_slice();
+        let Some(message) = message(cells, q, source, ssn) else {
+            unreachable!()
+        };
+        let Some(cell) = cell_at(cells, q) else {
+            unreachable!()
+        };
+        let own = Det {
+            source,
+            ssn,
+            dest: q,
+            rsn: cell.received.len() as u32,
+        };
+        grow(alloc, self.faults, own, cell, message)
+    }
+
+    /// Room for a delivery to q that logs so many determinants, and for its sends.
+    fn make_room(&mut self, q: Pid, logged: u32) -> Result<(), NoMemory>
+        requires { is_some (at (memories_of self.old.run) q.0) ≡ true }
+        ensures run { self.new.run ≡ self.old.run }
+        ensures bodies { self.new.bodies ≡ self.old.bodies }
+        ensures ok { OnOk result (HasRoom q.0 logged self.new) }
+    {
+        self.trace.reserve(9)?;
+        make_room_at(&mut self.cells, q, logged)?;
+        Ok(())
+    }
+
+    /// Makes all that a delivery needs memory for, where nothing stands against it.
+    pub(crate) fn prepare(
+        &mut self,
+        alloc: Global,
+        q: Pid,
+        source: Pid,
+        ssn: u32,
+        stored: Option<Det>,
+    ) -> Result<Grown, CoreFault>
+        requires { stored ≡ stored_for self.old.run q }
+        ensures run { self.new.run ≡ self.old.run }
+        ensures bodies { self.new.bodies ≡ self.old.bodies }
+        ensures legal { OnOk result (first_fault self.old.run (Ask.Deliver q source ssn) ≡ None) }
+        ensures refused { IfErr result (λ fault. first_fault self.old.run (Ask.Deliver q source ssn) ≡ reason_of fault) }
+        ensures grown { IfOk result (λ g. IsGrown self.new q (name source ssn) g) }
+        ensures room { IfOk result (λ g. HasRoom q.0 (length g.carried + 1) self.new) }
+    {
+        if let Some(fault) = self.delivery_fault(q, source, ssn, stored) {
+            return Err(fault);
+        }
+        let Ok(grown) = self.grown(alloc, q, source, ssn) else {
+            return Err(CoreFault::NoMemory);
+        };
+        // What the message carries is listed, and the delivery's own determinant.
+        let logged = grown.listed.len() as u32 + 1;
+        match self.make_room(q, logged) {
+            Ok(()) => Ok(grown),
+            Err(_) => Err(CoreFault::NoMemory),
+        }
+    }
+
+    /// Records a delivery to q and its sends, once the box has stepped.
+    pub(crate) fn finish(&mut self, q: Pid, grown: Grown, sends: Vec<Outgoing>) -> Delivered
+        requires legal { first_fault self.old.run (Ask.Deliver q grown.own.source grown.own.ssn) ≡ None }
+        requires grown { IsGrown self.old q (message_of grown.own) grown }
+        requires few { length sends.items ≤ 8 }
+        requires room { HasRoom q.0 (length grown.carried + 1) self.old }
+        ensures run { self.new.run ≡ extended self.old.run (Ask.Deliver q grown.own.source grown.own.ssn) (delivery_of self.old.run q (message_of grown.own) ∷ sends_of q (next_ssn (memories_of self.old.run) q) (receivers self.old.run.recording.processes sends.items)) }
+        ensures step { Steps self.old.run (Ask.Deliver q grown.own.source grown.own.ssn) (Told.Delivered result) self.new.run }
+        ensures det { det_at self.new.run.recording.past result.first ≡ Some result.det }
+        ensures bodies { self.new.bodies ≡ with_bodies self.old.bodies q.0 (sent_bodies self.old.run.recording.processes sends.items) }
+    {
+        let first = self.trace.len();
+        let det = grown.own;
+        let sends = commit_at(&mut self.trace, &mut self.cells, q, grown, sends);
+        Delivered { first, det, sends }
+    }
+
+    /// What is named for q's next delivery, where stable storage has this for it.
+    pub(crate) fn named(&self, q: Pid, stored: Option<Det>) -> Result<Option<MsgName>, CoreFault>
+        requires { stored ≡ stored_for self.now.run q }
+        ensures { result ≡ naming self.now.run q }
+    {
+        let _len = self.trace.len();
+        if !is_process(q, self.trace.processes()) {
+            return Err(CoreFault::NoProcess);
+        }
+        let Some(cell) = cell_at(self.cells.as_slice(), q) else {
+            return Err(CoreFault::Down);
+        };
+        Ok(named(cell, q, stored))
+    }
+
+    /// What stands against gathering for p.
+    pub(crate) fn gathering_fault(&self, p: Pid) -> Option<CoreFault>
+        ensures { result ≡ gathering_fault self.now.run p }
+    {
+        if !is_process(p, self.trace.processes()) {
+            return Some(CoreFault::NoProcess);
+        }
+        if cell_at(self.cells.as_slice(), p).is_some() {
+            return Some(CoreFault::NotDown);
+        }
+        None
+    }
+
+    /// The log that p would have after a restart, where this is stored.
+    pub(crate) fn gather(&self, alloc: Global, stored: &[Det], p: Pid) -> Result<Log, NoMemory>
+        requires { stored.now ≡ dets_in (stable_of self.now.run) }
+        ensures { IfOk result (λ log. log.map ≡ gathered_log (memories_of self.now.run) (stable_of self.now.run) p) }
+    {
+        gather(alloc, self.cells.as_slice(), stored, p)
+    }
+
+    /// Records that a flush of p wrote a determinant.
+    pub(crate) fn note_stable(&mut self, p: Pid, det: Det)
+        requires process { p.0 < self.old.run.recording.processes }
+        requires up { is_some (at (memories_of self.old.run) p.0) ≡ true }
+        requires logged { is_some (fin.get (log_at (memories_of self.old.run) p.0) det) ≡ true }
+        requires short { length self.old.run.recording.past < 65536 }
+        requires spare { 1 ≤ self.old.spare }
+        requires room { 1 ≤ self.old.writers_room }
+        ensures run { self.new.run ≡ extended self.old.run (Ask.Flush p) (Entries.Stable det ∷ []) }
+        ensures bodies { self.new.bodies ≡ self.old.bodies }
+        ensures spare { self.old.spare ≤ self.new.spare + 1 }
+        ensures room { self.old.writers_room ≤ self.new.writers_room + 1 }
+    {
+        let _listed = self.trace.listed();
+        self.trace.push_reserved(Entry::Stable { det });
+        self.writers.push_reserved(p);
+        mark_at(&mut self.cells, p, det);
+    }
+}

@@ -1,0 +1,61 @@
+//! What a delivery needs memory for, made before the box steps.
+ghost use Rattle.std.specs.Prelude.{◌≡◌, replicate, unwrap_or, slice_get, IfOk};
+ghost use Rattle.causal_process.specs.declared.message.Input.TheVariants.{Message as Given};
+ghost use Rattle.causal_core.specs.View.{memory_of, kept_of, IsMade};
+
+use crate::cell::{Cell, Message};
+use crate::grown::Grown;
+use crate::insertion::listed;
+use causal_log::Batch;
+use causal_name::{Det, NoMemory, Pid};
+use causal_process::{Body, Input};
+use std::alloc::Global;
+
+/// Eight copies: one for each send of a step.
+pub(crate) fn copies(alloc: Global, batch: &Batch) -> Result<Vec<Batch>, NoMemory>
+    ensures { IfOk result (λ copies. copies.items ≡ replicate 8 batch.now) }
+{
+    let mut copies = Vec::new(alloc);
+    while copies.len() < 8 {
+        copies.push(batch.try_clone()?)?;
+    }
+    Ok(copies)
+}
+
+/// What a box is given with a message of `source`.
+fn input_of(alloc: Global, source: Pid, body: &Body) -> Result<Input, NoMemory>
+    ensures { IfOk result (λ input. input ≡ Given source body.now) }
+{
+    let bytes = body.as_slice().to_vec(alloc)?;
+    Ok(Input::Message {
+        from: source,
+        body: Body::new(bytes),
+    })
+}
+
+/// Makes what a delivery puts in place.
+pub(crate) fn grow(
+    alloc: Global,
+    f: u16,
+    own: Det,
+    cell: &Cell,
+    message: &Message,
+) -> Result<Grown, NoMemory>
+    ensures { IfOk result (λ g. IsMade f own (memory_of cell.now) message.now g) }
+{
+    let listed = listed(alloc, own, message.batch.as_slice())?;
+    let carried = message.batch.try_clone()?;
+    let batch = cell
+        .log
+        .choose_grown(alloc, &carried, own, own.source, own.dest, f)?;
+    let copies = copies(alloc, &batch)?;
+    let input = input_of(alloc, own.source, &message.body)?;
+    Ok(Grown {
+        own,
+        send: message.send,
+        listed,
+        carried,
+        copies,
+        input,
+    })
+}

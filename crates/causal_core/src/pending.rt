@@ -1,0 +1,125 @@
+//! The messages that a process may deliver.
+ghost use Rattle.std.specs.Prelude.{◌≡◌, ◌<◌, ◌≤◌, ◌∷◌, ◌++◌, [], ℕ, Some, filter, map, length, IfOk, IfErr, OnOk, if◌then◌else◌};
+ghost use Rattle.std.specs.List.{range_with_len};
+ghost use Rattle.std.specs.Option.{option_map, option_map_or};
+ghost use Rattle.causal_protocol.specs.Memory.{Memory, at};
+ghost use Rattle.causal_protocol.specs.Run.{memories_of};
+ghost use Rattle.causal_protocol.specs.Naming.{name};
+ghost use Rattle.causal_protocol.specs.Steps.{reason_of};
+ghost use Rattle.causal_core.specs.View.{memory_of, memories_in};
+ghost use Rattle.causal_core.specs.Pendings.{is_pending, pending_in, pending_fault};
+ghost use Rattle.causal_core.specs.CoreView.{run_of};
+
+use crate::cell::Cell;
+use crate::data::{Data, is_process};
+use crate::runtime::Core;
+use crate::search::{cell_at, has_received, message};
+use causal_log::Stable;
+use causal_name::{MsgName, NoMemory, Pid};
+use causal_protocol::request::CoreFault;
+use std::alloc::Global;
+
+/// Whether a message is kept for q, which has this, and q has not received it.
+fn is_pending(cells: &[Option<Cell>], q: Pid, cell: &Cell, name: MsgName) -> bool
+    requires { at (memories_in cells.now) q.0 ≡ Some (memory_of cell.now) }
+    ensures { result ≡ is_pending (memories_in cells.now) q name }
+{
+    message(cells, q, name.source, name.ssn).is_some() && !has_received(cell, name)
+}
+
+/// Lists one more name, where it is wanted.
+fn push_if(names: &mut Vec<MsgName>, name: MsgName, wanted: bool) -> Result<(), NoMemory>
+    ensures { OnOk result (names.new.items ≡ names.old.items ++ (if wanted then name ∷ [] else [])) }
+{
+    if wanted {
+        names.push(name)?;
+    }
+    Ok(())
+}
+
+/// How many messages a process has sent; none where it is down.
+fn count_sent(cell: &Option<Cell>) -> u32
+    requires { option_map_or (λ m. length m.sent) (option_map memory_of cell.now) 0 ≤ 65536 }
+    ensures { result ≡ option_map_or (λ m. length m.sent) (option_map memory_of cell.now) 0 }
+{
+    match cell {
+        Some(cell) => cell.sent.len() as u32,
+        None => 0,
+    }
+}
+
+/// Lists what is pending for q among the first messages of a sender.
+fn list_pending(
+    names: &mut Vec<MsgName>,
+    cells: &[Option<Cell>],
+    q: Pid,
+    cell: &Cell,
+    source: Pid,
+    count: u32,
+) -> Result<(), NoMemory>
+    requires { at (memories_in cells.now) q.0 ≡ Some (memory_of cell.now) }
+    ensures { OnOk result (names.new.items ≡ names.old.items ++ filter (is_pending (memories_in cells.now) q) (map (name source) (range_with_len 0 count))) }
+{
+    for ssn in 0..count {
+        let name = MsgName { source, ssn };
+        push_if(names, name, is_pending(cells, q, cell, name))?;
+    }
+    Ok(())
+}
+
+/// Lists what is pending for q, which has this.
+fn pending_among(
+    alloc: Global,
+    cells: &[Option<Cell>],
+    q: Pid,
+    cell: &Cell,
+) -> Result<Vec<MsgName>, NoMemory>
+    requires here { at (memories_in cells.now) q.0 ≡ Some (memory_of cell.now) }
+    requires few { length cells.now ≤ 256 }
+    requires short { (p : ℕ) → option_map_or (λ m. length m.sent) (at (memories_in cells.now) p) 0 ≤ 65536 }
+    ensures { IfOk result (λ names. names.items ≡ pending_in (memories_in cells.now) q) }
+{
+    let mut names = Vec::new(alloc);
+    for (p, sender) in cells.iter().enumerate() {
+        let count = count_sent(sender);
+        list_pending(&mut names, cells, q, cell, Pid(p as u8), count)?;
+    }
+    Ok(names)
+}
+
+impl Data {
+    /// What is pending for q.
+    pub(crate) fn pending(&self, alloc: Global, q: Pid) -> Result<Vec<MsgName>, CoreFault>
+        ensures ok { IfOk result (λ names. names.items ≡ pending_in (memories_of self.now.run) q) }
+        ensures refused { IfErr result (λ fault. pending_fault self.now.run q ≡ reason_of fault) }
+    {
+        let _len = self.trace.len();
+        if !is_process(q, self.trace.processes()) {
+            return Err(CoreFault::NoProcess);
+        }
+        let cells = self.cells.as_slice();
+        let Some(cell) = cell_at(cells, q) else {
+            return Err(CoreFault::Down);
+        };
+        match pending_among(alloc, cells, q, cell) {
+            Ok(names) => Ok(names),
+            Err(_) => Err(CoreFault::NoMemory),
+        }
+    }
+}
+
+impl<S: Stable> Core<S> {
+    /// The messages that up processes keep for q and that q's present lane has not received, by sender and number; they
+    /// are listed also where another message is named for q's next delivery. It costs what is kept, and for each message
+    /// kept for q what q has received.
+    ///
+    /// # Errors
+    /// The first of `NoProcess` and `Down`; where neither stands, `NoMemory` where memory was refused.
+    pub fn pending(&self, q: Pid) -> Result<Vec<MsgName>, CoreFault>
+        requires { q.0 < 256 }
+        ensures ok { IfOk result (λ names. names.items ≡ pending_in (memories_of (run_of self.now)) q) }
+        ensures refused { IfErr result (λ fault. pending_fault (run_of self.now) q ≡ reason_of fault) }
+    {
+        self.held.pending(self.alloc, q)
+    }
+}

@@ -1,0 +1,53 @@
+//! What stands in the cells.
+ghost use Rattle.std.specs.Prelude.{◌≡◌, ◌<◌, ◌^◌, length, vec_len, is_none, count_by, Option, IfSome};
+ghost use Rattle.std.specs.Option.{option_map, option_copied};
+ghost use Rattle.std.specs.List.{list_any};
+ghost use Rattle.causal_name.specs.Names.{same_message};
+ghost use Rattle.causal_name.specs.declared.Det.{Det as Determinant};
+ghost use Rattle.causal_log.specs.Slots.{first_of_slot};
+ghost use Rattle.causal_protocol.specs.Memory.{at};
+ghost use Rattle.causal_protocol.specs.Naming.{kept_for, name};
+ghost use Rattle.causal_core.specs.View.{kept_of, memory_of, memories_in, bodies_in, body_at};
+
+use crate::cell::{Cell, Message};
+use causal_name::{MsgName, Pid};
+
+/// How many are down.
+pub(crate) fn count_down(cells: &[Option<Cell>]) -> usize
+    ensures { result ≡ count_by is_none (memories_in cells.now) }
+{
+    let mut down = 0;
+    for cell in cells {
+        if cell.is_none() {
+            down += 1;
+        }
+    }
+    down
+}
+
+/// What a process has, where it is up.
+pub(crate) fn cell_at(cells: &[Option<Cell>], p: Pid) -> Option<&Cell>
+    ensures { option_map memory_of (option_copied result) ≡ at (memories_in cells.now) p.0 }
+{
+    cells.get(usize::from(p.0))?.as_ref()
+}
+
+/// The message of that name that its sender keeps for q.
+pub(crate) fn message(cells: &[Option<Cell>], q: Pid, source: Pid, ssn: u32) -> Option<&Message>
+    ensures kept { option_map kept_of (option_copied result) ≡ kept_for (memories_in cells.now) q (name source ssn) }
+    ensures body { IfSome result (λ message. message.now.body ≡ body_at (bodies_in cells.now) (name source ssn)) }
+{
+    let message = cells
+        .get(usize::from(source.0))?
+        .as_ref()?
+        .sent
+        .get(ssn as usize)?;
+    if message.to == q { Some(message) } else { None }
+}
+
+/// Whether the present lane has received a message of that name.
+pub(crate) fn has_received(cell: &Cell, name: MsgName) -> bool
+    ensures { result ≡ list_any (λ k. same_message k name) (memory_of cell.now).received }
+{
+    cell.received.iter().any(|k| *k == name)
+}
