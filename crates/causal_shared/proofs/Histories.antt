@@ -1,0 +1,214 @@
+-- A history that grows by one item.
+use Rattle.std.proofs.Common.{◌≡◌, ◌≢◌, ◌≤◌, ◌<◌, ◌∙◌, sym, refl, ap, ap₂, subst, ℕ, zero, suc, Bool, true, false, List, [], ◌∷◌, ◌++◌, length, slice_set, replicate, arith, Some, None, length-append, ◌⊎◌, inl, inr}
+use Rattle.std.specs.Prelude.{slice_get, Option, option_map, unwrap_or, IfSome, ◌==◌}
+use Rattle.std.proofs.lemmas.Option.{slice_get_cases}
+use Rattle.std.proofs.lemmas.List.Sums.{length-filter, count_by-le-length}
+use Rattle.std.proofs.lemmas.List.{append-nil}
+use Rattle.std.proofs.lemmas.List.Elements.{filter-append}
+use Rattle.std.proofs.lemmas.Bool.Decides.{nat_tests}
+use Rattle.causal_protocol.specs.Run.{Run}
+use Rattle.causal_protocol.specs.Steps.{Steps}
+use Rattle.causal_shared.specs.declared.item.Item.{Item}
+use Rattle.causal_shared.specs.declared.item.KeptSeat.{KeptSeat}
+use Rattle.causal_shared.specs.Limits.{max_items}
+use Rattle.causal_shared.specs.History.{instant, cut, IsStep, next_first, AllLegal, items_of, last_of, IsHistory, item_at, IsKept, AllKept, Shows, Keeps, kept_after, count_at, fresh_seat, Held, Holds, Sees}
+use Rattle.causal_shared.proofs.Lists.{slice_get-append, slice_get-append_seam, slice_get-set_same, slice_get-set_other, slice_get-snoc, slice_get-last}
+use Rattle.causal_trace.specs.Past.{det_at}
+use Rattle.causal_protocol.specs.declared.request.Request.{Request}
+use Rattle.causal_protocol.specs.declared.request.Reply.{Reply}
+use Rattle.causal_shared.proofs.Shown.{det_at-pushed}
+use Rattle.causal_shared.proofs.Cuts.{Longer, Longer-step, cut-whole, IsStep-step}
+
+-- no item begins past the end
+pub next_first-le : (r : Run) (items : List Item) → AllLegal r items → next_first r items ≤ instant r
+next_first-le r [] legal = omega arith
+next_first-le r (item ∷ items) legal = let rest = next_first-le r items legal.2 in let first = legal.0 in omega (arith, rest, first)
+
+next_first-snoc : (r new : Run) (items : List Item) (item : Item) → item.first ≡ instant r → next_first new (items ++ item ∷ []) ≡ next_first r items
+next_first-snoc r new [] item at = at
+next_first-snoc r new (i ∷ items) item at = refl
+
+-- the items before stay legal, and the new one is
+pub AllLegal-snoc : (r new : Run) (items : List Item) (item : Item) → Longer r new → AllLegal r items → item.first ≡ instant r → IsStep r item.request item.reply new → AllLegal new (items ++ item ∷ [])
+AllLegal-snoc r new [] item longer legal at step =
+    let from : cut new item.first ≡ r = ap (cut new) at ∙ (longer.same (instant r) (omega arith) ∙ cut-whole r (instant r) refl) in
+    let to : cut new (instant new) ≡ new = cut-whole new (instant new) refl in
+    (omega (arith, at, longer.later), rw (from, to) step, tt)
+AllLegal-snoc r new (i ∷ items) item longer legal at step =
+    let next = next_first-snoc r new items item at in
+    let within = next_first-le r items legal.2 in
+    let from : cut new i.first ≡ cut r i.first = longer.same i.first (omega (arith, within, legal.0)) in
+    let to : cut new (next_first r items) ≡ cut r (next_first r items) = longer.same (next_first r items) within in
+    (rw next legal.0, rw (next, from, to) legal.1, AllLegal-snoc r new items item longer legal.2 at step)
+
+pub items_of-snoc : (items : List Item) (item : Item) → items_of item.seat (items ++ item ∷ []) ≡ items_of item.seat items ++ item ∷ []
+items_of-snoc items item =
+    let same : (item.seat == item.seat) ≡ true = grind (arith, nat_tests) in
+    filter-append (λ (i : Item). i.seat == item.seat) items (item ∷ []) ∙ rw same refl
+
+pub items_of-snoc_other : (items : List Item) (item : Item) (seat : ℕ) → item.seat ≢ seat → items_of seat (items ++ item ∷ []) ≡ items_of seat items
+items_of-snoc_other items item seat ne =
+    let other : (item.seat == seat) ≡ false = grind (arith, nat_tests) in
+    filter-append (λ (i : Item). i.seat == seat) items (item ∷ []) ∙ rw other (append-nil (items_of seat items))
+
+-- a seat is the item's, or another
+either_seat : (a b : ℕ) → (a ≡ b) ⊎ (a ≢ b)
+either_seat a b = by_test (a == b) refl
+  where
+    by_test : (t : Bool) → (a == b) ≡ t → (a ≡ b) ⊎ (a ≢ b)
+    by_test true is = inl (grind (arith, nat_tests))
+    by_test false is = inr (λ e. absurd (grind (arith, nat_tests)))
+
+numbered-snoc : (items : List Item) (item : Item) → ((seat k : ℕ) (i : Item) → slice_get (items_of seat items) k ≡ Some i → i.call ≡ k) → item.call ≡ length (items_of item.seat items) → (seat k : ℕ) (i : Item) → slice_get (items_of seat (items ++ item ∷ [])) k ≡ Some i → i.call ≡ k
+numbered-snoc items item numbered call seat k i is = elim (either_seat item.seat seat) [
+  | inl same ↦ mine seat same is
+  | inr other ↦ numbered seat k i (rw (items_of-snoc_other items item seat other) at is)
+]
+  where
+    mine : (seat : ℕ) → item.seat ≡ seat → slice_get (items_of seat (items ++ item ∷ [])) k ≡ Some i → i.call ≡ k
+    mine seat same is =
+        let here : slice_get (items_of item.seat items ++ item ∷ []) k ≡ Some i = sym (ap (λ (xs : List Item). slice_get xs k) (items_of-snoc items item)) ∙ (ap (λ s. slice_get (items_of s (items ++ item ∷ [])) k) same ∙ is) in
+        elim (slice_get-snoc (items_of item.seat items) item i k here) [
+          | inl was ↦ numbered item.seat k i was
+          | inr new ↦ sym (ap (λ (x : Item). x.call) new.1) ∙ (call ∙ sym new.0)
+        ]
+
+pub IsHistory-snoc : (run new : Run) (items : List Item) (item : Item) → IsHistory run items → Steps run item.request item.reply new → item.first ≡ instant run → item.call ≡ length (items_of item.seat items) → IsHistory new (items ++ item ∷ [])
+IsHistory-snoc run new items item history step at call = record {
+  legal = AllLegal-snoc run new items item (Longer-step run new item.request item.reply step) history.legal at (IsStep-step run new item.request item.reply step);
+  numbered = numbered-snoc items item history.numbered call;
+}
+
+-- what is kept of a seat counts its items
+pub count_at-is : (run : Run) (items : List Item) (seats : List KeptSeat) (seat : ℕ) → AllKept run items seats → seat < length seats → count_at seats seat ≡ length (items_of seat items)
+count_at-is run items seats seat kept inside = by_get (slice_get seats seat) refl
+  where
+    by_get : (o : Option KeptSeat) → slice_get seats seat ≡ o → count_at seats seat ≡ length (items_of seat items)
+    by_get None is = absurd (grind (arith, slice_get_cases seats seat))
+    by_get (Some k) is = ap (λ (o : Option KeptSeat). unwrap_or (option_map (λ (k : KeptSeat). k.count) o) 0) is ∙ (kept seat k is).count
+
+pub count_at-le : (run : Run) (items : List Item) (seats : List KeptSeat) (seat : ℕ) → AllKept run items seats → seat < length seats → count_at seats seat ≤ length items
+count_at-le run items seats seat kept inside =
+    let is = count_at-is run items seats seat kept inside in
+    let as_count = length-filter (λ (i : Item). i.seat == seat) items in
+    let few = count_by-le-length (λ (i : Item). i.seat == seat) items in
+    omega (arith, is, as_count, few)
+
+-- what is kept of another seat fits the longer history
+IsKept-snoc_other : (run new : Run) (items : List Item) (item : Item) (seat : ℕ) (kept : KeptSeat) → item.seat ≢ seat → instant run ≤ instant new → IsKept run items seat kept → IsKept new (items ++ item ∷ []) seat kept
+IsKept-snoc_other run new items item seat kept other longer was = record {
+  count = rw (items_of-snoc_other items item seat other) was.count;
+  seen = omega (arith, was.seen);
+  placed = by_place kept.last was.placed;
+  last = rw (items_of-snoc_other items item seat other) (by_item kept.last was.placed ∙ was.last);
+}
+  where
+    by_place : (o : Option ℕ) → IfSome o (λ p. p < length items) → IfSome o (λ p. p < length (items ++ item ∷ []))
+    by_place None h = h
+    by_place (Some p) h = omega (arith, h, length-append items (item ∷ []))
+
+    by_item : (o : Option ℕ) → IfSome o (λ p. p < length items) → item_at (items ++ item ∷ []) o ≡ item_at items o
+    by_item None h = refl
+    by_item (Some p) h = slice_get-append items (item ∷ []) p h
+
+-- what is kept of the item's seat fits it too
+IsKept-snoc : (new : Run) (items : List Item) (item : Item) (place : ℕ) → place ≡ length items → item.call ≡ length (items_of item.seat items) → IsKept new (items ++ item ∷ []) item.seat (kept_after item (instant new) place)
+IsKept-snoc new items item place at call = record {
+  count = rw (items_of-snoc items item) (omega (arith, call, length-append (items_of item.seat items) (item ∷ [])));
+  seen = omega arith;
+  placed = omega (arith, at, length-append items (item ∷ []));
+  last = rw (items_of-snoc items item) (ap (λ n. slice_get (items ++ item ∷ []) n) at ∙ (slice_get-append_seam items item ∙ sym (slice_get-last (items_of item.seat items) item)));
+}
+
+pub AllKept-snoc : (run new : Run) (items : List Item) (seats : List KeptSeat) (item : Item) (place : ℕ) → AllKept run items seats → instant run ≤ instant new → place ≡ length items → item.seat < length seats → item.call ≡ length (items_of item.seat items) → AllKept new (items ++ item ∷ []) (slice_set seats item.seat (kept_after item (instant new) place))
+AllKept-snoc run new items seats item place kept longer at inside call seat k is = elim (either_seat item.seat seat) [
+  | inl same ↦ mine seat same is
+  | inr other ↦ IsKept-snoc_other run new items item seat k other longer (kept seat k (sym (slice_get-set_other seats item.seat seat (kept_after item (instant new) place) other) ∙ is))
+]
+  where
+    mine : (seat : ℕ) → item.seat ≡ seat → slice_get (slice_set seats item.seat (kept_after item (instant new) place)) seat ≡ Some k → IsKept new (items ++ item ∷ []) seat k
+    mine seat same is =
+        let P : ℕ → Type 0 = λ s. IsKept new (items ++ item ∷ []) s k in
+        let Q : KeptSeat → Type 0 = λ k. IsKept new (items ++ item ∷ []) item.seat k in
+        let found = slice_get-set_same seats item.seat (kept_after item (instant new) place) inside in
+        let there : slice_get (slice_set seats item.seat (kept_after item (instant new) place)) item.seat ≡ Some k = ap (λ s. slice_get (slice_set seats item.seat (kept_after item (instant new) place)) s) same ∙ is in
+        let k_is : kept_after item (instant new) place ≡ k = cc in
+        subst P same (subst Q k_is (IsKept-snoc new items item place at call))
+
+-- what a run shows it shows as it goes on
+Shows-step : (old new : Run) (request : Request) (reply : Reply) (item : Item) → Steps old request reply new → Shows old.recording.past item → Shows new.recording.past item
+Shows-step old new request reply item step was d told =
+    subst (λ (r : Run). det_at r.recording.past item.first ≡ Some d.det) (sym step.grown) (det_at-pushed step.appended old.recording.past item.first d.det (was d told))
+
+-- an item that tells the step to the run keeps the facts
+pub Keeps-note : (old new : Run) (items : List Item) (seats : List KeptSeat) (item : Item) (place seen : ℕ) (items' : List Item) (seats' : List KeptSeat)
+    → Keeps old items seats → Steps old item.request item.reply new → item.seat < length seats → item.first ≡ instant old → item.call ≡ count_at seats item.seat
+    → place ≡ length items → seen ≡ instant new → items' ≡ items ++ item ∷ [] → seats' ≡ slice_set seats item.seat (kept_after item seen place)
+    → Shows new.recording.past item → Keeps new items' seats'
+Keeps-note old new items seats item place seen items' seats' keeps step inside first is_call at sees items_are seats_are shows =
+    let counted : item.call ≡ length (items_of item.seat items) = is_call ∙ count_at-is old items seats item.seat keeps.kept inside in
+    rw (items_are, seats_are, sees) record {
+      legal = IsHistory-snoc old new items item keeps.legal step first counted;
+      kept = AllKept-snoc old new items seats item place keeps.kept (Longer-step old new item.request item.reply step).later at inside counted;
+      shown = λ k i is. elim (slice_get-snoc items item i k is) [
+        | inl was ↦ Shows-step old new item.request item.reply i step (keeps.shown k i was)
+        | inr here ↦ subst (λ x. Shows new.recording.past x) here.1 shows
+      ];
+    }
+
+-- each call's number is below the most items that a history has
+pub count_below : (r : Run) (items : List Item) (seats : List KeptSeat) (seat call : ℕ) → Keeps r items seats → seat < length seats → call ≡ count_at seats seat → length items < max_items → call < max_items
+count_below r items seats seat call keeps inside is room = let few = count_at-le r items seats seat keeps.kept inside in omega (arith, few, is, room)
+
+slice_get-replicate : (k seat : ℕ) (x kept : KeptSeat) → slice_get (replicate k x) seat ≡ Some kept → x ≡ kept
+slice_get-replicate zero seat x kept is = absurd cc
+slice_get-replicate (suc k) zero x kept is = cc
+slice_get-replicate (suc k) (suc seat) x kept is = slice_get-replicate k seat x kept is
+
+-- no item, and seats that have seen all
+pub Keeps-new : (r : Run) (k seen : ℕ) (items : List Item) (seats : List KeptSeat) → items ≡ [] → seats ≡ replicate k (fresh_seat seen) → seen ≡ instant r → Keeps r items seats
+Keeps-new r k seen items seats none seats_are sees = rw (none, seats_are) record {
+  legal = record { legal = tt; numbered = λ seat k item is. absurd cc };
+  kept = λ seat kept is. subst (λ (kept : KeptSeat). IsKept r [] seat kept) (slice_get-replicate k seat (fresh_seat seen) kept is) record { count = refl; seen = omega (arith, sees); placed = tt; last = refl };
+  shown = λ k item is. absurd cc;
+}
+
+-- the seat is the kept one exactly where its last item is
+pub Holds-is : (held : Held) (seat count seen : ℕ) (kept : KeptSeat) (mine last : Option Item) → AllKept held.run held.history held.seats → slice_get held.seats seat ≡ Some kept → kept.count ≡ count → kept.seen ≡ seen → mine ≡ item_at held.history kept.last
+    → (mine ≡ last → Holds held seat count seen last) × (Holds held seat count seen last → mine ≡ last)
+Holds-is held seat count seen kept mine last all is counts sees mine_is =
+    let ends : mine ≡ last_of (items_of seat held.history) = mine_is ∙ (all seat kept is).last in (
+      λ same. record { kept = (kept, is, counts, sees); ends = sym same ∙ ends },
+      λ holds. ends ∙ sym holds.ends,
+    )
+
+-- a seat that has seen all entries
+pub AllKept-seen : (run : Run) (items : List Item) (seats : List KeptSeat) (at : ℕ) (k : KeptSeat) (seen : ℕ) → at < length seats → slice_get seats at ≡ Some k → seen ≤ instant run → AllKept run items seats → AllKept run items (slice_set seats at (record k { seen = seen }))
+AllKept-seen run items seats at k seen inside is few kept seat k' found = elim (either_seat at seat) [
+  | inl same ↦ mine seat same found
+  | inr other ↦ kept seat k' (sym (slice_get-set_other seats at seat (record k { seen = seen }) other) ∙ found)
+]
+  where
+    mine : (seat : ℕ) → at ≡ seat → slice_get (slice_set seats at (record k { seen = seen })) seat ≡ Some k' → IsKept run items seat k'
+    mine seat same found =
+        let P : ℕ → Type 0 = λ s. IsKept run items s k' in
+        let Q : KeptSeat → Type 0 = λ k. IsKept run items at k in
+        let was = kept at k is in
+        let set = slice_get-set_same seats at (record k { seen = seen }) inside in
+        let there : slice_get (slice_set seats at (record k { seen = seen })) at ≡ Some k' = ap (λ s. slice_get (slice_set seats at (record k { seen = seen })) s) same ∙ found in
+        let k_is : record k { seen = seen } ≡ k' = cc in
+        subst P same (subst Q k_is record { count = was.count; seen = few; placed = was.placed; last = was.last })
+
+pub Keeps-seen : (r : Run) (items : List Item) (seats : List KeptSeat) (at : ℕ) (k : KeptSeat) (seen : ℕ) → at < length seats → slice_get seats at ≡ Some k → seen ≡ instant r → Keeps r items seats → Keeps r items (slice_set seats at (record k { seen = seen }))
+Keeps-seen r items seats at k seen inside is sees keeps = record {
+  legal = keeps.legal;
+  kept = AllKept-seen r items seats at k seen inside is (omega (arith, sees)) keeps.kept;
+  shown = keeps.shown;
+}
+
+pub Sees-is : (old new : Held) (seat : ℕ) (k : KeptSeat) (seen : ℕ) → slice_get old.seats seat ≡ Some k → seen ≡ instant old.run → new.run ≡ old.run → new.history ≡ old.history → new.seats ≡ slice_set old.seats seat (record k { seen = seen }) → Sees old new seat
+Sees-is old new seat k seen is sees run history seats = record {
+  run = run;
+  history = history;
+  seats = λ k' is'. let same : k ≡ k' = cc in seats ∙ ap₂ (λ (k : KeptSeat) (n : ℕ). slice_set old.seats seat (record k { seen = n })) same sees;
+}

@@ -1,0 +1,9 @@
+mod Lists
+mod Cuts
+mod Shown
+mod Histories
+mod Seats
+mod Parts
+mod Totals
+mod Openings
+mod Ascents

@@ -1,0 +1,92 @@
+-- One item call as its seat sees it.
+use Rattle.std.proofs.Common.{subst, None, ◌≡◌, ◌≤◌, ◌<◌, ◌+◌, ◌∙◌, sym, ap, ℕ, List, [], ◌∷◌, ◌++◌, length, map, zero, suc, arith, Some, option_map, unwrap_or}
+use Rattle.std.specs.Prelude.{Option, slice_get, ◌==◌}
+use Rattle.std.proofs.lemmas.Option.{slice_get_cases}
+use Rattle.std.proofs.lemmas.List.Sums.{length-filter, count_by-le-length}
+use Rattle.causal_protocol.specs.declared.request.Request.{Request}
+use Rattle.causal_protocol.specs.declared.request.Reply.{Reply}
+use Rattle.causal_shared.specs.declared.item.Item.{Item}
+use Rattle.causal_shared.specs.declared.item.KeptSeat.{KeptSeat}
+use Rattle.causal_shared.specs.Limits.{max_items}
+use Rattle.causal_trace.specs.declared.entry.Entry.{Entry}
+use Rattle.causal_shared.specs.History.{instant, item_at, Shows, Held, Keeps, Holds, count_at}
+use Rattle.causal_protocol.specs.Telling.{told_entries}
+use Rattle.causal_shared.specs.Locked.{ItemCall, IsSnapshot}
+use Rattle.causal_trace.specs.Rows.{Recording}
+use Rattle.causal_shared.specs.declared.item.Snapshot.{Snapshot}
+use Rattle.causal_shared.specs.Seat.{Sitting, SeatState, MayCall, IsSeated, with_item, ItemSection, SeesEntries}
+use Rattle.causal_protocol.proofs.Lemmas.Telling.{replies_tell_entries}
+
+-- a seat has seen no more than there is
+pub Holds-seen : (held : Held) (seat count seen : ℕ) (last : Option Item) → Keeps held.run held.history held.seats → Holds held seat count seen last → seen ≤ instant held.run
+Holds-seen held seat count seen last keeps holds =
+    let k = holds.kept in
+    omega (arith, (keeps.kept seat k.0 k.1).seen, k.3)
+
+-- it has no more items than the history
+pub Holds-count : (held : Held) (seat count seen : ℕ) (last : Option Item) → Keeps held.run held.history held.seats → Holds held seat count seen last → count ≤ length held.history
+Holds-count held seat count seen last keeps holds =
+    let k = holds.kept in
+    let counted = (keeps.kept seat k.0 k.1).count in
+    let as_count = length-filter (λ (i : Item). i.seat == seat) held.history in
+    let few = count_by-le-length (λ (i : Item). i.seat == seat) held.history in
+    omega (arith, counted, k.2, as_count, few)
+
+Holds-inside : (held : Held) (seat count seen : ℕ) (last : Option Item) → Holds held seat count seen last → seat < length held.seats
+Holds-inside held seat count seen last holds = let is = holds.kept.1 in grind (arith, is, slice_get_cases held.seats seat)
+
+Holds-counted : (held : Held) (seat count seen : ℕ) (last : Option Item) → Holds held seat count seen last → count ≡ count_at held.seats seat
+Holds-counted held seat count seen last holds =
+    sym (ap (λ (o : Option KeptSeat). unwrap_or (option_map (λ (k : KeptSeat). k.count) o) 0) holds.kept.1 ∙ holds.kept.2)
+
+-- its last item's delivery is shown
+Holds-shows : (held : Held) (seat count seen : ℕ) (last : Option Item) (item : Item) → Keeps held.run held.history held.seats → Holds held seat count seen last → last ≡ Some item → Shows held.run.recording.past item
+Holds-shows held seat count seen last item keeps holds is = by holds.kept.0.last ((keeps.kept seat holds.kept.0 holds.kept.1).last ∙ sym holds.ends ∙ is)
+  where
+    by : (place : Option ℕ) → item_at held.history place ≡ Some item → Shows held.run.recording.past item
+    by None none = absurd (let x : None ≡ Some item = none in cc)
+    by (Some place) there = keeps.shown place item there
+
+-- a seat that is the kept one may make an item call
+pub MayCall-is : (held : Held) (seat : SeatState) (tag first : ℕ) → Keeps held.run held.history held.seats → IsSeated tag held seat.sitting → length held.history < max_items → first ≡ instant held.run → 1 ≤ seat.spare → MayCall held seat first
+MayCall-is held seat tag first keeps seated room begins spare =
+    let sitting = seat.sitting in
+    let known = Holds-seen held _ _ _ _ keeps seated.1 in
+    let count = Holds-count held _ _ _ _ keeps seated.1 in
+    record {
+      begins = begins;
+      later = omega (arith, known, begins);
+      inside = Holds-inside held _ _ _ _ seated.1;
+      counted = Holds-counted held _ _ _ _ seated.1;
+      room = room;
+      few = omega (arith, count, room);
+      spare = spare;
+    }
+
+-- an item call that made an item, with what the seat then has
+pub section_some : (old new : Held) (seat : SeatState) (seat' : Sitting) (request : Request) (reply : Reply) (first seen : ℕ) → MayCall old seat first → ItemCall old new seat.sitting.number (length seat.sitting.items) request (Some reply)
+    → seen ≡ instant new.run → seat' ≡ with_item seat.sitting request reply first seen → ItemSection old new seat.sitting seat' request (Some reply)
+section_some old new seat seat' request reply first seen may adds sees is =
+    let total : seen ≡ first + told_entries reply = sees ∙ (replies_tell_entries old.run new.run request reply adds.step ∙ ap (λ n. n + told_entries reply) (sym may.begins)) in
+    let begins = may.begins in
+    (adds, record { first = first; later = may.later; change = is ∙ ap (with_item seat.sitting request reply first) total })
+
+-- what a snapshot tells the seat that takes it
+pub SeesEntries-is : (held : Held) (old new : Sitting) (s : Snapshot) (tag seen : ℕ) → Keeps held.run held.history held.seats → IsSeated tag held old → IsSnapshot held s → seen ≡ length s.trace.recording.past → new ≡ record old { seen = seen } → SeesEntries old new s.trace.recording.past
+SeesEntries-is held old new s tag seen keeps seated copy sees is =
+    let known = Holds-seen held _ _ _ _ keeps seated.1 in
+    let same : length s.trace.recording.past ≡ instant held.run = ap (λ (r : Recording). length r.past) copy.trace in
+    record {
+      later = omega (arith, known, same);
+      change = is ∙ ap (λ n. record old { seen = n }) sees;
+      shows = λ item last. subst (λ (past : List Entry). Shows past item) (sym (ap (λ (r : Recording). r.past) copy.trace)) (Holds-shows held _ _ _ _ item keeps seated.1 last);
+    }
+
+-- one more seat stands behind the others
+pub seats_snoc : (seats : List SeatState) (seat : SeatState) (f : ℕ → Sitting) (k : ℕ) → length seats ≡ k → ((n : ℕ) → n < k → slice_get (map (λ (s : SeatState). s.sitting) seats) n ≡ Some (f n)) → seat.sitting ≡ f k
+    → (n : ℕ) → n < k + 1 → slice_get (map (λ (s : SeatState). s.sitting) (seats ++ seat ∷ [])) n ≡ Some (f n)
+seats_snoc [] seat f k len each is zero lt = let none : k ≡ 0 = sym len in ap Some (is ∙ ap f none)
+seats_snoc [] seat f k len each is (suc n) lt = absurd (omega (arith, len, lt))
+seats_snoc (s ∷ seats) seat f zero len each is n lt = absurd (omega (arith, len))
+seats_snoc (s ∷ seats) seat f (suc k) len each is zero lt = each 0 (omega arith)
+seats_snoc (s ∷ seats) seat f (suc k) len each is (suc n) lt = seats_snoc seats seat (λ n. f (suc n)) k (omega (arith, len)) (λ n lt. each (suc n) (omega (arith, lt))) is n (omega (arith, lt))

@@ -1,0 +1,63 @@
+-- What a longer trace shows of a delivery.
+use Rattle.std.proofs.Common.{◌≡◌, ◌<◌, ◌∙◌, sym, ap, ℕ, Bool, true, false, List, [], ◌∷◌, length, cond, arith, Some}
+use Rattle.std.specs.Prelude.{◌==◌, Result, Ok, Err, IfOk}
+use Rattle.std.proofs.lemmas.Bool.Decides.{nat_tests}
+use Rattle.causal_name.specs.declared.Det.{Det}
+use Rattle.causal_trace.specs.declared.entry.Entry.{Entry}
+use Rattle.causal_trace.specs.Past.{det_at, det_of}
+use Rattle.causal_name.specs.declared.Pid.{Pid}
+use Rattle.causal_protocol.specs.declared.request.Request.TheVariants as Ask
+use Rattle.causal_protocol.specs.declared.request.Reply.TheVariants as Told
+use Rattle.causal_protocol.specs.declared.request.Delivered.{Delivered}
+use Rattle.causal_protocol.specs.declared.request.Restarted.{Restarted}
+use Rattle.causal_protocol.specs.declared.request.CoreFault.{CoreFault}
+use Rattle.causal_protocol.specs.declared.request.FlushFault.{FlushFault}
+use Rattle.causal_protocol.specs.Run.{Run}
+use Rattle.causal_protocol.specs.Steps.{pushed, LegalStep, Steps, told_delivery, told_crash, told_restart, told_flush, told_forget}
+use Rattle.causal_shared.specs.declared.item.Item.{Item}
+use Rattle.causal_shared.specs.History.{instant, Shows}
+
+det_at-below : (past : List Entry) (k : ℕ) (d : Det) → det_at past k ≡ Some d → k < length past
+det_at-below [] k d is = absurd cc
+det_at-below (e ∷ past) k d is = by_test (λ older. det_at-below past k d older) (k == length past) (λ i. k == length past)
+  where
+    by_test : (det_at past k ≡ Some d → k < length past) → (t : Bool) → (k == length past) ≡ t → k < length (e ∷ past)
+    by_test go true same = let at : k ≡ length past = grind (arith, nat_tests) in omega (arith, at)
+    by_test go false other =
+        let older : det_at past k ≡ Some d = sym (ap (λ t. cond t (det_of past e) (det_at past k)) other) ∙ is in
+        let below = go older in omega (arith, below)
+
+det_at-more : (e : Entry) (past : List Entry) (k : ℕ) → k < length past → det_at (e ∷ past) k ≡ det_at past k
+det_at-more e past k lt = let other : (k == length past) ≡ false = grind (arith, nat_tests) in ap (λ t. cond t (det_of past e) (det_at past k)) other
+
+-- what a trace shows at a position, it shows there as it goes on
+pub det_at-pushed : (es past : List Entry) (k : ℕ) (d : Det) → det_at past k ≡ Some d → det_at (pushed es past) k ≡ Some d
+det_at-pushed [] past k d is = is
+det_at-pushed (e ∷ es) past k d is = det_at-pushed es (e ∷ past) k d (det_at-more e past k (det_at-below past k d is) ∙ is)
+
+-- the item of a delivery that was told is shown where the core shows it
+pub shows_delivery : (old new : Run) (q source : Pid) (ssn : ℕ) (answer : Result Delivered CoreFault) (item : Item) → Steps old (Ask.Deliver q source ssn) (told_delivery answer) new
+    → IfOk answer (λ d. det_at new.recording.past d.first ≡ Some d.det) → item.reply ≡ told_delivery answer → item.first ≡ instant old → Shows new.recording.past item
+unfolding LegalStep
+shows_delivery old new q source ssn (Ok told) item step det is first d reply =
+    let same : told ≡ d = let x : Told.Delivered told ≡ Told.Delivered d = sym is ∙ reply in cc in
+    let place : item.first ≡ told.first = first ∙ sym step.legal.1 in
+    ap (det_at new.recording.past) place ∙ det ∙ ap (λ (x : Delivered). Some x.det) same
+shows_delivery old new q source ssn (Err fault) item step det is first d reply = absurd (let x : Told.Refused fault ≡ Told.Delivered d = sym is ∙ reply in cc)
+
+-- an item that tells no delivery has nothing to show
+pub shows_crash : (past : List Entry) (answer : Result ℕ CoreFault) (item : Item) → item.reply ≡ told_crash answer → Shows past item
+shows_crash past (Ok first) item is d reply = absurd (let x : Told.Crashed first ≡ Told.Delivered d = sym is ∙ reply in cc)
+shows_crash past (Err fault) item is d reply = absurd (let x : Told.Refused fault ≡ Told.Delivered d = sym is ∙ reply in cc)
+
+pub shows_restart : (past : List Entry) (answer : Result Restarted CoreFault) (item : Item) → item.reply ≡ told_restart (λ fault. fault) answer → Shows past item
+shows_restart past (Ok told) item is d reply = absurd (let x : Told.Restarted told ≡ Told.Delivered d = sym is ∙ reply in cc)
+shows_restart past (Err fault) item is d reply = absurd (let x : Told.Refused fault ≡ Told.Delivered d = sym is ∙ reply in cc)
+
+pub shows_flush : (past : List Entry) (answer : Result ℕ FlushFault) (item : Item) → item.reply ≡ told_flush answer → Shows past item
+shows_flush past (Ok count) item is d reply = absurd (let x : Told.Flushed count ≡ Told.Delivered d = sym is ∙ reply in cc)
+shows_flush past (Err fault) item is d reply = absurd (let x : Told.FlushRefused fault ≡ Told.Delivered d = sym is ∙ reply in cc)
+
+pub shows_forget : (past : List Entry) (answer : Result ℕ CoreFault) (item : Item) → item.reply ≡ told_forget answer → Shows past item
+shows_forget past (Ok count) item is d reply = absurd (let x : Told.Forgotten count ≡ Told.Delivered d = sym is ∙ reply in cc)
+shows_forget past (Err fault) item is d reply = absurd (let x : Told.Refused fault ≡ Told.Delivered d = sym is ∙ reply in cc)

@@ -1,0 +1,16 @@
+use Rattle.causal_core.specs.CoreView.{run_of}
+use Rattle.causal_protocol.specs.declared.request.Request.TheVariants as Ask
+use Rattle.causal_shared.specs.History.{item_of}
+use Rattle.causal_shared.proofs.Histories.{count_below}
+use Rattle.causal_shared.proofs.Shown.{shows_delivery}
+use Rattle.causal_shared.proofs.locked.Locked+S.deliver.Goals as goal
+
+pub note-requires-clause-call : goal.note-requires-clause-call
+note-requires-clause-call g c = count_below (run_of c.args.self.now.core) c.args.self.now.history.items c.args.self.now.seats.items c.args.seat c.args.call c.args.self.now.keeps c.requires.seat c.requires.call c.requires.room
+
+pub invariant_of-self-2-clause-keeps : goal.invariant_of-self-2-clause-keeps
+invariant_of-self-2-clause-keeps g c =
+    let run = run_of c.args.self.now.core in
+    let item = item_of c.args.seat c.args.call (Ask.Deliver c.args.q c.args.source c.args.ssn) c.of_delivery.result c.instant_of-first.result in
+    c.note.ensures.keeps run (rw c.reserve.ensures.items c.args.self.now.keeps) (rw c.of_delivery.ensures c.deliver-answer.ensures.step) c.instant_of-first.ensures c.requires.call
+    (shows_delivery run (run_of c.deliver-answer.new.self) c.args.q c.args.source c.args.ssn c.deliver-answer.result item c.deliver-answer.ensures.step c.deliver-answer.ensures.det c.of_delivery.ensures c.instant_of-first.ensures)

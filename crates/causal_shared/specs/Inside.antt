@@ -1,0 +1,4 @@
+-- What models and private functions keep; no public clause cites it.
+pub mod Props
+pub mod Noting
+pub mod Sections

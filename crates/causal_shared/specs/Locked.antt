@@ -1,0 +1,55 @@
+-- The value behind the lock as callers see it.
+use Rattle.std.specs.Prelude.{◌≡◌, ℕ, [], length, replicate, Option, Some, None, Result, Ok, Err}
+use Rattle.causal_trace.specs.Judgement.{IsSafeTrace}
+use Rattle.causal_protocol.specs.Run.{Run}
+use Rattle.causal_core.specs.CoreView.{CoreState, run_of, state_of}
+use Rattle.causal_protocol.specs.declared.request.Request.{Request}
+use Rattle.causal_protocol.specs.declared.request.Reply.{Reply}
+use Rattle.causal_protocol.specs.declared.request.Reply.TheVariants.{Refused, FlushRefused}
+use Rattle.causal_shared.specs.declared.locked.Locked.{Locked}
+use Rattle.causal_shared.specs.declared.fault.LockedFault.{LockedFault}
+use Rattle.causal_shared.specs.declared.fault.LockedFault.TheVariants.{NoRecord, Core, Flush}
+use Rattle.causal_shared.specs.History.{instant, fresh_seat, Held, AddsItem}
+use Rattle.causal_shared.specs.declared.item.Snapshot.{Snapshot}
+
+-- the plain data of the value
+abbrev pub held_of : {S B : Type 0} {Has : _} → Locked S B Has → Held
+held_of l = record { run = run_of l.core; history = l.history.items; seats = l.seats.items }
+
+-- its core: the run, the bodies of the kept messages, and the boxes
+abbrev pub state_under : {S B : Type 0} {Has : _} → Locked S B Has → CoreState B
+state_under l = state_of l.core
+
+-- what an item tells of a refusal: the core's; or no item was made, since the call could not be recorded
+abbrev pub told_fault : LockedFault → Option Reply
+told_fault NoRecord = None
+told_fault (Core fault) = Some (Refused fault)
+told_fault (Flush fault) = Some (FlushRefused fault)
+
+-- what an item tells of an answer
+abbrev pub told : {A : Type 0} → (A → Reply) → Result A LockedFault → Option Reply
+told answer (Ok a) = Some (answer a)
+told answer (Err fault) = told_fault fault
+
+-- an item call: nothing is changed where nothing could be recorded
+abbrev pub ItemCall : Held → Held → ℕ → ℕ → Request → Option Reply → Type 0
+ItemCall old new seat call request None = new ≡ old
+ItemCall old new seat call request (Some reply) = AddsItem old new seat call request reply
+
+-- an item call of the locked value
+abbrev pub Records : {S B : Type 0} {Has : _} → Locked S B Has → Locked S B Has → ℕ → ℕ → Request → Option Reply → Type 0
+Records old new seat call request reply = ItemCall (held_of old) (held_of new) seat call request reply
+
+-- no item over a run, whose entries each of k seats has seen
+abbrev pub opened_over : Run → ℕ → Held
+opened_over r k = record { run = r; history = []; seats = replicate k (fresh_seat (instant r)) }
+
+-- the trace, the number of items, and for how many failures the core runs
+pub record IsSnapshot (held : Held) (s : Snapshot) : Type 0 where
+  pub trace : s.trace.recording ≡ held.run.recording
+  pub calls : s.calls ≡ length held.history
+  pub faults : s.faults ≡ held.run.faults
+
+-- its trace is safe for its number of failures: at no instant does a crash of so many processes leave an orphan
+abbrev pub IsSafeSnapshot : Snapshot → Type 0
+IsSafeSnapshot s = IsSafeTrace s.trace.recording s.faults

@@ -1,0 +1,314 @@
+//! The value behind the lock.
+ghost use Rattle.std.specs.Prelude.{◌≡◌, ℕ, ◌+◌, ◌<◌, ◌≤◌, ◌↔◌, [], ◌∷◌, ◌++◌, length, replicate, vec_len, vec_capacity, slice_set, slice_get, IfOk, IfErr, OnOk, OnErr, IsTrue};
+ghost use Rattle.std.specs.Option.{option_copied};
+ghost use Rattle.causal_core.specs.CoreView.{run_of};
+ghost use Rattle.causal_protocol.specs.Run.{Run};
+ghost use Rattle.causal_protocol.specs.Steps.{Steps};
+ghost use Rattle.causal_shared.specs.History.{Keeps, IsHistory, Holds, Sees, instant, fresh_seat, count_at, with_kept, item_at};
+ghost use Rattle.causal_shared.specs.Inside.Noting.{GoesOn};
+ghost use Rattle.causal_shared.specs.Limits.{max_items, max_seats};
+ghost use Rattle.causal_shared.specs.Inside.Props.{Keeps-prop};
+
+use crate::fault::LockedFault;
+use crate::item::{Item, Items, KeptSeat, Snapshot};
+use crate::limits::MAX_ITEMS;
+use crate::same::same_item;
+use causal_core::runtime::Core;
+use causal_log::Stable;
+use causal_name::{MsgName, NoMemory, Pid};
+use causal_process::Process;
+use causal_protocol::request::{CoreFault, Delivered, Reply, Request};
+use std::alloc::Global;
+
+/// A core, the items of all calls, and what is kept of each seat.
+#[derive(Drop)]
+pub struct Locked<S: Stable, B = Box<dyn Process + Send>> {
+    core: Core<S, B>,
+    history: Vec<Item>,
+    seats: Vec<KeptSeat>,
+    ghost keeps: { Keeps (run_of core) history.items seats.items } by { Keeps-prop (run_of core) history.items seats.items },
+    ghost room: { vec_len history ≤ max_items },
+    ghost few: { vec_len seats ≤ max_seats },
+}
+
+/// How many entries the core has recorded.
+fn instant_of<S: Stable>(core: &Core<S>) -> u32
+    ensures { result ≡ instant (run_of core.now) }
+{
+    core.trace().len()
+}
+
+/// Stores an item, and what is then kept of its seat. Where the item tells the step that led to the core's run, the history
+/// stays legal.
+fn note<S: Stable>(core: &Core<S>, history: &mut Vec<Item>, seats: &mut Vec<KeptSeat>, item: Item)
+    requires seat { item.seat < vec_len seats.old }
+    requires call { item.call < max_items }
+    requires place { vec_len history.old < max_items }
+    requires room { vec_len history.old < vec_capacity history.old }
+    ensures history { history.new.items ≡ history.old.items ++ item ∷ [] }
+    ensures len { vec_len history.new ≡ vec_len history.old + 1 }
+    ensures seats { seats.new.items ≡ with_kept seats.old.items item (instant (run_of core.now)) (vec_len history.old) }
+    ensures same { vec_len seats.new ≡ vec_len seats.old }
+    ensures keeps { GoesOn (run_of core.now) item history.old.items seats.old.items history.new.items seats.new.items }
+{
+    let place = history.len() as u32;
+    let _ = history.push(item);
+    seats[item.seat as usize] = KeptSeat {
+        count: item.call + 1,
+        seen: instant_of(core),
+        last: Some(place),
+    };
+}
+
+/// The item at the place, if there is one.
+fn item_at_place(history: &[Item], place: Option<u32>) -> Option<Item>
+    ensures { result ≡ item_at history.now place }
+{
+    match place {
+        Some(place) => history.get(place as usize).copied(),
+        None => None,
+    }
+}
+
+fn is_same(a: Option<Item>, b: Option<Item>) -> bool
+    ensures { IsTrue result ↔ (a ≡ b) }
+{
+    match (a, b) {
+        (Some(a), Some(b)) => same_item(a, b),
+        (None, None) => true,
+        _ => false,
+    }
+}
+
+fn kept_at(seats: &[KeptSeat], number: u32) -> Option<KeptSeat>
+    ensures { result ≡ slice_get seats.now number }
+{
+    seats.get(number as usize).copied()
+}
+
+impl<S: Stable> Locked<S> {
+    ghost use Rattle.causal_shared.specs.Locked.{held_of, state_under, opened_over, told, Records, IsSnapshot, IsSafeSnapshot};
+    ghost use Rattle.causal_core.specs.CoreView.{state_of, IsUnchanged, Delivers, Crashes};
+    ghost use Rattle.causal_core.specs.Boxes.{SameAnswers};
+    ghost use Rattle.causal_core.specs.Pendings.{pending_in, pending_fault};
+    ghost use Rattle.causal_protocol.specs.Run.{memories_of};
+    ghost use Rattle.causal_protocol.specs.Steps.{reason_of};
+    ghost use Rattle.causal_protocol.specs.declared.request.Request.TheVariants as Ask;
+    ghost use Rattle.causal_protocol.specs.declared.request.Reply.TheVariants as Told;
+
+    /// No item, and each seat has seen all entries.
+    pub fn new(alloc: Global, core: Core<S>, k: u32) -> Result<Locked<S>, NoMemory>
+        requires some { 1 ≤ k }
+        requires few { k ≤ max_seats }
+        ensures held { IfOk result (λ l. held_of l ≡ opened_over (run_of core) k) }
+        ensures core { IfOk result (λ l. state_under l ≡ state_of core) }
+    {
+        let seen = instant_of(&core);
+        let seats = vec![in alloc; KeptSeat {
+            count: 0,
+            seen,
+            last: None
+        }; k as usize]?;
+        Ok(Locked {
+            core,
+            history: Vec::new(alloc),
+            seats,
+        })
+    }
+
+    /// Whether no further item fits.
+    pub fn full(&self) -> bool
+        ensures { IsTrue result ↔ (length (held_of self.now).history ≡ max_items) }
+    {
+        self.history.len() >= MAX_ITEMS
+    }
+
+    /// The number of entries so far.
+    pub(crate) fn instant(&self) -> u32
+        ensures { result ≡ instant (held_of self.now).run }
+    {
+        instant_of(&self.core)
+    }
+
+    pub(crate) fn history(&self) -> &[Item]
+        ensures { result.now ≡ (held_of self.now).history }
+    {
+        self.history.as_slice()
+    }
+
+    pub(crate) fn core(&self) -> &Core<S>
+        ensures { run_of result.now ≡ (held_of self.now).run }
+    {
+        &self.core
+    }
+
+    pub(crate) fn into_parts(self) -> (Core<S>, Items)
+        ensures run { run_of result.0 ≡ (held_of self).run }
+        ensures history { result.1 ≡ (held_of self).history }
+        ensures legal { IsHistory (run_of result.0) result.1 }
+    {
+        let Locked {
+            core,
+            history,
+            seats: _,
+        } = self;
+        (core, Items::new(history))
+    }
+
+    /// Whether the seat, with all that it knows of its calls, is the one that is kept.
+    pub fn holds(&self, number: u32, count: u32, seen: u32, last: Option<&Item>) -> bool
+        ensures { IsTrue result ↔ Holds (held_of self.now) number count seen (option_copied last.entry) }
+    {
+        let Some(kept) = kept_at(self.seats.as_slice(), number) else {
+            return false;
+        };
+        if kept.count != count || kept.seen != seen {
+            return false;
+        }
+        let mine = item_at_place(self.history.as_slice(), kept.last);
+        is_same(mine, last.copied())
+    }
+
+    /// A copy of the trace, which the seat has then seen.
+    pub fn snapshot(&mut self, seat: u32) -> Result<Snapshot, NoMemory>
+        requires { seat < length (held_of self.old).seats }
+        ensures copy { IfOk result (IsSnapshot (held_of self.old)) }
+        ensures safe { IfOk result IsSafeSnapshot }
+        ensures ok { OnOk result (Sees (held_of self.old) (held_of self.new) seat) }
+        ensures core { state_under self.new ≡ state_under self.old }
+        ensures err { OnErr result (held_of self.new ≡ held_of self.old) }
+    {
+        let copy = self.core.trace().try_clone()?;
+        self.seats[seat as usize].seen = instant_of(&self.core);
+        Ok(Snapshot {
+            trace: copy,
+            calls: self.history.len() as u32,
+            faults: self.core.faults(),
+        })
+    }
+
+    /// Delivers to q the message of that sender and number, as this call of the seat.
+    pub fn deliver(
+        &mut self,
+        seat: u32,
+        call: u32,
+        q: Pid,
+        source: Pid,
+        ssn: u32,
+    ) -> Result<Delivered, LockedFault>
+        requires seat { seat < length (held_of self.old).seats }
+        requires call { call ≡ count_at (held_of self.old).seats seat }
+        requires room { length (held_of self.old).history < max_items }
+        ensures item { Records self.old self.new seat call (Ask.Deliver q source ssn) (told Told.Delivered result) }
+        ensures ok { OnOk result (Delivers answers q source ssn (state_under self.old) (state_under self.new)) }
+        ensures refused { OnErr result (IsUnchanged answers (state_under self.old) (state_under self.new)) }
+    {
+        if self.history.reserve(1).is_err() {
+            return Err(LockedFault::NoRecord);
+        }
+        let first = instant_of(&self.core);
+        let answer = self.core.deliver(q, source, ssn);
+        let item = Item {
+            seat,
+            call,
+            request: Request::Deliver { q, source, ssn },
+            reply: Reply::of_delivery(answer),
+            first,
+        };
+        note(&self.core, &mut self.history, &mut self.seats, item);
+        Ok(answer?)
+    }
+
+    /// Takes process p down, as this call of the seat.
+    pub fn crash(&mut self, seat: u32, call: u32, p: Pid) -> Result<u32, LockedFault>
+        requires seat { seat < length (held_of self.old).seats }
+        requires call { call ≡ count_at (held_of self.old).seats seat }
+        requires room { length (held_of self.old).history < max_items }
+        ensures item { Records self.old self.new seat call (Ask.Crash p) (told Told.Crashed result) }
+        ensures ok { OnOk result (Crashes answers p (state_under self.old) (state_under self.new)) }
+        ensures refused { OnErr result (IsUnchanged answers (state_under self.old) (state_under self.new)) }
+    {
+        if self.history.reserve(1).is_err() {
+            return Err(LockedFault::NoRecord);
+        }
+        let first = instant_of(&self.core);
+        let answer = self.core.crash(p);
+        let item = Item {
+            seat,
+            call,
+            request: Request::Crash { p },
+            reply: Reply::of_crash(answer),
+            first,
+        };
+        note(&self.core, &mut self.history, &mut self.seats, item);
+        Ok(answer?)
+    }
+
+    /// Puts what process p logs and does not know to be stable into stable storage, as this call of the seat. Where it stops
+    /// part way, the item tells how many determinants were stored and recorded.
+    ///
+    /// # Errors
+    /// `NoRecord`, which changes nothing; the core's, which are an item.
+    pub fn flush(&mut self, seat: u32, call: u32, p: Pid) -> Result<u32, LockedFault>
+        requires seat { seat < length (held_of self.old).seats }
+        requires call { call ≡ count_at (held_of self.old).seats seat }
+        requires room { length (held_of self.old).history < max_items }
+        ensures item { Records self.old self.new seat call (Ask.Flush p) (told Told.Flushed result) }
+        ensures bodies { (state_under self.new).bodies ≡ (state_under self.old).bodies }
+        ensures boxes { SameAnswers answers (state_under self.old).slots (state_under self.new).slots }
+    {
+        if self.history.reserve(1).is_err() {
+            return Err(LockedFault::NoRecord);
+        }
+        let first = instant_of(&self.core);
+        let answer = self.core.flush(p);
+        let item = Item {
+            seat,
+            call,
+            request: Request::Flush { p },
+            reply: Reply::of_flush(answer),
+            first,
+        };
+        note(&self.core, &mut self.history, &mut self.seats, item);
+        Ok(answer?)
+    }
+
+    /// Takes what process p knows to be stable out of its log, as this call of the seat.
+    ///
+    /// # Errors
+    /// `NoRecord`, which changes nothing; the core's, which are an item and change nothing else.
+    pub fn forget(&mut self, seat: u32, call: u32, p: Pid) -> Result<u32, LockedFault>
+        requires seat { seat < length (held_of self.old).seats }
+        requires call { call ≡ count_at (held_of self.old).seats seat }
+        requires room { length (held_of self.old).history < max_items }
+        ensures item { Records self.old self.new seat call (Ask.Forget p) (told Told.Forgotten result) }
+        ensures bodies { (state_under self.new).bodies ≡ (state_under self.old).bodies }
+        ensures boxes { SameAnswers answers (state_under self.old).slots (state_under self.new).slots }
+    {
+        if self.history.reserve(1).is_err() {
+            return Err(LockedFault::NoRecord);
+        }
+        let first = instant_of(&self.core);
+        let answer = self.core.forget(p);
+        let item = Item {
+            seat,
+            call,
+            request: Request::Forget { p },
+            reply: Reply::of_forget(answer),
+            first,
+        };
+        note(&self.core, &mut self.history, &mut self.seats, item);
+        Ok(answer?)
+    }
+
+    /// The messages that up processes keep for q and that q's present lane has not received, by sender and number.
+    ///
+    /// # Errors
+    /// The first of `NoProcess` and `Down`; where neither stands, `NoMemory` where memory was refused.
+    pub fn pending(&self, q: Pid) -> Result<Vec<MsgName>, CoreFault>
+        ensures ok { IfOk result (λ names. names.items ≡ pending_in (memories_of (held_of self.now).run) q) }
+        ensures refused { IfErr result (λ fault. pending_fault (held_of self.now).run q ≡ reason_of fault) }
+    {
+        self.core.pending(q)
+    }
+}

@@ -1,0 +1,65 @@
+//! What an item tells of an answer, if there is one.
+ghost use Rattle.std.specs.Prelude.{◌≡◌};
+ghost use Rattle.causal_shared.specs.Locked.{told, told_fault};
+ghost use Rattle.causal_shared.specs.Seat.{shared_of};
+ghost use Rattle.causal_protocol.specs.declared.request.Reply.TheVariants as Told;
+
+use crate::fault::{LockedFault, SharedFault};
+use causal_protocol::request::{Delivered, Reply};
+
+/// What an item tells of a refusal; no item is made where the call could not be recorded.
+pub(crate) fn fault_told(fault: LockedFault) -> Option<Reply>
+    ensures { result ≡ told_fault fault }
+{
+    match fault {
+        LockedFault::NoRecord => None,
+        LockedFault::Core(fault) => Some(Reply::Refused(fault)),
+        LockedFault::Flush(fault) => Some(Reply::FlushRefused(fault)),
+    }
+}
+
+pub(crate) fn delivery_told(answer: Result<Delivered, LockedFault>) -> Option<Reply>
+    ensures { result ≡ told Told.Delivered answer }
+{
+    match answer {
+        Ok(delivered) => Some(Reply::Delivered(delivered)),
+        Err(fault) => fault_told(fault),
+    }
+}
+
+pub(crate) fn crash_told(answer: Result<u32, LockedFault>) -> Option<Reply>
+    ensures { result ≡ told Told.Crashed answer }
+{
+    match answer {
+        Ok(first) => Some(Reply::Crashed { first }),
+        Err(fault) => fault_told(fault),
+    }
+}
+
+pub(crate) fn flush_told(answer: Result<u32, LockedFault>) -> Option<Reply>
+    ensures { result ≡ told Told.Flushed answer }
+{
+    match answer {
+        Ok(count) => Some(Reply::Flushed { count }),
+        Err(fault) => fault_told(fault),
+    }
+}
+
+pub(crate) fn forget_told(answer: Result<u32, LockedFault>) -> Option<Reply>
+    ensures { result ≡ told Told.Forgotten answer }
+{
+    match answer {
+        Ok(count) => Some(Reply::Forgotten { count }),
+        Err(fault) => fault_told(fault),
+    }
+}
+
+/// What a caller is told of what the locked value answers.
+pub(crate) fn shared_answer<A: Drop>(answer: Result<A, LockedFault>) -> Result<A, SharedFault>
+    ensures { result ≡ shared_of answer }
+{
+    match answer {
+        Ok(value) => Ok(value),
+        Err(fault) => Err(SharedFault::from(fault)),
+    }
+}

@@ -1,0 +1,138 @@
+//! Equality of items, decided by code.
+ghost use Rattle.std.specs.Prelude.{◌≡◌, ◌↔◌, IsTrue};
+
+use crate::item::Item;
+use causal_name::{Det, MsgName, Pid};
+use causal_protocol::request::{CoreFault, Delivered, FlushFault, Reply, Request, Restarted};
+use causal_trace::entry::Entry;
+
+fn same_pid(a: Pid, b: Pid) -> bool
+    ensures { IsTrue result ↔ (a ≡ b) }
+{
+    a == b
+}
+
+fn same_name(a: MsgName, b: MsgName) -> bool
+    ensures { IsTrue result ↔ (a ≡ b) }
+{
+    a == b
+}
+
+fn same_det(a: Det, b: Det) -> bool
+    ensures { IsTrue result ↔ (a ≡ b) }
+{
+    a == b
+}
+
+fn same_fault(a: CoreFault, b: CoreFault) -> bool
+    ensures { IsTrue result ↔ (a ≡ b) }
+{
+    a == b
+}
+
+fn same_delivered(a: Delivered, b: Delivered) -> bool
+    ensures { IsTrue result ↔ (a ≡ b) }
+{
+    a.first == b.first && same_det(a.det, b.det) && a.sends == b.sends
+}
+
+fn same_restarted(a: Restarted, b: Restarted) -> bool
+    ensures { IsTrue result ↔ (a ≡ b) }
+{
+    a == b
+}
+
+fn same_flush_fault(a: FlushFault, b: FlushFault) -> bool
+    ensures { IsTrue result ↔ (a ≡ b) }
+{
+    same_fault(a.fault, b.fault) && a.done == b.done
+}
+
+fn same_request(a: Request, b: Request) -> bool
+    ensures { IsTrue result ↔ (a ≡ b) }
+{
+    a == b
+}
+
+fn same_reply(a: Reply, b: Reply) -> bool
+    ensures { IsTrue result ↔ (a ≡ b) }
+{
+    match (a, b) {
+        (Reply::Delivered(a), Reply::Delivered(b)) => same_delivered(a, b),
+        (Reply::Crashed { first: a }, Reply::Crashed { first: b }) => a == b,
+        (Reply::Restarted(a), Reply::Restarted(b)) => same_restarted(a, b),
+        (Reply::Flushed { count: a }, Reply::Flushed { count: b }) => a == b,
+        (Reply::Forgotten { count: a }, Reply::Forgotten { count: b }) => a == b,
+        (Reply::Refused(a), Reply::Refused(b)) => same_fault(a, b),
+        (Reply::FlushRefused(a), Reply::FlushRefused(b)) => same_flush_fault(a, b),
+        _ => false,
+    }
+}
+
+/// Whether the items are the same.
+pub(crate) fn same_item(a: Item, b: Item) -> bool
+    ensures { IsTrue result ↔ (a ≡ b) }
+{
+    a.seat == b.seat
+        && a.call == b.call
+        && same_request(a.request, b.request)
+        && same_reply(a.reply, b.reply)
+        && a.first == b.first
+}
+
+fn same_dets(a: &[Det], b: &[Det]) -> bool
+    ensures { IsTrue result ↔ (a.now ≡ b.now) }
+{
+    let mut rest = b;
+    for det in a {
+        match rest {
+            [first, others @ ..] if same_det(*first, *det) => rest = others,
+            _ => return false,
+        }
+    }
+    rest.is_empty()
+}
+
+/// Whether the entries are the same.
+pub(crate) fn same_entry(a: &Entry, b: &Entry) -> bool
+    ensures { IsTrue result ↔ (a.now ≡ b.now) }
+{
+    match (a, b) {
+        (
+            Entry::Send { from, to, ssn },
+            Entry::Send {
+                from: f,
+                to: t,
+                ssn: s,
+            },
+        ) => { same_pid(*from, *f) && same_pid(*to, *t) && *ssn == *s }
+        (
+            Entry::Deliver {
+                to,
+                send,
+                rsn,
+                listed,
+            },
+            Entry::Deliver {
+                to: t,
+                send: s,
+                rsn: r,
+                listed: l,
+            },
+        ) => {
+            same_pid(*to, *t)
+                && *send == *s
+                && *rsn == *r
+                && same_dets(listed.as_slice(), l.as_slice())
+        }
+        (Entry::Stable { det }, Entry::Stable { det: d }) => same_det(*det, *d),
+        (Entry::Crash { who }, Entry::Crash { who: w }) => same_pid(*who, *w),
+        (Entry::Restart { who, listed }, Entry::Restart { who: w, listed: l }) => {
+            same_pid(*who, *w) && same_dets(listed.as_slice(), l.as_slice())
+        }
+        (Entry::Forget { who, listed }, Entry::Forget { who: w, listed: l }) => {
+            same_pid(*who, *w) && same_dets(listed.as_slice(), l.as_slice())
+        }
+        _ => false,
+    }
+}

@@ -1,0 +1,223 @@
+//! The core that several threads share.
+ghost use Rattle.std.specs.Prelude.{◌≡◌, ◌≢◌, ◌↔◌, ◌≤◌, ◌<◌, ℕ, length, ◌⊎◌, All, vec_len, slice_get, map, IfOk, OnErr, Some};
+ghost use Rattle.causal_core.specs.CoreView.{run_of};
+ghost use Rattle.causal_protocol.specs.Runs.{IsSafeRun, HasSingleSlots};
+ghost use Rattle.causal_protocol.specs.declared.request.Request.TheVariants as Ask;
+ghost use Rattle.causal_protocol.specs.declared.request.Reply.TheVariants as Told;
+ghost use Rattle.causal_shared.specs.History.{instant, IsHistory};
+ghost use Rattle.causal_shared.specs.Limits.{max_seats};
+ghost use Rattle.causal_shared.specs.Locked.{held_of, IsSafeSnapshot};
+ghost use Rattle.causal_shared.specs.Finish.{Agrees, IsComplete, IsMismatch, AllSeated, AreSeatsOf, BeginsAt, items_together, before_items};
+ghost use Rattle.causal_shared.specs.Pending.{AreAscending};
+ghost use Rattle.causal_shared.specs.Seat.{AreFresh, SeatCall, SeesEntries, heard};
+ghost use Rattle.causal_shared.specs.Shared.{opening_of, tag_of, seats_of_shared};
+
+use crate::checks::{all_seated, first_mismatch, is_complete, is_opening};
+use crate::fault::{FinishFault, SharedFault};
+use crate::item::{Items, Snapshot};
+use crate::locked::Locked;
+use crate::seat::{
+    Seat, crash_under, deliver_under, flush_under, forget_under, pending_under, snapshot_under,
+};
+use causal_core::runtime::Core;
+use causal_log::Stable;
+use causal_name::{MsgName, NoMemory, Pid};
+use causal_process::Process;
+use causal_protocol::request::Delivered;
+use causal_trace::trace::Trace;
+use std::alloc::Global;
+use std::sync::{Mutex, Wait};
+
+/// A core behind one lock.
+#[derive(Drop)]
+pub struct Shared<S: Stable, B = Box<dyn Process + Send>> {
+    locked: Mutex<Locked<S, B>>,
+    tag: u64,
+    seats: u32,
+    faults: u16,
+    opening: Trace,
+}
+
+impl<S: Stable + Send> Shared<S> {
+    /// Puts the core behind the lock, and makes `k` seats.
+    pub fn open(
+        alloc: Global,
+        core: Core<S>,
+        k: u32,
+        tag: u64,
+    ) -> Result<(Shared<S>, Vec<Seat>), NoMemory>
+        requires some { 1 ≤ k }
+        requires few { k ≤ max_seats }
+        ensures recording { IfOk result (λ r. (opening_of r.0).recording ≡ (run_of core).recording) }
+        ensures faults { IfOk result (λ r. (opening_of r.0).faults ≡ (run_of core).faults) }
+        ensures tag { IfOk result (λ r. tag_of r.0 ≡ tag) }
+        ensures number { IfOk result (λ r. seats_of_shared r.0 ≡ k) }
+        ensures len { IfOk result (λ r. vec_len r.1 ≡ k) }
+        ensures seats { IfOk result (λ r. AreFresh tag (instant (run_of core)) k r.1.items) }
+    {
+        let seen = core.trace().len();
+        let faults = core.faults();
+        let opening = core.trace().try_clone()?;
+        let seats = seats_of(alloc, k, tag, seen)?;
+        let locked = Mutex::new(Locked::new(alloc, core, k)?);
+        let shared = Shared {
+            locked,
+            tag,
+            seats: k,
+            faults,
+            opening,
+        };
+        Ok((shared, seats))
+    }
+
+    /// Delivers to q the message of that sender and number.
+    pub fn deliver<R: Wait>(
+        &self,
+        rt: &R,
+        seat: &mut Seat,
+        q: Pid,
+        source: Pid,
+        ssn: u32,
+    ) -> Result<Delivered, SharedFault>
+        ensures { SeatCall seat.old.sitting seat.new.sitting (Ask.Deliver q source ssn) (heard Told.Delivered result) }
+    {
+        deliver_under(&mut self.locked.lock(rt), self.tag, seat, q, source, ssn)
+    }
+
+    /// Takes process p down.
+    pub fn crash<R: Wait>(&self, rt: &R, seat: &mut Seat, p: Pid) -> Result<u32, SharedFault>
+        ensures { SeatCall seat.old.sitting seat.new.sitting (Ask.Crash p) (heard Told.Crashed result) }
+    {
+        crash_under(&mut self.locked.lock(rt), self.tag, seat, p)
+    }
+
+    /// Puts what process p logs and does not know to be stable into stable storage.
+    ///
+    /// # Errors
+    /// `WrongSeat`, `HistoryFull`, `NoRecord`, which change nothing; `Flush` with the core's fault and how many determinants
+    /// were stored and recorded.
+    pub fn flush<R: Wait>(&self, rt: &R, seat: &mut Seat, p: Pid) -> Result<u32, SharedFault>
+        ensures { SeatCall seat.old.sitting seat.new.sitting (Ask.Flush p) (heard Told.Flushed result) }
+    {
+        flush_under(&mut self.locked.lock(rt), self.tag, seat, p)
+    }
+
+    /// Takes what process p knows to be stable out of its log.
+    ///
+    /// # Errors
+    /// `WrongSeat`, `HistoryFull`, `NoRecord`, `Core` with the core's fault: nothing has changed but, for the last, that the
+    /// item is in the history and the seat's list.
+    pub fn forget<R: Wait>(&self, rt: &R, seat: &mut Seat, p: Pid) -> Result<u32, SharedFault>
+        ensures { SeatCall seat.old.sitting seat.new.sitting (Ask.Forget p) (heard Told.Forgotten result) }
+    {
+        forget_under(&mut self.locked.lock(rt), self.tag, seat, p)
+    }
+
+    /// The messages that up processes keep for q and that q's present lane has not received, by sender and number.
+    ///
+    /// # Errors
+    /// `WrongSeat`; `Core` with `NoProcess`, `Down` or `NoMemory`.
+    pub fn pending<R: Wait>(&self, rt: &R, seat: &Seat, q: Pid) -> Result<Vec<MsgName>, SharedFault>
+        ensures { IfOk result (λ names. AreAscending names.items) }
+    {
+        pending_under(&self.locked.lock(rt), self.tag, seat, q)
+    }
+
+    /// A copy of the trace.
+    pub fn snapshot<R: Wait>(&self, rt: &R, seat: &mut Seat) -> Result<Snapshot, SharedFault>
+        ensures seen { IfOk result (λ s. SeesEntries seat.old.sitting seat.new.sitting s.trace.recording.past) }
+        ensures safe { IfOk result IsSafeSnapshot }
+        ensures err { OnErr result (seat.new.sitting ≡ seat.old.sitting) }
+    {
+        snapshot_under(&mut self.locked.lock(rt), self.tag, seat)
+    }
+}
+
+/// New seats, by their numbers.
+fn seats_of(alloc: Global, k: u32, tag: u64, seen: u32) -> Result<Vec<Seat>, NoMemory>
+    ensures len { IfOk result (λ seats. vec_len seats ≡ k) }
+    ensures seats { IfOk result (λ seats. AreFresh tag seen k seats.items) }
+{
+    let mut seats = Vec::new(alloc);
+    for number in 0..k {
+        seats.push(Seat::new(alloc, number, tag, seen))?;
+    }
+    Ok(seats)
+}
+
+/// What is left of a shared runtime.
+#[derive(Drop)]
+pub struct Finished<S: Stable, B = Box<dyn Process + Send>> {
+    pub core: Core<S, B>,
+    pub history: Items,
+}
+
+/// Ends a shared runtime.
+pub fn finish<S: Stable + Send>(
+    shared: Shared<S>,
+    seats: Vec<Seat>,
+) -> Result<Finished<S>, FinishFault>
+    ensures legal { IfOk result (λ f. IsHistory (run_of f.core) f.history) }
+    ensures safe { IfOk result (λ f. IsSafeRun (run_of f.core)) }
+    ensures single { IfOk result (λ f. HasSingleSlots (run_of f.core)) }
+    ensures opening { IfOk result (λ f. before_items (run_of f.core) f.history ≡ opening_of shared) }
+    ensures seats { IfOk result (λ f. All (Agrees f.history) seats.items) }
+    ensures others { IfOk result (λ f. AllSeated seats.items f.history) }
+    ensures total { IfOk result (λ f. length f.history ≡ items_together seats.items) }
+    ensures missing { result ≡ Err FinishFault.Missing ↔ ¬ AreSeatsOf shared seats.items }
+{
+    let Shared {
+        locked,
+        tag,
+        seats: k,
+        faults,
+        opening,
+    } = shared;
+    settle(
+        locked.into_inner(),
+        seats.as_slice(),
+        tag,
+        k,
+        faults,
+        &opening,
+    )
+}
+
+/// The tests of `finish`, over the value that was behind the lock.
+fn settle<S: Stable>(
+    locked: Locked<S>,
+    seats: &[Seat],
+    tag: u64,
+    k: u32,
+    faults: u16,
+    opening: &Trace,
+) -> Result<Finished<S>, FinishFault>
+    ensures run { IfOk result (λ f. run_of f.core ≡ (held_of locked).run) }
+    ensures history { IfOk result (λ f. f.history ≡ (held_of locked).history) }
+    ensures legal { IfOk result (λ f. IsHistory (run_of f.core) f.history) }
+    ensures safe { IfOk result (λ f. IsSafeRun (run_of f.core)) }
+    ensures single { IfOk result (λ f. HasSingleSlots (run_of f.core)) }
+    ensures opening { IfOk result (λ f. BeginsAt (run_of f.core) f.history opening.now.recording faults) }
+    ensures seats { IfOk result (λ f. All (Agrees f.history) seats.now) }
+    ensures others { IfOk result (λ f. AllSeated seats.now f.history) }
+    ensures total { IfOk result (λ f. length f.history ≡ items_together seats.now) }
+    ensures missing { result ≡ Err FinishFault.Missing ↔ ¬ IsComplete tag k seats.now }
+    ensures mismatch { (n : ℕ) → result ≡ Err (FinishFault.Mismatch n) → IsMismatch (held_of locked).history seats.now n }
+    ensures opened { result ≡ Err FinishFault.Opening
+        → ¬ BeginsAt (held_of locked).run (held_of locked).history opening.now.recording faults }
+{
+    if !is_complete(seats, tag, k) {
+        return Err(FinishFault::Missing);
+    }
+    if let Some(number) = first_mismatch(locked.history(), seats) {
+        return Err(FinishFault::Mismatch(number));
+    }
+    if !all_seated(locked.history(), seats) {
+        return Err(FinishFault::Mismatch(0));
+    }
+    if !is_opening(locked.core(), locked.history(), opening, faults) {
+        return Err(FinishFault::Opening);
+    }
+    let (core, history) = locked.into_parts();
+    Ok(Finished { core, history })
+}
