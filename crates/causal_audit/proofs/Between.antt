@@ -11,14 +11,14 @@ use Rattle.causal_trace.specs.Past.{instant, entry_at, det_at, is_down, is_stabl
 use Rattle.causal_trace.specs.Rows.{AreAccepted, first_fault}
 use Rattle.causal_trace.specs.Dependence.{actor, IsEventOf, Reaches, itself, Depends}
 use Rattle.causal_trace.specs.Judgement.{HasOrphan}
-use Rattle.causal_trace.proofs.Accepted.{delivers_up}
-use Rattle.causal_trace.proofs.Reached.{reaches_begins}
+use Rattle.causal_trace.proofs.Lemmas.Accepted.{delivers_up}
+use Rattle.causal_trace.proofs.Lemmas.Reached.{reaches_begins}
 use Rattle.causal_audit.specs.declared.sight.Sight.{Sight}
 use Rattle.causal_audit.specs.Laws.{gone, IsExposed}
 use Rattle.causal_audit.specs.Quiet.{is_turn, mentioned_by, IsQuiet, AreQuiet, Agree, InstantsAgree, OrphansAgree}
 use Rattle.causal_audit.specs.Sights.{IsSight}
 use Rattle.causal_audit.proofs.Dependence.{IsNoTurn, depends_more, depends_before}
-use Rattle.causal_audit.proofs.Instants.{instants_stay, one_more_instant, last_instant, instant_length, accepted_then, det_then, det_within}
+use Rattle.causal_trace.proofs.Lemmas.AtInstants.{instants_stay, one_more_instant, last_instant, instant_length, accepted_then, det_then, det_within}
 use Rattle.causal_audit.proofs.Judged.{exposed, unexposed}
 use Rattle.causal_audit.proofs.Legal.{sends_up, delivery_event}
 use Rattle.causal_audit.proofs.Orphaned.{not_yet}
@@ -45,7 +45,7 @@ or_false : (a b : Bool) → (a || false) ≡ false → b ≡ (a || b)
 or_false true b h = absurd (false≢true (sym h))
 or_false false b h = refl
 
-logs_stay : (e : Entry) (past : List Entry) (d : Det) → is_turn e ≡ false → has (mentioned_by e) d ≡ false → (p : ℕ) → logs past p d ≡ logs (e ∷ past) p d
+pub logs_stay : (e : Entry) (past : List Entry) (d : Det) → is_turn e ≡ false → has (mentioned_by e) d ≡ false → (p : ℕ) → logs past p d ≡ logs (e ∷ past) p d
 logs_stay (Send from to ssn) past d h l p = refl
 logs_stay (Deliver to send rsn listed) past d h l p = or_unlisted (to.0 == p) (has listed d) (logs past p d) l
 logs_stay (Stable det) past d h l p = refl

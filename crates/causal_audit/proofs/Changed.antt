@@ -15,10 +15,10 @@ use Rattle.causal_audit.specs.Ahead.{AreNoneUntil}
 use Rattle.causal_audit.specs.Changes.{AreChanges}
 use Rattle.causal_audit.specs.declared.changes.Changes.{Changes}
 use Rattle.causal_audit.specs.Quiet.{is_turn, mentioned_by, IsQuiet, AreQuiet}
-use Rattle.causal_audit.specs.Sights.{IsSight, TellsReach}
+use Rattle.causal_audit.specs.Sights.{IsSight, TellsNextReach}
 use Rattle.causal_audit.specs.Stands.{Stands}
 use Rattle.causal_audit.proofs.Between.{next_entry, known_already, instants_agree, sight_agrees}
-use Rattle.causal_audit.proofs.Instants.{accepted_then, instant_length}
+use Rattle.causal_trace.proofs.Lemmas.AtInstants.{accepted_then, instant_length}
 use Rattle.causal_audit.proofs.Orphaned.{tells}
 use Rattle.causal_audit.proofs.Steps.{next_state}
 use Rattle.causal_audit.proofs.Walked.{reaches_then, reaches_whole, event_whole}
@@ -78,8 +78,8 @@ module _ (n : ℕ) (past : List Entry) (formed : AreAccepted n past) (k : ℕ) (
 -- ---- what is known after the next change
 
 pub seen_next : (n : ℕ) (past : List Entry) (formed : AreAccepted n past) (k : ℕ) (d : Det) (t u : ℕ) (x : Entry) → t ≤ u → u < length past → AreQuiet past t u k d → instant past (u + 1) ≡ x ∷ instant past u
-    → (reached : Bool) → TellsReach (instant past u) x k reached → (before after : Sight)
-    → ((n : ℕ) (past : List Entry) (k : ℕ) → AreAccepted n (x ∷ past) → TellsReach past x k reached → IsSight past k d before → IsSight (x ∷ past) k d after)
+    → (reached : Bool) → TellsNextReach (instant past u) x k reached → (before after : Sight)
+    → ((n : ℕ) (past : List Entry) (k : ℕ) → AreAccepted n (x ∷ past) → TellsNextReach past x k reached → IsSight past k d before → IsSight (x ∷ past) k d after)
     → IsSight (instant past t) k d before → IsSight (instant past (u + 1)) k d after
 seen_next n past formed k d t u x up below quiet next reached tells before after sees sight =
     let here : IsSight (instant past u) k d before = sight_agrees (instant past t) (instant past u) k d before (instants_agree n past k d t u formed up (omega (arith, below)) quiet) sight in
@@ -88,7 +88,7 @@ seen_next n past formed k d t u x up below quiet next reached tells before after
 -- the same in a recorded run, by its entries and its clock
 pub seen_at : (r : Recording) (formed : IsWellFormed r) (es : List Entry) → es ≡ entries_of r → (events : List Event) → Stands r.past events → (k : ℕ) (d : Det) → det_at r.past k ≡ Some d → (t u : ℕ) (x : Entry) → t ≤ u → u < length r.past → AreQuiet r.past t u k d → x ≡ get_or es u x
     → (reached : Bool) → (reached ≡ true) ↔ clock.Reaches events k u → (before after : Sight)
-    → ((n : ℕ) (past : List Entry) (k : ℕ) → AreAccepted n (x ∷ past) → TellsReach past x k reached → IsSight past k d before → IsSight (x ∷ past) k d after)
+    → ((n : ℕ) (past : List Entry) (k : ℕ) → AreAccepted n (x ∷ past) → TellsNextReach past x k reached → IsSight past k d before → IsSight (x ∷ past) k d after)
     → IsSight (instant r.past t) k d before → IsSight (instant r.past (u + 1)) k d after
 seen_at r formed es read events stands k d at t u x up below quiet is reached same before after sees sight =
     let next : instant r.past (u + 1) ≡ x ∷ instant r.past u = next_state r es read u x below is in

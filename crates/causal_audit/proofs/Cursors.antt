@@ -42,7 +42,7 @@ module _ (list : List ℕ) (from passed : ℕ) (ascending : IsNonDecreasing list
 
 -- ---- what has been passed below a number has been passed below a higher one
 
-cursor_later : (list : List ℕ) (from to : ℕ) (cursor : _) → from ≤ to → IsCursor list from cursor → IsCursor list to cursor
+pub cursor_later : (list : List ℕ) (from to : ℕ) (cursor : _) → from ≤ to → IsCursor list from cursor → IsCursor list to cursor
 cursor_later list from to cursor up is = record {
   over = is.over;
   ascending = is.ascending;

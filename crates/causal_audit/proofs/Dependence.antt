@@ -12,9 +12,9 @@ use Rattle.causal_trace.specs.declared.entry.Entry.TheVariants.{Send, Deliver, S
 use Rattle.causal_trace.specs.Past.{is_down, lane}
 use Rattle.causal_trace.specs.Rows.{AreAccepted}
 use Rattle.causal_trace.specs.Dependence.{actor, IsEventOf, DirectlyPrecedes, in_order, by_message, Reaches, itself, onward, Depends}
-use Rattle.causal_trace.proofs.Reached.{event_below, reaches_old, depends_restarted}
-use Rattle.causal_trace.proofs.Accepted.{accepted_forward, delivers_up}
-use Rattle.causal_audit.specs.Sights.{AreDependents, TellsReach}
+use Rattle.causal_trace.proofs.Lemmas.Reached.{event_below, reaches_old, depends_restarted}
+use Rattle.causal_trace.proofs.Lemmas.Accepted.{accepted_forward, delivers_up}
+use Rattle.causal_audit.specs.Sights.{AreDependents, TellsNextReach}
 use Rattle.causal_audit.proofs.Legal.{sends_up}
 use Rattle.causal_audit.proofs.Shown.{inserted, removed}
 
@@ -111,9 +111,9 @@ no_event : {G : Type 0} (e : Entry) (p : ℕ) → actor e ≡ None → actor e �
 no_event e p none who = absurd (let x : None ≡ Some p = sym none ∙ who in cc)
 
 -- the same, at an entry that is known by an equation
-module _ (n : ℕ) (x : Entry) (past : List Entry) (k : ℕ) (formed : AreAccepted n (x ∷ past)) (reached : Bool) (tells : TellsReach past x k reached) (s : FinSet nat_cmp) (are : AreDependents past k s) where
+module _ (n : ℕ) (x : Entry) (past : List Entry) (k : ℕ) (formed : AreAccepted n (x ∷ past)) (reached : Bool) (tells : TellsNextReach past x k reached) (s : FinSet nat_cmp) (are : AreDependents past k s) where
   abbrev After : Entry → FinSet nat_cmp → Type 0
-  After y t = AreAccepted n (y ∷ past) → TellsReach past y k reached → AreDependents (y ∷ past) k t
+  After y t = AreAccepted n (y ∷ past) → TellsNextReach past y k reached → AreDependents (y ∷ past) k t
 
   at_entry : (y : Entry) (t : FinSet nat_cmp) → x ≡ y → After y t → AreDependents (x ∷ past) k t
   at_entry y t is h = subst (λ z. After z t) (sym is) h formed tells

@@ -8,7 +8,7 @@ use Rattle.std.proofs.lemmas.Bool.{false≢true, or_cases}
 use Rattle.causal_name.specs.declared.Det.{Det}
 use Rattle.causal_name.specs.Sets.{count_below}
 use Rattle.causal_holders.specs.Members.{IsLeast}
-use Rattle.causal_holders.proofs.Counting.{members_counted}
+use Rattle.causal_holders.proofs.Lemmas.Counting.{members_counted}
 use Rattle.causal_trace.specs.declared.entry.Entry.{Entry}
 use Rattle.causal_trace.specs.Past.{is_down, logs, det_at}
 use Rattle.causal_trace.specs.Dependence.{Depends}

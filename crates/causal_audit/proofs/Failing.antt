@@ -8,12 +8,13 @@ use Rattle.causal_trace.specs.Past.{instant}
 use Rattle.causal_trace.specs.State.{past_at}
 use Rattle.causal_trace.specs.Rows.{Recording, AreAccepted}
 use Rattle.causal_trace.specs.Judgement.{HasOrphan, IsSafe}
-use Rattle.causal_trace.proofs.Accepted.{accepted_forward}
-use Rattle.causal_trace.proofs.Instants.{past_length, instant_past, det_beyond}
+use Rattle.causal_trace.proofs.Lemmas.Accepted.{accepted_forward}
+use Rattle.causal_trace.proofs.Lemmas.Instants.{past_length, instant_past, det_beyond}
+use Rattle.causal_trace.specs.Dependence.{AreForward}
 use Rattle.causal_audit.specs.declared.verdict.Verdict.{Verdict}
 use Rattle.causal_audit.specs.declared.verdict.Verdict.TheVariants.{Accept, Exceeded, Orphan}
 use Rattle.causal_audit.specs.Verdicts.{IsFirstUnsafe, IsExcess, IsBreach, IsVerdict}
-use Rattle.causal_audit.specs.Plain.{DeliversEarlier, IsFailure}
+use Rattle.causal_audit.specs.Plain.{IsFailure}
 
 -- the earlier states of a well-formed trace
 
@@ -21,7 +22,7 @@ accepted_below : (n : ℕ) (newer past : List Entry) → AreAccepted n (newer ++
 accepted_below n [] past h = h
 accepted_below n (e ∷ newer) past h = accepted_below n newer past h.0
 
-pub earlier_prefix : (n : ℕ) (es : List Entry) (t : ℕ) → AreAccepted n (reverse es) → DeliversEarlier (past_at es t)
+pub earlier_prefix : (n : ℕ) (es : List Entry) (t : ℕ) → AreAccepted n (reverse es) → AreForward (past_at es t)
 earlier_prefix n es t h =
     let split : reverse es ≡ reverse (drop t es) ++ reverse (take t es) = ap reverse (sym (take-append-drop t es)) ∙ reverse-append (take t es) (drop t es) in
     accepted_forward n (past_at es t) (accepted_below n (reverse (drop t es)) (past_at es t) (subst (AreAccepted n) split h))

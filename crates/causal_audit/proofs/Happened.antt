@@ -8,8 +8,8 @@ use Rattle.causal_trace.specs.declared.entry.Entry.{Entry}
 use Rattle.causal_trace.specs.Past.{lane}
 use Rattle.causal_trace.specs.State.{past_at}
 use Rattle.causal_trace.specs.Dependence.{actor, is_delivery_of, IsEventOf, Delivers, DirectlyPrecedes, in_order, by_message}
-use Rattle.causal_trace.proofs.Instants.{past_whole, past_length}
-use Rattle.causal_trace.proofs.Reached.{event_below}
+use Rattle.causal_trace.proofs.Lemmas.Instants.{past_whole, past_length}
+use Rattle.causal_trace.proofs.Lemmas.Reached.{event_below}
 
 past_next : (es : List Entry) (t : ℕ) (d : Entry) → suc t ≤ length es → past_at es (suc t) ≡ get_or es t d ∷ past_at es t
 past_next es t d within =

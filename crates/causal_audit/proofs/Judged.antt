@@ -8,7 +8,7 @@ use Rattle.causal_trace.specs.declared.entry.Entry.{Entry}
 use Rattle.causal_trace.specs.Past.{is_down, logs, is_stable, det_at}
 use Rattle.causal_trace.specs.Dependence.{Depends}
 use Rattle.causal_trace.specs.Judgement.{IsCrashSet, IsOrphan, HasOrphan, IsSafe}
-use Rattle.causal_holders.proofs.Counting.{count_below-within, count_below-le}
+use Rattle.causal_holders.proofs.Lemmas.Counting.{count_below-within, count_below-le}
 use Rattle.causal_audit.specs.Laws.{gone, IsExposed, OrphansAreCounted, CrashSetsContain, GoneIsCrashSet, NoOrphansCondition}
 
 module _ (n f : ℕ) (past : List Entry) (k : ℕ) (d : Det) (at : det_at past k ≡ Some d) where

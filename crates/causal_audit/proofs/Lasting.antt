@@ -5,13 +5,13 @@ use Rattle.std.proofs.lemmas.Bool.{cases_lt, false≢true}
 use Rattle.causal_name.specs.declared.Det.{Det}
 use Rattle.causal_name.specs.Names.{same_det}
 use Rattle.causal_name.specs.Sets.{count_below}
-use Rattle.causal_holders.proofs.Counting.{count_below-within}
+use Rattle.causal_holders.proofs.Lemmas.Counting.{count_below-within}
 use Rattle.causal_trace.specs.declared.entry.Entry.{Entry}
 use Rattle.causal_trace.specs.declared.entry.Entry.TheVariants.{Send, Deliver, Stable, Crash, Restart, Forget}
 use Rattle.causal_trace.specs.Past.{instant, is_down, is_stable, logs, has}
 use Rattle.causal_audit.specs.Laws.{gone}
 use Rattle.causal_audit.specs.Lasting.{may_release, NoneReleasedFrom, IsOver, IsOverAt, OrphansEnd}
-use Rattle.causal_audit.proofs.Instants.{instants_stay, one_more_instant, last_instant, instant_length, det_then}
+use Rattle.causal_trace.proofs.Lemmas.AtInstants.{instants_stay, one_more_instant, last_instant, instant_length, det_then}
 use Rattle.causal_audit.proofs.Judged.{exposed}
 use Rattle.causal_audit.proofs.Orphaned.{not_yet}
 
@@ -41,7 +41,7 @@ or_more : (a b : Bool) → b ≡ true → (a || b) ≡ true
 or_more true b h = refl
 or_more false b h = h
 
-stable_more : (e : Entry) (past : List Entry) (d : Det) → is_stable past d ≡ true → is_stable (e ∷ past) d ≡ true
+pub stable_more : (e : Entry) (past : List Entry) (d : Det) → is_stable past d ≡ true → is_stable (e ∷ past) d ≡ true
 stable_more (Send from to ssn) past d h = h
 stable_more (Deliver to send rsn listed) past d h = h
 stable_more (Stable det) past d h = or_more (same_det d det) (is_stable past d) h
@@ -63,7 +63,7 @@ or_turned : (w a b : Bool) → (a || b) ≡ true → ((w || a) || (not w && b)) 
 or_turned true a b h = refl
 or_turned false a b h = h
 
-gone_more : (e : Entry) (past : List Entry) (d : Det) (p : ℕ) → may_release e ≡ false → gone past d p ≡ true → gone (e ∷ past) d p ≡ true
+pub gone_more : (e : Entry) (past : List Entry) (d : Det) (p : ℕ) → may_release e ≡ false → gone past d p ≡ true → gone (e ∷ past) d p ≡ true
 gone_more (Send from to ssn) past d p stays h = h
 gone_more (Deliver to send rsn listed) past d p stays h = or_between (is_down past p) (logs past p d) (to.0 == p && has listed d) h
 gone_more (Stable det) past d p stays h = h

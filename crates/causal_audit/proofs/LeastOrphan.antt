@@ -6,17 +6,17 @@ use Rattle.std.specs.Cmp.{nat_cmp_total}
 use Rattle.std.specs.FinSet.{FinSet, contains, is_subset, len, is_subset-contains, contains-is_subset}
 use Rattle.causal_name.specs.declared.Det.{Det}
 use Rattle.causal_holders.specs.Members.{HasMembers, IsLeast}
-use Rattle.causal_holders.specs.Words.{numbers_below}
-use Rattle.causal_holders.proofs.Counting.{len_counted, members_counted, numbers_below_members}
+use Rattle.causal_holders.specs.Inside.Words.{numbers_below}
+use Rattle.causal_holders.proofs.Lemmas.Counting.{len_counted, members_counted, numbers_below_members}
 use Rattle.causal_trace.specs.declared.entry.Entry.{Entry}
 use Rattle.causal_trace.specs.Past.{is_down, logs, det_at}
 use Rattle.causal_trace.specs.Judgement.{IsCrashSet, IsOrphan, HasOrphan}
 use Rattle.causal_audit.specs.Laws.{gone}
 use Rattle.causal_audit.specs.Verdicts.{IsLeastOrphan}
-use Rattle.causal_audit.specs.Plain.{AreDependents, AreCrashSets, IsLost, AreOrphans, AreBreaking, IsLeastSet, HasNoLeast}
+use Rattle.causal_audit.specs.Plain.{AreDependentProcesses, AreCrashSets, IsLost, AreOrphans, AreBreaking, IsLeastSet, HasNoLeast}
 use Rattle.causal_audit.proofs.Judged.{crash_contains, orphan_without, exposed, gone_crash, gone_orphan}
 
-module _ (n f : ℕ) (past : List Entry) (k : ℕ) (d : Det) (at : det_at past k ≡ Some d) (dependents down : FinSet nat_cmp) (depend : AreDependents n past k dependents) (are_down : HasMembers n down (is_down past)) (sets found : List (FinSet nat_cmp)) (listed : AreCrashSets n f down sets) (broken : AreBreaking n past d dependents sets found) where
+module _ (n f : ℕ) (past : List Entry) (k : ℕ) (d : Det) (at : det_at past k ≡ Some d) (dependents down : FinSet nat_cmp) (depend : AreDependentProcesses n past k dependents) (are_down : HasMembers n down (is_down past)) (sets found : List (FinSet nat_cmp)) (listed : AreCrashSets n f down sets) (broken : AreBreaking n past d dependents sets found) where
   -- a set that is found is a crash set, and the dependents that survive it are orphans
   found_crash : (s : FinSet nat_cmp) → Contains found s → IsCrashSet n f past (contains s)
   found_crash s h =

@@ -12,8 +12,8 @@ use Rattle.causal_trace.specs.declared.fault.TraceFault.TheVariants.{NotUp, Lane
 use Rattle.causal_trace.specs.Past.{is_down, lane, restarts, listed_in, listed_by, entry_at, is_send_to, is_sent_to, det_of, det_at}
 use Rattle.causal_trace.specs.Rows.{rows, first_fault, AreAccepted}
 use Rattle.causal_trace.specs.Dependence.{actor, is_delivery_of, IsEventOf, Delivers}
-use Rattle.causal_trace.proofs.Accepted.{row_fails, delivers_sent}
-use Rattle.causal_trace.proofs.Formed.{within_limits, limits}
+use Rattle.causal_trace.proofs.Lemmas.Accepted.{row_fails, delivers_sent}
+use Rattle.causal_trace.proofs.Lemmas.Formed.{within_limits, limits}
 use Rattle.causal_audit.proofs.Shown.{send_inside, deliver_inside}
 
 module _ (n : ℕ) (past : List Entry) where

@@ -1,18 +1,19 @@
+pub mod Lemmas
 pub mod Begun
 pub mod Between
 pub mod Changed
+pub mod Covering
 pub mod Cursors
 pub mod Dependence
-pub mod DetSearch
 pub mod Exposure
 mod Failing
 pub mod Filings
 pub mod Firsts
 pub mod Happened
-pub mod Instants
+pub mod HeldOutside
 pub mod Judged
+pub mod Known
 pub mod Lasting
-pub mod LeastLemmas
 pub mod LeastOrphan
 pub mod Legal
 pub mod Link
@@ -23,12 +24,14 @@ pub mod Mentioned
 pub mod Mirrored
 pub mod Noted
 pub mod Numbered
-pub mod OneVerdict
 pub mod Orphaned
+pub mod Outward
 mod Prefix
 pub mod Shown
+pub mod Spreading
 pub mod Steps
 mod Subsets
+pub mod Swept
 pub mod Turned
 pub mod VerdictLemmas
 pub mod Walked

@@ -5,8 +5,8 @@ use Rattle.std.proofs.lemmas.Bool.{cases_lt}
 use Rattle.causal_trace.specs.declared.entry.Entry.{Entry}
 use Rattle.causal_trace.specs.Rows.{AreAccepted}
 use Rattle.causal_trace.specs.Dependence.{IsEventOf, Delivers, DirectlyPrecedes, in_order, by_message, Reaches, itself, onward}
-use Rattle.causal_trace.proofs.Reached.{event_below}
-use Rattle.causal_trace.proofs.Accepted.{accepted_forward}
+use Rattle.causal_trace.proofs.Lemmas.Reached.{event_below}
+use Rattle.causal_trace.proofs.Lemmas.Accepted.{accepted_forward}
 use Rattle.causal_clock.specs.declared.Event.{Event}
 use Rattle.causal_clock.specs.Timeline.{lane_of}
 use Rattle.causal_clock.specs.Precedence as clock

@@ -6,11 +6,11 @@ use Rattle.std.proofs.lemmas.List.{get_or_append_left}
 use Rattle.std.proofs.lemmas.Bool.Decides.{eqb_tells}
 use Rattle.causal_trace.specs.declared.entry.Entry.{Entry}
 use Rattle.causal_trace.specs.Past.{is_down, lane}
-use Rattle.causal_trace.specs.Dependence.{IsEventOf, DirectlyPrecedes, in_order, by_message, Reaches, itself, onward, Depends}
-use Rattle.causal_trace.proofs.Reached.{event_below}
-use Rattle.causal_audit.specs.Plain.{DeliversEarlier, MarksReached, FollowsMarked, HasMarkedEvent}
+use Rattle.causal_trace.specs.Dependence.{AreForward, IsEventOf, DirectlyPrecedes, in_order, by_message, Reaches, itself, onward, Depends}
+use Rattle.causal_trace.proofs.Lemmas.Reached.{event_below}
+use Rattle.causal_audit.specs.Plain.{MarksReached, FollowsMarked, HasMarkedEvent}
 
-precedes_before : (past : List Entry) (i j : ℕ) → DeliversEarlier past → DirectlyPrecedes past i j → i < j
+precedes_before : (past : List Entry) (i j : ℕ) → AreForward past → DirectlyPrecedes past i j → i < j
 precedes_before past i j forward (in_order p l h a b) = h
 precedes_before past i j forward (by_message h) = forward j i h
 
@@ -24,7 +24,7 @@ reached_by past k j (itself p l at) = is_start refl p l at
 reached_by past k j (onward {j = i} r d) = follows i r d
 
 -- what is reached is the start, or follows a marked position
-pub reached_last : {G : Type 0} (past : List Entry) (k j : ℕ) (marks : List Bool) → DeliversEarlier past → length marks ≡ j → MarksReached past k marks
+pub reached_last : {G : Type 0} (past : List Entry) (k j : ℕ) (marks : List Bool) → AreForward past → length marks ≡ j → MarksReached past k marks
     → (j ≡ k → (p l : ℕ) → IsEventOf past j p l → G) → (FollowsMarked past marks j → G) → Reaches past k j → G
 reached_last {G} past k j marks forward long before start after r = go (reached_by past k j r)
   where

@@ -7,8 +7,8 @@ use Rattle.std.specs.FinSet.{FinSet, contains, insert, empty, contains-empty, co
 use Rattle.std.proofs.lemmas.Bool.{false≢true, both_ways, false_from_ne_true, or_cases, or_right, eqb-true, eq-eqb, ne_eqb}
 use Rattle.std.proofs.lemmas.Bool.Decides.{eqb_tells}
 use Rattle.causal_holders.specs.Members.{HasMembers}
-use Rattle.causal_holders.specs.Same.{have_same_members, have_same_members-itself, same_members_equal}
-use Rattle.causal_holders.proofs.Sets.{empty_or_member}
+use Rattle.causal_holders.specs.Inside.Same.{have_same_members, have_same_members-itself, same_members_equal}
+use Rattle.causal_holders.proofs.Lemmas.Sets.{empty_or_member}
 use Rattle.causal_audit.specs.Plain.{HasJust}
 
 pub empty_without : (q : ℕ) → contains {R = nat_cmp} empty q ≡ true → ⊥

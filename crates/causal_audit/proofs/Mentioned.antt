@@ -1,13 +1,13 @@
 -- The lists of the entries that mention each determinant.
 use Rattle.std.proofs.Common.{ℕ, ◌≡◌, ◌+◌, ◌<◌, inl, inr, Bool, true, false, cond, List, [], ◌∷◌, ◌++◌, length, Option, Some, None, refl, sym, ap, subst, ◌∙◌, arith, length-append}
-use Rattle.std.specs.Prelude.{◌==◌, ◌&&◌, ◌||◌, Contains}
+use Rattle.std.specs.Prelude.{◌⊎◌, ◌==◌, ◌&&◌, ◌||◌, Contains}
 use Rattle.std.specs.HashMap.{get}
 use Rattle.std.specs.List.{All}
 use Rattle.std.specs.List.Sorted.{IsNonDecreasing}
 use Rattle.std.specs.Option.{option_map_or}
 use Rattle.std.proofs.Math.ListN.{get_or-append}
 use Rattle.std.proofs.Math.Seq.{get_or-append_seam}
-use Rattle.std.proofs.lemmas.Bool.{false≢true, eqb-true, and_parts, or_cases, cases_Bool, cond-true, cond-false}
+use Rattle.std.proofs.lemmas.Bool.{cases_lt, false≢true, eq-eqb, ne_eqb, eqb-true, and_parts, or_cases, cases_Bool, cond-true, cond-false}
 use Rattle.std.proofs.lemmas.Bool.Decides.{eqb_tells}
 use Rattle.std.proofs.lemmas.List.{length-set}
 use Rattle.std.proofs.lemmas.List.Elements.{All-push}
@@ -15,10 +15,11 @@ use Rattle.causal_name.specs.declared.Det.{Det}
 use Rattle.causal_name.specs.Names.{same_det}
 use Rattle.causal_trace.specs.declared.entry.Entry.{Entry}
 use Rattle.causal_trace.specs.Past.{entry_at, has}
+use Rattle.causal_trace.proofs.Lemmas.Instants.{entry_beyond}
 use Rattle.causal_audit.specs.Changes.{HasMentions}
-use Rattle.causal_audit.specs.Filed.{Ascends, AreMentions, AreMentionsWith, AreNumbered, Numbers, list_at, mentions_of, with_added}
+use Rattle.causal_audit.specs.Filed.{Ascends, AreApart, AreMentions, AreMentionsWith, AreNumbered, Numbers, list_at, mentions_of, with_added}
 use Rattle.causal_audit.specs.Quiet.{mentioned_by}
-use Rattle.causal_audit.proofs.Filings.{added_has, added_keeps, added_ascend, ascend_weaker}
+use Rattle.causal_audit.proofs.Filings.{added_cases, added_has, added_keeps, added_ascend, ascend_weaker}
 
 -- determinants that are the same are one
 same_is : (x y : Det) → same_det x y ≡ true → x ≡ y
@@ -49,6 +50,12 @@ module _ (numbers new : Numbers) (lists : List (List ℕ)) (det : Det) (none : g
         | inr other ↦ omega (arith, longer, numbered d m (sym (updates d ∙ cond-false (same_det det d) (Some (length lists)) (get same_det numbers d) other) ∙ at))
       ]
 
+  clash : (c d : Det) (m : ℕ) → same_det det c ≡ true → same_det det d ≡ false → get same_det new c ≡ Some m → get same_det new d ≡ Some m → ⊥
+  clash c d m same other at to =
+      let is : Some (length lists) ≡ Some m = sym (updates c ∙ cond-true (same_det det c) (Some (length lists)) (get same_det numbers c) same) ∙ at in
+      let it : length lists ≡ m = cc is in
+      omega (arith, it, numbered d m (sym (updates d ∙ cond-false (same_det det d) (Some (length lists)) (get same_det numbers d) other) ∙ to))
+
   old_list : (o : Option ℕ) → ((m : ℕ) → o ≡ Some m → m < length lists) → option_map_or (list_at (lists ++ [] ∷ [])) o [] ≡ option_map_or (list_at lists) o []
   old_list None inside = refl
   old_list (Some m) inside = get_or-append lists ([] ∷ []) [] m (inside m refl)
@@ -63,6 +70,21 @@ module _ (numbers new : Numbers) (lists : List (List ℕ)) (det : Det) (none : g
         | inr other ↦
             ap (λ o. option_map_or (list_at (lists ++ [] ∷ [])) o []) (updates d ∙ cond-false (same_det det d) (Some (length lists)) (get same_det numbers d) other)
             ∙ old_list (get same_det numbers d) (numbered d)
+      ]
+
+  pub new_apart : AreApart numbers → AreApart new
+  new_apart apart c d m at to =
+      elim (cases_Bool (same_det det c)) [
+        | inl same_c ↦ elim (cases_Bool (same_det det d)) [
+          | inl same_d ↦ subst (λ x. same_det x d ≡ true) (same_is det c same_c) same_d
+          | inr other ↦ absurd (clash c d m same_c other at to)
+        ]
+        | inr other_c ↦ elim (cases_Bool (same_det det d)) [
+          | inl same_d ↦ absurd (clash d c m same_d other_c to at)
+          | inr other ↦
+              apart c d m (sym (updates c ∙ cond-false (same_det det c) (Some (length lists)) (get same_det numbers c) other_c) ∙ at)
+              (sym (updates d ∙ cond-false (same_det det d) (Some (length lists)) (get same_det numbers d) other) ∙ to)
+        ]
       ]
 
 pub new_ascend : (bound : ℕ) (lists : List (List ℕ)) → All (Ascends bound) lists → All (Ascends bound) (lists ++ [] ∷ [])
@@ -87,6 +109,23 @@ keeps_of : (o : Option ℕ) (lists : List (List ℕ)) (m v w : ℕ) → m < leng
 keeps_of None lists m v w there has = has
 keeps_of (Some j) lists m v w there has = added_keeps lists m v there j w has
 
+-- and what it has then, it had, or it is the list with one more position
+cases_of : (o : Option ℕ) (lists : List (List ℕ)) (m v w : ℕ) → m < length lists → Contains (option_map_or (list_at (with_added lists m v)) o []) w → Contains (option_map_or (list_at lists) o []) w ⊎ ((o ≡ Some m) × (v ≡ w))
+cases_of None lists m v w there has = inl has
+cases_of (Some j) lists m v w there has =
+    elim (added_cases lists m v there j w has) [
+      | inl old ↦ inl old
+      | inr new ↦ inr (ap (λ x. Some x) new.0, new.1)
+    ]
+
+or_more : (a b : Bool) → a ≡ true → (a || b) ≡ true
+or_more true b h = refl
+or_more false b h = absurd (false≢true h)
+
+more_or : (a b : Bool) → b ≡ true → (a || b) ≡ true
+more_or true b h = refl
+more_or false b h = h
+
 pub mentions_more : (past : List Entry) (dets : List Det) (numbers : Numbers) (lists : List (List ℕ)) (det : Det) (m : ℕ) → get same_det numbers det ≡ Some m → AreMentionsWith past dets numbers lists → AreMentionsWith past (dets ++ det ∷ []) numbers (with_added lists m (length past))
 mentions_more past dets numbers lists det m at are =
     let there = are.numbered det m at in
@@ -100,19 +139,36 @@ mentions_more past dets numbers lists det m at are =
             subst (λ o. Contains (option_map_or (list_at (with_added lists m (length past))) o []) (length past)) (sym (ap (get same_det numbers) (same_is d det now) ∙ at))
             (added_has lists m (length past) there)
       ];
+      apart = are.apart;
+      only = λ d v listed. elim (cases_of (get same_det numbers d) lists m (length past) v there listed) [
+        | inl old ↦ elim (are.only d v old) [
+          | inl before ↦ inl before
+          | inr now ↦ inr (now.0, has_more dets det d ∙ or_more (has dets d) (same_det d det) now.1)
+        ]
+        | inr new ↦ inr (sym new.1, has_more dets det d ∙ more_or (has dets d) (same_det d det) (are.apart d det m new.0 at))
+      ];
     }
 
 -- ---- with a new number the lists say the same
 
-pub mentions_alike : (past : List Entry) (dets : List Det) (numbers new : Numbers) (lists more : List (List ℕ)) → AreNumbered new more → ((bound : ℕ) → All (Ascends bound) lists → All (Ascends bound) more) → ((d : Det) → mentions_of new more d ≡ mentions_of numbers lists d) → AreMentionsWith past dets numbers lists → AreMentionsWith past dets new more
-mentions_alike past dets numbers new lists more numbered ascend same are = record {
+pub mentions_alike : (past : List Entry) (dets : List Det) (numbers new : Numbers) (lists more : List (List ℕ)) → AreNumbered new more → AreApart new → ((bound : ℕ) → All (Ascends bound) lists → All (Ascends bound) more) → ((d : Det) → mentions_of new more d ≡ mentions_of numbers lists d) → AreMentionsWith past dets numbers lists → AreMentionsWith past dets new more
+mentions_alike past dets numbers new lists more numbered apart ascend same are = record {
   numbered = numbered;
   ascend = ascend (length past + 1) are.ascend;
   mentioned = λ d. subst (HasMentions past d) (sym (same d)) (are.mentioned d);
   noted = λ d listed. subst (λ list. Contains list (length past)) (sym (same d)) (are.noted d listed);
+  apart = apart;
+  only = λ d v listed. are.only d v (subst (λ list. Contains list v) (same d) listed);
 }
 
 -- ---- one more entry
+
+entry_within : (past : List Entry) (v : ℕ) (e : Entry) → entry_at past v ≡ Some e → v < length past
+entry_within past v e at =
+    elim (cases_lt v (length past)) [
+      | inl below ↦ below
+      | inr beyond ↦ absurd (let x : None ≡ Some e = sym (entry_beyond past v beyond) ∙ at in cc)
+    ]
 
 pub mentions_begun : (past : List Entry) (numbers : Numbers) (lists : List (List ℕ)) → AreMentions past numbers lists → AreMentionsWith past [] numbers lists
 mentions_begun past numbers lists are = record {
@@ -120,6 +176,8 @@ mentions_begun past numbers lists are = record {
   ascend = ascend_weaker (length past) (length past + 1) lists (omega arith) are.ascend;
   mentioned = are.mentioned;
   noted = λ d listed. absurd (false≢true listed);
+  apart = are.apart;
+  only = λ d v listed. inl (are.only d v listed);
 }
 
 pub mentions_done : (e : Entry) (past : List Entry) (numbers : Numbers) (lists : List (List ℕ)) → AreMentionsWith past (mentioned_by e) numbers lists → AreMentions (e ∷ past) numbers lists
@@ -133,6 +191,13 @@ mentions_done e past numbers lists are = record {
         subst (λ w. Contains (mentions_of numbers lists d) w) (sym newest.1) (are.noted d (ap (λ y. has (mentioned_by y) d) it ∙ listed))
     | inr older ↦ are.mentioned d v x (sym (cond-false (v == length past) (Some e) (entry_at past v) older.0) ∙ at) listed
   ];
+  apart = are.apart;
+  only = λ d v listed. elim (are.only d v listed) [
+    | inl before ↦
+        let low : v < length past = entry_within past v before.0 before.1 in
+        (before.0, cond-false (v == length past) (Some e) (entry_at past v) (ne_eqb v (length past) (λ is. omega (arith, is, low))) ∙ before.1, before.2)
+    | inr now ↦ (e, cond-true (v == length past) (Some e) (entry_at past v) (eq-eqb v (length past) now.0), now.1)
+  ];
 }
 
 pub mentions_none : (numbers : Numbers) → ((d : Det) → get same_det numbers d ≡ None) → AreMentions [] numbers []
@@ -140,7 +205,15 @@ mentions_none numbers none = record {
   numbered = λ d m at. absurd (let x : None ≡ Some m = sym (none d) ∙ at in cc);
   ascend = λ k d low. absurd (omega (arith, low));
   mentioned = λ d v e at. absurd (let x : None ≡ Some e = at in cc);
+  apart = λ c d m at. absurd (let x : None ≡ Some m = sym (none c) ∙ at in cc);
+  only = λ d v listed. absurd (nothing v (subst (λ o. Contains (option_map_or (list_at []) o []) v) (none d) listed));
 }
+  where
+    empty : List ℕ
+    empty = []
+
+    nothing : (v : ℕ) → Contains empty v → ⊥
+    nothing v listed = omega (arith, listed.1)
 
 pub mentions_ascend : (past : List Entry) (numbers : Numbers) (lists : List (List ℕ)) → AreMentions past numbers lists → (d : Det) → IsNonDecreasing (mentions_of numbers lists d)
 mentions_ascend past numbers lists are d = list_of (get same_det numbers d) (are.numbered d)

@@ -12,7 +12,7 @@ use Rattle.causal_trace.specs.declared.entry.Entry.{Entry}
 use Rattle.causal_trace.specs.declared.entry.Entry.TheVariants.{Restart}
 use Rattle.causal_trace.specs.Past.{lane, restarts}
 use Rattle.causal_trace.specs.Dependence.{actor, is_delivery_of, IsEventOf, Delivers}
-use Rattle.causal_trace.proofs.Reached.{event_below, event_lane}
+use Rattle.causal_trace.proofs.Lemmas.Reached.{event_below, event_lane}
 use Rattle.causal_clock.specs.declared.Event.{Event}
 use Rattle.causal_clock.specs.Timeline.{Timeline, lane_of, send_of, with_event}
 use Rattle.causal_audit.specs.Stands.{Stands, Mirrors}

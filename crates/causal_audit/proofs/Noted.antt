@@ -7,7 +7,7 @@ use Rattle.causal_name.specs.declared.Det.{Det}
 use Rattle.causal_trace.specs.declared.entry.Entry.{Entry}
 use Rattle.causal_trace.specs.declared.entry.Entry.TheVariants.{Send, Deliver, Stable, Crash, Restart, Forget}
 use Rattle.causal_trace.specs.Rows.{AreAccepted}
-use Rattle.causal_trace.proofs.Accepted.{delivers_sent, sent_within}
+use Rattle.causal_trace.proofs.Lemmas.Accepted.{delivers_sent, sent_within}
 use Rattle.causal_clock.specs.declared.ClockFault.{ClockFault}
 use Rattle.causal_clock.specs.declared.ClockFault.TheVariants.{Lanes as ClockLanes, NoMemory as ClockNoMemory}
 use Rattle.causal_clock.specs.Timeline.{Timeline, with_event}

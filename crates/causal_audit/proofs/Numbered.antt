@@ -12,9 +12,9 @@ use Rattle.causal_trace.specs.declared.entry.Entry.{Entry}
 use Rattle.causal_trace.specs.declared.entry.Entry.TheVariants.{Send, Deliver, Stable, Crash, Restart, Forget}
 use Rattle.causal_trace.specs.Past.{instant, entry_at, det_at, det_of, det_from, message_sent, deliveries_in}
 use Rattle.causal_trace.specs.Rows.{AreAccepted}
-use Rattle.causal_trace.proofs.Accepted.{delivers_sent}
+use Rattle.causal_trace.proofs.Lemmas.Accepted.{delivers_sent}
 use Rattle.causal_audit.specs.Numbers.{is_delivery, IsNumbered, ArePositions}
-use Rattle.causal_audit.proofs.Instants.{instants_stay, one_more_instant}
+use Rattle.causal_trace.proofs.Lemmas.AtInstants.{instants_stay, one_more_instant}
 use Rattle.causal_audit.proofs.Legal.{sent_is}
 
 pub numbered_place : (past : List Entry) (i k : ℕ) → IsNumbered past i k → k < length past

@@ -7,15 +7,15 @@ use Rattle.causal_trace.specs.Past.{instant, det_at, lane}
 use Rattle.causal_trace.specs.Rows.{Recording, IsWellFormed, AreAccepted}
 use Rattle.causal_trace.specs.Dependence.{IsEventOf, Reaches}
 use Rattle.causal_trace.specs.Judgement.{HasOrphan}
-use Rattle.causal_trace.proofs.Instants.{det_beyond}
+use Rattle.causal_trace.proofs.Lemmas.Instants.{det_beyond}
 use Rattle.causal_clock.specs.declared.Event.{Event}
 use Rattle.causal_clock.specs.Precedence as clock
 use Rattle.causal_audit.specs.declared.breach.Breach.{Breach}
 use Rattle.causal_audit.specs.Breaches.{IsFirstBreach}
-use Rattle.causal_audit.specs.Sights.{TellsReach}
+use Rattle.causal_audit.specs.Sights.{TellsNextReach}
 use Rattle.causal_audit.specs.Stands.{Stands}
 use Rattle.causal_audit.specs.Verdicts.{IsLeastOrphan}
-use Rattle.causal_audit.proofs.Instants.{instant_length, accepted_then, det_then}
+use Rattle.causal_trace.proofs.Lemmas.AtInstants.{instant_length, accepted_then, det_then}
 use Rattle.causal_audit.proofs.Legal.{delivery_event}
 use Rattle.causal_audit.proofs.Link.{clock_tells}
 use Rattle.causal_audit.proofs.Walked.{reaches_then, reaches_whole, event_whole}
@@ -35,7 +35,7 @@ module _ (r : Recording) (formed : IsWellFormed r) (t : ℕ) (x : Entry) (below 
   length_next = omega (arith, length_here)
 
   module _ (events : List Event) (stands : Stands r.past events) (k : ℕ) (d : Det) (at : det_at r.past k ≡ Some d) (reached : Bool) (same : (reached ≡ true) ↔ clock.Reaches events k t) where
-    pub tells : TellsReach (instant r.past t) x k reached
+    pub tells : TellsNextReach (instant r.past t) x k reached
     tells p of =
         let from = delivery_event r.past k d at in
         let here : IsEventOf (x ∷ instant r.past t) t p (lane (instant r.past t) p) = inr (sym length_here, of, refl) in

@@ -4,7 +4,7 @@ use Rattle.std.proofs.lemmas.List.{length-reverse}
 use Rattle.causal_trace.specs.declared.entry.Entry.{Entry}
 use Rattle.causal_trace.specs.Past.{entry_at, det_of, det_at}
 use Rattle.causal_trace.specs.State.{past_at}
-use Rattle.causal_trace.proofs.Instants.{past_whole, entry_there, entry_beyond, det_there, det_beyond}
+use Rattle.causal_trace.proofs.Lemmas.Instants.{past_whole, entry_there, entry_beyond, det_there, det_beyond}
 
 pub entry_some : (es : List Entry) (i : ℕ) (e : Entry) → i < length es → e ≡ get_or es i e → entry_at (reverse es) i ≡ Some e
 entry_some es i e within is = ap (λ past. entry_at past i) (sym (past_whole es)) ∙ entry_there es (length es) i e (omega arith) within ∙ ap Some (sym is)

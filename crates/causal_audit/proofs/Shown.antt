@@ -9,13 +9,13 @@ use Rattle.std.proofs.lemmas.Bool.Decides.{eqb_tells}
 use Rattle.causal_name.specs.declared.Pid.{Pid}
 use Rattle.causal_name.specs.declared.Det.{Det}
 use Rattle.causal_name.specs.Sets.{count_below}
-use Rattle.causal_holders.proofs.Counting.{members_counted}
+use Rattle.causal_holders.proofs.Lemmas.Counting.{members_counted}
 use Rattle.causal_trace.specs.declared.entry.Entry.{Entry}
 use Rattle.causal_trace.specs.declared.entry.Entry.TheVariants.{Send, Deliver, Stable, Crash, Restart, Forget}
 use Rattle.causal_trace.specs.declared.fault.TraceFault.TheVariants.{NoProcess}
 use Rattle.causal_trace.specs.Past.{is_down, logs, has}
 use Rattle.causal_trace.specs.Rows.{AreAccepted, rows, first_fault}
-use Rattle.causal_trace.proofs.Accepted.{row_fails}
+use Rattle.causal_trace.proofs.Lemmas.Accepted.{row_fails}
 use Rattle.causal_audit.specs.Verdicts.{HasMembers}
 use Rattle.causal_audit.specs.Sights.{Shows}
 

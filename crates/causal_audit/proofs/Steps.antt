@@ -1,18 +1,19 @@
 -- From one instant of a recorded run to the next, by the entry read there.
-use Rattle.std.proofs.Common.{ℕ, ◌≡◌, ◌+◌, ◌<◌, ◌≤◌, inl, inr, List, [], ◌∷◌, length, get_or, sym, ap, subst, ◌∙◌, arith}
+use Rattle.std.proofs.Common.{ℕ, ◌≡◌, ◌+◌, ◌<◌, ◌≤◌, inl, inr, List, [], ◌∷◌, length, get_or, Some, sym, ap, subst, ◌∙◌, arith}
 use Rattle.std.specs.Ordering.{nat_cmp}
 use Rattle.std.specs.FinSet.{FinSet, empty, len}
 use Rattle.std.proofs.lemmas.Bool.{cases_lt}
 use Rattle.std.proofs.lemmas.List.{length-reverse}
 use Rattle.causal_name.specs.Sets.{count_below}
 use Rattle.causal_trace.specs.declared.entry.Entry.{Entry}
-use Rattle.causal_trace.specs.Past.{instant, is_down}
+use Rattle.causal_trace.specs.Past.{instant, entry_at, is_down}
 use Rattle.causal_trace.specs.Rows.{Recording, IsWellFormed}
 use Rattle.causal_trace.specs.State.{past_at, entries_of}
-use Rattle.causal_trace.proofs.Instants.{past_more}
+use Rattle.causal_trace.proofs.Lemmas.Instants.{past_more}
 use Rattle.causal_audit.specs.Sights.{Shows}
-use Rattle.causal_holders.proofs.Counting.{count_below-none}
-use Rattle.causal_audit.proofs.Instants.{read_instant, accepted_then}
+use Rattle.causal_holders.proofs.Lemmas.Counting.{count_below-none}
+use Rattle.causal_audit.proofs.Between.{next_entry}
+use Rattle.causal_trace.proofs.Lemmas.AtInstants.{read_instant, accepted_then}
 use Rattle.causal_audit.proofs.Shown.{shows_none, down_members, counted}
 
 module _ (r : Recording) (es : List Entry) (read : es ≡ entries_of r) where
@@ -48,3 +49,11 @@ up_to_next P t before here u h =
       | inl low ↦ before u (omega (arith, low))
       | inr high ↦ let at : t + 1 ≡ u = omega (arith, h, high) in subst P at here
     ]
+
+-- the entry read at a position is the one there
+pub entry_read : (r : Recording) (es : List Entry) → es ≡ entries_of r → (i : ℕ) (e : Entry) → i < length r.past → e ≡ get_or es i e → entry_at r.past i ≡ Some e
+entry_read r es read i e below is =
+    let found = next_entry r.past i below in
+    let same : found.0 ∷ instant r.past i ≡ e ∷ instant r.past i = sym found.2 ∙ next_state r es read i e below is in
+    let one : found.0 ≡ e = cc same in
+    found.1 ∙ ap (λ x. Some x) one

@@ -7,7 +7,7 @@ use Rattle.std.specs.FinSet.{FinSet, contains, insert, remove, empty, same_set, 
 use Rattle.std.proofs.lemmas.List.Elements.{Contains-push, Contains-push_cases}
 use Rattle.std.proofs.lemmas.Bool.{false≢true, cases_Bool, eq-eqb, ne_eqb}
 use Rattle.std.proofs.lemmas.Bool.Decides.{eqb_tells}
-use Rattle.causal_holders.proofs.Sets.{empty_or_member}
+use Rattle.causal_holders.proofs.Lemmas.Sets.{empty_or_member}
 use Rattle.causal_audit.specs.Plain.{AreWithAndWithout, IsBelow, AreSetsBelow}
 use Rattle.causal_audit.proofs.Members.{empty_without, insert_itself, insert_cases, insert_other}
 

@@ -9,7 +9,7 @@ use Rattle.causal_audit.specs.declared.breach.Excess.{Excess}
 use Rattle.causal_audit.specs.declared.verdict.Verdict.TheVariants.{Accept, Exceeded, Orphan}
 use Rattle.causal_audit.specs.Numbers.{IsNumbered}
 use Rattle.causal_audit.specs.Verdicts.{IsVerdict}
-use Rattle.causal_audit.specs.Breaches.{LeastBreach, IsLeastBreach, FirstExcess, IsFirstExcess}
+use Rattle.causal_audit.specs.Breaches.{LeastBreach, LeastBreachBy, IsLeastBreach, FirstExcess, IsFirstExcess}
 use Rattle.causal_audit.proofs.Numbered.{has_number, numbered_later, numbered_below}
 
 module _ (r : Recording) (f : ℕ) where
@@ -31,6 +31,11 @@ module _ (r : Recording) (f : ℕ) where
   no_orphan_ever none t u early within k has =
       let n = number_of u k within has in
       none n.0 k u (omega arith) n.1 n.2 within has
+
+  pub no_orphan_by : (end : ℕ) → LeastBreachBy r f end 0 (deliveries_in r.past) None → (t : ℕ) → t ≤ end + 1 → NoOrphanBefore t
+  no_orphan_by end none t low u early within k has =
+      let n = number_of u k within has in
+      none n.0 k u (omega arith) n.1 n.2 (omega (arith, early, low)) has
 
   pub no_orphan_before : (b : Breach) → IsLeastBreach r f 0 (deliveries_in r.past) b → (t : ℕ) → t ≤ b.instant → NoOrphanBefore t
   no_orphan_before b least t low u early within k has =

@@ -7,8 +7,8 @@ use Rattle.causal_trace.specs.declared.entry.Entry.{Entry}
 use Rattle.causal_trace.specs.Past.{instant}
 use Rattle.causal_trace.specs.Rows.{AreAccepted}
 use Rattle.causal_trace.specs.Dependence.{IsEventOf, Reaches}
-use Rattle.causal_trace.proofs.Reached.{reaches_old}
-use Rattle.causal_trace.proofs.Accepted.{accepted_forward}
+use Rattle.causal_trace.proofs.Lemmas.Reached.{reaches_old}
+use Rattle.causal_trace.proofs.Lemmas.Accepted.{accepted_forward}
 use Rattle.causal_audit.proofs.Dependence.{reaches_more}
 
 -- ---- what reaches what is the same at each instant

@@ -1,8 +1,9 @@
 -- The changes that are still ahead in a walk over them.
-use Rattle.std.specs.Prelude.{◌≡◌, ℕ, ◌<◌, ◌≤◌, List, Contains, slice_index_or}
+use Rattle.std.specs.Prelude.{◌≡◌, ℕ, ◌<◌, ◌≤◌, ◌↔◌, true, List, Contains, slice_index_or}
 use Rattle.std.specs.List.Sorted.{IsNonDecreasing}
 use Rattle.causal_audit.specs.declared.changes.Changes.{Changes}
 use Rattle.causal_audit.specs.declared.changes.Ahead.{Ahead}
+use Rattle.causal_audit.specs.declared.changes.Next.{Next}
 use Rattle.causal_audit.specs.declared.cursor.Cursor.{Cursor}
 
 -- a cursor over an ascending list that has passed only numbers below `from`
@@ -26,3 +27,8 @@ pub record AreNoneUntil (changes : Changes) (from next : ℕ) : Type 0 where
   pub mentions : HasNoneUntil changes.mentions.now from next
   pub turns : HasNoneUntil changes.turns.now from next
   pub firsts : HasNoneUntil changes.firsts.now from next
+
+-- whether the next change is one of the mentions
+abbrev pub TellsMention : Changes → ℕ → ℕ → Next → Type 0
+TellsMention changes from end next =
+    next.position < end → (next.mentioned ≡ true) ↔ Contains changes.mentions.now next.position

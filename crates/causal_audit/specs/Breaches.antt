@@ -1,13 +1,14 @@
 -- The first instant at which a delivery has an orphan, and the first at which too many processes are down.
-use Rattle.std.specs.Prelude.{◌≡◌, ℕ, ◌<◌, ◌≤◌, length, Option, MatchOption}
-use Rattle.causal_trace.specs.Past.{instant, is_down}
+use Rattle.std.specs.Prelude.{◌≡◌, ℕ, ◌<◌, ◌≤◌, length, Option, Some, None, MatchOption}
+use Rattle.causal_trace.specs.Past.{instant, is_down, deliveries_in}
 use Rattle.causal_trace.specs.Rows.{Recording}
 use Rattle.causal_trace.specs.Judgement.{HasOrphan}
 use Rattle.causal_name.specs.Sets.{count_below}
-use Rattle.causal_audit.specs.Verdicts.{IsExcess, IsLeastOrphan}
+use Rattle.causal_audit.specs.Verdicts.{IsExcess, IsLeastOrphan, IsVerdict}
 use Rattle.causal_audit.specs.Numbers.{IsNumbered}
 use Rattle.causal_audit.specs.declared.breach.Breach.{Breach}
 use Rattle.causal_audit.specs.declared.breach.Excess.{Excess}
+use Rattle.causal_audit.specs.declared.verdict.Verdict.{Verdict}
 
 -- the delivery at position k first has an orphan so
 pub record IsFirstBreach (r : Recording) (f k : ℕ) (b : Breach) : Type 0 where
@@ -49,3 +50,34 @@ abbrev pub LeastBreach : Recording → ℕ → ℕ → ℕ → Option Breach →
 LeastBreach r f from to found = MatchOption found
     ((i k t : ℕ) → from ≤ i → i < to → IsNumbered r.past i k → t ≤ length r.past → HasOrphan r.processes f (instant r.past t) k → ⊥)
     (IsLeastBreach r f from to)
+
+-- the last instant that can decide, of a run of so many entries: that of the first excess, or the last of all
+abbrev pub deciding : ℕ → Option Excess → ℕ
+deciding entries None = entries
+deciding entries (Some x) = x.instant
+
+-- the last instant at which a breach can still come first: that of the least breach so far, or `end`
+abbrev pub horizon : ℕ → Option Breach → ℕ
+horizon end None = end
+horizon end (Some b) = b.instant
+
+-- the first breach of the delivery at position k, if it comes by the instant `end`; None where it has an orphan at no
+-- instant by then
+abbrev pub FirstBreachBy : Recording → ℕ → ℕ → ℕ → Option Breach → Type 0
+FirstBreachBy r f end k found = MatchOption found
+    ((t : ℕ) → t ≤ end → HasOrphan r.processes f (instant r.past t) k → ⊥)
+    (λ b. (b.instant ≤ end) × IsFirstBreach r f k b)
+
+-- of the deliveries numbered from `from` and below `to`, the least breach by instant, then by position, if it comes by the
+-- instant `end`; None where none of them has an orphan by then
+abbrev pub LeastBreachBy : Recording → ℕ → ℕ → ℕ → ℕ → Option Breach → Type 0
+LeastBreachBy r f end from to found = MatchOption found
+    ((i k t : ℕ) → from ≤ i → i < to → IsNumbered r.past i k → t ≤ end → HasOrphan r.processes f (instant r.past t) k → ⊥)
+    (λ b. (b.instant ≤ end) × IsLeastBreach r f from to b)
+
+-- the verdict is that of every run whose first excess is this one, and whose least breach is the other, as far as the last
+-- instant that can decide
+abbrev pub Decides : Option Excess → Option Breach → Verdict → Type 0
+Decides excess breach verdict =
+    (r : Recording) (f : ℕ) → FirstExcess r f excess
+    → LeastBreachBy r f (deciding (length r.past) excess) 0 (deliveries_in r.past) breach → IsVerdict r f verdict

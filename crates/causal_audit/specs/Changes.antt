@@ -11,6 +11,10 @@ use Rattle.causal_audit.specs.Quiet.{is_turn, mentioned_by}
 abbrev pub HasMentions : List Entry → Det → List ℕ → Type 0
 HasMentions past d list = (v : ℕ) (e : Entry) → entry_at past v ≡ Some e → has (mentioned_by e) d ≡ true → Contains list v
 
+-- each position of the list is that of an entry that mentions d
+abbrev pub AreMentionsOf : List Entry → Det → List ℕ → Type 0
+AreMentionsOf past d list = (v : ℕ) → Contains list v → (e : Entry) × (entry_at past v ≡ Some e) × (has (mentioned_by e) d ≡ true)
+
 -- the list has the position of each crash and restart
 abbrev pub HasTurns : List Entry → List ℕ → Type 0
 HasTurns past list = (v : ℕ) (e : Entry) → entry_at past v ≡ Some e → is_turn e ≡ true → Contains list v
@@ -27,5 +31,6 @@ pub record AreChanges (past : List Entry) (k : ℕ) (d : Det) (mentions turns fi
   pub turns_ascend : IsNonDecreasing turns
   pub firsts_ascend : IsNonDecreasing firsts
   pub mentioned : HasMentions past d mentions
+  pub only : AreMentionsOf past d mentions
   pub turned : HasTurns past turns
   pub first : HasFirsts past k firsts

@@ -1,5 +1,5 @@
 -- The lists of positions that tables keep, so that only changes are looked at.
-use Rattle.std.specs.Prelude.{◌≡◌, ℕ, ◌+◌, ◌<◌, ◌≤◌, true, List, [], ◌∷◌, ◌++◌, length, Some, slice_set, slice_index_or, Contains}
+use Rattle.std.specs.Prelude.{◌≡◌, ℕ, ◌+◌, ◌<◌, ◌≤◌, ◌⊎◌, true, List, [], ◌∷◌, ◌++◌, length, Some, slice_set, slice_index_or, Contains}
 use Rattle.std.specs.List.{All}
 use Rattle.std.specs.List.Sorted.{IsNonDecreasing}
 use Rattle.std.specs.Option.{option_map_or}
@@ -11,12 +11,13 @@ use Rattle.std.specs.FinSet.{FinSet}
 use Rattle.causal_name.specs.declared.Det.{Det}
 use Rattle.causal_name.specs.Names.{same_det}
 use Rattle.causal_trace.specs.declared.entry.Entry.{Entry}
-use Rattle.causal_trace.specs.Past.{has, instant, is_down}
+use Rattle.causal_trace.specs.Past.{entry_at, has, instant, is_down}
 use Rattle.causal_trace.specs.Dependence.{IsEventOf}
 use Rattle.causal_clock.specs.declared.Event.{Event}
 use Rattle.causal_clock.specs.Timeline.{lane_of}
 use Rattle.causal_clock.specs.Precedence.{Reaches}
-use Rattle.causal_audit.specs.Changes.{HasMentions, HasTurns}
+use Rattle.causal_audit.specs.Changes.{AreMentionsOf, HasMentions, HasTurns}
+use Rattle.causal_audit.specs.Quiet.{mentioned_by}
 use Rattle.causal_audit.specs.Sights.{Shows}
 
 -- a list ascends, and has only numbers below a bound
@@ -67,11 +68,17 @@ mentions_of numbers lists d = option_map_or (list_at lists) (get same_det number
 abbrev pub AreNumbered : Numbers → List (List ℕ) → Type 0
 AreNumbered numbers lists = (d : Det) (m : ℕ) → get same_det numbers d ≡ Some m → m < length lists
 
--- for each determinant the positions of the entries that mention it
+-- only one determinant has each number
+abbrev pub AreApart : Numbers → Type 0
+AreApart numbers = (c d : Det) (m : ℕ) → get same_det numbers c ≡ Some m → get same_det numbers d ≡ Some m → same_det c d ≡ true
+
+-- for each determinant the positions of the entries that mention it, and no others
 pub record AreMentions (past : List Entry) (numbers : Numbers) (lists : List (List ℕ)) : Type 0 where
   pub numbered : AreNumbered numbers lists
   pub ascend : All (Ascends (length past)) lists
   pub mentioned : (d : Det) → HasMentions past d (mentions_of numbers lists d)
+  pub apart : AreApart numbers
+  pub only : (d : Det) → AreMentionsOf past d (mentions_of numbers lists d)
 
 -- the same, and these determinants have the next position too
 pub record AreMentionsWith (past : List Entry) (dets : List Det) (numbers : Numbers) (lists : List (List ℕ)) : Type 0 where
@@ -79,3 +86,5 @@ pub record AreMentionsWith (past : List Entry) (dets : List Det) (numbers : Numb
   pub ascend : All (Ascends (length past + 1)) lists
   pub mentioned : (d : Det) → HasMentions past d (mentions_of numbers lists d)
   pub noted : (d : Det) → has dets d ≡ true → Contains (mentions_of numbers lists d) (length past)
+  pub apart : AreApart numbers
+  pub only : (d : Det) (v : ℕ) → Contains (mentions_of numbers lists d) v → ((e : Entry) × (entry_at past v ≡ Some e) × (has (mentioned_by e) d ≡ true)) ⊎ ((v ≡ length past) × (has dets d ≡ true))

@@ -4,12 +4,15 @@ pub mod Breaches
 pub mod Changes
 pub mod Earlier
 pub mod Filed
+pub mod Held
 pub mod Lasting
 pub mod Laws
 pub mod Numbers
 pub mod Plain
 pub mod Quiet
 pub mod Sights
+pub mod Spread
 pub mod Stands
 pub mod Stored
+pub mod Sweep
 pub mod Verdicts

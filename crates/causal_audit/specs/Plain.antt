@@ -5,14 +5,10 @@ use Rattle.std.specs.FinSet.{FinSet, contains, insert, is_subset, len}
 use Rattle.causal_name.specs.declared.Det.{Det}
 use Rattle.causal_trace.specs.declared.entry.Entry.{Entry}
 use Rattle.causal_trace.specs.Past.{is_stable, logs}
-use Rattle.causal_trace.specs.Dependence.{IsEventOf, Delivers, DirectlyPrecedes, Reaches, Depends}
+use Rattle.causal_trace.specs.Dependence.{IsEventOf, DirectlyPrecedes, Reaches, Depends}
 use Rattle.causal_audit.specs.declared.verdict.Verdict.{Verdict}
 use Rattle.causal_audit.specs.declared.verdict.Verdict.TheVariants.{Accept, Exceeded, Orphan}
 use Rattle.causal_audit.specs.Verdicts.{IsExcess, IsBreach}
-
--- deliveries name earlier sends
-abbrev pub DeliversEarlier : List Entry → Type 0
-DeliversEarlier past = (j i : ℕ) → Delivers past j i → i < j
 
 -- of the positions that have a mark, k reaches just the marked ones
 abbrev pub MarksReached : List Entry → ℕ → List Bool → Type 0
@@ -32,8 +28,8 @@ pub record HasJust (n : ℕ) (P : ℕ → Type 0) (set : FinSet nat_cmp) : Type 
   pub member : (p : ℕ) → p < n → (contains set p ≡ true) ↔ P p
 
 -- a set has just those of n processes whose state depends on the delivery k
-abbrev pub AreDependents : ℕ → List Entry → ℕ → FinSet nat_cmp → Type 0
-AreDependents n past k set = HasJust n (Depends past k) set
+abbrev pub AreDependentProcesses : ℕ → List Entry → ℕ → FinSet nat_cmp → Type 0
+AreDependentProcesses n past k set = HasJust n (Depends past k) set
 
 -- all has just the sets of the list, and those with p put in
 abbrev pub AreWithAndWithout : List (FinSet nat_cmp) → ℕ → List (FinSet nat_cmp) → Type 0
@@ -57,8 +53,8 @@ abbrev pub AreCrashSets : ℕ → ℕ → FinSet nat_cmp → List (FinSet nat_cm
 AreCrashSets n f down sets = (s : FinSet nat_cmp) → Contains sets s ↔ (IsBelow n s × MayCrash f down s)
 
 -- one of n processes that is not in the crash set has d in its log
-abbrev pub IsKept : ℕ → List Entry → Det → FinSet nat_cmp → Type 0
-IsKept n past d crash = (q : ℕ) × (q < n) × (contains crash q ≡ false) × (logs past q d ≡ true)
+abbrev pub IsLoggedOutside : ℕ → List Entry → Det → FinSet nat_cmp → Type 0
+IsLoggedOutside n past d crash = (q : ℕ) × (q < n) × (contains crash q ≡ false) × (logs past q d ≡ true)
 
 -- d is lost under the crash set: it is not stable, and of n processes none that survives has it in its log
 abbrev pub IsLost : ℕ → List Entry → Det → FinSet nat_cmp → Type 0

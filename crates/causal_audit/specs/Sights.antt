@@ -18,8 +18,8 @@ abbrev pub AreDependents : List Entry → ℕ → FinSet nat_cmp → Type 0
 AreDependents past k set = (p : ℕ) → (contains set p ≡ true) ↔ Depends past k p
 
 -- whether k reaches the next entry, where that is an event
-abbrev pub TellsReach : List Entry → Entry → ℕ → Bool → Type 0
-TellsReach past e k reached = (p : ℕ) → actor e ≡ Some p → (reached ≡ true) ↔ Reaches (e ∷ past) k (length past)
+abbrev pub TellsNextReach : List Entry → Entry → ℕ → Bool → Type 0
+TellsNextReach past e k reached = (p : ℕ) → actor e ≡ Some p → (reached ≡ true) ↔ Reaches (e ∷ past) k (length past)
 
 -- what is known of the delivery at position k, whose determinant is d
 pub record IsSight (past : List Entry) (k : ℕ) (d : Det) (s : Sight) : Type 0 where

@@ -8,6 +8,7 @@ use Rattle.causal_clock.specs.declared.Event.{Event}
 use Rattle.causal_audit.specs.Filed.{AreLanes, AreMentions, AreTurns, Numbers}
 use Rattle.causal_audit.specs.Lasting.{NoneReleasedFrom}
 use Rattle.causal_audit.specs.Numbers.{ArePositions}
+use Rattle.causal_audit.specs.Spread.{AreSpreads}
 use Rattle.causal_audit.specs.Stands.{Stands}
 
 -- the positions of its deliveries, a clock whose events stand for its entries, and a position from which on no entry
@@ -20,9 +21,10 @@ pub record AreTables (r : Recording) (positions : List ℕ) (events : List Event
   pub lasting : NoneReleasedFrom r.past lasting_from
 
 -- where something may change for a delivery: for each determinant the entries that mention it, the crashes and restarts
--- with who is down after each, and the events of each lane, of which there are few
-pub record AreIndexes (r : Recording) (events : List Event) (numbers : Numbers) (mentions : List (List ℕ)) (turns : List ℕ) (downs : List (FinSet nat_cmp)) (lanes : List (List ℕ)) : Type 0 where
+-- with who is down after each, the events of each lane, of which there are few, and how long each event stays with its lane
+pub record AreIndexes (r : Recording) (events : List Event) (numbers : Numbers) (mentions : List (List ℕ)) (turns : List ℕ) (downs : List (FinSet nat_cmp)) (lanes : List (List ℕ)) (spreads : List ℕ) : Type 0 where
   pub mentioned : AreMentions r.past numbers mentions
   pub turned : AreTurns r.past turns downs
   pub in_lanes : AreLanes r.past events lanes
+  pub spread : AreSpreads r.past events spreads
   pub few : length lanes ≤ max_processes + max_restarts

@@ -2,7 +2,7 @@
 ghost use Rattle.std.specs.Prelude.{◌≤◌};
 ghost use Rattle.std.specs.List.Sorted.{IsNonDecreasing};
 ghost use Rattle.causal_audit.specs.declared.changes.Changes.{Changes};
-ghost use Rattle.causal_audit.specs.Ahead.{AreAhead, AreNoneUntil, HasNoneUntil};
+ghost use Rattle.causal_audit.specs.Ahead.{AreAhead, AreNoneUntil, HasNoneUntil, TellsMention};
 
 use crate::cursor::Cursor;
 
@@ -51,17 +51,29 @@ impl<'a> Changes<'a> {
     }
 }
 
+/// The next change, and whether it is an entry that mentions the determinant.
+#[derive(Clone, Copy)]
+pub struct Next {
+    pub position: u32,
+    pub mentioned: bool,
+}
+
 impl Ahead<'_> {
     /// The first of them that is not below `from`, or `end` if that comes first. Those before it are passed.
-    pub fn next(&mut self, from: u32, end: u32) -> u32
+    pub fn next(&mut self, from: u32, end: u32) -> Next
         requires { from ≤ end }
-        ensures bounds { (from ≤ result) × (result ≤ end) }
+        ensures bounds { (from ≤ result.position) × (result.position ≤ end) }
         ensures ahead { (changes : Changes) → AreAhead changes from self.old → AreAhead changes from self.new }
-        ensures none { (changes : Changes) → AreAhead changes from self.old → AreNoneUntil changes from result }
+        ensures none { (changes : Changes) → AreAhead changes from self.old → AreNoneUntil changes from result.position }
+        ensures mentioned { (changes : Changes) → AreAhead changes from self.old → TellsMention changes from end result }
     {
         let mention = self.mentions.next(from, end);
         let turn = self.turns.next(from, end);
         let first = self.firsts.next(from, end);
-        mention.min(turn).min(first)
+        let position = mention.min(turn).min(first);
+        Next {
+            position,
+            mentioned: mention == position,
+        }
     }
 }

@@ -1,5 +1,5 @@
 //! A walk over an ascending list of positions.
-ghost use Rattle.std.specs.Prelude.{◌≤◌, List, ℕ};
+ghost use Rattle.std.specs.Prelude.{◌≤◌, ◌<◌, Contains, List, ℕ};
 ghost use Rattle.std.specs.List.Sorted.{IsNonDecreasing};
 ghost use Rattle.causal_audit.specs.Ahead.{IsCursor, HasNoneUntil};
 
@@ -29,6 +29,7 @@ impl Cursor<'_> {
         ensures bounds { (from ≤ result) × (result ≤ end) }
         ensures cursor { (list : List ℕ) → IsCursor list from self.old → IsCursor list from self.new }
         ensures none { (list : List ℕ) → IsCursor list from self.old → HasNoneUntil list from result }
+        ensures found { (list : List ℕ) → IsCursor list from self.old → result < end → Contains list result }
     {
         while let Some(position) = self.list.get(self.passed) {
             if *position >= from {

@@ -1,7 +1,17 @@
 //! Laws over the judgement of recorded runs. Each function does nothing: what it ensures is the law.
+ghost use Rattle.causal_audit.specs.Held.{SafeIsHeld};
 ghost use Rattle.causal_audit.specs.Lasting.{OrphansEnd};
 ghost use Rattle.causal_audit.specs.Quiet.{InstantsAgree, OrphansAgree};
+ghost use Rattle.causal_audit.specs.Spread.{StaysAlone, CoveredHasNone};
+ghost use Rattle.causal_audit.specs.Sweep.{SweepLaw, OneNewOrphan};
 ghost use Rattle.causal_audit.specs.Laws.{OrphansAreCounted, CrashSetsContain, GoneIsCrashSet, NoOrphansCondition, VerdictsAreOne};
+
+/// What safety means for those who survive: an instant is safe exactly where at most f processes are down, and for each
+/// crash set and each delivery on which a process outside it depends, the determinant is in stable storage or in the log
+/// of a process outside. (Safety itself is defined by the absence of orphans.)
+pub fn safe_is_held()
+    ensures { SafeIsHeld }
+{}
 
 /// No crash set need be tried. A delivery has an orphan under some crash set exactly where its determinant is not
 /// stable, the down processes and its holders together are at most f, and some dependent is no holder; those processes
@@ -38,4 +48,20 @@ pub fn orphans_end()
 pub fn instants_agree()
     ensures agree { InstantsAgree }
     ensures orphans { OrphansAgree }
+{}
+
+/// One more entry gives an orphan only to few deliveries that had none: those on which the receiver of a delivery newly
+/// depends, and it is then their only orphan; those whose determinant a restart does not list; those whose determinant a
+/// forgetting lists.
+pub fn sweep_law()
+    ensures newly { SweepLaw }
+    ensures receiver { OneNewOrphan }
+{}
+
+/// A delivery that has not left its receiver, since nothing that the receiver's lane sent from then on is delivered yet,
+/// has no dependent but its receiver. It has no orphan where the receiver is down or holds its determinant, nor where
+/// more than f processes are down or hold it: so a delivery can come to fail only after both have ended.
+pub fn covered_deliveries()
+    ensures alone { StaysAlone }
+    ensures covered { CoveredHasNone }
 {}

@@ -8,7 +8,7 @@ ghost use Rattle.causal_trace.specs.declared.entry.Entry.{Entry};
 ghost use Rattle.causal_trace.specs.Limits.{max_entries};
 ghost use Rattle.causal_trace.specs.State.{past_at};
 ghost use Rattle.causal_audit.specs.Quiet.{mentioned_by};
-ghost use Rattle.causal_audit.specs.Filed.{Ascends, AreMentions, AreMentionsWith, AreNumbered, mentions_of};
+ghost use Rattle.causal_audit.specs.Filed.{Ascends, AreApart, AreMentions, AreMentionsWith, AreNumbered, mentions_of};
 
 use crate::lists::add_to;
 use causal_name::{Det, NoMemory};
@@ -41,6 +41,7 @@ impl Mentions {
         requires { AreNumbered self.old.numbers (map (λ list. list.items) self.old.lists.items) }
         ensures number { IfOk result (λ m. get same_det self.new.numbers det ≡ Some m) }
         ensures numbered { OnOk result (AreNumbered self.new.numbers (map (λ list. list.items) self.new.lists.items)) }
+        ensures apart { OnOk result (AreApart self.old.numbers → AreApart self.new.numbers) }
         ensures ascend { OnOk result ((bound : ℕ) → All (Ascends bound) (map (λ list. list.items) self.old.lists.items) → All (Ascends bound) (map (λ list. list.items) self.new.lists.items)) }
         ensures same { OnOk result ((d : Det) → mentions_of self.new.numbers (map (λ list. list.items) self.new.lists.items) d ≡ mentions_of self.old.numbers (map (λ list. list.items) self.old.lists.items) d) }
     {

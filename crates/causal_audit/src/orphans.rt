@@ -1,11 +1,11 @@
 //! The first instant at which a delivery has an orphan.
-ghost use Rattle.std.specs.Prelude.{◌≡◌, ◌<◌, ℕ, List, length, Some};
+ghost use Rattle.std.specs.Prelude.{◌≡◌, ◌<◌, ◌≤◌, ℕ, List, length, Some};
 ghost use Rattle.causal_name.specs.declared.Det.{Det};
 ghost use Rattle.causal_trace.specs.declared.entry.Entry.{Entry};
 ghost use Rattle.causal_trace.specs.Past.{det_at};
 ghost use Rattle.causal_trace.specs.Rows.{AreAccepted};
 ghost use Rattle.causal_audit.specs.BreachAt.{BreachAt};
-ghost use Rattle.causal_audit.specs.Breaches.{FirstBreach};
+ghost use Rattle.causal_audit.specs.Breaches.{FirstBreachBy};
 ghost use Rattle.causal_audit.specs.Changes.{AreChanges};
 ghost use Rattle.causal_audit.specs.Filed.{AreTurns};
 ghost use Rattle.causal_audit.specs.Lasting.{NoneReleasedFrom};
@@ -47,36 +47,40 @@ fn breach_at(sight: &Sight, f: u16, k: u32, t: u32) -> Option<Breach>
     })
 }
 
-/// How the delivery at position k, whose determinant this is, first has an orphan; None where it never has one. Only the
-/// instants after a change are looked at, from the delivery or the first mention of its determinant on, until no later one
-/// can have an orphan: from `lasting_from` on no entry releases a process.
+/// How the delivery at position k, whose determinant this is, first has an orphan, if it has one by the instant `end`. Only
+/// the instants after a change are looked at, from the delivery or the first mention of its determinant on, until no later
+/// one can have an orphan: from `lasting_from` on no entry releases a process.
 pub fn first_orphan(
     run: &Run<'_>,
     changes: &Changes<'_>,
     f: u16,
+    end: u32,
     k: u32,
     det: Det,
 ) -> Option<Breach>
+    requires within { end ≤ length run.now.trace.now.recording.past }
     requires clock { Stands run.now.trace.now.recording.past run.now.clocks.now.events }
     requires lasting { NoneReleasedFrom run.now.trace.now.recording.past run.now.lasting_from }
     requires turns { AreTurns run.now.trace.now.recording.past run.now.turns.now.positions.items run.now.turns.now.downs.items }
     requires delivery { det_at run.now.trace.now.recording.past k ≡ Some det }
     requires changes { AreChanges run.now.trace.now.recording.past k det changes.now.mentions.now changes.now.turns.now changes.now.firsts.now }
-    ensures { FirstBreach run.now.trace.now.recording f k result }
+    ensures { FirstBreachBy run.now.trace.now.recording f end k result }
 {
-    let end = run.trace.len();
+    let _len = run.trace.len();
     let entries = run.trace.entries();
     let mut t = changes.start(k);
     let mut ahead = changes.ahead(t);
     let mut sight = Sight::begin(run.turns.down_at(t));
     while t < end {
-        let change = ahead.next(t, end);
+        let next = ahead.next(t, end);
+        let change = next.position;
         if change == end {
             return None;
         }
         sight.see(
             &entries[change as usize],
             det,
+            next.mentioned,
             run.clocks.precedes(k, change),
         );
         t = change + 1;

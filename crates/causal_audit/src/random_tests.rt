@@ -1,10 +1,7 @@
 //! The audit and the plain program beside it give the same verdict on small random traces, for each f.
 ghost use Rattle.std.specs.Prelude.{◌<◌};
 
-use crate::judge::judge;
-use crate::plain;
-use crate::tables::Tables;
-use crate::verdict::Verdict;
+use crate::{Tables, Verdict, judge, plain};
 use causal_name::{Det, MsgName, NoMemory, Pid};
 use causal_trace::entry::{Dets, Entry};
 use causal_trace::fault::TraceFault;

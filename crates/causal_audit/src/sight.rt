@@ -4,17 +4,18 @@ ghost use Rattle.std.specs.Prelude.{◌≡◌, ◌∷◌, ℕ, List, MatchOption
 ghost use Rattle.std.specs.FinSet as set;
 ghost use Rattle.causal_name.specs.declared.Det.{Det};
 ghost use Rattle.causal_trace.specs.declared.entry.Entry.{Entry};
-ghost use Rattle.causal_name.specs.Names.{is_ascending};
 ghost use Rattle.causal_trace.specs.Past.{det_at, has, is_down, is_stable, logs};
 ghost use Rattle.causal_trace.specs.Rows.{AreAccepted};
 ghost use Rattle.causal_trace.specs.Judgement.{HasOrphan};
 ghost use Rattle.causal_audit.specs.Lasting.{IsOverAt};
-ghost use Rattle.causal_audit.specs.Sights.{AreDependents, IsSight, IsUnheard, Shows, TellsReach};
+ghost use Rattle.causal_audit.specs.Quiet.{mentioned_by};
+ghost use Rattle.causal_audit.specs.Sights.{AreDependents, IsSight, IsUnheard, Shows, TellsNextReach};
 ghost use Rattle.causal_audit.specs.Verdicts.{IsLeastOrphan};
 
+use crate::holding::holders_after;
 use causal_holders::Holders;
 use causal_name::Det;
-use causal_trace::entry::{Dets, Entry};
+use causal_trace::entry::Entry;
 
 /// What is known of one delivery at an instant: who is down, who holds its determinant, whether that is stable, and who
 /// depends on the delivery.
@@ -33,25 +34,18 @@ pub struct Exposed {
     pub orphan: u8,
 }
 
-fn with(mut members: Holders, p: u8) -> Holders
+pub fn with(mut members: Holders, p: u8) -> Holders
     ensures { result ≡ set.insert members p }
 {
     members.insert(p);
     members
 }
 
-fn without(mut members: Holders, p: u8) -> Holders
+pub fn without(mut members: Holders, p: u8) -> Holders
     ensures { result ≡ set.remove members p }
 {
     members.remove(p);
     members
-}
-
-/// Whether an ascending list has the determinant.
-fn has_det(listed: &Dets, det: Det) -> bool
-    ensures { is_ascending listed.now ≡ true → result ≡ has listed.now det }
-{
-    listed.as_slice().binary_search(&det).is_ok()
 }
 
 /// Who is down after one more entry.
@@ -68,39 +62,6 @@ pub fn down_after(down: Holders, entry: &Entry) -> Holders
     }
 }
 
-/// Who holds the determinant after one more entry.
-fn holders_after(holders: Holders, entry: &Entry, det: Det) -> Holders
-    ensures { (n : ℕ) (past : List Entry) → AreAccepted n (entry.now ∷ past) → Shows holders (λ p. logs past p det) →
-        Shows result (λ p. logs (entry.now ∷ past) p det) }
-{
-    match entry {
-        Entry::Deliver { to, listed, .. } => {
-            if has_det(listed, det) {
-                with(holders, to.0)
-            } else {
-                holders
-            }
-        }
-        Entry::Restart { who, listed } => {
-            if has_det(listed, det) {
-                with(holders, who.0)
-            } else {
-                holders
-            }
-        }
-        Entry::Forget { who, listed } => {
-            if has_det(listed, det) {
-                without(holders, who.0)
-            } else {
-                holders
-            }
-        }
-        Entry::Crash { who } => without(holders, who.0),
-        Entry::Send { .. } => holders,
-        Entry::Stable { .. } => holders,
-    }
-}
-
 /// Whether the determinant is stable after one more entry.
 fn stable_after(stable: bool, entry: &Entry, det: Det) -> bool
     ensures { (past : List Entry) → stable ≡ is_stable past det → result ≡ is_stable (entry.now ∷ past) det }
@@ -114,7 +75,7 @@ fn stable_after(stable: bool, entry: &Entry, det: Det) -> bool
 /// Who depends on the delivery after one more entry, which it reaches or not. An event brings its process in where it is
 /// reached; a crash and a restart take theirs out.
 fn dependents_after(dependents: Holders, entry: &Entry, reached: bool) -> Holders
-    ensures { (n : ℕ) (past : List Entry) (k : ℕ) → AreAccepted n (entry.now ∷ past) → TellsReach past entry.now k reached →
+    ensures { (n : ℕ) (past : List Entry) (k : ℕ) → AreAccepted n (entry.now ∷ past) → TellsNextReach past entry.now k reached →
         AreDependents past k dependents → AreDependents (entry.now ∷ past) k result }
 {
     match entry {
@@ -152,14 +113,14 @@ impl Sight {
         }
     }
 
-    /// Takes in one more entry, which the delivery of this determinant reaches or not.
-    pub fn see(&mut self, entry: &Entry, det: Det, reached: bool)
-        ensures { (n : ℕ) (past : List Entry) (k : ℕ) → AreAccepted n (entry.now ∷ past) → TellsReach past entry.now k reached →
+    /// Takes in one more entry, which mentions this determinant or not, and which its delivery reaches or not.
+    pub fn see(&mut self, entry: &Entry, det: Det, mentioned: bool, reached: bool)
+        ensures { (n : ℕ) (past : List Entry) (k : ℕ) → AreAccepted n (entry.now ∷ past) → mentioned ≡ has (mentioned_by entry.now) det → TellsNextReach past entry.now k reached →
             IsSight past k det self.old → IsSight (entry.now ∷ past) k det self.new }
     {
         *self = Sight {
             down: down_after(self.down, entry),
-            holders: holders_after(self.holders, entry, det),
+            holders: holders_after(self.holders, entry, det, mentioned),
             stable: stable_after(self.stable, entry, det),
             dependents: dependents_after(self.dependents, entry, reached),
         };

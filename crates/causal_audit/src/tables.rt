@@ -5,16 +5,18 @@ ghost use Rattle.causal_trace.specs.Limits.{max_entries};
 ghost use Rattle.causal_trace.specs.Past.{deliveries_in, det_at};
 ghost use Rattle.causal_trace.specs.Rows.{IsWellFormed};
 ghost use Rattle.causal_trace.specs.State.{entries_of, past_at};
-ghost use Rattle.causal_audit.specs.Breaches.{FirstBreach};
+ghost use Rattle.causal_audit.specs.Breaches.{FirstBreachBy};
 ghost use Rattle.causal_audit.specs.Numbers.{IsNumbered, ArePositions};
 
 use crate::breach::Breach;
 use crate::changes::Changes;
+use crate::cover::is_covered;
 use crate::events::clocks_of;
 use crate::lanes::{LANES, lanes_of, write_firsts};
 use crate::mentions::{Mentions, mentions_in};
 use crate::orphans::{Run, first_orphan};
 use crate::releases::lasting_from;
+use crate::spreads::spreads_of;
 use crate::turns::{Turns, turns_of};
 use causal_clock::Clocks;
 use causal_name::{Det, NoMemory};
@@ -24,8 +26,8 @@ use std::alloc::Global;
 use std::marker::Model;
 
 /// What is kept of a recorded run to judge it: a copy of its trace, the positions of its deliveries, a clock of its
-/// entries, the position from which on no process is released, and where something may change for a delivery. It is seen
-/// as the recording.
+/// entries, the position from which on no process is released, how long each delivery stays with its receiver, and where something
+/// may change for a delivery. It is seen as the recording.
 #[derive(Drop)]
 pub struct Tables {
     trace: Trace,
@@ -35,6 +37,7 @@ pub struct Tables {
     mentions: Mentions,
     turns: Turns,
     lanes: Vec<Vec<u32>>,
+    spreads: Vec<u32>,
 }
 
 impl Model for Tables {
@@ -47,7 +50,7 @@ impl Model for Tables {
     ghost view = { λ a. a.trace.recording };
 
     ghost invariant = { λ a. AreTables a.trace.recording a.positions.items a.clocks.events a.lasting_from
-        × AreIndexes a.trace.recording a.clocks.events a.mentions.numbers (map (λ list. list.items) a.mentions.lists.items) a.turns.positions.items a.turns.downs.items (map (λ list. list.items) a.lanes.items) };
+        × AreIndexes a.trace.recording a.clocks.events a.mentions.numbers (map (λ list. list.items) a.mentions.lists.items) a.turns.positions.items a.turns.downs.items (map (λ list. list.items) a.lanes.items) a.spreads.items };
 }
 
 impl Tables {
@@ -66,6 +69,7 @@ impl Tables {
         let mentions = mentions_in(alloc, entries)?;
         let turns = turns_of(alloc, entries)?;
         let lanes = lanes_of(alloc, entries, &clocks)?;
+        let spreads = spreads_of(alloc, entries, &clocks)?;
         let trace = trace.try_clone()?;
         Ok(Tables {
             trace,
@@ -75,6 +79,7 @@ impl Tables {
             mentions,
             turns,
             lanes,
+            spreads,
         })
     }
 
@@ -118,10 +123,11 @@ impl Tables {
         self.trace.det_at(k)
     }
 
-    /// How the delivery at position k, whose determinant this is, first has an orphan; None where it never has one.
-    pub(crate) fn first_orphan(&self, f: u16, k: u32, det: Det) -> Option<Breach>
-        requires { det_at self.now.past k ≡ Some det }
-        ensures { FirstBreach self.now f k result }
+    /// How the delivery at position k, whose determinant this is, first has an orphan, if it has one by the instant `end`.
+    pub(crate) fn first_orphan(&self, f: u16, end: u32, k: u32, det: Det) -> Option<Breach>
+        requires delivery { det_at self.now.past k ≡ Some det }
+        requires within { end ≤ length self.now.past }
+        ensures { FirstBreachBy self.now f end k result }
     {
         let run = Run {
             trace: &self.trace,
@@ -129,15 +135,19 @@ impl Tables {
             lasting_from: self.lasting_from,
             turns: &self.turns,
         };
+        let mentions = self.mentions.list(det);
+        if is_covered(&run, mentions, self.spreads[k as usize], f, end, k, det) {
+            return None;
+        }
         let mut room = [0; LANES];
         let firsts = &mut room[..self.lanes.len()];
         write_firsts(firsts, &self.clocks, &self.lanes, k, self.entries());
         let changes = Changes {
-            mentions: self.mentions.list(det),
+            mentions,
             turns: &self.turns.positions,
             firsts: &*firsts,
         };
-        first_orphan(&run, &changes, f, k, det)
+        first_orphan(&run, &changes, f, end, k, det)
     }
 }
 

@@ -1,7 +1,7 @@
-use crate::breach::{Breach, Excess, earlier};
-use crate::judge::{decided, first_breach, first_excess, judge, least_between};
-use crate::tables::Tables;
-use crate::verdict::Verdict;
+use crate::{
+    Breach, Excess, Tables, Verdict, decided, earlier, first_breach, first_excess, judge,
+    least_between,
+};
 use causal_holders::Holders;
 use causal_name::{Det, Pid};
 use causal_trace::entry::{Dets, Entry};

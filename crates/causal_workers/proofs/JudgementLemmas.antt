@@ -1,9 +1,9 @@
 -- A text has one judgement.
 use Rattle.std.proofs.Common.{◌≡◌, ◌∙◌, ℕ, List, length, sym, subst, ap}
 use Rattle.causal_trace.specs.Past.{deliveries_in}
-use Rattle.causal_text.proofs.Exact.{one_recording}
+use Rattle.causal_text.proofs.Lemmas.Exact.{one_recording}
 use Rattle.causal_audit.specs.Verdicts.{IsVerdict}
-use Rattle.causal_audit.proofs.OneVerdict.{one_verdict}
+use Rattle.causal_audit.proofs.Lemmas.OneVerdict.{one_verdict}
 use Rattle.causal_workers.specs.Judgements.{IsJudgement}
 use Rattle.causal_workers.specs.declared.judged.Judged.{Judged}
 

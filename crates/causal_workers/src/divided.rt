@@ -1,18 +1,15 @@
 //! The audit of a trace by workers.
-ghost use Rattle.std.specs.Prelude.{◌≡◌, ◌+◌, ◌≤◌, ℕ, [], vec_capacity, IfOk, Err, true};
+ghost use Rattle.std.specs.Prelude.{◌≡◌, ◌+◌, ◌≤◌, ℕ, [], vec_capacity, length, IfOk, Err, true};
 ghost use Rattle.std.specs.Bool.{OnTrue};
 ghost use Rattle.causal_trace.specs.Past.{deliveries_in};
 ghost use Rattle.causal_trace.specs.Rows.{Recording};
-ghost use Rattle.causal_audit.specs.Breaches.{LeastBreach};
+ghost use Rattle.causal_audit.specs.Breaches.{LeastBreachBy};
 ghost use Rattle.causal_audit.specs.Verdicts.{IsVerdict};
-ghost use Rattle.causal_workers.specs.Parts.{Follows, Covers};
+ghost use Rattle.causal_workers.specs.Parts.{Follows, Covers, IsPart};
 
 use crate::gate::Gate;
 use crate::part::{Part, Started};
-use causal_audit::breach::{Breach, earlier};
-use causal_audit::judge::{decided, first_excess};
-use causal_audit::tables::Tables;
-use causal_audit::verdict::Verdict;
+use causal_audit::{Breach, Tables, Verdict, decided, deciding, earlier, first_excess};
 use causal_name::NoMemory;
 use causal_trace::trace::Trace;
 use std::alloc::Global;
@@ -49,7 +46,7 @@ impl From<NoMemory> for AuditFault {
 /// # Errors
 /// `NoMemory` where the memory for the tables or for the list of workers was refused; then no worker was started.
 /// `NoWorker` where a worker could not be started, after those that were started ended; never with one worker.
-#[tactic(auto, using(causal_audit::proofs::OneVerdict::one_verdict))]
+#[tactic(auto, using(causal_audit::proofs::Lemmas::OneVerdict::one_verdict))]
 pub fn audit<G: Gate + Sync, R: Threads + Wait>(
     rt: &R,
     alloc: Global,
@@ -64,31 +61,36 @@ pub fn audit<G: Gate + Sync, R: Threads + Wait>(
     ensures alone { result ≡ Err AuditFault.NoWorker → 2 ≤ workers }
 {
     let tables = Tables::of(alloc, trace)?;
-    let least = least_of_all(rt, alloc, &tables, f, workers, gate)?;
-    Ok(decided(first_excess(&tables, f), least))
+    let excess = first_excess(&tables, f);
+    let end = deciding(&tables, &excess);
+    let least = least_of_all(rt, alloc, &tables, f, end, workers, gate)?;
+    Ok(decided(excess, least))
 }
 
-/// The least breach of all deliveries.
+/// The least breach of all deliveries, if it comes by the instant `end`.
 fn least_of_all<G: Gate + Sync, R: Threads + Wait>(
     rt: &R,
     alloc: Global,
     tables: &Tables,
     f: u16,
+    end: u32,
     workers: u32,
     gate: &G,
 ) -> Result<Option<Breach>, AuditFault>
-    requires { (1 ≤ workers) × (workers ≤ 64) }
-    ensures least { IfOk result (LeastBreach tables.now f 0 (deliveries_in tables.now.past)) }
+    requires workers { (1 ≤ workers) × (workers ≤ 64) }
+    requires within { end ≤ length tables.now.past }
+    ensures least { IfOk result (LeastBreachBy tables.now f end 0 (deliveries_in tables.now.past)) }
     ensures alone { result ≡ Err AuditFault.NoWorker → 2 ≤ workers }
 {
     thread::scope(
         thread::scope_env(),
         rt,
         |scope| -> Result<Option<Breach>, AuditFault>
-            requires { (1 ≤ workers) × (workers ≤ 64) }
-            ensures least { IfOk result (LeastBreach tables.entry.now f 0 (deliveries_in tables.entry.now.past)) }
+            requires workers { (1 ≤ workers) × (workers ≤ 64) }
+            requires within { end ≤ length tables.now.past }
+            ensures least { IfOk result (LeastBreachBy tables.entry.now f end 0 (deliveries_in tables.entry.now.past)) }
             ensures alone { result ≡ Err AuditFault.NoWorker → 2 ≤ workers }
-        { least_in(rt, scope, alloc, tables, f, workers, gate) },
+        { least_in(rt, scope, alloc, tables, f, end, workers, gate) },
     )
 }
 
@@ -99,11 +101,13 @@ fn least_in<'s, 't: 's, 'g: 's, E, G: Gate + Sync, R: Threads>(
     alloc: Global,
     tables: &'t Tables,
     f: u16,
+    end: u32,
     workers: u32,
     gate: &'g G,
 ) -> Result<Option<Breach>, AuditFault>
-    requires { (1 ≤ workers) × (workers ≤ 64) }
-    ensures least { IfOk result (LeastBreach tables.entry.now f 0 (deliveries_in tables.entry.now.past)) }
+    requires workers { (1 ≤ workers) × (workers ≤ 64) }
+    requires within { end ≤ length tables.now.past }
+    ensures least { IfOk result (LeastBreachBy tables.entry.now f end 0 (deliveries_in tables.entry.now.past)) }
     ensures alone { result ≡ Err AuditFault.NoWorker → 2 ≤ workers }
 {
     let Ok(mut started) = Vec::with_capacity(alloc, (workers - 1) as usize) else {
@@ -112,6 +116,7 @@ fn least_in<'s, 't: 's, 'g: 's, E, G: Gate + Sync, R: Threads>(
     let own = Part {
         tables,
         f,
+        end,
         from: 0,
         to: part_end(0, tables.deliveries(), workers),
     };
@@ -133,12 +138,12 @@ fn all_started<'s, 't: 's, 'g: 's, E, G: Gate + Sync>(
 ) -> bool
     requires workers { (1 ≤ workers) × (workers ≤ 64) }
     requires room { (started.old.items ≡ []) × (workers ≤ vec_capacity started.old + 1) }
-    requires own { own.to ≤ deliveries_in own.tables.now.past }
+    requires own { IsPart own }
     requires alone { workers ≡ 1 → own.to ≡ deliveries_in own.tables.now.past }
-    ensures parts { OnTrue result (Follows own.entry.tables.now own.entry.f own.entry.to started.new.items (deliveries_in own.entry.tables.now.past)) }
+    ensures parts { OnTrue result (Follows own.entry.tables.now own.entry.f own.entry.end own.entry.to started.new.items (deliveries_in own.entry.tables.now.past)) }
     ensures alone { workers ≡ 1 → result ≡ true }
 {
-    let Part { tables, f, .. } = own;
+    let Part { tables, f, end, .. } = own;
     let all = tables.deliveries();
     let mut from = own.to;
     for worker in 1..workers {
@@ -146,12 +151,13 @@ fn all_started<'s, 't: 's, 'g: 's, E, G: Gate + Sync>(
         let part = Part {
             tables,
             f,
+            end,
             from,
             to,
         };
         let work = move || -> Option<Breach>
-            requires { (part.from ≤ part.to) × (part.to ≤ deliveries_in part.tables.now.past) }
-            ensures { LeastBreach part.entry.tables.now part.entry.f part.entry.from part.entry.to result }
+            requires { IsPart part }
+            ensures { LeastBreachBy part.entry.tables.now part.entry.f part.entry.end part.entry.from part.entry.to result }
         { part.judged(worker, gate) };
         let Ok(handle) = scope.spawn_with(part, work) else {
             return false;
@@ -179,7 +185,7 @@ fn least_joined<'t, R: Threads>(
     first: Option<Breach>,
     started: Vec<Started<'t>>,
 ) -> Option<Breach>
-    ensures { (r : Recording) (f to : ℕ) → Covers r f first started.entry.items to → LeastBreach r f 0 to result }
+    ensures { (r : Recording) (f end to : ℕ) → Covers r f end first started.entry.items to → LeastBreachBy r f end 0 to result }
 {
     let mut least = first;
     for handle in started {

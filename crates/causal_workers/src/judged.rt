@@ -6,7 +6,7 @@ ghost use Rattle.causal_workers.specs.Judgements.{IsJudgement, IsFaultOf};
 
 use crate::divided::{AuditFault, audit};
 use crate::gate::Gate;
-use causal_audit::verdict::Verdict;
+use causal_audit::Verdict;
 use causal_text::{TextFault, read_trace};
 use causal_trace::trace::Trace;
 use std::alloc::Global;

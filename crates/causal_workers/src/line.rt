@@ -6,7 +6,7 @@ ghost use Rattle.causal_holders.specs.Members.{ascending};
 ghost use Rattle.causal_workers.specs.Lines as lines;
 
 use crate::judged::Judged;
-use causal_audit::verdict::Verdict;
+use causal_audit::Verdict;
 use causal_holders::Holders;
 use causal_name::NoMemory;
 use std::alloc::{AllocError, Global};

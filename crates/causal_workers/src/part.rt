@@ -1,19 +1,17 @@
 //! The work of one worker.
-ghost use Rattle.std.specs.Prelude.{◌≤◌};
-ghost use Rattle.causal_trace.specs.Past.{deliveries_in};
-ghost use Rattle.causal_audit.specs.Breaches.{LeastBreach};
+ghost use Rattle.causal_audit.specs.Breaches.{LeastBreachBy};
+ghost use Rattle.causal_workers.specs.Parts.{IsPart};
 
 use crate::gate::Gate;
-use causal_audit::breach::Breach;
-use causal_audit::judge::least_between;
-use causal_audit::tables::Tables;
+use causal_audit::{Breach, Tables, least_by};
 use std::thread::{Promise, PromisedHandle};
 
-/// The deliveries numbered from `from` and below `to`.
+/// The deliveries numbered from `from` and below `to`, which are judged up to the instant `end`.
 #[derive(Clone, Copy)]
 pub struct Part<'a> {
     pub tables: &'a Tables,
     pub f: u16,
+    pub end: u32,
     pub from: u32,
     pub to: u32,
 }
@@ -22,16 +20,16 @@ pub struct Part<'a> {
 pub type Started<'a> = PromisedHandle<Option<Breach>, Part<'a>>;
 
 impl<'a> Promise<Option<Breach>> for Part<'a> {
-    ghost kept_by = { λ p r. LeastBreach p.tables.now p.f p.from p.to r };
+    ghost kept_by = { λ p r. LeastBreachBy p.tables.now p.f p.end p.from p.to r };
 }
 
 impl<'a> Part<'a> {
-    /// Passes the gate as the worker of this number, and gives the least breach of the part.
+    /// Passes the gate as the worker of this number, and gives the least breach of the part, if it comes by `end`.
     pub fn judged<G: Gate>(self, worker: u32, gate: &G) -> Option<Breach>
-        requires { (self.from ≤ self.to) × (self.to ≤ deliveries_in self.tables.now.past) }
-        ensures { LeastBreach self.entry.tables.now self.entry.f self.entry.from self.entry.to result }
+        requires { IsPart self }
+        ensures { LeastBreachBy self.entry.tables.now self.entry.f self.entry.end self.entry.from self.entry.to result }
     {
         gate.enter(worker);
-        least_between(self.tables, self.f, self.from, self.to)
+        least_by(self.tables, self.f, self.end, self.from, self.to)
     }
 }

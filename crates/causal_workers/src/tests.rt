@@ -3,7 +3,7 @@ use crate::divided::audit;
 use crate::gate::{Gate, OpenGate};
 use crate::judged::{AuditTextFault, Judged, audit_text};
 use crate::line::verdict_line;
-use causal_audit::verdict::Verdict;
+use causal_audit::Verdict;
 use causal_holders::Holders;
 use causal_text::{TextFault, TextKind, read_trace};
 use std::sync::atomic::{AtomicU64, Ordering};
@@ -228,5 +228,52 @@ fn audit_workers_overlap(rt: HostRuntime) -> Result<(), Fail> {
     assert_eq!(rt; gate.second.load(Ordering::SeqCst), 1);
     assert_eq!(rt; gate.strangers.load(Ordering::SeqCst), 0);
     assert_eq!(rt; found, Verdict::Accept);
+    Ok(())
+}
+
+/// Counts who enters: each number below 64, and how often one enters again or is no worker's.
+#[derive(Drop)]
+struct Counting {
+    entered: AtomicU64,
+    again: AtomicU64,
+    strangers: AtomicU64,
+}
+
+impl Gate for Counting {
+    fn enter(&self, worker: u32) {
+        if worker >= 64 {
+            self.strangers.fetch_add(1, Ordering::SeqCst);
+            return;
+        }
+        let own = 1_u64 << worker;
+        if self.entered.fetch_or(own, Ordering::SeqCst) & own != 0 {
+            self.again.fetch_add(1, Ordering::SeqCst);
+        }
+    }
+}
+
+#[test]
+fn each_worker_enters_once_also_without_work(rt: HostRuntime) -> Result<(), Fail> {
+    let trace = read_trace(rt.alloc(), RING.as_bytes()).map_err(|_| "no trace")?;
+    for (workers, all) in [(1, 1), (5, 31), (64, u64::MAX)] {
+        let gate = Counting {
+            entered: AtomicU64::new(0),
+            again: AtomicU64::new(0),
+            strangers: AtomicU64::new(0),
+        };
+        let found = audit(&rt, rt.alloc(), &trace, 1, workers, &gate).map_err(|_| "no verdict")?;
+        assert_eq!(rt; found, Verdict::Accept);
+        assert_eq!(rt;
+            gate.entered.load(Ordering::SeqCst),
+            all,
+            "{workers} workers"
+        );
+        assert_eq!(rt; gate.again.load(Ordering::SeqCst), 0, "{workers} workers");
+        assert_eq!(rt;
+            gate.strangers.load(Ordering::SeqCst),
+            0,
+            "{workers} workers"
+        );
+    }
     Ok(())
 }

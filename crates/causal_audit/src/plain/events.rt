@@ -2,8 +2,8 @@
 ghost use Rattle.std.specs.Prelude.{◌≡◌, ◌≤◌, ◌<◌, ◌↔◌, ℕ, IsTrue, true, false, length, reverse, slice_index_or, MatchOption, IfOk};
 ghost use Rattle.std.specs.Option.{option_map};
 ghost use Rattle.causal_trace.specs.Past as past;
-ghost use Rattle.causal_trace.specs.Dependence.{actor, is_delivery_of, IsEventOf, DirectlyPrecedes, Reaches};
-ghost use Rattle.causal_audit.specs.Plain.{DeliversEarlier, MarksReached, FollowsMarked, HasMarkedEvent, AreDependents};
+ghost use Rattle.causal_trace.specs.Dependence.{AreForward, actor, is_delivery_of, IsEventOf, DirectlyPrecedes, Reaches};
+ghost use Rattle.causal_audit.specs.Plain.{MarksReached, FollowsMarked, HasMarkedEvent, AreDependentProcesses};
 
 use crate::plain::state::{Lane, is_down, present_lane};
 use causal_holders::Holders;
@@ -82,7 +82,7 @@ fn follows_marked(entries: &[Entry], marks: &[bool], j: usize) -> bool
 fn is_reached(entries: &[Entry], marks: &[bool], k: usize, j: usize) -> bool
     requires within { j < length entries.now }
     requires before { length marks.now ≡ j }
-    requires earlier { DeliversEarlier (reverse entries.now) }
+    requires earlier { AreForward (reverse entries.now) }
     requires marked { MarksReached (reverse entries.now) k marks.now }
     ensures { IsTrue result ↔ Reaches (reverse entries.now) k j }
 {
@@ -94,7 +94,7 @@ fn is_reached(entries: &[Entry], marks: &[bool], k: usize, j: usize) -> bool
 
 /// A mark for each position: whether the event at k reaches it.
 fn reached_from(alloc: Global, entries: &[Entry], k: usize) -> Result<Vec<bool>, AllocError>
-    requires { DeliversEarlier (reverse entries.now) }
+    requires { AreForward (reverse entries.now) }
     ensures { IfOk result (λ marks. (length marks.items ≡ length entries.now) × MarksReached (reverse entries.now) k marks.items) }
 {
     let mut marks = Vec::new(alloc);
@@ -128,8 +128,8 @@ fn depends(entries: &[Entry], marks: &[bool], p: Pid) -> bool
 /// Those of the first n processes whose state depends on the delivery k.
 pub fn dependents(alloc: Global, entries: &[Entry], n: u16, k: usize) -> Result<Holders, AllocError>
     requires count { n ≤ 256 }
-    requires earlier { DeliversEarlier (reverse entries.now) }
-    ensures { IfOk result (AreDependents n (reverse entries.now) k) }
+    requires earlier { AreForward (reverse entries.now) }
+    ensures { IfOk result (AreDependentProcesses n (reverse entries.now) k) }
 {
     let marks = reached_from(alloc, entries, k)?;
     let mut dependents = Holders::none();

@@ -4,7 +4,8 @@ ghost use Rattle.causal_name.specs.Sets.{count_below};
 ghost use Rattle.causal_trace.specs.Past as past;
 ghost use Rattle.causal_trace.specs.Judgement.{HasOrphan, IsSafe};
 ghost use Rattle.causal_trace.specs.Rows.{AreAccepted};
-ghost use Rattle.causal_audit.specs.Plain.{DeliversEarlier, IsFailure};
+ghost use Rattle.causal_trace.specs.Dependence.{AreForward};
+ghost use Rattle.causal_audit.specs.Plain.{IsFailure};
 ghost use Rattle.causal_audit.specs.Verdicts.{IsVerdict};
 
 use crate::plain::orphans::least_orphan;
@@ -22,7 +23,7 @@ fn first_orphan(
 ) -> Result<Option<Verdict>, AllocError>
     requires count { n ≤ 256 }
     requires few { length entries.now ≤ 65536 }
-    requires earlier { DeliversEarlier (reverse entries.now) }
+    requires earlier { AreForward (reverse entries.now) }
     requires few_down { count_below n (past.is_down (reverse entries.now)) ≤ f }
     ensures { IfOk result (λ found. MatchOption found ((k : ℕ) → ¬ HasOrphan n f (reverse entries.now) k) (IsFailure n f (reverse entries.now))) }
 {
@@ -43,7 +44,7 @@ fn first_orphan(
 fn failure(alloc: Global, entries: &[Entry], n: u16, f: u16) -> Result<Option<Verdict>, AllocError>
     requires count { n ≤ 256 }
     requires few { length entries.now ≤ 65536 }
-    requires earlier { DeliversEarlier (reverse entries.now) }
+    requires earlier { AreForward (reverse entries.now) }
     ensures { IfOk result (λ found. MatchOption found (IsSafe n f (reverse entries.now)) (IsFailure n f (reverse entries.now))) }
 {
     let down = down_set(entries, n);

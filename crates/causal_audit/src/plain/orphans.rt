@@ -3,8 +3,9 @@ ghost use Rattle.std.specs.Prelude.{◌≡◌, ◌≤◌, ◌<◌, ◌↔◌, �
 ghost use Rattle.std.specs.FinSet.{contains};
 ghost use Rattle.causal_trace.specs.Past as past;
 ghost use Rattle.causal_trace.specs.Judgement.{HasOrphan};
+ghost use Rattle.causal_trace.specs.Dependence.{AreForward};
 ghost use Rattle.causal_audit.specs.Verdicts.{IsLeastOrphan};
-ghost use Rattle.causal_audit.specs.Plain.{DeliversEarlier, IsKept, IsLost, AreOrphans, Breaks, AreBreaking, IsInEach, IsLeastSet, HasNoLeast};
+ghost use Rattle.causal_audit.specs.Plain.{IsLoggedOutside, IsLost, AreOrphans, Breaks, AreBreaking, IsInEach, IsLeastSet, HasNoLeast};
 
 use crate::plain::crash_sets::crash_sets;
 use crate::plain::events::dependents;
@@ -31,7 +32,7 @@ fn keeps(entries: &[Entry], d: Det, crash: Holders, p: u8) -> bool
 /// Whether one of the first n processes does.
 fn is_kept(entries: &[Entry], n: u16, d: Det, crash: Holders) -> bool
     requires { n ≤ 256 }
-    ensures { IsTrue result ↔ IsKept n (reverse entries.now) d crash }
+    ensures { IsTrue result ↔ IsLoggedOutside n (reverse entries.now) d crash }
 {
     for p in 0..n {
         if keeps(entries, d, crash, p as u8) {
@@ -123,7 +124,7 @@ pub fn least_orphan(
     k: usize,
 ) -> Result<Option<LeastOrphan>, AllocError>
     requires count { n ≤ 256 }
-    requires earlier { DeliversEarlier (reverse entries.now) }
+    requires earlier { AreForward (reverse entries.now) }
     ensures { IfOk result (λ found. MatchOption found (¬ HasOrphan n f (reverse entries.now) k) (λ o. IsLeastOrphan n f (reverse entries.now) k o.crash o.orphan)) }
 {
     let Some(det) = det_at(entries, k) else {

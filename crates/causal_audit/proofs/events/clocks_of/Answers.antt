@@ -4,7 +4,7 @@ use Rattle.std.proofs.lemmas.List.{length-reverse}
 use Rattle.causal_trace.specs.Past.{instant}
 use Rattle.causal_trace.specs.Rows.{AreAccepted}
 use Rattle.causal_audit.specs.Stands.{Mirrors, Stands}
-use Rattle.causal_audit.proofs.Instants.{accepted_then, last_instant}
+use Rattle.causal_trace.proofs.Lemmas.AtInstants.{accepted_then, last_instant}
 use Rattle.causal_audit.proofs.Mirrored.{mirrors_none}
 use Rattle.causal_audit.proofs.Walked.{if_ok}
 use Rattle.causal_audit.proofs.Steps.{next_state, no_entry}

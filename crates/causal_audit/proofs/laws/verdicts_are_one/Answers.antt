@@ -1,4 +1,4 @@
-use Rattle.causal_audit.proofs.OneVerdict.{one_verdict}
+use Rattle.causal_audit.proofs.Lemmas.OneVerdict.{one_verdict}
 use Rattle.causal_audit.proofs.laws.verdicts_are_one.Goals as goal
 
 pub returns : goal.returns

@@ -1,7 +1,7 @@
 use Rattle.std.proofs.Common.{◌≡◌, ◌∷◌, ◌+◌, ◌<◌, [], length, refl, sym, subst, arith}
 use Rattle.causal_trace.specs.Past.{is_down}
 use Rattle.causal_trace.specs.State.{past_at}
-use Rattle.causal_trace.proofs.Instants.{past_more, past_length}
+use Rattle.causal_trace.proofs.Lemmas.Instants.{past_more, past_length}
 use Rattle.causal_audit.specs.Filed.{AreTurns}
 use Rattle.causal_audit.specs.Sights.{Shows}
 use Rattle.causal_audit.proofs.Shown.{shows_none}

@@ -8,4 +8,4 @@ invariant-loop-worker g l =
     × (vec_len l.started + 1 ≡ l.worker)
     × (l.workers ≤ vec_capacity l.started + 1)
     × (l.worker ≡ l.workers → l.from ≡ l.all)
-    × Follows l.own.tables.now l.own.f l.own.to l.started.items l.from
+    × Follows l.own.tables.now l.own.f l.own.end l.own.to l.started.items l.from

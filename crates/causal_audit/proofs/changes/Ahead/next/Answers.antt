@@ -1,4 +1,7 @@
-use Rattle.std.proofs.Common.{arith}
+use Rattle.std.proofs.Common.{◌≡◌, ◌≤◌, inl, inr, subst, arith}
+use Rattle.std.specs.Prelude.{Contains}
+use Rattle.std.proofs.lemmas.Bool.{eqb-true}
+use Rattle.std.proofs.lemmas.Bool.Decides.{eqb_tells}
 use Rattle.causal_audit.proofs.changes.Ahead.next.Goals as goal
 
 pub returns-clause-ahead : goal.returns-clause-ahead
@@ -10,7 +13,21 @@ returns-clause-ahead c changes are = record {
 
 pub returns-clause-none : goal.returns-clause-none
 returns-clause-none c changes are = record {
-  mentions = λ v late early. c.next-mention.ensures.none changes.mentions.now are.mentions v late (omega (arith, early, c.min.ensures, c.min-2.ensures));
-  turns = λ v late early. c.next-turn.ensures.none changes.turns.now are.turns v late (omega (arith, early, c.min.ensures, c.min-2.ensures));
-  firsts = λ v late early. c.next-first.ensures.none changes.firsts.now are.firsts v late (omega (arith, early, c.min.ensures, c.min-2.ensures));
+  mentions = λ v late early. c.next-mention.ensures.none changes.mentions.now are.mentions v late (omega (arith, early, c.min.ensures, c.min-position.ensures));
+  turns = λ v late early. c.next-turn.ensures.none changes.turns.now are.turns v late (omega (arith, early, c.min.ensures, c.min-position.ensures));
+  firsts = λ v late early. c.next-first.ensures.none changes.firsts.now are.firsts v late (omega (arith, early, c.min.ensures, c.min-position.ensures));
 }
+
+pub returns-clause-mentioned : goal.returns-clause-mentioned
+returns-clause-mentioned c changes are early =
+    let position = c.min-position.result in
+    let mention = c.next-mention.result in
+    let low : position ≤ mention = omega (arith, c.min.ensures, c.min-position.ensures) in (
+      λ is.
+          let same : mention ≡ position = eqb-true mention position is in
+          subst (Contains changes.mentions.now) same (c.next-mention.ensures.found changes.mentions.now are.mentions (omega (arith, same, early))),
+      λ listed. elim (eqb_tells mention position) [
+        | inl here ↦ here.0
+        | inr apart ↦ absurd (c.next-mention.ensures.none changes.mentions.now are.mentions position (omega (arith, c.next-mention.ensures.bounds, c.next-turn.ensures.bounds, c.next-first.ensures.bounds, c.min.ensures, c.min-position.ensures)) (omega (arith, low, apart.1)) listed)
+      ],
+    )

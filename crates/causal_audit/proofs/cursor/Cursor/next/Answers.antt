@@ -1,4 +1,5 @@
-use Rattle.std.proofs.Common.{◌≡◌, ◌<◌, ◌≤◌, length, get_or, arith, subst}
+use Rattle.std.proofs.Common.{◌≡◌, ◌<◌, ◌≤◌, length, get_or, arith, subst, sym, ◌∙◌}
+use Rattle.std.proofs.lemmas.List.{get_or_default}
 use Rattle.causal_audit.proofs.Cursors.{none_found, none_left, passed_one}
 use Rattle.causal_audit.proofs.cursor.Cursor.next.Goals as goal
 
@@ -39,3 +40,12 @@ returns-clause-none c list is =
     let at = c.loop-position.invariant list is in
     none_left list c.args.from c.loop-position.self.passed at.ascending at.passed c.args.end
     (subst (λ l. length l ≤ c.loop-position.self.passed) at.over c.in_default.ensures.lookup.3)
+
+pub returns-then-position-from-clause-found : goal.returns-then-position-from-clause-found
+returns-then-position-from-clause-found c list is early =
+    let at = c.loop-position.invariant list is in
+    let x = c.in-Some.position.now in
+    let there : c.loop-position.self.passed < length list = subst (λ l. c.loop-position.self.passed < length l) at.over c.in-Some.ensures.lookup.3.0 in
+    let value : x ≡ get_or list c.loop-position.self.passed x = subst (λ l. x ≡ get_or l c.loop-position.self.passed x) at.over (c.in-Some.ensures.lookup.3.1 x) in
+    let same : x ≡ c.min.result = omega (arith, c.min.ensures, early) in
+    (c.loop-position.self.passed, there, sym (get_or_default list c.loop-position.self.passed x c.min.result there) ∙ sym value ∙ same)

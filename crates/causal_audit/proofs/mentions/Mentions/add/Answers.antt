@@ -9,7 +9,7 @@ returns-clause-noted c =
     on_ok c.add_to.result (λ added past dets long are.
     let numbers = c.number.new.self.numbers in
     let lists = map (λ list. list.items) c.number.new.self.lists.items in
-    let alike = mentions_alike past dets c.args.self.now.numbers numbers (map (λ list. list.items) c.args.self.now.lists.items) lists c.in_ok-number.ensures.numbered c.in_ok-number.ensures.ascend c.in_ok-number.ensures.same are in
+    let alike = mentions_alike past dets c.args.self.now.numbers numbers (map (λ list. list.items) c.args.self.now.lists.items) lists c.in_ok-number.ensures.numbered (c.in_ok-number.ensures.apart are.apart) c.in_ok-number.ensures.ascend c.in_ok-number.ensures.same are in
     subst (λ ls. AreMentionsWith past (dets ++ c.args.det ∷ []) numbers ls) (sym (added ∙ ap (with_added lists c.in_ok-number.number) (sym long)))
     (mentions_more past dets numbers lists c.args.det c.in_ok-number.number c.in_ok-number.ensures.number alike))
     c.add_to.ensures.added

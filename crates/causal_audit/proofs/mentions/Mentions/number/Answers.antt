@@ -5,7 +5,7 @@ use Rattle.std.proofs.lemmas.List.{map-append, length-map}
 use Rattle.causal_name.specs.declared.Det.{Det}
 use Rattle.causal_name.specs.Names.{same_det}
 use Rattle.causal_audit.specs.Filed.{Ascends, AreNumbered, mentions_of}
-use Rattle.causal_audit.proofs.Mentioned.{new_numbered, new_same, new_ascend}
+use Rattle.causal_audit.proofs.Mentioned.{new_apart, new_numbered, new_same, new_ascend}
 use Rattle.causal_audit.proofs.mentions.Mentions.number.Goals as goal
 
 abbrev positions : Vec ℕ Global → List ℕ
@@ -42,3 +42,13 @@ returns-clause-same c d =
     let updates : (q : Det) → get same_det c.insert.new.self q ≡ cond (same_det c.args.det q) (Some (length lists)) (get same_det old q) =
     λ q. c.in_ok-insert.ensures.updates.0 q ∙ ap (λ m. cond (same_det c.args.det q) (Some m) (get same_det old q)) number in
     ap (λ ls. mentions_of c.insert.new.self ls d) more ∙ new_same old c.insert.new.self lists c.args.det none updates c.requires d
+
+pub returns-clause-apart : goal.returns-clause-apart
+returns-clause-apart c =
+    let old = c.args.self.now.numbers in
+    let lists = map positions c.args.self.now.lists.items in
+    let none : get same_det old c.args.det ≡ None = sym c.in_default.ensures.value in
+    let number : c.len-number.result ≡ length lists = omega (arith, c.len-number.ensures, length-map c.args.self.now.lists.items positions) in
+    let updates : (q : Det) → get same_det c.insert.new.self q ≡ cond (same_det c.args.det q) (Some (length lists)) (get same_det old q) =
+    λ q. c.in_ok-insert.ensures.updates.0 q ∙ ap (λ m. cond (same_det c.args.det q) (Some m) (get same_det old q)) number in
+    new_apart old c.insert.new.self lists c.args.det none updates c.requires

@@ -4,7 +4,7 @@ use Rattle.std.proofs.lemmas.List.{length-reverse}
 use Rattle.causal_name.specs.declared.Pid.{Pid}
 use Rattle.causal_trace.specs.Past.{lane}
 use Rattle.causal_trace.specs.Dependence.{actor, IsEventOf}
-use Rattle.causal_trace.proofs.Reached.{event_below}
+use Rattle.causal_trace.proofs.Lemmas.Reached.{event_below}
 use Rattle.causal_audit.proofs.Happened.{event_from, event_who}
 use Rattle.causal_audit.specs.declared.plain.state.Lane.{Lane}
 use Rattle.causal_audit.proofs.plain.events.lane_at.Goals as goal

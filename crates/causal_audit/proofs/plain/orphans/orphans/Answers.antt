@@ -3,7 +3,7 @@ use Rattle.std.specs.Prelude.{not}
 use Rattle.std.specs.Cmp.{nat_cmp_total}
 use Rattle.std.specs.FinSet.{contains, contains-difference}
 use Rattle.std.proofs.lemmas.Bool.{both_ways, and_from}
-use Rattle.causal_holders.proofs.Sets.{difference_member}
+use Rattle.causal_holders.proofs.Lemmas.Sets.{difference_member}
 use Rattle.causal_audit.proofs.Members.{empty_without}
 use Rattle.causal_audit.proofs.plain.orphans.orphans.Goals as goal
 

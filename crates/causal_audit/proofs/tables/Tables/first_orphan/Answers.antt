@@ -1,13 +1,16 @@
-use Rattle.std.proofs.Common.{◌≡◌, ℕ, Vec, Global, List, length, map, Some, arith, subst, sym}
+use Rattle.std.proofs.Common.{◌≡◌, ◌<◌, ◌∙◌, ℕ, get_or, Vec, Global, List, length, map, Some, arith, subst, sym}
 use Rattle.std.specs.Prelude.{Contains}
 use Rattle.std.specs.List.{All}
 use Rattle.std.specs.List.Sorted.{IsNonDecreasing}
+use Rattle.std.proofs.lemmas.List.{get_or_default}
 use Rattle.causal_trace.specs.Past.{det_at}
-use Rattle.causal_audit.specs.Changes.{HasMentions, HasTurns}
+use Rattle.causal_audit.specs.Changes.{AreMentionsOf, HasMentions, HasTurns}
 use Rattle.causal_audit.specs.Filed.{Ascends, AreFirsts, list_at}
 use Rattle.causal_audit.proofs.Firsts.{firsts_listed}
-use Rattle.causal_audit.proofs.Instants.{det_within}
+use Rattle.causal_trace.proofs.Lemmas.AtInstants.{det_within}
 use Rattle.causal_audit.proofs.Mentioned.{mentions_ascend}
+use Rattle.causal_audit.specs.Spread.{StaysUntil}
+use Rattle.causal_audit.proofs.Spreading.{stays_until}
 use Rattle.causal_audit.proofs.tables.Tables.first_orphan.Goals as goal
 
 abbrev positions : Vec ℕ Global → List ℕ
@@ -15,7 +18,7 @@ positions list = list.items
 
 pub write_firsts-requires-clause-delivery : goal.write_firsts-requires-clause-delivery
 write_firsts-requires-clause-delivery c =
-    let at : det_at c.self.inside.trace.recording.past c.args.k ≡ Some c.args.det = rw (← c.self.view_is) at c.requires in
+    let at : det_at c.self.inside.trace.recording.past c.args.k ≡ Some c.args.det = rw (← c.self.view_is) at c.requires.delivery in
     omega (arith, det_within c.self.inside.trace.recording.past c.args.k c.args.det at, c.self.invariant.0.stands.count)
 
 pub write_firsts-requires-clause-ascend : goal.write_firsts-requires-clause-ascend
@@ -32,7 +35,7 @@ pub first_orphan-requires-clause-clock : goal.first_orphan-requires-clause-clock
 first_orphan-requires-clause-clock c = c.self.invariant.0.stands
 
 pub first_orphan-requires-clause-delivery : goal.first_orphan-requires-clause-delivery
-first_orphan-requires-clause-delivery c = rw (← c.self.view_is) at c.requires
+first_orphan-requires-clause-delivery c = rw (← c.self.view_is) at c.requires.delivery
 
 pub first_orphan-requires-clause-changes : goal.first_orphan-requires-clause-changes
 first_orphan-requires-clause-changes c =
@@ -43,17 +46,38 @@ first_orphan-requires-clause-changes c =
     let lanes = map positions c.self.inside.lanes.items in
     let numbers = c.self.inside.mentions.numbers in
     let mentions = map positions c.self.inside.mentions.lists.items in
-    let at : det_at r.past c.args.k ≡ Some c.args.det = rw (← c.self.view_is) at c.requires in
+    let at : det_at r.past c.args.k ≡ Some c.args.det = rw (← c.self.view_is) at c.requires.delivery in
     let firsts : AreFirsts events c.args.k lanes c.write_firsts.new.firsts =
     subst (λ ls. AreFirsts events c.args.k (map positions ls) c.write_firsts.new.firsts) c.deref.ensures.value c.write_firsts.ensures.firsts in
     record {
-      mentions_ascend = subst IsNonDecreasing (sym c.list.ensures) (mentions_ascend r.past numbers mentions indexes.mentioned c.args.det);
+      mentions_ascend = subst IsNonDecreasing (sym c.list-mentions.ensures) (mentions_ascend r.past numbers mentions indexes.mentioned c.args.det);
       turns_ascend = subst IsNonDecreasing (sym c.deref-2.ensures.value) indexes.turned.ascends.ascending;
       firsts_ascend = c.write_firsts.ensures.ascending;
-      mentioned = subst (HasMentions r.past c.args.det) (sym c.list.ensures) (indexes.mentioned.mentioned c.args.det);
+      mentioned = subst (HasMentions r.past c.args.det) (sym c.list-mentions.ensures) (indexes.mentioned.mentioned c.args.det);
+      only = subst (AreMentionsOf r.past c.args.det) (sym c.list-mentions.ensures) (indexes.mentioned.only c.args.det);
       turned = subst (HasTurns r.past) (sym c.deref-2.ensures.value) indexes.turned.turned;
       first = firsts_listed r.processes r.past kept.formed.accepted events kept.stands lanes indexes.in_lanes c.args.k c.args.det at c.write_firsts.new.firsts firsts;
     }
 
 pub returns : goal.returns
 returns c = rw (← c.self.view_is) c.first_orphan.ensures
+
+pub index-requires : goal.index-requires
+index-requires c =
+    let at : det_at c.self.inside.trace.recording.past c.args.k ≡ Some c.args.det = rw (← c.self.view_is) at c.requires.delivery in
+    omega (arith, det_within c.self.inside.trace.recording.past c.args.k c.args.det at, c.self.invariant.1.spread.count)
+
+pub is_covered-requires-clause-ascending : goal.is_covered-requires-clause-ascending
+is_covered-requires-clause-ascending c =
+    let mentions = map positions c.self.inside.mentions.lists.items in
+    subst IsNonDecreasing (sym c.list-mentions.ensures) (mentions_ascend c.self.inside.trace.recording.past c.self.inside.mentions.numbers mentions c.self.invariant.1.mentioned c.args.det)
+
+pub is_covered-requires-clause-stays : goal.is_covered-requires-clause-stays
+is_covered-requires-clause-stays c =
+    let r = c.self.inside.trace.recording in
+    let kept = c.self.invariant.0 in
+    let spreads = c.self.inside.spreads.items in
+    let at : det_at r.past c.args.k ≡ Some c.args.det = rw (← c.self.view_is) at c.requires.delivery in
+    let inside : c.args.k < length spreads = omega (arith, det_within r.past c.args.k c.args.det at, c.self.invariant.1.spread.count) in
+    let is : c.index.result.now ≡ get_or spreads c.args.k 0 = c.index.ensures ∙ get_or_default spreads c.args.k c.index.result.now 0 inside in
+    subst (StaysUntil r.past c.args.k) (sym is) (stays_until r.processes r.past kept.formed.accepted c.self.inside.clocks.events kept.stands spreads c.self.invariant.1.spread c.args.k)

@@ -1,7 +1,7 @@
 use Rattle.std.proofs.Common.{◌≡◌, ℕ, Vec, Global, List, length, map, reverse, arith, ap, subst, ◌∙◌}
 use Rattle.std.proofs.lemmas.List.{length-map, reverse-reverse}
 use Rattle.causal_trace.specs.State.{past_at}
-use Rattle.causal_trace.proofs.Instants.{past_whole}
+use Rattle.causal_trace.proofs.Lemmas.Instants.{past_whole}
 use Rattle.causal_audit.specs.Filed.{AreLanes, AreMentions, AreTurns}
 use Rattle.causal_audit.specs.Lasting.{NoneReleasedFrom}
 use Rattle.causal_audit.specs.Numbers.{ArePositions}
@@ -25,6 +25,7 @@ invariant_of-result c =
         mentioned = subst (λ p. AreMentions p c.in_ok-mentions.mentions.numbers (map positions c.in_ok-mentions.mentions.lists.items)) whole c.in_ok-mentions.ensures;
         turned = subst (λ p. AreTurns p c.in_ok-turns.turns.positions.items c.in_ok-turns.turns.downs.items) whole c.in_ok-turns.ensures;
         in_lanes = subst (λ p. AreLanes p c.in_ok-clocks.clocks.events (map positions c.in_ok-lanes.lanes.items)) whole c.in_ok-lanes.ensures.lanes;
+        spread = c.in_ok-spreads.ensures c.args.trace.now.recording c.len-len.ensures.formed c.entries-entries.ensures c.in_ok-clocks.ensures;
         few = omega (arith, c.in_ok-lanes.ensures.few, length-map c.in_ok-lanes.lanes.items positions);
       },
     )

@@ -1,0 +1,193 @@
+-- Which deliveries may come to have an orphan by one more entry.
+use Rattle.std.proofs.Common.{ℕ, ◌≡◌, ◌+◌, ◌<◌, ◌≤◌, inl, inr, Bool, true, false, cond, List, ◌∷◌, length, Some, None, refl, sym, ap, subst, ◌∙◌, arith}
+use Rattle.std.specs.Prelude.{◌⊎◌, ◌&&◌, ◌||◌, ◌==◌, not}
+use Rattle.std.proofs.lemmas.Bool.{false≢true, or_parts, false_from_ne_true, cond-true, cond-false, eq-eqb, ne_eqb}
+use Rattle.causal_name.specs.declared.Pid.{Pid}
+use Rattle.causal_name.specs.declared.Det.{Det}
+use Rattle.causal_name.specs.Sets.{count_below}
+use Rattle.causal_holders.proofs.Lemmas.Counting.{count_below-within}
+use Rattle.causal_trace.specs.declared.entry.Entry.{Entry}
+use Rattle.causal_trace.specs.declared.entry.Entry.TheVariants.{Send, Deliver, Stable, Crash, Restart, Forget}
+use Rattle.causal_trace.specs.Past.{is_down, is_stable, logs, has, det_at, det_of, lane}
+use Rattle.causal_trace.specs.Rows.{AreAccepted}
+use Rattle.causal_trace.specs.Dependence.{actor, Reaches, Depends}
+use Rattle.causal_trace.specs.Judgement.{HasOrphan}
+use Rattle.causal_trace.proofs.Lemmas.Accepted.{accepted_forward}
+use Rattle.causal_trace.proofs.Lemmas.Reached.{reaches_begins, reaches_newest, ReachesNewest, is_newest, in_lane, through_message, depends_restarted}
+use Rattle.causal_audit.specs.Laws.{gone}
+use Rattle.causal_audit.specs.Lasting.{may_release}
+use Rattle.causal_audit.specs.Sweep.{MayNewlyFail, SweepLaw, OneNewOrphan}
+use Rattle.causal_audit.proofs.Dependence.{IsNoTurn, depends_before}
+use Rattle.causal_audit.proofs.Known.{depends_known}
+use Rattle.causal_audit.proofs.Judged.{exposed, unexposed, orphan_without}
+use Rattle.causal_audit.proofs.Lasting.{stable_more, gone_more}
+use Rattle.causal_audit.proofs.Legal.{sends_up}
+
+-- ---- what holds before, from what holds after
+
+stable_fewer : (e : Entry) (past : List Entry) (d : Det) → is_stable (e ∷ past) d ≡ false → is_stable past d ≡ false
+stable_fewer e past d h = false_from_ne_true (is_stable past d) (λ s. false≢true (sym h ∙ stable_more e past d s))
+
+gone_fewer : (n f : ℕ) (e : Entry) (past : List Entry) (d : Det) → may_release e ≡ false → count_below n (gone (e ∷ past) d) ≤ f → count_below n (gone past d) ≤ f
+gone_fewer n f e past d stays few = omega (arith, few, count_below-within n (gone past d) (gone (e ∷ past) d) (λ p _ h. gone_more e past d p stays h))
+
+module _ (n f : ℕ) (e : Entry) (past : List Entry) (k : ℕ) (d : Det) (at : det_at (e ∷ past) k ≡ Some d) where
+  det_before : k < length past → det_at past k ≡ Some d
+  det_before below = sym (cond-false (k == length past) (det_of past e) (det_at past k) (ne_eqb k (length past) (λ is. omega (arith, below, is)))) ∙ at
+
+  det_newest : k ≡ length past → det_of past e ≡ Some d
+  det_newest is = sym (cond-true (k == length past) (det_of past e) (det_at past k) (eq-eqb k (length past) is)) ∙ at
+
+  -- an orphan that depended before
+  pub orphan_before : (p : ℕ) → p < n → Depends past k p → is_stable past d ≡ false → count_below n (gone past d) ≤ f → logs past p d ≡ false → HasOrphan n f past k
+  orphan_before p low depends unstable few without =
+      unexposed n f past k d (det_before (reaches_begins past k depends.event depends.reached)) (record {
+        unstable = unstable;
+        few = few;
+        orphan = p;
+        process = low;
+        depends = depends;
+        without = without;
+      })
+
+-- ---- a send
+
+pub sent_before : (n : ℕ) (past : List Entry) (k : ℕ) (d : Det) (from to : Pid) (ssn p : ℕ) → AreAccepted n (Send from to ssn ∷ past) → (k ≡ length past → det_at (Send from to ssn ∷ past) k ≡ Some d)
+    → actor (Send from to ssn) ≡ Some p → ReachesNewest (Send from to ssn) past k p → Depends past k p
+sent_before n past k d from to ssn p formed at who (is_newest is) = absurd (let e : None ≡ Some d = det_newest n 0 (Send from to ssn) past k d (at is) is in cc)
+sent_before n past k d from to ssn p formed at who (through_message j is reach) = absurd (false≢true is)
+sent_before n past k d from to ssn p formed at who (in_lane j event reach) =
+    let same : from.0 ≡ p = let x : Some from.0 ≡ Some p = who in cc in
+    record { up = subst (λ q. is_down past q ≡ false) same (sends_up n past from to ssn formed.1); event = j; present = event; reached = reach }
+
+pub sent : (n f : ℕ) (past : List Entry) (k : ℕ) (d : Det) (from to : Pid) (ssn : ℕ) → AreAccepted n (Send from to ssn ∷ past) → det_at (Send from to ssn ∷ past) k ≡ Some d
+    → HasOrphan n f (Send from to ssn ∷ past) k → HasOrphan n f past k
+sent n f past k d from to ssn formed at has =
+    let e = Send from to ssn in
+    let x = exposed n f (e ∷ past) k d at has in
+    let was : Depends past k x.orphan = elim (depends_before n e past k x.orphan formed (refl, refl) x.depends) [
+      | inl old ↦ old
+      | inr new ↦ sent_before n past k d from to ssn x.orphan formed (λ _. at) new.0 (reaches_newest e past k x.orphan (length past) (accepted_forward n (e ∷ past) formed) refl new.0 new.1)
+    ] in
+    orphan_before n f e past k d at x.orphan x.process was x.unstable x.few x.without
+
+-- ---- an entry of which no process is the actor
+
+pub no_actor : (n : ℕ) (e : Entry) (past : List Entry) (k p : ℕ) → AreAccepted n (e ∷ past) → actor e ≡ None → IsNoTurn e past p → Depends (e ∷ past) k p → Depends past k p
+no_actor n e past k p formed none same depends = elim (depends_before n e past k p formed same depends) [ inl old ↦ old | inr new ↦ absurd (let x : None ≡ Some p = sym none ∙ new.0 in cc) ]
+
+pub stored : (n f : ℕ) (past : List Entry) (k : ℕ) (d det : Det) → AreAccepted n (Stable det ∷ past) → det_at (Stable det ∷ past) k ≡ Some d
+    → HasOrphan n f (Stable det ∷ past) k → HasOrphan n f past k
+stored n f past k d det formed at has =
+    let x = exposed n f (Stable det ∷ past) k d at has in
+    orphan_before n f (Stable det) past k d at x.orphan x.process (no_actor n (Stable det) past k x.orphan formed refl (refl, refl) x.depends)
+    (stable_fewer (Stable det) past d x.unstable) x.few x.without
+
+held_by_other : (w b : Bool) → w ≡ false → (not w && b) ≡ false → b ≡ false
+held_by_other true b h k = absurd (false≢true (sym h))
+held_by_other false b h k = k
+
+pub crashed : (n f : ℕ) (past : List Entry) (k : ℕ) (d : Det) (who : Pid) → AreAccepted n (Crash who ∷ past) → det_at (Crash who ∷ past) k ≡ Some d
+    → HasOrphan n f (Crash who ∷ past) k → HasOrphan n f past k
+crashed n f past k d who formed at has =
+    let x = exposed n f (Crash who ∷ past) k d at has in
+    let other : (who.0 == x.orphan) ≡ false = (or_parts (who.0 == x.orphan) (is_down past x.orphan) x.depends.up).0 in
+    orphan_before n f (Crash who) past k d at x.orphan x.process
+    (no_actor n (Crash who) past k x.orphan formed refl (ap (λ b. b || is_down past x.orphan) other, refl) x.depends)
+    x.unstable (gone_fewer n f (Crash who) past d refl x.few) (held_by_other (who.0 == x.orphan) (logs past x.orphan d) other x.without)
+
+-- ---- a forgetting that does not list it
+
+unforgotten : (a w h b : Bool) → h ≡ false → (a || b) ≡ true → (a || (not (w && h) && b)) ≡ true
+unforgotten true w h b miss k = refl
+unforgotten false true true b miss k = absurd (false≢true (sym miss))
+unforgotten false true false b miss k = k
+unforgotten false false h b miss k = k
+
+not_held : (w h b : Bool) → h ≡ false → (not (w && h) && b) ≡ false → b ≡ false
+not_held true true b miss k = absurd (false≢true (sym miss))
+not_held true false b miss k = k
+not_held false h b miss k = k
+
+pub forgotten : (n f : ℕ) (past : List Entry) (k : ℕ) (d : Det) (who : Pid) (listed : List Det) → AreAccepted n (Forget who listed ∷ past) → det_at (Forget who listed ∷ past) k ≡ Some d
+    → has listed d ≡ false → HasOrphan n f (Forget who listed ∷ past) k → HasOrphan n f past k
+forgotten n f past k d who listed formed at miss orphaned =
+    let e = Forget who listed in
+    let x = exposed n f (e ∷ past) k d at orphaned in
+    orphan_before n f e past k d at x.orphan x.process (no_actor n e past k x.orphan formed refl (refl, refl) x.depends) x.unstable
+    (omega (arith, x.few, count_below-within n (gone past d) (gone (e ∷ past) d) (λ q _ h. unforgotten (is_down past q) (who.0 == q) (has listed d) (logs past q d) miss h)))
+    (not_held (who.0 == x.orphan) (has listed d) (logs past x.orphan d) miss x.without)
+
+-- ---- a restart that lists it
+
+relisted : (w a h b : Bool) → h ≡ true → (a || b) ≡ true → ((not w && a) || ((w && h) || b)) ≡ true
+relisted true a true b hit k = refl
+relisted true a false b hit k = absurd (false≢true hit)
+relisted false a h b hit k = k
+
+pub restarted : (n f : ℕ) (past : List Entry) (k : ℕ) (d : Det) (who : Pid) (listed : List Det) → AreAccepted n (Restart who listed ∷ past) → det_at (Restart who listed ∷ past) k ≡ Some d
+    → has listed d ≡ true → HasOrphan n f (Restart who listed ∷ past) k → HasOrphan n f past k
+restarted n f past k d who listed formed at hit orphaned =
+    let e = Restart who listed in
+    let x = exposed n f (e ∷ past) k d at orphaned in
+    let other : (who.0 == x.orphan) ≡ false = false_from_ne_true (who.0 == x.orphan) (λ same.
+    depends_restarted e past k x.orphan (ap (λ b. cond b (lane past x.orphan + 1) (lane past x.orphan)) same) refl x.depends) in
+    orphan_before n f e past k d at x.orphan x.process
+    (no_actor n e past k x.orphan formed refl (ap (λ b. not b && is_down past x.orphan) other, ap (λ b. cond b (lane past x.orphan + 1) (lane past x.orphan)) other) x.depends)
+    x.unstable
+    (omega (arith, x.few, count_below-within n (gone past d) (gone (e ∷ past) d) (λ q _ h. relisted (who.0 == q) (is_down past q) (has listed d) (logs past q d) hit h)))
+    (or_parts (who.0 == x.orphan && has listed d) (logs past x.orphan d) x.without).1
+
+-- ---- a delivery: it has an orphan before, or the receiver newly depends on it
+
+pub delivered : (n f : ℕ) (past : List Entry) (k : ℕ) (d : Det) (to : Pid) (send rsn : ℕ) (listed : List Det) → AreAccepted n (Deliver to send rsn listed ∷ past) → det_at (Deliver to send rsn listed ∷ past) k ≡ Some d
+    → (p : ℕ) → p < n → Depends (Deliver to send rsn listed ∷ past) k p → is_stable past d ≡ false → count_below n (gone (Deliver to send rsn listed ∷ past) d) ≤ f → logs (Deliver to send rsn listed ∷ past) p d ≡ false
+    → HasOrphan n f past k ⊎ ((p ≡ to.0) × Reaches (Deliver to send rsn listed ∷ past) k (length past) × (Depends past k to.0 → HasOrphan n f past k))
+delivered n f past k d to send rsn listed formed at p low depends unstable few without =
+    let e = Deliver to send rsn listed in
+    let fewer = gone_fewer n f e past d refl few in
+    let lacked = (or_parts (to.0 == p && has listed d) (logs past p d) without).1 in
+    elim (depends_before n e past k p formed (refl, refl) depends) [
+      | inl old ↦ inl (orphan_before n f e past k d at p low old unstable fewer lacked)
+      | inr new ↦
+          let same : p ≡ to.0 = let x : Some to.0 ≡ Some p = new.0 in cc in
+          inr (same, new.1, λ was. orphan_before n f e past k d at p low (subst (Depends past k) (sym same) was) unstable fewer lacked)
+    ]
+
+receives : (n f : ℕ) (past : List Entry) (k : ℕ) (d : Det) (to : Pid) (send rsn : ℕ) (listed : List Det) → AreAccepted n (Deliver to send rsn listed ∷ past) → det_at (Deliver to send rsn listed ∷ past) k ≡ Some d
+    → HasOrphan n f (Deliver to send rsn listed ∷ past) k
+    → HasOrphan n f past k ⊎ MayNewlyFail past (Deliver to send rsn listed) k d
+receives n f past k d to send rsn listed formed at orphaned =
+    let x = exposed n f (Deliver to send rsn listed ∷ past) k d at orphaned in
+    elim (delivered n f past k d to send rsn listed formed at x.orphan x.process x.depends x.unstable x.few x.without) [
+      | inl old ↦ inl old
+      | inr new ↦ elim (depends_known n past k to.0 formed.0) [ inl was ↦ inl (new.2 was) | inr never ↦ inr (subst (Depends (Deliver to send rsn listed ∷ past) k) new.0 x.depends, never) ]
+    ]
+
+-- ---- the laws
+
+pub sweep_law : SweepLaw
+sweep_law n f (Send from to ssn) past k d formed at orphaned = inl (sent n f past k d from to ssn formed at orphaned)
+sweep_law n f (Deliver to send rsn listed) past k d formed at orphaned = receives n f past k d to send rsn listed formed at orphaned
+sweep_law n f (Stable det) past k d formed at orphaned = inl (stored n f past k d det formed at orphaned)
+sweep_law n f (Crash who) past k d formed at orphaned = inl (crashed n f past k d who formed at orphaned)
+sweep_law n f (Restart who listed) past k d formed at orphaned =
+    elim (has listed d) as (λ b. has listed d ≡ b → HasOrphan n f past k ⊎ (b ≡ false)) [
+      | true ↦ λ hit. inl (restarted n f past k d who listed formed at hit orphaned)
+      | false ↦ λ miss. inr refl
+    ] refl
+sweep_law n f (Forget who listed) past k d formed at orphaned =
+    elim (has listed d) as (λ b. has listed d ≡ b → HasOrphan n f past k ⊎ (b ≡ true)) [
+      | true ↦ λ hit. inr refl
+      | false ↦ λ miss. inl (forgotten n f past k d who listed formed at miss orphaned)
+    ] refl
+
+pub one_new_orphan : OneNewOrphan
+one_new_orphan n f past k d to send rsn listed p formed at orphaned never orphan =
+    let e = Deliver to send rsn listed in
+    let x = exposed n f (e ∷ past) k d at orphaned in
+    let o = orphan_without n f (e ∷ past) k d at (gone (e ∷ past) d) p orphan in
+    elim (delivered n f past k d to send rsn listed formed at p orphan.process orphan.depends x.unstable x.few o.1) [
+      | inl old ↦ absurd (never old)
+      | inr new ↦ new.0
+    ]

@@ -1,0 +1,29 @@
+use Rattle.std.proofs.Common.{◌≡◌, ◌+◌, ◌≤◌, arith, subst}
+use Rattle.causal_audit.specs.Breaches.{LeastBreachBy, horizon}
+use Rattle.causal_audit.proofs.Lemmas.LeastLemmas.{least_joined, least_one, horizon_within, settled}
+use Rattle.causal_audit.proofs.judging.least_by.Goals as goal
+
+pub first_breach_by-requires-clause-within : goal.first_breach_by-requires-clause-within
+first_breach_by-requires-clause-within c =
+    let low = horizon_within c.args.tables.now c.args.f c.args.end c.args.from c.loop-i.i c.loop-i.least c.loop-i.invariant in
+    omega (arith, low, c.horizon-until.ensures, c.requires)
+
+pub returns-then-until-position : goal.returns-then-until-position
+returns-then-until-position c =
+    let r = c.args.tables.now in
+    settled r c.args.f c.args.end c.args.from c.loop-i.i c.args.to c.position.result c.loop-i.least (omega arith) c.position.ensures
+    (omega (arith, c.if-until-position.true, c.horizon-until.ensures)) (omega (arith, c.requires)) c.loop-i.invariant
+
+pub loop-i-preserved : goal.loop-i-preserved
+loop-i-preserved c =
+    let r = c.args.tables.now in
+    let until = c.horizon-until.result in
+    let low : horizon c.args.end c.loop-i.least ≤ c.args.end = horizon_within r c.args.f c.args.end c.args.from c.loop-i.i c.loop-i.least c.loop-i.invariant in
+    rw c.earlier-least.ensures
+    (least_joined r c.args.f c.args.end until c.args.from c.loop-i.i (c.loop-i.i + 1) _ _ (omega (arith, c.horizon-until.ensures)) (omega (arith, low, c.horizon-until.ensures)) (omega arith) (omega arith) c.loop-i.invariant
+    (least_one r c.args.f until c.loop-i.i c.position.result _ c.position.ensures (c.first_breach_by.ensures c.position.result c.position.ensures)))
+
+pub returns : goal.returns
+returns c =
+    let ended : c.loop-i.i ≡ c.args.to = omega arith in
+    subst (λ i. LeastBreachBy c.args.tables.now c.args.f c.args.end c.args.from i c.loop-i.least) ended c.loop-i.invariant

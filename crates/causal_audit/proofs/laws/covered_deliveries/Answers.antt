@@ -1,0 +1,5 @@
+use Rattle.causal_audit.proofs.Spreading.{alone, covered}
+use Rattle.causal_audit.proofs.laws.covered_deliveries.Goals as goal
+
+pub returns : goal.returns
+returns c = record { alone = alone; covered = covered }

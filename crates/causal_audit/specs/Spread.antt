@@ -1,0 +1,58 @@
+-- How long a delivery stays with its receiver, and when it has no orphan whoever depends on it.
+use Rattle.std.specs.Prelude.{◌≡◌, ℕ, ◌<◌, ◌≤◌, ◌⊎◌, true, List, length, Some, slice_index_or, slice_set, min}
+use Rattle.std.specs.Ordering.{nat_cmp}
+use Rattle.std.specs.FinSet.{FinSet, contains, len}
+use Rattle.causal_name.specs.declared.Det.{Det}
+use Rattle.causal_name.specs.Sets.{count_below}
+use Rattle.causal_trace.specs.declared.entry.Entry.{Entry}
+use Rattle.causal_trace.specs.declared.entry.Entry.TheVariants.{Deliver}
+use Rattle.causal_trace.specs.Past.{instant, det_at}
+use Rattle.causal_trace.specs.Rows.{AreAccepted}
+use Rattle.causal_trace.specs.Dependence.{IsEventOf, Delivers, Reaches, Depends}
+use Rattle.causal_trace.specs.Judgement.{HasOrphan}
+use Rattle.causal_clock.specs.declared.Event.{Event}
+use Rattle.causal_clock.specs.Timeline.{lane_of}
+use Rattle.causal_audit.specs.Laws.{gone}
+
+-- the events before position `spread` that k reaches are of k's own lane
+abbrev pub StaysUntil : List Entry → ℕ → ℕ → Type 0
+StaysUntil past k spread =
+    (v p l : ℕ) → v < spread → IsEventOf past k p l → Reaches past k v → IsEventOf past v p l
+
+-- for each event a position, before which no send of its lane from it on is delivered
+pub record AreSpreads (past : List Entry) (events : List Event) (spreads : List ℕ) : Type 0 where
+  pub count : length spreads ≡ length past
+  pub each : (k s j : ℕ) → k < length past → k ≤ s → lane_of events s ≡ lane_of events k → Delivers past j s → slice_index_or spreads k 0 ≤ j
+
+-- at the instant u the delivery is still to come, or more than f processes are down or hold its determinant, or it has not
+-- left its receiver, which is down or holds its determinant
+abbrev pub IsCoveredAt : ℕ → ℕ → List Entry → ℕ → Det → ℕ → ℕ → Type 0
+IsCoveredAt n f past k d spread u =
+    (u ≤ k) ⊎ ((f < count_below n (gone (instant past u) d)) ⊎ ((u ≤ spread) × (gone (instant past u) d d.dest.0 ≡ true)))
+
+-- a delivery that has not left its receiver has no other dependent
+abbrev pub StaysAlone : Type 0
+StaysAlone =
+    (n : ℕ) (past : List Entry) (k : ℕ) (d : Det) (spread u q : ℕ) → AreAccepted n past → det_at past k ≡ Some d
+    → StaysUntil past k spread → u ≤ spread → u ≤ length past → Depends (instant past u) k q → q ≡ d.dest.0
+
+-- and where it is covered, it has no orphan
+abbrev pub CoveredHasNone : Type 0
+CoveredHasNone =
+    (n f : ℕ) (past : List Entry) (k : ℕ) (d : Det) (spread u : ℕ) → AreAccepted n past → det_at past k ≡ Some d
+    → StaysUntil past k spread → u ≤ length past → IsCoveredAt n f past k d spread u → HasOrphan n f (instant past u) k → ⊥
+
+-- the list with the position i at the place of the send that an entry delivers
+abbrev pub with_delivered : Entry → ℕ → List ℕ → List ℕ
+with_delivered (Deliver to send rsn listed) i list = slice_set list send i
+with_delivered _ i list = list
+
+-- the first of what stands at i, once the entry is noted, and at its lane
+abbrev pub spread_at : Entry → ℕ → ℕ → List ℕ → List ℕ → ℕ
+spread_at e i lane spreads outs = min (slice_index_or (with_delivered e i spreads) i 0) (slice_index_or outs lane 0)
+
+-- while just the processes of the set are down or hold the determinant, the delivery is covered at each instant up to
+-- `next`: it is still to come, or they are more than f, or it has not left its receiver, which is one of them
+abbrev pub LastsUntil : ℕ → ℕ → ℕ → ℕ → ℕ → FinSet nat_cmp → Type 0
+LastsUntil f k receiver spread next set =
+    (next ≤ k) ⊎ ((f < len set) ⊎ ((next ≤ spread) × (contains set receiver ≡ true)))

@@ -1,0 +1,140 @@
+//! The deliveries that are covered throughout: they have no orphan, whoever depends on them.
+ghost use Rattle.std.specs.Prelude.{◌≡◌, ◌≤◌, ◌<◌, ◌∷◌, ◌⊎◌, ℕ, true, false, List, length, Some};
+ghost use Rattle.std.specs.FinSet as set;
+ghost use Rattle.std.specs.List.Sorted.{IsNonDecreasing};
+ghost use Rattle.causal_name.specs.declared.Det.{Det};
+ghost use Rattle.causal_trace.specs.declared.entry.Entry.{Entry};
+ghost use Rattle.causal_trace.specs.Judgement.{HasOrphan};
+ghost use Rattle.causal_trace.specs.Past.{det_at, has, instant, is_down, is_stable, logs};
+ghost use Rattle.causal_audit.specs.Ahead.{HasNoneUntil};
+ghost use Rattle.causal_audit.specs.Changes.{AreMentionsOf, HasMentions};
+ghost use Rattle.causal_audit.specs.Filed.{AreTurns};
+ghost use Rattle.causal_audit.specs.Lasting.{NoneReleasedFrom};
+ghost use Rattle.causal_audit.specs.Quiet.{mentioned_by};
+ghost use Rattle.causal_audit.specs.Sights.{Shows};
+ghost use Rattle.causal_audit.specs.Spread.{LastsUntil, StaysUntil};
+
+use crate::cursor::Cursor;
+use crate::holding::holders_after;
+use crate::orphans::Run;
+use crate::sight::down_after;
+use causal_holders::Holders;
+use causal_name::Det;
+use causal_trace::entry::Entry;
+
+/// Who is down and who holds the determinant of a delivery at an instant.
+#[derive(Clone, Copy)]
+pub struct Cover {
+    pub down: Holders,
+    pub holders: Holders,
+}
+
+/// Whether an entry writes the determinant to stable storage.
+fn is_written(entry: &Entry, det: Det) -> bool
+    ensures { result ≡ true → (past : List Entry) → is_stable (entry.now ∷ past) det ≡ true }
+{
+    match entry {
+        Entry::Stable { det: written } => det == *written,
+        _ => false,
+    }
+}
+
+impl Cover {
+    /// Those who are down, and those who hold the determinant.
+    fn gone(self) -> Holders
+        ensures { result ≡ set.union self.down self.holders }
+    {
+        self.down.union(self.holders)
+    }
+
+    /// Whether it covers the delivery at k up to the instant `next`, while these are down and hold its determinant: the
+    /// delivery is still to come, or they are more than f, or it has not left its receiver, which is one of them.
+    fn lasts(self, f: u16, k: u32, receiver: u8, spread: u32, next: u32) -> bool
+        ensures { result ≡ true → LastsUntil f k receiver spread next (set.union self.down self.holders) }
+    {
+        if next <= k {
+            return true;
+        }
+        let gone = self.gone();
+        if gone.len() > u32::from(f) {
+            return true;
+        }
+        next <= spread && gone.contains(receiver)
+    }
+
+    /// Takes in one more entry, which mentions the determinant or does not.
+    fn see(&mut self, entry: &Entry, det: Det, mentioned: bool)
+        ensures down { (past : List Entry) → Shows self.old.down (λ p. is_down past p) → Shows self.new.down (λ p. is_down (entry.now ∷ past) p) }
+        ensures holders { (past : List Entry) → mentioned ≡ has (mentioned_by entry.now) det →
+            Shows self.old.holders (λ p. logs past p det) → Shows self.new.holders (λ p. logs (entry.now ∷ past) p det) }
+    {
+        self.down = down_after(self.down, entry);
+        self.holders = holders_after(self.holders, entry, det, mentioned);
+    }
+}
+
+/// The first of an ascending list of positions, or `end` if that comes first.
+fn first_of(list: &[u32], end: u32) -> u32
+    requires { IsNonDecreasing list.now }
+    ensures before { result ≤ end }
+    ensures none { HasNoneUntil list.now 0 result }
+{
+    match list.first() {
+        Some(position) => (*position).min(end),
+        None => end,
+    }
+}
+
+/// Whether the delivery at k, whose determinant this is, is covered at each instant up to `end`. Only where an entry mentions the
+/// determinant, or crashes or restarts a process, those who are down or hold it may be others. Where it is not covered, it
+/// may have an orphan.
+pub fn is_covered(
+    run: &Run<'_>,
+    mentions: &[u32],
+    spread: u32,
+    f: u16,
+    end: u32,
+    k: u32,
+    det: Det,
+) -> bool
+    requires within { end ≤ length run.now.trace.now.recording.past }
+    requires lasting { NoneReleasedFrom run.now.trace.now.recording.past run.now.lasting_from }
+    requires turns { AreTurns run.now.trace.now.recording.past run.now.turns.now.positions.items run.now.turns.now.downs.items }
+    requires delivery { det_at run.now.trace.now.recording.past k ≡ Some det }
+    requires ascending { IsNonDecreasing mentions.now }
+    requires mentioned { HasMentions run.now.trace.now.recording.past det mentions.now }
+    requires only { AreMentionsOf run.now.trace.now.recording.past det mentions.now }
+    requires stays { StaysUntil run.now.trace.now.recording.past k spread }
+    ensures { result ≡ true → (u : ℕ) → u ≤ end → HasOrphan run.now.trace.now.recording.processes f (instant run.now.trace.now.recording.past u) k → ⊥ }
+{
+    let _len = run.trace.len();
+    let entries = run.trace.entries();
+    let mut t = first_of(mentions, k);
+    let mut ahead = Cursor::at(mentions, t);
+    let mut turns = Cursor::at(&run.turns.positions, t);
+    let mut cover = Cover {
+        down: run.turns.down_at(t),
+        holders: Holders::none(),
+    };
+    while t < end {
+        let mention = ahead.next(t, end);
+        let turn = turns.next(t, end);
+        let change = mention.min(turn);
+        if !cover.lasts(f, k, det.dest.0, spread, change) {
+            return false;
+        }
+        if change == end {
+            return true;
+        }
+        let entry = &entries[change as usize];
+        if is_written(entry, det) {
+            return true;
+        }
+        cover.see(entry, det, mention == change);
+        t = change + 1;
+        if run.lasting_from <= t && cover.gone().len() > u32::from(f) {
+            return true;
+        }
+    }
+    cover.lasts(f, k, det.dest.0, spread, end)
+}

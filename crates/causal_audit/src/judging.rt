@@ -1,0 +1,154 @@
+//! The verdict on a recorded run.
+ghost use Rattle.std.specs.Prelude.{◌≡◌, ◌≤◌, ◌<◌, ◌+◌, ℕ, length};
+ghost use Rattle.causal_trace.specs.Past.{deliveries_in};
+ghost use Rattle.causal_trace.specs.Rows.{Recording};
+ghost use Rattle.causal_audit.specs.Breaches.{Decides, FirstBreach, FirstBreachBy, FirstExcess, LeastBreach, LeastBreachBy, deciding, horizon};
+ghost use Rattle.causal_audit.specs.Numbers.{IsNumbered};
+ghost use Rattle.causal_audit.specs.Verdicts.{IsVerdict};
+ghost use Rattle.causal_audit.specs.declared.verdict.Verdict.{Verdict};
+ghost use Rattle.causal_audit.specs.declared.breach.Breach.{Breach};
+
+use crate::breach::{Breach, Excess, earlier};
+use crate::sight::down_after;
+use crate::tables::Tables;
+use crate::verdict::Verdict;
+use causal_holders::Holders;
+
+/// The first instant with more than f processes down, with these processes; None where there is none.
+pub fn first_excess(tables: &Tables, f: u16) -> Option<Excess>
+    ensures { FirstExcess tables.now f result }
+{
+    let entries = tables.recorded();
+    let mut down = Holders::none();
+    for t in 0..tables.entries() {
+        down = down_after(down, &entries[t as usize]);
+        if down.len() > u32::from(f) {
+            return Some(Excess {
+                instant: t + 1,
+                down,
+            });
+        }
+    }
+    None
+}
+
+/// The last instant that can decide: that of the first excess, or the last of the run.
+pub fn deciding(tables: &Tables, excess: &Option<Excess>) -> u32
+    ensures value { result ≡ deciding (length tables.now.past) excess.now }
+    ensures within { (f : ℕ) → FirstExcess tables.now f excess.now → result ≤ length tables.now.past }
+{
+    match excess {
+        Some(first) => first.instant,
+        None => tables.entries(),
+    }
+}
+
+/// How the delivery of number i first has an orphan, if it has one by the instant `end`.
+fn first_breach_by(tables: &Tables, f: u16, end: u32, i: u32) -> Option<Breach>
+    requires number { i < deliveries_in tables.now.past }
+    requires within { end ≤ length tables.now.past }
+    ensures { (k : ℕ) → IsNumbered tables.now.past i k → FirstBreachBy tables.now f end k result }
+{
+    let k = tables.position(i);
+    let Some(det) = tables.det_at(k) else {
+        unreachable!()
+    };
+    tables.first_orphan(f, end, k, det)
+}
+
+/// How the delivery of number i, which is below the number of deliveries, first has an orphan; None where it has none. At
+/// each instant the down processes and the holders of its determinant are compared with f; no crash set is listed.
+pub fn first_breach(tables: &Tables, f: u16, i: u32) -> Option<Breach>
+    requires { i < deliveries_in tables.now.past }
+    ensures { (k : ℕ) → IsNumbered tables.now.past i k → FirstBreach tables.now f k result }
+{
+    first_breach_by(tables, f, tables.entries(), i)
+}
+
+/// The last instant at which a breach can still come first.
+fn horizon(end: u32, least: &Option<Breach>) -> u32
+    ensures { result ≡ horizon end least.now }
+{
+    match least {
+        Some(breach) => breach.instant,
+        None => end,
+    }
+}
+
+/// The least breach, by instant and then by position, of the deliveries numbered from `from` and below `to`; None where
+/// none of them has an orphan.
+pub fn least_between(tables: &Tables, f: u16, from: u32, to: u32) -> Option<Breach>
+    requires { (from ≤ to) × (to ≤ deliveries_in tables.now.past) }
+    ensures { LeastBreach tables.now f from to result }
+{
+    least_by(tables, f, tables.entries(), from, to)
+}
+
+/// The same, if that breach comes by the instant `end`, which is no later than the last; None where none does. No instant
+/// is looked at that is later than `end` or than a breach that was found.
+pub fn least_by(tables: &Tables, f: u16, end: u32, from: u32, to: u32) -> Option<Breach>
+    requires part { (from ≤ to) × (to ≤ deliveries_in tables.now.past) }
+    requires within { end ≤ length tables.now.past }
+    ensures { LeastBreachBy tables.now f end from to result }
+{
+    let mut least = None;
+    for i in from..to {
+        let until = horizon(end, &least);
+        if until <= tables.position(i) {
+            return least;
+        }
+        least = earlier(least, first_breach_by(tables, f, until, i));
+    }
+    least
+}
+
+fn exceeded(excess: Excess) -> Verdict
+    ensures { result ≡ Verdict.Exceeded excess.instant excess.down }
+{
+    Verdict::Exceeded {
+        instant: excess.instant,
+        down: excess.down,
+    }
+}
+
+fn orphan(breach: Breach) -> Verdict
+    ensures { result ≡ Verdict.Orphan breach.instant breach.delivery breach.crash breach.orphan }
+{
+    Verdict::Orphan {
+        instant: breach.instant,
+        delivery: breach.delivery,
+        crash: breach.crash,
+        orphan: breach.orphan,
+    }
+}
+
+/// The verdict, from the first excess and the least breach of all deliveries, if that comes by the last instant that can
+/// decide.
+pub fn decided(excess: Option<Excess>, breach: Option<Breach>) -> Verdict
+    ensures bounded { Decides excess breach result }
+    ensures whole { (r : Recording) (f : ℕ) → FirstExcess r f excess → LeastBreach r f 0 (deliveries_in r.past) breach → IsVerdict r f result }
+{
+    match (excess, breach) {
+        (None, None) => Verdict::Accept,
+        (Some(x), None) => exceeded(x),
+        (None, Some(b)) => orphan(b),
+        (Some(x), Some(b)) => {
+            if x.instant <= b.instant {
+                exceeded(x)
+            } else {
+                orphan(b)
+            }
+        }
+    }
+}
+
+/// The verdict on a recorded run for f: it is safe at every instant, or the first instant that is not decides, and at one
+/// instant the first delivery with an orphan.
+pub fn judge(tables: &Tables, f: u16) -> Verdict
+    ensures verdict { IsVerdict tables.now f result }
+    ensures only { (other : Verdict) → IsVerdict tables.now f other → other ≡ result }
+{
+    let excess = first_excess(tables, f);
+    let end = deciding(tables, &excess);
+    decided(excess, least_by(tables, f, end, 0, tables.deliveries()))
+}

@@ -1,0 +1,57 @@
+//! How long each event stays with its lane: until a message that the lane sends from then on is delivered.
+ghost use Rattle.std.specs.Prelude.{◌≡◌, ◌≤◌, ◌<◌, ℕ, IfOk, length, slice_set};
+ghost use Rattle.causal_trace.specs.Limits.{max_entries};
+ghost use Rattle.causal_trace.specs.Rows.{Recording, IsWellFormed};
+ghost use Rattle.causal_trace.specs.State.{entries_of};
+ghost use Rattle.causal_audit.specs.Spread.{AreSpreads, spread_at, with_delivered};
+ghost use Rattle.causal_audit.specs.Stands.{Stands};
+
+use crate::lanes::LANES;
+use causal_clock::Clocks;
+use causal_name::NoMemory;
+use causal_trace::entry::Entry;
+use std::alloc::Global;
+
+/// Notes at its send that a message is delivered at position i, if the entry delivers one.
+fn note_delivered(spreads: &mut Vec<u32>, entry: &Entry, i: u32)
+    ensures { spreads.new.items ≡ with_delivered entry.now i spreads.old.items }
+{
+    if let Entry::Deliver { send, .. } = entry {
+        if (*send as usize) < spreads.len() {
+            spreads[*send as usize] = i;
+        }
+    }
+}
+
+/// Notes the entry at position i, of this lane, after all later ones: `outs` has for each lane the first position at which
+/// a message that it sends from there on is delivered.
+fn note_spread(spreads: &mut Vec<u32>, outs: &mut [u32], entry: &Entry, lane: usize, i: u32)
+    requires event { i < length spreads.old.items }
+    requires lane { lane < length outs.old }
+    ensures spreads { spreads.new.items ≡ slice_set (with_delivered entry.now i spreads.old.items) i (spread_at entry.now i lane spreads.old.items outs.old) }
+    ensures outs { outs.new ≡ slice_set outs.old lane (spread_at entry.now i lane spreads.old.items outs.old) }
+{
+    note_delivered(spreads, entry, i);
+    let first = spreads[i as usize].min(outs[lane]);
+    outs[lane] = first;
+    spreads[i as usize] = first;
+}
+
+/// For each entry the first position at which a message that its lane sends from then on is delivered, or the end.
+pub fn spreads_of(alloc: Global, entries: &[Entry], clocks: &Clocks) -> Result<Vec<u32>, NoMemory>
+    requires few { length entries.now ≤ max_entries }
+    requires count { length entries.now ≡ length clocks.now.events }
+    ensures { IfOk result (λ spreads. (r : Recording) → IsWellFormed r → entries.now ≡ entries_of r → Stands r.past clocks.now.events → AreSpreads r.past clocks.now.events spreads.items) }
+{
+    let end = entries.len() as u32;
+    let mut spreads = vec![in alloc; end; entries.len()]?;
+    let mut outs = [end; LANES];
+    let _lanes = clocks.lanes();
+    let mut i = end;
+    while i > 0 {
+        i -= 1;
+        let lane = clocks.lane(i) as usize;
+        note_spread(&mut spreads, &mut outs, &entries[i as usize], lane, i);
+    }
+    Ok(spreads)
+}
