@@ -1,3 +1,4 @@
 pub mod Endings
 pub mod Judgements
 pub mod Streams
+pub mod Refusals

@@ -7,8 +7,7 @@ mod stream;
 mod words;
 mod written;
 
-use crate::ended::Ended;
-use crate::stream::audit_stream;
+use crate::stream::{Told, audit_and_tell};
 use crate::words::{Asked, Refused};
 use causal_workers::OpenGate;
 use std::io;
@@ -16,14 +15,15 @@ use std::process::ExitCode;
 use std::rt::Env;
 
 fn main(rt: HostRuntime) -> ExitCode {
-    let ended = match words::read_words(&rt) {
+    let told = match words::read_words(&rt) {
         Ok(
             Asked::Audit {
                 faults,
                 workers: workers @ 1..=64,
             },
-        ) => audit_stream(
+        ) => audit_and_tell(
             &rt,
+            rt.alloc(),
             &mut rt.reader(),
             &mut io::writer(&rt),
             faults,
@@ -32,12 +32,18 @@ fn main(rt: HostRuntime) -> ExitCode {
         ),
         Ok(Asked::Audit { .. }) => return ExitCode::from(3),
         Err(Refused::Status(status)) => return ExitCode::from(status),
-        Err(Refused::Ended(ended)) => ended,
+        Err(Refused::Ended(ended)) => Told { ended, fault: None },
     };
-    if let Some(text) = ended.text() {
-        let _ = rt.eprintln(text);
+    match (told.ended.text(), told.fault) {
+        (Some(text), _) => {
+            let _ = rt.eprintln(text);
+        }
+        (None, Some(fault)) => {
+            let _ = rt.eprintln(fault);
+        }
+        (None, None) => {}
     }
-    ExitCode::from(ended.status())
+    ExitCode::from(told.ended.status())
 }
 
 #[cfg(test)]

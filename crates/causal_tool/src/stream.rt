@@ -1,5 +1,6 @@
 //! The program's work over any reader and writer.
 ghost use Rattle.std.specs.Prelude.{◌≡◌, ◌≢◌, ◌≤◌, IfOk, IfErr, IfSome, Err};
+ghost use Rattle.causal_text.specs.Spelling.{IsFirstFault};
 ghost use Rattle.causal_tool.specs.Streams.{IsAnswer, IsSilent, Writes};
 
 use crate::ended::Ended;
@@ -7,20 +8,28 @@ use crate::judged::{StreamFault, audit_from};
 use crate::written::write_whole;
 use causal_audit::verdict::Verdict;
 use causal_name::NoMemory;
-use causal_text::fault_line;
+use causal_text::{TextFault, fault_line};
 use causal_workers::{Gate, verdict_line};
 use std::alloc::Global;
 use std::io::{Read, Write};
 use std::sync::Wait;
 use std::thread::Threads;
 
+/// How a run ended, and the fault of the text, where its line was written or would have been.
+#[derive(Clone, Copy, Debug, PartialEq, Eq)]
+pub struct Told {
+    pub ended: Ended,
+    pub fault: Option<TextFault>,
+}
+
 /// Reads the text of a trace, audits it for f by 1 to 64 workers, and writes one line: the verdict, or the text's first
 /// fault. Where the reader or the writer fails, or memory or a worker is refused, the answer says so. With one worker
 /// there is no `NoWorker`.
 ///
 /// The text is read in pieces of 4,096 bytes, up to its end or to the piece with its first fault.
-pub fn audit_stream<R: AllocGlobal + Threads + Wait, I: Read, O: Write, G: Gate + Sync>(
+pub fn audit_stream<R: Threads + Wait, I: Read, O: Write, G: Gate + Sync>(
     rt: &R,
+    alloc: Global,
     input: &mut I,
     output: &mut O,
     f: u16,
@@ -31,21 +40,44 @@ pub fn audit_stream<R: AllocGlobal + Threads + Wait, I: Read, O: Write, G: Gate 
     ensures writes { IfSome (I.remaining input.old) (λ text. Writes text f result (O.contents output.old) (O.contents output.new)) }
     ensures alone { result ≡ Ended.NoWorker → 2 ≤ workers }
 {
-    let answer = match answered(rt, rt.alloc(), input, f, workers, gate) {
+    audit_and_tell(rt, alloc, input, output, f, workers, gate).ended
+}
+
+/// The same, with the text's first fault beside how the run ended, so that more can be said of it.
+pub fn audit_and_tell<R: Threads + Wait, I: Read, O: Write, G: Gate + Sync>(
+    rt: &R,
+    alloc: Global,
+    input: &mut I,
+    output: &mut O,
+    f: u16,
+    workers: u32,
+    gate: &G,
+) -> Told
+    requires { (1 ≤ workers) × (workers ≤ 64) }
+    ensures writes { IfSome (I.remaining input.old) (λ text. Writes text f result.ended (O.contents output.old) (O.contents output.new)) }
+    ensures fault { IfSome (I.remaining input.old) (λ text. IfSome result.fault (λ fault. IsFirstFault text fault)) }
+    ensures alone { result.ended ≡ Ended.NoWorker → 2 ≤ workers }
+{
+    let answer = match answered(rt, alloc, input, f, workers, gate) {
         Ok(answer) => answer,
-        Err(ended) => return ended,
+        Err(ended) => return Told { ended, fault: None },
     };
-    match write_whole(output, answer.line.as_slice()) {
+    let ended = match write_whole(output, answer.line.as_slice()) {
         Ok(()) => answer.ended,
         Err(_) => Ended::WriteFault,
+    };
+    Told {
+        ended,
+        fault: answer.fault,
     }
 }
 
-/// The line that answers a text, and how the program ends that writes it.
+/// The line that answers a text, how the program ends that writes it, and the fault that it tells.
 #[derive(Drop)]
 struct Answer {
     ended: Ended,
     line: Vec<u8>,
+    fault: Option<TextFault>,
 }
 
 fn answered<I: Read, G: Gate + Sync, R: Threads + Wait>(
@@ -58,19 +90,24 @@ fn answered<I: Read, G: Gate + Sync, R: Threads + Wait>(
 ) -> Result<Answer, Ended>
     requires { (1 ≤ workers) × (workers ≤ 64) }
     ensures ok { IfOk result (λ answer. IfSome (I.remaining input.old) (λ text. IsAnswer text f answer.ended answer.line.items)) }
+    ensures fault { IfOk result (λ answer. IfSome (I.remaining input.old) (λ text. IfSome answer.fault (λ fault. IsFirstFault text fault))) }
     ensures whole { IfOk result (λ answer. answer.ended ≢ Ended.NoWorker) }
     ensures err { IfErr result IsSilent }
     ensures alone { result ≡ Err Ended.NoWorker → 2 ≤ workers }
 {
-    let (ended, line) = match audit_from(rt, alloc, input, f, workers, gate) {
-        Ok(judged) => (ended_of(judged.verdict), verdict_line(alloc, f, &judged)),
-        Err(StreamFault::Text(fault)) => (Ended::Faulted, fault_line(alloc, &fault)),
+    let (ended, line, fault) = match audit_from(rt, alloc, input, f, workers, gate) {
+        Ok(judged) => (
+            ended_of(judged.verdict),
+            verdict_line(alloc, f, &judged),
+            None,
+        ),
+        Err(StreamFault::Text(fault)) => (Ended::Faulted, fault_line(alloc, &fault), Some(fault)),
         Err(StreamFault::Read) => return Err(Ended::ReadFault),
         Err(StreamFault::NoMemory) => return Err(Ended::NoMemory),
         Err(StreamFault::NoWorker) => return Err(Ended::NoWorker),
     };
     match line {
-        Ok(line) => Ok(Answer { ended, line }),
+        Ok(line) => Ok(Answer { ended, line, fault }),
         Err(NoMemory) => Err(Ended::NoMemory),
     }
 }

@@ -1,10 +1,11 @@
 //! What the program writes to a text, and how it ends, where readers and writers give and take little, or fail.
+mod forged;
 mod traces;
 
 use self::traces::{FAULTY, JUDGED, RING};
 use crate::ended::Ended;
-use crate::stream::audit_stream;
-use crate::words::{Asked, parsed};
+use crate::stream::{audit_and_tell, audit_stream};
+use crate::words::{Asked, Refused, parsed, refusal};
 use causal_audit::verdict::Verdict;
 use causal_holders::Holders;
 use causal_workers::{Judged, OpenGate, verdict_line};
@@ -109,7 +110,7 @@ fn answers<R: AllocGlobal + Abort + Threads + Wait>(
 ) {
     let mut input = text.as_bytes();
     let mut output = Vec::new(rt.alloc());
-    let how = audit_stream(rt, &mut input, &mut output, f, 1, &OpenGate);
+    let how = audit_stream(rt, rt.alloc(), &mut input, &mut output, f, 1, &OpenGate);
     assert_eq!(rt; how, ended, "{name}");
     assert!(rt; output.as_slice() == line.as_bytes(), "{name}");
 }
@@ -140,11 +141,26 @@ fn reads_byte_by_byte(rt: HostRuntime) {
     let mut input = Drip::new(RING, 1, usize::MAX);
     let mut output = Vec::new(rt.alloc());
     assert_eq!(rt;
-        audit_stream(&rt, &mut input, &mut output, 0, 1, &OpenGate),
+        audit_stream(&rt, rt.alloc(), &mut input, &mut output, 0, 1, &OpenGate),
         Ended::Accepted
     );
     assert!(rt; output.as_slice() == RING_LINE.as_bytes());
     assert_eq!(rt; input.calls, RING.len() + 1);
+}
+
+// The fault that is told has the sentence of its kind, with the line's number.
+#[test]
+fn fault_with_its_sentence(rt: HostRuntime) -> Result<(), Fail> {
+    let mut input = "[\"trace\",1,2]\n[\"send\",0,1,1]\n".as_bytes();
+    let mut output = Vec::new(rt.alloc());
+    let told = audit_and_tell(&rt, rt.alloc(), &mut input, &mut output, 0, 1, &OpenGate);
+    assert_eq!(rt; told.ended, Ended::Faulted);
+    let sentence = match told.fault {
+        Some(fault) => format!(in rt.alloc(); "{fault}")?,
+        None => String::new(rt.alloc()),
+    };
+    assert!(rt; sentence.as_str() == "line 2: the send sequence number is not the next one");
+    Ok(())
 }
 
 // One call for each byte, and one more that tells the end.
@@ -153,7 +169,7 @@ fn reader_fails_at_each_call(rt: HostRuntime) {
     for fails_at in 0..=RING.len() {
         let mut input = Drip::new(RING, 1, fails_at);
         let mut output = Vec::new(rt.alloc());
-        let ended = audit_stream(&rt, &mut input, &mut output, 0, 1, &OpenGate);
+        let ended = audit_stream(&rt, rt.alloc(), &mut input, &mut output, 0, 1, &OpenGate);
         assert_eq!(rt; ended, Ended::ReadFault, "call {fails_at}");
         assert!(rt; output.is_empty(), "call {fails_at}");
     }
@@ -165,7 +181,7 @@ fn fault_before_the_reader_fails(rt: HostRuntime) {
     let mut input = Drip::new("[\"trace\",1,2]\n[\"send\",0,1,1]\n", 4096, 1);
     let mut output = Vec::new(rt.alloc());
     assert_eq!(rt;
-        audit_stream(&rt, &mut input, &mut output, 0, 1, &OpenGate),
+        audit_stream(&rt, rt.alloc(), &mut input, &mut output, 0, 1, &OpenGate),
         Ended::Faulted
     );
     assert!(rt; output.as_slice() == b"fault line=2 WrongSsn\n".as_slice());
@@ -182,7 +198,7 @@ fn writer_fails_at_each_call(rt: HostRuntime) {
                 fails_at,
                 with_error,
             };
-            let ended = audit_stream(&rt, &mut input, &mut output, 0, 1, &OpenGate);
+            let ended = audit_stream(&rt, rt.alloc(), &mut input, &mut output, 0, 1, &OpenGate);
             let want = if fails_at < RING_LINE.len() {
                 Ended::WriteFault
             } else {
@@ -205,7 +221,7 @@ fn too_long_a_text(rt: HostRuntime) {
     };
     let mut output = Vec::new(rt.alloc());
     assert_eq!(rt;
-        audit_stream(&rt, &mut input, &mut output, 0, 1, &OpenGate),
+        audit_stream(&rt, rt.alloc(), &mut input, &mut output, 0, 1, &OpenGate),
         Ended::Faulted
     );
     assert!(rt; output.as_slice() == b"fault line=1 Big\n".as_slice());
@@ -302,28 +318,90 @@ fn words_that_ask_for_an_audit(rt: HostRuntime) -> Result<(), Fail> {
     Ok(())
 }
 
+// words after the program's name, and how they are refused
+const REFUSED: [(&[&str], ErrorKind, Refused); 14] = [
+    (&[], ErrorKind::MissingSubcommand, Refused::Status(3)),
+    (
+        &["audit"],
+        ErrorKind::MissingRequiredArgument,
+        Refused::Status(3),
+    ),
+    (
+        &["audit", "--faults", "65536"],
+        ErrorKind::ValueValidation,
+        Refused::Status(3),
+    ),
+    (
+        &["audit", "--faults", "-1"],
+        ErrorKind::ValueValidation,
+        Refused::Status(3),
+    ),
+    (
+        &["audit", "--faults", "one"],
+        ErrorKind::ValueValidation,
+        Refused::Status(3),
+    ),
+    (
+        &["audit", "--faults", "0", "--workers", "0"],
+        ErrorKind::ValueValidation,
+        Refused::Status(3),
+    ),
+    (
+        &["audit", "--faults", "0", "--workers", "65"],
+        ErrorKind::ValueValidation,
+        Refused::Status(3),
+    ),
+    (
+        &["audit", "--faults", "0", "--faults", "1"],
+        ErrorKind::ArgumentConflict,
+        Refused::Status(3),
+    ),
+    (
+        &["audit", "--faults", "0", "trace.jsonl"],
+        ErrorKind::UnknownArgument,
+        Refused::Status(3),
+    ),
+    (&["run"], ErrorKind::InvalidSubcommand, Refused::Status(3)),
+    (&["--help"], ErrorKind::DisplayHelp, Refused::Status(0)),
+    (&["help"], ErrorKind::DisplayHelp, Refused::Status(0)),
+    (
+        &["audit", "--help"],
+        ErrorKind::DisplayHelp,
+        Refused::Status(0),
+    ),
+    (
+        &["--version"],
+        ErrorKind::DisplayVersion,
+        Refused::Status(0),
+    ),
+];
+
 #[test]
-fn words_that_ask_for_nothing(rt: HostRuntime) {
-    let refused: [(&[&str], ErrorKind); 5] = [
-        (
-            &["causal_tool", "audit"],
-            ErrorKind::MissingRequiredArgument,
-        ),
-        (
-            &["causal_tool", "audit", "--faults", "65536"],
-            ErrorKind::ValueValidation,
-        ),
-        (
-            &["causal_tool", "audit", "--faults", "0", "--workers", "65"],
-            ErrorKind::ValueValidation,
-        ),
-        (&["causal_tool", "run"], ErrorKind::InvalidSubcommand),
-        (&["causal_tool", "--help"], ErrorKind::DisplayHelp),
-    ];
-    for (words, kind) in refused {
-        match parsed(rt.alloc(), words) {
+fn words_that_ask_for_nothing(rt: HostRuntime) -> Result<(), Fail> {
+    for (words, kind, how) in REFUSED {
+        let mut line = vec![in rt.alloc(); "causal_tool"]?;
+        line.extend_from_slice(words)?;
+        match parsed(rt.alloc(), line.as_slice()) {
             Ok(_) => assert!(rt; false, "{kind:?}"),
             Err(error) => assert_eq!(rt; error.kind(), kind),
         }
+        assert_eq!(rt; refusal(kind, true), how);
     }
+    Ok(())
+}
+
+// What was asked for could not be printed.
+#[test]
+fn help_on_a_closed_output(rt: HostRuntime) {
+    for kind in [ErrorKind::DisplayHelp, ErrorKind::DisplayVersion] {
+        assert_eq!(rt; refusal(kind, false), Refused::Ended(Ended::WriteFault));
+    }
+    assert_eq!(rt;
+        refusal(ErrorKind::InvalidSubcommand, false),
+        Refused::Status(3)
+    );
+    assert_eq!(rt;
+        refusal(ErrorKind::OutOfMemory, false),
+        Refused::Ended(Ended::NoMemory)
+    );
 }

@@ -1,4 +1,8 @@
 //! The command line.
+ghost use Rattle.std.specs.Prelude.{◌≡◌, Bool};
+ghost use Rattle.clap.specs.Values.{kind_of};
+ghost use Rattle.causal_tool.specs.Refusals.{refusal};
+
 use crate::ended::Ended;
 use clap::error::ErrorKind;
 use clap::{Arg, Command, Error, value_parser};
@@ -9,6 +13,32 @@ use std::{env, io};
 
 /// The exit status after words that ask for nothing the program does.
 const MISUSED: u8 = 3;
+
+const ARGUMENTS_ARE_NO_TEXT: &str =
+    "error: the arguments are no UTF-8 text\n\nFor more information, try '--help'.";
+
+/// What the help of `audit` says after its options.
+const ANSWERS: &str = "\
+Answers, as one line on standard output:
+  accept f=F entries=N deliveries=N
+      no crash of at most F processes leaves an orphan
+  exceeded f=F instant=T down=P,..
+      after T entries more than F processes are down
+  orphan f=F instant=T delivery=K crash=P,.. orphan=P
+      after T entries a crash of these loses the delivery of entry K, on which P depends
+  fault line=L KIND
+      the text is no trace: its first fault is at line L
+
+Exit status:
+  0  the trace is accepted
+  1  more than F are down, or there is an orphan
+  2  the text is no trace
+  3  the words ask for nothing that the program does
+  4  reading or writing failed
+  5  memory or a thread was refused
+
+Example:
+  causal_tool audit --faults 1 < trace.jsonl";
 
 /// What the command line asks for.
 #[derive(Clone, Copy, Debug, PartialEq, Eq)]
@@ -35,7 +65,7 @@ pub fn read_words<R: Env + Print + Eprint + AllocGlobal>(rt: &R) -> Result<Asked
             return Err(Refused::Ended(Ended::NoMemory));
         }
         Err(_) => {
-            let _ = rt.eprintln("the arguments are no text");
+            let _ = rt.eprintln(ARGUMENTS_ARE_NO_TEXT);
             return Err(Refused::Status(MISUSED));
         }
     };
@@ -50,17 +80,32 @@ pub fn read_words<R: Env + Print + Eprint + AllocGlobal>(rt: &R) -> Result<Asked
 }
 
 /// Prints what `clap` has to say.
-fn told<R: Print + Eprint + AllocGlobal>(rt: &R, error: Error) -> Refused {
-    match error.kind() {
+fn told<R: Print + Eprint + AllocGlobal>(rt: &R, error: Error) -> Refused
+    ensures { (printed : Bool) × (result ≡ refusal (kind_of error) printed) }
+{
+    let kind = error.kind();
+    let printed = match kind {
+        ErrorKind::OutOfMemory => false,
+        _ => error.print(rt).is_ok(),
+    };
+    refusal(kind, printed)
+}
+
+/// How the program ends after what `clap` has to say, which could be printed or not. What was asked for is no fault, but
+/// it has to be printed; what was wrong is told on standard error, as far as it takes it.
+pub(crate) fn refusal(kind: ErrorKind, printed: bool) -> Refused
+    ensures { result ≡ refusal kind printed }
+{
+    match kind {
         ErrorKind::OutOfMemory => Refused::Ended(Ended::NoMemory),
-        ErrorKind::DisplayHelp => match error.print(rt) {
-            Ok(()) => Refused::Status(0),
-            Err(_) => Refused::Ended(Ended::WriteFault),
-        },
-        _ => {
-            let _ = error.print(rt);
-            Refused::Status(MISUSED)
+        ErrorKind::DisplayHelp | ErrorKind::DisplayVersion => {
+            if printed {
+                Refused::Status(0)
+            } else {
+                Refused::Ended(Ended::WriteFault)
+            }
         }
+        _ => Refused::Status(MISUSED),
     }
 }
 
@@ -85,22 +130,25 @@ fn command<'a>(alloc: Global) -> Result<Command<'a>, AllocError> {
     let faults = Arg::new(alloc, "faults")
         .long("faults")
         .value_name("F")
-        .help("How many processes may be down at once")
+        .help("How many processes may be down at once [0 to 65535]")
         .required(true)
+        .allow_negative_numbers(true)
         .value_parser(value_parser!(u16));
     let workers = Arg::new(alloc, "workers")
         .long("workers")
         .value_name("W")
-        .help("How many threads judge, 1 to 64")
+        .help("How many threads judge [1 to 64]")
+        .allow_negative_numbers(true)
         .value_parser(value_parser!(u32).range(1..=64))
         .default_value("1");
     let audit = Command::new(alloc, "audit")
         .about("Audits the trace on standard input")
+        .after_help(ANSWERS)
         .arg(faults)?
         .arg(workers)?;
     Command::new(alloc, "causal_tool")
         .about("Audits recorded runs of processes that log their messages causally")
+        .version("1.0.0")
         .subcommand_required(true)
-        .disable_help_subcommand(true)
         .subcommand(audit)
 }
