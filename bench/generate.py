@@ -286,7 +286,7 @@ def line_of(entry):
         return '["stable",%s]' % spell(entry[1])
     if kind == "crash":
         return '["crash",%d]' % entry[1]
-    return '["restart",%d,[%s]]' % (entry[1], spell_list(entry[2]))
+    return '["%s",%d,[%s]]' % (kind, entry[1], spell_list(entry[2]))
 
 
 def text_of(version, n, entries):

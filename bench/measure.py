@@ -17,6 +17,7 @@ import threading
 import time
 
 import generate
+import hostile
 
 HERE = os.path.dirname(os.path.abspath(__file__))
 TOP = os.path.dirname(HERE)
@@ -157,14 +158,15 @@ def measure_row(row, program, path):
     row.lines = measure(["wc", "-l"], path)
     if (about["variant"], about["f_word"]) == ("safe", "1"):
         row.python = measure([sys.executable, "-I", "-S", os.path.join(HERE, "json_lines.py")], path)
-    unjudged = path if about["shape"] == "line" else misended(path, about)
+    is_line = about["shape"] == "line" or about["shape"] in hostile.LINES
+    unjudged = path if is_line else misended(path, about)
     runs = [(command, unjudged)]
     if os.path.exists(KIT_JSON):
         runs.append(([KIT_JSON], unjudged))
     row.read, *kit = measure_in_turn(runs)
     if row.read.over or any(each.over for each in kit):
         sys.exit(f"reading {' '.join(row.key())} takes over {LIMIT:.0f} s")
-    if about["shape"] == "line":
+    if is_line:
         row.check(row.read, about["answer"], about["status"])
     else:
         row.check(row.read, f"fault line={about['entries'] + 2} Count", 2)
@@ -177,6 +179,8 @@ def plan():
     """What is measured: shape, variant, f and workers, the most telling first."""
     shapes = [shape for shape in generate.SHAPES if shape != "line"]
     rows = [("lists", "safe", "1", 1), ("line", "safe", "1", 1)]
+    rows += [(shape, "hostile", f, 1) for shape in hostile.SHAPES for f in ("1", "0")]
+    rows += [(shape, "hostile", "1", 1) for shape in hostile.LINES]
     rows += [(shape, "safe", "1", 1) for shape in shapes if shape != "lists"]
     rows += [(shape, "safe", "1", workers) for shape in shapes for workers in (2, 4)]
     rows += [(shape, "safe", f, 1) for f in FAULTS if f != "1" for shape in shapes]
@@ -186,12 +190,15 @@ def plan():
 
 
 def path_of(text):
-    return os.path.join(INPUTS, "-".join(map(str, text)) + ".jsonl")
+    return os.path.join(INPUTS, "-".join(map(str, text)).replace(" ", "_") + ".jsonl")
 
 
 def make_input(text):
     shape, variant, f, seed = text
-    written, about = generate.make(shape, variant, f, 1, seed)
+    if variant == "hostile":
+        written, about = hostile.make(shape, f, 1, seed)
+    else:
+        written, about = generate.make(shape, variant, f, 1, seed)
     with open(path_of(text[:3]), "w") as file:
         file.write(written)
     return text[:3], about
@@ -339,9 +346,53 @@ def targets(rows):
     value, trace = worst(compared, lambda row: row.read.best() / row.kit.best())
     lines.append(target_line(f"the same at worst, of all rows: `{trace}`", value, 1.3))
     # a fault keeps no trace
-    kept = [row for row in compared if row.about["shape"] != "line"]
+    kept = [row for row in compared if row.about["status"] != 2]
     value, trace = worst(kept, lambda row: (row.read.peak - row.kit.peak) * 1e3 / own_size(row.about))
     lines.append(target_line(f"memory beyond the kit's JSON reader's / the trace's own size, at worst: `{trace}`", value, 2.0))
+    return lines + audit_targets(kept) + hostile_targets(rows)
+
+
+def whole(row):
+    """How long the whole audit takes, as a ratio to the kit's JSON reader on the same text."""
+    return (LIMIT if row.full.over else row.full.best()) / row.kit.best()
+
+
+def audit_targets(rows):
+    """What is asked of the whole audit, friendly traces and hostile ones alike."""
+    full = [row for row in rows if row.about["listed"] > generate.MAX_LISTED * 0.9]
+    lean = [row for row in rows if row not in full]
+    small = [row for row in rows if row.about["processes"] <= 64]
+    beyond = lambda row: (row.full.peak - row.kit.peak) / 1e3
+    lines = []
+    for name, some, ratio, bound in (
+        ("the whole audit / the kit's JSON reader, where a million determinants are listed", full, whole, 1.6),
+        ("the same where few are", lean, whole, 3.0),
+        ("MB beyond the kit's JSON reader", rows, beyond, 100.0),
+        ("the same up to 64 processes", small, beyond, 40.0),
+    ):
+        value, trace = worst([row for row in some if row.full], ratio)
+        lines.append(target_line(f"{name}, at worst: `{trace}`", value, bound))
+    return lines
+
+
+def hostile_targets(rows):
+    """What is asked of traces and lines that were made to be slow."""
+    found = {row.key(): row for row in rows if row.full}
+    lines = []
+    colliding, scattered = (found.get((f"{shape} hostile", "1", "1")) for shape in ("colliding", "scattered"))
+    if colliding and scattered:
+        lines.append(target_line("colliding determinants / the same in a random order",
+                                 colliding.full.best() / scattered.full.best(), 1.3, colliding.full.over))
+    for shape in ("early", "down"):
+        row = found.get((f"{shape} hostile", "0", "1"))
+        if row:
+            lines.append(target_line(f"`{shape} hostile` for f = 0, told at the first instant: whole audit / reading",
+                                     row.full.best() / row.read.best(), 1.3, row.full.over))
+    for shape in hostile.LINES:
+        row = found.get((f"{shape} hostile", "1", "1"))
+        if row:
+            lines.append(target_line(f"`{shape}`: peak memory / the line's length",
+                                     row.full.peak * 1e3 / row.about["bytes"], 30.0, row.full.over))
     return lines
 
 
@@ -358,6 +409,7 @@ ABOUT = """\
 
 {shapes}
 - {variants}.
+{hostile}
 
 Every trace stands at a limit. *f* is the `--faults` of the run, for which the trace was made (`n`: as many as there are
 processes). No run is safe for f = 0 in which a process crashes, so there the right answer is `exceeded`.
@@ -398,6 +450,7 @@ def report(rows, facts, before):
         targets="\n".join(targets(rows)),
         shapes="\n".join(f"- `{name}`: {text}." for name, text in generate.SHAPES.items()),
         variants="; ".join(f"`{name}`: {text}" for name, text in generate.VARIANTS.items()),
+        hostile="\n".join(f"- `{name} hostile`: {text}." for name, text in {**hostile.SHAPES, **hostile.LINES}.items()),
         slow=SLOW,
         limit=LIMIT,
         table=table_of(rows, before),

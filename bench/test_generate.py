@@ -8,6 +8,7 @@ import json
 import unittest
 
 import generate
+import hostile
 
 PART = 128
 
@@ -80,6 +81,11 @@ class Reader:
         self.depends[p] = frozenset()
         self.reached.append(None)
 
+    def take_forget(self, p, dets):
+        assert self.up[p]
+        self.logs[p].difference_update(self.check_list(dets))
+        self.reached.append(None)
+
     def take_restart(self, p, dets):
         assert not self.up[p]
         self.restarts += 1
@@ -148,6 +154,23 @@ class Generated(unittest.TestCase):
             for variant in generate.VARIANTS:
                 for f in ("0", "1", "3", "n"):
                     self.one(shape, variant, f)
+
+    def test_hostile_shapes(self):
+        for shape in hostile.SHAPES:
+            for f in ("0", "1"):
+                with self.subTest(shape=shape, f=f):
+                    text, about = hostile.make(shape, f, PART)
+                    reader, answer = answered(text, about["f"])
+                    self.assertEqual(answer, about["answer"])
+                    self.assertEqual(reader.listed, about["listed"])
+                    self.assertEqual(len(reader.entries), about["entries"])
+
+    def test_hostile_lines(self):
+        for shape in hostile.LINES:
+            text, about = hostile.make(shape, "1", PART)
+            self.assertLessEqual(len(text), generate.MAX_BYTES // PART)
+            self.assertGreater(len(text), generate.MAX_BYTES // PART - 600)
+            self.assertIsInstance(json.loads(text), list)
 
     def test_one_line(self):
         text, about = generate.make("line", "safe", "1", PART)

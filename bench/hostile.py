@@ -1,0 +1,233 @@
+#!/usr/bin/env python3
+"""Makes traces and texts that someone chose to make an auditor slow, without any code of the product. What the auditor has
+to answer is known from how each was made, and the same command makes the same bytes.
+
+    hostile.py SHAPE F [--part 8] [--seed 1]
+"""
+import argparse
+import random
+import sys
+
+import generate
+from generate import MAX_BYTES, MAX_ENTRIES, MAX_LISTED, MAX_RESTARTS
+
+SHAPES = {
+    "colliding": "one process delivers to itself in an order for which the determinants collide in the hash of the kit's "
+    "`HashMap`, whose seed is fixed, and the last deliveries list 8,192 each",
+    "scattered": "the same deliveries in a random order",
+    "replayed": "one process crashes and restarts 192 times and replays 105 deliveries, whose lists name all 105",
+    "early": "256 processes; 192 crashes and restarts come first",
+    "late": "256 processes; 192 crashes and restarts come last",
+    "down": "256 processes, of which one is down from the first instant on",
+    "shared": "256 processes; nearly all lists name the same determinants, so that each is held in many lanes",
+    "released": "a determinant is forgotten and listed in turn, while very many deliveries of it and others stand",
+}
+LINES = {
+    "objects": "one line of objects with an empty name",
+    "nested arrays": "one line of arrays in arrays, 126 deep",
+    "nested objects": "one line of objects in objects, 126 deep",
+}
+MULTIPLIER = 0x9E37_79B9_7F4A_7C15
+INITIAL = 0x243F_6A88_85A3_08D3
+WORD = (1 << 64) - 1
+
+
+def folded(state, number, length):
+    """One write of the kit's fixed hash."""
+    product = (state ^ number) * (MULTIPLIER ^ (2 * length))
+    return (product & WORD) ^ (product >> 64)
+
+
+def colliding_order(count, rng):
+    """For each receive number the send number of a message that nobody has delivered yet, so that the determinants'
+    homes in a table of so many entries lie side by side."""
+    groups = 1
+    while 9 * groups < count:
+        groups *= 2
+    homes = max(1, groups // 64)
+    states = []
+    for ssn in range(count):
+        state = folded(folded(INITIAL, 0, 1), ssn | ssn << 32, 4)
+        states.append((ssn, folded(state, 0, 1)))
+    rng.shuffle(states)
+    order = []
+    for rsn in range(count):
+        number = rsn | rsn << 32
+        at = 0
+        for at, (_, state) in enumerate(states):
+            mixed = folded(state, number, 4)
+            if (mixed ^ mixed >> 32) & (groups - 1) < homes:
+                break
+        states[at], states[-1] = states[-1], states[at]
+        order.append(states.pop()[0])
+    return order
+
+
+def self_deliveries(part, rng, colliding):
+    count = 32_700 // part
+    order = colliding_order(count, rng) if colliding else rng.sample(range(count), count)
+    entries = [("send", 0, 0, ssn) for ssn in range(count)]
+    dets = [(0, ssn, 0, rsn) for rsn, ssn in enumerate(order)]
+    lists = max(1, 124 // part)
+    each = (MAX_LISTED // part - count) // lists
+    for rsn, ssn in enumerate(order):
+        more = dets[:rsn][:each] if rsn >= count - lists else []
+        entries.append(("deliver", 0, ssn, rsn, [*more, dets[rsn]], dets[rsn]))
+    return 1, entries
+
+
+def replayed(part, rng):
+    count, restarts, left = 105, max(1, MAX_RESTARTS // part), MAX_LISTED // part
+    dets = [(0, i, 1, i) for i in range(count)]
+    entries = [("send", 0, 1, i) for i in range(count)]
+    to_come = count * (restarts + 1)
+    for lane in range(restarts + 1):
+        if lane:
+            entries += [("crash", 1), ("restart", 1, [])]
+        for i in range(count):
+            to_come -= 1
+            listed = dets if lane and left - count >= to_come else [dets[i]]
+            left -= len(listed)
+            entries.append(("deliver", 1, i, i, listed, dets[i]))
+    return 2, entries
+
+
+def pairs(count):
+    """Deliveries from even processes to the odd ones beside them, each listed by its receiver alone."""
+    sent, delivered, entries = [0] * 256, [0] * 256, []
+    for i in range(count):
+        p = 2 * (i % 128)
+        entries.append(("send", p, p + 1, sent[p]))
+        det = (p, sent[p], p + 1, delivered[p + 1])
+        entries.append(["deliver", p + 1, len(entries) - 1, det[3], [det], det])
+        sent[p] += 1
+        delivered[p + 1] += 1
+    return entries
+
+
+def moved(entries, by):
+    """The entries with so many others before them."""
+    return [(*e[:2], e[2] + by, *e[3:]) if e[0] == "deliver" else e for e in entries]
+
+
+def restarts_of(part):
+    return [entry for i in range(max(1, MAX_RESTARTS // part)) for entry in (("crash", i), ("restart", i, []))]
+
+
+def early(part, rng):
+    turns = restarts_of(part)
+    return 256, turns + moved(pairs((MAX_ENTRIES // part - len(turns)) // 2), len(turns))
+
+
+def late(part, rng):
+    turns = restarts_of(part)
+    return 256, pairs((MAX_ENTRIES // part - len(turns)) // 2) + turns
+
+
+def down(part, rng):
+    run = generate.Run(255, 1, MAX_ENTRIES // part - 1, 32, False)
+    draw = generate.run_gossip(run, rng)
+    run.finish(draw, False)
+    return 256, [("crash", 255)] + moved(run.entries, 1)
+
+
+def shared(part, rng):
+    run = generate.Run(256, 1, MAX_ENTRIES // part, 32, False)
+    draw = generate.run_chain(run, rng)
+    run.finish(draw, False)
+    places = generate.deliveries_of(run.entries)
+    dets = [run.entries[i][5] for i in places]
+    left = MAX_LISTED // part - sum(len(run.entries[i][4]) for i in places)
+    share = left // len(places)
+    for number, place in enumerate(places):
+        listed = run.entries[place][4]
+        listed.extend([d for d in dets[: min(number, share)] if d not in listed])
+    return 256, run.entries
+
+
+def released(part, rng):
+    """Process 0 sends to 1, which crashes and replays in all of its lanes; process 0 lists the determinants and forgets
+    them again and again, between which nothing else changes."""
+    lanes, count = max(1, MAX_RESTARTS // part), 100
+    dets = [(0, i, 1, i) for i in range(count)]
+    entries = [("send", 0, 1, i) for i in range(count)]
+    for lane in range(lanes + 1):
+        if lane:
+            entries += [("crash", 1), ("restart", 1, [])]
+        entries += [("deliver", 1, i, i, [dets[i]], dets[i]) for i in range(count)]
+    listed, ssn, rsn = count * (lanes + 1), count, 0
+    while listed + 2 * count + 1 < MAX_LISTED // part and len(entries) + 3 <= MAX_ENTRIES // part:
+        entries.append(("send", 0, 0, ssn))
+        own = (0, ssn, 0, rsn)
+        entries.append(("deliver", 0, len(entries) - 1, rsn, [*dets, own], own))
+        entries.append(("forget", 0, dets))
+        listed, ssn, rsn = listed + 2 * count + 1, ssn + 1, rsn + 1
+    return 2, entries
+
+
+MAKERS = {
+    "colliding": lambda part, rng: self_deliveries(part, rng, True),
+    "scattered": lambda part, rng: self_deliveries(part, rng, False),
+    "replayed": replayed,
+    "early": early,
+    "late": late,
+    "down": down,
+    "shared": shared,
+    "released": released,
+}
+
+
+def text_of(n, entries):
+    version = 2 if n > 64 or any(entry[0] == "forget" for entry in entries) else 1
+    return generate.text_of(version, n, entries)
+
+
+def repeated(piece, size):
+    return "[" + ",".join([piece] * ((size - 2) // (len(piece) + 1))) + "]"
+
+
+def one_line(shape, size):
+    piece = {
+        "objects": '{"":0}',
+        "nested arrays": "[" * 126 + "]" * 126,
+        "nested objects": '{"":' * 126 + "0" + "}" * 126,
+    }[shape]
+    return repeated(piece, size - 1) + "\n"
+
+
+def make(shape, f_word, part=1, seed=1):
+    """The text and what is known of it."""
+    f = int(f_word)
+    if shape in LINES:
+        text = one_line(shape, MAX_BYTES // part)
+        about = {"processes": 0, "entries": 0, "deliveries": 0, "listed": 0, "answer": "fault line=1 Form", "status": 2}
+    else:
+        n, entries = MAKERS[shape](part, random.Random(f"{shape} {part} {seed}"))
+        text = text_of(n, entries)
+        answer, status = generate.answer_of("safe", f, entries)
+        about = {
+            "processes": n,
+            "entries": len(entries),
+            "deliveries": len(generate.deliveries_of(entries)),
+            "listed": sum(len(e[{"deliver": 4}.get(e[0], 2)]) for e in entries if e[0] in ("deliver", "restart", "forget")),
+            "answer": answer,
+            "status": status,
+        }
+    about.update(shape=shape, variant="hostile", f=f, f_word=f_word, part=part, bytes=len(text))
+    return text, about
+
+
+def main():
+    words = argparse.ArgumentParser(description=__doc__.split("\n")[0])
+    words.add_argument("shape", choices=[*SHAPES, *LINES])
+    words.add_argument("f", help="0 or 1")
+    words.add_argument("--part", type=int, default=1, help="every limit is divided by this (1)")
+    words.add_argument("--seed", type=int, default=1)
+    given = words.parse_args()
+    text, about = make(given.shape, given.f, given.part, given.seed)
+    sys.stdout.write(text)
+    print(about, file=sys.stderr)
+
+
+if __name__ == "__main__":
+    main()

@@ -1,0 +1,279 @@
+#!/usr/bin/env python3
+"""Runs the built program on random and damaged texts and scripts, and compares what it answers with the plain models
+beside this file. Each difference is printed with its input. Everything is decided by the seed.
+
+    trials/fuzz.py [--program PATH] [--cases 20000] [--seed 1] [--jobs N] [--only audit|run]
+"""
+import argparse
+import collections
+import concurrent.futures
+import os
+import random
+import subprocess
+import sys
+
+import scripts
+import traces
+
+HERE = os.path.dirname(os.path.abspath(__file__))
+PROGRAM = os.path.join(os.path.dirname(HERE), "crates", "causal_tool", "out", "causal_tool")
+CHUNK = 250  # cases that one worker makes from one seed
+KINDS = ("ring", "echo", "tally")
+
+
+# ---- traces
+
+
+def random_det(rng, trace):
+    if trace.dets and rng.random() < 0.95:
+        return list(rng.choice(list(trace.dets.values())))
+    return [rng.randrange(3), rng.randrange(3), rng.randrange(3), rng.randrange(3)]
+
+
+def random_list(rng, trace, own=None):
+    dets = {tuple(random_det(rng, trace)) for _ in range(rng.choice((0, 0, 1, 1, 2, 4)))}
+    if own is not None and rng.random() < 0.9:
+        dets.add(own)
+    listed = [list(det) for det in sorted(dets)]
+    if len(listed) > 1 and rng.random() < 0.02:
+        rng.shuffle(listed)
+    return listed
+
+
+def random_entry(rng, trace):
+    """An entry that mostly may stand next."""
+    n = trace.n
+    p = rng.randrange(n + (rng.random() < 0.01))
+    ups = [q for q in range(n) if trace.processes[q].up]
+    if ups and rng.random() < 0.97:
+        p = rng.choice(ups)
+    process = trace.processes[min(p, n - 1)]
+    kind = rng.random()
+    sends = [i for i, (word, _) in enumerate(trace.entries) if word == "send"]
+    if kind < 0.36 or not sends:
+        return "send", [p, rng.randrange(n), process.sends + (rng.random() < 0.01)]
+    if kind < 0.74:
+        k = rng.choice(sends)
+        q = trace.entries[k][1][1] if rng.random() < 0.98 else p
+        receiver = trace.processes[min(q, n - 1)]
+        source, _, ssn = trace.entries[k][1]
+        rsn = receiver.deliveries + (rng.random() < 0.01)
+        return "deliver", [q, k, rsn, random_list(rng, trace, (source, ssn, q, rsn))]
+    if kind < 0.82:
+        return "stable", [random_det(rng, trace)]
+    if kind < 0.88:
+        return "crash", [p]
+    if kind < 0.95:
+        downs = [q for q in range(n) if not trace.processes[q].up]
+        return "restart", [rng.choice(downs) if downs else p, random_list(rng, trace)]
+    return "forget", [p, random_list(rng, trace)]
+
+
+def random_trace(rng):
+    """The lines of a trace of few processes, and whether it needs the second version."""
+    n = rng.choice((1, 2, 2, 3, 3, 3, 4))
+    trace = traces.Trace(n)
+    wanted = rng.choice((0, 2, 5, 8, 12, 18, 25))
+    for _ in range(6 * wanted):
+        if len(trace.entries) >= wanted:
+            break
+        word, fields = random_entry(rng, trace)
+        try:
+            trace.push(word, fields)
+        except traces.Fault:
+            if rng.random() < 0.004:
+                trace.entries.append((word, fields))
+                break
+    forgets = any(word == "forget" for word, _ in trace.entries)
+    version = 2 if rng.random() < (0.97 if forgets else 0.2) else 1
+    lines = [("trace", version, n), *[(word, *fields) for word, fields in trace.entries], ("end", len(trace.entries))]
+    return [scripts.spelled(line) for line in lines]
+
+
+def recorded_run(rng):
+    """The lines of a trace that a run of the plain model makes, of so few processes that all crash sets can be tried."""
+    text, _ = scripts.ran(random_script(rng, 0.0, (1, 2, 3, 3, 4, 5)))
+    return text.splitlines()
+
+
+NUMBERS = ("0", "1", "2", "3", "7", "64", "65", "255", "256", "257", "65536", "4294967295", "4294967296",
+           "18446744073709551615", "18446744073709551616", "-1", "-0", "0.0", "1e0", "1e400", "00", "01", "null", '"0"',
+           "[]", "{}", "true", "9" * 320)
+JUNK = (b"\n", b" ", b"\t", b"\r", b",", b"[", b"]", b'"', b"{", b"}", b":", b"0", b"-", b"\\", b"\x00", b"\xff", b"\xc2\xa0",
+        b"\xe2\x80\xa8", b"\xef\xbb\xbf", b"\x0b", b"\\ud800", b'["end",0]', b'["trace",1,2]', b'["forget",0,[]]')
+
+
+def damaged(rng, lines):
+    """The text of lines, mostly with one wrong thing in it."""
+    lines = list(lines)
+    kind = rng.random()
+    if kind < 0.25:
+        pass
+    elif kind < 0.35 and len(lines) > 1:
+        del lines[rng.randrange(len(lines))]
+    elif kind < 0.42:
+        lines.insert(rng.randrange(len(lines) + 1), rng.choice(lines))
+    elif kind < 0.48 and len(lines) > 2:
+        i, j = rng.randrange(len(lines)), rng.randrange(len(lines))
+        lines[i], lines[j] = lines[j], lines[i]
+    elif kind < 0.7:
+        i = rng.randrange(len(lines))
+        places = [(a, b) for a, b in number_places(lines[i])]
+        if places:
+            a, b = rng.choice(places)
+            lines[i] = lines[i][:a] + rng.choice(NUMBERS) + lines[i][b:]
+    text = "\n".join(lines).encode("utf-8", "surrogateescape") + (b"" if rng.random() < 0.1 else b"\n")
+    if kind >= 0.7:
+        at = rng.randrange(len(text) + 1)
+        how = rng.random()
+        if how < 0.35:
+            text = text[:at]
+        elif how < 0.75:
+            text = text[:at] + rng.choice(JUNK) + text[at:]
+        elif how < 0.9:
+            text = text[:at] + text[at + 1 :]
+        else:
+            text = text[:at] + bytes([rng.randrange(256)]) + text[at + 1 :]
+    if rng.random() < 0.05:
+        text = text.replace(b",", b" ,\t").replace(b"\n", b"\r\n")
+    return text
+
+
+def number_places(line):
+    start = None
+    for i, letter in enumerate(line + " "):
+        if letter.isdigit():
+            start = i if start is None else start
+        elif start is not None:
+            yield start, i
+            start = None
+
+
+def audit_case(rng):
+    lines = recorded_run(rng) if rng.random() < 0.3 else random_trace(rng)
+    f = rng.choice((0, 1, 1, 1, 2, 2, 3, 5, 65535))
+    workers = rng.choice((1, 1, 2, 3, 5))
+    text = damaged(rng, lines)
+    return ["audit", "--faults", str(f), "--workers", str(workers)], text, lambda: traces.audited(text, f)
+
+
+# ---- scripts
+
+
+def random_command(rng, run):
+    """A command that the run mostly does not refuse."""
+    n = run.n
+    p = rng.randrange(n + (rng.random() < 0.02))
+    kind = rng.random()
+    if kind < 0.62:
+        waiting = [
+            (to, q, ssn)
+            for q in range(n)
+            if run.memories[q]
+            for ssn, (to, *_) in enumerate(run.memories[q].sent)
+            if run.memories[to] and (q, ssn) not in run.memories[to].received
+        ]
+        if waiting and rng.random() < 0.97:
+            q, source, ssn = rng.choice(waiting)
+            named = run.named(q)
+            return ("deliver", q, *(named if named and rng.random() < 0.97 else (source, ssn)))
+        return "deliver", p, rng.randrange(n), rng.randrange(3)
+    downs = [q for q in range(n) if not run.memories[q]]
+    if kind < 0.82 and downs and rng.random() < 0.8:
+        return "restart", rng.choice(downs)
+    return rng.choice(("crash", "crash", "restart", "flush", "forget")), p
+
+
+def random_script(rng, wrong, sizes):
+    """A script's text. Refused commands stay in it where `wrong` says so; else each is left out and another tried."""
+    kind = rng.choice(KINDS)
+    n = rng.choice(sizes)
+    f = rng.choice((0, 1, 1, 1, 2, 2, 3, n, 65535))
+    param = rng.choice((0, 1, 2, 3, 5, 9, 255))
+    run = scripts.Run(kind, n, f, param)
+    lines = [f"start {kind} {n} {f}" + ("" if kind == "tally" else f" {param}")]
+    for _ in range(rng.choice((0, 3, 8, 15, 30, 60))):
+        name, *numbers = random_command(rng, run)
+        try:
+            getattr(run, name)(*numbers)
+        except scripts.Refused:
+            if rng.random() >= wrong:
+                continue
+        lines.append(" ".join(map(str, (name, *numbers))))
+    return ("\n".join(lines) + "\n").encode()
+
+
+def run_case(rng):
+    sizes = (1, 2, 3, 3, 4, 5, 8) if rng.random() < 0.98 else (64, 65, 256)
+    text = random_script(rng, rng.choice((0.0, 0.0, 0.05)), sizes)
+    kind = rng.random()
+    at = rng.randrange(len(text) + 1)
+    if kind < 0.1:
+        text = text[:at]
+    elif kind < 0.2:
+        junk = (b"\n", b" ", b"0", b"-", b"\r", b"\t", b"x", b"\xff", b"start ring 1 0 0\n", b"4294967296")
+        text = text[:at] + rng.choice(junk) + text[at:]
+    elif kind < 0.25:
+        text = text[:at] + text[at + 1 :]
+    return ["run"], text, lambda: scripts.ran(text)
+
+
+# ---- both
+
+
+def one(program, words, text):
+    ended = subprocess.run([program, *words], input=text, capture_output=True, timeout=60)
+    return ended.stdout.decode("utf-8", "replace"), ended.returncode
+
+
+def chunk(program, makers, seed, count):
+    """The differences of some cases, and how often each answer was met."""
+    rng, wrong, met = random.Random(seed), [], collections.Counter()
+    for _ in range(count):
+        words, text, model = rng.choice(makers)(rng)
+        wanted, status = model()
+        got = one(program, words, text)
+        wanted = wanted if wanted.endswith("\n") else wanted + "\n"
+        if got != (wanted, status):
+            wrong.append((words, text, (wanted, status), got))
+        first = wanted.split("\n", 1)[0].split(" ")
+        met[" ".join(word for word in first if not any(c.isdigit() for c in word)) or first[0][:8]] += 1
+    return wrong, met
+
+
+def makers_for(program):
+    """A case of each command that the program has."""
+    said = subprocess.run([program, "--help"], capture_output=True, text=True, check=True).stdout
+    return [maker for name, maker in (("audit", audit_case), ("run", run_case)) if f"\n  {name} " in said]
+
+
+def main():
+    given = argparse.ArgumentParser(description=__doc__.split("\n\n")[0])
+    given.add_argument("--program", default=PROGRAM)
+    given.add_argument("--cases", type=int, default=20_000)
+    given.add_argument("--seed", type=int, default=1)
+    given.add_argument("--jobs", type=int, default=os.cpu_count())
+    given.add_argument("--only", choices=("audit", "run"))
+    words = given.parse_args()
+    makers = {"audit": [audit_case], "run": [run_case], None: makers_for(words.program)}[words.only]
+    wrong, met = 0, collections.Counter()
+    with concurrent.futures.ProcessPoolExecutor(words.jobs) as pool:
+        starts = range(0, words.cases, CHUNK)
+        jobs = [
+            pool.submit(chunk, words.program, makers, f"{words.seed} {start}", min(CHUNK, words.cases - start))
+            for start in starts
+        ]
+        for job in concurrent.futures.as_completed(jobs):
+            found, counted = job.result()
+            met.update(counted)
+            for said, text, wanted, got in found:
+                wrong += 1
+                print(f"DIFFERENT {' '.join(said)}\n  input {text!r}\n  wanted {wanted!r}\n  got    {got!r}")
+    for answer, times in sorted(met.items(), key=lambda row: -row[1]):
+        print(f"{times:7} {answer}")
+    print(f"{sum(met.values())} cases, {wrong} different")
+    sys.exit(1 if wrong else 0)
+
+
+if __name__ == "__main__":
+    main()

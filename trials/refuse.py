@@ -1,0 +1,106 @@
+#!/usr/bin/env python3
+"""Runs the built program with each allocation, each thread start, each read and each write refused in turn, one alone
+and all from the k-th on, and says what was wrong. The calls are refused by a small library that is preloaded; it is built
+from refuse.c with the machine's C compiler.
+
+    trials/refuse.py [--program PATH]
+"""
+import argparse
+import errno
+import os
+import subprocess
+import sys
+import tempfile
+
+HERE = os.path.dirname(os.path.abspath(__file__))
+TOP = os.path.dirname(HERE)
+PROGRAM = os.path.join(TOP, "crates", "causal_tool", "out", "causal_tool")
+MOST = 20_000  # tries of one kind in one run
+
+RING = '["trace",1,3]\n["send",0,1,0]\n["deliver",1,0,0,[[0,0,1,0]]]\n["send",1,2,0]\n' \
+    '["deliver",2,2,0,[[0,0,1,0],[1,0,2,0]]]\n["send",2,0,0]\n["deliver",0,4,0,[[1,0,2,0],[2,0,0,0]]]\n["end",6]\n'
+REPLAY = "start ring 3 1 2\ndeliver 1 0 0\ndeliver 2 1 0\ndeliver 0 2 0\ncrash 1\nrestart 1\ndeliver 1 0 0\n"
+FLUSHES = "start tally 3 1\ndeliver 0 2 0\ndeliver 2 0 0\nflush 2\nflush 2\nflush 0\n"
+
+RUNS = [
+    ("audit, one worker", ["audit", "--faults", "1"], RING),
+    ("audit, two workers", ["audit", "--faults", "1", "--workers", "2"], RING),
+    ("audit of a text with a fault", ["audit", "--faults", "1"], RING.replace('"end",6', '"end",7')),
+    ("run, a replay", ["run"], REPLAY),
+    ("run, flushes", ["run"], FLUSHES),
+    ("run, a refused command", ["run"], REPLAY + "crash 9\n"),
+    ("help", ["--help"], ""),
+    ("words that ask for nothing", ["audit"], ""),
+]
+TROUBLE = {5: ("no memory\n", "no worker\n", "finish fault\n"), 4: ("read fault\n", "write fault\n")}
+
+
+class Tries:
+    def __init__(self, program, library, folder):
+        self.program, self.library = program, library
+        self.count = os.path.join(folder, "count")
+        self.tried, self.survived, self.wrong = 0, 0, []
+
+    def once(self, words, text, **refuse):
+        settings = {f"REFUSE_{name.upper()}": str(value) for name, value in refuse.items()}
+        environment = {**os.environ, "LD_PRELOAD": self.library, "REFUSE_COUNT": self.count, **settings}
+        ended = subprocess.run(
+            [self.program, *words], input=text.encode(), capture_output=True, env=environment, timeout=60
+        )
+        return ended.returncode, ended.stdout.decode(), ended.stderr.decode()
+
+    def calls(self, words, text, kind):
+        self.once(words, text, kind=kind, at=0)
+        with open(self.count) as file:
+            return int(file.read())
+
+    def each(self, name, words, text, kind, plain, statuses, **refuse):
+        """Every call of a kind, one alone and all from it on."""
+        for every in (0, 1):
+            for at in range(1, min(self.calls(words, text, kind), MOST) + 1):
+                got = self.once(words, text, kind=kind, at=at, all=every, **refuse)
+                self.tried += 1
+                self.survived += got == plain
+                if not is_refusal(got, plain, statuses):
+                    self.wrong.append((name, kind, at, every, refuse, got))
+
+
+def is_refusal(got, plain, statuses):
+    """A trouble's status with its line on standard error, or the answer of a run in which nothing was refused."""
+    status, out, err = got
+    if got == plain:
+        return True
+    if status not in statuses:
+        return False
+    if status == 4:
+        return plain[1].startswith(out) and err in TROUBLE[4]
+    return out == "" and err in TROUBLE[5]
+
+
+def main():
+    given = argparse.ArgumentParser(description=__doc__.split("\n\n")[0])
+    given.add_argument("--program", default=PROGRAM)
+    words = given.parse_args()
+    with tempfile.TemporaryDirectory() as folder:
+        library = os.path.join(folder, "refuse.so")
+        source = os.path.join(HERE, "refuse.c")
+        compiler = os.environ.get("CC", "cc")
+        subprocess.run([compiler, "-shared", "-fPIC", "-O2", "-o", library, source, "-ldl", "-lpthread"], check=True)
+        tries = Tries(words.program, library, folder)
+        for name, said, text in RUNS:
+            plain = tries.once(said, text, kind="none")
+            before = tries.tried
+            for kind in ("memory", "thread"):
+                tries.each(name, said, text, kind, plain, (5,))
+            for kind, errors in (("read", (errno.EIO, errno.EINTR)), ("write", (errno.EIO, errno.EINTR, 0))):
+                for error in errors:
+                    tries.each(name, said, text, kind, plain, (4,), error=error)
+            print(f"{tries.tried - before:7} tries: {name} (status {plain[0]})")
+    for row in tries.wrong:
+        print("WRONG", *row)
+    print(f"{tries.tried} tries, {tries.survived} of them survived with the answer of an undisturbed run, {len(tries.wrong)} wrong")
+    sys.exit(1 if tries.wrong else 0)
+
+
+if __name__ == "__main__":
+    main()
