@@ -7,7 +7,7 @@ use Rattle.causal_name.specs.declared.Pid.{Pid}
 use Rattle.causal_name.specs.declared.MsgName.{MsgName}
 use Rattle.causal_name.specs.Names.{same_message, message_of}
 use Rattle.causal_trace.specs.declared.entry.Entry.{Entry}
-use Rattle.causal_trace.proofs.Sizes.{deliveries_few}
+use Rattle.causal_trace.proofs.Lemmas.Counted.{deliveries_few}
 use Rattle.causal_log.specs.Stores.{DetSet}
 use Rattle.causal_protocol.specs.declared.request.CoreFault.{CoreFault}
 use Rattle.causal_protocol.specs.declared.request.CoreFault.TheVariants as Why

@@ -6,7 +6,7 @@ use Rattle.std.proofs.lemmas.List.{drop_more, drop_all}
 use Rattle.std.proofs.lemmas.List.Elements.{filter-append}
 use Rattle.causal_name.specs.declared.MsgName.{MsgName}
 use Rattle.causal_name.specs.declared.Pid.{Pid}
-use Rattle.causal_trace.proofs.Sizes.{sends_few}
+use Rattle.causal_trace.proofs.Lemmas.Counted.{sends_few}
 use Rattle.causal_trace.specs.declared.entry.Entry.{Entry}
 use Rattle.causal_protocol.specs.Memory.{Memory, Memories, at}
 use Rattle.causal_core.specs.declared.cell.Cell.{Cell}

@@ -24,5 +24,3 @@ pub use report::fault_line;
 pub use stream::{Progress, ReaderFault, TraceReader, read_from};
 pub use writer::{WriteCause, WriteFault, text_of, write_trace};
 
-#[cfg(test)]
-mod tests;

@@ -13,7 +13,7 @@ use Rattle.causal_trace.specs.Past.{is_down, lane, sends, deliveries}
 use Rattle.causal_trace.specs.Rows.{rows, first_fault}
 use Rattle.causal_trace.specs.Inside.Index.{lane_of, fresh, lane_after, subject, lanes_after, lanes_after_of, AreLanes, HasRoom}
 use Rattle.causal_trace.proofs.Lemmas.Accepted.{row_fails}
-use Rattle.causal_trace.proofs.Sizes.{sends_few, deliveries_few}
+use Rattle.causal_trace.proofs.Lemmas.Counted.{sends_few, deliveries_few}
 
 abbrev is_of : ℕ → Entry → Bool
 is_of p e = option_map_or (λ q. q.0 == p) (subject e) false

@@ -4,3 +4,4 @@ pub mod AtInstants
 pub mod Reached
 pub mod Accepted
 pub mod Formed
+pub mod Counted

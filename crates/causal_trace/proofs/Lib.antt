@@ -6,4 +6,4 @@ mod Indexed
 mod Laned
 mod Receipts
 mod Rooms
-pub mod Sizes
+mod Sizes

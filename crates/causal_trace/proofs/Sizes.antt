@@ -14,6 +14,7 @@ use Rattle.causal_trace.specs.declared.fault.TraceFault.TheVariants.{NoProcess, 
 use Rattle.causal_trace.specs.Past.{listed_in, listed_by, restarts, entry_at, message_sent, message_at, det_from, det_of, is_det, is_delivered, sends, deliveries}
 use Rattle.causal_trace.specs.Rows.{rows, first_fault, are_delivered, are_delivered_with, AreAccepted}
 use Rattle.causal_trace.specs.Sizes.{DetIsSmall, DetsAreSmall, EntryIsSmall, EntriesAreSmall, NumbersAreSmall, LimitsAreKept}
+use Rattle.causal_trace.proofs.Lemmas.Counted.{sends_few, deliveries_few}
 use Rattle.causal_trace.proofs.Lemmas.Formed.{within_limits, limits}
 use Rattle.causal_trace.proofs.Lemmas.Accepted.{not_false, row_fails, delivers_sent, sent_within}
 
@@ -29,32 +30,6 @@ below a n h = grind (arith, nat_tests)
 
 below_both : (a b n : ℕ) → not (nat_lt a n && nat_lt b n) ≡ false → (a < n) × (b < n)
 below_both a b n h = grind (arith, nat_tests)
-
-one_more : (b : Bool) (n m : ℕ) → n ≤ m → cond b (n + 1) n ≤ suc m
-one_more true n m h = omega arith
-one_more false n m h = omega arith
-
-or_none : (b : Bool) (n m : ℕ) → n ≤ m → cond b 0 n ≤ suc m
-or_none true n m h = omega arith
-or_none false n m h = omega arith
-
-pub sends_few : (past : List Entry) (p : ℕ) → sends past p ≤ length past
-sends_few [] p = omega arith
-sends_few (Send from to ssn ∷ past) p = one_more (from.0 == p) (sends past p) (length past) (sends_few past p)
-sends_few (Restart who listed ∷ past) p = or_none (who.0 == p) (sends past p) (length past) (sends_few past p)
-sends_few (Deliver to send rsn listed ∷ past) p = omega (arith, sends_few past p)
-sends_few (Stable det ∷ past) p = omega (arith, sends_few past p)
-sends_few (Crash who ∷ past) p = omega (arith, sends_few past p)
-sends_few (Forget who listed ∷ past) p = omega (arith, sends_few past p)
-
-pub deliveries_few : (past : List Entry) (p : ℕ) → deliveries past p ≤ length past
-deliveries_few [] p = omega arith
-deliveries_few (Deliver to send rsn listed ∷ past) p = one_more (to.0 == p) (deliveries past p) (length past) (deliveries_few past p)
-deliveries_few (Restart who listed ∷ past) p = or_none (who.0 == p) (deliveries past p) (length past) (deliveries_few past p)
-deliveries_few (Send from to ssn ∷ past) p = omega (arith, deliveries_few past p)
-deliveries_few (Stable det ∷ past) p = omega (arith, deliveries_few past p)
-deliveries_few (Crash who ∷ past) p = omega (arith, deliveries_few past p)
-deliveries_few (Forget who listed ∷ past) p = omega (arith, deliveries_few past p)
 
 module _ (limit : ℕ) where
   same_small : (e d : Det) → DetIsSmall limit e → same_det e d ≡ true → DetIsSmall limit d

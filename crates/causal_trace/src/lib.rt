@@ -9,11 +9,7 @@ mod lanes;
 pub mod laws;
 pub mod limits;
 pub mod plain;
-#[cfg(test)]
-mod random_tests;
 mod scans;
-#[cfg(test)]
-mod tests;
 pub mod trace;
 
 pub use entry::{Dets, Entry};

@@ -1,7 +1,7 @@
-use crate::entry::{Dets, Entry};
-use crate::fault::TraceFault;
-use crate::trace::Trace;
 use causal_name::{Det, Pid};
+use causal_trace::entry::{Dets, Entry};
+use causal_trace::fault::TraceFault;
+use causal_trace::trace::Trace;
 use std::alloc::Global;
 
 type Fields = (u8, u32, u8, u32);
@@ -74,8 +74,8 @@ fn one_delivery(alloc: Global) -> Result<Trace, TraceFault> {
     Ok(trace)
 }
 
-/// A message that goes round three processes.
-fn ring(alloc: Global) -> Result<Trace, TraceFault> {
+/// A message that goes round three processes: six entries.
+pub(crate) fn ring(alloc: Global) -> Result<Trace, TraceFault> {
     let mut trace = Trace::new(alloc, 3)?;
     trace.push(send(0, 1, 0))?;
     trace.push(deliver(alloc, 1, 0, 0, &[(0, 0, 1, 0)])?)?;
@@ -86,70 +86,26 @@ fn ring(alloc: Global) -> Result<Trace, TraceFault> {
     Ok(trace)
 }
 
+fn shows_the_ring(trace: &Trace) -> bool {
+    let counts = trace.len() == 6 && trace.processes() == 3 && trace.listed() == 5;
+    let deliveries = trace.deliveries() == 3
+        && trace.det_at(3) == Some(det((1, 0, 2, 0)))
+        && trace.det_at(4).is_none()
+        && trace.det_at(6).is_none();
+    let entries = trace.entries().len() == 6
+        && trace.entry(4) == Some(&send(2, 0, 0))
+        && trace.entry(6).is_none();
+    counts && deliveries && entries
+}
+
 #[test]
 fn the_ring_is_read(rt: HostRuntime) {
-    let Ok(trace) = ring(rt.alloc()) else {
-        assert!(rt; false);
-        return;
-    };
-    assert_eq!(rt; trace.len(), 6);
-    assert_eq!(rt; trace.processes(), 3);
-    assert_eq!(rt; trace.listed(), 5);
-    assert_eq!(rt; trace.deliveries(), 3);
-    assert_eq!(rt; trace.entries().len(), 6);
-    assert_eq!(rt; trace.det_at(3), Some(det((1, 0, 2, 0))));
-    assert_eq!(rt; trace.det_at(4), None);
-    assert_eq!(rt; trace.det_at(6), None);
-    assert!(rt; trace.entry(4) == Some(&send(2, 0, 0)));
-    assert!(rt; trace.entry(6).is_none());
+    let shown = ring(rt.alloc()).map(|trace| shows_the_ring(&trace));
+    assert!(rt; shown == Ok(true));
 }
 
 fn refused(trace: &mut Trace, entry: Entry) -> Option<TraceFault> {
     trace.push(entry).err()
-}
-
-/// What stands against an entry after one delivery, the first of several reasons told.
-fn refusals(alloc: Global) -> Result<bool, TraceFault> {
-    let mut trace = one_delivery(alloc)?;
-    let t = &mut trace;
-    let process = refused(t, send(0, 2, 0)) == Some(TraceFault::NoProcess)
-        && refused(t, deliver(alloc, 2, 9, 9, &[])?) == Some(TraceFault::NoProcess)
-        && refused(t, crash(2)) == Some(TraceFault::NoProcess);
-    let numbers = refused(t, send(0, 1, 0)) == Some(TraceFault::WrongSsn)
-        && refused(t, deliver(alloc, 1, 1, 0, &[])?) == Some(TraceFault::NoSend)
-        && refused(t, deliver(alloc, 0, 0, 0, &[])?) == Some(TraceFault::NoSend)
-        && refused(t, deliver(alloc, 1, 7, 9, &[(9, 9, 9, 9), (0, 0, 0, 0)])?)
-            == Some(TraceFault::NoSend)
-        && refused(t, deliver(alloc, 1, 0, 0, &[])?) == Some(TraceFault::WrongRsn)
-        && refused(t, deliver(alloc, 1, 0, 1, &[(0, 0, 1, 1)])?) == Some(TraceFault::Doubled);
-    Ok(process && numbers && trace.len() == 2)
-}
-
-fn refusals_of_lists(alloc: Global) -> Result<bool, TraceFault> {
-    let mut trace = Trace::new(alloc, 2)?;
-    trace.push(send(0, 1, 0))?;
-    let t = &mut trace;
-    let twice = deliver(alloc, 1, 0, 0, &[(0, 0, 1, 0), (0, 0, 1, 0)])?;
-    let unknown = deliver(alloc, 1, 0, 0, &[(0, 0, 1, 1)])?;
-    let early = Entry::Stable {
-        det: det((0, 0, 1, 0)),
-    };
-    let lists = refused(t, twice) == Some(TraceFault::Unsorted)
-        && refused(t, unknown) == Some(TraceFault::NoDelivery)
-        && refused(t, early) == Some(TraceFault::NoDelivery)
-        && refused(t, forget(alloc, 0, &[(0, 0, 1, 0)])?) == Some(TraceFault::NoDelivery);
-    let turns = refused(t, restart(alloc, 1, &[])?) == Some(TraceFault::NotDown)
-        && refused(t, crash(1)).is_none()
-        && refused(t, crash(1)) == Some(TraceFault::NotUp)
-        && refused(t, deliver(alloc, 1, 0, 0, &[])?) == Some(TraceFault::NotUp)
-        && refused(t, forget(alloc, 1, &[])?) == Some(TraceFault::NotUp);
-    Ok(lists && turns && trace.len() == 2)
-}
-
-#[test]
-fn refusals_come_in_order(rt: HostRuntime) {
-    assert!(rt; refusals(rt.alloc()) == Ok(true));
-    assert!(rt; refusals_of_lists(rt.alloc()) == Ok(true));
 }
 
 /// A new lane numbers its deliveries anew, and may deliver what the old one did.

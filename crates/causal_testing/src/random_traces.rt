@@ -1,57 +1,44 @@
 //! The trace and the plain program beside it answer the same to the same entries, half of them bad.
-ghost use Rattle.std.specs.Prelude.{◌<◌};
-
-use crate::entry::{Dets, Entry};
-use crate::fault::TraceFault;
-use crate::plain::PlainTrace;
-use crate::trace::Trace;
+use crate::numbers::Numbers;
 use causal_name::{Det, MsgName, Pid};
+use causal_trace::entry::{Dets, Entry};
+use causal_trace::fault::TraceFault;
+use causal_trace::plain::PlainTrace;
+use causal_trace::trace::Trace;
 use std::alloc::Global;
 
 /// A seeded walk: the same numbers each time, and the next sequence numbers of each process.
 #[derive(Clone, Copy)]
 struct Walk {
-    state: u64,
+    numbers: Numbers,
     sends: [u32; 3],
     deliveries: [u32; 3],
 }
 
-/// The next number below a bound.
-fn below(walk: &mut Walk, bound: u32) -> u32
-    requires { 0 < bound }
-    ensures { result < bound }
-{
-    walk.state = walk
-        .state
-        .wrapping_mul(6_364_136_223_846_793_005)
-        .wrapping_add(1_442_695_040_888_963_407);
-    ((walk.state >> 33) % bound as u64) as u32
-}
-
 fn process(walk: &mut Walk) -> Pid {
-    Pid((below(walk, 25) / 8) as u8)
+    Pid((walk.numbers.below(25) / 8) as u8)
 }
 
 /// The right number, or some number.
 fn number(walk: &mut Walk, right: &[u32; 3], p: Pid) -> u32 {
-    if (p.0 as usize) < 3 && below(walk, 8) > 0 {
+    if (p.0 as usize) < 3 && walk.numbers.below(8) > 0 {
         right[p.0 as usize]
     } else {
-        below(walk, 4)
+        walk.numbers.below(4)
     }
 }
 
 /// The determinant of some delivery, or some determinant.
 fn some_det(walk: &mut Walk, trace: &Trace) -> Det {
-    let position = below(walk, 8_192) % (trace.len().saturating_add(1));
+    let position = walk.numbers.below(8_192) % (trace.len().saturating_add(1));
     if let Some(det) = trace.det_at(position) {
         return det;
     }
     Det {
         source: process(walk),
-        ssn: below(walk, 3),
+        ssn: walk.numbers.below(3),
         dest: process(walk),
-        rsn: below(walk, 3),
+        rsn: walk.numbers.below(3),
     }
 }
 
@@ -67,12 +54,12 @@ fn listed(
             return Err(TraceFault::NoMemory);
         }
     }
-    for _ in 0..below(walk, 3) {
+    for _ in 0..walk.numbers.below(3) {
         if dets.push(some_det(walk, trace)).is_err() {
             return Err(TraceFault::NoMemory);
         }
     }
-    if below(walk, 8) > 0 {
+    if walk.numbers.below(8) > 0 {
         if dets.sort().is_err() {
             return Err(TraceFault::NoMemory);
         }
@@ -90,7 +77,7 @@ fn sent_at(walk: &mut Walk, trace: &Trace, send: u32) -> (Pid, Option<MsgName>) 
                 source: *from,
                 ssn: *ssn,
             };
-            if below(walk, 8) > 0 {
+            if walk.numbers.below(8) > 0 {
                 (*to, Some(message))
             } else {
                 (other, Some(message))
@@ -101,7 +88,7 @@ fn sent_at(walk: &mut Walk, trace: &Trace, send: u32) -> (Pid, Option<MsgName>) 
 }
 
 fn delivery(alloc: Global, walk: &mut Walk, trace: &Trace) -> Result<Entry, TraceFault> {
-    let back = below(walk, 24);
+    let back = walk.numbers.below(24);
     let send = trace.len().saturating_sub(back);
     let (to, message) = sent_at(walk, trace, send);
     let right = walk.deliveries;
@@ -122,7 +109,7 @@ fn delivery(alloc: Global, walk: &mut Walk, trace: &Trace) -> Result<Entry, Trac
 }
 
 fn entry(alloc: Global, walk: &mut Walk, trace: &Trace) -> Result<Entry, TraceFault> {
-    match below(walk, 16) {
+    match walk.numbers.below(16) {
         0..=5 => {
             let from = process(walk);
             let right = walk.sends;
@@ -136,7 +123,7 @@ fn entry(alloc: Global, walk: &mut Walk, trace: &Trace) -> Result<Entry, TraceFa
         12 => Ok(Entry::Stable {
             det: some_det(walk, trace),
         }),
-        13 if below(walk, 4) == 0 => Ok(Entry::Crash { who: process(walk) }),
+        13 if walk.numbers.below(4) == 0 => Ok(Entry::Crash { who: process(walk) }),
         14 => Ok(Entry::Restart {
             who: process(walk),
             listed: listed(alloc, walk, trace, None)?,
@@ -174,7 +161,7 @@ fn count(walk: &mut Walk, entry: &Entry) {
 /// Pushes so many entries into both; how many were taken, and how many answers differ.
 fn compared(alloc: Global, seed: u64, entries: u32) -> Result<(u32, u32), TraceFault> {
     let mut walk = Walk {
-        state: seed,
+        numbers: Numbers { state: seed },
         sends: [0; 3],
         deliveries: [0; 3],
     };

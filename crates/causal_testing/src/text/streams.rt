@@ -1,6 +1,7 @@
 //! Texts that come from a reader, and go to a writer.
-use super::{RING, ring};
-use crate::{
+use super::RING;
+use crate::traces::ring;
+use causal_text::{
     Progress, ReaderFault, TextFault, TextKind, TraceReader, WriteCause, WriteFault, read_from,
     write_trace,
 };

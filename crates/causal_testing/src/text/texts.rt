@@ -1,8 +1,10 @@
 //! Whole texts.
-use super::{RING, det, ring};
-use crate::{fault_line, read_trace, text_of};
+use super::{RING, det};
+use crate::traces::ring;
 use causal_name::Pid;
+use causal_text::{fault_line, read_trace, text_of};
 use causal_trace::entry::{Dets, Entry};
+use causal_trace::trace::Trace;
 use std::alloc::Global;
 use std::process::Abort;
 use std::test::Fail;
@@ -38,7 +40,7 @@ const SENT: &str = r#"["trace",1,2]
 "#;
 
 // what follows those two lines, and the fault that is told
-const AFTER_SENT: [(&str, &str); 36] = [
+const AFTER_SENT: [(&str, &str); 38] = [
     (r#"["send",1,0,-1]"#, "fault line=3 Form\n"),
     (r#"["send",1,0,0.0]"#, "fault line=3 Form\n"),
     (r#"["send",1,0,0e0]"#, "fault line=3 Form\n"),
@@ -64,6 +66,8 @@ const AFTER_SENT: [(&str, &str); 36] = [
     ("[\"end\",1]\n[\"end\",1]", "fault line=4 After\n"),
     ("", "fault line=3 Cut\n"),
     (r#"["deliver",2,0,0,[]]"#, "fault line=3 NoProcess\n"),
+    (r#"["deliver",2,9,9,[]]"#, "fault line=3 NoProcess\n"),
+    (r#"["crash",2]"#, "fault line=3 NoProcess\n"),
     (r#"["deliver",1,1,0,[]]"#, "fault line=3 NoSend\n"),
     (r#"["deliver",0,0,0,[]]"#, "fault line=3 NoSend\n"),
     (
@@ -105,7 +109,7 @@ fn lines_after_a_send(rt: HostRuntime) -> Result<(), Fail> {
 }
 
 // whole texts, and the fault that is told; nothing where they spell a trace
-const WHOLE: [(&str, &str); 22] = [
+const WHOLE: [(&str, &str); 24] = [
     ("", "fault line=1 Cut\n"),
     ("\n", "fault line=1 Syntax\n"),
     (r#"["send",0,1,0]"#, "fault line=1 Header\n"),
@@ -130,6 +134,14 @@ const WHOLE: [(&str, &str); 22] = [
     (
         "[\"trace\",1,2]\n[\"send\",0,1,1]",
         "fault line=2 WrongSsn\n",
+    ),
+    (
+        "[\"trace\",2,2]\n[\"forget\",0,[[0,0,1,0]]]",
+        "fault line=2 NoDelivery\n",
+    ),
+    (
+        "[\"trace\",2,2]\n[\"crash\",1]\n[\"forget\",1,[]]",
+        "fault line=3 NotUp\n",
     ),
     ("[\"trace\",1,64]\n[\"end\",0]", ""),
     ("[\"trace\",2,256]\n[\"crash\",255]\n[\"end\",1]", ""),
@@ -186,23 +198,39 @@ fn another_layout_is_the_same_trace(rt: HostRuntime) -> Result<(), Fail> {
     Ok(())
 }
 
-#[test]
-fn the_second_version_forgets(rt: HostRuntime) -> Result<(), Fail> {
-    let second = RING.replace(rt.alloc(), "[\"trace\",1", "[\"trace\",2")?;
-    let text = second.replace(
-        rt.alloc(),
-        "[\"end\",6]",
-        "[\"forget\",1,[[0,0,1,0]]]\n[\"end\",7]",
-    )?;
-    let trace = read_trace(rt.alloc(), text.as_bytes())?;
-    let mut pushed = ring(rt.alloc())?;
-    let forgotten = Dets::new(vec![in rt.alloc(); det(0, 0, 1, 0)]?);
-    pushed.push(Entry::Forget {
+// the ring, and then 1 forgets what it delivered
+const FORGETS: &str = r#"["trace",2,3]
+["send",0,1,0]
+["deliver",1,0,0,[[0,0,1,0]]]
+["send",1,2,0]
+["deliver",2,2,0,[[0,0,1,0],[1,0,2,0]]]
+["send",2,0,0]
+["deliver",0,4,0,[[1,0,2,0],[2,0,0,0]]]
+["forget",1,[[0,0,1,0]]]
+["end",7]
+"#;
+
+fn ring_forgotten(alloc: Global) -> Result<Trace, Fail> {
+    let mut trace = ring(alloc)?;
+    let forgotten = Dets::new(vec![in alloc; det(0, 0, 1, 0)]?);
+    trace.push(Entry::Forget {
         who: Pid(1),
         listed: forgotten,
     })?;
+    Ok(trace)
+}
+
+#[test]
+fn the_second_version_forgets(rt: HostRuntime) -> Result<(), Fail> {
+    let trace = read_trace(rt.alloc(), FORGETS.as_bytes())?;
+    let pushed = ring_forgotten(rt.alloc())?;
     assert!(rt; trace == pushed);
-    let first = text.replace(rt.alloc(), "[\"trace\",2", "[\"trace\",1")?;
+    Ok(())
+}
+
+#[test]
+fn the_first_version_forgets_nothing(rt: HostRuntime) -> Result<(), Fail> {
+    let first = FORGETS.replace(rt.alloc(), "[\"trace\",2", "[\"trace\",1")?;
     check_told(&rt, rt.alloc(), first.as_str(), "fault line=8 Form\n")
 }
 

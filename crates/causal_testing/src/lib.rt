@@ -1,0 +1,11 @@
+//! The tests of the crates below, as a crate that stands on them sees them: a proof of its tests proves none of theirs
+//! again.
+#![tactic(auto)]
+
+pub mod numbers;
+#[cfg(test)]
+mod random_traces;
+#[cfg(test)]
+mod text;
+#[cfg(test)]
+mod traces;

@@ -1,0 +1,22 @@
+//! Numbers that look random, and are the same each time.
+ghost use Rattle.std.specs.Prelude.{◌<◌};
+
+/// A walk over numbers: each seed has its own.
+#[derive(Clone, Copy, Debug)]
+pub struct Numbers {
+    pub state: u64,
+}
+
+impl Numbers {
+    /// The next number below the bound, which is above 0 (Knuth's linear congruence, MMIX).
+    pub fn below(&mut self, bound: u32) -> u32
+        requires { 0 < bound }
+        ensures { result < bound }
+    {
+        self.state = self
+            .state
+            .wrapping_mul(6_364_136_223_846_793_005)
+            .wrapping_add(1_442_695_040_888_963_407);
+        ((self.state >> 33) % bound as u64) as u32
+    }
+}
