@@ -18,14 +18,10 @@ mod lists;
 mod mentions;
 mod orphans;
 pub mod plain;
-#[cfg(test)]
-mod random_tests;
 mod releases;
 mod sight;
 mod spreads;
 pub mod tables;
-#[cfg(test)]
-mod tests;
 mod turns;
 pub mod verdict;
 

@@ -5,8 +5,6 @@ mod events;
 mod judging;
 mod orphans;
 mod state;
-#[cfg(test)]
-mod tests;
 
 ghost use Rattle.std.specs.Prelude.{IfOk};
 ghost use Rattle.causal_audit.specs.Verdicts.{IsVerdict};

@@ -2,7 +2,13 @@
 //! again.
 #![tactic(auto)]
 
+#[cfg(test)]
+mod audits;
 pub mod numbers;
+#[cfg(test)]
+mod plain_audits;
+#[cfg(test)]
+mod random_audits;
 #[cfg(test)]
 mod random_traces;
 #[cfg(test)]

@@ -1,7 +1,6 @@
 //! The audit and the plain program beside it give the same verdict on small random traces, for each f.
-ghost use Rattle.std.specs.Prelude.{◌<◌};
-
-use crate::{Tables, Verdict, judge, plain};
+use crate::numbers::Numbers;
+use causal_audit::{Tables, Verdict, judge, plain};
 use causal_name::{Det, MsgName, NoMemory, Pid};
 use causal_trace::entry::{Dets, Entry};
 use causal_trace::fault::TraceFault;
@@ -11,28 +10,16 @@ use std::alloc::Global;
 /// A seeded walk: the same numbers each time, and the next sequence numbers of each process.
 #[derive(Clone, Copy)]
 struct Walk {
-    state: u64,
+    numbers: Numbers,
     sends: [u32; 4],
     deliveries: [u32; 4],
-}
-
-/// The next number below a bound.
-fn below(walk: &mut Walk, bound: u32) -> u32
-    requires { 0 < bound }
-    ensures { result < bound }
-{
-    walk.state = walk
-        .state
-        .wrapping_mul(6_364_136_223_846_793_005)
-        .wrapping_add(1_442_695_040_888_963_407);
-    ((walk.state >> 33) % bound as u64) as u32
 }
 
 fn process(walk: &mut Walk, n: u16) -> Pid {
     if n == 0 || n > 256 {
         return Pid(0);
     }
-    Pid(below(walk, u32::from(n)) as u8)
+    Pid(walk.numbers.below(u32::from(n)) as u8)
 }
 
 /// The next number of a process's lane.
@@ -57,7 +44,7 @@ fn listed(
         }
     }
     for k in 0..trace.len() {
-        if below(walk, 3) > 0 {
+        if walk.numbers.below(3) > 0 {
             continue;
         }
         if let Some(det) = trace.det_at(k) {
@@ -88,13 +75,13 @@ fn sent_at(trace: &Trace, send: u32) -> Option<(Pid, MsgName)> {
 }
 
 fn delivery(alloc: Global, walk: &mut Walk, trace: &Trace) -> Result<Entry, NoMemory> {
-    let send = below(walk, 64) % trace.len().saturating_add(1);
+    let send = walk.numbers.below(64) % trace.len().saturating_add(1);
     let Some((to, message)) = sent_at(trace, send) else {
         return Ok(Entry::Crash { who: Pid(255) });
     };
     let rsn = right(&walk.deliveries, to);
     let mut own = None;
-    if below(walk, 8) > 0 {
+    if walk.numbers.below(8) > 0 {
         own = Some(Det {
             source: message.source,
             ssn: message.ssn,
@@ -113,7 +100,7 @@ fn delivery(alloc: Global, walk: &mut Walk, trace: &Trace) -> Result<Entry, NoMe
 
 fn entry(alloc: Global, walk: &mut Walk, trace: &Trace) -> Result<Entry, NoMemory> {
     let n = trace.processes();
-    match below(walk, 16) {
+    match walk.numbers.below(16) {
         0..=4 => {
             let from = process(walk, n);
             Ok(Entry::Send {
@@ -123,7 +110,7 @@ fn entry(alloc: Global, walk: &mut Walk, trace: &Trace) -> Result<Entry, NoMemor
             })
         }
         5..=10 => delivery(alloc, walk, trace),
-        11 => match trace.det_at(below(walk, 64) % trace.len().saturating_add(1)) {
+        11 => match trace.det_at(walk.numbers.below(64) % trace.len().saturating_add(1)) {
             Some(det) => Ok(Entry::Stable { det }),
             None => Ok(Entry::Crash { who: Pid(255) }),
         },
@@ -247,7 +234,7 @@ fn compared(
     tries: u32,
 ) -> Result<Comparison, TraceFault> {
     let mut walk = Walk {
-        state: seed,
+        numbers: Numbers { state: seed },
         sends: [0; 4],
         deliveries: [0; 4],
     };

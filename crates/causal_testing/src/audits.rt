@@ -1,4 +1,5 @@
-use crate::{
+//! Verdicts for f = 0, worked out by hand, and the steps that give them.
+use causal_audit::{
     Breach, Excess, Tables, Verdict, decided, earlier, first_breach, first_excess, judge,
     least_between,
 };

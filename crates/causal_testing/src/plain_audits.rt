@@ -1,6 +1,6 @@
 //! Traces of a few entries, with verdicts that were worked out by hand.
-use crate::plain::judge;
-use crate::verdict::Verdict;
+use causal_audit::Verdict;
+use causal_audit::plain::judge;
 use causal_holders::Holders;
 use causal_name::{Det, Pid};
 use causal_trace::entry::{Dets, Entry};
