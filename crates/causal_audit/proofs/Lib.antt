@@ -15,6 +15,7 @@ pub mod Judged
 pub mod Known
 pub mod Lasting
 pub mod LeastOrphan
+pub mod Indexed
 pub mod Legal
 pub mod Link
 pub mod Listed

@@ -1,7 +1,6 @@
 -- The lists of the entries that mention each determinant.
 use Rattle.std.proofs.Common.{ℕ, ◌≡◌, ◌+◌, ◌<◌, inl, inr, Bool, true, false, cond, List, [], ◌∷◌, ◌++◌, length, Option, Some, None, refl, sym, ap, subst, ◌∙◌, arith, length-append}
 use Rattle.std.specs.Prelude.{◌⊎◌, ◌==◌, ◌&&◌, ◌||◌, Contains}
-use Rattle.std.specs.HashMap.{get}
 use Rattle.std.specs.List.{All}
 use Rattle.std.specs.List.Sorted.{IsNonDecreasing}
 use Rattle.std.specs.Option.{option_map_or}
@@ -17,7 +16,7 @@ use Rattle.causal_trace.specs.declared.entry.Entry.{Entry}
 use Rattle.causal_trace.specs.Past.{entry_at, has}
 use Rattle.causal_trace.proofs.Lemmas.Instants.{entry_beyond}
 use Rattle.causal_audit.specs.Changes.{HasMentions}
-use Rattle.causal_audit.specs.Filed.{Ascends, AreApart, AreMentions, AreMentionsWith, AreNumbered, Numbers, list_at, mentions_of, with_added}
+use Rattle.causal_audit.specs.Filed.{Ascends, AreMentions, AreMentionsWith, AreNumbered, Numbers, list_at, mentions_of, number_of, with_added}
 use Rattle.causal_audit.specs.Quiet.{mentioned_by}
 use Rattle.causal_audit.proofs.Filings.{added_cases, added_has, added_keeps, added_ascend, ascend_weaker}
 
@@ -34,57 +33,64 @@ same_is x y h =
       rsn = eqb-true x.rsn y.rsn dest.1 i;
     }
 
+-- ---- numbers
+
+-- a number is below how many there are
+pub number_below : (numbers : Numbers) (d : Det) (m : ℕ) → number_of numbers d ≡ Some m → m < length numbers
+number_below [] d m at = absurd (let x : None ≡ Some m = at in cc)
+number_below (x ∷ older) d m at =
+    elim (cases_Bool (same_det x d)) [
+      | inl same ↦
+          let is : Some (length older) ≡ Some m = sym (cond-true (same_det x d) (Some (length older)) (number_of older d) same) ∙ at in
+          let it : length older ≡ m = cc is in
+          omega (arith, it)
+      | inr other ↦ omega (arith, number_below older d m (sym (cond-false (same_det x d) (Some (length older)) (number_of older d) other) ∙ at))
+    ]
+
+newest_below : (x : Det) (older : Numbers) (c d : Det) (m : ℕ) → same_det x c ≡ true → same_det x d ≡ false → number_of (x ∷ older) c ≡ Some m → number_of (x ∷ older) d ≡ Some m → ⊥
+newest_below x older c d m same other at to =
+    let is : Some (length older) ≡ Some m = sym (cond-true (same_det x c) (Some (length older)) (number_of older c) same) ∙ at in
+    let it : length older ≡ m = cc is in
+    omega (arith, it, number_below older d m (sym (cond-false (same_det x d) (Some (length older)) (number_of older d) other) ∙ to))
+
+-- only one determinant has each number
+numbers_apart : (numbers : Numbers) (c d : Det) (m : ℕ) → number_of numbers c ≡ Some m → number_of numbers d ≡ Some m → same_det c d ≡ true
+numbers_apart [] c d m at to = absurd (let x : None ≡ Some m = at in cc)
+numbers_apart (x ∷ older) c d m at to =
+    elim (cases_Bool (same_det x c)) [
+      | inl same_c ↦ elim (cases_Bool (same_det x d)) [
+        | inl same_d ↦ subst (λ y. same_det y d ≡ true) (same_is x c same_c) same_d
+        | inr other ↦ absurd (newest_below x older c d m same_c other at to)
+      ]
+      | inr other_c ↦ elim (cases_Bool (same_det x d)) [
+        | inl same_d ↦ absurd (newest_below x older d c m same_d other_c to at)
+        | inr other_d ↦
+            numbers_apart older c d m (sym (cond-false (same_det x c) (Some (length older)) (number_of older c) other_c) ∙ at)
+            (sym (cond-false (same_det x d) (Some (length older)) (number_of older d) other_d) ∙ to)
+      ]
+    ]
+
 -- ---- a new list, for a determinant that has none
 
-module _ (numbers new : Numbers) (lists : List (List ℕ)) (det : Det) (none : get same_det numbers det ≡ None) (updates : (q : Det) → get same_det new q ≡ cond (same_det det q) (Some (length lists)) (get same_det numbers q)) (numbered : AreNumbered numbers lists) where
-  longer : length (lists ++ [] ∷ []) ≡ length lists + 1
-  longer = length-append lists ([] ∷ [])
-
-  pub new_numbered : AreNumbered new (lists ++ [] ∷ [])
-  new_numbered d m at =
-      elim (cases_Bool (same_det det d)) [
-        | inl same ↦
-            let is : Some (length lists) ≡ Some m = sym (updates d ∙ cond-true (same_det det d) (Some (length lists)) (get same_det numbers d) same) ∙ at in
-            let it : length lists ≡ m = cc is in
-            omega (arith, longer, it)
-        | inr other ↦ omega (arith, longer, numbered d m (sym (updates d ∙ cond-false (same_det det d) (Some (length lists)) (get same_det numbers d) other) ∙ at))
-      ]
-
-  clash : (c d : Det) (m : ℕ) → same_det det c ≡ true → same_det det d ≡ false → get same_det new c ≡ Some m → get same_det new d ≡ Some m → ⊥
-  clash c d m same other at to =
-      let is : Some (length lists) ≡ Some m = sym (updates c ∙ cond-true (same_det det c) (Some (length lists)) (get same_det numbers c) same) ∙ at in
-      let it : length lists ≡ m = cc is in
-      omega (arith, it, numbered d m (sym (updates d ∙ cond-false (same_det det d) (Some (length lists)) (get same_det numbers d) other) ∙ to))
+module _ (numbers : Numbers) (lists : List (List ℕ)) (det : Det) (none : number_of numbers det ≡ None) (numbered : AreNumbered numbers lists) where
+  pub new_numbered : AreNumbered (det ∷ numbers) (lists ++ [] ∷ [])
+  new_numbered = omega (arith, numbered, length-append lists ([] ∷ []))
 
   old_list : (o : Option ℕ) → ((m : ℕ) → o ≡ Some m → m < length lists) → option_map_or (list_at (lists ++ [] ∷ [])) o [] ≡ option_map_or (list_at lists) o []
   old_list None inside = refl
   old_list (Some m) inside = get_or-append lists ([] ∷ []) [] m (inside m refl)
 
-  pub new_same : (d : Det) → mentions_of new (lists ++ [] ∷ []) d ≡ mentions_of numbers lists d
+  pub new_same : (d : Det) → mentions_of (det ∷ numbers) (lists ++ [] ∷ []) d ≡ mentions_of numbers lists d
   new_same d =
       elim (cases_Bool (same_det det d)) [
         | inl same ↦
-            ap (λ o. option_map_or (list_at (lists ++ [] ∷ [])) o []) (updates d ∙ cond-true (same_det det d) (Some (length lists)) (get same_det numbers d) same)
+            ap (λ o. option_map_or (list_at (lists ++ [] ∷ [])) o []) (cond-true (same_det det d) (Some (length numbers)) (number_of numbers d) same)
+            ∙ ap (λ m. list_at (lists ++ [] ∷ []) m) (sym numbered)
             ∙ get_or-append_seam lists [] [] []
-            ∙ sym (ap (λ o. option_map_or (list_at lists) o []) (ap (get same_det numbers) (sym (same_is det d same)) ∙ none))
+            ∙ sym (ap (λ o. option_map_or (list_at lists) o []) (ap (number_of numbers) (sym (same_is det d same)) ∙ none))
         | inr other ↦
-            ap (λ o. option_map_or (list_at (lists ++ [] ∷ [])) o []) (updates d ∙ cond-false (same_det det d) (Some (length lists)) (get same_det numbers d) other)
-            ∙ old_list (get same_det numbers d) (numbered d)
-      ]
-
-  pub new_apart : AreApart numbers → AreApart new
-  new_apart apart c d m at to =
-      elim (cases_Bool (same_det det c)) [
-        | inl same_c ↦ elim (cases_Bool (same_det det d)) [
-          | inl same_d ↦ subst (λ x. same_det x d ≡ true) (same_is det c same_c) same_d
-          | inr other ↦ absurd (clash c d m same_c other at to)
-        ]
-        | inr other_c ↦ elim (cases_Bool (same_det det d)) [
-          | inl same_d ↦ absurd (clash d c m same_d other_c to at)
-          | inr other ↦
-              apart c d m (sym (updates c ∙ cond-false (same_det det c) (Some (length lists)) (get same_det numbers c) other_c) ∙ at)
-              (sym (updates d ∙ cond-false (same_det det d) (Some (length lists)) (get same_det numbers d) other) ∙ to)
-        ]
+            ap (λ o. option_map_or (list_at (lists ++ [] ∷ [])) o []) (cond-false (same_det det d) (Some (length numbers)) (number_of numbers d) other)
+            ∙ old_list (number_of numbers d) (λ m at. omega (arith, numbered, number_below numbers d m at))
       ]
 
 pub new_ascend : (bound : ℕ) (lists : List (List ℕ)) → All (Ascends bound) lists → All (Ascends bound) (lists ++ [] ∷ [])
@@ -126,38 +132,36 @@ more_or : (a b : Bool) → b ≡ true → (a || b) ≡ true
 more_or true b h = refl
 more_or false b h = h
 
-pub mentions_more : (past : List Entry) (dets : List Det) (numbers : Numbers) (lists : List (List ℕ)) (det : Det) (m : ℕ) → get same_det numbers det ≡ Some m → AreMentionsWith past dets numbers lists → AreMentionsWith past (dets ++ det ∷ []) numbers (with_added lists m (length past))
+pub mentions_more : (past : List Entry) (dets : List Det) (numbers : Numbers) (lists : List (List ℕ)) (det : Det) (m : ℕ) → number_of numbers det ≡ Some m → AreMentionsWith past dets numbers lists → AreMentionsWith past (dets ++ det ∷ []) numbers (with_added lists m (length past))
 mentions_more past dets numbers lists det m at are =
-    let there = are.numbered det m at in
+    let there : m < length lists = omega (arith, are.numbered, number_below numbers det m at) in
     record {
-      numbered = λ d j is. omega (arith, are.numbered d j is, length-set lists m (list_at lists m ++ length past ∷ []));
+      numbered = omega (arith, are.numbered, length-set lists m (list_at lists m ++ length past ∷ []));
       ascend = added_ascend lists m (length past) there are.ascend;
-      mentioned = λ d v e is mentions. keeps_of (get same_det numbers d) lists m (length past) v there (are.mentioned d v e is mentions);
+      mentioned = λ d v e is mentions. keeps_of (number_of numbers d) lists m (length past) v there (are.mentioned d v e is mentions);
       noted = λ d listed. elim (or_cases (has dets d) (same_det d det) (sym (has_more dets det d) ∙ listed)) [
-        | inl before ↦ keeps_of (get same_det numbers d) lists m (length past) (length past) there (are.noted d before)
+        | inl before ↦ keeps_of (number_of numbers d) lists m (length past) (length past) there (are.noted d before)
         | inr now ↦
-            subst (λ o. Contains (option_map_or (list_at (with_added lists m (length past))) o []) (length past)) (sym (ap (get same_det numbers) (same_is d det now) ∙ at))
+            subst (λ o. Contains (option_map_or (list_at (with_added lists m (length past))) o []) (length past)) (sym (ap (number_of numbers) (same_is d det now) ∙ at))
             (added_has lists m (length past) there)
       ];
-      apart = are.apart;
-      only = λ d v listed. elim (cases_of (get same_det numbers d) lists m (length past) v there listed) [
+      only = λ d v listed. elim (cases_of (number_of numbers d) lists m (length past) v there listed) [
         | inl old ↦ elim (are.only d v old) [
           | inl before ↦ inl before
           | inr now ↦ inr (now.0, has_more dets det d ∙ or_more (has dets d) (same_det d det) now.1)
         ]
-        | inr new ↦ inr (sym new.1, has_more dets det d ∙ more_or (has dets d) (same_det d det) (are.apart d det m new.0 at))
+        | inr new ↦ inr (sym new.1, has_more dets det d ∙ more_or (has dets d) (same_det d det) (numbers_apart numbers d det m new.0 at))
       ];
     }
 
 -- ---- with a new number the lists say the same
 
-pub mentions_alike : (past : List Entry) (dets : List Det) (numbers new : Numbers) (lists more : List (List ℕ)) → AreNumbered new more → AreApart new → ((bound : ℕ) → All (Ascends bound) lists → All (Ascends bound) more) → ((d : Det) → mentions_of new more d ≡ mentions_of numbers lists d) → AreMentionsWith past dets numbers lists → AreMentionsWith past dets new more
-mentions_alike past dets numbers new lists more numbered apart ascend same are = record {
+pub mentions_alike : (past : List Entry) (dets : List Det) (numbers new : Numbers) (lists more : List (List ℕ)) → AreNumbered new more → ((bound : ℕ) → All (Ascends bound) lists → All (Ascends bound) more) → ((d : Det) → mentions_of new more d ≡ mentions_of numbers lists d) → AreMentionsWith past dets numbers lists → AreMentionsWith past dets new more
+mentions_alike past dets numbers new lists more numbered ascend same are = record {
   numbered = numbered;
   ascend = ascend (length past + 1) are.ascend;
   mentioned = λ d. subst (HasMentions past d) (sym (same d)) (are.mentioned d);
   noted = λ d listed. subst (λ list. Contains list (length past)) (sym (same d)) (are.noted d listed);
-  apart = apart;
   only = λ d v listed. are.only d v (subst (λ list. Contains list v) (same d) listed);
 }
 
@@ -176,7 +180,6 @@ mentions_begun past numbers lists are = record {
   ascend = ascend_weaker (length past) (length past + 1) lists (omega arith) are.ascend;
   mentioned = are.mentioned;
   noted = λ d listed. absurd (false≢true listed);
-  apart = are.apart;
   only = λ d v listed. inl (are.only d v listed);
 }
 
@@ -191,7 +194,6 @@ mentions_done e past numbers lists are = record {
         subst (λ w. Contains (mentions_of numbers lists d) w) (sym newest.1) (are.noted d (ap (λ y. has (mentioned_by y) d) it ∙ listed))
     | inr older ↦ are.mentioned d v x (sym (cond-false (v == length past) (Some e) (entry_at past v) older.0) ∙ at) listed
   ];
-  apart = are.apart;
   only = λ d v listed. elim (are.only d v listed) [
     | inl before ↦
         let low : v < length past = entry_within past v before.0 before.1 in
@@ -200,13 +202,12 @@ mentions_done e past numbers lists are = record {
   ];
 }
 
-pub mentions_none : (numbers : Numbers) → ((d : Det) → get same_det numbers d ≡ None) → AreMentions [] numbers []
-mentions_none numbers none = record {
-  numbered = λ d m at. absurd (let x : None ≡ Some m = sym (none d) ∙ at in cc);
+pub mentions_none : AreMentions [] [] []
+mentions_none = record {
+  numbered = refl;
   ascend = λ k d low. absurd (omega (arith, low));
   mentioned = λ d v e at. absurd (let x : None ≡ Some e = at in cc);
-  apart = λ c d m at. absurd (let x : None ≡ Some m = sym (none c) ∙ at in cc);
-  only = λ d v listed. absurd (nothing v (subst (λ o. Contains (option_map_or (list_at []) o []) v) (none d) listed));
+  only = λ d v listed. absurd (nothing v listed);
 }
   where
     empty : List ℕ
@@ -216,7 +217,7 @@ mentions_none numbers none = record {
     nothing v listed = omega (arith, listed.1)
 
 pub mentions_ascend : (past : List Entry) (numbers : Numbers) (lists : List (List ℕ)) → AreMentions past numbers lists → (d : Det) → IsNonDecreasing (mentions_of numbers lists d)
-mentions_ascend past numbers lists are d = list_of (get same_det numbers d) (are.numbered d)
+mentions_ascend past numbers lists are d = list_of (number_of numbers d) (λ m at. omega (arith, are.numbered, number_below numbers d m at))
   where
     list_of : (o : Option ℕ) → ((m : ℕ) → o ≡ Some m → m < length lists) → IsNonDecreasing (option_map_or (list_at lists) o [])
     list_of None inside = λ i j x low high. absurd (omega (arith, high))

@@ -1,11 +1,8 @@
 -- The lists of positions that tables keep, so that only changes are looked at.
-use Rattle.std.specs.Prelude.{◌≡◌, ℕ, ◌+◌, ◌<◌, ◌≤◌, ◌⊎◌, true, List, [], ◌∷◌, ◌++◌, length, Some, slice_set, slice_index_or, Contains}
+use Rattle.std.specs.Prelude.{◌≡◌, ℕ, ◌+◌, ◌<◌, ◌≤◌, ◌⊎◌, true, if◌then◌else◌, List, [], ◌∷◌, ◌++◌, length, Option, Some, None, slice_set, slice_index_or, Contains}
 use Rattle.std.specs.List.{All}
 use Rattle.std.specs.List.Sorted.{IsNonDecreasing}
 use Rattle.std.specs.Option.{option_map_or}
-use Rattle.std.specs.declared.hash.FoldHasher.{FoldHasher}
-use Rattle.std.specs.declared.hash.BuildHasherDefault.{BuildHasherDefault}
-use Rattle.std.specs.HashMap.{HashMap, get}
 use Rattle.std.specs.Ordering.{nat_cmp}
 use Rattle.std.specs.FinSet.{FinSet}
 use Rattle.causal_name.specs.declared.Det.{Det}
@@ -56,28 +53,28 @@ AreFirsts events k lanes firsts =
     (m v : ℕ) → Contains (list_at lanes m) v → Reaches events k v
     → (i : ℕ) × Contains firsts i × (i ≤ v) × Contains (list_at lanes m) i × Reaches events k i
 
--- numbers of lists by determinants
+-- determinants that have numbers, the newest first
 abbrev pub Numbers : Type 0
-Numbers = HashMap Det ℕ (BuildHasherDefault FoldHasher)
+Numbers = List Det
+
+-- the number of a determinant: how many were numbered before it
+abbrev pub number_of : Numbers → Det → Option ℕ
+number_of [] d = None
+number_of (det ∷ older) d = if same_det det d then Some (length older) else number_of older d
 
 -- the list of a determinant
 abbrev pub mentions_of : Numbers → List (List ℕ) → Det → List ℕ
-mentions_of numbers lists d = option_map_or (list_at lists) (get same_det numbers d) []
+mentions_of numbers lists d = option_map_or (list_at lists) (number_of numbers d) []
 
 -- each number is that of a list
 abbrev pub AreNumbered : Numbers → List (List ℕ) → Type 0
-AreNumbered numbers lists = (d : Det) (m : ℕ) → get same_det numbers d ≡ Some m → m < length lists
-
--- only one determinant has each number
-abbrev pub AreApart : Numbers → Type 0
-AreApart numbers = (c d : Det) (m : ℕ) → get same_det numbers c ≡ Some m → get same_det numbers d ≡ Some m → same_det c d ≡ true
+AreNumbered numbers lists = length lists ≡ length numbers
 
 -- for each determinant the positions of the entries that mention it, and no others
 pub record AreMentions (past : List Entry) (numbers : Numbers) (lists : List (List ℕ)) : Type 0 where
   pub numbered : AreNumbered numbers lists
   pub ascend : All (Ascends (length past)) lists
   pub mentioned : (d : Det) → HasMentions past d (mentions_of numbers lists d)
-  pub apart : AreApart numbers
   pub only : (d : Det) → AreMentionsOf past d (mentions_of numbers lists d)
 
 -- the same, and these determinants have the next position too
@@ -86,5 +83,4 @@ pub record AreMentionsWith (past : List Entry) (dets : List Det) (numbers : Numb
   pub ascend : All (Ascends (length past + 1)) lists
   pub mentioned : (d : Det) → HasMentions past d (mentions_of numbers lists d)
   pub noted : (d : Det) → has dets d ≡ true → Contains (mentions_of numbers lists d) (length past)
-  pub apart : AreApart numbers
   pub only : (d : Det) (v : ℕ) → Contains (mentions_of numbers lists d) v → ((e : Entry) × (entry_at past v ≡ Some e) × (has (mentioned_by e) d ≡ true)) ⊎ ((v ≡ length past) × (has dets d ≡ true))

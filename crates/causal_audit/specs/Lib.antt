@@ -5,6 +5,7 @@ pub mod Changes
 pub mod Earlier
 pub mod Filed
 pub mod Held
+pub mod Inside
 pub mod Lasting
 pub mod Laws
 pub mod Numbers

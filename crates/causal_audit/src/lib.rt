@@ -16,6 +16,7 @@ mod lanes;
 pub mod laws;
 mod lists;
 mod mentions;
+mod numbering;
 mod orphans;
 pub mod plain;
 mod releases;

@@ -1,26 +1,24 @@
 //! The positions of the entries that mention each determinant.
 ghost use Rattle.std.specs.Prelude.{◌≡◌, ◌<◌, ◌≤◌, ◌∷◌, ◌++◌, [], ℕ, List, IfOk, OnOk, Some, length, map, vec_len};
-ghost use Rattle.std.specs.HashMap.{get};
 ghost use Rattle.std.specs.List.{All};
 ghost use Rattle.causal_name.specs.declared.Det.{Det};
-ghost use Rattle.causal_name.specs.Names.{same_det};
 ghost use Rattle.causal_trace.specs.declared.entry.Entry.{Entry};
 ghost use Rattle.causal_trace.specs.Limits.{max_entries};
 ghost use Rattle.causal_trace.specs.State.{past_at};
 ghost use Rattle.causal_audit.specs.Quiet.{mentioned_by};
-ghost use Rattle.causal_audit.specs.Filed.{Ascends, AreApart, AreMentions, AreMentionsWith, AreNumbered, mentions_of};
+ghost use Rattle.causal_audit.specs.Filed.{Ascends, AreMentions, AreMentionsWith, AreNumbered, mentions_of, number_of};
 
 use crate::lists::add_to;
+use crate::numbering::Numbering;
 use causal_name::{Det, NoMemory};
 use causal_trace::entry::Entry;
 use std::alloc::Global;
-use std::collections::HashMap;
 use std::slice;
 
-/// Lists of positions, and the number of each determinant's list.
+/// Lists of positions, and the determinants by the numbers of their lists.
 #[derive(Drop)]
 pub struct Mentions {
-    pub numbers: HashMap<Det, usize>,
+    pub numbers: Numbering,
     pub lists: Vec<Vec<u32>>,
 }
 
@@ -30,8 +28,8 @@ impl Mentions {
         requires { AreNumbered self.now.numbers (map (λ list. list.items) self.now.lists.items) }
         ensures { result.now ≡ mentions_of self.now.numbers (map (λ list. list.items) self.now.lists.items) det }
     {
-        match self.numbers.get(&det) {
-            Some(number) => self.lists[*number].as_slice(),
+        match self.numbers.find(det) {
+            Some(number) => self.lists[number].as_slice(),
             None => &[],
         }
     }
@@ -39,18 +37,17 @@ impl Mentions {
     /// The number of a determinant's list, which is a new one where it has none.
     fn number(&mut self, alloc: Global, det: Det) -> Result<usize, NoMemory>
         requires { AreNumbered self.old.numbers (map (λ list. list.items) self.old.lists.items) }
-        ensures number { IfOk result (λ m. get same_det self.new.numbers det ≡ Some m) }
+        ensures number { IfOk result (λ m. number_of self.new.numbers det ≡ Some m) }
         ensures numbered { OnOk result (AreNumbered self.new.numbers (map (λ list. list.items) self.new.lists.items)) }
-        ensures apart { OnOk result (AreApart self.old.numbers → AreApart self.new.numbers) }
         ensures ascend { OnOk result ((bound : ℕ) → All (Ascends bound) (map (λ list. list.items) self.old.lists.items) → All (Ascends bound) (map (λ list. list.items) self.new.lists.items)) }
         ensures same { OnOk result ((d : Det) → mentions_of self.new.numbers (map (λ list. list.items) self.new.lists.items) d ≡ mentions_of self.old.numbers (map (λ list. list.items) self.old.lists.items) d) }
     {
-        if let Some(number) = self.numbers.get(&det) {
-            return Ok(*number);
+        if let Some(number) = self.numbers.find(det) {
+            return Ok(number);
         }
         let number = self.lists.len();
         self.lists.push(Vec::new(alloc))?;
-        self.numbers.insert(det, number)?;
+        self.numbers.add(det)?;
         Ok(number)
     }
 
@@ -107,7 +104,7 @@ pub fn mentions_in(alloc: Global, entries: &[Entry]) -> Result<Mentions, NoMemor
     ensures { IfOk result (λ mentions. AreMentions (past_at entries.now (length entries.now)) mentions.numbers (map (λ list. list.items) mentions.lists.items)) }
 {
     let mut mentions = Mentions {
-        numbers: HashMap::new(alloc),
+        numbers: Numbering::new(alloc)?,
         lists: Vec::new(alloc),
     };
     for (i, entry) in entries.iter().enumerate() {
