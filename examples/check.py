@@ -1,6 +1,6 @@
 #!/usr/bin/env python3
-"""Checks that the answers in examples/README.md and docs/FORMAT.md are those of the traces that stand here: by the plain model of
-the auditor (trials/traces.py), and with --program also by the program.
+"""Checks that the answers in examples/README.md and docs/FORMAT.md are those of the traces that stand here, and that each script
+prints the trace of its name: by the plain models of auditor and runtime (trials/), and with --program also by the program.
 
     examples/check.py [--program crates/causal_tool/out/causal_tool]
 """
@@ -13,6 +13,7 @@ import sys
 HERE = os.path.dirname(os.path.abspath(__file__))
 TOP = os.path.dirname(HERE)
 sys.path.insert(0, os.path.join(TOP, "trials"))
+import scripts  # noqa: E402
 import traces  # noqa: E402
 
 
@@ -30,7 +31,7 @@ def rows():
 
 
 def text_of(trace):
-    if trace.endswith(".jsonl"):
+    if trace.endswith((".jsonl", ".script")):
         with open(os.path.join(HERE, trace), "rb") as file:
             return file.read()
     script, *words = trace.split()
@@ -44,6 +45,18 @@ def recorded_in_the_format():
     lines = re.findall(r"\| `(\[.*\])` \|$", part, re.M)
     header, end = re.search(r'With `(\["trace".*?\])`', part)[1], re.search(r'`(\["end".*?\])`', part)[1]
     return "".join(line + "\n" for line in [header, *lines, end]).encode()
+
+
+def runs(program):
+    """For each script, the trace that it should print, who ran it, and what that printed with which status."""
+    for name in sorted(os.listdir(HERE)):
+        if name.endswith(".script"):
+            script, wanted = text_of(name), text_of(name.replace(".script", ".jsonl"))
+            printed, status = scripts.ran(script)
+            yield name, wanted, "model", printed.encode(), status
+            if program:
+                ended = subprocess.run([program, "run"], input=script, capture_output=True)
+                yield name, wanted, "program", ended.stdout, ended.returncode
 
 
 def main():
@@ -63,6 +76,11 @@ def main():
                 wrong += 1
                 print(f"{trace} for {f}: the table has {answer!r}, the {who} says {said!r}")
         met.add(trace)
+    for name, wanted, who, printed, status in runs(program):
+        count += 1
+        if (printed, status) != (wanted, 0):
+            wrong += 1
+            print(f"{name}: the {who} prints {printed!r} with status {status}")
     unmet = {name for name in os.listdir(HERE) if name.endswith(".jsonl")} - met
     if unmet:
         wrong += len(unmet)
