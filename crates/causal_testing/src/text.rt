@@ -4,7 +4,7 @@ mod texts;
 
 use causal_name::{Det, Pid};
 
-const RING: &str = r#"["trace",1,3]
+pub(crate) const RING: &str = r#"["trace",1,3]
 ["send",0,1,0]
 ["deliver",1,0,0,[[0,0,1,0]]]
 ["send",1,2,0]
