@@ -11,3 +11,5 @@ mod replies;
 mod same;
 pub mod seat;
 pub mod shared;
+#[cfg(test)]
+mod tests;
