@@ -112,7 +112,10 @@ impl<S: Stable> Locked<S> {
     ghost use Rattle.causal_protocol.specs.declared.request.Request.TheVariants as Ask;
     ghost use Rattle.causal_protocol.specs.declared.request.Reply.TheVariants as Told;
 
-    /// No item, and each seat has seen all entries.
+    /// The core with no item, and `k` seats, 1 to 64, which are numbered from 0 and have seen all entries.
+    ///
+    /// # Errors
+    /// `NoMemory`, and the core is dropped.
     pub fn new(alloc: Global, core: Core<S>, k: u32) -> Result<Locked<S>, NoMemory>
         requires some { 1 ≤ k }
         requires few { k ≤ max_seats }
@@ -186,6 +189,9 @@ impl<S: Stable> Locked<S> {
     }
 
     /// A copy of the trace, which the seat has then seen.
+    ///
+    /// # Errors
+    /// `NoMemory`, which changes nothing.
     pub fn snapshot(&mut self, seat: u32) -> Result<Snapshot, NoMemory>
         requires { seat < length (held_of self.old).seats }
         ensures copy { IfOk result (IsSnapshot (held_of self.old)) }
@@ -203,7 +209,10 @@ impl<S: Stable> Locked<S> {
         })
     }
 
-    /// Delivers to q the message of that sender and number, as this call of the seat.
+    /// Delivers to q the message of that sender and number, as this call of the seat, which is the number of its items.
+    ///
+    /// # Errors
+    /// `NoRecord`, which changes nothing; the core's, which are an item and change nothing else.
     pub fn deliver(
         &mut self,
         seat: u32,
@@ -236,6 +245,9 @@ impl<S: Stable> Locked<S> {
     }
 
     /// Takes process p down, as this call of the seat.
+    ///
+    /// # Errors
+    /// `NoRecord`, which changes nothing; the core's, which are an item and change nothing else.
     pub fn crash(&mut self, seat: u32, call: u32, p: Pid) -> Result<u32, LockedFault>
         requires seat { seat < length (held_of self.old).seats }
         requires call { call ≡ count_at (held_of self.old).seats seat }

@@ -117,7 +117,7 @@ impl Seat {
         requires spare { 1 ≤ self.old.spare }
         ensures { self.new.sitting ≡ with_item self.old.sitting request reply first seen }
     {
-        let call = self.items.len() as u32;
+        let call = self.count();
         let _ = self.items.push(Item {
             seat: self.number,
             call,

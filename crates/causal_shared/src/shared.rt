@@ -42,7 +42,11 @@ pub struct Shared<S: Stable, B = Box<dyn Process + Send>> {
 }
 
 impl<S: Stable + Send> Shared<S> {
-    /// Puts the core behind the lock, and makes `k` seats.
+    /// Puts the core behind the lock, and makes `k` seats, 1 to 64, which are numbered from 0. The caller chooses the tag,
+    /// which tells the seats of one runtime from those of another.
+    ///
+    /// # Errors
+    /// `NoMemory`, and the core is dropped.
     pub fn open(
         alloc: Global,
         core: Core<S>,
@@ -74,6 +78,10 @@ impl<S: Stable + Send> Shared<S> {
     }
 
     /// Delivers to q the message of that sender and number.
+    ///
+    /// # Errors
+    /// `WrongSeat`, `HistoryFull`, `NoRecord`, `Core` with the core's fault: nothing has changed but, for the last, that the
+    /// item is in the history and the seat's list.
     pub fn deliver<R: Wait>(
         &self,
         rt: &R,
@@ -87,7 +95,11 @@ impl<S: Stable + Send> Shared<S> {
         deliver_under(&mut self.locked.lock(rt), self.tag, seat, q, source, ssn)
     }
 
-    /// Takes process p down.
+    /// Takes process p down, and gives the position of its entry.
+    ///
+    /// # Errors
+    /// `WrongSeat`, `HistoryFull`, `NoRecord`, `Core` with the core's fault: nothing has changed but, for the last, that the
+    /// item is in the history and the seat's list.
     pub fn crash<R: Wait>(&self, rt: &R, seat: &mut Seat, p: Pid) -> Result<u32, SharedFault>
         ensures { SeatCall seat.old.sitting seat.new.sitting (Ask.Crash p) (heard Told.Crashed result) }
     {
@@ -144,7 +156,10 @@ impl<S: Stable + Send> Shared<S> {
         pending_under(&self.locked.lock(rt), self.tag, seat, q)
     }
 
-    /// A copy of the trace.
+    /// A copy of the trace, with what was recorded so far. It is made under the lock, and may be judged beside further calls.
+    ///
+    /// # Errors
+    /// `WrongSeat`; `Core` with `NoMemory`. Neither changes anything.
     pub fn snapshot<R: Wait>(&self, rt: &R, seat: &mut Seat) -> Result<Snapshot, SharedFault>
         ensures seen { IfOk result (λ s. SeesEntries seat.old.sitting seat.new.sitting s.trace.recording.past) }
         ensures safe { IfOk result IsSafeSnapshot }
@@ -173,7 +188,11 @@ pub struct Finished<S: Stable, B = Box<dyn Process + Send>> {
     pub history: Items,
 }
 
-/// Ends a shared runtime.
+/// Ends a shared runtime: where the seats, in any order, are all that it opened, and each has just the items that the history
+/// has of it, the core and the history.
+///
+/// # Errors
+/// The first of `Missing`, `Mismatch` and `Opening` that stands. The runtime and the seats are dropped.
 pub fn finish<S: Stable + Send>(
     shared: Shared<S>,
     seats: Vec<Seat>,
