@@ -1,5 +1,6 @@
 -- A seat as callers see it.
-use Rattle.std.specs.Prelude.{◌≡◌, ℕ, ◌+◌, ◌≤◌, ◌<◌, List, [], ◌∷◌, ◌++◌, length, map, slice_get, Option, Some, None, Result, Ok, Err}
+use Rattle.std.specs.Prelude.{◌≡◌, ℕ, ◌+◌, ◌≤◌, ◌<◌, List, [], ◌∷◌, ◌++◌, length, map, slice_get}
+use Rattle.std.specs.Prelude.{Option, Some, None, Result, Ok, Err}
 use Rattle.causal_trace.specs.declared.entry.Entry.{Entry}
 use Rattle.causal_protocol.specs.declared.request.Request.{Request}
 use Rattle.causal_protocol.specs.declared.request.Reply.{Reply}
@@ -33,7 +34,9 @@ new_sitting number tag seen = record { number = number; tag = tag; items = []; s
 
 -- seats with no item, by their numbers
 abbrev pub AreFresh : ℕ → ℕ → ℕ → List SeatState → Type 0
-AreFresh tag seen k seats = (n : ℕ) → n < k → slice_get (map (λ (seat : SeatState). seat.sitting) seats) n ≡ Some (new_sitting n tag seen)
+AreFresh tag seen k seats =
+    (n : ℕ) → n < k
+    → slice_get (map (λ (seat : SeatState). seat.sitting) seats) n ≡ Some (new_sitting n tag seen)
 
 -- the seat's next item
 abbrev pub next_item : Sitting → Request → Reply → ℕ → Item
@@ -41,9 +44,11 @@ next_item seat request reply first = item_of seat.number (length seat.items) req
 
 -- the seat with its next item, and with so many entries seen
 abbrev pub with_item : Sitting → Request → Reply → ℕ → ℕ → Sitting
-with_item seat request reply first seen = record seat { items = seat.items ++ next_item seat request reply first ∷ []; seen = seen }
+with_item seat request reply first seen =
+    record seat { items = seat.items ++ next_item seat request reply first ∷ []; seen = seen }
 
--- one item call as its seat sees it: what was asked and told is the next item, which begins no earlier than what was seen
+-- one item call as its seat sees it: what was asked and told is the next item, which begins no earlier than what was
+-- seen
 pub record Calls (old new : Sitting) (request : Request) (reply : Reply) : Type 0 where
   pub first : ℕ
   pub later : old.seen ≤ first
@@ -75,10 +80,12 @@ abbrev pub SeatCall : Sitting → Sitting → Request → Option Reply → Type 
 SeatCall seat seat' request None = seat' ≡ seat
 SeatCall seat seat' request (Some reply) = Calls seat seat' request reply
 
--- one section of the lock for an item call: the item stands in the history and in the seat's own list, or nothing is changed
+-- one section of the lock for an item call: the item stands in the history and in the seat's own list, or nothing is
+-- changed
 abbrev pub ItemSection : Held → Held → Sitting → Sitting → Request → Option Reply → Type 0
 ItemSection old new seat seat' request None = (new ≡ old) × (seat' ≡ seat)
-ItemSection old new seat seat' request (Some reply) = AddsItem old new seat.number (length seat.items) request reply × Calls seat seat' request reply
+ItemSection old new seat seat' request (Some reply) =
+    AddsItem old new seat.number (length seat.items) request reply × Calls seat seat' request reply
 
 -- the seat is of this runtime and as it is kept
 abbrev pub IsSeated : ℕ → Held → Sitting → Type 0

@@ -1,10 +1,12 @@
 //! The value behind the lock.
-ghost use Rattle.std.specs.Prelude.{◌≡◌, ℕ, List, ◌+◌, ◌<◌, ◌≤◌, ◌↔◌, [], ◌∷◌, ◌++◌, length, replicate, vec_len, vec_capacity, slice_set, slice_get, IfOk, IfErr, OnOk, OnErr, IsTrue};
+ghost use Rattle.std.specs.Prelude.{◌≡◌, ℕ, ◌+◌, ◌<◌, ◌≤◌, ◌↔◌, [], ◌∷◌, ◌++◌, length, replicate, slice_set, slice_get};
+ghost use Rattle.std.specs.Prelude.{vec_len, vec_capacity, IfOk, IfErr, OnOk, OnErr, IsTrue};
 ghost use Rattle.std.specs.Option.{option_copied};
 ghost use Rattle.causal_core.specs.CoreView.{run_of};
 ghost use Rattle.causal_protocol.specs.Run.{Run};
 ghost use Rattle.causal_protocol.specs.Steps.{Steps};
-ghost use Rattle.causal_shared.specs.History.{Keeps, IsHistory, Holds, Sees, instant, fresh_seat, count_at, with_kept, item_at};
+ghost use Rattle.causal_shared.specs.History.{Keeps, IsHistory, Holds, Sees};
+ghost use Rattle.causal_shared.specs.History.{instant, fresh_seat, count_at, with_kept, item_at};
 ghost use Rattle.causal_shared.specs.Inside.Noting.{GoesOn};
 ghost use Rattle.causal_shared.specs.Limits.{max_items, max_seats};
 ghost use Rattle.causal_protocol.specs.Steps.{told_restart as restart_says};
@@ -42,8 +44,8 @@ fn instant_of<S: Stable>(core: &Core<S>) -> u32
     core.trace().len()
 }
 
-/// Stores an item, and what is then kept of its seat. Where the item tells the step that led to the core's run, the history
-/// stays legal.
+/// Stores an item, and what is then kept of its seat. Where the item tells the step that led to the core's run, the
+/// history stays legal.
 fn note<S: Stable>(core: &Core<S>, history: &mut Vec<Item>, seats: &mut Vec<KeptSeat>, item: Item)
     requires seat { item.seat < vec_len seats.old }
     requires call { item.call < max_items }
@@ -101,11 +103,11 @@ fn restart_reply(answer: &Result<Restarted, Refused>) -> Reply
 }
 
 impl<S: Stable> Locked<S> {
-    ghost use Rattle.causal_shared.specs.Locked.{held_of, state_under, opened_over, told, told_restart, Records, IsSnapshot, IsSafeSnapshot};
+    ghost use Rattle.causal_shared.specs.Locked.{held_of, state_under, opened_over, told, told_restart};
+    ghost use Rattle.causal_shared.specs.Locked.{Records, AnswersAs, IsSnapshot, IsSafeSnapshot};
     ghost use Rattle.causal_core.specs.CoreView.{state_of, IsUnchanged, Delivers, Crashes};
     ghost use Rattle.causal_core.specs.Boxes.{SameAnswers};
     ghost use Rattle.causal_core.specs.Restarts.{Restarts};
-    ghost use Rattle.causal_process.specs.declared.message.Input.{Input as Given};
     ghost use Rattle.causal_core.specs.Pendings.{pending_in, pending_fault};
     ghost use Rattle.causal_protocol.specs.Run.{memories_of};
     ghost use Rattle.causal_protocol.specs.Steps.{reason_of};
@@ -275,7 +277,8 @@ impl<S: Stable> Locked<S> {
     /// Brings process p up again as the spare, which begins, as this call of the seat.
     ///
     /// # Errors
-    /// `NoRecord`, which changes nothing; the core's, which are an item and change nothing else. Each gives the spare back.
+    /// `NoRecord`, which changes nothing; the core's, which are an item and change nothing else. Each gives the spare
+    /// back.
     pub fn restart(
         &mut self,
         seat: u32,
@@ -289,7 +292,7 @@ impl<S: Stable> Locked<S> {
         ensures item { Records self.old self.new seat call (Ask.Restart p) (told_restart result) }
         ensures ok { OnOk result (Restarts answers p spare (state_under self.old) (state_under self.new)) }
         ensures refused { OnErr result (IsUnchanged answers (state_under self.old) (state_under self.new)) }
-        ensures spare { IfErr result (λ refused. (inputs : List Given) → answers refused.spare inputs ≡ answers spare inputs) }
+        ensures spare { IfErr result (λ refused. AnswersAs answers refused.spare spare) }
     {
         if self.history.reserve(1).is_err() {
             return Err(LockedRefused {
@@ -310,8 +313,8 @@ impl<S: Stable> Locked<S> {
         Ok(answer?)
     }
 
-    /// Puts what process p logs and does not know to be stable into stable storage, as this call of the seat. Where it stops
-    /// part way, the item tells how many determinants were stored and recorded.
+    /// Puts what process p logs and does not know to be stable into stable storage, as this call of the seat. Where it
+    /// stops part way, the item tells how many determinants were stored and recorded.
     ///
     /// # Errors
     /// `NoRecord`, which changes nothing; the core's, which are an item.

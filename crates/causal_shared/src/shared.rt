@@ -1,14 +1,15 @@
 //! The core that several threads share.
-ghost use Rattle.std.specs.Prelude.{◌≡◌, ◌≢◌, ◌↔◌, ◌≤◌, ◌<◌, ℕ, List, length, ◌⊎◌, All, vec_len, slice_get, map, IfOk, IfErr, OnErr, Some};
+ghost use Rattle.std.specs.Prelude.{◌≡◌, ◌≢◌, ◌↔◌, ◌≤◌, ◌<◌, ℕ, length, ◌⊎◌, All, vec_len, slice_get, map};
+ghost use Rattle.std.specs.Prelude.{IfOk, IfErr, OnErr, Some};
 ghost use Rattle.causal_core.specs.CoreView.{run_of};
 ghost use Rattle.causal_protocol.specs.Runs.{IsSafeRun, HasSingleSlots};
 ghost use Rattle.causal_protocol.specs.declared.request.Request.TheVariants as Ask;
 ghost use Rattle.causal_protocol.specs.declared.request.Reply.TheVariants as Told;
 ghost use Rattle.causal_shared.specs.History.{instant, IsHistory};
 ghost use Rattle.causal_shared.specs.Limits.{max_seats};
-ghost use Rattle.causal_process.specs.declared.message.Input.{Input as Given};
-ghost use Rattle.causal_shared.specs.Locked.{held_of, IsSafeSnapshot};
-ghost use Rattle.causal_shared.specs.Finish.{Agrees, IsComplete, IsMismatch, AllSeated, AreSeatsOf, BeginsAt, items_together, before_items};
+ghost use Rattle.causal_shared.specs.Locked.{held_of, AnswersAs, IsSafeSnapshot};
+ghost use Rattle.causal_shared.specs.Finish.{Agrees, IsComplete, IsMismatch, AllSeated, AreSeatsOf, BeginsAt};
+ghost use Rattle.causal_shared.specs.Finish.{items_together, before_items};
 ghost use Rattle.causal_shared.specs.Pending.{AreAscending};
 ghost use Rattle.causal_shared.specs.Seat.{AreFresh, SeatCall, SeesEntries, heard, heard_restart};
 ghost use Rattle.causal_shared.specs.Shared.{opening_of, tag_of, seats_of_shared};
@@ -42,8 +43,8 @@ pub struct Shared<S: Stable, B = Box<dyn Process + Send>> {
 }
 
 impl<S: Stable + Send> Shared<S> {
-    /// Puts the core behind the lock, and makes `k` seats, 1 to 64, which are numbered from 0. The caller chooses the tag,
-    /// which tells the seats of one runtime from those of another.
+    /// Puts the core behind the lock, and makes `k` seats, 1 to 64, which are numbered from 0. The caller chooses the
+    /// tag, which tells the seats of one runtime from those of another.
     ///
     /// # Errors
     /// `NoMemory`, and the core is dropped.
@@ -80,8 +81,8 @@ impl<S: Stable + Send> Shared<S> {
     /// Delivers to q the message of that sender and number.
     ///
     /// # Errors
-    /// `WrongSeat`, `HistoryFull`, `NoRecord`, `Core` with the core's fault: nothing has changed but, for the last, that the
-    /// item is in the history and the seat's list.
+    /// `WrongSeat`, `HistoryFull`, `NoRecord`, `Core` with the core's fault: nothing has changed but, for the last,
+    /// that the item is in the history and the seat's list.
     pub fn deliver<R: Wait>(
         &self,
         rt: &R,
@@ -98,8 +99,8 @@ impl<S: Stable + Send> Shared<S> {
     /// Takes process p down, and gives the position of its entry.
     ///
     /// # Errors
-    /// `WrongSeat`, `HistoryFull`, `NoRecord`, `Core` with the core's fault: nothing has changed but, for the last, that the
-    /// item is in the history and the seat's list.
+    /// `WrongSeat`, `HistoryFull`, `NoRecord`, `Core` with the core's fault: nothing has changed but, for the last,
+    /// that the item is in the history and the seat's list.
     pub fn crash<R: Wait>(&self, rt: &R, seat: &mut Seat, p: Pid) -> Result<u32, SharedFault>
         ensures { SeatCall seat.old.sitting seat.new.sitting (Ask.Crash p) (heard Told.Crashed result) }
     {
@@ -109,8 +110,8 @@ impl<S: Stable + Send> Shared<S> {
     /// Brings process p up again as the spare, which begins.
     ///
     /// # Errors
-    /// `WrongSeat`, `HistoryFull`, `NoRecord`, `Core` with the core's fault: nothing has changed but, for the last, that the
-    /// item is in the history and the seat's list. Each gives the spare back.
+    /// `WrongSeat`, `HistoryFull`, `NoRecord`, `Core` with the core's fault: nothing has changed but, for the last,
+    /// that the item is in the history and the seat's list. Each gives the spare back.
     pub fn restart<R: Wait>(
         &self,
         rt: &R,
@@ -119,7 +120,7 @@ impl<S: Stable + Send> Shared<S> {
         spare: Box<dyn Process + Send>,
     ) -> Result<Restarted, SharedRefused>
         ensures item { SeatCall seat.old.sitting seat.new.sitting (Ask.Restart p) (heard_restart result) }
-        ensures spare { IfErr result (λ refused. (inputs : List Given) → answers refused.spare inputs ≡ answers spare inputs) }
+        ensures spare { IfErr result (λ refused. AnswersAs answers refused.spare spare) }
     {
         restart_under(&mut self.locked.lock(rt), self.tag, seat, p, spare)
     }
@@ -127,8 +128,8 @@ impl<S: Stable + Send> Shared<S> {
     /// Puts what process p logs and does not know to be stable into stable storage.
     ///
     /// # Errors
-    /// `WrongSeat`, `HistoryFull`, `NoRecord`, which change nothing; `Flush` with the core's fault and how many determinants
-    /// were stored and recorded.
+    /// `WrongSeat`, `HistoryFull`, `NoRecord`, which change nothing; `Flush` with the core's fault and how many
+    /// determinants were stored and recorded.
     pub fn flush<R: Wait>(&self, rt: &R, seat: &mut Seat, p: Pid) -> Result<u32, SharedFault>
         ensures { SeatCall seat.old.sitting seat.new.sitting (Ask.Flush p) (heard Told.Flushed result) }
     {
@@ -138,8 +139,8 @@ impl<S: Stable + Send> Shared<S> {
     /// Takes what process p knows to be stable out of its log.
     ///
     /// # Errors
-    /// `WrongSeat`, `HistoryFull`, `NoRecord`, `Core` with the core's fault: nothing has changed but, for the last, that the
-    /// item is in the history and the seat's list.
+    /// `WrongSeat`, `HistoryFull`, `NoRecord`, `Core` with the core's fault: nothing has changed but, for the last,
+    /// that the item is in the history and the seat's list.
     pub fn forget<R: Wait>(&self, rt: &R, seat: &mut Seat, p: Pid) -> Result<u32, SharedFault>
         ensures { SeatCall seat.old.sitting seat.new.sitting (Ask.Forget p) (heard Told.Forgotten result) }
     {
@@ -156,7 +157,8 @@ impl<S: Stable + Send> Shared<S> {
         pending_under(&self.locked.lock(rt), self.tag, seat, q)
     }
 
-    /// A copy of the trace, with what was recorded so far. It is made under the lock, and may be judged beside further calls.
+    /// A copy of the trace, with what was recorded so far. It is made under the lock, and may be judged beside further
+    /// calls.
     ///
     /// # Errors
     /// `WrongSeat`; `Core` with `NoMemory`. Neither changes anything.
@@ -188,8 +190,8 @@ pub struct Finished<S: Stable, B = Box<dyn Process + Send>> {
     pub history: Items,
 }
 
-/// Ends a shared runtime: where the seats, in any order, are all that it opened, and each has just the items that the history
-/// has of it, the core and the history.
+/// Ends a shared runtime: where the seats, in any order, are all that it opened, and each has just the items that the
+/// history has of it, the core and the history.
 ///
 /// # Errors
 /// The first of `Missing`, `Mismatch` and `Opening` that stands. The runtime and the seats are dropped.
@@ -242,7 +244,8 @@ fn settle<S: Stable>(
     ensures others { IfOk result (λ f. AllSeated seats.now f.history) }
     ensures total { IfOk result (λ f. length f.history ≡ items_together seats.now) }
     ensures missing { result ≡ Err FinishFault.Missing ↔ ¬ IsComplete tag k seats.now }
-    ensures mismatch { (n : ℕ) → result ≡ Err (FinishFault.Mismatch n) → IsMismatch (held_of locked).history seats.now n }
+    ensures mismatch { (n : ℕ) → result ≡ Err (FinishFault.Mismatch n)
+        → IsMismatch (held_of locked).history seats.now n }
     ensures opened { result ≡ Err FinishFault.Opening
         → ¬ BeginsAt (held_of locked).run (held_of locked).history opening.now.recording faults }
 {

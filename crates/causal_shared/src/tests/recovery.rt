@@ -46,8 +46,8 @@ fn is_line(entry: &Entry, line: &Line) -> bool {
     }
 }
 
-/// A message goes round a ring of three, where process 1 goes down and comes up again; process 2, which is up, is asked to
-/// come up in between. Tells whether each call was answered as it had to be.
+/// A message goes round a ring of three, where process 1 goes down and comes up again; process 2, which is up, is asked
+/// to come up in between. Tells whether each call was answered as it had to be.
 fn comes_back<R: Wait>(rt: &R, shared: &Shared<MemStable>, seat: &mut Seat, spare: Boxed) -> bool {
     for (q, source) in [(1, 0), (2, 1), (0, 2)] {
         if shared.deliver(rt, seat, Pid(q), Pid(source), 0).is_err() {

@@ -22,7 +22,8 @@ struct Done {
 }
 
 impl Done {
-    /// Makes one delivery to the process of the seat's number, if there is a message, and after the first takes a snapshot.
+    /// Makes one delivery to the process of the seat's number, if there is a message, and after the first takes a
+    /// snapshot.
     fn turn<R: Wait>(&mut self, rt: &R, shared: &Shared<MemStable>) {
         let q = Pid(self.seat.number().min(255) as u8);
         if !deliver_first(rt, shared, &mut self.seat, q) {
