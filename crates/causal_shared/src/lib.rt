@@ -11,5 +11,3 @@ mod replies;
 mod same;
 pub mod seat;
 pub mod shared;
-#[cfg(test)]
-mod tests;

@@ -12,6 +12,8 @@ mod random_audits;
 #[cfg(test)]
 mod random_traces;
 #[cfg(test)]
+mod seats;
+#[cfg(test)]
 mod text;
 #[cfg(test)]
 mod traces;

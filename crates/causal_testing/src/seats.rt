@@ -1,7 +1,7 @@
 //! Seats on threads of their own, calls that were worked out by hand, random calls, and a history that is full.
-use crate::fault::{FinishFault, SharedFault};
-use crate::seat::Seat;
-use crate::shared::{Finished, Shared, finish};
+use causal_shared::fault::{FinishFault, SharedFault};
+use causal_shared::seat::Seat;
+use causal_shared::shared::{Finished, Shared, finish};
 use causal_core::{Core, CoreFault, Reply};
 use causal_log::MemStable;
 use causal_name::{NoMemory, Pid};

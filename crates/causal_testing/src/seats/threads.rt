@@ -1,6 +1,6 @@
 //! Two seats on two threads, neither of which gets on without the other.
 use super::*;
-use crate::item::{Item, Snapshot};
+use causal_shared::item::{Item, Snapshot};
 use causal_trace::trace::Trace;
 use std::test::Fail;
 use std::thread;

@@ -1,6 +1,6 @@
 //! What single calls answer, and what the seats then know.
 use super::*;
-use crate::locked::Locked;
+use causal_shared::locked::Locked;
 use std::test::Fail;
 
 // A ring of one process begins with a message to itself, one entry.

@@ -1,6 +1,6 @@
 //! A history that takes no further item.
 use super::*;
-use crate::limits::MAX_ITEMS;
+use causal_shared::limits::MAX_ITEMS;
 use std::test::Fail;
 
 /// How many of so many crashes of a process that is not there are refused for that.
