@@ -1,0 +1,166 @@
+//! Random calls, about half of them refused; what they have recorded is a trace that can be pushed entry by entry.
+ghost use Rattle.std.specs.Prelude.{◌<◌};
+
+use super::*;
+use causal_log::MemStable;
+use causal_trace::trace::Trace;
+use std::test::Fail;
+
+/// A seeded generator: the same numbers each time.
+#[derive(Drop)]
+struct Walk {
+    state: u64,
+}
+
+/// The next number below a bound.
+fn below(walk: &mut Walk, bound: u32) -> u32
+    requires { 0 < bound }
+    ensures { result < bound }
+{
+    walk.state = walk
+        .state
+        .wrapping_mul(6_364_136_223_846_793_005)
+        .wrapping_add(1_442_695_040_888_963_407);
+    ((walk.state >> 33) % bound as u64) as u32
+}
+
+/// A process of n, or now and then none of it.
+fn any(walk: &mut Walk, n: u8) -> Pid {
+    Pid(below(walk, u32::from(n).saturating_add(1)) as u8)
+}
+
+fn first_pending(core: &Core<MemStable>, q: u8) -> Option<MsgName> {
+    match core.pending(Pid(q)) {
+        Ok(pending) => pending.as_slice().first().copied(),
+        Err(_) => None,
+    }
+}
+
+/// The message that process q would deliver next: the named one, or the first that is pending.
+fn next(core: &Core<MemStable>, q: u8) -> Option<MsgName> {
+    match named(core, q) {
+        Ok(Some(name)) => Some(name),
+        _ => first_pending(core, q),
+    }
+}
+
+/// A delivery that is likely to be made: that of the first process from `from` on which has one.
+fn likely(core: &Core<MemStable>, from: u8, n: u8) -> Option<Request> {
+    for q in (from..n).chain(0..from) {
+        if let Some(name) = next(core, q) {
+            return Some(deliver(q, name.source.0, name.ssn));
+        }
+    }
+    None
+}
+
+/// A process that is down, or any where none is.
+fn down_or_any(walk: &mut Walk, core: &Core<MemStable>, n: u8) -> Pid {
+    match core.down().least() {
+        Some(p) => Pid(p),
+        None => any(walk, n),
+    }
+}
+
+/// A request of any kind.
+fn request(walk: &mut Walk, core: &Core<MemStable>, n: u8) -> Request {
+    let p = any(walk, n);
+    match below(walk, 32) {
+        0..=2 => Request::Crash { p },
+        3..=5 => Request::Restart {
+            p: down_or_any(walk, core, n),
+        },
+        6 | 7 => Request::Flush { p },
+        8 | 9 => Request::Forget { p },
+        10..=15 => deliver(p.0, any(walk, n).0, below(walk, 64)),
+        _ => likely(core, p.0, n).unwrap_or(Request::Crash { p }),
+    }
+}
+
+/// How many calls were refused, and how many deliveries a replay made.
+#[derive(Clone, Copy, Debug)]
+struct Counts {
+    refused: u32,
+    replayed: u32,
+}
+
+/// Makes random calls, and every few of them a replay.
+fn walked(
+    alloc: Global,
+    walk: &mut Walk,
+    core: &mut Core<MemStable>,
+    kind: Kind,
+    n: u8,
+    calls: u32,
+) -> Result<Counts, NoMemory> {
+    let mut counts = Counts {
+        refused: 0,
+        replayed: 0,
+    };
+    for _ in 0..calls {
+        let request = request(walk, core, n);
+        if fault_of(asked(alloc, core, kind, request)?).is_some() {
+            counts.refused = counts.refused.saturating_add(1);
+        }
+        if below(walk, 16) == 0 {
+            let p = any(walk, n);
+            if let Ok(count) = replayed(core, p.0, below(walk, 3)) {
+                counts.replayed = counts.replayed.saturating_add(count);
+            }
+        }
+    }
+    Ok(counts)
+}
+
+/// Whether a trace can be pushed entry by entry, and comes out the same.
+fn can_be_pushed(alloc: Global, trace: &Trace) -> Result<bool, NoMemory> {
+    let Ok(mut pushed) = Trace::new(alloc, trace.processes()) else {
+        return Ok(false);
+    };
+    for entry in trace.entries() {
+        if pushed.push(entry.clone()?).is_err() {
+            return Ok(false);
+        }
+    }
+    Ok(pushed.entries() == trace.entries())
+}
+
+/// Makes random calls on a new core; what they came to, and whether what they recorded can be pushed.
+fn random_calls(
+    alloc: Global,
+    kind: Kind,
+    n: u8,
+    f: u16,
+    calls: u32,
+) -> Result<(Counts, bool), StartFault> {
+    let mut core = begun(alloc, kind, n, f, MemStable::new(alloc))?;
+    let mut walk = Walk { state: 2_026 };
+    let Ok(counts) = walked(alloc, &mut walk, &mut core, kind, n, calls) else {
+        return Err(StartFault::NoMemory);
+    };
+    match can_be_pushed(alloc, core.trace()) {
+        Ok(pushed) => Ok((counts, pushed)),
+        Err(NoMemory) => Err(StartFault::NoMemory),
+    }
+}
+
+#[test]
+fn what_random_calls_record_can_be_pushed(rt: HostRuntime) -> Result<(), Fail> {
+    for (kind, n) in [
+        (Kind::Ring(255), 3),
+        (Kind::Ring(200), 1),
+        (Kind::Echo(255), 4),
+        (Kind::Tally, 5),
+    ] {
+        for f in [1, 3, 0] {
+            let (counts, pushed) = random_calls(rt.alloc(), kind, n, f, 800)?;
+            assert!(rt; pushed, "{kind:?} for {f}: {counts:?}");
+            assert!(rt; counts.refused > 200, "{kind:?} for {f}: {counts:?}");
+            if f > 0 {
+                assert!(rt; counts.refused < 700, "{kind:?} for {f}: {counts:?}");
+                assert!(rt; counts.replayed > 0, "{kind:?} for {f}: {counts:?}");
+            }
+        }
+    }
+    Ok(())
+}
