@@ -27,8 +27,6 @@ pub mod runtime;
 mod search;
 mod sends;
 pub mod start;
-#[cfg(test)]
-mod tests;
 
 pub use causal_protocol::request::{CoreFault, Delivered, FlushFault, Reply, Request, Restarted};
 pub use runtime::Core;

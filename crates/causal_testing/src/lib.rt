@@ -4,6 +4,8 @@
 
 #[cfg(test)]
 mod audits;
+#[cfg(test)]
+mod cores;
 pub mod numbers;
 #[cfg(test)]
 mod plain_audits;
@@ -12,8 +14,12 @@ mod random_audits;
 #[cfg(test)]
 mod random_traces;
 #[cfg(test)]
+mod runtime;
+#[cfg(test)]
 mod seats;
 #[cfg(test)]
 mod text;
 #[cfg(test)]
 mod traces;
+#[cfg(test)]
+mod verdicts;

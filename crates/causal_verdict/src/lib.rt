@@ -13,9 +13,6 @@ use causal_log::Stable;
 use causal_name::NoMemory;
 use std::alloc::Global;
 
-#[cfg(test)]
-mod tests;
-
 /// The audit of what a core has recorded so far, for as many failures as it runs for: the verdict is `Accept`.
 ///
 /// # Errors

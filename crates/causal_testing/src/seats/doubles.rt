@@ -1,48 +1,13 @@
 //! A process that is refused memory once.
-ghost use Rattle.std.specs.Prelude.{◌≡◌, List};
-ghost use Rattle.causal_process.specs.declared.message.Input.{Input};
-
 use super::*;
-use causal_process::{Input, Outgoing};
-use std::marker::Model;
+use crate::cores::doubles::Refusing;
 use std::test::Fail;
-
-/// Answers as the process inside; at one of its steps it is refused memory, at first.
-#[derive(Drop)]
-struct Scarce<P> {
-    inner: P,
-    /// At which step, counted down from the first; 0, and it is refused no more.
-    step: u8,
-}
-
-impl<P> Model for Scarce<P> {
-    ghost Value = { P };
-
-    ghost view = { λ scarce. scarce.inner };
-}
-
-impl<P: Process> Process for Scarce<P> {
-    ghost answers = { P.answers };
-
-    fn step(&mut self, alloc: Global, input: &Input) -> Result<Vec<Outgoing>, NoMemory> {
-        let step = self.step;
-        self.step = step.saturating_sub(1);
-        if step == 1 {
-            return Err(NoMemory);
-        }
-        self.inner.step(alloc, input)
-    }
-
-    ghost each = { P.each };
-
-    ghost in_order = { P.in_order };
-}
 
 /// A ring of one process, whose first delivery is refused memory.
 fn begun_scarce(alloc: Global) -> Option<Core<MemStable>> {
-    let process = Scarce {
+    let process = Refusing {
         inner: Ring::new(1, 0, 1),
-        step: 2,
+        before_refusal: Some(1),
     };
     let boxed: Boxed = Box::new(alloc, process).ok()?;
     let mut boxes = Vec::new(alloc);

@@ -1,5 +1,6 @@
 //! Eight seats on eight threads that ask for what comes up.
 use super::*;
+use crate::numbers::Numbers;
 use std::test::Fail;
 use std::thread;
 use std::thread::Threads;
@@ -12,23 +13,6 @@ const CALLS: u32 = 300;
 
 /// How often each seat looks for a call that makes an item.
 const TURNS: u32 = 10_000;
-
-/// Numbers without a pattern: the linear congruence of Knuth's MMIX.
-#[derive(Clone, Copy)]
-struct Numbers {
-    state: u64,
-}
-
-impl Numbers {
-    /// One of the numbers below 256.
-    fn next(&mut self) -> u8 {
-        self.state = self
-            .state
-            .wrapping_mul(6_364_136_223_846_793_005)
-            .wrapping_add(1_442_695_040_888_963_407);
-        (self.state >> 56) as u8
-    }
-}
 
 /// Whether the call was recorded: it was answered, or the core refused it.
 fn is_recorded<A: Drop>(answer: Result<A, SharedFault>) -> bool {
@@ -89,8 +73,8 @@ fn calls<R: Wait>(rt: &R, alloc: Global, shared: &Shared<MemStable>, seat: Seat)
         if done.recorded == CALLS {
             return done;
         }
-        let number = numbers.next();
-        let p = Pid(numbers.next() % SEATS);
+        let number = (numbers.below(256) as u8);
+        let p = Pid((numbers.below(256) as u8) % SEATS);
         if call(rt, alloc, shared, &mut done.seat, number, p) {
             done.recorded = done.recorded.saturating_add(1);
         }

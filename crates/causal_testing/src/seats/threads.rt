@@ -17,7 +17,8 @@ const EACH: u32 = 4;
 struct Done {
     seat: Seat,
     delivered: u32,
-    /// What it saw after its first delivery.
+    /// Its first delivery, and what it saw after that.
+    first: Option<Item>,
     snapshot: Option<Snapshot>,
 }
 
@@ -32,13 +33,14 @@ impl Done {
         }
         self.delivered = self.delivered.saturating_add(1);
         if self.snapshot.is_none() {
+            self.first = self.seat.last().copied();
             self.snapshot = shared.snapshot(rt, &mut self.seat).ok();
         }
     }
 
     /// Whether the snapshot has the first delivery that the seat made.
     fn is_shown(&self) -> bool {
-        match (self.seat.items().first(), &self.snapshot) {
+        match (&self.first, &self.snapshot) {
             (Some(item), Some(snapshot)) => shows(&snapshot.trace, item),
             _ => false,
         }
@@ -58,6 +60,7 @@ fn delivers_all<R: Wait>(rt: &R, shared: &Shared<MemStable>, seat: Seat) -> Done
     let mut done = Done {
         seat,
         delivered: 0,
+        first: None,
         snapshot: None,
     };
     for _ in 0..TURNS {

@@ -1,32 +1,24 @@
-//! Scripts with the traces that they have to record, faults of memory and of stores, the limit on entries, and random
-//! calls, on cores of the kinds of process that come with the runtime.
-use crate::{Core, CoreFault, Delivered, FlushFault, Reply, Request, Restarted, StartFault};
+//! Cores for tests, and calls of them that carry no contract of their own, so that the tests above are proved at little cost.
+use causal_core::{Core, CoreFault, Reply, Request, StartFault};
 use causal_log::Stable;
 use causal_name::{Det, MsgName, NoMemory, Pid};
 use causal_process::{Echo, Process, Ring, Tally};
 use std::alloc::Global;
 
-mod doubles;
-mod faults;
-mod limits;
-mod random;
-mod recovery;
-mod scripts;
-
-type Boxed = Box<dyn Process + Send>;
+pub(crate) type Boxed = Box<dyn Process + Send>;
 
 /// The fields of a determinant, in their order.
-type Fields = (u8, u32, u8, u32);
+pub(crate) type Fields = (u8, u32, u8, u32);
 
 /// Which kind of process runs, with its first count.
 #[derive(Clone, Copy, Debug)]
-enum Kind {
+pub(crate) enum Kind {
     Ring(u8),
     Echo(u8),
     Tally,
 }
 
-fn det(fields: Fields) -> Det {
+pub(crate) fn det(fields: Fields) -> Det {
     Det {
         source: Pid(fields.0),
         ssn: fields.1,
@@ -35,7 +27,7 @@ fn det(fields: Fields) -> Det {
     }
 }
 
-fn name(source: u8, ssn: u32) -> MsgName {
+pub(crate) fn name(source: u8, ssn: u32) -> MsgName {
     MsgName {
         source: Pid(source),
         ssn,
@@ -43,11 +35,11 @@ fn name(source: u8, ssn: u32) -> MsgName {
 }
 
 /// Whether these are the determinants of these fields.
-fn are(dets: &[Det], fields: &[Fields]) -> bool {
+pub(crate) fn are(dets: &[Det], fields: &[Fields]) -> bool {
     dets.len() == fields.len() && dets.iter().zip(fields).all(|(d, it)| *d == det(*it))
 }
 
-fn deliver(q: u8, source: u8, ssn: u32) -> Request {
+pub(crate) fn deliver(q: u8, source: u8, ssn: u32) -> Request {
     Request::Deliver {
         q: Pid(q),
         source: Pid(source),
@@ -55,24 +47,24 @@ fn deliver(q: u8, source: u8, ssn: u32) -> Request {
     }
 }
 
-fn crash(p: u8) -> Request {
+pub(crate) fn crash(p: u8) -> Request {
     Request::Crash { p: Pid(p) }
 }
 
-fn restart(p: u8) -> Request {
+pub(crate) fn restart(p: u8) -> Request {
     Request::Restart { p: Pid(p) }
 }
 
-fn flush(p: u8) -> Request {
+pub(crate) fn flush(p: u8) -> Request {
     Request::Flush { p: Pid(p) }
 }
 
-fn forget(p: u8) -> Request {
+pub(crate) fn forget(p: u8) -> Request {
     Request::Forget { p: Pid(p) }
 }
 
 /// Process `me` of n, which are taken to be enough to have it.
-fn process(alloc: Global, kind: Kind, n: u16, me: u8) -> Result<Boxed, NoMemory> {
+pub(crate) fn process(alloc: Global, kind: Kind, n: u16, me: u8) -> Result<Boxed, NoMemory> {
     let n = n.max(u16::from(me) + 1);
     let boxed: Boxed = match kind {
         Kind::Ring(hops) => Box::new(alloc, Ring::new(n, me, hops))?,
@@ -83,7 +75,7 @@ fn process(alloc: Global, kind: Kind, n: u16, me: u8) -> Result<Boxed, NoMemory>
 }
 
 /// All processes of n.
-fn processes(alloc: Global, kind: Kind, n: u8) -> Result<Vec<Boxed>, NoMemory> {
+pub(crate) fn processes(alloc: Global, kind: Kind, n: u8) -> Result<Vec<Boxed>, NoMemory> {
     let mut boxes = Vec::new(alloc);
     for me in 0..n {
         boxes.push(process(alloc, kind, u16::from(n), me)?)?;
@@ -91,9 +83,7 @@ fn processes(alloc: Global, kind: Kind, n: u8) -> Result<Vec<Boxed>, NoMemory> {
     Ok(boxes)
 }
 
-// What follows asks a core without a contract of its own, so that the tests above it are proved at little cost.
-
-fn started<S: Stable>(
+pub(crate) fn started<S: Stable>(
     alloc: Global,
     f: u16,
     boxes: Vec<Boxed>,
@@ -103,7 +93,7 @@ fn started<S: Stable>(
 }
 
 /// A core of n processes of a kind that has begun.
-fn begun<S: Stable>(
+pub(crate) fn begun<S: Stable>(
     alloc: Global,
     kind: Kind,
     n: u8,
@@ -117,53 +107,15 @@ fn begun<S: Stable>(
 }
 
 /// How many entries are recorded.
-fn recorded<S: Stable>(core: &Core<S>) -> u32 {
+pub(crate) fn recorded<S: Stable>(core: &Core<S>) -> u32 {
     core.trace().len()
 }
 
-fn processes_of<S: Stable>(core: &Core<S>) -> u16 {
+pub(crate) fn processes_of<S: Stable>(core: &Core<S>) -> u16 {
     core.trace().processes()
 }
 
-fn named<S: Stable>(core: &Core<S>, q: u8) -> Result<Option<MsgName>, CoreFault> {
-    core.named(Pid(q))
-}
-
-fn replayed<S: Stable>(core: &mut Core<S>, p: u8, limit: u32) -> Result<u32, CoreFault> {
-    core.replay(Pid(p), limit)
-}
-
-fn are_pending<S: Stable>(core: &Core<S>, q: u8, names: &[MsgName]) -> Result<bool, CoreFault> {
-    match core.pending(Pid(q)) {
-        Ok(pending) => Ok(pending.as_slice() == names),
-        Err(fault) => Err(fault),
-    }
-}
-
-fn are_gathered<S: Stable>(core: &Core<S>, p: u8, fields: &[Fields]) -> Result<bool, CoreFault> {
-    match core.gathered(Pid(p)) {
-        Ok(dets) => Ok(are(dets.as_slice(), fields)),
-        Err(fault) => Err(fault),
-    }
-}
-
-/// Asks for a restart of p, and where that is refused, with the spare that came back, for one of `then`: both answers.
-fn restarted_after<S: Stable>(
-    core: &mut Core<S>,
-    p: u8,
-    then: u8,
-    spare: Boxed,
-) -> (Reply, Option<Reply>) {
-    match core.restart(Pid(p), spare) {
-        Ok(restarted) => (Reply::Restarted(restarted), None),
-        Err(refused) => {
-            let second = restarted(core, Pid(then), refused.spare);
-            (Reply::Refused(refused.fault), Some(second))
-        }
-    }
-}
-
-fn restarted<S: Stable>(core: &mut Core<S>, p: Pid, spare: Boxed) -> Reply {
+pub(crate) fn restarted<S: Stable>(core: &mut Core<S>, p: Pid, spare: Boxed) -> Reply {
     match core.restart(p, spare) {
         Ok(restarted) => Reply::Restarted(restarted),
         Err(refused) => Reply::Refused(refused.fault),
@@ -171,7 +123,7 @@ fn restarted<S: Stable>(core: &mut Core<S>, p: Pid, spare: Boxed) -> Reply {
 }
 
 /// Makes one call, a restart with a new process of that kind as the spare, and tells the answer.
-fn asked<S: Stable>(
+pub(crate) fn asked<S: Stable>(
     alloc: Global,
     core: &mut Core<S>,
     kind: Kind,
@@ -190,7 +142,7 @@ fn asked<S: Stable>(
 }
 
 /// The fault of a refused call.
-fn fault_of(reply: Reply) -> Option<CoreFault> {
+pub(crate) fn fault_of(reply: Reply) -> Option<CoreFault> {
     match reply {
         Reply::Refused(fault) => Some(fault),
         Reply::FlushRefused(refused) => Some(refused.fault),
@@ -199,7 +151,7 @@ fn fault_of(reply: Reply) -> Option<CoreFault> {
 }
 
 /// Makes calls one after the other up to the first that is refused: how many came before it, and its fault.
-fn run<S: Stable>(
+pub(crate) fn run<S: Stable>(
     alloc: Global,
     core: &mut Core<S>,
     kind: Kind,
@@ -211,40 +163,4 @@ fn run<S: Stable>(
         }
     }
     Ok(None)
-}
-
-/// Makes calls one after the other up to the first whose answer is another: its number and that answer.
-fn first_unlike<S: Stable>(
-    alloc: Global,
-    core: &mut Core<S>,
-    kind: Kind,
-    calls: &[(Request, Reply)],
-) -> Result<Option<(usize, Reply)>, NoMemory> {
-    for (k, call) in calls.iter().enumerate() {
-        let reply = asked(alloc, core, kind, call.0)?;
-        if reply != call.1 {
-            return Ok(Some((k, reply)));
-        }
-    }
-    Ok(None)
-}
-
-fn delivered(first: u32, fields: Fields, sends: u32) -> Reply {
-    Reply::Delivered(Delivered {
-        first,
-        det: det(fields),
-        sends,
-    })
-}
-
-fn restarted_at(first: u32, listed: u32, sends: u32) -> Reply {
-    Reply::Restarted(Restarted {
-        first,
-        listed,
-        sends,
-    })
-}
-
-fn flush_stopped(fault: CoreFault, done: u32) -> Reply {
-    Reply::FlushRefused(FlushFault { fault, done })
 }

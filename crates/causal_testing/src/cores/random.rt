@@ -1,32 +1,13 @@
 //! Random calls, about half of them refused; what they have recorded is a trace that can be pushed entry by entry.
-ghost use Rattle.std.specs.Prelude.{◌<◌};
-
 use super::*;
+use crate::numbers::Numbers;
 use causal_log::MemStable;
 use causal_trace::trace::Trace;
 use std::test::Fail;
 
-/// A seeded generator: the same numbers each time.
-#[derive(Drop)]
-struct Walk {
-    state: u64,
-}
-
-/// The next number below a bound.
-fn below(walk: &mut Walk, bound: u32) -> u32
-    requires { 0 < bound }
-    ensures { result < bound }
-{
-    walk.state = walk
-        .state
-        .wrapping_mul(6_364_136_223_846_793_005)
-        .wrapping_add(1_442_695_040_888_963_407);
-    ((walk.state >> 33) % bound as u64) as u32
-}
-
 /// A process of n, or now and then none of it.
-fn any(walk: &mut Walk, n: u8) -> Pid {
-    Pid(below(walk, u32::from(n).saturating_add(1)) as u8)
+fn any(walk: &mut Numbers, n: u8) -> Pid {
+    Pid(walk.below(u32::from(n).saturating_add(1)) as u8)
 }
 
 fn first_pending(core: &Core<MemStable>, q: u8) -> Option<MsgName> {
@@ -55,7 +36,7 @@ fn likely(core: &Core<MemStable>, from: u8, n: u8) -> Option<Request> {
 }
 
 /// A process that is down, or any where none is.
-fn down_or_any(walk: &mut Walk, core: &Core<MemStable>, n: u8) -> Pid {
+fn down_or_any(walk: &mut Numbers, core: &Core<MemStable>, n: u8) -> Pid {
     match core.down().least() {
         Some(p) => Pid(p),
         None => any(walk, n),
@@ -63,16 +44,16 @@ fn down_or_any(walk: &mut Walk, core: &Core<MemStable>, n: u8) -> Pid {
 }
 
 /// A request of any kind.
-fn request(walk: &mut Walk, core: &Core<MemStable>, n: u8) -> Request {
+fn request(walk: &mut Numbers, core: &Core<MemStable>, n: u8) -> Request {
     let p = any(walk, n);
-    match below(walk, 32) {
+    match walk.below(32) {
         0..=2 => Request::Crash { p },
         3..=5 => Request::Restart {
             p: down_or_any(walk, core, n),
         },
         6 | 7 => Request::Flush { p },
         8 | 9 => Request::Forget { p },
-        10..=15 => deliver(p.0, any(walk, n).0, below(walk, 64)),
+        10..=15 => deliver(p.0, any(walk, n).0, walk.below(64)),
         _ => likely(core, p.0, n).unwrap_or(Request::Crash { p }),
     }
 }
@@ -87,7 +68,7 @@ struct Counts {
 /// Makes random calls, and every few of them a replay.
 fn walked(
     alloc: Global,
-    walk: &mut Walk,
+    walk: &mut Numbers,
     core: &mut Core<MemStable>,
     kind: Kind,
     n: u8,
@@ -102,9 +83,9 @@ fn walked(
         if fault_of(asked(alloc, core, kind, request)?).is_some() {
             counts.refused = counts.refused.saturating_add(1);
         }
-        if below(walk, 16) == 0 {
+        if walk.below(16) == 0 {
             let p = any(walk, n);
-            if let Ok(count) = replayed(core, p.0, below(walk, 3)) {
+            if let Ok(count) = replayed(core, p.0, walk.below(3)) {
                 counts.replayed = counts.replayed.saturating_add(count);
             }
         }
@@ -134,7 +115,7 @@ fn random_calls(
     calls: u32,
 ) -> Result<(Counts, bool), StartFault> {
     let mut core = begun(alloc, kind, n, f, MemStable::new(alloc))?;
-    let mut walk = Walk { state: 2_026 };
+    let mut walk = Numbers { state: 2_026 };
     let Ok(counts) = walked(alloc, &mut walk, &mut core, kind, n, calls) else {
         return Err(StartFault::NoMemory);
     };

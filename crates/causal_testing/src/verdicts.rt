@@ -1,82 +1,13 @@
 //! Cores of the kinds of process that come with the runtime, audited after crashes, flushes and forgetting.
-use super::*;
-use causal_core::Request;
+use crate::runtime::*;
+use causal_audit::{Tables, Verdict, judge};
+use causal_core::{Core, Request};
 use causal_holders::Holders;
 use causal_log::MemStable;
-use causal_name::Pid;
-use causal_process::{Echo, Process, Ring, Tally};
+use causal_name::{NoMemory, Pid};
+use causal_verdict::audited;
+use std::alloc::Global;
 use std::test::Fail;
-
-type Boxed = Box<dyn Process + Send>;
-
-/// Which kind of process runs, with its first count.
-#[derive(Clone, Copy, Debug)]
-enum Kind {
-    Ring(u8),
-    Echo(u8),
-    Tally,
-}
-
-fn deliver(q: u8, source: u8, ssn: u32) -> Request {
-    Request::Deliver {
-        q: Pid(q),
-        source: Pid(source),
-        ssn,
-    }
-}
-
-fn crash(p: u8) -> Request {
-    Request::Crash { p: Pid(p) }
-}
-
-fn restart(p: u8) -> Request {
-    Request::Restart { p: Pid(p) }
-}
-
-fn flush(p: u8) -> Request {
-    Request::Flush { p: Pid(p) }
-}
-
-fn forget(p: u8) -> Request {
-    Request::Forget { p: Pid(p) }
-}
-
-/// Process `me` of n, which are taken to be enough to have it.
-fn process(alloc: Global, kind: Kind, n: u16, me: u8) -> Result<Boxed, NoMemory> {
-    let n = n.max(u16::from(me) + 1);
-    let boxed: Boxed = match kind {
-        Kind::Ring(hops) => Box::new(alloc, Ring::new(n, me, hops))?,
-        Kind::Echo(rounds) => Box::new(alloc, Echo::new(n, me, rounds))?,
-        Kind::Tally => Box::new(alloc, Tally::new(n, me))?,
-    };
-    Ok(boxed)
-}
-
-/// A core of n processes of a kind; none where memory was refused.
-fn begun(alloc: Global, kind: Kind, n: u8, f: u16) -> Result<Option<Core<MemStable>>, NoMemory> {
-    let mut boxes = Vec::new(alloc);
-    for me in 0..n {
-        boxes.push(process(alloc, kind, u16::from(n), me)?)?;
-    }
-    Ok(Core::start(alloc, f, boxes, MemStable::new(alloc)).ok())
-}
-
-/// Makes one call, and tells whether it was refused.
-fn is_refused(
-    alloc: Global,
-    core: &mut Core<MemStable>,
-    kind: Kind,
-    request: Request,
-) -> Result<bool, NoMemory> {
-    let n = core.trace().processes();
-    Ok(match request {
-        Request::Deliver { q, source, ssn } => core.deliver(q, source, ssn).is_err(),
-        Request::Crash { p } => core.crash(p).is_err(),
-        Request::Restart { p } => core.restart(p, process(alloc, kind, n, p.0)?).is_err(),
-        Request::Flush { p } => core.flush(p).is_err(),
-        Request::Forget { p } => core.forget(p).is_err(),
-    })
-}
 
 /// Three processes after calls of which none was refused.
 fn after(
@@ -85,19 +16,17 @@ fn after(
     f: u16,
     requests: &[Request],
 ) -> Result<Option<Core<MemStable>>, NoMemory> {
-    let Some(mut core) = begun(alloc, kind, 3, f)? else {
+    let Ok(mut core) = begun(alloc, kind, 3, f, MemStable::new(alloc)) else {
         return Ok(None);
     };
-    for request in requests {
-        if is_refused(alloc, &mut core, kind, *request)? {
-            return Ok(None);
-        }
+    match run(alloc, &mut core, kind, requests)? {
+        None => Ok(Some(core)),
+        Some(_) => Ok(None),
     }
-    Ok(Some(core))
 }
 
 /// How many entries are recorded, and for how many failures.
-fn recorded(core: &Core<MemStable>) -> (u32, u16) {
+fn extent(core: &Core<MemStable>) -> (u32, u16) {
     (core.trace().len(), core.faults())
 }
 
@@ -161,7 +90,7 @@ fn scripts_are_accepted(rt: HostRuntime) -> Result<(), Fail> {
             assert!(rt; false, "{kind:?} {entries}");
             return Ok(());
         };
-        assert_eq!(rt; recorded(&core), (entries, f));
+        assert_eq!(rt; extent(&core), (entries, f));
         assert!(rt; is_accepted(rt.alloc(), &core)?, "{kind:?} {entries}");
     }
     Ok(())
@@ -209,7 +138,7 @@ fn deliver_first(core: &mut Core<MemStable>, q: u8) -> bool {
 
 #[test]
 fn echoes_are_accepted(rt: HostRuntime) -> Result<(), Fail> {
-    let Some(mut core) = begun(rt.alloc(), Kind::Echo(3), 2, 1)? else {
+    let Ok(mut core) = begun(rt.alloc(), Kind::Echo(3), 2, 1, MemStable::new(rt.alloc())) else {
         assert!(rt; false);
         return Ok(());
     };
@@ -217,6 +146,6 @@ fn echoes_are_accepted(rt: HostRuntime) -> Result<(), Fail> {
         assert!(rt; deliver_first(&mut core, turn % 2), "{turn}");
         assert!(rt; is_accepted(rt.alloc(), &core)?, "{turn}");
     }
-    assert_eq!(rt; recorded(&core), (16, 1));
+    assert_eq!(rt; extent(&core), (16, 1));
     Ok(())
 }

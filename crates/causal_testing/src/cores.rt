@@ -1,0 +1,89 @@
+//! Scripts with the traces that they have to record, faults of memory and of stores, the limit on entries, and random
+//! calls, on cores of the kinds of process that come with the runtime.
+use crate::runtime::*;
+use causal_core::{Core, CoreFault, Delivered, FlushFault, Reply, Request, Restarted, StartFault};
+use causal_log::Stable;
+use causal_name::{MsgName, NoMemory, Pid};
+use causal_process::Ring;
+use std::alloc::Global;
+
+pub(crate) mod doubles;
+mod faults;
+mod limits;
+mod random;
+mod recovery;
+mod scripts;
+
+fn named<S: Stable>(core: &Core<S>, q: u8) -> Result<Option<MsgName>, CoreFault> {
+    core.named(Pid(q))
+}
+
+fn replayed<S: Stable>(core: &mut Core<S>, p: u8, limit: u32) -> Result<u32, CoreFault> {
+    core.replay(Pid(p), limit)
+}
+
+fn are_pending<S: Stable>(core: &Core<S>, q: u8, names: &[MsgName]) -> Result<bool, CoreFault> {
+    match core.pending(Pid(q)) {
+        Ok(pending) => Ok(pending.as_slice() == names),
+        Err(fault) => Err(fault),
+    }
+}
+
+fn are_gathered<S: Stable>(core: &Core<S>, p: u8, fields: &[Fields]) -> Result<bool, CoreFault> {
+    match core.gathered(Pid(p)) {
+        Ok(dets) => Ok(are(dets.as_slice(), fields)),
+        Err(fault) => Err(fault),
+    }
+}
+
+/// Asks for a restart of p, and where that is refused, with the spare that came back, for one of `then`: both answers.
+fn restarted_after<S: Stable>(
+    core: &mut Core<S>,
+    p: u8,
+    then: u8,
+    spare: Boxed,
+) -> (Reply, Option<Reply>) {
+    match core.restart(Pid(p), spare) {
+        Ok(restarted) => (Reply::Restarted(restarted), None),
+        Err(refused) => {
+            let second = restarted(core, Pid(then), refused.spare);
+            (Reply::Refused(refused.fault), Some(second))
+        }
+    }
+}
+
+/// Makes calls one after the other up to the first whose answer is another: its number and that answer.
+fn first_unlike<S: Stable>(
+    alloc: Global,
+    core: &mut Core<S>,
+    kind: Kind,
+    calls: &[(Request, Reply)],
+) -> Result<Option<(usize, Reply)>, NoMemory> {
+    for (k, call) in calls.iter().enumerate() {
+        let reply = asked(alloc, core, kind, call.0)?;
+        if reply != call.1 {
+            return Ok(Some((k, reply)));
+        }
+    }
+    Ok(None)
+}
+
+fn delivered(first: u32, fields: Fields, sends: u32) -> Reply {
+    Reply::Delivered(Delivered {
+        first,
+        det: det(fields),
+        sends,
+    })
+}
+
+fn restarted_at(first: u32, listed: u32, sends: u32) -> Reply {
+    Reply::Restarted(Restarted {
+        first,
+        listed,
+        sends,
+    })
+}
+
+fn flush_stopped(fault: CoreFault, done: u32) -> Reply {
+    Reply::FlushRefused(FlushFault { fault, done })
+}
