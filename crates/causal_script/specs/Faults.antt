@@ -16,16 +16,16 @@ IsStartLine line = (s : Start) × IsStart s × (line ≡ start_line s)
 abbrev pub IsCommandLine : List ℕ → Type 0
 IsCommandLine line = (r : Request) × IsRequest r × (line ≡ command_line r)
 
--- what stands after so many lines may stand there: the first line is there and starts the script, and each line after it,
--- where there is one, has a command
+-- what stands after so many lines may stand there: the first line is there and starts the script, and each line after
+-- it, where there is one, has a command
 abbrev pub IsInPlace : ℕ → Option (List ℕ) → Type 0
 IsInPlace zero None = ⊥
 IsInPlace zero (Some line) = IsStartLine line
 IsInPlace (suc before) None = Unit {0}
 IsInPlace (suc before) (Some line) = IsCommandLine line
 
--- What is wrong after so many lines. A byte is in the line that as many lines stand before as line feeds do; a line feed
--- is in the line that it ends.
+-- What is wrong after so many lines. A byte is in the line that has as many lines before it as the byte has line feeds,
+-- so a line feed is in the line that it ends.
 abbrev pub IsFaultAfter : List ℕ → ℕ → ScriptFaultKind → Type 0
 IsFaultAfter text before Big = (max_script < length text) × (before ≡ feeds (take max_script text))
 IsFaultAfter text before Script = IsInPlace before (slice_get (lines text) before) → ⊥

@@ -24,22 +24,23 @@ plan_of s = record { start = record { kind = s.kind; n = s.n; f = s.f; param = s
 
 -- ---- the lines
 
--- `N F`
-abbrev pub limits : Start → List ℕ
-limits s = decimal s.n ++ (codes " " ++ decimal s.f)
+-- `N F PARAM`
+abbrev pub three_numbers : Start → List ℕ
+three_numbers s = decimal s.n ++ (codes " " ++ (decimal s.f ++ (codes " " ++ decimal s.param)))
 
 -- the first line
 abbrev pub start_line_at : Kind → Start → List ℕ
-start_line_at Ring s = codes "start ring " ++ (limits s ++ (codes " " ++ decimal s.param))
-start_line_at Echo s = codes "start echo " ++ (limits s ++ (codes " " ++ decimal s.param))
-start_line_at Tally s = codes "start tally " ++ limits s
+start_line_at Ring s = codes "start ring " ++ three_numbers s
+start_line_at Echo s = codes "start echo " ++ three_numbers s
+start_line_at Tally s = codes "start tally " ++ (decimal s.n ++ (codes " " ++ decimal s.f))
 
 abbrev pub start_line : Start → List ℕ
 start_line s = start_line_at s.kind s
 
 -- each line after it
 abbrev pub command_line : Request → List ℕ
-command_line (Deliver q source ssn) = codes "deliver " ++ (decimal q.0 ++ (codes " " ++ (decimal source.0 ++ (codes " " ++ decimal ssn))))
+command_line (Deliver q source ssn) =
+    codes "deliver " ++ (decimal q.0 ++ (codes " " ++ (decimal source.0 ++ (codes " " ++ decimal ssn))))
 command_line (Crash p) = codes "crash " ++ decimal p.0
 command_line (Restart p) = codes "restart " ++ decimal p.0
 command_line (Flush p) = codes "flush " ++ decimal p.0
@@ -63,7 +64,8 @@ IsRequest (Restart p) = p.0 < 2 ^ 8
 IsRequest (Flush p) = p.0 < 2 ^ 8
 IsRequest (Forget p) = p.0 < 2 ^ 8
 
--- what a script may say: its numbers are in their ranges, and its commands are on the lines 2, 3 and so on
+-- what a script may say: its numbers are in their ranges, its commands are on the lines 2, 3 and so on, and there are no
+-- more of them than bytes in its text
 pub record IsPlan (p : Plan) : Type 0 where
   pub start : IsStart p.start
   pub requests : AllByRecursion (λ c. IsRequest c.request) p.commands

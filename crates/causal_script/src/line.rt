@@ -30,8 +30,9 @@ pub fn script_line(alloc: Global, fault: &ScriptFault) -> Result<Vec<u8>, NoMemo
     Ok(text.into_bytes())
 }
 
-/// The line that a refused command prints as, with a line feed: `refused line=6 OverFaults`, or `refused line=6 MustReplay
-/// 2 0` with the source and the send sequence number of the message that has to be delivered first.
+/// The line that a refused command prints as, with a line feed: `refused line=6 OverFaults`, or
+/// `refused line=6 MustReplay 2 0` with the source and the send sequence number of the message that has to be
+/// delivered first.
 ///
 /// # Errors
 /// `NoMemory` where memory was refused.
@@ -47,7 +48,12 @@ fn refusal(alloc: Global, fault: CoreFault) -> Result<String, AllocError>
     ensures { IfOk result (λ text. string_bytes text ≡ refusal fault) }
 {
     let name = match fault {
-        CoreFault::MustReplay(MsgName { source: Pid(source), ssn }) => {
+        CoreFault::MustReplay(
+            MsgName {
+                source: Pid(source),
+                ssn,
+            },
+        ) => {
             return format!(in alloc; "MustReplay {source} {ssn}");
         }
         CoreFault::NoProcess => "NoProcess",

@@ -1,5 +1,6 @@
 -- What a line says, word by word.
-use Rattle.std.specs.Prelude.{ℕ, ◌-◌, ◌^◌, ◌==◌, ◌&&◌, ◌||◌, not, Bool, List, [], ◌∷◌, length, codes, bytes_eq, slice_index, nat_le, nat_lt, if◌then◌else◌, Option, Some, None, option_map}
+use Rattle.std.specs.Prelude.{ℕ, ◌==◌, ◌&&◌, not, Bool, false, List, [], ◌∷◌, codes, bytes_eq, nat_le, nat_lt, if◌then◌else◌, Option, Some, None, option_map}
+use Rattle.std.specs.Char.{is_ascii_digit}
 use Rattle.std.specs.Str.{all_ascii_digits}
 use Rattle.std.specs.Str.Parse.{digits_value}
 use Rattle.causal_name.specs.declared.Pid.{Pid}
@@ -24,11 +25,14 @@ space = 32
 
 -- digits, and no zero before others
 abbrev pub is_plain : List ℕ → Bool
-is_plain word = all_ascii_digits word && (nat_lt 0 (length word) && (length word == 1 || not (slice_index word 0 == 48)))
+is_plain [] = false
+is_plain (x ∷ []) = is_ascii_digit x
+is_plain (x ∷ y ∷ ys) = not (x == 48) && all_ascii_digits (x ∷ y ∷ ys)
 
 -- the number that a word spells, up to a limit
 unfoldable pub number_of : ℕ → List ℕ → Option ℕ
-number_of limit word = if is_plain word && nat_le (digits_value 10 word) limit then Some (digits_value 10 word) else None
+number_of limit word =
+    if is_plain word && nat_le (digits_value 10 word) limit then Some (digits_value 10 word) else None
 
 unfoldable pub process_of : List ℕ → Option Pid
 process_of word = number_of 255 word >>= λ n. Some (record { 0 = n })
@@ -59,7 +63,8 @@ count_of word = number_of 256 word >>= λ n. if nat_lt 0 n then Some n else None
 unfoldable pub with_param : Kind → List ℕ → Option Start
 with_param kind words =
     cut space words >>= λ a. cut space a.1 >>= λ b.
-    count_of a.0 >>= λ n. number_of 65535 b.0 >>= λ f. number_of 255 b.1 >>= λ param. Some (record { kind = kind; n = n; f = f; param = param })
+    count_of a.0 >>= λ n. number_of 65535 b.0 >>= λ f. number_of 255 b.1 >>= λ param.
+    Some (record { kind = kind; n = n; f = f; param = param })
 
 -- `N F`
 unfoldable pub tally_of : List ℕ → Option Start
@@ -75,7 +80,8 @@ start_of_kind kind words =
     None
 
 unfoldable pub named_start : List ℕ → List ℕ → Option Start
-named_start name words = if bytes_eq name (codes "start") then cut space words >>= (λ a. start_of_kind a.0 a.1) else None
+named_start name words =
+    if bytes_eq name (codes "start") then cut space words >>= (λ a. start_of_kind a.0 a.1) else None
 
 -- what a first line says
 unfoldable pub start_of : List ℕ → Option Start
