@@ -316,7 +316,7 @@ impl Log {
         let count = held.holders.len();
         entries::learn_items(&mut self.entries, items, from, me);
         entries::learn(&mut self.entries, own, held);
-        self.notes.serve(own.dest);
+        self.notes.follow(own.dest);
         self.notes.learn_items(items, from, me);
         self.notes.learn(own, count);
         self.room -= items.len() as u32 + 1;
@@ -349,6 +349,7 @@ impl Log {
         ensures marked { self.new.map ≡ marked self.old.map det }
         ensures spare { self.new.spare ≡ self.old.spare }
     {
+        self.notes.expire();
         entries::mark(&mut self.entries, det)
     }
 

@@ -79,13 +79,20 @@ impl Notes {
     }
 
     /// Notes the last delivery to this process from now on.
-    pub(crate) fn serve(&mut self, dest: Pid)
+    pub(crate) fn follow(&mut self, dest: Pid)
         ensures { 0 < self.new.limit → self.new ≡ self.old }
     {
         if self.dest != dest {
             self.dest = dest;
             self.limit = 0;
         }
+    }
+
+    /// Notes that a determinant is marked. It stays noted, and the notes are made anew the sooner.
+    pub(crate) fn expire(&mut self)
+        ensures { (log : LogMap) → IsNoted self.old log → IsNoted self.new log }
+    {
+        self.most = self.most.saturating_sub(2);
     }
 
     /// Notes that something is learned of a determinant, in which so many holders are named.

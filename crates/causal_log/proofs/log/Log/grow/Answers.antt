@@ -11,10 +11,10 @@ invariant_of-self c =
     let before = c.self in
     let room = ap (λ log. log.spare) before.view_is in
     let items = ap length c.as_slice-items.ensures.items in
-    let served = noted_same before.inside.notes c.serve.new.self (log_of before.inside.entries.entries) c.serve.ensures before.invariant.noted in
+    let served = noted_same before.inside.notes c.follow.new.self (log_of before.inside.entries.entries) c.follow.ensures before.invariant.noted in
     let all : IsNoted c.learn_items-2.new.self (log_of c.learn_items.new.entries.entries) =
     subst (IsNoted c.learn_items-2.new.self) (sym c.learn_items.ensures.learned)
-    (noted_all (map (told c.args.from c.args.me) c.as_slice-items.result.now) c.serve.new.self c.learn_items-2.new.self (log_of before.inside.entries.entries) served c.learn_items-2.ensures) in
+    (noted_all (map (told c.args.from c.args.me) c.as_slice-items.result.now) c.follow.new.self c.learn_items-2.new.self (log_of before.inside.entries.entries) served c.learn_items-2.ensures) in
     record {
       ascending = c.learn.ensures.ascending;
       few = omega (arith, room, items, c.requires.room, before.invariant.few, c.learn_items.ensures.len, c.learn.ensures.len, length-map before.inside.entries.entries (λ e. e.0), length-map c.learn.new.entries.entries (λ e. e.0));
