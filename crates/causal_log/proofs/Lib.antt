@@ -1,3 +1,4 @@
 pub mod Lemmas
 pub mod EntryLemmas
 pub mod PartLemmas
+pub mod NoteLemmas

@@ -1,5 +1,5 @@
 -- A part of a log with all entries that a message carries and all that a delivery touches gives the batch that the log does.
-use Rattle.std.proofs.Common.{ℕ, ◌≡◌, ◌∙◌, ◌⊎◌, inl, inr, Bool, true, false, cond, ◌&&◌, ◌||◌, List, [], ◌∷◌, map, filter, Option, Some, None, is_some, unwrap_or, true≢false, refl, sym, ap}
+use Rattle.std.proofs.Common.{ℕ, ◌≡◌, ◌∙◌, ◌⊎◌, inl, inr, Bool, true, false, cond, ◌||◌, List, [], ◌∷◌, map, filter, Option, Some, None, unwrap_or, true≢false, refl, sym, ap}
 use Rattle.std.specs.List.{list_any}
 use Rattle.std.specs.FinMap as fin
 use Rattle.causal_name.specs.declared.Det.{Det}
@@ -152,6 +152,23 @@ all_same (e ∷ es) log part q same h =
     or_later : (a b : Bool) → b ≡ true → (a || b) ≡ true
     or_later true b h = refl
     or_later false b h = h
+
+module _ (f : ℕ) (log : LogMap) (few : List Det) (all : (q : Det) → is_chosen f (fin.get log q) ≡ true → list_any (same_det q) few ≡ true) where
+  nothing_part : IsPart log fin.empty
+  nothing_part q = inr (fin.get-empty det_cmp q)
+
+  few_agree : Agree f log (with_copies log few fin.empty)
+  few_agree q = by (copies_part log few fin.empty nothing_part q) (is_chosen f (fin.get log q)) refl
+    where
+      by : (fin.get (with_copies log few fin.empty) q ≡ fin.get log q) ⊎ (fin.get (with_copies log few fin.empty) q ≡ None) → (b : Bool) → is_chosen f (fin.get log q) ≡ b
+          → carried_of f (fin.get (with_copies log few fin.empty) q) ≡ carried_of f (fin.get log q)
+      by (inl same) b is = ap (carried_of f) same
+      by (inr none) true is = ap (carried_of f) (copies_there log few fin.empty q nothing_part (all q is))
+      by (inr none) false is = ap (carried_of f) none ∙ sym (not_chosen f (fin.get log q) is)
+
+  -- the entries of some determinants, among which are all that a message carries, give the batch that the log does
+  pub few_chosen : chosen f (with_copies log few fin.empty) ≡ chosen f log
+  few_chosen = agree_chosen f log (with_copies log few fin.empty) few_agree
 
 module _ (f : ℕ) (items : List Item) (own_det : Det) (log : LogMap) where
   abbrev first : LogMap

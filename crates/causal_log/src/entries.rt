@@ -7,7 +7,7 @@ ghost use Rattle.causal_name.specs.Names.{message_of, is_ascending};
 ghost use Rattle.causal_log.specs.Slots.{first_of_slot};
 ghost use Rattle.causal_log.specs.Knowledge.{is_carried};
 ghost use Rattle.causal_log.specs.Inside.Parts.{with_copy, with_copies};
-ghost use Rattle.causal_log.specs.Logs.{log_of, known_of, learned, absorbed, learned_all, item_of, dets_of, marked};
+ghost use Rattle.causal_log.specs.Logs.{log_of, known_of, learned, absorbed, learned_all, item_of, dets_of, marked, chosen};
 
 use crate::batch::Item;
 use crate::known::{Known, told};
@@ -218,6 +218,35 @@ pub(crate) fn copy_items(
         copy(part, entries, item.det)?;
     }
     Ok(())
+}
+
+/// Copies the entries of some determinants behind some others, where they are logged.
+fn copy_dets(
+    part: &mut IndexMap<Det, Known>,
+    entries: &IndexMap<Det, Known>,
+    dets: &[Det],
+) -> Result<(), NoMemory>
+    ensures { OnOk result (log_of part.new.entries ≡ with_copies (log_of entries.now.entries) dets.now (log_of part.old.entries)) }
+{
+    for det in dets {
+        copy(part, entries, *det)?;
+    }
+    Ok(())
+}
+
+/// The items of those entries of some determinants that a message carries.
+pub(crate) fn carried_among(
+    alloc: Global,
+    entries: &IndexMap<Det, Known>,
+    dets: &[Det],
+    f: u16,
+) -> Result<Vec<Item>, NoMemory>
+    ensures { IfOk result (λ items. items.items ≡ chosen f (with_copies (log_of entries.now.entries) dets.now fin.empty)) }
+{
+    let mut part = IndexMap::new(alloc);
+    copy_dets(&mut part, entries, dets)?;
+    sort(&mut part)?;
+    carried(alloc, &part, f)
 }
 
 /// Puts entries in order. More entries than a log may have are refused as want of memory.

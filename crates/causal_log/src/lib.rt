@@ -39,6 +39,7 @@ mod known;
 pub mod laws;
 mod log;
 mod memory;
+mod notes;
 mod stable;
 
 pub use batch::{Batch, Item};

@@ -6,9 +6,10 @@ ghost use Rattle.causal_log.specs.Logs.{learned, absorbed, grown, united, marked
 ghost use Rattle.causal_log.specs.Inside.Parts.{part_for};
 ghost use Rattle.causal_log.specs.declared.known.Known.{Known};
 
-use crate::batch::Batch;
+use crate::batch::{Batch, Item};
 use crate::entries;
 use crate::known::Known;
+use crate::notes::Notes;
 use causal_name::{Det, MsgName, NoMemory, Pid};
 use indexmap::IndexMap;
 use std::alloc::Global;
@@ -27,6 +28,7 @@ const FEW: usize = 64;
 pub struct Log {
     entries: IndexMap<Det, Known>,
     room: u32,
+    notes: Notes,
 }
 
 impl Model for Log {
@@ -41,7 +43,7 @@ impl Model for Log {
 
     ghost view = { λ log. record { map = fin.from_entries log.entries.entries; spare = log.room } };
 
-    ghost invariant = { λ log. IsKept (keys log.entries) log.room (spare log.entries) };
+    ghost invariant = { λ log. IsKept (keys log.entries) log.room (spare log.entries) log.notes (fin.from_entries log.entries.entries) };
 }
 
 impl Log {
@@ -52,6 +54,7 @@ impl Log {
         Log {
             entries: IndexMap::new(alloc),
             room: 0,
+            notes: Notes::none(alloc),
         }
     }
 
@@ -88,7 +91,12 @@ impl Log {
         ensures { IfOk result (λ copy. copy.map ≡ self.now.map) }
     {
         let entries = self.entries.clone()?;
-        Ok(Log { entries, room: 0 })
+        let notes = Notes::none(*self.entries.allocator());
+        Ok(Log {
+            entries,
+            room: 0,
+            notes,
+        })
     }
 
     /// What the messages of a step carry: the determinants that are not known to be stable and of which at most `f`
@@ -97,8 +105,18 @@ impl Log {
     pub fn choose(&self, alloc: Global, f: u16) -> Result<Batch, NoMemory>
         ensures { IfOk result (λ batch. batch ≡ chosen f self.now.map) }
     {
-        let items = entries::carried(alloc, &self.entries, f)?;
+        let items = self.carried(alloc, f)?;
         Ok(Batch::new(items))
+    }
+
+    /// The items of what messages carry: of the noted determinants, where these are few, and else of all entries.
+    fn carried(&self, alloc: Global, f: u16) -> Result<Vec<Item>, NoMemory>
+        ensures { IfOk result (λ items. items.items ≡ chosen f self.now.map) }
+    {
+        if self.notes.serves(f, self.entries.len()) {
+            return entries::carried_among(alloc, &self.entries, self.notes.few(), f);
+        }
+        entries::carried(alloc, &self.entries, f)
     }
 
     /// What the messages of a step would carry once `grow` has taken in a delivery. The log is not changed. Its only error
@@ -131,7 +149,11 @@ impl Log {
         entries::copy_items(&mut entries, &self.entries, carried.as_slice())?;
         entries::copy(&mut entries, &self.entries, own)?;
         entries::sort(&mut entries)?;
-        Ok(Log { entries, room: 0 })
+        Ok(Log {
+            entries,
+            room: 0,
+            notes: Notes::none(alloc),
+        })
     }
 
     /// The determinants that are known to be stable, ascending. Its only error is want of memory.
@@ -167,6 +189,9 @@ impl Log {
     pub fn for_slot(&self, dest: Pid, rsn: u32) -> Option<MsgName>
         ensures { result ≡ named dest rsn self.now.map }
     {
+        if self.notes.is_beyond(dest, rsn) {
+            return None;
+        }
         entries::message_for(&self.entries, dest, rsn)
     }
 
@@ -178,7 +203,9 @@ impl Log {
         ensures spare { self.old.spare ≤ self.new.spare }
         ensures refused { OnErr result ((self.new ≡ self.old) × (self.old.spare < more)) }
     {
-        self.make_room(more as usize)
+        self.make_room(more as usize)?;
+        self.notes.tidy(&self.entries, more as usize);
+        Ok(())
     }
 
     /// The same for a number that may not fit 32 bits, which is refused as want of memory.
@@ -208,12 +235,15 @@ impl Log {
         ensures succeeds { 1 ≤ self.old.spare → IsOk result }
         ensures spare { self.old.spare ≤ self.new.spare + 1 }
     {
+        let count = heard.holders.len();
         if let Some((place, known)) = entries::place_of(&self.entries, det) {
             entries::put_at(&mut self.entries, place, known.joined(heard));
+            self.notes.learn(det, count);
             return Ok(());
         }
         self.make_room(1)?;
         entries::add(&mut self.entries, det, heard);
+        self.notes.learn(det, count);
         self.room -= 1;
         Ok(())
     }
@@ -263,10 +293,12 @@ impl Log {
         if self.is_few(items.len()) {
             self.make_room(items.len())?;
             entries::learn_items(&mut self.entries, items, from, me);
+            self.notes.learn_items(items, from, me);
             self.room -= items.len() as u32;
             return Ok(());
         }
         self.entries = entries::merged_items(&self.entries, items, from, me)?;
+        self.notes.forget();
         self.room = 0;
         Ok(())
     }
@@ -280,8 +312,13 @@ impl Log {
         ensures spare { self.old.spare ≤ self.new.spare + (length carried.now + 1) }
     {
         let items = carried.as_slice();
+        let held = Known::held(me);
+        let count = held.holders.len();
         entries::learn_items(&mut self.entries, items, from, me);
-        entries::learn(&mut self.entries, own, Known::held(me));
+        entries::learn(&mut self.entries, own, held);
+        self.notes.follow(own.dest);
+        self.notes.learn_items(items, from, me);
+        self.notes.learn(own, count);
         self.room -= items.len() as u32 + 1;
     }
 
@@ -296,10 +333,12 @@ impl Log {
         if self.is_few(other.entries.len()) {
             self.make_room(other.entries.len())?;
             entries::learn_entries(&mut self.entries, &other.entries);
+            self.notes.forget();
             self.room -= other.entries.len() as u32;
             return Ok(());
         }
         self.entries = entries::merged(&self.entries, &other.entries)?;
+        self.notes.forget();
         self.room = 0;
         Ok(())
     }
@@ -310,6 +349,7 @@ impl Log {
         ensures marked { self.new.map ≡ marked self.old.map det }
         ensures spare { self.new.spare ≡ self.old.spare }
     {
+        self.notes.expire();
         entries::mark(&mut self.entries, det)
     }
 

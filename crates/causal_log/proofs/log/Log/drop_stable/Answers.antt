@@ -1,4 +1,4 @@
-use Rattle.std.proofs.Common.{◌≡◌, ◌∙◌, ◌+◌, ap, sym, List, length, map, filter, not, true, arith, refl}
+use Rattle.std.proofs.Common.{◌≡◌, ◌∙◌, ◌+◌, ap, sym, subst, List, length, map, filter, not, true, arith, refl}
 use Rattle.std.specs.FinMap as fin
 use Rattle.std.specs.Map.{keys_of}
 use Rattle.std.proofs.lemmas.List.{length-map}
@@ -8,7 +8,9 @@ use Rattle.causal_log.specs.declared.known.Known.{Known}
 use Rattle.causal_name.specs.Names.{is_ascending}
 use Rattle.causal_log.specs.Logs.{log_of, unmarked, stable_in}
 use Rattle.causal_log.proofs.Lemmas.Ascents.{filter_ascends}
+use Rattle.causal_log.specs.Inside.Noted.{IsNoted}
 use Rattle.causal_log.proofs.EntryLemmas.{own_entries}
+use Rattle.causal_log.proofs.NoteLemmas.{noted_unmarked}
 use Rattle.causal_log.proofs.log.Log.drop_stable.Goals as goal
 use Rattle.causal_log.proofs.log.Log.drop_stable.Goals.{After-drop_stable}
 
@@ -32,6 +34,9 @@ invariant_of-self c = record {
   ascending = ascend c;
   few = omega (arith, c.drop_stable.ensures.count, c.self.invariant.few, length-map c.drop_stable.new.entries.entries (λ e. e.0), length-map c.self.inside.entries.entries (λ e. e.0));
   sure = omega (arith, c.self.invariant.sure, c.drop_stable.ensures.spare);
+  noted = subst (IsNoted c.self.inside.notes)
+      (sym (ap log_of (c.drop_stable.ensures.left ∙ ap (filter (λ e. not e.1.stable)) (sym (own c)))))
+      (noted_unmarked c.self.inside.notes (log_of c.self.inside.entries.entries) c.self.invariant.noted);
 }
 
 pub returns-clause-left : goal.returns-clause-left

@@ -3,12 +3,19 @@ use Rattle.std.specs.Option.{option_map}
 use Rattle.std.specs.Map.{keys_of}
 use Rattle.causal_name.specs.Names.{message_of}
 use Rattle.causal_log.specs.Slots.{first_of_slot}
-use Rattle.causal_log.specs.Logs.{named}
+use Rattle.causal_log.specs.Logs.{log_of, named}
 use Rattle.causal_log.proofs.EntryLemmas.{own_entries}
+use Rattle.causal_log.proofs.NoteLemmas.{none_beyond}
 use Rattle.causal_log.proofs.log.Log.for_slot.Goals as goal
 
 pub returns : goal.returns
 returns c =
     c.message_for.ensures
     ∙ ap (λ es. option_map message_of (first_of_slot c.args.dest c.args.rsn (keys_of es))) (sym (own_entries c.self.inside.entries.entries c.self.invariant.ascending))
+    ∙ ap (λ log. named c.args.dest c.args.rsn log.map) c.self.view_is
+
+pub returns-then-is_beyond : goal.returns-then-is_beyond
+returns-then-is_beyond c =
+    let beyond = c.is_beyond.ensures c.if-is_beyond.true in
+    sym (none_beyond c.self.inside.notes (log_of c.self.inside.entries.entries) c.args.dest c.args.rsn c.self.invariant.noted beyond.0 beyond.1 beyond.2)
     ∙ ap (λ log. named c.args.dest c.args.rsn log.map) c.self.view_is

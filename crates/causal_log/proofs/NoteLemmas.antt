@@ -1,0 +1,216 @@
+-- That notes go on saying what is true of a log.
+use Rattle.std.proofs.Common.{ℕ, ◌≡◌, ◌∙◌, ◌≤◌, ◌<◌, ◌+◌, ◌&&◌, ◌||◌, ◌==◌, Bool, true, false, cond, not, nat_le, List, [], ◌∷◌, map, filter, Option, Some, None, is_some, get_or, length, drop, add-one, ◌⊎◌, inl, inr, true≢false, refl, sym, ap, subst, arith}
+use Rattle.std.proofs.lemmas.Bool.Decides.{nat_tests}
+use Rattle.std.proofs.Math.Seq.{drop-cons}
+use Rattle.std.specs.List.{list_any}
+use Rattle.std.specs.Option.{option_map}
+use Rattle.std.specs.Map.{keys_of}
+use Rattle.std.specs.Cmp.{nat_cmp_total}
+use Rattle.std.specs.FinMap as fin
+use Rattle.std.specs.FinSet as set
+use Rattle.causal_name.specs.declared.Det.{Det}
+use Rattle.causal_name.specs.declared.Pid.{Pid}
+use Rattle.causal_name.specs.Names.{same_det, same_pid, is_ascending, message_of}
+use Rattle.causal_name.proofs.Lemmas.DetOrder.{same_is}
+use Rattle.causal_holders.proofs.Lemmas.Sets.{len-is_subset}
+use Rattle.causal_log.specs.declared.known.Known.{Known}
+use Rattle.causal_log.specs.declared.notes.Notes.{Notes}
+use Rattle.causal_log.specs.Knowledge.{joined, as_stable, is_carried}
+use Rattle.causal_log.specs.Logs.{LogMap, log_of, known_of, learned, learned_all, marked, unmarked, is_chosen, named}
+use Rattle.causal_log.specs.Slots.{is_of_slot, first_of_slot}
+use Rattle.causal_log.specs.Inside.Noted.{IsAmong, IsLast, IsNoted, GoOn, Learn, LearnAll}
+use Rattle.causal_log.proofs.EntryLemmas.{own_entries}
+use Rattle.causal_log.proofs.Lemmas.Learning.{get_learned}
+use Rattle.causal_log.proofs.Lemmas.Marking.{get_marked, get_unmarked}
+use Rattle.causal_log.proofs.Lemmas.Listing.{keys_logged}
+use Rattle.causal_log.proofs.Lemmas.Slots.{first_fits}
+use Rattle.causal_log.proofs.Lemmas.Searches.{both, any_kept, any_logged, passes}
+
+-- notes that say nothing are true of every log
+pub nothing_noted : (notes : Notes) (log : LogMap) → notes.limit ≡ 0 → IsNoted notes log
+nothing_noted notes log h = record {
+  carried = λ f low. absurd (omega (arith, low, h));
+  last = λ low. absurd (omega (arith, low, h));
+}
+
+or_both : (a b : Bool) → b ≡ true → (a || b) ≡ true
+or_both true b h = refl
+or_both false b h = h
+
+-- two pieces of knowledge together have no fewer holders
+count_joined : (one other : Known) → set.len other.holders ≤ set.len (joined one other).holders
+count_joined one other =
+    len-is_subset other.holders (set.union one.holders other.holders)
+    (set.contains-is_subset nat_cmp_total other.holders (set.union one.holders other.holders) (λ q h.
+    set.contains-union nat_cmp_total one.holders other.holders q ∙ or_both (set.contains one.holders q) (set.contains other.holders q) h))
+
+at_most : (n f : ℕ) → nat_le n f ≡ true → n ≤ f
+at_most n f h = grind (arith, nat_tests)
+
+few_enough : (n f g : ℕ) → f ≤ g → nat_le n f ≡ true → nat_le n g ≡ true
+few_enough n f g low h = grind (arith, nat_tests)
+
+and_both : (a b : Bool) → a ≡ true → b ≡ true → (a && b) ≡ true
+and_both true b h i = i
+and_both false b h i = h
+
+-- of a carried determinant at most so many holders are known
+carried_count : (f : ℕ) (known : Known) → is_carried f known ≡ true → set.len known.holders ≤ f
+carried_count f known h = at_most (set.len known.holders) f (both (not known.stable) (nat_le (set.len known.holders) f) h).1
+
+module _ (before after : Notes) (log : LogMap) (e : Det × Known) (is : IsNoted before log) where
+  learned_carried : GoOn e before after → (f : ℕ) → f < after.limit → (q : Det) → (b : Bool) → same_det q e.0 ≡ b
+      → is_chosen f (cond b (Some (joined (known_of log e.0) e.1)) (fin.get log q)) ≡ true → IsAmong q after.few.items
+  learned_carried go f low q true same chosen =
+      let count = count_joined (known_of log e.0) e.1 in
+      let most = carried_count f (joined (known_of log e.0) e.1) chosen in
+      subst (λ d. IsAmong d after.few.items) (sym (same_is q e.0 same)) (go.few (omega (arith, count, most, low, go.limit)))
+  learned_carried go f low q false same chosen = go.kept q (is.carried f (omega (arith, low, go.limit)) q chosen)
+
+  learned_last : GoOn e before after → 0 < before.limit → (q : Det) → (b : Bool) → same_det q e.0 ≡ b
+      → is_some (cond b (Some (joined (known_of log e.0) e.1)) (fin.get log q)) ≡ true → same_pid q.dest before.dest ≡ true → q.rsn ≤ after.last
+  learned_last go some q true same logged dest =
+      let one = same_is q e.0 same in
+      subst (λ d. d.rsn ≤ after.last) (sym one) (go.last (ap (λ d. same_pid d.dest before.dest) (sym one) ∙ dest))
+  learned_last go some q false same logged dest = let low = is.last some q logged dest in omega (arith, low, go.later)
+
+  -- notes that go on are true of what is learned
+  pub noted_learned : Learn e before after → IsNoted after (learned log e.0 e.1)
+  noted_learned goes = record {
+    carried = λ f low q chosen.
+        learned_carried (goes (omega (arith, low))) f low q (same_det q e.0) refl (ap (is_chosen f) (sym (get_learned log e.0 e.1 q)) ∙ chosen);
+    last = λ some q logged dest.
+        let go = goes some in
+        learned_last go (omega (arith, some, go.limit)) q (same_det q e.0) refl (ap is_some (sym (get_learned log e.0 e.1 q)) ∙ logged) (ap (same_pid q.dest) (sym go.dest) ∙ dest);
+  }
+
+-- notes that say the same
+pub noted_like : (before after : Notes) (log : LogMap) → after.limit ≡ before.limit → after.few.items ≡ before.few.items → after.dest ≡ before.dest → after.last ≡ before.last
+    → IsNoted before log → IsNoted after log
+noted_like before after log limit few dest last is = record {
+  carried = λ f low q h. subst (IsAmong q) (sym few) (is.carried f (omega (arith, low, limit)) q h);
+  last = λ some q logged at.
+      let low = is.last (omega (arith, some, limit)) q logged (ap (same_pid q.dest) (sym dest) ∙ at) in
+      omega (arith, low, last);
+}
+
+-- notes that stay as they are, or say nothing
+pub noted_same : (before after : Notes) (log : LogMap) → (0 < after.limit → after ≡ before) → IsNoted before log → IsNoted after log
+noted_same before after log same is = record {
+  carried = λ f low q h.
+      let one = same (omega (arith, low)) in
+      subst (λ n. IsAmong q n.few.items) (sym one) (is.carried f (subst (λ n. f < n.limit) one low) q h);
+  last = λ some q logged dest.
+      let one = same some in
+      subst (λ n. q.rsn ≤ n.last) (sym one) (is.last (subst (λ n. 0 < n.limit) one some) q logged (ap (λ n. same_pid q.dest n.dest) (sym one) ∙ dest));
+}
+
+-- one after the other
+pub noted_all : (es : List (Det × Known)) (before after : Notes) (log : LogMap) → IsNoted before log → LearnAll es before after → IsNoted after (learned_all es log)
+noted_all [] before after log is same = subst (λ n. IsNoted n log) same is
+noted_all (e ∷ es) before after log is goes = noted_all es goes.0 after (learned log e.0 e.1) (noted_learned before goes.0 log e is goes.1) goes.2
+
+module _ (notes : Notes) (log less : LogMap) (is : IsNoted notes log) where
+  -- and they are true of a log that knows less, and of which less is carried
+  noted_less : ((q : Det) → is_some (fin.get less q) ≡ true → is_some (fin.get log q) ≡ true)
+      → ((f : ℕ) (q : Det) → is_chosen f (fin.get less q) ≡ true → is_chosen f (fin.get log q) ≡ true) → IsNoted notes less
+  noted_less logged carried = record {
+    carried = λ f low q h. is.carried f low q (carried f q h);
+    last = λ some q h. is.last some q (logged q h);
+  }
+
+marked_logged : (b : Bool) (o : Option Known) → is_some (cond b (option_map as_stable o) o) ≡ true → is_some o ≡ true
+marked_logged true None h = h
+marked_logged true (Some known) h = refl
+marked_logged false o h = h
+
+marked_carried : (f : ℕ) (b : Bool) (o : Option Known) → is_chosen f (cond b (option_map as_stable o) o) ≡ true → is_chosen f o ≡ true
+marked_carried f true None h = h
+marked_carried f true (Some known) h = absurd (true≢false (sym h))
+marked_carried f false o h = h
+
+pub noted_marked : (notes : Notes) (log : LogMap) (det : Det) → IsNoted notes log → IsNoted notes (marked log det)
+noted_marked notes log det is =
+    noted_less notes log (marked log det) is
+    (λ q h. marked_logged (same_det q det) (fin.get log q) (ap is_some (sym (get_marked log det q)) ∙ h))
+    (λ f q h. marked_carried f (same_det q det) (fin.get log q) (ap (is_chosen f) (sym (get_marked log det q)) ∙ h))
+
+unmarked_logged : (b : Bool) (o : Option Known) → is_some (cond b None o) ≡ true → is_some o ≡ true
+unmarked_logged true o h = absurd (true≢false (sym h))
+unmarked_logged false o h = h
+
+unmarked_carried : (f : ℕ) (b : Bool) (o : Option Known) → is_chosen f (cond b None o) ≡ true → is_chosen f o ≡ true
+unmarked_carried f true o h = absurd (true≢false (sym h))
+unmarked_carried f false o h = h
+
+pub noted_unmarked : (notes : Notes) (log : LogMap) → IsNoted notes log → IsNoted notes (unmarked log)
+noted_unmarked notes log is =
+    noted_less notes log (unmarked log) is
+    (λ q h. unmarked_logged (known_of log q).stable (fin.get log q) (ap is_some (sym (get_unmarked log q)) ∙ h))
+    (λ f q h. unmarked_carried f (known_of log q).stable (fin.get log q) (ap (is_chosen f) (sym (get_unmarked log q)) ∙ h))
+
+-- no message is named for a slot beyond the last delivery
+pub none_beyond : (notes : Notes) (log : LogMap) (dest : Pid) (rsn : ℕ) → IsNoted notes log → 0 < notes.limit → dest ≡ notes.dest → notes.last < rsn → named dest rsn log ≡ None
+none_beyond notes log dest rsn is some same beyond = by (first_of_slot dest rsn (fin.keys log)) refl
+  where
+    by : (o : Option Det) → first_of_slot dest rsn (fin.keys log) ≡ o → named dest rsn log ≡ None
+    by None e = ap (option_map message_of) e
+    by (Some d) e =
+        let fits = first_fits (is_of_slot dest rsn) (fin.keys log) d e in
+        let two = both (same_pid d.dest dest) (d.rsn == rsn) fits.0 in
+        let low = is.last some d (sym (keys_logged log d) ∙ fits.1) (ap (same_pid d.dest) (sym same) ∙ two.0) in
+        let at = two.1 in
+        absurd (grind (arith, nat_tests, low, at, beyond))
+
+swap : (a b : Bool) → (a && b) ≡ (b && a)
+swap true true = refl
+swap true false = refl
+swap false true = refl
+swap false false = refl
+
+passing : (f g : ℕ) → f ≤ g → (o : Option Known) → is_chosen f o ≡ true → passes (is_carried g) o ≡ true
+passing f g low None h = h
+passing f g low (Some known) h =
+    let two = both (not known.stable) (nat_le (set.len known.holders) f) h in
+    and_both (not known.stable) (nat_le (set.len known.holders) g) two.0 (few_enough (set.len known.holders) f g low two.1)
+
+-- notes made of entries are true of them
+pub noted_made : (notes : Notes) (es : List (Det × Known)) (g : ℕ) → is_ascending (keys_of es) ≡ true → notes.limit ≤ g + 1
+    → notes.few.items ≡ map (λ e. e.0) (filter (λ e. is_carried g e.1) es) → IsLast notes.dest (keys_of es) notes.last → IsNoted notes (log_of es)
+noted_made notes es g ascend limit few last = record {
+  carried = λ f low q h.
+      ap (list_any (same_det q)) few
+      ∙ any_kept (λ e. e.0) (λ e. is_carried g e.1) (same_det q) (λ e. same_det q e.0 && is_carried g e.1) (λ e. swap (is_carried g e.1) (same_det q e.0)) es
+      ∙ ap (list_any (λ e. same_det q e.0 && is_carried g e.1)) (sym (own_entries es ascend))
+      ∙ any_logged (is_carried g) q (log_of es)
+      ∙ passing f g (omega (arith, low, limit)) (fin.get (log_of es) q) h;
+  last = λ some q h.
+      last q (ap (λ xs. list_any (same_det q) (keys_of xs)) (sym (own_entries es ascend)) ∙ keys_logged (log_of es) q ∙ h);
+}
+
+-- what is left of a list, one after the other
+drop_one : {X : Type 0} (xs : List X) (i : ℕ) (x : X) → i < length xs → drop i xs ≡ get_or xs i x ∷ drop (i + 1) xs
+drop_one xs i x low = rw add-one (drop-cons xs i x low)
+
+pub drop_after : {X : Type 0} (xs : List X) (i : ℕ) (x : X) → i < length xs → x ≡ get_or xs i x → drop i xs ≡ x ∷ drop (i + 1) xs
+drop_after xs i x low is = drop_one xs i x low ∙ ap (λ y. y ∷ drop (i + 1) xs) (sym is)
+
+among_or : (a b : Bool) → (a || b) ≡ true → (a ≡ true) ⊎ (b ≡ true)
+among_or true b h = inl refl
+among_or false b h = inr h
+
+-- one more determinant changes the last delivery where it is a later one
+last_step : (dest : Pid) (d : Det) (ds : List Det) (end : ℕ) → (same_pid d.dest dest ≡ true → d.rsn ≤ end) → IsLast dest ds end → IsLast dest (d ∷ ds) end
+last_step dest d ds end own rest q among at = by (among_or (same_det q d) (list_any (same_det q) ds) among)
+  where
+    by : (same_det q d ≡ true) ⊎ (list_any (same_det q) ds ≡ true) → q.rsn ≤ end
+    by (inl same) =
+        let one = same_is q d same in
+        subst (λ x. x.rsn ≤ end) (sym one) (own (ap (λ x. same_pid x.dest dest) (sym one) ∙ at))
+    by (inr later) = rest q later at
+
+pub last_next : (dest : Pid) (dets : List Det) (i : ℕ) (d : Det) (last end : ℕ) → i < length dets
+    → (same_pid (get_or dets i d).dest dest ≡ true → (get_or dets i d).rsn ≤ last) → last ≤ end → IsLast dest (drop (i + 1) dets) end → IsLast dest (drop i dets) end
+last_next dest dets i d last end low own up rest =
+    subst (λ ds. IsLast dest ds end) (sym (drop_one dets i d low))
+    (last_step dest (get_or dets i d) (drop (i + 1) dets) end (λ at. let near = own at in omega (arith, near, up)) rest)

@@ -1,0 +1,38 @@
+use Rattle.std.proofs.Common.{◌≡◌, ◌∙◌, ap, sym, subst, length, unwrap_or, arith}
+use Rattle.std.proofs.lemmas.List.{length-map}
+use Rattle.std.specs.FinMap as fin
+use Rattle.causal_name.specs.Names.{is_ascending}
+use Rattle.causal_log.specs.Knowledge.{nothing_known, joined}
+use Rattle.causal_log.specs.Logs.{log_of, learned}
+use Rattle.causal_log.specs.Inside.Noted.{IsNoted}
+use Rattle.causal_log.proofs.NoteLemmas.{noted_learned}
+use Rattle.causal_log.proofs.log.Log.learn.Goals.{After-put_at}
+use Rattle.causal_log.proofs.log.Log.learn.Goals as goal
+
+changed : (c : After-put_at) → log_of c.put_at.new.entries.entries ≡ learned (log_of c.self.inside.entries.entries) c.args.det c.args.heard
+changed c =
+    c.put_at.ensures.put c.args.det c.in-Some.known c.in-Some.ensures.place
+    ∙ ap (fin.insert (log_of c.self.inside.entries.entries) c.args.det) (c.joined.ensures ∙ ap (λ o. joined (unwrap_or o nothing_known) c.args.heard) c.in-Some.ensures.known)
+
+pub invariant_of-self : goal.invariant_of-self
+invariant_of-self c = record {
+  ascending = ap is_ascending c.put_at.ensures.keys ∙ c.self.invariant.ascending;
+  few = omega (arith, ap length c.put_at.ensures.keys, c.self.invariant.few);
+  sure = omega (arith, c.put_at.ensures.spare, c.self.invariant.sure);
+  noted = subst (IsNoted c.learn.new.self) (sym (changed (goal.at.invariant_of-self c).After-put_at))
+      (noted_learned c.self.inside.notes c.learn.new.self (log_of c.self.inside.entries.entries) (c.args.det, c.args.heard) c.self.invariant.noted (c.learn.ensures c.args.heard (sym c.len-count.ensures.counted)));
+}
+
+pub returns-in-Some-clause-ok : goal.returns-in-Some-clause-ok
+returns-in-Some-clause-ok c = changed (goal.at.returns-in-Some-clause-ok c).After-put_at ∙ ap (λ log. learned log.map c.args.det c.args.heard) c.self.view_is
+
+pub invariant_of-self-2 : goal.invariant_of-self-2
+invariant_of-self-2 c =
+    let room = ap (λ log. log.spare) c.self-2.view_is in
+    record {
+      ascending = c.add.ensures.ascending;
+      few = omega (arith, room, c.in_ok-make_room.ensures.ok, c.self-2.invariant.few, c.add.ensures.len, length-map c.self-2.inside.entries.entries (λ e. e.0), length-map c.add.new.entries.entries (λ e. e.0));
+      sure = omega (arith, c.self-2.invariant.sure, c.add.ensures.spare);
+      noted = subst (IsNoted c.learn-2.new.self) (sym c.add.ensures.learned)
+          (noted_learned c.self-2.inside.notes c.learn-2.new.self (log_of c.self-2.inside.entries.entries) (c.args.det, c.args.heard) c.self-2.invariant.noted (c.learn-2.ensures c.args.heard (sym c.len-count.ensures.counted)));
+    }

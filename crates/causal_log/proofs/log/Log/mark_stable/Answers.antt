@@ -1,0 +1,15 @@
+use Rattle.std.proofs.Common.{◌∙◌, ap, sym, subst, length, arith}
+use Rattle.causal_name.specs.Names.{is_ascending}
+use Rattle.causal_log.specs.Logs.{log_of}
+use Rattle.causal_log.specs.Inside.Noted.{IsNoted}
+use Rattle.causal_log.proofs.NoteLemmas.{noted_marked}
+use Rattle.causal_log.proofs.log.Log.mark_stable.Goals as goal
+
+pub invariant_of-self : goal.invariant_of-self
+invariant_of-self c = record {
+  ascending = ap is_ascending c.mark.ensures.keys ∙ c.self.invariant.ascending;
+  few = omega (arith, ap length c.mark.ensures.keys, c.self.invariant.few);
+  sure = omega (arith, c.self.invariant.sure, c.mark.ensures.spare);
+  noted = subst (IsNoted c.expire.new.self) (sym c.mark.ensures.marked)
+      (noted_marked c.expire.new.self (log_of c.self.inside.entries.entries) c.args.det (c.expire.ensures (log_of c.self.inside.entries.entries) c.self.invariant.noted));
+}

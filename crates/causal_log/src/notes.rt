@@ -1,0 +1,221 @@
+//! What a log notes of its entries, so that it need not read them all: which of them messages carry, and which delivery to
+//! its process is the last.
+ghost use Rattle.std.specs.Prelude.{◌≡◌, true, ◌<◌, ◌≤◌, ◌+◌, IsTrue, IfOk, map, filter};
+ghost use Rattle.std.specs.FinSet as set;
+ghost use Rattle.indexmap.specs.IndexMap.{keys};
+ghost use Rattle.causal_name.specs.Names.{is_ascending, same_pid};
+ghost use Rattle.causal_log.specs.Knowledge.{told, is_carried};
+ghost use Rattle.causal_log.specs.declared.known.Known.{Known};
+ghost use Rattle.causal_log.specs.Logs.{LogMap, log_of};
+ghost use Rattle.causal_log.specs.Inside.Noted.{IsLast, IsNoted, Learn, LearnAll};
+
+use crate::batch::Item;
+use crate::known::{Known, told};
+use causal_name::{Det, NoMemory, Pid};
+use indexmap::IndexMap;
+use std::alloc::Global;
+
+/// How many determinants are noted at least before the notes are made anew.
+const FEW: usize = 64;
+
+/// What a log notes of its entries. Where there was no memory for it, or the entries changed in another way, it says
+/// nothing, and the log reads its entries until the notes are made anew.
+#[derive(Debug, Drop)]
+pub(crate) struct Notes {
+    /// Among these is each determinant that messages carry where fewer than `limit` processes may fail.
+    few: Vec<Det>,
+    /// At 0 the notes say nothing.
+    limit: u32,
+    /// No delivery to this process that is logged has a number above `last`.
+    dest: Pid,
+    last: u32,
+    /// The most holders that an item of a message had: so many failures, or more, are borne.
+    seen: u32,
+    /// The notes are made anew once more than these are noted.
+    most: usize,
+}
+
+impl Notes {
+    /// Notes that say nothing.
+    pub(crate) fn none(alloc: Global) -> Notes
+        ensures { result.limit ≡ 0 }
+    {
+        Notes {
+            few: Vec::new(alloc),
+            limit: 0,
+            dest: Pid(0),
+            last: 0,
+            seen: 0,
+            most: 0,
+        }
+    }
+
+    /// Says nothing from now on.
+    pub(crate) fn forget(&mut self)
+        ensures { self.new.limit ≡ 0 }
+    {
+        self.limit = 0;
+    }
+
+    /// Whether the notes are by far shorter than so many entries, and say which of these messages carry.
+    pub(crate) fn serves(&self, f: u16, entries: usize) -> bool
+        ensures { IsTrue result → f < self.now.limit }
+    {
+        u32::from(f) < self.limit && self.few.len() < entries / 16
+    }
+
+    /// The determinants among which those are that messages carry.
+    pub(crate) fn few(&self) -> &[Det]
+        ensures { result.now ≡ self.now.few.items }
+    {
+        self.few.as_slice()
+    }
+
+    /// Whether a delivery to a process comes after all that are logged.
+    pub(crate) fn is_beyond(&self, dest: Pid, rsn: u32) -> bool
+        ensures { IsTrue result → (0 < self.now.limit) × (dest ≡ self.now.dest) × (self.now.last < rsn) }
+    {
+        self.limit > 0 && dest == self.dest && rsn > self.last
+    }
+
+    /// Notes the last delivery to this process from now on.
+    pub(crate) fn follow(&mut self, dest: Pid)
+        ensures { 0 < self.new.limit → self.new ≡ self.old }
+    {
+        if self.dest != dest {
+            self.dest = dest;
+            self.limit = 0;
+        }
+    }
+
+    /// Notes that a determinant is marked. It stays noted, and the notes are made anew the sooner.
+    pub(crate) fn expire(&mut self)
+        ensures { (log : LogMap) → IsNoted self.old log → IsNoted self.new log }
+    {
+        self.most = self.most.saturating_sub(2);
+    }
+
+    /// Notes that something is learned of a determinant, in which so many holders are named.
+    pub(crate) fn learn(&mut self, det: Det, count: u32)
+        ensures { (heard : Known) → set.len heard.holders ≡ count → Learn (det, heard) self.old self.new }
+    {
+        if self.limit == 0 {
+            return;
+        }
+        self.last = later(self.last, &det, self.dest);
+        if count >= self.limit {
+            return;
+        }
+        if self.few.len() < self.few.capacity() {
+            self.few.push_reserved(det);
+        } else {
+            self.limit = 0;
+        }
+    }
+
+    /// Notes that an item of a message is learned.
+    fn learn_item(&mut self, item: &Item, from: Pid, me: Pid)
+        ensures { Learn (told from me item.now) self.old self.new }
+    {
+        self.seen = self.seen.max(item.holders.len());
+        let (det, heard) = told(from, me, item);
+        self.learn(det, heard.holders.len());
+    }
+
+    /// Notes that the items of a message are learned.
+    pub(crate) fn learn_items(&mut self, items: &[Item], from: Pid, me: Pid)
+        ensures { LearnAll (map (told from me) items.now) self.old self.new }
+    {
+        for item in items {
+            self.learn_item(item, from, me);
+        }
+    }
+
+    /// Notes what is to be noted of entries.
+    fn make(&mut self, few: Vec<Det>, last: u32, entries: usize)
+        ensures few { self.new.few.items ≡ few.items }
+        ensures limit { self.new.limit ≤ self.old.seen + 1 }
+        ensures dest { self.new.dest ≡ self.old.dest }
+        ensures last { self.new.last ≡ last }
+    {
+        self.most = few
+            .len()
+            .saturating_mul(2)
+            .saturating_add(entries / 512)
+            .saturating_add(FEW);
+        self.limit = self.seen.saturating_add(1);
+        self.last = last;
+        self.few = few;
+    }
+
+    /// Makes the notes of entries anew where too many are noted, or where they say nothing, and makes room for more. Where
+    /// there is no memory they say nothing.
+    pub(crate) fn tidy(&mut self, entries: &IndexMap<Det, Known>, more: usize)
+        requires { is_ascending (keys entries.now) ≡ true }
+        ensures { IsNoted self.old (log_of entries.now.entries) → IsNoted self.new (log_of entries.now.entries) }
+    {
+        if self.seen >= self.limit || self.few.len() > self.most {
+            self.renew(entries);
+        }
+        self.make_room(more);
+    }
+
+    /// Makes the notes of entries anew.
+    fn renew(&mut self, entries: &IndexMap<Det, Known>)
+        requires { is_ascending (keys entries.now) ≡ true }
+        ensures { IsNoted self.new (log_of entries.now.entries) }
+    {
+        let alloc = *entries.allocator();
+        let Ok(few) = carried_dets(alloc, entries, self.seen) else {
+            self.limit = 0;
+            return;
+        };
+        let last = last_of(entries.keys().as_slice(), self.dest);
+        self.make(few, last, entries.len());
+    }
+
+    /// Makes room for more to be noted.
+    fn make_room(&mut self, more: usize)
+        ensures { (log : LogMap) → IsNoted self.old log → IsNoted self.new log }
+    {
+        if self.few.reserve(more).is_err() {
+            self.limit = 0;
+        }
+    }
+}
+
+/// The determinants of the entries that messages carry where so many may fail.
+fn carried_dets(
+    alloc: Global,
+    entries: &IndexMap<Det, Known>,
+    failures: u32,
+) -> Result<Vec<Det>, NoMemory>
+    ensures { IfOk result (λ dets. dets.items ≡ map (λ e. e.0) (filter (λ e. is_carried failures e.1) entries.now.entries)) }
+{
+    let carried = entries
+        .iter()
+        .filter(|(_, known)| known.is_within(failures));
+    Ok(carried.map(|(det, _)| *det).collect(alloc)?)
+}
+
+/// The later of a number and that of a delivery, where it is one to this process.
+fn later(last: u32, det: &Det, dest: Pid) -> u32
+    ensures kept { last ≤ result }
+    ensures own { same_pid det.now.dest dest ≡ true → det.now.rsn ≤ result }
+{
+    if det.dest == dest && det.rsn > last {
+        return det.rsn;
+    }
+    last
+}
+
+/// The last delivery to a process of those that determinants name.
+fn last_of(dets: &[Det], dest: Pid) -> u32
+    ensures { IsLast dest dets.now result }
+{
+    let mut last = 0;
+    for det in dets {
+        last = later(last, det, dest);
+    }
+    last
+}
