@@ -5,8 +5,10 @@ use Rattle.causal_protocol.specs.Run.{Run}
 use Rattle.causal_core.specs.CoreView.{CoreState, run_of, state_of}
 use Rattle.causal_protocol.specs.declared.request.Request.{Request}
 use Rattle.causal_protocol.specs.declared.request.Reply.{Reply}
-use Rattle.causal_protocol.specs.declared.request.Reply.TheVariants.{Refused, FlushRefused}
+use Rattle.causal_protocol.specs.declared.request.Reply.TheVariants.{Restarted as Again, Refused, FlushRefused}
+use Rattle.causal_protocol.specs.declared.request.Restarted.{Restarted}
 use Rattle.causal_shared.specs.declared.locked.Locked.{Locked}
+use Rattle.causal_shared.specs.declared.refused.LockedRefused.{LockedRefused}
 use Rattle.causal_shared.specs.declared.fault.LockedFault.{LockedFault}
 use Rattle.causal_shared.specs.declared.fault.LockedFault.TheVariants.{NoRecord, Core, Flush}
 use Rattle.causal_shared.specs.History.{instant, fresh_seat, Held, AddsItem}
@@ -30,6 +32,11 @@ told_fault (Flush fault) = Some (FlushRefused fault)
 abbrev pub told : {A : Type 0} → (A → Reply) → Result A LockedFault → Option Reply
 told answer (Ok a) = Some (answer a)
 told answer (Err fault) = told_fault fault
+
+-- what an item tells of the answer of a restart, which hands more back than its fault
+abbrev pub told_restart : {B : Type 0} → Result Restarted (LockedRefused B) → Option Reply
+told_restart (Ok restarted) = Some (Again restarted)
+told_restart (Err refused) = told_fault refused.fault
 
 -- an item call: nothing is changed where nothing could be recorded
 abbrev pub ItemCall : Held → Held → ℕ → ℕ → Request → Option Reply → Type 0

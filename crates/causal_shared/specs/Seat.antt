@@ -3,8 +3,11 @@ use Rattle.std.specs.Prelude.{◌≡◌, ℕ, ◌+◌, ◌≤◌, ◌<◌, List,
 use Rattle.causal_trace.specs.declared.entry.Entry.{Entry}
 use Rattle.causal_protocol.specs.declared.request.Request.{Request}
 use Rattle.causal_protocol.specs.declared.request.Reply.{Reply}
-use Rattle.causal_protocol.specs.declared.request.Reply.TheVariants.{Refused, FlushRefused}
+use Rattle.causal_protocol.specs.declared.request.Reply.TheVariants.{Restarted as Again, Refused, FlushRefused}
+use Rattle.causal_protocol.specs.declared.request.Restarted.{Restarted}
 use Rattle.causal_shared.specs.declared.item.Item.{Item}
+use Rattle.causal_shared.specs.declared.refused.SharedRefused.{SharedRefused}
+use Rattle.causal_shared.specs.declared.refused.LockedRefused.{LockedRefused}
 use Rattle.causal_shared.specs.declared.fault.SharedFault.{SharedFault}
 use Rattle.causal_shared.specs.declared.fault.SharedFault.TheVariants.{Core, Flush, NoRecord}
 use Rattle.causal_shared.specs.declared.fault.LockedFault.{LockedFault}
@@ -57,6 +60,16 @@ heard_fault _ = None
 abbrev pub heard : {A : Type 0} → (A → Reply) → Result A SharedFault → Option Reply
 heard answer (Ok a) = Some (answer a)
 heard answer (Err fault) = heard_fault fault
+
+-- what an item tells of the answer of a restart, if an item was made
+abbrev pub heard_restart : {B : Type 0} → Result Restarted (SharedRefused B) → Option Reply
+heard_restart (Ok restarted) = Some (Again restarted)
+heard_restart (Err refused) = heard_fault refused.fault
+
+-- the fault of a refused restart
+abbrev pub refusal_of : {A B : Type 0} → Result A (SharedRefused B) → Option SharedFault
+refusal_of (Ok a) = None
+refusal_of (Err refused) = Some refused.fault
 
 -- what one item call does to its seat
 abbrev pub SeatCall : Sitting → Sitting → Request → Option Reply → Type 0

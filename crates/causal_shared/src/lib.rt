@@ -6,6 +6,7 @@ pub mod fault;
 pub mod item;
 pub mod limits;
 pub mod locked;
+pub mod refused;
 mod replies;
 mod same;
 pub mod seat;

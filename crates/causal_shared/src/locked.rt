@@ -1,5 +1,5 @@
 //! The value behind the lock.
-ghost use Rattle.std.specs.Prelude.{◌≡◌, ℕ, ◌+◌, ◌<◌, ◌≤◌, ◌↔◌, [], ◌∷◌, ◌++◌, length, replicate, vec_len, vec_capacity, slice_set, slice_get, IfOk, IfErr, OnOk, OnErr, IsTrue};
+ghost use Rattle.std.specs.Prelude.{◌≡◌, ℕ, List, ◌+◌, ◌<◌, ◌≤◌, ◌↔◌, [], ◌∷◌, ◌++◌, length, replicate, vec_len, vec_capacity, slice_set, slice_get, IfOk, IfErr, OnOk, OnErr, IsTrue};
 ghost use Rattle.std.specs.Option.{option_copied};
 ghost use Rattle.causal_core.specs.CoreView.{run_of};
 ghost use Rattle.causal_protocol.specs.Run.{Run};
@@ -7,17 +7,21 @@ ghost use Rattle.causal_protocol.specs.Steps.{Steps};
 ghost use Rattle.causal_shared.specs.History.{Keeps, IsHistory, Holds, Sees, instant, fresh_seat, count_at, with_kept, item_at};
 ghost use Rattle.causal_shared.specs.Inside.Noting.{GoesOn};
 ghost use Rattle.causal_shared.specs.Limits.{max_items, max_seats};
+ghost use Rattle.causal_protocol.specs.Steps.{told_restart as restart_says};
+ghost use Rattle.causal_core.specs.Restarts.{fault_of as fault_beside};
 ghost use Rattle.causal_shared.specs.Inside.Props.{Keeps-prop};
 
 use crate::fault::LockedFault;
 use crate::item::{Item, Items, KeptSeat, Snapshot};
 use crate::limits::MAX_ITEMS;
+use crate::refused::LockedRefused;
 use crate::same::same_item;
+use causal_core::restart::Refused;
 use causal_core::runtime::Core;
 use causal_log::Stable;
 use causal_name::{MsgName, NoMemory, Pid};
 use causal_process::Process;
-use causal_protocol::request::{CoreFault, Delivered, Reply, Request};
+use causal_protocol::request::{CoreFault, Delivered, Reply, Request, Restarted};
 use std::alloc::Global;
 
 /// A core, the items of all calls, and what is kept of each seat.
@@ -86,10 +90,22 @@ fn kept_at(seats: &[KeptSeat], number: u32) -> Option<KeptSeat>
     seats.get(number as usize).copied()
 }
 
+/// What a restart tells.
+fn restart_reply(answer: &Result<Restarted, Refused>) -> Reply
+    ensures { result ≡ restart_says fault_beside answer.now }
+{
+    Reply::of_restart(match answer {
+        Ok(restarted) => Ok(*restarted),
+        Err(refused) => Err(refused.fault),
+    })
+}
+
 impl<S: Stable> Locked<S> {
-    ghost use Rattle.causal_shared.specs.Locked.{held_of, state_under, opened_over, told, Records, IsSnapshot, IsSafeSnapshot};
+    ghost use Rattle.causal_shared.specs.Locked.{held_of, state_under, opened_over, told, told_restart, Records, IsSnapshot, IsSafeSnapshot};
     ghost use Rattle.causal_core.specs.CoreView.{state_of, IsUnchanged, Delivers, Crashes};
     ghost use Rattle.causal_core.specs.Boxes.{SameAnswers};
+    ghost use Rattle.causal_core.specs.Restarts.{Restarts};
+    ghost use Rattle.causal_process.specs.declared.message.Input.{Input as Given};
     ghost use Rattle.causal_core.specs.Pendings.{pending_in, pending_fault};
     ghost use Rattle.causal_protocol.specs.Run.{memories_of};
     ghost use Rattle.causal_protocol.specs.Steps.{reason_of};
@@ -238,6 +254,44 @@ impl<S: Stable> Locked<S> {
             call,
             request: Request::Crash { p },
             reply: Reply::of_crash(answer),
+            first,
+        };
+        note(&self.core, &mut self.history, &mut self.seats, item);
+        Ok(answer?)
+    }
+
+    /// Brings process p up again as the spare, which begins, as this call of the seat.
+    ///
+    /// # Errors
+    /// `NoRecord`, which changes nothing; the core's, which are an item and change nothing else. Each gives the spare back.
+    pub fn restart(
+        &mut self,
+        seat: u32,
+        call: u32,
+        p: Pid,
+        spare: Box<dyn Process + Send>,
+    ) -> Result<Restarted, LockedRefused>
+        requires seat { seat < length (held_of self.old).seats }
+        requires call { call ≡ count_at (held_of self.old).seats seat }
+        requires room { length (held_of self.old).history < max_items }
+        ensures item { Records self.old self.new seat call (Ask.Restart p) (told_restart result) }
+        ensures ok { OnOk result (Restarts answers p spare (state_under self.old) (state_under self.new)) }
+        ensures refused { OnErr result (IsUnchanged answers (state_under self.old) (state_under self.new)) }
+        ensures spare { IfErr result (λ refused. (inputs : List Given) → answers refused.spare inputs ≡ answers spare inputs) }
+    {
+        if self.history.reserve(1).is_err() {
+            return Err(LockedRefused {
+                fault: LockedFault::NoRecord,
+                spare,
+            });
+        }
+        let first = instant_of(&self.core);
+        let answer = self.core.restart(p, spare);
+        let item = Item {
+            seat,
+            call,
+            request: Request::Restart { p },
+            reply: restart_reply(&answer),
             first,
         };
         note(&self.core, &mut self.history, &mut self.seats, item);

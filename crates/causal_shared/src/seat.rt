@@ -4,20 +4,25 @@ ghost use Rattle.std.specs.Option.{option_copied};
 ghost use Rattle.causal_protocol.specs.declared.request.Request.TheVariants as Ask;
 ghost use Rattle.causal_protocol.specs.declared.request.Reply.TheVariants as Told;
 ghost use Rattle.causal_shared.specs.Limits.{max_items};
+ghost use Rattle.causal_process.specs.declared.message.Input.{Input as Given};
 ghost use Rattle.causal_core.specs.Pendings.{pending_in};
 ghost use Rattle.causal_protocol.specs.Run.{memories_of};
 ghost use Rattle.causal_shared.specs.Inside.Sections.{Hears, Sections};
 ghost use Rattle.causal_shared.specs.Locked.{held_of, IsSnapshot, IsSafeSnapshot};
 ghost use Rattle.causal_shared.specs.Pending.{AreAscending};
-ghost use Rattle.causal_shared.specs.Seat.{IsSeated, MayCall, heard, heard_fault, with_item, SeesEntries};
+ghost use Rattle.causal_shared.specs.Seat.{IsSeated, MayCall, heard, heard_fault, heard_restart, refusal_of, with_item, SeesEntries};
 
 use crate::fault::SharedFault;
 use crate::item::{Item, Snapshot};
 use crate::locked::Locked;
-use crate::replies::{crash_told, delivery_told, flush_told, forget_told, shared_answer};
+use crate::refused::SharedRefused;
+use crate::replies::{
+    crash_told, delivery_told, flush_told, forget_told, restart_told, shared_answer,
+};
 use causal_log::Stable;
 use causal_name::{MsgName, NoMemory, Pid};
-use causal_protocol::request::{CoreFault, Delivered, Reply, Request};
+use causal_process::Process;
+use causal_protocol::request::{CoreFault, Delivered, Reply, Request, Restarted};
 use std::alloc::Global;
 use std::marker::Model;
 
@@ -220,6 +225,29 @@ pub(crate) fn crash_under<S: Stable>(
         first,
     );
     shared_answer(answer)
+}
+
+/// The lock's part of a restart.
+pub(crate) fn restart_under<S: Stable>(
+    locked: &mut Locked<S>,
+    tag: u64,
+    seat: &mut Seat,
+    p: Pid,
+    spare: Box<dyn Process + Send>,
+) -> Result<Restarted, SharedRefused>
+    ensures section { Sections locked.old locked.new seat.old seat.new (Ask.Restart p) (heard_restart result) }
+    ensures spare { IfErr result (λ refused. (inputs : List Given) → answers refused.spare inputs ≡ answers spare inputs) }
+    ensures wrong { refusal_of result ≡ Some SharedFault.WrongSeat ↔ ¬ IsSeated tag (held_of locked.old) seat.old.sitting }
+    ensures full { refusal_of result ≡ Some SharedFault.HistoryFull → length (held_of locked.old).history ≡ max_items }
+{
+    let first = match begin(locked, tag, seat) {
+        Ok(first) => first,
+        Err(fault) => return Err(SharedRefused { fault, spare }),
+    };
+    let answer = locked.restart(seat.number(), seat.count(), p, spare);
+    let request = Request::Restart { p };
+    hear(locked, seat, request, restart_told(&answer), first);
+    Ok(answer?)
 }
 
 /// The lock's part of a flush.

@@ -1,29 +1,32 @@
 //! The core that several threads share.
-ghost use Rattle.std.specs.Prelude.{◌≡◌, ◌≢◌, ◌↔◌, ◌≤◌, ◌<◌, ℕ, length, ◌⊎◌, All, vec_len, slice_get, map, IfOk, OnErr, Some};
+ghost use Rattle.std.specs.Prelude.{◌≡◌, ◌≢◌, ◌↔◌, ◌≤◌, ◌<◌, ℕ, List, length, ◌⊎◌, All, vec_len, slice_get, map, IfOk, IfErr, OnErr, Some};
 ghost use Rattle.causal_core.specs.CoreView.{run_of};
 ghost use Rattle.causal_protocol.specs.Runs.{IsSafeRun, HasSingleSlots};
 ghost use Rattle.causal_protocol.specs.declared.request.Request.TheVariants as Ask;
 ghost use Rattle.causal_protocol.specs.declared.request.Reply.TheVariants as Told;
 ghost use Rattle.causal_shared.specs.History.{instant, IsHistory};
 ghost use Rattle.causal_shared.specs.Limits.{max_seats};
+ghost use Rattle.causal_process.specs.declared.message.Input.{Input as Given};
 ghost use Rattle.causal_shared.specs.Locked.{held_of, IsSafeSnapshot};
 ghost use Rattle.causal_shared.specs.Finish.{Agrees, IsComplete, IsMismatch, AllSeated, AreSeatsOf, BeginsAt, items_together, before_items};
 ghost use Rattle.causal_shared.specs.Pending.{AreAscending};
-ghost use Rattle.causal_shared.specs.Seat.{AreFresh, SeatCall, SeesEntries, heard};
+ghost use Rattle.causal_shared.specs.Seat.{AreFresh, SeatCall, SeesEntries, heard, heard_restart};
 ghost use Rattle.causal_shared.specs.Shared.{opening_of, tag_of, seats_of_shared};
 
 use crate::checks::{all_seated, first_mismatch, is_complete, is_opening};
 use crate::fault::{FinishFault, SharedFault};
 use crate::item::{Items, Snapshot};
 use crate::locked::Locked;
+use crate::refused::SharedRefused;
 use crate::seat::{
-    Seat, crash_under, deliver_under, flush_under, forget_under, pending_under, snapshot_under,
+    Seat, crash_under, deliver_under, flush_under, forget_under, pending_under, restart_under,
+    snapshot_under,
 };
 use causal_core::runtime::Core;
 use causal_log::Stable;
 use causal_name::{MsgName, NoMemory, Pid};
 use causal_process::Process;
-use causal_protocol::request::Delivered;
+use causal_protocol::request::{Delivered, Restarted};
 use causal_trace::trace::Trace;
 use std::alloc::Global;
 use std::sync::{Mutex, Wait};
@@ -89,6 +92,24 @@ impl<S: Stable + Send> Shared<S> {
         ensures { SeatCall seat.old.sitting seat.new.sitting (Ask.Crash p) (heard Told.Crashed result) }
     {
         crash_under(&mut self.locked.lock(rt), self.tag, seat, p)
+    }
+
+    /// Brings process p up again as the spare, which begins.
+    ///
+    /// # Errors
+    /// `WrongSeat`, `HistoryFull`, `NoRecord`, `Core` with the core's fault: nothing has changed but, for the last, that the
+    /// item is in the history and the seat's list. Each gives the spare back.
+    pub fn restart<R: Wait>(
+        &self,
+        rt: &R,
+        seat: &mut Seat,
+        p: Pid,
+        spare: Box<dyn Process + Send>,
+    ) -> Result<Restarted, SharedRefused>
+        ensures item { SeatCall seat.old.sitting seat.new.sitting (Ask.Restart p) (heard_restart result) }
+        ensures spare { IfErr result (λ refused. (inputs : List Given) → answers refused.spare inputs ≡ answers spare inputs) }
+    {
+        restart_under(&mut self.locked.lock(rt), self.tag, seat, p, spare)
     }
 
     /// Puts what process p logs and does not know to be stable into stable storage.
