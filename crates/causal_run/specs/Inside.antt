@@ -1,2 +1,4 @@
 -- What private functions keep; no public clause cites it.
 pub mod Asking
+pub mod Boxed
+pub mod MembersKept

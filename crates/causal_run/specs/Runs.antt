@@ -47,6 +47,32 @@ abbrev pub Stands : Run → Request → CoreFault → Type 0
 Stands r (Ask.Flush p) Why.StoreFault = first_fault r (Ask.Flush p) ≡ None
 Stands r request fault = first_fault r request ≡ Some fault
 
+-- a run of all the commands, from such a start on, which has this recording
+pub record IsRunFrom (IsStart : Run → Type 0) (commands : List Command) (recording : Recording) : Type 0 where
+  pub start : Run
+  pub end : Run
+  pub started : IsStart start
+  pub performed : Performs start commands end
+  pub recorded : recording ≡ end.recording
+
+-- a run of the commands before that of the line, from such a start on, at whose end the fault stands against that command
+pub record IsRefusedFrom (IsStart : Run → Type 0) (commands : List Command) (line : ℕ) (fault : CoreFault) : Type 0 where
+  pub before : List Command
+  pub command : Command
+  pub after : List Command
+  pub split : commands ≡ before ++ command ∷ after
+  pub here : command.line ≡ line
+  pub start : Run
+  pub end : Run
+  pub started : IsStart start
+  pub performed : Performs start before end
+  pub refused : Stands end command.request fault
+
+-- what a fault tells of the run; want of memory and faults of the shared runtime tell nothing
+abbrev pub Tells : (Run → Type 0) → List Command → RunFault → Type 0
+Tells IsStart commands (Fault.Refused line fault) = IsRefusedFrom IsStart commands line fault
+Tells IsStart commands _ = Unit {0}
+
 module _ {B : Type 0} (answers : B → List Input → List (List Outgoing)) where
   -- for f failures, just what a core records when it starts with these boxes; as nothing is stable yet, it does not matter who
   -- wrote what is
@@ -55,29 +81,3 @@ module _ {B : Type 0} (answers : B → List Input → List (List Outgoing)) wher
     pub starts : Starts answers f boxes core
     pub recording : r.recording ≡ core.run.recording
     pub faults : r.faults ≡ f
-
-  -- a run of all the commands, which has this recording
-  pub record IsRunOf (f : ℕ) (boxes : List B) (commands : List Command) (recording : Recording) : Type 0 where
-    pub start : Run
-    pub end : Run
-    pub started : IsStarted f boxes start
-    pub performed : Performs start commands end
-    pub recorded : recording ≡ end.recording
-
-  -- a run of the commands before that of the line, at whose end the fault stands against that command
-  pub record IsRefusedAt (f : ℕ) (boxes : List B) (commands : List Command) (line : ℕ) (fault : CoreFault) : Type 0 where
-    pub before : List Command
-    pub command : Command
-    pub after : List Command
-    pub split : commands ≡ before ++ command ∷ after
-    pub here : command.line ≡ line
-    pub start : Run
-    pub end : Run
-    pub started : IsStarted f boxes start
-    pub performed : Performs start before end
-    pub refused : Stands end command.request fault
-
-  -- what a fault tells of the run; want of memory and faults of the shared runtime tell nothing
-  abbrev pub Tells : ℕ → List B → List Command → RunFault → Type 0
-  Tells f boxes commands (Fault.Refused line fault) = IsRefusedAt f boxes commands line fault
-  Tells f boxes commands _ = Unit {0}

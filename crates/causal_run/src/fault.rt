@@ -3,6 +3,7 @@ use causal_core::StartFault;
 use causal_name::NoMemory;
 use causal_protocol::request::CoreFault;
 use causal_shared::fault::FinishFault;
+use std::alloc::AllocFailed;
 use thiserror::Error;
 
 /// Why a script's run gives no trace.
@@ -29,6 +30,12 @@ impl From<NoMemory> for RunFault {
     ghost from_gives = { λ fault gives. gives ≡ told.Memory };
 
     fn from(_fault: NoMemory) -> RunFault {
+        RunFault::Memory
+    }
+}
+
+impl<T: Drop> From<AllocFailed<T>> for RunFault {
+    fn from(_refused: AllocFailed<T>) -> RunFault {
         RunFault::Memory
     }
 }

@@ -2,8 +2,14 @@
 #![tactic(auto)]
 
 mod fault;
+mod member;
 mod performing;
+mod scripted;
 mod stopping;
 
 pub use fault::RunFault;
 pub use performing::perform;
+pub use scripted::run_script;
+
+#[cfg(test)]
+mod tests;

@@ -2,7 +2,7 @@
 ghost use Rattle.std.specs.Prelude.{◌≡◌, ◌≤◌, [], length, drop, IfOk, IfErr, OnOk};
 ghost use Rattle.std.specs.Vec.Iter.{into_iter_items};
 ghost use Rattle.causal_trace.specs.Judgement.{IsSafeTrace};
-ghost use Rattle.causal_run.specs.Runs.{spares_for, spares_in, IsRunOf, Tells};
+ghost use Rattle.causal_run.specs.Runs.{spares_for, spares_in, IsStarted, IsRunFrom, Tells};
 ghost use Rattle.causal_run.specs.Inside.Asking.{Asked, AreDone, IsStopped};
 
 use crate::fault::RunFault;
@@ -41,11 +41,14 @@ fn ask<R: Wait>(
             shared.crash(rt, seat, p)?;
             Ok(())
         }
-        Request::Restart { p: _ } => {
-            let Some(_spare) = spares.next() else {
+        Request::Restart { p } => {
+            let Some(spare) = spares.next() else {
                 unreachable!()
             };
-            Err(SharedFault::NoRecord)
+            match shared.restart(rt, seat, p, spare) {
+                Ok(_) => Ok(()),
+                Err(refused) => Err(refused.fault),
+            }
         }
         Request::Flush { p } => {
             shared.flush(rt, seat, p)?;
@@ -97,9 +100,9 @@ pub fn perform<R: Wait>(
     requires few { script.now.n ≤ 256 }
     requires boxes { length boxes.items ≡ script.now.n }
     requires spares { length spares.items ≡ spares_in script.now.commands.items }
-    ensures run { IfOk result (λ trace. IsRunOf answers script.now.f boxes.items script.now.commands.items trace.recording) }
+    ensures run { IfOk result (λ trace. IsRunFrom (IsStarted answers script.now.f boxes.items) script.now.commands.items trace.recording) }
     ensures safe { IfOk result (λ trace. IsSafeTrace trace.recording script.now.f) }
-    ensures refused { IfErr result (Tells answers script.now.f boxes.items script.now.commands.items) }
+    ensures refused { IfErr result (Tells (IsStarted answers script.now.f boxes.items) script.now.commands.items) }
 {
     let core = Core::start(alloc, script.f, boxes, MemStable::new(alloc))?;
     let (shared, mut seats) = Shared::open(alloc, core, 1, 0)?;

@@ -1,0 +1,4 @@
+mod Asks
+mod Beginnings
+mod Histories
+mod Refusals
