@@ -1,4 +1,3 @@
 mod Asks
-mod Beginnings
 mod Histories
 mod Refusals

@@ -42,7 +42,7 @@ Does old command new = (reply : Reply) × (fault_told reply ≡ None) × Steps o
 abbrev pub Performs : Run → List Command → Run → Type 0
 Performs start commands end = FoldsTo Does start commands end
 
--- the fault stands against the request: it is the first that does; where none does, a flush may stop at a fault of the store
+-- the fault stands against the request: it is the first that does; where none does, a flush may stop at one of the store
 abbrev pub Stands : Run → Request → CoreFault → Type 0
 Stands r (Ask.Flush p) Why.StoreFault = first_fault r (Ask.Flush p) ≡ None
 Stands r request fault = first_fault r request ≡ Some fault
@@ -55,7 +55,7 @@ pub record IsRunFrom (IsStart : Run → Type 0) (commands : List Command) (recor
   pub performed : Performs start commands end
   pub recorded : recording ≡ end.recording
 
--- a run of the commands before that of the line, from such a start on, at whose end the fault stands against that command
+-- a run of the commands before that of the line, from such a start on, at whose end the fault stands against that one
 pub record IsRefusedFrom (IsStart : Run → Type 0) (commands : List Command) (line : ℕ) (fault : CoreFault) : Type 0 where
   pub before : List Command
   pub command : Command
@@ -74,8 +74,8 @@ Tells IsStart commands (Fault.Refused line fault) = IsRefusedFrom IsStart comman
 Tells IsStart commands _ = Unit {0}
 
 module _ {B : Type 0} (answers : B → List Input → List (List Outgoing)) where
-  -- for f failures, just what a core records when it starts with these boxes; as nothing is stable yet, it does not matter who
-  -- wrote what is
+  -- for f failures, just what a core records when it starts with these boxes; as nothing is stable yet, it does not
+  -- matter who wrote what is
   pub record IsStarted (f : ℕ) (boxes : List B) (r : Run) : Type 0 where
     pub core : CoreState B
     pub starts : Starts answers f boxes core

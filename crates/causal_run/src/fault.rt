@@ -35,12 +35,17 @@ impl From<NoMemory> for RunFault {
 }
 
 impl<T: Drop> From<AllocFailed<T>> for RunFault {
+    ghost use Rattle.causal_run.specs.declared.fault.RunFault.TheVariants as told;
+    ghost use Rattle.std.specs.Prelude.{◌≡◌};
+
+    ghost from_gives = { λ fault gives. gives ≡ told.Memory };
+
     fn from(_refused: AllocFailed<T>) -> RunFault {
         RunFault::Memory
     }
 }
 
-/// A core of as many boxes as a run has processes, over a store with nothing in it, is refused for want of memory alone.
+/// A core of as many boxes as a run may have processes, over an empty store, is refused for want of memory alone.
 impl From<StartFault> for RunFault {
     ghost use Rattle.causal_run.specs.declared.fault.RunFault.TheVariants as told;
     ghost use Rattle.std.specs.Prelude.{◌≡◌};

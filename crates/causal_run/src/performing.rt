@@ -83,12 +83,12 @@ fn ask_all<R: Wait>(
     Ok(())
 }
 
-/// Runs a script through the shared runtime, with one seat and stable storage in memory: starts these processes, asks for what
-/// the commands ask, in their order, and answers what was recorded. Each restart takes the next of the spares.
+/// Runs a script through the shared runtime, with one seat and stable storage in memory: starts these processes, asks
+/// for what the commands ask, in their order, and answers what was recorded. Each restart takes the next of the spares.
 ///
 /// # Errors
-/// `Refused` with the line of the first command that was refused; `Memory`, `Lock`. Where the shared runtime can't be finished,
-/// that is told in place of a refusal.
+/// `Refused` with the line of the first command that was refused; `Memory`, `Lock`. Where the shared runtime can't be
+/// finished, that is told in place of a refusal.
 pub fn perform<R: Wait>(
     rt: &R,
     alloc: Global,

