@@ -10,3 +10,6 @@ mod stopping;
 pub use fault::RunFault;
 pub use performing::perform;
 pub use scripted::run_script;
+
+#[cfg(test)]
+mod tests;
