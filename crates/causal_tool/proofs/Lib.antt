@@ -1,2 +1,3 @@
 mod ByteLemmas
 mod Known
+mod ReadLemmas

@@ -3,6 +3,7 @@
 
 mod ended;
 mod judged;
+mod reading;
 mod stream;
 mod words;
 mod written;

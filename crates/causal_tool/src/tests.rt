@@ -1,5 +1,7 @@
 //! What the program writes to a text, and how it ends, where readers and writers give and take little, or fail.
+mod cut;
 mod forged;
+mod reading;
 mod traces;
 
 use self::traces::{FAULTY, JUDGED, RING};
@@ -234,10 +236,13 @@ fn statuses(rt: HostRuntime) {
         (Ended::Accepted, 0, None),
         (Ended::Breached, 1, None),
         (Ended::Faulted, 2, None),
+        (Ended::Ran, 0, None),
+        (Ended::Refused, 2, None),
         (Ended::ReadFault, 4, Some("read fault")),
         (Ended::WriteFault, 4, Some("write fault")),
         (Ended::NoMemory, 5, Some("no memory")),
         (Ended::NoWorker, 5, Some("no worker")),
+        (Ended::FinishFault, 5, Some("finish fault")),
     ] {
         assert_eq!(rt; ended.status(), status);
         assert_eq!(rt; ended.text(), text);
