@@ -1,6 +1,6 @@
 #!/usr/bin/env python3
-"""Checks that the answers in examples/README.md and docs/FORMAT.md are those of the traces that stand here: by the plain model of
-the auditor (trials/traces.py), and with --program also by the program.
+"""Checks that the answers in examples/README.md and docs/FORMAT.md are those of the traces and scripts that stand here: by the plain
+models of the auditor and of the runtime (trials/traces.py, trials/scripts.py), and with --program also by the program.
 
     examples/check.py [--program crates/causal_tool/out/causal_tool]
 """
@@ -13,6 +13,7 @@ import sys
 HERE = os.path.dirname(os.path.abspath(__file__))
 TOP = os.path.dirname(HERE)
 sys.path.insert(0, os.path.join(TOP, "trials"))
+import scripts  # noqa: E402
 import traces  # noqa: E402
 
 
@@ -29,10 +30,16 @@ def rows():
                 yield trace, int(f), cells[3].strip("`"), int(cells[4])
 
 
+def bytes_of(name):
+    with open(os.path.join(HERE, name), "rb") as file:
+        return file.read()
+
+
 def text_of(trace):
     if trace.endswith(".jsonl"):
-        with open(os.path.join(HERE, trace), "rb") as file:
-            return file.read()
+        return bytes_of(trace)
+    if trace.endswith(".script"):
+        return scripts.ran(bytes_of(trace))[0].encode()
     script, *words = trace.split()
     return subprocess.run([sys.executable, os.path.join(HERE, script), *words], capture_output=True, check=True).stdout
 
@@ -46,11 +53,33 @@ def recorded_in_the_format():
     return "".join(line + "\n" for line in [header, *lines, end]).encode()
 
 
+# what running a script prints, and its status; a trace stands in a file
+RUNS = {
+    "replay.script": (bytes_of("replay.jsonl").decode(), 0),
+    "stopped.script": ("refused line=6 MustReplay 2 0\n", 2),
+}
+
+
+def wrong_runs(program):
+    """Tells each script whose run prints something else, and gives how many there are."""
+    wrong = 0
+    for script, answer in RUNS.items():
+        answers = {"model": scripts.ran(bytes_of(script))}
+        if program:
+            ended = subprocess.run([program, "run"], input=bytes_of(script), capture_output=True)
+            answers["program"] = ended.stdout.decode(), ended.returncode
+        for who, said in answers.items():
+            if said != answer:
+                wrong += 1
+                print(f"{script}: the table has {answer!r}, the {who} says {said!r}")
+    return wrong
+
+
 def main():
     given = argparse.ArgumentParser(description=__doc__.split("\n\n")[0])
     given.add_argument("--program")
     program = given.parse_args().program
-    wrong, count, met = 0, 0, set()
+    wrong, count, met = wrong_runs(program), 0, set()
     for trace, f, answer, status in rows():
         text = text_of(trace)
         answers = {"model": traces.audited(text, f)}
@@ -63,7 +92,7 @@ def main():
                 wrong += 1
                 print(f"{trace} for {f}: the table has {answer!r}, the {who} says {said!r}")
         met.add(trace)
-    unmet = {name for name in os.listdir(HERE) if name.endswith(".jsonl")} - met
+    unmet = {name for name in os.listdir(HERE) if name.endswith((".jsonl", ".script"))} - met - RUNS.keys()
     if unmet:
         wrong += len(unmet)
         print(f"no row for {', '.join(sorted(unmet))}")
