@@ -1,6 +1,6 @@
 -- What is pending ascends.
-use Rattle.std.proofs.Common.{ℕ, zero, suc, ◌≡◌, ◌<◌, ◌+◌, true, List, [], ◌∷◌, ◌++◌, map, get_or, length, refl, sym, ap, ap₂, subst, arith}
-use Rattle.std.specs.Prelude.{Option, All, AllPairs}
+use Rattle.std.proofs.Common.{ℕ, zero, suc, ◌≡◌, ◌<◌, ◌+◌, true, List, [], ◌∷◌, ◌++◌, map, get_or, length, refl, sym, ap, ap₂, arith}
+use Rattle.std.specs.Prelude.{All, AllPairs}
 use Rattle.std.specs.List.{range_with_len}
 use Rattle.std.specs.Option.{option_map_or}
 use Rattle.std.specs.Cmp.{nat_cmp_is}
@@ -11,7 +11,7 @@ use Rattle.std.proofs.lemmas.List.Kept.{AllPairs-cons, AllPairs-filter}
 use Rattle.causal_name.specs.declared.Pid.{Pid}
 use Rattle.causal_name.specs.declared.MsgName.{MsgName}
 use Rattle.causal_name.specs.Names.{message_cmp}
-use Rattle.causal_protocol.specs.Memory.{Memory, Memories}
+use Rattle.causal_protocol.specs.Memory.{Memories}
 use Rattle.causal_protocol.specs.Naming.{name}
 use Rattle.causal_core.specs.Pendings.{is_pending, names_from, pending_in}
 use Rattle.causal_shared.specs.Pending.{AreAscending}

@@ -1,5 +1,6 @@
 -- A history of calls over a run of the core.
-use Rattle.std.specs.Prelude.{◌≡◌, ℕ, ◌+◌, ◌-◌, ◌≤◌, ◌<◌, ◌==◌, List, [], ◌∷◌, ◌++◌, length, take, drop, reverse, count_by, slice_get, slice_set, filter, unwrap_or, option_map, IfSome, Option, Some, None}
+use Rattle.std.specs.Prelude.{◌≡◌, ℕ, ◌+◌, ◌-◌, ◌≤◌, ◌<◌, ◌==◌, List, [], ◌∷◌, ◌++◌, length, take, drop, reverse}
+use Rattle.std.specs.Prelude.{count_by, slice_get, slice_set, filter, unwrap_or, option_map, IfSome, Option, Some, None}
 use Rattle.causal_trace.specs.declared.entry.Entry.{Entry}
 use Rattle.causal_protocol.specs.declared.request.Request.{Request}
 use Rattle.causal_protocol.specs.declared.request.Reply.{Reply}
@@ -32,8 +33,8 @@ cut r n = shortened (instant r - n) r
 abbrev pub since : ℕ → Run → List Entry
 since n r = reverse (take (instant r - n) r.recording.past)
 
--- a call of the runtime, told so, leads from the one run to the other: what is new in it is a legal step, and its request
--- says who wrote the stable entries
+-- a call of the runtime, told so, leads from the one run to the other: what is new in it is a legal step, and its
+-- request says who wrote the stable entries
 pub record IsStep (old : Run) (request : Request) (reply : Reply) (new : Run) : Type 0 where
   pub grown : new ≡ extended old request (since (instant old) new)
   pub legal : LegalStep old request reply (since (instant old) new)
@@ -43,7 +44,8 @@ abbrev pub next_first : Run → List Item → ℕ
 next_first r [] = instant r
 next_first r (item ∷ _) = item.first
 
--- each item's call leads from the run cut at its `first` to the run cut at the next one's, the last one's to the whole run
+-- each item's call leads from the run cut at its `first` to the run cut at the next one's, the last one's to the whole
+-- run
 abbrev pub AllLegal : Run → List Item → Type 0
 AllLegal r [] = Unit {0}
 AllLegal r (item ∷ items) =
@@ -101,7 +103,8 @@ abbrev pub with_kept : List KeptSeat → Item → ℕ → ℕ → List KeptSeat
 with_kept seats item seen place = slice_set seats item.seat (kept_after item seen place)
 
 abbrev pub item_of : ℕ → ℕ → Request → Reply → ℕ → Item
-item_of seat call request reply first = record { seat = seat; call = call; request = request; reply = reply; first = first }
+item_of seat call request reply first =
+    record { seat = seat; call = call; request = request; reply = reply; first = first }
 
 -- the plain data under the lock
 pub record Held : Type 0 where
@@ -113,7 +116,9 @@ pub record Held : Type 0 where
 pub record AddsItem (old new : Held) (seat call : ℕ) (request : Request) (reply : Reply) : Type 0 where
   pub step : Steps old.run request reply new.run
   pub history : new.history ≡ old.history ++ item_of seat call request reply (instant old.run) ∷ []
-  pub seats : new.seats ≡ with_kept old.seats (item_of seat call request reply (instant old.run)) (instant new.run) (length old.history)
+  pub seats :
+      new.seats
+      ≡ with_kept old.seats (item_of seat call request reply (instant old.run)) (instant new.run) (length old.history)
 
 -- what is kept of a seat with no item
 abbrev pub fresh_seat : ℕ → KeptSeat
@@ -132,4 +137,6 @@ count_at seats seat = unwrap_or (option_map (λ (kept : KeptSeat). kept.count) (
 pub record Sees (old new : Held) (seat : ℕ) : Type 0 where
   pub run : new.run ≡ old.run
   pub history : new.history ≡ old.history
-  pub seats : (k : KeptSeat) → slice_get old.seats seat ≡ Some k → new.seats ≡ slice_set old.seats seat (record k { seen = instant old.run })
+  pub seats :
+      (k : KeptSeat) → slice_get old.seats seat ≡ Some k
+      → new.seats ≡ slice_set old.seats seat (record k { seen = instant old.run })

@@ -1,12 +1,16 @@
 -- The value behind the lock as callers see it.
-use Rattle.std.specs.Prelude.{◌≡◌, ℕ, [], length, replicate, Option, Some, None, Result, Ok, Err}
+use Rattle.std.specs.Prelude.{◌≡◌, ℕ, List, [], length, replicate, Option, Some, None, Result, Ok, Err}
 use Rattle.causal_trace.specs.Judgement.{IsSafeTrace}
+use Rattle.causal_process.specs.declared.message.Input.{Input}
+use Rattle.causal_process.specs.declared.message.Outgoing.{Outgoing}
 use Rattle.causal_protocol.specs.Run.{Run}
 use Rattle.causal_core.specs.CoreView.{CoreState, run_of, state_of}
 use Rattle.causal_protocol.specs.declared.request.Request.{Request}
 use Rattle.causal_protocol.specs.declared.request.Reply.{Reply}
-use Rattle.causal_protocol.specs.declared.request.Reply.TheVariants.{Refused, FlushRefused}
+use Rattle.causal_protocol.specs.declared.request.Reply.TheVariants.{Restarted as Again, Refused, FlushRefused}
+use Rattle.causal_protocol.specs.declared.request.Restarted.{Restarted}
 use Rattle.causal_shared.specs.declared.locked.Locked.{Locked}
+use Rattle.causal_shared.specs.declared.refused.LockedRefused.{LockedRefused}
 use Rattle.causal_shared.specs.declared.fault.LockedFault.{LockedFault}
 use Rattle.causal_shared.specs.declared.fault.LockedFault.TheVariants.{NoRecord, Core, Flush}
 use Rattle.causal_shared.specs.History.{instant, fresh_seat, Held, AddsItem}
@@ -31,13 +35,23 @@ abbrev pub told : {A : Type 0} → (A → Reply) → Result A LockedFault → Op
 told answer (Ok a) = Some (answer a)
 told answer (Err fault) = told_fault fault
 
+-- what an item tells of the answer of a restart, which hands more back than its fault
+abbrev pub told_restart : {B : Type 0} → Result Restarted (LockedRefused B) → Option Reply
+told_restart (Ok restarted) = Some (Again restarted)
+told_restart (Err refused) = told_fault refused.fault
+
+-- to whatever it is given, the one box answers as the other
+abbrev pub AnswersAs : {B : Type 0} → (B → List Input → List (List Outgoing)) → B → B → Type 0
+AnswersAs answers a b = (inputs : List Input) → answers a inputs ≡ answers b inputs
+
 -- an item call: nothing is changed where nothing could be recorded
 abbrev pub ItemCall : Held → Held → ℕ → ℕ → Request → Option Reply → Type 0
 ItemCall old new seat call request None = new ≡ old
 ItemCall old new seat call request (Some reply) = AddsItem old new seat call request reply
 
 -- an item call of the locked value
-abbrev pub Records : {S B : Type 0} {Has : _} → Locked S B Has → Locked S B Has → ℕ → ℕ → Request → Option Reply → Type 0
+abbrev pub Records : {S B : Type 0} {Has : _}
+    → Locked S B Has → Locked S B Has → ℕ → ℕ → Request → Option Reply → Type 0
 Records old new seat call request reply = ItemCall (held_of old) (held_of new) seat call request reply
 
 -- no item over a run, whose entries each of k seats has seen

@@ -1,10 +1,13 @@
 -- A seat as callers see it.
-use Rattle.std.specs.Prelude.{◌≡◌, ℕ, ◌+◌, ◌≤◌, ◌<◌, List, [], ◌∷◌, ◌++◌, length, map, slice_get, Option, Some, None, Result, Ok, Err}
+use Rattle.std.specs.Prelude.{◌≡◌, ℕ, ◌+◌, ◌≤◌, ◌<◌, List, [], ◌∷◌, ◌++◌, length, map, slice_get}
+use Rattle.std.specs.Prelude.{Option, Some, None, Result, Ok, Err}
 use Rattle.causal_trace.specs.declared.entry.Entry.{Entry}
 use Rattle.causal_protocol.specs.declared.request.Request.{Request}
 use Rattle.causal_protocol.specs.declared.request.Reply.{Reply}
-use Rattle.causal_protocol.specs.declared.request.Reply.TheVariants.{Refused, FlushRefused}
+use Rattle.causal_protocol.specs.declared.request.Reply.TheVariants.{Restarted as Again, Refused, FlushRefused}
+use Rattle.causal_protocol.specs.declared.request.Restarted.{Restarted}
 use Rattle.causal_shared.specs.declared.item.Item.{Item}
+use Rattle.causal_shared.specs.declared.refused.SharedRefused.{SharedRefused}
 use Rattle.causal_shared.specs.declared.fault.SharedFault.{SharedFault}
 use Rattle.causal_shared.specs.declared.fault.SharedFault.TheVariants.{Core, Flush, NoRecord}
 use Rattle.causal_shared.specs.declared.fault.LockedFault.{LockedFault}
@@ -31,7 +34,9 @@ new_sitting number tag seen = record { number = number; tag = tag; items = []; s
 
 -- seats with no item, by their numbers
 abbrev pub AreFresh : ℕ → ℕ → ℕ → List SeatState → Type 0
-AreFresh tag seen k seats = (n : ℕ) → n < k → slice_get (map (λ (seat : SeatState). seat.sitting) seats) n ≡ Some (new_sitting n tag seen)
+AreFresh tag seen k seats =
+    (n : ℕ) → n < k
+    → slice_get (map (λ (seat : SeatState). seat.sitting) seats) n ≡ Some (new_sitting n tag seen)
 
 -- the seat's next item
 abbrev pub next_item : Sitting → Request → Reply → ℕ → Item
@@ -39,9 +44,11 @@ next_item seat request reply first = item_of seat.number (length seat.items) req
 
 -- the seat with its next item, and with so many entries seen
 abbrev pub with_item : Sitting → Request → Reply → ℕ → ℕ → Sitting
-with_item seat request reply first seen = record seat { items = seat.items ++ next_item seat request reply first ∷ []; seen = seen }
+with_item seat request reply first seen =
+    record seat { items = seat.items ++ next_item seat request reply first ∷ []; seen = seen }
 
--- one item call as its seat sees it: what was asked and told is the next item, which begins no earlier than what was seen
+-- one item call as its seat sees it: what was asked and told is the next item, which begins no earlier than what was
+-- seen
 pub record Calls (old new : Sitting) (request : Request) (reply : Reply) : Type 0 where
   pub first : ℕ
   pub later : old.seen ≤ first
@@ -58,15 +65,27 @@ abbrev pub heard : {A : Type 0} → (A → Reply) → Result A SharedFault → O
 heard answer (Ok a) = Some (answer a)
 heard answer (Err fault) = heard_fault fault
 
+-- what an item tells of the answer of a restart, if an item was made
+abbrev pub heard_restart : {B : Type 0} → Result Restarted (SharedRefused B) → Option Reply
+heard_restart (Ok restarted) = Some (Again restarted)
+heard_restart (Err refused) = heard_fault refused.fault
+
+-- the fault of a refused restart
+abbrev pub refusal_of : {A B : Type 0} → Result A (SharedRefused B) → Option SharedFault
+refusal_of (Ok a) = None
+refusal_of (Err refused) = Some refused.fault
+
 -- what one item call does to its seat
 abbrev pub SeatCall : Sitting → Sitting → Request → Option Reply → Type 0
 SeatCall seat seat' request None = seat' ≡ seat
 SeatCall seat seat' request (Some reply) = Calls seat seat' request reply
 
--- one section of the lock for an item call: the item stands in the history and in the seat's own list, or nothing is changed
+-- one section of the lock for an item call: the item stands in the history and in the seat's own list, or nothing is
+-- changed
 abbrev pub ItemSection : Held → Held → Sitting → Sitting → Request → Option Reply → Type 0
 ItemSection old new seat seat' request None = (new ≡ old) × (seat' ≡ seat)
-ItemSection old new seat seat' request (Some reply) = AddsItem old new seat.number (length seat.items) request reply × Calls seat seat' request reply
+ItemSection old new seat seat' request (Some reply) =
+    AddsItem old new seat.number (length seat.items) request reply × Calls seat seat' request reply
 
 -- the seat is of this runtime and as it is kept
 abbrev pub IsSeated : ℕ → Held → Sitting → Type 0

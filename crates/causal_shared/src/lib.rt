@@ -6,7 +6,10 @@ pub mod fault;
 pub mod item;
 pub mod limits;
 pub mod locked;
+pub mod refused;
 mod replies;
 mod same;
 pub mod seat;
 pub mod shared;
+#[cfg(test)]
+mod tests;

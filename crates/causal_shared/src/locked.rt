@@ -1,23 +1,29 @@
 //! The value behind the lock.
-ghost use Rattle.std.specs.Prelude.{◌≡◌, ℕ, ◌+◌, ◌<◌, ◌≤◌, ◌↔◌, [], ◌∷◌, ◌++◌, length, replicate, vec_len, vec_capacity, slice_set, slice_get, IfOk, IfErr, OnOk, OnErr, IsTrue};
+ghost use Rattle.std.specs.Prelude.{◌≡◌, ℕ, ◌+◌, ◌<◌, ◌≤◌, ◌↔◌, [], ◌∷◌, ◌++◌, length, replicate, slice_set, slice_get};
+ghost use Rattle.std.specs.Prelude.{vec_len, vec_capacity, IfOk, IfErr, OnOk, OnErr, IsTrue};
 ghost use Rattle.std.specs.Option.{option_copied};
 ghost use Rattle.causal_core.specs.CoreView.{run_of};
 ghost use Rattle.causal_protocol.specs.Run.{Run};
 ghost use Rattle.causal_protocol.specs.Steps.{Steps};
-ghost use Rattle.causal_shared.specs.History.{Keeps, IsHistory, Holds, Sees, instant, fresh_seat, count_at, with_kept, item_at};
+ghost use Rattle.causal_shared.specs.History.{Keeps, IsHistory, Holds, Sees};
+ghost use Rattle.causal_shared.specs.History.{instant, fresh_seat, count_at, with_kept, item_at};
 ghost use Rattle.causal_shared.specs.Inside.Noting.{GoesOn};
 ghost use Rattle.causal_shared.specs.Limits.{max_items, max_seats};
+ghost use Rattle.causal_protocol.specs.Steps.{told_restart as restart_says};
+ghost use Rattle.causal_core.specs.Restarts.{fault_of as fault_beside};
 ghost use Rattle.causal_shared.specs.Inside.Props.{Keeps-prop};
 
 use crate::fault::LockedFault;
 use crate::item::{Item, Items, KeptSeat, Snapshot};
 use crate::limits::MAX_ITEMS;
+use crate::refused::LockedRefused;
 use crate::same::same_item;
+use causal_core::restart::Refused;
 use causal_core::runtime::Core;
 use causal_log::Stable;
 use causal_name::{MsgName, NoMemory, Pid};
 use causal_process::Process;
-use causal_protocol::request::{CoreFault, Delivered, Reply, Request};
+use causal_protocol::request::{CoreFault, Delivered, Reply, Request, Restarted};
 use std::alloc::Global;
 
 /// A core, the items of all calls, and what is kept of each seat.
@@ -38,8 +44,8 @@ fn instant_of<S: Stable>(core: &Core<S>) -> u32
     core.trace().len()
 }
 
-/// Stores an item, and what is then kept of its seat. Where the item tells the step that led to the core's run, the history
-/// stays legal.
+/// Stores an item, and what is then kept of its seat. Where the item tells the step that led to the core's run, the
+/// history stays legal.
 fn note<S: Stable>(core: &Core<S>, history: &mut Vec<Item>, seats: &mut Vec<KeptSeat>, item: Item)
     requires seat { item.seat < vec_len seats.old }
     requires call { item.call < max_items }
@@ -86,17 +92,32 @@ fn kept_at(seats: &[KeptSeat], number: u32) -> Option<KeptSeat>
     seats.get(number as usize).copied()
 }
 
+/// What a restart tells.
+fn restart_reply(answer: &Result<Restarted, Refused>) -> Reply
+    ensures { result ≡ restart_says fault_beside answer.now }
+{
+    Reply::of_restart(match answer {
+        Ok(restarted) => Ok(*restarted),
+        Err(refused) => Err(refused.fault),
+    })
+}
+
 impl<S: Stable> Locked<S> {
-    ghost use Rattle.causal_shared.specs.Locked.{held_of, state_under, opened_over, told, Records, IsSnapshot, IsSafeSnapshot};
+    ghost use Rattle.causal_shared.specs.Locked.{held_of, state_under, opened_over, told, told_restart};
+    ghost use Rattle.causal_shared.specs.Locked.{Records, AnswersAs, IsSnapshot, IsSafeSnapshot};
     ghost use Rattle.causal_core.specs.CoreView.{state_of, IsUnchanged, Delivers, Crashes};
     ghost use Rattle.causal_core.specs.Boxes.{SameAnswers};
+    ghost use Rattle.causal_core.specs.Restarts.{Restarts};
     ghost use Rattle.causal_core.specs.Pendings.{pending_in, pending_fault};
     ghost use Rattle.causal_protocol.specs.Run.{memories_of};
     ghost use Rattle.causal_protocol.specs.Steps.{reason_of};
     ghost use Rattle.causal_protocol.specs.declared.request.Request.TheVariants as Ask;
     ghost use Rattle.causal_protocol.specs.declared.request.Reply.TheVariants as Told;
 
-    /// No item, and each seat has seen all entries.
+    /// The core with no item, and `k` seats, 1 to 64, which are numbered from 0 and have seen all entries.
+    ///
+    /// # Errors
+    /// `NoMemory`, and the core is dropped.
     pub fn new(alloc: Global, core: Core<S>, k: u32) -> Result<Locked<S>, NoMemory>
         requires some { 1 ≤ k }
         requires few { k ≤ max_seats }
@@ -170,6 +191,9 @@ impl<S: Stable> Locked<S> {
     }
 
     /// A copy of the trace, which the seat has then seen.
+    ///
+    /// # Errors
+    /// `NoMemory`, which changes nothing.
     pub fn snapshot(&mut self, seat: u32) -> Result<Snapshot, NoMemory>
         requires { seat < length (held_of self.old).seats }
         ensures copy { IfOk result (IsSnapshot (held_of self.old)) }
@@ -187,7 +211,10 @@ impl<S: Stable> Locked<S> {
         })
     }
 
-    /// Delivers to q the message of that sender and number, as this call of the seat.
+    /// Delivers to q the message of that sender and number, as this call of the seat, which is the number of its items.
+    ///
+    /// # Errors
+    /// `NoRecord`, which changes nothing; the core's, which are an item and change nothing else.
     pub fn deliver(
         &mut self,
         seat: u32,
@@ -220,6 +247,9 @@ impl<S: Stable> Locked<S> {
     }
 
     /// Takes process p down, as this call of the seat.
+    ///
+    /// # Errors
+    /// `NoRecord`, which changes nothing; the core's, which are an item and change nothing else.
     pub fn crash(&mut self, seat: u32, call: u32, p: Pid) -> Result<u32, LockedFault>
         requires seat { seat < length (held_of self.old).seats }
         requires call { call ≡ count_at (held_of self.old).seats seat }
@@ -244,8 +274,47 @@ impl<S: Stable> Locked<S> {
         Ok(answer?)
     }
 
-    /// Puts what process p logs and does not know to be stable into stable storage, as this call of the seat. Where it stops
-    /// part way, the item tells how many determinants were stored and recorded.
+    /// Brings process p up again as the spare, which begins, as this call of the seat.
+    ///
+    /// # Errors
+    /// `NoRecord`, which changes nothing; the core's, which are an item and change nothing else. Each gives the spare
+    /// back.
+    pub fn restart(
+        &mut self,
+        seat: u32,
+        call: u32,
+        p: Pid,
+        spare: Box<dyn Process + Send>,
+    ) -> Result<Restarted, LockedRefused>
+        requires seat { seat < length (held_of self.old).seats }
+        requires call { call ≡ count_at (held_of self.old).seats seat }
+        requires room { length (held_of self.old).history < max_items }
+        ensures item { Records self.old self.new seat call (Ask.Restart p) (told_restart result) }
+        ensures ok { OnOk result (Restarts answers p spare (state_under self.old) (state_under self.new)) }
+        ensures refused { OnErr result (IsUnchanged answers (state_under self.old) (state_under self.new)) }
+        ensures spare { IfErr result (λ refused. AnswersAs answers refused.spare spare) }
+    {
+        if self.history.reserve(1).is_err() {
+            return Err(LockedRefused {
+                fault: LockedFault::NoRecord,
+                spare,
+            });
+        }
+        let first = instant_of(&self.core);
+        let answer = self.core.restart(p, spare);
+        let item = Item {
+            seat,
+            call,
+            request: Request::Restart { p },
+            reply: restart_reply(&answer),
+            first,
+        };
+        note(&self.core, &mut self.history, &mut self.seats, item);
+        Ok(answer?)
+    }
+
+    /// Puts what process p logs and does not know to be stable into stable storage, as this call of the seat. Where it
+    /// stops part way, the item tells how many determinants were stored and recorded.
     ///
     /// # Errors
     /// `NoRecord`, which changes nothing; the core's, which are an item.

@@ -1,11 +1,12 @@
 //! What an item tells of an answer, if there is one.
 ghost use Rattle.std.specs.Prelude.{◌≡◌};
-ghost use Rattle.causal_shared.specs.Locked.{told, told_fault};
+ghost use Rattle.causal_shared.specs.Locked.{told, told_fault, told_restart};
 ghost use Rattle.causal_shared.specs.Seat.{shared_of};
 ghost use Rattle.causal_protocol.specs.declared.request.Reply.TheVariants as Told;
 
 use crate::fault::{LockedFault, SharedFault};
-use causal_protocol::request::{Delivered, Reply};
+use crate::refused::LockedRefused;
+use causal_protocol::request::{Delivered, Reply, Restarted};
 
 /// What an item tells of a refusal; no item is made where the call could not be recorded.
 pub(crate) fn fault_told(fault: LockedFault) -> Option<Reply>
@@ -33,6 +34,15 @@ pub(crate) fn crash_told(answer: Result<u32, LockedFault>) -> Option<Reply>
     match answer {
         Ok(first) => Some(Reply::Crashed { first }),
         Err(fault) => fault_told(fault),
+    }
+}
+
+pub(crate) fn restart_told(answer: &Result<Restarted, LockedRefused>) -> Option<Reply>
+    ensures { result ≡ told_restart answer.now }
+{
+    match answer {
+        Ok(restarted) => Some(Reply::Restarted(*restarted)),
+        Err(refused) => fault_told(refused.fault),
     }
 }
 

@@ -1,5 +1,6 @@
 //! A caller's seat, with its own list of its calls.
-ghost use Rattle.std.specs.Prelude.{◌≡◌, ◌↔◌, ℕ, ◌≤◌, ◌<◌, List, length, slice_get, ◌-◌, vec_len, IfOk, IfErr, OnOk, OnErr, IsTrue, Option, Some, None};
+ghost use Rattle.std.specs.Prelude.{◌≡◌, ◌↔◌, ℕ, ◌≤◌, ◌<◌, length, slice_get, ◌-◌, vec_len};
+ghost use Rattle.std.specs.Prelude.{IfOk, IfErr, OnOk, OnErr, IsTrue, Option, Some, None};
 ghost use Rattle.std.specs.Option.{option_copied};
 ghost use Rattle.causal_protocol.specs.declared.request.Request.TheVariants as Ask;
 ghost use Rattle.causal_protocol.specs.declared.request.Reply.TheVariants as Told;
@@ -7,22 +8,27 @@ ghost use Rattle.causal_shared.specs.Limits.{max_items};
 ghost use Rattle.causal_core.specs.Pendings.{pending_in};
 ghost use Rattle.causal_protocol.specs.Run.{memories_of};
 ghost use Rattle.causal_shared.specs.Inside.Sections.{Hears, Sections};
-ghost use Rattle.causal_shared.specs.Locked.{held_of, IsSnapshot, IsSafeSnapshot};
+ghost use Rattle.causal_shared.specs.Locked.{held_of, AnswersAs, IsSnapshot, IsSafeSnapshot};
 ghost use Rattle.causal_shared.specs.Pending.{AreAscending};
-ghost use Rattle.causal_shared.specs.Seat.{IsSeated, MayCall, heard, heard_fault, with_item, SeesEntries};
+ghost use Rattle.causal_shared.specs.Seat.{heard, heard_fault, heard_restart, refusal_of, with_item};
+ghost use Rattle.causal_shared.specs.Seat.{IsSeated, MayCall, SeesEntries};
 
 use crate::fault::SharedFault;
 use crate::item::{Item, Snapshot};
 use crate::locked::Locked;
-use crate::replies::{crash_told, delivery_told, flush_told, forget_told, shared_answer};
+use crate::refused::SharedRefused;
+use crate::replies::{
+    crash_told, delivery_told, flush_told, forget_told, restart_told, shared_answer,
+};
 use causal_log::Stable;
 use causal_name::{MsgName, NoMemory, Pid};
-use causal_protocol::request::{CoreFault, Delivered, Reply, Request};
+use causal_process::Process;
+use causal_protocol::request::{CoreFault, Delivered, Reply, Request, Restarted};
 use std::alloc::Global;
 use std::marker::Model;
 
-/// A seat. Contracts see it as its number, its runtime's tag, its own list of items, and how many entries it has seen; and as
-/// how many more items are sure of their memory, of which equality does not speak.
+/// A seat. Contracts see it as its number, its runtime's tag, its own list of items, and how many entries it has seen;
+/// and as how many more items are sure of their memory, of which equality does not speak.
 #[derive(Drop)]
 pub struct Seat {
     number: u32,
@@ -38,7 +44,10 @@ impl Model for Seat {
 
     ghost Value = { SeatState };
 
-    ghost view = { λ s. record { sitting = record { number = s.number; tag = s.tag; items = s.items.items; seen = s.seen }; spare = vec_capacity s.items - vec_len s.items } };
+    ghost view = { λ s. record {
+      sitting = record { number = s.number; tag = s.tag; items = s.items.items; seen = s.seen };
+      spare = vec_capacity s.items - vec_len s.items;
+    } };
 
     ghost invariant = { λ s. vec_len s.items ≤ max_items };
 }
@@ -112,7 +121,7 @@ impl Seat {
         requires spare { 1 ≤ self.old.spare }
         ensures { self.new.sitting ≡ with_item self.old.sitting request reply first seen }
     {
-        let call = self.items.len() as u32;
+        let call = self.count();
         let _ = self.items.push(Item {
             seat: self.number,
             call,
@@ -141,7 +150,8 @@ fn is_seated<S: Stable>(locked: &Locked<S>, tag: u64, seat: &Seat) -> bool
     locked.holds(seat.number(), seat.count(), seat.seen(), seat.last())
 }
 
-/// The number of entries before the seat's next item, where it may make one; there is then room for it in the seat's list.
+/// The number of entries before the seat's next item, where it may make one; there is then room for it in the seat's
+/// list.
 fn begin<S: Stable>(locked: &Locked<S>, tag: u64, seat: &mut Seat) -> Result<u32, SharedFault>
     ensures sitting { seat.new.sitting ≡ seat.old.sitting }
     ensures wrong { result ≡ Err SharedFault.WrongSeat ↔ ¬ IsSeated tag (held_of locked.now) seat.old.sitting }
@@ -188,7 +198,8 @@ pub(crate) fn deliver_under<S: Stable>(
     source: Pid,
     ssn: u32,
 ) -> Result<Delivered, SharedFault>
-    ensures section { Sections locked.old locked.new seat.old seat.new (Ask.Deliver q source ssn) (heard Told.Delivered result) }
+    ensures section { Sections locked.old locked.new seat.old seat.new (Ask.Deliver q source ssn)
+        (heard Told.Delivered result) }
     ensures wrong { result ≡ Err SharedFault.WrongSeat ↔ ¬ IsSeated tag (held_of locked.old) seat.old.sitting }
     ensures full { result ≡ Err SharedFault.HistoryFull → length (held_of locked.old).history ≡ max_items }
 {
@@ -220,6 +231,30 @@ pub(crate) fn crash_under<S: Stable>(
         first,
     );
     shared_answer(answer)
+}
+
+/// The lock's part of a restart.
+pub(crate) fn restart_under<S: Stable>(
+    locked: &mut Locked<S>,
+    tag: u64,
+    seat: &mut Seat,
+    p: Pid,
+    spare: Box<dyn Process + Send>,
+) -> Result<Restarted, SharedRefused>
+    ensures section { Sections locked.old locked.new seat.old seat.new (Ask.Restart p) (heard_restart result) }
+    ensures spare { IfErr result (λ refused. AnswersAs answers refused.spare spare) }
+    ensures wrong { refusal_of result ≡ Some SharedFault.WrongSeat
+        ↔ ¬ IsSeated tag (held_of locked.old) seat.old.sitting }
+    ensures full { refusal_of result ≡ Some SharedFault.HistoryFull → length (held_of locked.old).history ≡ max_items }
+{
+    let first = match begin(locked, tag, seat) {
+        Ok(first) => first,
+        Err(fault) => return Err(SharedRefused { fault, spare }),
+    };
+    let answer = locked.restart(seat.number(), seat.count(), p, spare);
+    let request = Request::Restart { p };
+    hear(locked, seat, request, restart_told(&answer), first);
+    Ok(answer?)
 }
 
 /// The lock's part of a flush.

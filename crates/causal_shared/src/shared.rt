@@ -1,29 +1,33 @@
 //! The core that several threads share.
-ghost use Rattle.std.specs.Prelude.{◌≡◌, ◌≢◌, ◌↔◌, ◌≤◌, ◌<◌, ℕ, length, ◌⊎◌, All, vec_len, slice_get, map, IfOk, OnErr, Some};
+ghost use Rattle.std.specs.Prelude.{◌≡◌, ◌≢◌, ◌↔◌, ◌≤◌, ◌<◌, ℕ, length, ◌⊎◌, All, vec_len, slice_get, map};
+ghost use Rattle.std.specs.Prelude.{IfOk, IfErr, OnErr, Some};
 ghost use Rattle.causal_core.specs.CoreView.{run_of};
 ghost use Rattle.causal_protocol.specs.Runs.{IsSafeRun, HasSingleSlots};
 ghost use Rattle.causal_protocol.specs.declared.request.Request.TheVariants as Ask;
 ghost use Rattle.causal_protocol.specs.declared.request.Reply.TheVariants as Told;
 ghost use Rattle.causal_shared.specs.History.{instant, IsHistory};
 ghost use Rattle.causal_shared.specs.Limits.{max_seats};
-ghost use Rattle.causal_shared.specs.Locked.{held_of, IsSafeSnapshot};
-ghost use Rattle.causal_shared.specs.Finish.{Agrees, IsComplete, IsMismatch, AllSeated, AreSeatsOf, BeginsAt, items_together, before_items};
+ghost use Rattle.causal_shared.specs.Locked.{held_of, AnswersAs, IsSafeSnapshot};
+ghost use Rattle.causal_shared.specs.Finish.{Agrees, IsComplete, IsMismatch, AllSeated, AreSeatsOf, BeginsAt};
+ghost use Rattle.causal_shared.specs.Finish.{items_together, before_items};
 ghost use Rattle.causal_shared.specs.Pending.{AreAscending};
-ghost use Rattle.causal_shared.specs.Seat.{AreFresh, SeatCall, SeesEntries, heard};
+ghost use Rattle.causal_shared.specs.Seat.{AreFresh, SeatCall, SeesEntries, heard, heard_restart};
 ghost use Rattle.causal_shared.specs.Shared.{opening_of, tag_of, seats_of_shared};
 
 use crate::checks::{all_seated, first_mismatch, is_complete, is_opening};
 use crate::fault::{FinishFault, SharedFault};
 use crate::item::{Items, Snapshot};
 use crate::locked::Locked;
+use crate::refused::SharedRefused;
 use crate::seat::{
-    Seat, crash_under, deliver_under, flush_under, forget_under, pending_under, snapshot_under,
+    Seat, crash_under, deliver_under, flush_under, forget_under, pending_under, restart_under,
+    snapshot_under,
 };
 use causal_core::runtime::Core;
 use causal_log::Stable;
 use causal_name::{MsgName, NoMemory, Pid};
 use causal_process::Process;
-use causal_protocol::request::Delivered;
+use causal_protocol::request::{Delivered, Restarted};
 use causal_trace::trace::Trace;
 use std::alloc::Global;
 use std::sync::{Mutex, Wait};
@@ -39,7 +43,11 @@ pub struct Shared<S: Stable, B = Box<dyn Process + Send>> {
 }
 
 impl<S: Stable + Send> Shared<S> {
-    /// Puts the core behind the lock, and makes `k` seats.
+    /// Puts the core behind the lock, and makes `k` seats, 1 to 64, which are numbered from 0. The caller chooses the
+    /// tag, which tells the seats of one runtime from those of another.
+    ///
+    /// # Errors
+    /// `NoMemory`, and the core is dropped.
     pub fn open(
         alloc: Global,
         core: Core<S>,
@@ -71,6 +79,10 @@ impl<S: Stable + Send> Shared<S> {
     }
 
     /// Delivers to q the message of that sender and number.
+    ///
+    /// # Errors
+    /// `WrongSeat`, `HistoryFull`, `NoRecord`, `Core` with the core's fault: nothing has changed but, for the last,
+    /// that the item is in the history and the seat's list.
     pub fn deliver<R: Wait>(
         &self,
         rt: &R,
@@ -84,18 +96,40 @@ impl<S: Stable + Send> Shared<S> {
         deliver_under(&mut self.locked.lock(rt), self.tag, seat, q, source, ssn)
     }
 
-    /// Takes process p down.
+    /// Takes process p down, and gives the position of its entry.
+    ///
+    /// # Errors
+    /// `WrongSeat`, `HistoryFull`, `NoRecord`, `Core` with the core's fault: nothing has changed but, for the last,
+    /// that the item is in the history and the seat's list.
     pub fn crash<R: Wait>(&self, rt: &R, seat: &mut Seat, p: Pid) -> Result<u32, SharedFault>
         ensures { SeatCall seat.old.sitting seat.new.sitting (Ask.Crash p) (heard Told.Crashed result) }
     {
         crash_under(&mut self.locked.lock(rt), self.tag, seat, p)
     }
 
+    /// Brings process p up again as the spare, which begins.
+    ///
+    /// # Errors
+    /// `WrongSeat`, `HistoryFull`, `NoRecord`, `Core` with the core's fault: nothing has changed but, for the last,
+    /// that the item is in the history and the seat's list. Each gives the spare back.
+    pub fn restart<R: Wait>(
+        &self,
+        rt: &R,
+        seat: &mut Seat,
+        p: Pid,
+        spare: Box<dyn Process + Send>,
+    ) -> Result<Restarted, SharedRefused>
+        ensures item { SeatCall seat.old.sitting seat.new.sitting (Ask.Restart p) (heard_restart result) }
+        ensures spare { IfErr result (λ refused. AnswersAs answers refused.spare spare) }
+    {
+        restart_under(&mut self.locked.lock(rt), self.tag, seat, p, spare)
+    }
+
     /// Puts what process p logs and does not know to be stable into stable storage.
     ///
     /// # Errors
-    /// `WrongSeat`, `HistoryFull`, `NoRecord`, which change nothing; `Flush` with the core's fault and how many determinants
-    /// were stored and recorded.
+    /// `WrongSeat`, `HistoryFull`, `NoRecord`, which change nothing; `Flush` with the core's fault and how many
+    /// determinants were stored and recorded.
     pub fn flush<R: Wait>(&self, rt: &R, seat: &mut Seat, p: Pid) -> Result<u32, SharedFault>
         ensures { SeatCall seat.old.sitting seat.new.sitting (Ask.Flush p) (heard Told.Flushed result) }
     {
@@ -105,8 +139,8 @@ impl<S: Stable + Send> Shared<S> {
     /// Takes what process p knows to be stable out of its log.
     ///
     /// # Errors
-    /// `WrongSeat`, `HistoryFull`, `NoRecord`, `Core` with the core's fault: nothing has changed but, for the last, that the
-    /// item is in the history and the seat's list.
+    /// `WrongSeat`, `HistoryFull`, `NoRecord`, `Core` with the core's fault: nothing has changed but, for the last,
+    /// that the item is in the history and the seat's list.
     pub fn forget<R: Wait>(&self, rt: &R, seat: &mut Seat, p: Pid) -> Result<u32, SharedFault>
         ensures { SeatCall seat.old.sitting seat.new.sitting (Ask.Forget p) (heard Told.Forgotten result) }
     {
@@ -123,7 +157,11 @@ impl<S: Stable + Send> Shared<S> {
         pending_under(&self.locked.lock(rt), self.tag, seat, q)
     }
 
-    /// A copy of the trace.
+    /// A copy of the trace, with what was recorded so far. It is made under the lock, and may be judged beside further
+    /// calls.
+    ///
+    /// # Errors
+    /// `WrongSeat`; `Core` with `NoMemory`. Neither changes anything.
     pub fn snapshot<R: Wait>(&self, rt: &R, seat: &mut Seat) -> Result<Snapshot, SharedFault>
         ensures seen { IfOk result (λ s. SeesEntries seat.old.sitting seat.new.sitting s.trace.recording.past) }
         ensures safe { IfOk result IsSafeSnapshot }
@@ -152,7 +190,11 @@ pub struct Finished<S: Stable, B = Box<dyn Process + Send>> {
     pub history: Items,
 }
 
-/// Ends a shared runtime.
+/// Ends a shared runtime: where the seats, in any order, are all that it opened, and each has just the items that the
+/// history has of it, the core and the history.
+///
+/// # Errors
+/// The first of `Missing`, `Mismatch` and `Opening` that stands. The runtime and the seats are dropped.
 pub fn finish<S: Stable + Send>(
     shared: Shared<S>,
     seats: Vec<Seat>,
@@ -202,7 +244,8 @@ fn settle<S: Stable>(
     ensures others { IfOk result (λ f. AllSeated seats.now f.history) }
     ensures total { IfOk result (λ f. length f.history ≡ items_together seats.now) }
     ensures missing { result ≡ Err FinishFault.Missing ↔ ¬ IsComplete tag k seats.now }
-    ensures mismatch { (n : ℕ) → result ≡ Err (FinishFault.Mismatch n) → IsMismatch (held_of locked).history seats.now n }
+    ensures mismatch { (n : ℕ) → result ≡ Err (FinishFault.Mismatch n)
+        → IsMismatch (held_of locked).history seats.now n }
     ensures opened { result ≡ Err FinishFault.Opening
         → ¬ BeginsAt (held_of locked).run (held_of locked).history opening.now.recording faults }
 {

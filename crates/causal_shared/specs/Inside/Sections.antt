@@ -8,10 +8,14 @@ use Rattle.causal_shared.specs.Locked.{held_of, ItemCall}
 use Rattle.causal_shared.specs.Seat.{SeatState, MayCall, ItemSection}
 
 -- where a call was made, the seat has heard of it
-abbrev pub Hears : {S B : Type 0} {Has : _} → Locked S B Has → SeatState → SeatState → Request → Option Reply → ℕ → Type 0
+abbrev pub Hears : {S B : Type 0} {Has : _}
+    → Locked S B Has → SeatState → SeatState → Request → Option Reply → ℕ → Type 0
 Hears locked seat seat' request reply first =
-    (old : Held) → MayCall old seat first → ItemCall old (held_of locked) seat.sitting.number (length seat.sitting.items) request reply
+    (old : Held) → MayCall old seat first
+    → ItemCall old (held_of locked) seat.sitting.number (length seat.sitting.items) request reply
     → ItemSection old (held_of locked) seat.sitting seat'.sitting request reply
 
-abbrev pub Sections : {S B : Type 0} {Has : _} → Locked S B Has → Locked S B Has → SeatState → SeatState → Request → Option Reply → Type 0
-Sections old new seat seat' request reply = ItemSection (held_of old) (held_of new) seat.sitting seat'.sitting request reply
+abbrev pub Sections : {S B : Type 0} {Has : _}
+    → Locked S B Has → Locked S B Has → SeatState → SeatState → Request → Option Reply → Type 0
+Sections old new seat seat' request reply =
+    ItemSection (held_of old) (held_of new) seat.sitting seat'.sitting request reply

@@ -1,0 +1,120 @@
+//! Eight seats on eight threads that ask for what comes up.
+use super::*;
+use std::test::Fail;
+use std::thread;
+use std::thread::Threads;
+
+/// How many processes and seats there are.
+const SEATS: u8 = 8;
+
+/// How many calls each seat makes.
+const CALLS: u32 = 300;
+
+/// How often each seat looks for a call that makes an item.
+const TURNS: u32 = 10_000;
+
+/// Numbers without a pattern: the linear congruence of Knuth's MMIX.
+#[derive(Clone, Copy)]
+struct Numbers {
+    state: u64,
+}
+
+impl Numbers {
+    /// One of the numbers below 256.
+    fn next(&mut self) -> u8 {
+        self.state = self
+            .state
+            .wrapping_mul(6_364_136_223_846_793_005)
+            .wrapping_add(1_442_695_040_888_963_407);
+        (self.state >> 56) as u8
+    }
+}
+
+/// Whether the call was recorded: it was answered, or the core refused it.
+fn is_recorded<A: Drop>(answer: Result<A, SharedFault>) -> bool {
+    matches!(
+        answer,
+        Ok(_) | Err(SharedFault::Core(_)) | Err(SharedFault::Flush(_))
+    )
+}
+
+/// Brings p up again, if it is down, and tells whether the call was recorded.
+fn restart<R: Wait>(
+    rt: &R,
+    alloc: Global,
+    shared: &Shared<MemStable>,
+    seat: &mut Seat,
+    p: Pid,
+) -> bool {
+    let Ok(spare) = process(alloc, Kind::Echo(200), u16::from(SEATS), p.0) else {
+        return false;
+    };
+    match shared.restart(rt, seat, p, spare) {
+        Ok(_) => true,
+        Err(refused) => is_recorded::<()>(Err(refused.fault)),
+    }
+}
+
+/// Makes the call of this number for process p; tells whether it was recorded.
+fn call<R: Wait>(
+    rt: &R,
+    alloc: Global,
+    shared: &Shared<MemStable>,
+    seat: &mut Seat,
+    number: u8,
+    p: Pid,
+) -> bool {
+    match number % 16 {
+        0 => is_recorded(shared.crash(rt, seat, p)),
+        1 | 2 => restart(rt, alloc, shared, seat, p),
+        3 => is_recorded(shared.flush(rt, seat, p)),
+        4 => is_recorded(shared.forget(rt, seat, p)),
+        _ => deliver_first(rt, shared, seat, p),
+    }
+}
+
+/// What a thread has done with its seat.
+#[derive(Drop)]
+struct Done {
+    seat: Seat,
+    recorded: u32,
+}
+
+fn calls<R: Wait>(rt: &R, alloc: Global, shared: &Shared<MemStable>, seat: Seat) -> Done {
+    let mut numbers = Numbers {
+        state: u64::from(seat.number()),
+    };
+    let mut done = Done { seat, recorded: 0 };
+    for _ in 0..TURNS {
+        if done.recorded == CALLS {
+            return done;
+        }
+        let number = numbers.next();
+        let p = Pid(numbers.next() % SEATS);
+        if call(rt, alloc, shared, &mut done.seat, number, p) {
+            done.recorded = done.recorded.saturating_add(1);
+        }
+    }
+    done
+}
+
+#[test]
+fn seats_call_at_random(rt: HostRuntime) -> Result<(), Fail> {
+    let core = begun(rt.alloc(), Kind::Echo(200), SEATS, 2).ok_or("not begun")?;
+    let (shared, seats) = opened(rt.alloc(), core, u32::from(SEATS), 7).ok_or("not opened")?;
+    let alloc = rt.alloc();
+    let all = {
+        let (host, one) = (&rt, &shared);
+        thread::map_vec(host, seats, &|seat| calls(host, alloc, one, seat)).map_err(
+            |_| "no memory",
+        )?
+    };
+    let mut own = Vec::new(rt.alloc());
+    for done in all {
+        assert_eq!(rt; done.recorded, 300);
+        own.push(done.seat).map_err(|_| "no memory")?;
+    }
+    let end = finish(shared, own).map_err(|_| "not finished")?;
+    assert!(rt; end.history.as_slice().len() >= 2_400);
+    Ok(())
+}
