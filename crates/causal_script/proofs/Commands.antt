@@ -1,0 +1,128 @@
+-- A command and its line.
+use Rattle.std.proofs.Common.{◌≡◌, ℕ, ◌<◌, ◌≤◌, ◌^◌, List, [], ◌∷◌, ◌++◌, Bool, true, false, cond, Option, Some, None, refl, ap, sym, ◌∙◌, subst, arith, decimal, codes, bytes_eq}
+use Rattle.std.proofs.lemmas.Option.{none-some, same_Some}
+use Rattle.std.proofs.lemmas.Slice.Eq.{bytes_eq-Decides}
+use Rattle.causal_name.specs.declared.Pid.{Pid}
+use Rattle.causal_protocol.specs.declared.request.Request.{Request}
+use Rattle.causal_protocol.specs.declared.request.Request.TheVariants.{Deliver, Crash, Restart, Flush, Forget}
+use Rattle.causal_script.specs.Spelling.{command_line, IsRequest}
+use Rattle.causal_script.specs.Faults.{IsCommandLine}
+use Rattle.causal_script.specs.Inside.Reading.{◌>>=◌, cut, number_of, process_of, delivery_of, named_request, request_of}
+use Rattle.causal_script.proofs.Cuts.{IsCut, cut_whole, cut_front}
+use Rattle.causal_script.proofs.Numbers.{number_of-decimal, decimal-number_of, process_of-decimal, decimal-process_of, decimal_lacks}
+
+pub bind_some : {A B : Type 0} (r : Option A) (f : A → Option B) (y : B) → (r >>= f) ≡ Some y → (x : A) × (r ≡ Some x) × (f x ≡ Some y)
+bind_some None f y e = absurd (none-some y e)
+bind_some (Some x) f y e = (x, refl, e)
+
+pub chosen : {A : Type 0} (name word : List ℕ) (x y : Option A) (z : A) {P : Type 0} → (name ≡ word → x ≡ Some z → P) → (y ≡ Some z → P) → cond (bytes_eq name word) x y ≡ Some z → P
+chosen name word x y z {P} this other e = by_test (bytes_eq name word) refl e where
+  by_test : (b : Bool) → bytes_eq name word ≡ b → cond b x y ≡ Some z → P
+  by_test true t e = this ((bytes_eq-Decides name word).0 t) e
+  by_test false t e = other e
+
+-- ---- from the line
+
+-- the arguments of a delivery
+record IsDelivery (words : List ℕ) (r : Request) : Type 0 where
+  q : Pid
+  source : Pid
+  ssn : ℕ
+  is : r ≡ Deliver q source ssn
+  fits : (q.0 < 2 ^ 8) × (source.0 < 2 ^ 8) × (ssn < 2 ^ 32)
+  spelled : words ≡ decimal q.0 ++ (32 ∷ (decimal source.0 ++ (32 ∷ decimal ssn)))
+
+delivered : (words : List ℕ) (r : Request) → delivery_of words ≡ Some r → IsDelivery words r
+unfolding delivery_of
+delivered words r e =
+    let a = bind_some (cut 32 words) _ r e in
+    let b = bind_some (cut 32 a.0.1) _ r a.2 in
+    let q = bind_some (process_of a.0.0) _ r b.2 in
+    let source = bind_some (process_of b.0.0) _ r q.2 in
+    let ssn = bind_some (number_of 4294967295 b.0.1) _ r source.2 in
+    let first : IsCut 32 words a.0 = cut_whole 32 words a.0 a.1 in
+    let second : IsCut 32 a.0.1 b.0 = cut_whole 32 a.0.1 b.0 b.1 in
+    let to = decimal-process_of q.0 a.0.0 q.1 in
+    let from = decimal-process_of source.0 b.0.0 source.1 in
+    let number = decimal-number_of 4294967295 ssn.0 b.0.1 (omega arith) ssn.1 in
+    let rest : a.0.1 ≡ decimal source.0.0 ++ (32 ∷ decimal ssn.0) = second.whole ∙ ap (λ xs. xs ++ 32 ∷ b.0.1) from.0 ∙ ap (λ xs. decimal source.0.0 ++ (32 ∷ xs)) number.0 in
+    record {
+      q = q.0;
+      source = source.0;
+      ssn = ssn.0;
+      is = sym (same_Some _ _ ssn.2);
+      fits = (to.1, from.1, omega (arith, number.1));
+      spelled = first.whole ∙ ap (λ xs. xs ++ 32 ∷ a.0.1) to.0 ∙ ap (λ xs. decimal q.0.0 ++ (32 ∷ xs)) rest;
+    }
+
+-- the line says this
+abbrev pub Says : List ℕ → Request → Type 0
+Says line r = IsRequest r × (line ≡ command_line r)
+
+says_delivery : (name words line : List ℕ) (r : Request) → line ≡ name ++ 32 ∷ words → name ≡ codes "deliver" → delivery_of words ≡ Some r → Says line r
+says_delivery name words line r whole named e =
+    let d = delivered words r e in
+    let spelled : line ≡ codes "deliver " ++ (decimal d.q.0 ++ (32 ∷ (decimal d.source.0 ++ (32 ∷ decimal d.ssn)))) = whole ∙ ap (λ xs. xs ++ 32 ∷ words) named ∙ ap (λ xs. codes "deliver " ++ xs) d.spelled in
+    let says : Says line (Deliver d.q d.source d.ssn) = (d.fits, spelled) in
+    subst (λ (q : Request). Says line q) (sym d.is) says
+
+-- a command of one process
+says_process : (make : Pid → Request) (word name words line : List ℕ) (r : Request)
+    → ((p : Pid) → p.0 < 2 ^ 8 → IsRequest (make p)) → ((p : Pid) → word ++ 32 ∷ decimal p.0 ≡ command_line (make p))
+    → line ≡ name ++ 32 ∷ words → name ≡ word → (process_of words >>= λ p. Some (make p)) ≡ Some r → Says line r
+says_process make word name words line r fits spells whole named e =
+    let p = bind_some (process_of words) _ r e in
+    let number = decimal-process_of p.0 words p.1 in
+    let spelled : line ≡ command_line (make p.0) = whole ∙ ap (λ xs. xs ++ 32 ∷ words) named ∙ ap (λ xs. word ++ 32 ∷ xs) number.0 ∙ spells p.0 in
+    let says : Says line (make p.0) = (fits p.0 number.1, spelled) in
+    subst (λ (q : Request). Says line q) (same_Some _ _ p.2) says
+
+says_named : (name words line : List ℕ) (r : Request) → line ≡ name ++ 32 ∷ words → named_request name words ≡ Some r → Says line r
+unfolding named_request
+says_named name words line r whole e =
+    chosen name (codes "deliver") _ _ r (λ named is. says_delivery name words line r whole named is)
+    (chosen name (codes "crash") _ _ r (λ named is. says_process Crash (codes "crash") name words line r (λ p h. h) (λ p. refl) whole named is)
+    (chosen name (codes "restart") _ _ r (λ named is. says_process Restart (codes "restart") name words line r (λ p h. h) (λ p. refl) whole named is)
+    (chosen name (codes "flush") _ _ r (λ named is. says_process Flush (codes "flush") name words line r (λ p h. h) (λ p. refl) whole named is)
+    (chosen name (codes "forget") _ None r (λ named is. says_process Forget (codes "forget") name words line r (λ p h. h) (λ p. refl) whole named is)
+    (λ no. absurd (none-some r no)))))) e
+
+pub says_request : (line : List ℕ) (r : Request) → request_of line ≡ Some r → Says line r
+unfolding request_of
+says_request line r e =
+    let a = bind_some (cut 32 line) _ r e in
+    let parts : IsCut 32 line a.0 = cut_whole 32 line a.0 a.1 in
+    says_named a.0.0 a.0.1 line r parts.whole a.2
+
+-- ---- and back
+
+delivery_back : (q source : Pid) (ssn : ℕ) → q.0 < 2 ^ 8 → source.0 < 2 ^ 8 → ssn < 2 ^ 32 → delivery_of (decimal q.0 ++ (32 ∷ (decimal source.0 ++ (32 ∷ decimal ssn)))) ≡ Some (Deliver q source ssn)
+unfolding delivery_of
+delivery_back q source ssn a b s =
+    let first : cut 32 (decimal q.0 ++ (32 ∷ (decimal source.0 ++ (32 ∷ decimal ssn)))) ≡ Some (decimal q.0, decimal source.0 ++ (32 ∷ decimal ssn)) = cut_front 32 (decimal q.0) _ (decimal_lacks q.0 (omega arith)) in
+    let second : cut 32 (decimal source.0 ++ (32 ∷ decimal ssn)) ≡ Some (decimal source.0, decimal ssn) = cut_front 32 (decimal source.0) (decimal ssn) (decimal_lacks source.0 (omega arith)) in
+    let to = process_of-decimal q a in
+    let from = process_of-decimal source b in
+    let number = number_of-decimal 4294967295 ssn (omega arith) (omega arith) in
+    rw first (rw second (rw to (rw from (rw number refl))))
+
+process_back : (make : Pid → Request) (p : Pid) → p.0 < 2 ^ 8 → (process_of (decimal p.0) >>= λ q. Some (make q)) ≡ Some (make p)
+process_back make p small = rw (process_of-decimal p small) refl
+
+pub request_back : (r : Request) → IsRequest r → request_of (command_line r) ≡ Some r
+unfolding request_of named_request
+request_back (Deliver q source ssn) h = delivery_back q source ssn h.0 h.1 h.2
+request_back (Crash p) h = process_back Crash p h
+request_back (Restart p) h = process_back Restart p h
+request_back (Flush p) h = process_back Flush p h
+request_back (Forget p) h = process_back Forget p h
+
+-- ---- in place
+
+pub commanded : (line : List ℕ) (r : Request) → request_of line ≡ Some r → IsCommandLine line
+commanded line r e = let says = says_request line r e in (r, says.0, says.1)
+
+pub not_commanded : (line : List ℕ) → request_of line ≡ None → IsCommandLine line → ⊥
+not_commanded line e h =
+    let back : request_of line ≡ Some h.0 = ap request_of h.2 ∙ request_back h.0 h.1 in
+    none-some h.0 (sym e ∙ back)

@@ -1,0 +1,195 @@
+-- A text spells one script or has one first fault, and never both.
+use Rattle.std.proofs.Common.{◌≡◌, ◌⊎◌, inl, inr, ℕ, zero, suc, ◌+◌, ◌<◌, ◌≤◌, List, [], ◌∷◌, length, take, drop, map, Option, Some, None, Result, Ok, Err, refl, ap, sym, ◌∙◌, subst, arith}
+use Rattle.std.specs.Prelude.{slice_get}
+use Rattle.std.specs.List.{AllByRecursion, range_with_len}
+use Rattle.std.proofs.lemmas.Bool.{cases_lt}
+use Rattle.std.proofs.lemmas.Option.{same_Some}
+use Rattle.causal_protocol.specs.declared.request.Request.{Request}
+use Rattle.causal_script.specs.declared.script.Command.{Command}
+use Rattle.causal_script.specs.declared.script.ScriptFault.{ScriptFault}
+use Rattle.causal_script.specs.declared.script.ScriptFaultKind.{ScriptFaultKind}
+use Rattle.causal_script.specs.declared.script.ScriptFaultKind.TheVariants.{Big, Script, NoMemory}
+use Rattle.causal_script.specs.declared.start.Start.{Start}
+use Rattle.causal_script.specs.Lines.{lines, feeds}
+use Rattle.causal_script.specs.Spelling.{max_script, Plan, IsStart, IsRequest, Spells, start_line, command_line}
+use Rattle.causal_script.specs.Faults.{IsCommandLine, IsInPlace, IsFaultAfter, AreSound, IsFirstFault}
+use Rattle.causal_script.specs.Inside.Reading.{request_of, start_of}
+use Rattle.causal_script.specs.Inside.Place.{IsBigLine, judged}
+use Rattle.causal_script.proofs.Commands.{request_back, commanded, not_commanded, says_request}
+use Rattle.causal_script.proofs.Starts.{start_back, started, not_started, says_start}
+use Rattle.causal_script.proofs.Texts.{line_here, line_past, judged_ok, not_big, sound_none, sound_more, first_fault, feeds_below, length_lines, no_lines, drop_all}
+use Rattle.causal_script.proofs.Scripts.{length_map, empty_fault}
+
+-- ---- one script
+
+one_list : (cs ds : List Command) → map (λ c. command_line c.request) cs ≡ map (λ c. command_line c.request) ds → map (λ (c : Command). c.line) cs ≡ map (λ (c : Command). c.line) ds
+    → AllByRecursion (λ c. IsRequest c.request) cs → AllByRecursion (λ c. IsRequest c.request) ds → cs ≡ ds
+one_list [] [] e n f g = refl
+one_list [] (d ∷ ds) e n f g = absurd (let no : [] ≡ command_line d.request ∷ map (λ (c : Command). command_line c.request) ds = e in cc)
+one_list (c ∷ cs) [] e n f g = absurd (let no : command_line c.request ∷ map (λ (c : Command). command_line c.request) cs ≡ [] = e in cc)
+one_list (c ∷ cs) (d ∷ ds) e n f g =
+    let all : command_line c.request ∷ map (λ (c : Command). command_line c.request) cs ≡ command_line d.request ∷ map (λ (c : Command). command_line c.request) ds = e in
+    let lines_are : c.line ∷ map (λ (c : Command). c.line) cs ≡ d.line ∷ map (λ (c : Command). c.line) ds = n in
+    let first : command_line c.request ≡ command_line d.request = cc in
+    let others : map (λ (c : Command). command_line c.request) cs ≡ map (λ (c : Command). command_line c.request) ds = cc in
+    let line : c.line ≡ d.line = cc in
+    let more : map (λ (c : Command). c.line) cs ≡ map (λ (c : Command). c.line) ds = cc in
+    let request : c.request ≡ d.request = same_Some _ _ (sym (request_back c.request f.0) ∙ ap request_of first ∙ request_back d.request g.0) in
+    let head : c ≡ d = λ i. record { line = line i; request = request i } in
+    let tail : cs ≡ ds = one_list cs ds others more f.1 g.1 in
+    cc
+
+pub one_plan : (text : List ℕ) (p q : Plan) → Spells text p → Spells text q → p ≡ q
+one_plan text p q a b =
+    let all : start_line p.start ∷ map (λ (c : Command). command_line c.request) p.commands ≡ start_line q.start ∷ map (λ (c : Command). command_line c.request) q.commands = sym a.said ∙ b.said in
+    let first : start_line p.start ≡ start_line q.start = cc in
+    let others : map (λ (c : Command). command_line c.request) p.commands ≡ map (λ (c : Command). command_line c.request) q.commands = cc in
+    let start : p.start ≡ q.start = same_Some _ _ (sym (start_back p.start a.plan.start) ∙ ap start_of first ∙ start_back q.start b.plan.start) in
+    let count : length p.commands ≡ length q.commands = sym (length_map (λ (c : Command). command_line c.request) p.commands) ∙ ap length others ∙ length_map (λ (c : Command). command_line c.request) q.commands in
+    let numbered : map (λ (c : Command). c.line) p.commands ≡ map (λ (c : Command). c.line) q.commands = a.plan.numbered ∙ ap (range_with_len 2) count ∙ sym b.plan.numbered in
+    let commands : p.commands ≡ q.commands = one_list p.commands q.commands others numbered a.plan.requests b.plan.requests in
+    λ i. record { start = start i; commands = commands i }
+
+-- ---- one fault
+
+pub one_fault : (text : List ℕ) (f g : ScriptFault) → IsFirstFault text f → IsFirstFault text g → f ≡ g
+one_fault text f g a b = by_place (cases_lt a.before b.before) (cases_lt b.before a.before) where
+  kinds : (k l : ScriptFaultKind) → IsFaultAfter text a.before k → IsFaultAfter text a.before l → (k ≡ Script → IsFaultAfter text a.before Big → ⊥) → (l ≡ Script → IsFaultAfter text a.before Big → ⊥) → k ≡ l
+  kinds Big Big x y p q = refl
+  kinds Big Script x y p q = absurd (q refl x)
+  kinds Script Big x y p q = absurd (p refl y)
+  kinds Script Script x y p q = refl
+  kinds NoMemory l x y p q = absurd x
+  kinds k NoMemory x y p q = absurd y
+
+  same : b.before ≡ a.before → f ≡ g
+  same e =
+      let faulty = subst (λ (n : ℕ). IsFaultAfter text n g.kind) e b.faulty in
+      let first = subst (λ (n : ℕ). g.kind ≡ Script → IsFaultAfter text n Big → ⊥) e b.big_first in
+      let kind : f.kind ≡ g.kind = kinds f.kind g.kind a.faulty faulty a.big_first first in
+      let line : f.line ≡ g.line = a.number ∙ ap (λ n. n + 1) (sym e) ∙ sym b.number in
+      λ i. record { line = line i; kind = kind i }
+
+  by_place : (a.before < b.before) ⊎ (b.before ≤ a.before) → (b.before < a.before) ⊎ (a.before ≤ b.before) → f ≡ g
+  by_place (inl lower) other = absurd (b.sound a.before f.kind lower a.faulty)
+  by_place (inr up) (inl lower) = absurd (a.sound b.before g.kind lower b.faulty)
+  by_place (inr up) (inr down) = same (omega arith)
+
+-- ---- never both
+
+relabelled : (a b : ℕ) (o : Option (List ℕ)) → IsInPlace (suc a) o → IsInPlace (suc b) o
+relabelled a b None h = h
+relabelled a b (Some l) h = h
+
+commands_stand : (cs : List Command) (k : ℕ) → AllByRecursion (λ c. IsRequest c.request) cs → IsInPlace (suc k) (slice_get (map (λ c. command_line c.request) cs) k)
+commands_stand [] k h = tt
+commands_stand (c ∷ cs) zero h = (c.request, h.0, refl)
+commands_stand (c ∷ cs) (suc k) h = relabelled k (suc k) (slice_get (map (λ (c : Command). command_line c.request) cs) k) (commands_stand cs k h.1)
+
+stands : (s : Start) (cs : List Command) (k : ℕ) → IsStart s → AllByRecursion (λ c. IsRequest c.request) cs → IsInPlace k (slice_get (start_line s ∷ map (λ c. command_line c.request) cs) k)
+stands s cs zero h all = (s, h, refl)
+stands s cs (suc k) h all = commands_stand cs k all
+
+pub not_both : (text : List ℕ) (p : Plan) (f : ScriptFault) → Spells text p → IsFirstFault text f → ⊥
+not_both text p f a b = by_kind f.kind b.faulty where
+  by_kind : (k : ScriptFaultKind) → IsFaultAfter text b.before k → ⊥
+  by_kind Big h = let over : max_script < length text = h.0 in omega (arith, a.within)
+  by_kind Script h = h (subst (λ (ls : List (List ℕ)). IsInPlace b.before (slice_get ls b.before)) (sym a.said) (stands p.start p.commands b.before a.plan.start a.plan.requests))
+  by_kind NoMemory h = h
+
+-- ---- one of them
+
+-- the lines from this one on
+record AreRead (text : List ℕ) (ls : List (List ℕ)) (count : ℕ) : Type 0 where
+  commands : List Command
+  said : ls ≡ map (λ c. command_line c.request) commands
+  requests : AllByRecursion (λ c. IsRequest c.request) commands
+  numbered : map (λ c. c.line) commands ≡ range_with_len (count + 1) (length commands)
+  sound : AreSound text (length (lines text))
+
+cases_big : (text : List ℕ) → (big : Option ℕ) × IsBigLine text big
+cases_big text = by_size (cases_lt max_script (length text)) where
+  by_size : (max_script < length text) ⊎ (length text ≤ max_script) → (big : Option ℕ) × IsBigLine text big
+  by_size (inl over) = (Some (feeds (take max_script text) + 1), (over, refl))
+  by_size (inr within) = (None, within)
+
+read_on : (text : List ℕ) (big : Option ℕ) (ls : List (List ℕ)) (k : ℕ) → IsBigLine text big → drop (suc k) (lines text) ≡ ls → suc k ≤ length (lines text) → AreSound text (suc k)
+    → AreRead text ls (suc k) ⊎ ((f : ScriptFault) × IsFirstFault text f)
+read_on text big [] k bigs rest within sound =
+    let past : length (lines text) ≤ suc k = line_past (suc k) (lines text) rest in
+    let all : suc k ≡ length (lines text) = omega arith in
+    inl (record { commands = []; said = refl; requests = tt; numbered = refl; sound = subst (λ (n : ℕ). AreSound text n) all sound })
+read_on text big (l ∷ ls) k bigs rest within sound = by_line (λ sounder. read_on text big ls (suc k) bigs here.1 inside sounder) (judged big (suc k + 1) (request_of l)) refl where
+  here : (slice_get (lines text) (suc k) ≡ Some l) × (drop (suc (suc k)) (lines text) ≡ ls)
+  here = line_here (suc k) (lines text) l ls rest
+
+  joined : (r : Request) → IsRequest r → l ≡ command_line r → AreRead text ls (suc (suc k)) ⊎ ((f : ScriptFault) × IsFirstFault text f) → AreRead text (l ∷ ls) (suc k) ⊎ ((f : ScriptFault) × IsFirstFault text f)
+  joined r fits is (inr f) = inr f
+  joined r fits is (inl more) =
+      let c : Command = record { line = suc k + 1; request = r } in
+      let next : suc (suc k) + 1 ≡ (suc k + 1) + 1 = omega arith in
+      inl (record {
+        commands = c ∷ more.commands;
+        said = ap (λ x. x ∷ ls) is ∙ ap (λ xs. command_line r ∷ xs) more.said;
+        requests = (fits, more.requests);
+        numbered = ap (λ ns. (suc k + 1) ∷ ns) (more.numbered ∙ ap (λ n. range_with_len n (length more.commands)) next);
+        sound = more.sound;
+      })
+
+  inside : suc (suc k) ≤ length (lines text)
+  inside = by_length (cases_lt (suc k) (length (lines text))) where
+    by_length : (suc k < length (lines text)) ⊎ (length (lines text) ≤ suc k) → suc (suc k) ≤ length (lines text)
+    by_length (inl lower) = omega arith
+    by_length (inr upper) = absurd (let no : l ∷ ls ≡ [] = sym rest ∙ drop_all (suc k) (lines text) upper in cc)
+
+  by_line : (AreSound text (suc (suc k)) → AreRead text ls (suc (suc k)) ⊎ ((f : ScriptFault) × IsFirstFault text f)) → (r : Result Request ScriptFault) → judged big (suc k + 1) (request_of l) ≡ r → AreRead text (l ∷ ls) (suc k) ⊎ ((f : ScriptFault) × IsFirstFault text f)
+  by_line again (Err f) e = inr (f, first_fault text l (suc k) big (request_of l) f bigs sound here.0 (λ none place. not_commanded l none place) e)
+  by_line again (Ok r) e =
+      let ok = judged_ok big (suc k + 1) (request_of l) r e in
+      let says = says_request l r ok.1 in
+      let place : IsInPlace (suc k) (slice_get (lines text) (suc k)) = subst (λ (o : Option (List ℕ)). IsInPlace (suc k) o) (sym here.0) (commanded l r ok.1) in
+      let sounder = sound_more text (suc k) (suc (suc k)) (omega arith) sound (not_big text big (suc k) bigs ok.0) place in
+      joined r says.0 says.1 (again sounder)
+
+-- what was read is a script
+whole : (text l : List ℕ) (ls : List (List ℕ)) (s : Start) → lines text ≡ l ∷ ls → IsStart s → l ≡ start_line s → AreRead text ls 1 → (p : Plan) × Spells text p
+whole text l ls s split fits is read =
+    let said : lines text ≡ start_line s ∷ map (λ (c : Command). command_line c.request) read.commands = split ∙ ap (λ x. x ∷ ls) is ∙ ap (λ xs. start_line s ∷ xs) read.said in
+    let within : length text ≤ max_script = short (cases_lt max_script (length text)) in
+    let count : length (lines text) ≡ suc (length read.commands) = ap length said ∙ ap suc (length_map (λ (c : Command). command_line c.request) read.commands) in (
+      record { start = s; commands = read.commands },
+      record {
+        plan = record { start = fits; requests = read.requests; numbered = read.numbered; room = omega (arith, length_lines text) };
+        said = said;
+        within = within;
+      },
+    ) where
+      short : (max_script < length text) ⊎ (length text ≤ max_script) → length text ≤ max_script
+      short (inl over) = absurd (read.sound (feeds (take max_script text)) Big (feeds_below max_script text over) (over, refl))
+      short (inr within) = within
+
+pub one_of_them : (text : List ℕ) → ((p : Plan) × Spells text p) ⊎ ((f : ScriptFault) × IsFirstFault text f)
+one_of_them text = by_lines (lines text) refl where
+  big : (b : Option ℕ) × IsBigLine text b
+  big = cases_big text
+
+  ended : (l : List ℕ) (ls : List (List ℕ)) (s : Start) → lines text ≡ l ∷ ls → IsStart s → l ≡ start_line s → AreRead text ls 1 ⊎ ((f : ScriptFault) × IsFirstFault text f) → ((p : Plan) × Spells text p) ⊎ ((f : ScriptFault) × IsFirstFault text f)
+  ended l ls s split fits is (inl read) = inl (whole text l ls s split fits is read)
+  ended l ls s split fits is (inr f) = inr f
+
+  by_start : (l : List ℕ) (ls : List (List ℕ)) → lines text ≡ l ∷ ls → (r : Result Start ScriptFault) → judged big.0 1 (start_of l) ≡ r → ((p : Plan) × Spells text p) ⊎ ((f : ScriptFault) × IsFirstFault text f)
+  by_start l ls split (Err f) e =
+      let here = line_here 0 (lines text) l ls split in
+      inr (f, first_fault text l 0 big.0 (start_of l) f big.1 (sound_none text) here.0 (λ none place. not_started l none place) e)
+  by_start l ls split (Ok s) e =
+      let here = line_here 0 (lines text) l ls split in
+      let ok = judged_ok big.0 1 (start_of l) s e in
+      let says = says_start l s ok.1 in
+      let place : IsInPlace 0 (slice_get (lines text) 0) = subst (λ (o : Option (List ℕ)). IsInPlace 0 o) (sym here.0) (started l s ok.1) in
+      let sound = sound_more text 0 1 refl (sound_none text) (not_big text big.0 0 big.1 ok.0) place in
+      let some : 1 ≤ length (lines text) = let count : length (lines text) ≡ suc (length ls) = ap length split in omega arith in
+      ended l ls s split says.0 says.1 (read_on text big.0 ls 0 big.1 here.1 some sound)
+
+  by_lines : (ls : List (List ℕ)) → lines text ≡ ls → ((p : Plan) × Spells text p) ⊎ ((f : ScriptFault) × IsFirstFault text f)
+  by_lines [] e = inr (record { line = 1; kind = Script }, empty_fault text (no_lines text e))
+  by_lines (l ∷ ls) e = by_start l ls e (judged big.0 1 (start_of l)) refl

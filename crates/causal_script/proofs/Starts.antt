@@ -1,0 +1,166 @@
+-- A start and its line.
+use Rattle.std.proofs.Common.{◌≡◌, ℕ, ◌<◌, ◌≤◌, ◌^◌, List, [], ◌∷◌, ◌++◌, Bool, true, false, cond, Option, Some, None, refl, ap, sym, ◌∙◌, subst, arith, decimal, codes, bytes_eq}
+use Rattle.std.proofs.lemmas.Option.{none-some, same_Some}
+use Rattle.causal_script.specs.declared.script.Kind.{Kind}
+use Rattle.causal_script.specs.declared.script.Kind.TheVariants.{Ring, Echo, Tally}
+use Rattle.causal_script.specs.declared.start.Start.{Start}
+use Rattle.causal_script.specs.Spelling.{start_line_at, start_line, IsStart}
+use Rattle.causal_script.specs.Faults.{IsStartLine}
+use Rattle.causal_script.specs.Inside.Reading.{◌>>=◌, cut, number_of, count_of, with_param, tally_of, start_of_kind, named_start, start_of}
+use Rattle.causal_script.proofs.Cuts.{IsCut, cut_whole, cut_front}
+use Rattle.causal_script.proofs.Numbers.{number_of-decimal, decimal-number_of, count_of-decimal, decimal-count_of, decimal_lacks}
+use Rattle.causal_script.proofs.Commands.{bind_some, chosen}
+
+-- ---- from the line
+
+-- the numbers behind the kind
+record IsNumbers (kind : Kind) (words : List ℕ) (s : Start) : Type 0 where
+  n : ℕ
+  f : ℕ
+  param : ℕ
+  is : s ≡ record { kind = kind; n = n; f = f; param = param }
+  some : 1 ≤ n
+  few : n ≤ 256
+  faults : f < 2 ^ 16
+  small : param < 2 ^ 8
+
+with_param_is : (kind : Kind) (words : List ℕ) (s : Start) → with_param kind words ≡ Some s → (w : IsNumbers kind words s) × (words ≡ decimal w.n ++ (32 ∷ (decimal w.f ++ (32 ∷ decimal w.param))))
+unfolding with_param
+with_param_is kind words s e =
+    let a = bind_some (cut 32 words) _ s e in
+    let b = bind_some (cut 32 a.0.1) _ s a.2 in
+    let n = bind_some (count_of a.0.0) _ s b.2 in
+    let f = bind_some (number_of 65535 b.0.0) _ s n.2 in
+    let param = bind_some (number_of 255 b.0.1) _ s f.2 in
+    let first : IsCut 32 words a.0 = cut_whole 32 words a.0 a.1 in
+    let second : IsCut 32 a.0.1 b.0 = cut_whole 32 a.0.1 b.0 b.1 in
+    let count = decimal-count_of n.0 a.0.0 n.1 in
+    let faults = decimal-number_of 65535 f.0 b.0.0 (omega arith) f.1 in
+    let number = decimal-number_of 255 param.0 b.0.1 (omega arith) param.1 in
+    let rest : a.0.1 ≡ decimal f.0 ++ (32 ∷ decimal param.0) = second.whole ∙ ap (λ xs. xs ++ 32 ∷ b.0.1) faults.0 ∙ ap (λ xs. decimal f.0 ++ (32 ∷ xs)) number.0 in (
+      record {
+        n = n.0;
+        f = f.0;
+        param = param.0;
+        is = sym (same_Some _ _ param.2);
+        some = count.1;
+        few = count.2;
+        faults = omega (arith, faults.1);
+        small = omega (arith, number.1);
+      },
+      first.whole ∙ ap (λ xs. xs ++ 32 ∷ a.0.1) count.0 ∙ ap (λ xs. decimal n.0 ++ (32 ∷ xs)) rest,
+    )
+
+tally_is : (words : List ℕ) (s : Start) → tally_of words ≡ Some s → (w : IsNumbers Tally words s) × (w.param ≡ 0) × (words ≡ decimal w.n ++ (32 ∷ decimal w.f))
+unfolding tally_of
+tally_is words s e =
+    let a = bind_some (cut 32 words) _ s e in
+    let n = bind_some (count_of a.0.0) _ s a.2 in
+    let f = bind_some (number_of 65535 a.0.1) _ s n.2 in
+    let first : IsCut 32 words a.0 = cut_whole 32 words a.0 a.1 in
+    let count = decimal-count_of n.0 a.0.0 n.1 in
+    let faults = decimal-number_of 65535 f.0 a.0.1 (omega arith) f.1 in (
+      record {
+        n = n.0;
+        f = f.0;
+        param = 0;
+        is = sym (same_Some _ _ f.2);
+        some = count.1;
+        few = count.2;
+        faults = omega (arith, faults.1);
+        small = omega arith;
+      },
+      refl,
+      first.whole ∙ ap (λ xs. xs ++ 32 ∷ a.0.1) count.0 ∙ ap (λ xs. decimal n.0 ++ (32 ∷ xs)) faults.0,
+    )
+
+-- the line says this
+abbrev pub SaysStart : List ℕ → Start → Type 0
+SaysStart line s = IsStart s × (line ≡ start_line s)
+
+says_with_param : (kind : Kind) (word name words line : List ℕ) (s : Start) → (kind ≡ Tally → ⊥)
+    → ((n f param : ℕ) → codes "start " ++ (word ++ (32 ∷ (decimal n ++ (32 ∷ (decimal f ++ (32 ∷ decimal param)))))) ≡ start_line (record { kind = kind; n = n; f = f; param = param }))
+    → line ≡ codes "start " ++ (name ++ 32 ∷ words) → name ≡ word → with_param kind words ≡ Some s → SaysStart line s
+says_with_param kind word name words line s other spells whole named e =
+    let w = with_param_is kind words s e in
+    let t : Start = record { kind = kind; n = w.0.n; f = w.0.f; param = w.0.param } in
+    let fits : IsStart t = record { some = w.0.some; few = w.0.few; faults = w.0.faults; param = w.0.small; tally = λ is. absurd (other is) } in
+    let spelled : line ≡ start_line t = whole ∙ ap (λ xs. codes "start " ++ (xs ++ 32 ∷ words)) named ∙ ap (λ xs. codes "start " ++ (word ++ 32 ∷ xs)) w.1 ∙ spells w.0.n w.0.f w.0.param in
+    let says : SaysStart line t = (fits, spelled) in
+    subst (λ (u : Start). SaysStart line u) (sym w.0.is) says
+
+says_tally : (name words line : List ℕ) (s : Start) → line ≡ codes "start " ++ (name ++ 32 ∷ words) → name ≡ codes "tally" → tally_of words ≡ Some s → SaysStart line s
+says_tally name words line s whole named e =
+    let w = tally_is words s e in
+    let t : Start = record { kind = Tally; n = w.0.n; f = w.0.f; param = w.0.param } in
+    let fits : IsStart t = record { some = w.0.some; few = w.0.few; faults = w.0.faults; param = w.0.small; tally = λ is. w.1 } in
+    let spelled : line ≡ start_line t = whole ∙ ap (λ xs. codes "start " ++ (xs ++ 32 ∷ words)) named ∙ ap (λ xs. codes "start tally " ++ xs) w.2 in
+    let says : SaysStart line t = (fits, spelled) in
+    subst (λ (u : Start). SaysStart line u) (sym w.0.is) says
+
+says_kind : (name words line : List ℕ) (s : Start) → line ≡ codes "start " ++ (name ++ 32 ∷ words) → start_of_kind name words ≡ Some s → SaysStart line s
+unfolding start_of_kind
+says_kind name words line s whole e =
+    chosen name (codes "ring") _ _ s (λ named is. says_with_param Ring (codes "ring") name words line s (λ no. cc) (λ n f param. refl) whole named is)
+    (chosen name (codes "echo") _ _ s (λ named is. says_with_param Echo (codes "echo") name words line s (λ no. cc) (λ n f param. refl) whole named is)
+    (chosen name (codes "tally") _ None s (λ named is. says_tally name words line s whole named is)
+    (λ no. absurd (none-some s no)))) e
+
+says_named_start : (name words line : List ℕ) (s : Start) → line ≡ name ++ 32 ∷ words → named_start name words ≡ Some s → SaysStart line s
+unfolding named_start
+says_named_start name words line s whole e =
+    chosen name (codes "start") _ None s (λ named is. behind named is) (λ no. absurd (none-some s no)) e where
+      behind : name ≡ codes "start" → (cut 32 words >>= λ a. start_of_kind a.0 a.1) ≡ Some s → SaysStart line s
+      behind named is =
+          let a = bind_some (cut 32 words) _ s is in
+          let parts : IsCut 32 words a.0 = cut_whole 32 words a.0 a.1 in
+          says_kind a.0.0 a.0.1 line s (whole ∙ ap (λ xs. xs ++ 32 ∷ words) named ∙ ap (λ xs. codes "start " ++ xs) parts.whole) a.2
+
+pub says_start : (line : List ℕ) (s : Start) → start_of line ≡ Some s → SaysStart line s
+unfolding start_of
+says_start line s e =
+    let a = bind_some (cut 32 line) _ s e in
+    let parts : IsCut 32 line a.0 = cut_whole 32 line a.0 a.1 in
+    says_named_start a.0.0 a.0.1 line s parts.whole a.2
+
+-- ---- and back
+
+with_param_back : (kind : Kind) (n f param : ℕ) → 1 ≤ n → n ≤ 256 → f < 2 ^ 16 → param < 2 ^ 8
+    → with_param kind (decimal n ++ (32 ∷ (decimal f ++ (32 ∷ decimal param)))) ≡ Some (record { kind = kind; n = n; f = f; param = param })
+unfolding with_param
+with_param_back kind n f param some few faults small =
+    let first : cut 32 (decimal n ++ (32 ∷ (decimal f ++ (32 ∷ decimal param)))) ≡ Some (decimal n, decimal f ++ (32 ∷ decimal param)) = cut_front 32 (decimal n) _ (decimal_lacks n (omega arith)) in
+    let second : cut 32 (decimal f ++ (32 ∷ decimal param)) ≡ Some (decimal f, decimal param) = cut_front 32 (decimal f) (decimal param) (decimal_lacks f (omega arith)) in
+    let a = count_of-decimal n some few in
+    let b = number_of-decimal 65535 f (omega arith) (omega arith) in
+    let c = number_of-decimal 255 param (omega arith) (omega arith) in
+    rw first (rw second (rw a (rw b (rw c refl))))
+
+tally_back : (n f : ℕ) → 1 ≤ n → n ≤ 256 → f < 2 ^ 16 → tally_of (decimal n ++ (32 ∷ decimal f)) ≡ Some (record { kind = Tally; n = n; f = f; param = 0 })
+unfolding tally_of
+tally_back n f some few faults =
+    let first : cut 32 (decimal n ++ (32 ∷ decimal f)) ≡ Some (decimal n, decimal f) = cut_front 32 (decimal n) (decimal f) (decimal_lacks n (omega arith)) in
+    let a = count_of-decimal n some few in
+    let b = number_of-decimal 65535 f (omega arith) (omega arith) in
+    rw first (rw a (rw b refl))
+
+pub start_back : (s : Start) → IsStart s → start_of (start_line s) ≡ Some s
+unfolding start_of named_start start_of_kind
+start_back s h = at s.kind refl where
+  at : (kind : Kind) → s.kind ≡ kind → start_of (start_line s) ≡ Some s
+  at Ring is = subst (λ (k : Kind). start_of (start_line_at k s) ≡ Some (record { kind = k; n = s.n; f = s.f; param = s.param })) (sym is) (with_param_back Ring s.n s.f s.param h.some h.few h.faults h.param)
+  at Echo is = subst (λ (k : Kind). start_of (start_line_at k s) ≡ Some (record { kind = k; n = s.n; f = s.f; param = s.param })) (sym is) (with_param_back Echo s.n s.f s.param h.some h.few h.faults h.param)
+  at Tally is =
+      let none : 0 ≡ s.param = sym (h.tally is) in
+      subst (λ (k : Kind). start_of (start_line_at k s) ≡ Some (record { kind = k; n = s.n; f = s.f; param = s.param })) (sym is)
+      (subst (λ (p : ℕ). start_of (start_line_at Tally s) ≡ Some (record { kind = Tally; n = s.n; f = s.f; param = p })) none (tally_back s.n s.f h.some h.few h.faults))
+
+-- ---- in place
+
+pub started : (line : List ℕ) (s : Start) → start_of line ≡ Some s → IsStartLine line
+started line s e = let says = says_start line s e in (s, says.0, says.1)
+
+pub not_started : (line : List ℕ) → start_of line ≡ None → IsStartLine line → ⊥
+not_started line e h =
+    let back : start_of line ≡ Some h.0 = ap start_of h.2 ∙ start_back h.0 h.1 in
+    none-some h.0 (sym e ∙ back)

@@ -1,0 +1,88 @@
+-- What a line says, word by word.
+use Rattle.std.specs.Prelude.{ℕ, ◌==◌, ◌&&◌, not, Bool, false, List, [], ◌∷◌, codes, bytes_eq, nat_le, nat_lt, if◌then◌else◌, Option, Some, None, option_map}
+use Rattle.std.specs.Char.{is_ascii_digit}
+use Rattle.std.specs.Str.{all_ascii_digits}
+use Rattle.std.specs.Str.Parse.{digits_value}
+use Rattle.causal_name.specs.declared.Pid.{Pid}
+use Rattle.causal_protocol.specs.declared.request.Request.{Request}
+use Rattle.causal_protocol.specs.declared.request.Request.TheVariants.{Deliver, Crash, Restart, Flush, Forget}
+use Rattle.causal_script.specs.declared.script.Kind.{Kind}
+use Rattle.causal_script.specs.declared.script.Kind.TheVariants.{Ring, Echo, Tally}
+use Rattle.causal_script.specs.declared.start.Start.{Start}
+
+infixl 10 ◌>>=◌
+abbrev pub ◌>>=◌ : {A B : Type 0} → Option A → (A → Option B) → Option B
+None >>= f = None
+(Some x) >>= f = f x
+
+-- what stands before the first such byte, and what stands after it
+abbrev pub cut : ℕ → List ℕ → Option (List ℕ × List ℕ)
+cut byte [] = None
+cut byte (x ∷ xs) = if x == byte then Some ([], xs) else option_map (λ parts. (x ∷ parts.0, parts.1)) (cut byte xs)
+
+abbrev pub space : ℕ
+space = 32
+
+-- digits, and no zero before others
+abbrev pub is_plain : List ℕ → Bool
+is_plain [] = false
+is_plain (x ∷ []) = is_ascii_digit x
+is_plain (x ∷ y ∷ ys) = not (x == 48) && all_ascii_digits (x ∷ y ∷ ys)
+
+-- the number that a word spells, up to a limit
+unfoldable pub number_of : ℕ → List ℕ → Option ℕ
+number_of limit word =
+    if is_plain word && nat_le (digits_value 10 word) limit then Some (digits_value 10 word) else None
+
+unfoldable pub process_of : List ℕ → Option Pid
+process_of word = number_of 255 word >>= λ n. Some (record { 0 = n })
+
+-- `Q SOURCE SSN`
+unfoldable pub delivery_of : List ℕ → Option Request
+delivery_of words =
+    cut space words >>= λ a. cut space a.1 >>= λ b.
+    process_of a.0 >>= λ q. process_of b.0 >>= λ source. number_of 4294967295 b.1 >>= λ ssn. Some (Deliver q source ssn)
+
+unfoldable pub named_request : List ℕ → List ℕ → Option Request
+named_request name words =
+    if bytes_eq name (codes "deliver") then delivery_of words else
+    if bytes_eq name (codes "crash") then process_of words >>= (λ p. Some (Crash p)) else
+    if bytes_eq name (codes "restart") then process_of words >>= (λ p. Some (Restart p)) else
+    if bytes_eq name (codes "flush") then process_of words >>= (λ p. Some (Flush p)) else
+    if bytes_eq name (codes "forget") then process_of words >>= (λ p. Some (Forget p)) else
+    None
+
+-- what a command asks for
+unfoldable pub request_of : List ℕ → Option Request
+request_of line = cut space line >>= λ a. named_request a.0 a.1
+
+unfoldable pub count_of : List ℕ → Option ℕ
+count_of word = number_of 256 word >>= λ n. if nat_lt 0 n then Some n else None
+
+-- `N F PARAM`
+unfoldable pub with_param : Kind → List ℕ → Option Start
+with_param kind words =
+    cut space words >>= λ a. cut space a.1 >>= λ b.
+    count_of a.0 >>= λ n. number_of 65535 b.0 >>= λ f. number_of 255 b.1 >>= λ param.
+    Some (record { kind = kind; n = n; f = f; param = param })
+
+-- `N F`
+unfoldable pub tally_of : List ℕ → Option Start
+tally_of words =
+    cut space words >>= λ a.
+    count_of a.0 >>= λ n. number_of 65535 a.1 >>= λ f. Some (record { kind = Tally; n = n; f = f; param = 0 })
+
+unfoldable pub start_of_kind : List ℕ → List ℕ → Option Start
+start_of_kind kind words =
+    if bytes_eq kind (codes "ring") then with_param Ring words else
+    if bytes_eq kind (codes "echo") then with_param Echo words else
+    if bytes_eq kind (codes "tally") then tally_of words else
+    None
+
+unfoldable pub named_start : List ℕ → List ℕ → Option Start
+named_start name words =
+    if bytes_eq name (codes "start") then cut space words >>= (λ a. start_of_kind a.0 a.1) else None
+
+-- what a first line says
+unfoldable pub start_of : List ℕ → Option Start
+start_of line = cut space line >>= λ a. named_start a.0 a.1

@@ -1,0 +1,79 @@
+-- Which script a text spells.
+use Rattle.std.specs.Prelude.{◌≡◌, ℕ, ◌^◌, ◌<◌, ◌≤◌, List, ◌∷◌, ◌++◌, length, map, codes, decimal}
+use Rattle.std.specs.List.{AllByRecursion, range_with_len}
+use Rattle.causal_protocol.specs.declared.request.Request.{Request}
+use Rattle.causal_protocol.specs.declared.request.Request.TheVariants.{Deliver, Crash, Restart, Flush, Forget}
+use Rattle.causal_script.specs.declared.script.Kind.{Kind}
+use Rattle.causal_script.specs.declared.script.Kind.TheVariants.{Ring, Echo, Tally}
+use Rattle.causal_script.specs.declared.script.Command.{Command}
+use Rattle.causal_script.specs.declared.script.Script.{Script}
+use Rattle.causal_script.specs.declared.start.Start.{Start}
+use Rattle.causal_script.specs.Lines.{lines}
+
+-- how many bytes the text of a script may have
+abbrev pub max_script : ℕ
+max_script = 1048576
+
+-- what a script says, without where its commands lie in memory
+pub record Plan : Type 0 where
+  pub start : Start
+  pub commands : List Command
+
+abbrev pub plan_of : Script → Plan
+plan_of s = record { start = record { kind = s.kind; n = s.n; f = s.f; param = s.param }; commands = s.commands.items }
+
+-- ---- the lines
+
+-- `N F PARAM`
+abbrev pub three_numbers : Start → List ℕ
+three_numbers s = decimal s.n ++ (codes " " ++ (decimal s.f ++ (codes " " ++ decimal s.param)))
+
+-- the first line
+abbrev pub start_line_at : Kind → Start → List ℕ
+start_line_at Ring s = codes "start ring " ++ three_numbers s
+start_line_at Echo s = codes "start echo " ++ three_numbers s
+start_line_at Tally s = codes "start tally " ++ (decimal s.n ++ (codes " " ++ decimal s.f))
+
+abbrev pub start_line : Start → List ℕ
+start_line s = start_line_at s.kind s
+
+-- each line after it
+abbrev pub command_line : Request → List ℕ
+command_line (Deliver q source ssn) =
+    codes "deliver " ++ (decimal q.0 ++ (codes " " ++ (decimal source.0 ++ (codes " " ++ decimal ssn))))
+command_line (Crash p) = codes "crash " ++ decimal p.0
+command_line (Restart p) = codes "restart " ++ decimal p.0
+command_line (Flush p) = codes "flush " ++ decimal p.0
+command_line (Forget p) = codes "forget " ++ decimal p.0
+
+-- ---- the numbers
+
+-- the numbers of a first line are in their ranges; a tally has no parameter
+pub record IsStart (s : Start) : Type 0 where
+  pub some : 1 ≤ s.n
+  pub few : s.n ≤ 256
+  pub faults : s.f < 2 ^ 16
+  pub param : s.param < 2 ^ 8
+  pub tally : s.kind ≡ Tally → s.param ≡ 0
+
+-- the numbers of a command are in their ranges
+abbrev pub IsRequest : Request → Type 0
+IsRequest (Deliver q source ssn) = (q.0 < 2 ^ 8) × (source.0 < 2 ^ 8) × (ssn < 2 ^ 32)
+IsRequest (Crash p) = p.0 < 2 ^ 8
+IsRequest (Restart p) = p.0 < 2 ^ 8
+IsRequest (Flush p) = p.0 < 2 ^ 8
+IsRequest (Forget p) = p.0 < 2 ^ 8
+
+-- what a script may say: its numbers are in their ranges, its commands are on the lines 2, 3 and so on, and there are no
+-- more of them than bytes in its text
+pub record IsPlan (p : Plan) : Type 0 where
+  pub start : IsStart p.start
+  pub requests : AllByRecursion (λ c. IsRequest c.request) p.commands
+  pub numbered : map (λ c. c.line) p.commands ≡ range_with_len 2 (length p.commands)
+  pub room : length p.commands ≤ max_script
+
+-- the lines of the text are those of the script, and the text is not too long
+pub record Spells (text : List ℕ) (p : Plan) : Type 0 where
+  pub plan : IsPlan p
+  pub said : lines text ≡ start_line p.start ∷ map (λ c. command_line c.request) p.commands
+  pub within : length text ≤ max_script
