@@ -1,0 +1,3 @@
+mod Asks
+mod Histories
+mod Refusals

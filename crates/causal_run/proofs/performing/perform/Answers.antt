@@ -1,0 +1,42 @@
+use Rattle.std.proofs.Common.{◌≡◌, ◌∙◌, subst, List, length, rules}
+use Rattle.std.proofs.lemmas.Result.{err_from_is_err_and}
+use Rattle.causal_core.specs.CoreView.{run_of, state_of}
+use Rattle.causal_shared.specs.declared.item.Item.{Item}
+use Rattle.causal_shared.specs.Shared.{opening_of}
+use Rattle.causal_script.specs.declared.script.Command.{Command}
+use Rattle.causal_run.specs.Inside.Asking.{AreDone, IsStopped}
+use Rattle.causal_run.proofs.Histories.{run-of, refused-as, safe-as, opened-as, one-seat, set-one}
+use Rattle.causal_run.proofs.performing.perform.Goals as goal
+
+pub returns-in_err-outcome-clause-refused : goal.returns-in_err-outcome-clause-refused
+returns-in_err-outcome-clause-refused g c =
+    let history = c.in_ok-finished.finished.history in
+    let r = run_of c.in_ok-finished.finished.core in
+    let seat = c.ask_all-outcome.new.seat in
+    let fault = c.in_err-outcome.field-0.0 in
+    let len : length c.in_ok-shared.seats.items ≡ 1 = search rules in
+    let whole : seat.sitting.items ≡ history = one-seat history _ seat (set-one c.in_ok-shared.seats.items seat len) c.in_ok-finished.ensures.seats c.in_ok-finished.ensures.others in
+    let told = subst (λ (cs : List Command). IsStopped cs seat.sitting.items fault) c.as_slice.ensures.value c.in_err-outcome.ensures.err in
+    let stopped = subst (λ (is : List Item). IsStopped c.args.script.now.commands.items is fault) whole told in
+    let opens = opened-as r history (opening_of c.in_ok-shared.shared) (run_of c.in_ok-core.core) c.in_ok-finished.ensures.opening c.in_ok-shared.ensures.recording c.in_ok-shared.ensures.faults in
+    let p = err_from_is_err_and c.from_residual-in_err-outcome.result c.from_residual-in_err-outcome.ensures.1 in
+    rw (p.1, p.2) (refused-as _ c.args.script.now.f c.args.boxes.items c.args.script.now.commands.items (state_of c.in_ok-core.core) r history fault c.in_ok-core.ensures.ok opens c.in_ok-finished.ensures.legal.legal stopped)
+
+pub returns-clause-run : goal.returns-clause-run
+returns-clause-run g c =
+    let history = c.in_ok-finished.finished.history in
+    let r = run_of c.in_ok-finished.finished.core in
+    let seat = c.ask_all-outcome.new.seat in
+    let len : length c.in_ok-shared.seats.items ≡ 1 = search rules in
+    let whole : seat.sitting.items ≡ history = one-seat history _ seat (set-one c.in_ok-shared.seats.items seat len) c.in_ok-finished.ensures.seats c.in_ok-finished.ensures.others in
+    let told = subst (λ (cs : List Command). AreDone cs seat.sitting.items) c.as_slice.ensures.value c.in_ok-outcome.ensures.ok in
+    let done = subst (λ (is : List Item). AreDone c.args.script.now.commands.items is) whole told in
+    let opens = opened-as r history (opening_of c.in_ok-shared.shared) (run_of c.in_ok-core.core) c.in_ok-finished.ensures.opening c.in_ok-shared.ensures.recording c.in_ok-shared.ensures.faults in
+    run-of _ c.args.script.now.f c.args.boxes.items c.args.script.now.commands.items (state_of c.in_ok-core.core) r history c.in_ok-try_clone.field-0.recording c.in_ok-core.ensures.ok opens c.in_ok-finished.ensures.legal.legal done (c.in_ok-try_clone.ensures ∙ c.trace.ensures.recording)
+
+pub returns-clause-safe : goal.returns-clause-safe
+returns-clause-safe g c =
+    let history = c.in_ok-finished.finished.history in
+    let r = run_of c.in_ok-finished.finished.core in
+    let opens = opened-as r history (opening_of c.in_ok-shared.shared) (run_of c.in_ok-core.core) c.in_ok-finished.ensures.opening c.in_ok-shared.ensures.recording c.in_ok-shared.ensures.faults in
+    safe-as _ c.args.script.now.f c.args.boxes.items (state_of c.in_ok-core.core) r history c.in_ok-try_clone.field-0.recording c.in_ok-core.ensures.ok opens c.in_ok-finished.ensures.safe (c.in_ok-try_clone.ensures ∙ c.trace.ensures.recording)
