@@ -1,6 +1,6 @@
 #!/usr/bin/env python3
-"""Checks that the answers in examples/README.md and docs/FORMAT.md are those of the traces that stand here, and that each script
-prints the trace of its name: by the plain models of auditor and runtime (trials/), and with --program also by the program.
+"""Checks that the answers in examples/README.md and docs/FORMAT.md are those of the traces and scripts that stand here: by the plain
+models of the auditor and of the runtime (trials/traces.py, trials/scripts.py), and with --program also by the program.
 
     examples/check.py [--program crates/causal_tool/out/causal_tool]
 """
@@ -30,10 +30,16 @@ def rows():
                 yield trace, int(f), cells[3].strip("`"), int(cells[4])
 
 
+def bytes_of(name):
+    with open(os.path.join(HERE, name), "rb") as file:
+        return file.read()
+
+
 def text_of(trace):
-    if trace.endswith((".jsonl", ".script")):
-        with open(os.path.join(HERE, trace), "rb") as file:
-            return file.read()
+    if trace.endswith(".jsonl"):
+        return bytes_of(trace)
+    if trace.endswith(".script"):
+        return scripts.ran(bytes_of(trace))[0].encode()
     script, *words = trace.split()
     return subprocess.run([sys.executable, os.path.join(HERE, script), *words], capture_output=True, check=True).stdout
 
@@ -47,23 +53,33 @@ def recorded_in_the_format():
     return "".join(line + "\n" for line in [header, *lines, end]).encode()
 
 
-def runs(program):
-    """For each script, the trace that it should print, who ran it, and what that printed with which status."""
-    for name in sorted(os.listdir(HERE)):
-        if name.endswith(".script"):
-            script, wanted = text_of(name), text_of(name.replace(".script", ".jsonl"))
-            printed, status = scripts.ran(script)
-            yield name, wanted, "model", printed.encode(), status
-            if program:
-                ended = subprocess.run([program, "run"], input=script, capture_output=True)
-                yield name, wanted, "program", ended.stdout, ended.returncode
+# what running a script prints, and its status; a trace stands in a file
+RUNS = {
+    "replay.script": (bytes_of("replay.jsonl").decode(), 0),
+    "stopped.script": ("refused line=6 MustReplay 2 0\n", 2),
+}
+
+
+def wrong_runs(program):
+    """Tells each script whose run prints something else, and gives how many there are."""
+    wrong = 0
+    for script, answer in RUNS.items():
+        answers = {"model": scripts.ran(bytes_of(script))}
+        if program:
+            ended = subprocess.run([program, "run"], input=bytes_of(script), capture_output=True)
+            answers["program"] = ended.stdout.decode(), ended.returncode
+        for who, said in answers.items():
+            if said != answer:
+                wrong += 1
+                print(f"{script}: the table has {answer!r}, the {who} says {said!r}")
+    return wrong
 
 
 def main():
     given = argparse.ArgumentParser(description=__doc__.split("\n\n")[0])
     given.add_argument("--program")
     program = given.parse_args().program
-    wrong, count, met = 0, 0, set()
+    wrong, count, met = wrong_runs(program), 0, set()
     for trace, f, answer, status in rows():
         text = text_of(trace)
         answers = {"model": traces.audited(text, f)}
@@ -76,12 +92,7 @@ def main():
                 wrong += 1
                 print(f"{trace} for {f}: the table has {answer!r}, the {who} says {said!r}")
         met.add(trace)
-    for name, wanted, who, printed, status in runs(program):
-        count += 1
-        if (printed, status) != (wanted, 0):
-            wrong += 1
-            print(f"{name}: the {who} prints {printed!r} with status {status}")
-    unmet = {name for name in os.listdir(HERE) if name.endswith(".jsonl")} - met
+    unmet = {name for name in os.listdir(HERE) if name.endswith((".jsonl", ".script"))} - met - RUNS.keys()
     if unmet:
         wrong += len(unmet)
         print(f"no row for {', '.join(sorted(unmet))}")

@@ -1,2 +1,4 @@
 mod ByteLemmas
 mod Known
+mod PrintLemmas
+mod ReadLemmas

@@ -1,4 +1,5 @@
 pub mod Endings
 pub mod Judgements
+pub mod Runs
 pub mod Streams
 pub mod Refusals

@@ -1,12 +1,15 @@
-//! Audits the recorded run that it reads on standard input.
+//! Audits the recorded run, or runs the script, that it reads on standard input.
 #![tactic(auto)]
 
 mod ended;
 mod judged;
+mod reading;
+mod script;
 mod stream;
 mod words;
 mod written;
 
+use crate::script::run_stream;
 use crate::stream::{Told, audit_and_tell};
 use crate::words::{Asked, Refused};
 use causal_workers::OpenGate;
@@ -31,6 +34,10 @@ fn main(rt: HostRuntime) -> ExitCode {
             &OpenGate,
         ),
         Ok(Asked::Audit { .. }) => return ExitCode::from(3),
+        Ok(Asked::Run) => Told {
+            ended: run_stream(&rt, rt.alloc(), &mut rt.reader(), &mut io::writer(&rt)),
+            fault: None,
+        },
         Err(Refused::Status(status)) => return ExitCode::from(status),
         Err(Refused::Ended(ended)) => Told { ended, fault: None },
     };

@@ -1,5 +1,9 @@
 //! What the program writes to a text, and how it ends, where readers and writers give and take little, or fail.
+mod cut;
 mod forged;
+mod reading;
+mod running;
+mod scripts;
 mod traces;
 
 use self::traces::{FAULTY, JUDGED, RING};
@@ -234,10 +238,13 @@ fn statuses(rt: HostRuntime) {
         (Ended::Accepted, 0, None),
         (Ended::Breached, 1, None),
         (Ended::Faulted, 2, None),
+        (Ended::Ran, 0, None),
+        (Ended::Refused, 2, None),
         (Ended::ReadFault, 4, Some("read fault")),
         (Ended::WriteFault, 4, Some("write fault")),
         (Ended::NoMemory, 5, Some("no memory")),
         (Ended::NoWorker, 5, Some("no worker")),
+        (Ended::FinishFault, 5, Some("finish fault")),
     ] {
         assert_eq!(rt; ended.status(), status);
         assert_eq!(rt; ended.text(), text);
@@ -318,8 +325,15 @@ fn words_that_ask_for_an_audit(rt: HostRuntime) -> Result<(), Fail> {
     Ok(())
 }
 
+#[test]
+fn words_that_ask_for_a_run(rt: HostRuntime) -> Result<(), Fail> {
+    let words = ["causal_tool", "run"];
+    assert_eq!(rt; parsed(rt.alloc(), words.as_slice())?, Some(Asked::Run));
+    Ok(())
+}
+
 // words after the program's name, and how they are refused
-const REFUSED: [(&[&str], ErrorKind, Refused); 14] = [
+const REFUSED: [(&[&str], ErrorKind, Refused); 17] = [
     (&[], ErrorKind::MissingSubcommand, Refused::Status(3)),
     (
         &["audit"],
@@ -361,11 +375,30 @@ const REFUSED: [(&[&str], ErrorKind, Refused); 14] = [
         ErrorKind::UnknownArgument,
         Refused::Status(3),
     ),
-    (&["run"], ErrorKind::InvalidSubcommand, Refused::Status(3)),
+    (
+        &["replay"],
+        ErrorKind::InvalidSubcommand,
+        Refused::Status(3),
+    ),
+    (
+        &["run", "script"],
+        ErrorKind::UnknownArgument,
+        Refused::Status(3),
+    ),
+    (
+        &["run", "--faults", "1"],
+        ErrorKind::UnknownArgument,
+        Refused::Status(3),
+    ),
     (&["--help"], ErrorKind::DisplayHelp, Refused::Status(0)),
     (&["help"], ErrorKind::DisplayHelp, Refused::Status(0)),
     (
         &["audit", "--help"],
+        ErrorKind::DisplayHelp,
+        Refused::Status(0),
+    ),
+    (
+        &["run", "--help"],
         ErrorKind::DisplayHelp,
         Refused::Status(0),
     ),

@@ -17,6 +17,46 @@ const MISUSED: u8 = 3;
 const ARGUMENTS_ARE_NO_TEXT: &str =
     "error: the arguments are no UTF-8 text\n\nFor more information, try '--help'.";
 
+/// What the help of `run` says after its options.
+const SCRIPTS: &str = "\
+A script is lines on standard input, the first of which starts the run:
+  start ring 3 1 2
+  deliver 1 0 0
+  crash 1
+  restart 1
+  deliver 1 0 0
+
+Lines of a script:
+  start KIND N F [H]  N processes (1 to 256), of which at most F may be down at once
+  deliver Q P S       Q delivers the message that P, since it came up, sent as number S
+  crash P             P goes down: its state, its log and its sent messages are lost
+  restart P           P comes up again
+  flush P             what P logs becomes stable
+  forget P            P takes out of its log what it knows to be stable
+
+Kinds of processes (H from 0 to 255):
+  start ring N F H    0 sends H to the next; whoever gets B above 0 sends B - 1 to the next
+  start echo N F H    each sends H to its partner (0 and 1, 2 and 3, ..); whoever gets B
+                      above 0 sends B - 1 back
+  start tally N F     each but 0 sends its number to 0, which tells each the total so far
+
+Answers on standard output:
+  the trace of the run, which an audit for F accepts
+  refused line=L NAME
+      the command of line L cannot be done; no trace is printed
+  fault line=L KIND
+      the text is no script: its first fault is at line L
+
+Exit status:
+  0  the trace was printed
+  2  a command was refused, or the text is no script
+  3  the words ask for nothing that the program does
+  4  reading or writing failed
+  5  memory was refused, or the run could not be finished
+
+Example:
+  causal_tool run < script | causal_tool audit --faults 1";
+
 /// What the help of `audit` says after its options.
 const ANSWERS: &str = "\
 Answers, as one line on standard output:
@@ -45,9 +85,11 @@ Example:
 pub enum Asked {
     /// An audit for at most so many processes that are down at once, by so many workers.
     Audit { faults: u16, workers: u32 },
+    /// The trace of a script's run.
+    Run,
 }
 
-/// Why nothing is audited.
+/// Why nothing is audited or run.
 #[derive(Clone, Copy, Debug, PartialEq, Eq)]
 pub enum Refused {
     /// What there is to say has been printed; the program ends with this status.
@@ -122,6 +164,7 @@ pub fn parsed<'a, S: AsStr>(alloc: Global, words: &'a [S]) -> Result<Option<Aske
                 _ => Ok(None),
             }
         }
+        Some(("run", _)) => Ok(Some(Asked::Run)),
         _ => Ok(None),
     }
 }
@@ -146,9 +189,15 @@ fn command<'a>(alloc: Global) -> Result<Command<'a>, AllocError> {
         .after_help(ANSWERS)
         .arg(faults)?
         .arg(workers)?;
+    let run = Command::new(alloc, "run")
+        .about("Runs the script on standard input and prints its trace")
+        .after_help(SCRIPTS);
     Command::new(alloc, "causal_tool")
-        .about("Audits recorded runs of processes that log their messages causally")
+        .about(
+            "Audits recorded runs of processes that log their messages causally, and records such runs",
+        )
         .version("1.0.0")
         .subcommand_required(true)
-        .subcommand(audit)
+        .subcommand(audit)?
+        .subcommand(run)
 }

@@ -1,24 +1,8 @@
 //! A trace of a crash and a restart, forged.
 use super::answers;
+use super::traces::REPLAYED;
 use crate::ended::Ended;
 use std::test::Fail;
-
-// A message goes round a ring of three. Its second receiver then crashes, restarts with what the others know of it, and
-// delivers and sends again what it had.
-const REPLAYED: [&str; 12] = [
-    r#"["trace",1,3]"#,
-    r#"["send",0,1,0]"#,
-    r#"["deliver",1,0,0,[[0,0,1,0]]]"#,
-    r#"["send",1,2,0]"#,
-    r#"["deliver",2,2,0,[[0,0,1,0],[1,0,2,0]]]"#,
-    r#"["send",2,0,0]"#,
-    r#"["deliver",0,4,0,[[1,0,2,0],[2,0,0,0]]]"#,
-    r#"["crash",1]"#,
-    r#"["restart",1,[[0,0,1,0],[1,0,2,0],[2,0,0,0]]]"#,
-    r#"["deliver",1,0,0,[[0,0,1,0]]]"#,
-    r#"["send",1,2,0]"#,
-    r#"["end",10]"#,
-];
 
 const REPLAYED_LINE: &str = "accept f=1 entries=10 deliveries=4\n";
 
@@ -54,7 +38,7 @@ const FORGED: [(usize, &str, Ended, &str); 4] = [
 fn forged_lists(rt: HostRuntime) -> Result<(), Fail> {
     for (place, forged, ended, line) in FORGED {
         let mut text = String::new(rt.alloc());
-        for (i, own) in REPLAYED.iter().enumerate() {
+        for (i, own) in REPLAYED.lines().enumerate() {
             text.push_str(if i == place { forged } else { own })?;
             text.push_str("\n")?;
         }

@@ -25,6 +25,22 @@ pub(super) const RING: &str = r#"["trace",1,3]
 ["end",6]
 "#;
 
+/// A message goes round a ring of three. Its second receiver then crashes, restarts with what the others know of it, and
+/// delivers and sends again what it had.
+pub(super) const REPLAYED: &str = r#"["trace",1,3]
+["send",0,1,0]
+["deliver",1,0,0,[[0,0,1,0]]]
+["send",1,2,0]
+["deliver",2,2,0,[[0,0,1,0],[1,0,2,0]]]
+["send",2,0,0]
+["deliver",0,4,0,[[1,0,2,0],[2,0,0,0]]]
+["crash",1]
+["restart",1,[[0,0,1,0],[1,0,2,0],[2,0,0,0]]]
+["deliver",1,0,0,[[0,0,1,0]]]
+["send",1,2,0]
+["end",10]
+"#;
+
 pub(super) const JUDGED: [Verdicts; 27] = [
     Verdicts {
         name: "no entries",

@@ -1,0 +1,44 @@
+-- What the program prints for the text of a script.
+use Rattle.std.specs.Prelude.{◌≡◌, ℕ, ◌+◌, ◌<◌, List, length, take, Option, ⊤}
+use Rattle.std.specs.Io.KnownBytes.{Appends, Keeps}
+use Rattle.causal_trace.specs.Rows.{Recording}
+use Rattle.causal_trace.specs.Judgement.{IsSafeTrace}
+use Rattle.causal_text.specs.Canonical.{canonical}
+use Rattle.causal_protocol.specs.declared.request.CoreFault.{CoreFault}
+use Rattle.causal_script.specs.declared.script.Script.{Script}
+use Rattle.causal_script.specs.declared.script.ScriptFault.{ScriptFault}
+use Rattle.causal_script.specs.Spelling.{Spells, plan_of, max_script}
+use Rattle.causal_script.specs.Faults.{IsFirstFault}
+use Rattle.causal_script.specs.Printing.{script_line, refused_line}
+use Rattle.causal_tool.specs.declared.ended.Ended.{Ended}
+use Rattle.causal_tool.specs.declared.ended.Ended.TheVariants.{Faulted, Ran, Refused, ReadFault, WriteFault, NoMemory, FinishFault}
+
+-- as much as is read of a text: one byte more than a script may have
+abbrev pub read_of : List ℕ → List ℕ
+read_of text = take (max_script + 1) text
+
+-- the answer to the text of a script where the program ends so: the canonical text of a trace that is safe for its f, or a line
+-- that tells a refusal; or, where it is no script, the line of its first fault
+abbrev pub IsPrinted : List ℕ → Ended → List ℕ → Type 0
+IsPrinted text Ran out = (script : Script) × Spells text (plan_of script) × (recording : Recording)
+    × IsSafeTrace recording script.f × (out ≡ canonical recording)
+IsPrinted text Refused out = (script : Script) × Spells text (plan_of script) × (line : ℕ) × (why : CoreFault) × (out ≡ refused_line line why)
+IsPrinted text Faulted out = (first : ScriptFault) × IsFirstFault text first × (out ≡ script_line first)
+IsPrinted text _ out = ⊥
+
+-- what is written to the text of a script where the program ends so, from what the writer held before to what it holds
+-- afterwards: the answer alone; after a write fault only its first bytes; else nothing
+abbrev pub Prints : List ℕ → Ended → Option (List ℕ) → Option (List ℕ) → Type 0
+Prints text ReadFault old new = Keeps old new
+Prints text NoMemory old new = Keeps old new
+Prints text FinishFault old new = Keeps old new
+Prints text WriteFault old new =
+    (ended : Ended) × (out : List ℕ) × (n : ℕ) × IsPrinted text ended out × (n < length out) × Appends old new (take n out)
+Prints text ended old new = (out : List ℕ) × IsPrinted text ended out × Appends old new out
+
+-- an ending of a run that writes nothing
+abbrev pub PrintsNothing : Ended → Type 0
+PrintsNothing ReadFault = ⊤
+PrintsNothing NoMemory = ⊤
+PrintsNothing FinishFault = ⊤
+PrintsNothing _ = ⊥

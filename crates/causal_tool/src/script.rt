@@ -1,0 +1,111 @@
+//! The run of a script, over any reader and writer.
+ghost use Rattle.std.specs.Prelude.{◌≡◌, ◌≢◌, ◌+◌, ◌≤◌, ℕ, List, length, Ok, IfOk, IfErr, IfSome};
+ghost use Rattle.std.specs.Io.KnownBytes.{Consumes};
+ghost use Rattle.causal_script.specs.declared.script.Script.{Script};
+ghost use Rattle.causal_script.specs.Spelling.{Spells, plan_of, max_script};
+ghost use Rattle.causal_script.specs.Faults.{IsFirstFault};
+ghost use Rattle.causal_tool.specs.Runs.{IsPrinted, Prints, PrintsNothing, read_of};
+
+use crate::ended::Ended;
+use crate::reading::{ReadFault, read_script};
+use crate::written::write_whole;
+use causal_name::NoMemory;
+use causal_run::{RunFault, run_script};
+use causal_script::{ScriptFault, ScriptFaultKind, parse_script, refused_line, script_line};
+use causal_text::text_of;
+use std::alloc::Global;
+use std::io::{Read, Write};
+use std::sync::Wait;
+
+/// Reads the text of a script, runs it, and writes the trace of its run; or one line, where a command is refused or the text
+/// is no script. Where the reader or the writer fails, or memory is refused, or the shared runtime can't be finished, the
+/// answer says so.
+///
+/// At most 1,048,577 bytes of the text are read, which is one more than a script may have.
+pub fn run_stream<R: Wait, I: Read, O: Write>(
+    rt: &R,
+    alloc: Global,
+    input: &mut I,
+    output: &mut O,
+) -> Ended
+    ensures prints { IfSome (I.remaining input.old) (λ text. Prints (read_of text) result (O.contents output.old) (O.contents output.new)) }
+    ensures most { (given : List ℕ) × Consumes (I.remaining input.old) (I.remaining input.new) given × (length given ≤ max_script + 1) }
+{
+    let Answer { ended, text } = match answer_from(rt, alloc, input) {
+        Ok(answer) => answer,
+        Err(ended) => return ended,
+    };
+    match write_whole(output, text.as_slice()) {
+        Ok(()) => ended,
+        Err(_) => Ended::WriteFault,
+    }
+}
+
+/// What answers the text of a script, and how the program ends that writes it.
+#[derive(Drop)]
+struct Answer {
+    ended: Ended,
+    text: Vec<u8>,
+}
+
+fn answer_from<R: Wait, I: Read>(rt: &R, alloc: Global, input: &mut I) -> Result<Answer, Ended>
+    ensures ok { IfOk result (λ answer. IfSome (I.remaining input.old) (λ text. IsPrinted (read_of text) answer.ended answer.text.items)) }
+    ensures err { IfErr result PrintsNothing }
+    ensures most { (given : List ℕ) × Consumes (I.remaining input.old) (I.remaining input.new) given × (length given ≤ max_script + 1) }
+{
+    match read_script(alloc, input) {
+        Ok(text) => answer_to(rt, alloc, text.as_slice()),
+        Err(ReadFault::Read) => Err(Ended::ReadFault),
+        Err(ReadFault::NoMemory) => Err(Ended::NoMemory),
+    }
+}
+
+fn answer_to<R: Wait>(rt: &R, alloc: Global, text: &[u8]) -> Result<Answer, Ended>
+    ensures ok { IfOk result (λ answer. IsPrinted text.now answer.ended answer.text.items) }
+    ensures err { IfErr result PrintsNothing }
+{
+    let script = match parse_script(alloc, text) {
+        Ok(script) => script,
+        Err(fault) => return faulted(alloc, fault),
+    };
+    match run_script(rt, alloc, &script) {
+        Ok(trace) => told(Ended::Ran, text_of(alloc, &trace)),
+        Err(fault) => stopped(alloc, fault),
+    }
+}
+
+fn faulted(alloc: Global, fault: ScriptFault) -> Result<Answer, Ended>
+    ensures ok { IfOk result (λ answer. (text : List ℕ) → (fault.kind ≢ ScriptFaultKind.NoMemory → IsFirstFault text fault)
+        → IsPrinted text answer.ended answer.text.items) }
+    ensures err { IfErr result PrintsNothing }
+{
+    match fault.kind {
+        ScriptFaultKind::NoMemory => Err(Ended::NoMemory),
+        _ => told(Ended::Faulted, script_line(alloc, &fault)),
+    }
+}
+
+fn stopped(alloc: Global, fault: RunFault) -> Result<Answer, Ended>
+    ensures ok { IfOk result (λ answer. (text : List ℕ) (script : Script) → Spells text (plan_of script)
+        → IsPrinted text answer.ended answer.text.items) }
+    ensures err { IfErr result PrintsNothing }
+{
+    match fault {
+        RunFault::Refused { line, fault } => {
+            told(Ended::Refused, refused_line(alloc, line, fault))
+        }
+        RunFault::Memory => Err(Ended::NoMemory),
+        RunFault::Lock | RunFault::Finish(_) => Err(Ended::FinishFault),
+    }
+}
+
+/// A line, unless it was refused its memory.
+fn told(ended: Ended, line: Result<Vec<u8>, NoMemory>) -> Result<Answer, Ended>
+    ensures ok { IfOk result (λ answer. (answer.ended ≡ ended) × (line ≡ Ok answer.text)) }
+    ensures err { IfErr result PrintsNothing }
+{
+    match line {
+        Ok(text) => Ok(Answer { ended, text }),
+        Err(NoMemory) => Err(Ended::NoMemory),
+    }
+}
