@@ -23,4 +23,3 @@ pub use reader::read_trace;
 pub use report::fault_line;
 pub use stream::{Progress, ReaderFault, TraceReader, read_from};
 pub use writer::{WriteCause, WriteFault, text_of, write_trace};
-

@@ -1,8 +1,10 @@
-//! Random calls, about half of them refused; what they have recorded is a trace that can be pushed entry by entry.
+//! Random calls, about half of them refused; what they have recorded can be pushed entry by entry, and is accepted.
 use super::*;
 use crate::numbers::Numbers;
+use causal_audit::Verdict;
 use causal_log::MemStable;
 use causal_trace::trace::Trace;
+use causal_verdict::audited;
 use std::test::Fail;
 
 /// A process of n, or now and then none of it.
@@ -106,7 +108,15 @@ fn can_be_pushed(alloc: Global, trace: &Trace) -> Result<bool, NoMemory> {
     Ok(pushed.entries() == trace.entries())
 }
 
-/// Makes random calls on a new core; what they came to, and whether what they recorded can be pushed.
+/// Whether what a core has recorded can be pushed entry by entry, and its audit accepts it.
+fn is_sound(alloc: Global, core: &Core<MemStable>) -> Result<bool, NoMemory> {
+    if !can_be_pushed(alloc, core.trace())? {
+        return Ok(false);
+    }
+    Ok(audited(alloc, core)? == Verdict::Accept)
+}
+
+/// Makes random calls on a new core; what they came to, and whether what they recorded is sound.
 fn random_calls(
     alloc: Global,
     kind: Kind,
@@ -119,14 +129,14 @@ fn random_calls(
     let Ok(counts) = walked(alloc, &mut walk, &mut core, kind, n, calls) else {
         return Err(StartFault::NoMemory);
     };
-    match can_be_pushed(alloc, core.trace()) {
-        Ok(pushed) => Ok((counts, pushed)),
+    match is_sound(alloc, &core) {
+        Ok(sound) => Ok((counts, sound)),
         Err(NoMemory) => Err(StartFault::NoMemory),
     }
 }
 
 #[test]
-fn what_random_calls_record_can_be_pushed(rt: HostRuntime) -> Result<(), Fail> {
+fn what_random_calls_record_is_accepted(rt: HostRuntime) -> Result<(), Fail> {
     for (kind, n) in [
         (Kind::Ring(255), 3),
         (Kind::Ring(200), 1),
@@ -134,8 +144,8 @@ fn what_random_calls_record_can_be_pushed(rt: HostRuntime) -> Result<(), Fail> {
         (Kind::Tally, 5),
     ] {
         for f in [1, 3, 0] {
-            let (counts, pushed) = random_calls(rt.alloc(), kind, n, f, 800)?;
-            assert!(rt; pushed, "{kind:?} for {f}: {counts:?}");
+            let (counts, sound) = random_calls(rt.alloc(), kind, n, f, 800)?;
+            assert!(rt; sound, "{kind:?} for {f}: {counts:?}");
             assert!(rt; counts.refused > 200, "{kind:?} for {f}: {counts:?}");
             if f > 0 {
                 assert!(rt; counts.refused < 700, "{kind:?} for {f}: {counts:?}");

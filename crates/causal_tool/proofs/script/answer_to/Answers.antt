@@ -11,9 +11,13 @@ pub returns-in-Ok-run_script-clause-ok : goal.returns-in-Ok-run_script-clause-ok
 returns-in-Ok-run_script-clause-ok g c =
     let trace = c.in-Ok-run_script.trace.recording in
     IfOk-weaker c.told.result _ _ (λ answer h.
-      subst (λ e. IsPrinted c.args.text.now e answer.text.items) (sym h.0)
-        (c.in-Ok.script, c.in-Ok.ensures.ok, trace, c.in-Ok-run_script.ensures,
-          subst (λ r. IfOk r (λ text. text.items ≡ canonical trace)) h.1 c.text_of.ensures)) c.told.ensures.ok
+    subst (λ e. IsPrinted c.args.text.now e answer.text.items) (sym h.0) (
+      c.in-Ok.script,
+      c.in-Ok.ensures.ok,
+      trace,
+      c.in-Ok-run_script.ensures,
+      subst (λ r. IfOk r (λ text. text.items ≡ canonical trace)) h.1 c.text_of.ensures,
+    )) c.told.ensures.ok
 
 pub returns-clause-ok : goal.returns-clause-ok
 returns-clause-ok g c =

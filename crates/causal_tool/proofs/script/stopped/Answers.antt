@@ -9,5 +9,5 @@ returns-in-Refused-clause-ok c =
     let line = c.in-Refused.line in
     let why = c.in-Refused.fault in
     IfOk-weaker c.told.result _ _ (λ answer h. λ text script spelled.
-      subst (λ e. IsPrinted text e answer.text.items) (sym h.0)
-        (script, spelled, line, why, subst (λ r. IfOk r (λ it. it.items ≡ refused_line line why)) h.1 c.refused_line.ensures)) c.told.ensures.ok
+    subst (λ e. IsPrinted text e answer.text.items) (sym h.0)
+    (script, spelled, line, why, subst (λ r. IfOk r (λ it. it.items ≡ refused_line line why)) h.1 c.refused_line.ensures)) c.told.ensures.ok
