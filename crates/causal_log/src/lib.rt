@@ -48,6 +48,3 @@ pub use known::Known;
 pub use log::Log;
 pub use memory::MemStable;
 pub use stable::{PutFault, Stable};
-
-#[cfg(test)]
-mod tests;

@@ -6,6 +6,8 @@
 mod audits;
 #[cfg(test)]
 mod cores;
+#[cfg(test)]
+mod logs;
 pub mod numbers;
 #[cfg(test)]
 mod plain_audits;

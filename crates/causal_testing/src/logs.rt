@@ -1,6 +1,6 @@
 //! Each call once, on values worked out by hand: logs and the batches that they choose, and the two stores.
-use super::*;
 use causal_holders::Holders;
+use causal_log::{FailingStore, Item, Known, Log, MemStable, PutFault, Stable};
 use causal_name::{Det, MsgName, NoMemory, Pid, Slot};
 use std::alloc::Global;
 use std::test::Fail;
