@@ -1,3 +1,3 @@
 pub mod Lemmas
-pub mod Order
-pub mod Words
+mod Order
+mod Words

@@ -11,12 +11,12 @@ use Rattle.std.specs.Int.Count.{ones, ones_cat, ones-ones}
 use Rattle.std.proofs.Math.Nat.{mod-eq_of_lt, mod-lt, add_comm}
 use Rattle.std.proofs.Math.Pow.{pow_pos}
 use Rattle.std.proofs.lemmas.Nat.{and_le_l, or_lt}
-use Rattle.causal_holders.specs.Members.{IsLeast}
+use Rattle.causal_holders.specs.Members.{IsLeast, numbers_below}
 use Rattle.std.proofs.lemmas.Bool.Decides.{nat_tests, eqb_tells, leb_tells}
 use Rattle.std.proofs.lemmas.Nat.Bits.{bit_at-zero, bit_at-lt, bit_at_or, bit_at_and, bit_at_not, bit_at_set_same, bit_at_set_other, bit_at_clear_same, bit_at_clear_other, shr_and_one, bit_at-trailing_zeros}
-use Rattle.causal_holders.specs.Inside.Words.{numbers_below, has_bit, has_member, AreWords, words_of}
+use Rattle.causal_holders.specs.Inside.Words.{has_bit, has_member, AreWords, words_of}
 use Rattle.causal_holders.specs.Inside.WordsTold.{contains-numbers_below, mod_suc, words_shown}
-use Rattle.causal_holders.specs.Inside.Same.{have_same_members, have_same_members-itself, same_members_equal}
+use Rattle.causal_holders.specs.Same.{have_same_members, have_same_members-itself, same_members_equal}
 use Rattle.std.proofs.Math.ListN.{set, length-set}
 
 -- the set that four words show

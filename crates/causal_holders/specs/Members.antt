@@ -1,8 +1,9 @@
 -- The members of a set of processes.
-use Rattle.std.specs.Prelude.{◌≡◌, ℕ, ◌<◌, ◌≤◌, Bool, true, List, filter}
+use Rattle.std.specs.Prelude.{◌≡◌, ℕ, ◌<◌, ◌≤◌, Bool, true, if◌then◌else◌, List, filter}
+use Rattle.std.proofs.Common.{zero, suc}
 use Rattle.std.specs.List.{range_with_len}
 use Rattle.std.specs.Ordering.{nat_cmp}
-use Rattle.std.specs.FinSet.{FinSet, contains}
+use Rattle.std.specs.FinSet.{FinSet, contains, empty, insert}
 use Rattle.causal_holders.specs.declared.TheConstants.{PROCESSES}
 
 -- each member is the number of a process
@@ -21,3 +22,8 @@ IsLeast s p = (contains s p ≡ true) × ((q : ℕ) → contains s q ≡ true �
 -- the members, ascending
 abbrev pub ascending : FinSet nat_cmp → List ℕ
 ascending s = filter (contains s) (range_with_len 0 PROCESSES)
+
+-- the numbers below n that pass the test
+unfoldable pub numbers_below : ℕ → (ℕ → Bool) → FinSet nat_cmp
+numbers_below zero test = empty
+numbers_below (suc n) test = if test n then insert (numbers_below n test) n else numbers_below n test

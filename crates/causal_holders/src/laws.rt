@@ -7,7 +7,7 @@ ghost use Rattle.std.specs.FinSet as set;
 ghost use Rattle.causal_name.specs.Sets.{count_below, either, IsWithin};
 ghost use Rattle.causal_holders.specs.declared.TheConstants.{PROCESSES};
 ghost use Rattle.causal_holders.specs.Members.{AreProcesses, ascending, HasMembers};
-ghost use Rattle.causal_holders.specs.Inside.Same.{have_same_members};
+ghost use Rattle.causal_holders.specs.Same.{have_same_members};
 
 /// The list that [`crate::Holders::iter`] gives has just the members, ascends, and has each once.
 pub fn ascending_law()

@@ -36,7 +36,8 @@ impl Model for Holders {
     ghost use Rattle.std.specs.FinSet as set;
     ghost use Rattle.std.specs.Coded.{coded_ℕ};
     ghost use Rattle.causal_holders.specs.declared.TheConstants.{PROCESSES};
-    ghost use Rattle.causal_holders.specs.Inside.Words.{numbers_below, has_member, words_of, AreWords};
+    ghost use Rattle.causal_holders.specs.Members.{numbers_below};
+    ghost use Rattle.causal_holders.specs.Inside.Words.{has_member, words_of, AreWords};
     ghost use Rattle.causal_holders.specs.Inside.WordsTold.{words_shown};
 
     ghost Value = { set.FinSet nat_cmp };
@@ -144,7 +145,7 @@ impl Holders {
 }
 
 impl PartialEq for Holders {
-    ghost use Rattle.causal_holders.specs.Inside.Same.{have_same_members, same_members_laws};
+    ghost use Rattle.causal_holders.specs.Same.{have_same_members, same_members_laws};
 
     ghost eq = { have_same_members };
 
@@ -156,7 +157,7 @@ impl PartialEq for Holders {
 }
 
 impl Eq for Holders {
-    ghost use Rattle.causal_holders.specs.Inside.Same.{same_members_equivalence};
+    ghost use Rattle.causal_holders.specs.Same.{same_members_equivalence};
 
     ghost laws = { same_members_equivalence };
 }

@@ -7,8 +7,7 @@ use Rattle.std.specs.FinSet.{FinSet, contains, empty, remove, union, difference,
 use Rattle.std.proofs.lemmas.Bool.{false≢true, or_cases, or_left, or_right, cases_Bool}
 use Rattle.std.proofs.lemmas.Bool.Decides.{nat_tests, eqb_tells}
 use Rattle.causal_name.specs.Sets.{count_below, any_below, either, IsWithin}
-use Rattle.causal_holders.specs.Members.{HasMembers}
-use Rattle.causal_holders.specs.Inside.Words.{numbers_below}
+use Rattle.causal_holders.specs.Members.{HasMembers, numbers_below}
 use Rattle.causal_holders.specs.Inside.WordsTold.{contains-numbers_below}
 use Rattle.causal_holders.proofs.Lemmas.Sets.{some_member}
 

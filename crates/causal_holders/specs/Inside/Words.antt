@@ -1,14 +1,7 @@
 -- Words whose bits say which numbers are members.
 use Rattle.std.specs.Prelude.{List, [], ◌∷◌, length, slice_index, ◌≡◌, ℕ, ◌+◌, ◌*◌, ◌/◌, ◌%◌, ◌^◌, ◌<◌, Bool, if◌then◌else◌, nat_lt}
 use Rattle.std.proofs.Common.{zero, suc}
-use Rattle.std.specs.Ordering.{nat_cmp}
-use Rattle.std.specs.FinSet.{FinSet, empty, insert}
 use Rattle.std.specs.Int.{bit_at}
-
--- the numbers below n that pass the test
-unfoldable pub numbers_below : ℕ → (ℕ → Bool) → FinSet nat_cmp
-numbers_below zero test = empty
-numbers_below (suc n) test = if test n then insert (numbers_below n test) n else numbers_below n test
 
 -- whether the bit k of a word is set
 abbrev pub has_bit : ℕ → ℕ → Bool

@@ -10,7 +10,8 @@ use Rattle.std.proofs.lemmas.Nat.Bits.{bit_at-lt}
 use Rattle.std.proofs.Math.Pow.{pow_pos}
 use Rattle.std.proofs.Math.Nat.{div-add-mod, mod-eq_of_lt, mod-lt, mul-le-mul_left}
 use Rattle.std.proofs.lemmas.Nat.{mod-mul-add}
-use Rattle.causal_holders.specs.Inside.Words.{numbers_below, has_bit, has_member, AreWords, word_below, part, words_of}
+use Rattle.causal_holders.specs.Members.{numbers_below}
+use Rattle.causal_holders.specs.Inside.Words.{has_bit, has_member, AreWords, word_below, part, words_of}
 
 contains-one_more : (b : Bool) (s : FinSet nat_cmp) (n q : ℕ) → contains (if b then insert s n else s) q ≡ (if b then (nat_eq q n || contains s q) else contains s q)
 contains-one_more true s n q = contains-insert nat_cmp_total s n q ∙ ap (λ t. t || contains s q) (unsigned_tied q n)
