@@ -1,5 +1,5 @@
 -- What a clock is seen as: events in lanes, in the order in which they came.
-use Rattle.std.specs.Prelude.{ℕ, ◌+◌, ◌==◌, Option, None, List, [], ◌∷◌, ◌++◌, take, count_by, slice_index_or}
+use Rattle.std.specs.Prelude.{ℕ, ◌+◌, ◌==◌, Option, Some, None, List, [], ◌∷◌, ◌++◌, take, count_by, slice_index_or}
 use Rattle.causal_clock.specs.declared.Event.{Event}
 
 -- the number of lanes, how many of them were opened later, and the events, numbered from 0
@@ -7,6 +7,10 @@ pub record Timeline : Type 0 where
   pub lanes : ℕ
   pub opened : ℕ
   pub events : List Event
+
+-- the event of a lane that receives what the event of that number sent
+abbrev pub receiving : ℕ → ℕ → Event
+receiving lane send = record { lane = lane; send = Some send }
 
 -- one more event
 abbrev pub with_event : Timeline → Event → Timeline

@@ -17,7 +17,7 @@ pub mod laws;
 
 ghost use Rattle.std.specs.Prelude.{◌≡◌, ◌≢◌, ℕ, ◌+◌, ◌<◌, ◌≤◌, ◌↔◌, [], ◌∷◌, ◌++◌, length, vec_len, vec_capacity, IsTrue, IfOk, IfErr, OnOk, OnErr, Some, None, slice_index};
 ghost use Rattle.std.specs.Option.{ForSome};
-ghost use Rattle.causal_clock.specs.Timeline.{lane_of, with_event, with_lane};
+ghost use Rattle.causal_clock.specs.Timeline.{lane_of, receiving, with_event, with_lane};
 ghost use Rattle.causal_clock.specs.Precedence.{Reaches, FirstReach};
 ghost use Rattle.causal_clock.specs.Inside.Lanes.{AreEmpty};
 ghost use Rattle.causal_clock.specs.declared.ClockFault.TheVariants.{NoMemory};
@@ -194,7 +194,7 @@ impl Clocks {
         requires sent { send_event < length self.old.events }
         requires room { length self.old.events < EVENTS }
         ensures number { IfOk result (λ event. event ≡ length self.old.events) }
-        ensures appended { OnOk result (self.new ≡ with_event self.old (record { lane = lane; send = Some send_event })) }
+        ensures appended { OnOk result (self.new ≡ with_event self.old (receiving lane send_event)) }
         ensures unchanged { OnErr result (self.new ≡ self.old) }
         ensures refusal { IfErr result (λ fault. fault ≡ ClockFault.NoMemory) }
     {
