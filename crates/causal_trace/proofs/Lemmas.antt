@@ -5,3 +5,4 @@ pub mod Reached
 pub mod Accepted
 pub mod Formed
 pub mod Counted
+pub mod Happened

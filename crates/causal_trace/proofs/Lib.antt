@@ -7,3 +7,4 @@ mod Laned
 mod Receipts
 mod Rooms
 mod Sizes
+mod Tallied

@@ -1,5 +1,5 @@
 -- The receipts of a message tell who delivered it, and in which lane.
-use Rattle.std.proofs.Common.{ℕ, ◌≡◌, ◌+◌, ◌<◌, inl, inr, Bool, true, false, cond, ◌==◌, List, [], ◌∷◌, Some, None, refl, sym, ap, ◌∙◌, arith}
+use Rattle.std.proofs.Common.{ℕ, ◌≡◌, ◌+◌, ◌<◌, ◌≤◌, inl, inr, Bool, true, false, cond, ◌==◌, List, [], ◌∷◌, Some, None, refl, sym, ap, ◌∙◌, arith}
 use Rattle.std.specs.Prelude.{◌||◌, ◌&&◌, not}
 use Rattle.std.specs.Option.{option_map}
 use Rattle.std.specs.List.{list_any}
@@ -15,6 +15,8 @@ use Rattle.causal_trace.specs.declared.chains.Receipt.{Receipt}
 use Rattle.causal_trace.specs.declared.chains.Sought.TheVariants.{AsNumber, InLane}
 use Rattle.causal_trace.specs.Past.{lane, message_at, det_from, is_det, is_message, is_delivered, has_delivered}
 use Rattle.causal_trace.specs.Inside.Chains.{receipts, is_sought}
+use Rattle.causal_trace.specs.Rows.{AreAccepted}
+use Rattle.causal_trace.proofs.Laned.{subject_there}
 
 -- one more receipt, if it is of the message, answers like the determinant that it is of
 number_says : (a b c : Bool) (receipt : Receipt) (rest : List Receipt) (test : Receipt → Bool) (old : Bool) → test receipt ≡ c → old ≡ list_any test rest → ((a && (b && c)) || old) ≡ list_any test (cond (a && b) (receipt ∷ rest) rest)
@@ -92,3 +94,17 @@ received_told (Restart who listed ∷ past) p m =
     ]
 received_told (Deliver to send rsn listed ∷ past) p m =
     lane_says to.0 p.0 (lane past to.0) (lane past p.0) (is_message (message_at past send) m) (record { dest = to; lane = lane past to.0; rsn = rsn }) (receipts past m) (is_sought p (InLane (lane past p.0))) (has_delivered past p.0 m) (ap (lane past)) refl (received_told past p m)
+
+-- no process that is not there has delivered a message
+pub received_there : (n : ℕ) (past : List Entry) (p : ℕ) (m : MsgName) → AreAccepted n past → n ≤ p → has_delivered past p m ≡ false
+received_there n [] p m h far = refl
+received_there n (Send from to ssn ∷ past) p m h far = received_there n past p m h.0 far
+received_there n (Stable x ∷ past) p m h far = received_there n past p m h.0 far
+received_there n (Crash who ∷ past) p m h far = received_there n past p m h.0 far
+received_there n (Forget who listed ∷ past) p m h far = received_there n past p m h.0 far
+received_there n (Restart who listed ∷ past) p m h far =
+    elim (who.0 == p) as (λ b. (not b && has_delivered past p m) ≡ false) [ true ↦ refl | false ↦ received_there n past p m h.0 far ]
+received_there n (Deliver to send rsn listed ∷ past) p m h far =
+    let there : to.0 < n = subject_there n past (Deliver to send rsn listed) h.1 in
+    ap (λ b. (b && is_message (message_at past send) m) || has_delivered past p m) (ne_eqb to.0 p (λ e. omega (arith, e, there, far)))
+    ∙ received_there n past p m h.0 far

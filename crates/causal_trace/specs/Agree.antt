@@ -1,11 +1,11 @@
 -- What the definitions of states and of dependence say, in other words.
-use Rattle.std.specs.Prelude.{◌≡◌, ℕ, ◌+◌, ◌≤◌, ◌<◌, ◌↔◌, Bool, true, false, not, ◌==◌, ◌&&◌, if◌then◌else◌, List, [], ◌∷◌, length, reverse, slice_get}
-use Rattle.std.specs.List.{find}
+use Rattle.std.specs.Prelude.{◌≡◌, ℕ, ◌+◌, ◌≤◌, ◌<◌, ◌↔◌, Bool, true, false, not, ◌==◌, ◌&&◌, if◌then◌else◌, List, [], ◌∷◌, length, reverse, slice_get, Some}
+use Rattle.std.specs.List.{filter, find}
 use Rattle.std.specs.Option.{option_map_or}
 use Rattle.causal_name.specs.declared.Det.{Det}
 use Rattle.causal_trace.specs.declared.entry.Entry.{Entry}
-use Rattle.causal_trace.specs.declared.entry.Entry.TheVariants.{Deliver, Crash, Restart, Forget}
-use Rattle.causal_trace.specs.Past.{instant, entry_at, is_down, has, logs}
+use Rattle.causal_trace.specs.declared.entry.Entry.TheVariants.{Send, Deliver, Stable, Crash, Restart, Forget}
+use Rattle.causal_trace.specs.Past.{instant, entry_at, is_down, sends, deliveries, det_at, is_delivered, has, logs, is_stable}
 use Rattle.causal_trace.specs.Rows.{AreAccepted}
 use Rattle.causal_trace.specs.State.{past_at}
 use Rattle.causal_trace.specs.Dependence.{DirectlyPrecedes, Reaches, IsEventOf}
@@ -63,6 +63,30 @@ abbrev pub LogIsLastListing : Type 0
 LogIsLastListing =
     (n : ℕ) (past : List Entry) (p : ℕ) (d : Det) → AreAccepted n past
     → logs past p d ≡ (not (is_down past p) && option_map_or (λ e. not (is_forgetting e)) (find (lists p d) (present past p)) false)
+
+abbrev pub is_send_of : ℕ → Entry → Bool
+is_send_of p (Send from to ssn) = from.0 == p
+is_send_of p _ = false
+
+abbrev pub is_delivery_to : ℕ → Entry → Bool
+is_delivery_to p (Deliver to send rsn listed) = to.0 == p
+is_delivery_to p _ = false
+
+-- p's present lane has sent as many messages as it has sends
+abbrev pub SendsAreCounted : Type 0
+SendsAreCounted = (past : List Entry) (p : ℕ) → sends past p ≡ length (filter (is_send_of p) (present past p))
+
+-- and delivered as many as it has deliveries
+abbrev pub DeliveriesAreCounted : Type 0
+DeliveriesAreCounted = (past : List Entry) (p : ℕ) → deliveries past p ≡ length (filter (is_delivery_to p) (present past p))
+
+-- d is delivered where it is the determinant of the delivery at some position
+abbrev pub DeliveredAtPosition : Type 0
+DeliveredAtPosition = (past : List Entry) (d : Det) → (is_delivered past d ≡ true) ↔ ((k : ℕ) × (det_at past k ≡ Some d))
+
+-- d is stable where the entry at some position writes it to stable storage
+abbrev pub StableAtPosition : Type 0
+StableAtPosition = (past : List Entry) (d : Det) → (is_stable past d ≡ true) ↔ ((k : ℕ) × (entry_at past k ≡ Some (Stable d)))
 
 -- from i over these positions to j, each directly precedes the next
 abbrev pub IsPath : List Entry → ℕ → List ℕ → ℕ → Type 0

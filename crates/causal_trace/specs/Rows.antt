@@ -1,13 +1,13 @@
 -- Which entry may come next in a trace, and what stands against another.
-use Rattle.std.specs.Prelude.{◌≡◌, ℕ, ◌+◌, Bool, false, not, ◌==◌, ◌&&◌, ◌||◌, nat_lt, nat_le, if◌then◌else◌, List, [], ◌∷◌, length, Option, Some, None}
+use Rattle.std.specs.Prelude.{◌≡◌, ℕ, ◌+◌, Bool, false, not, ◌==◌, ◌&&◌, ◌||◌, nat_lt, nat_le, if◌then◌else◌, List, [], ◌∷◌, length, Option, Some, None, MatchBool, unwrap_or}
 use Rattle.std.specs.List.{list_all}
 use Rattle.std.specs.Option.{option_map_or}
 use Rattle.causal_name.specs.declared.Det.{Det}
 use Rattle.causal_trace.specs.declared.entry.Entry.{Entry}
 use Rattle.causal_trace.specs.declared.entry.Entry.TheVariants.{Send, Deliver, Stable, Crash, Restart, Forget}
 use Rattle.causal_trace.specs.declared.fault.TraceFault.{TraceFault}
-use Rattle.causal_trace.specs.declared.fault.TraceFault.TheVariants.{TooLong, NoProcess, NotUp, NotDown, Lanes, WrongSsn, NoSend, WrongRsn, Doubled, Unsorted, NoDelivery}
-use Rattle.causal_trace.specs.Limits.{max_entries, max_listed, max_restarts, IsProcessCount}
+use Rattle.causal_trace.specs.declared.fault.TraceFault.TheVariants.{Processes, NoMemory, TooLong, NoProcess, NotUp, NotDown, Lanes, WrongSsn, NoSend, WrongRsn, Doubled, Unsorted, NoDelivery}
+use Rattle.causal_trace.specs.Limits.{max_entries, max_listed, max_restarts, is_process_count, IsProcessCount}
 use Rattle.causal_name.specs.Names.{is_ascending}
 use Rattle.causal_trace.specs.Past.{is_down, sends, deliveries, message_at, is_sent_to, det_of, is_det, is_delivered, has_delivered, listed_in, restarts}
 
@@ -76,6 +76,10 @@ first_holding (row ∷ rest) = if row.0 then Some row.1 else first_holding rest
 abbrev pub first_fault : ℕ → List Entry → Entry → Option TraceFault
 first_fault n past e = first_holding (rows n past e)
 
+-- what a refusal to begin a run of n processes tells: want of memory, if there may be so many
+abbrev pub IsRefusedBeginning : ℕ → TraceFault → Type 0
+IsRefusedBeginning n fault = MatchBool (is_process_count n) (fault ≡ NoMemory) (fault ≡ Processes)
+
 -- nothing stands against any entry after those before it
 abbrev pub AreAccepted : ℕ → List Entry → Type 0
 AreAccepted n [] = Unit {0}
@@ -90,3 +94,11 @@ pub record Recording : Type 0 where
 pub record IsWellFormed (r : Recording) : Type 0 where
   pub count : IsProcessCount r.processes
   pub accepted : AreAccepted r.processes r.past
+
+-- what is first told against an entry that would come next in a recorded run; None where it may
+abbrev pub fault_next : Recording → Entry → Option TraceFault
+fault_next r e = first_fault r.processes r.past e
+
+-- what a refusal to take it tells: that, or want of memory where it may come
+abbrev pub refusal_next : Recording → Entry → TraceFault
+refusal_next r e = unwrap_or (fault_next r e) NoMemory

@@ -1,6 +1,8 @@
 //! What a trace is made of.
 ghost use Rattle.std.specs.Prelude.{◌≡◌, length};
+ghost use Rattle.causal_name.specs.Names.{is_ascending};
 
+use crate::scans;
 use causal_name::{Det, Pid};
 use std::marker::Model;
 
@@ -55,6 +57,13 @@ impl Dets {
         ensures { result.now ≡ self.now }
     {
         self.dets.as_slice()
+    }
+
+    /// Whether each determinant comes before the next, by source, send number, receiver and place there.
+    pub fn is_ascending(&self) -> bool
+        ensures { result ≡ is_ascending self.now }
+    {
+        scans::is_ascending(self.dets.as_slice())
     }
 }
 

@@ -8,7 +8,6 @@ pub mod fault;
 mod lanes;
 pub mod laws;
 pub mod limits;
-pub mod plain;
 mod scans;
 pub mod trace;
 

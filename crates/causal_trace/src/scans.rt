@@ -1,9 +1,8 @@
 //! Plain readings of a run's entries, oldest first: each goes over the whole list, and says what a definition says.
 ghost use Rattle.std.specs.Prelude.{◌≡◌, ◌≤◌, false, length, slice_get};
-ghost use Rattle.std.specs.Option.{option_map, option_map_or, option_copied};
+ghost use Rattle.std.specs.Option.{option_map, option_copied};
 ghost use Rattle.causal_name.specs.Names.{is_ascending};
 ghost use Rattle.causal_trace.specs.Past as past;
-ghost use Rattle.causal_trace.specs.Rows.{are_delivered, are_delivered_with};
 ghost use Rattle.causal_trace.specs.State.{past_at};
 
 use crate::entry::Entry;
@@ -73,66 +72,6 @@ pub(crate) fn entry(entries: &[Entry], i: u32) -> Option<&Entry>
     ensures { option_copied result ≡ slice_get entries.now i }
 {
     entries.get(i as usize)
-}
-
-/// How many messages the process's present lane has sent.
-pub(crate) fn sends(entries: &[Entry], p: Pid) -> usize
-    ensures { result ≡ past.sends (past_at entries.now (length entries.now)) p.0 }
-{
-    let mut count = 0;
-    for e in entries {
-        match e {
-            Entry::Send { from, .. } => {
-                if from.0 == p.0 {
-                    count += 1;
-                }
-            }
-            Entry::Restart { who, .. } => {
-                if who.0 == p.0 {
-                    count = 0;
-                }
-            }
-            _ => {}
-        }
-    }
-    count
-}
-
-/// How many messages the process's present lane has delivered.
-pub(crate) fn deliveries(entries: &[Entry], p: Pid) -> usize
-    ensures { result ≡ past.deliveries (past_at entries.now (length entries.now)) p.0 }
-{
-    let mut count = 0;
-    for e in entries {
-        match e {
-            Entry::Deliver { to, .. } => {
-                if to.0 == p.0 {
-                    count += 1;
-                }
-            }
-            Entry::Restart { who, .. } => {
-                if who.0 == p.0 {
-                    count = 0;
-                }
-            }
-            _ => {}
-        }
-    }
-    count
-}
-
-/// How many restarts there were.
-pub(crate) fn restarts(entries: &[Entry]) -> usize
-    ensures { result ≡ past.restarts (past_at entries.now (length entries.now)) }
-{
-    let mut count = 0;
-    for e in entries {
-        match e {
-            Entry::Restart { .. } => count += 1,
-            _ => {}
-        }
-    }
-    count
 }
 
 /// The message that the entry at a position sends, if it is among the first t.
@@ -213,78 +152,6 @@ pub(crate) fn is_det(own: Option<Det>, d: Det) -> bool
         Some(e) => e == d,
         None => false,
     }
-}
-
-/// Whether an optional message is this one.
-pub(crate) fn is_message(found: Option<MsgName>, m: MsgName) -> bool
-    ensures { result ≡ past.is_message found m }
-{
-    match found {
-        Some(k) => k == m,
-        None => false,
-    }
-}
-
-/// Whether the determinant is that of a delivery so far.
-pub(crate) fn is_delivered(entries: &[Entry], d: Det) -> bool
-    ensures { result ≡ past.is_delivered (past_at entries.now (length entries.now)) d }
-{
-    let mut found = false;
-    for (i, e) in entries.iter().enumerate() {
-        if is_det(det_of(entries, i, e), d) {
-            found = true;
-        }
-    }
-    found
-}
-
-/// Whether the process's present lane has delivered the message.
-pub(crate) fn has_delivered(entries: &[Entry], p: Pid, m: MsgName) -> bool
-    ensures { result ≡ past.has_delivered (past_at entries.now (length entries.now)) p.0 m }
-{
-    let mut found = false;
-    for (i, e) in entries.iter().enumerate() {
-        match e {
-            Entry::Deliver { to, send, .. } => {
-                if to.0 == p.0 && is_message(message_at(entries, i, *send), m) {
-                    found = true;
-                }
-            }
-            Entry::Restart { who, .. } => {
-                if who.0 == p.0 {
-                    found = false;
-                }
-            }
-            _ => {}
-        }
-    }
-    found
-}
-
-/// Whether the process's present lane has delivered the message, if there is one.
-pub(crate) fn has_delivered_any(entries: &[Entry], p: Pid, found: Option<MsgName>) -> bool
-    ensures { result ≡ option_map_or (past.has_delivered (past_at entries.now (length entries.now)) p.0) found false }
-{
-    match found {
-        Some(m) => has_delivered(entries, p, m),
-        None => false,
-    }
-}
-
-/// Whether each determinant is that of a delivery so far.
-pub(crate) fn are_delivered(entries: &[Entry], listed: &[Det]) -> bool
-    ensures { result ≡ are_delivered (past_at entries.now (length entries.now)) listed.now }
-{
-    listed.iter().all(|d| is_delivered(entries, *d))
-}
-
-/// The same, where one more delivery counts too.
-pub(crate) fn are_delivered_with(entries: &[Entry], own: Option<Det>, listed: &[Det]) -> bool
-    ensures { result ≡ are_delivered_with (past_at entries.now (length entries.now)) own listed.now }
-{
-    listed
-        .iter()
-        .all(|d| is_det(own, *d) || is_delivered(entries, *d))
 }
 
 /// The determinant of the delivery at a position.

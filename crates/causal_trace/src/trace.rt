@@ -1,5 +1,5 @@
 //! A recorded run that is well formed.
-ghost use Rattle.std.specs.Prelude.{◌≡◌, ◌≤◌, ◌+◌, [], ◌<◌, false, Some, None, IfSome, IfOk, IfErr, OnOk, OnErr, MatchBool, unwrap_or, length};
+ghost use Rattle.std.specs.Prelude.{◌≡◌, ◌≤◌, ◌+◌, [], ◌<◌, false, Some, None, IfSome, IfOk, IfErr, OnOk, OnErr, length};
 ghost use Rattle.std.specs.Option.{option_copied, option_map_or};
 ghost use Rattle.causal_name.specs.Names.{message_of};
 ghost use Rattle.causal_trace.specs.Limits.{max_entries};
@@ -65,10 +65,10 @@ impl PartialEq for Trace {
 }
 
 impl Trace {
-    ghost use Rattle.causal_trace.specs.Limits.{max_listed, IsProcessCount, is_process_count};
+    ghost use Rattle.causal_trace.specs.Limits.{max_listed, IsProcessCount};
     ghost use Rattle.causal_name.specs.declared.Det.{Det};
     ghost use Rattle.causal_trace.specs.Past.{lane, entry_at, listed_in, deliveries_in, det_at, is_delivered, has_delivered};
-    ghost use Rattle.causal_trace.specs.Rows.{first_fault, passes_limit, are_delivered, are_delivered_with, IsWellFormed};
+    ghost use Rattle.causal_trace.specs.Rows.{fault_next, refusal_next, IsRefusedBeginning, passes_limit, are_delivered, are_delivered_with, IsWellFormed};
     ghost use Rattle.causal_trace.specs.Inside.Index.{lane_of};
     ghost use Rattle.causal_trace.specs.State.{entries_of, with_entry, is_up_at, lane_at};
 
@@ -78,7 +78,7 @@ impl Trace {
     /// `Processes` where n is not from 1 to 256, else `NoMemory` where memory was refused.
     pub fn new(alloc: Global, n: u16) -> Result<Trace, TraceFault>
         ensures ok { IfOk result (λ trace. IsProcessCount n × (trace.recording ≡ record { processes = n; past = [] })) }
-        ensures refused { IfErr result (λ fault. MatchBool (is_process_count n) (fault ≡ TraceFault.NoMemory) (fault ≡ TraceFault.Processes)) }
+        ensures refused { IfErr result (IsRefusedBeginning n) }
     {
         if n == 0 || n > MAX_PROCESSES {
             return Err(TraceFault::Processes);
@@ -100,11 +100,11 @@ impl Trace {
     /// What stands against the entry, the first of `TraceFault`'s order that does; where nothing does, `NoMemory` where
     /// a growth was refused.
     pub fn push(&mut self, entry: Entry) -> Result<(), TraceFault>
-        ensures legal { OnOk result (first_fault self.old.recording.processes self.old.recording.past entry ≡ None) }
+        ensures legal { OnOk result (fault_next self.old.recording entry ≡ None) }
         ensures ok { OnOk result (self.new.recording ≡ with_entry self.old.recording entry) }
 
         // What the first row that holds tells, or want of memory where none does.
-        ensures refused { IfErr result (λ fault. fault ≡ unwrap_or (first_fault self.old.recording.processes self.old.recording.past entry) TraceFault.NoMemory) }
+        ensures refused { IfErr result (λ fault. fault ≡ refusal_next self.old.recording entry) }
         ensures err { OnErr result (self.new.recording ≡ self.old.recording) }
 
         ensures spare { self.old.spare ≤ self.new.spare + 1 }
@@ -119,7 +119,7 @@ impl Trace {
 
     /// Adds an entry against which no row stands, where there is room for it: it takes no memory and refuses nothing.
     pub fn push_reserved(&mut self, entry: Entry)
-        requires legal { first_fault self.old.recording.processes self.old.recording.past entry ≡ None }
+        requires legal { fault_next self.old.recording entry ≡ None }
         requires room { 1 ≤ self.old.spare }
         ensures recording { self.new.recording ≡ with_entry self.old.recording entry }
         ensures spare { self.old.spare ≤ self.new.spare + 1 }
@@ -129,7 +129,7 @@ impl Trace {
 
     /// Adds an entry against which no row stands.
     fn append(&mut self, entry: Entry) -> Result<(), NoMemory>
-        requires { first_fault self.old.recording.processes self.old.recording.past entry ≡ None }
+        requires { fault_next self.old.recording entry ≡ None }
         ensures ok { OnOk result (self.new.recording ≡ with_entry self.old.recording entry) }
         ensures err { OnErr result (self.new.recording ≡ self.old.recording) }
         ensures spare { self.old.spare ≤ self.new.spare + 1 }
@@ -249,6 +249,18 @@ impl Trace {
         }
     }
 
+    /// Whether the process's present lane has delivered the message of that name; none that is not below `processes`
+    /// has. It reads none of the entries: it takes at most one step for each lane that delivered the message.
+    pub fn has_delivered(&self, p: Pid, message: MsgName) -> bool
+        ensures { result ≡ has_delivered self.now.recording.past p.0 message }
+    {
+        if (p.0 as u16) >= self.processes {
+            return false;
+        }
+        let lane = self.present_lane(p).restarts;
+        self.chains.has(message, p, Sought::InLane(lane))
+    }
+
     /// An equal trace.
     ///
     /// # Errors
@@ -277,14 +289,12 @@ impl Trace {
         self.lanes[p.0 as usize]
     }
 
-    /// Whether the process's present lane has delivered the message, if there is one.
+    /// The same of the message that there is, if there is one.
     fn has_received(&self, p: Pid, message: Option<MsgName>) -> bool
-        requires { p.0 < self.now.recording.processes }
         ensures { result ≡ option_map_or (has_delivered self.now.recording.past p.0) message false }
     {
-        let lane = self.present_lane(p).restarts;
         match message {
-            Some(m) => self.chains.has(m, p, Sought::InLane(lane)),
+            Some(m) => self.has_delivered(p, m),
             None => false,
         }
     }
@@ -321,7 +331,7 @@ impl Trace {
 
     #[tactic(auto, unfolding(crate::specs::Rows::rows))]
     fn send_fault(&self, from: Pid, to: Pid, ssn: u32) -> Option<TraceFault>
-        ensures { result ≡ first_fault self.now.recording.processes self.now.recording.past (Entry.Send from to ssn) }
+        ensures { result ≡ fault_next self.now.recording (Entry.Send from to ssn) }
     {
         if self.passes_limit(0) {
             return Some(TraceFault::TooLong);
@@ -341,7 +351,7 @@ impl Trace {
 
     #[tactic(auto, unfolding(crate::specs::Rows::rows))]
     fn deliver_fault(&self, to: Pid, send: u32, rsn: u32, listed: &Dets) -> Option<TraceFault>
-        ensures { result ≡ first_fault self.now.recording.processes self.now.recording.past (Entry.Deliver to send rsn listed.now) }
+        ensures { result ≡ fault_next self.now.recording (Entry.Deliver to send rsn listed.now) }
     {
         if self.passes_limit(listed.as_slice().len()) {
             return Some(TraceFault::TooLong);
@@ -363,7 +373,7 @@ impl Trace {
         if self.has_received(to, message) {
             return Some(TraceFault::Doubled);
         }
-        if !scans::is_ascending(listed.as_slice()) {
+        if !listed.is_ascending() {
             return Some(TraceFault::Unsorted);
         }
         let own = scans::det_from(to, rsn, message);
@@ -375,7 +385,7 @@ impl Trace {
 
     #[tactic(auto, unfolding(crate::specs::Rows::rows))]
     fn stable_fault(&self, det: Det) -> Option<TraceFault>
-        ensures { result ≡ first_fault self.now.recording.processes self.now.recording.past (Entry.Stable det) }
+        ensures { result ≡ fault_next self.now.recording (Entry.Stable det) }
     {
         if self.passes_limit(0) {
             return Some(TraceFault::TooLong);
@@ -388,7 +398,7 @@ impl Trace {
 
     #[tactic(auto, unfolding(crate::specs::Rows::rows))]
     fn crash_fault(&self, who: Pid) -> Option<TraceFault>
-        ensures { result ≡ first_fault self.now.recording.processes self.now.recording.past (Entry.Crash who) }
+        ensures { result ≡ fault_next self.now.recording (Entry.Crash who) }
     {
         if self.passes_limit(0) {
             return Some(TraceFault::TooLong);
@@ -404,7 +414,7 @@ impl Trace {
 
     #[tactic(auto, unfolding(crate::specs::Rows::rows))]
     fn restart_fault(&self, who: Pid, listed: &Dets) -> Option<TraceFault>
-        ensures { result ≡ first_fault self.now.recording.processes self.now.recording.past (Entry.Restart who listed.now) }
+        ensures { result ≡ fault_next self.now.recording (Entry.Restart who listed.now) }
     {
         if self.passes_limit(listed.as_slice().len()) {
             return Some(TraceFault::TooLong);
@@ -418,7 +428,7 @@ impl Trace {
         if self.restarts as usize >= MAX_RESTARTS {
             return Some(TraceFault::Lanes);
         }
-        if !scans::is_ascending(listed.as_slice()) {
+        if !listed.is_ascending() {
             return Some(TraceFault::Unsorted);
         }
         if !self.are_delivered(listed.as_slice()) {
@@ -429,7 +439,7 @@ impl Trace {
 
     #[tactic(auto, unfolding(crate::specs::Rows::rows))]
     fn forget_fault(&self, who: Pid, listed: &Dets) -> Option<TraceFault>
-        ensures { result ≡ first_fault self.now.recording.processes self.now.recording.past (Entry.Forget who listed.now) }
+        ensures { result ≡ fault_next self.now.recording (Entry.Forget who listed.now) }
     {
         if self.passes_limit(listed.as_slice().len()) {
             return Some(TraceFault::TooLong);
@@ -440,7 +450,7 @@ impl Trace {
         if self.present_lane(who).down {
             return Some(TraceFault::NotUp);
         }
-        if !scans::is_ascending(listed.as_slice()) {
+        if !listed.is_ascending() {
             return Some(TraceFault::Unsorted);
         }
         if !self.are_delivered(listed.as_slice()) {
@@ -451,7 +461,7 @@ impl Trace {
 
     /// What is first told against the entry.
     fn fault_of(&self, entry: &Entry) -> Option<TraceFault>
-        ensures { result ≡ first_fault self.now.recording.processes self.now.recording.past entry.now }
+        ensures { result ≡ fault_next self.now.recording entry.now }
     {
         match entry {
             Entry::Send { from, to, ssn } => self.send_fault(*from, *to, *ssn),

@@ -1,3 +1,4 @@
+use Rattle.causal_trace.proofs.Tallied.{sends_counted, deliveries_counted, delivered_at_position, stable_at_position}
 use Rattle.causal_trace.proofs.Agreed.{instants_prefixes, instants_stay, one_more_instant, instants_keep_places, down_last, log_last, reaches_path}
 use Rattle.causal_trace.proofs.laws.words_agree.Goals as goal
 
@@ -21,3 +22,15 @@ returns-clause-logs c = log_last
 
 pub returns-clause-reaches : goal.returns-clause-reaches
 returns-clause-reaches c = reaches_path
+
+pub returns-clause-sends : goal.returns-clause-sends
+returns-clause-sends c = sends_counted
+
+pub returns-clause-deliveries : goal.returns-clause-deliveries
+returns-clause-deliveries c = deliveries_counted
+
+pub returns-clause-delivered : goal.returns-clause-delivered
+returns-clause-delivered c = delivered_at_position
+
+pub returns-clause-stable : goal.returns-clause-stable
+returns-clause-stable c = stable_at_position
