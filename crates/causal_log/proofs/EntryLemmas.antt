@@ -24,7 +24,7 @@ pub det_equiv : IsEquivalence same_det
 det_equiv = subst IsEquivalence (sym (λ i x y. det_ties x y i)) (eq_by_cmp_equiv dets_total)
 
 module _ {X : Type 0} where
-  find_lookup : (es : List (Det × X)) (q : Det) → find det_cmp q es ≡ lookup (same_det q) es
+  pub find_lookup : (es : List (Det × X)) (q : Det) → find det_cmp q es ≡ lookup (same_det q) es
   find_lookup [] q = refl
   find_lookup (e ∷ es) q = ap (λ b. cond b (Some e.1) (find det_cmp q es)) (sym (det_ties q e.0)) ∙ ap (cond (same_det q e.0) (Some e.1)) (find_lookup es q)
 
@@ -44,7 +44,7 @@ module _ {X : Type 0} where
       ∙ sym (get-insert dets_total (from_entries es) d x q ∙ ap (cond (eq_by_cmp det_cmp q d) (Some x)) (get_log es q)))
 
 -- two determinants, of which the second isn't below the first and isn't equal to it
-below : (x y : Det) → is_lt (det_cmp y x) ≡ false → same_det x y ≡ false → det_cmp x y ≡ Less
+pub below : (x y : Det) → is_lt (det_cmp y x) ≡ false → same_det x y ≡ false → det_cmp x y ≡ Less
 below x y low apart = by (det_cmp x y) refl where
   by : (r : Ordering) → det_cmp x y ≡ r → r ≡ Less
   by Less e = refl

@@ -4,13 +4,14 @@ use Rattle.std.proofs.lemmas.Bool.Decides.{nat_tests}
 use Rattle.std.proofs.Math.Seq.{drop-cons}
 use Rattle.std.specs.List.{list_any}
 use Rattle.std.specs.Option.{option_map}
-use Rattle.std.specs.Map.{keys_of}
+use Rattle.std.proofs.lemmas.Map.Made.{is_some-lookup}
+use Rattle.std.specs.Map.{lookup, keys_of}
 use Rattle.std.specs.Cmp.{nat_cmp_total}
 use Rattle.std.specs.FinMap as fin
 use Rattle.std.specs.FinSet as set
 use Rattle.causal_name.specs.declared.Det.{Det}
 use Rattle.causal_name.specs.declared.Pid.{Pid}
-use Rattle.causal_name.specs.Names.{same_det, same_pid, is_ascending, message_of}
+use Rattle.causal_name.specs.Names.{same_det, same_pid, message_of}
 use Rattle.causal_name.proofs.Lemmas.DetOrder.{same_is}
 use Rattle.causal_holders.proofs.Lemmas.Sets.{len-is_subset}
 use Rattle.causal_log.specs.declared.known.Known.{Known}
@@ -19,12 +20,12 @@ use Rattle.causal_log.specs.Knowledge.{joined, as_stable, is_carried}
 use Rattle.causal_log.specs.Logs.{LogMap, log_of, known_of, learned, learned_all, marked, unmarked, is_chosen, named}
 use Rattle.causal_log.specs.Slots.{is_of_slot, first_of_slot}
 use Rattle.causal_log.specs.Inside.Noted.{IsAmong, IsLast, IsNoted, GoOn, Learn, LearnAll}
-use Rattle.causal_log.proofs.EntryLemmas.{own_entries}
+use Rattle.causal_log.proofs.EntryLemmas.{get_log}
 use Rattle.causal_log.proofs.Lemmas.Learning.{get_learned}
 use Rattle.causal_log.proofs.Lemmas.Marking.{get_marked, get_unmarked}
 use Rattle.causal_log.proofs.Lemmas.Listing.{keys_logged}
 use Rattle.causal_log.proofs.Lemmas.Slots.{first_fits}
-use Rattle.causal_log.proofs.Lemmas.Searches.{both, any_kept, any_logged, passes}
+use Rattle.causal_log.proofs.Lemmas.Searches.{both, any_kept, passes}
 
 -- notes that say nothing are true of every log
 pub nothing_noted : (notes : Notes) (log : LogMap) → notes.limit ≡ 0 → IsNoted notes log
@@ -174,18 +175,27 @@ passing f g low (Some known) h =
     let two = both (not known.stable) (nat_le (set.len known.holders) f) h in
     and_both (not known.stable) (nat_le (set.len known.holders) g) two.0 (few_enough (set.len known.holders) f g low two.1)
 
+any_found : (P : Known → Bool) (q : Det) (es : List (Det × Known)) → passes P (lookup (same_det q) es) ≡ true → list_any (λ e. same_det q e.0 && P e.1) es ≡ true
+any_found P q [] h = absurd (true≢false (sym h))
+any_found P q (e ∷ es) h = by (same_det q e.0) h (λ at. any_found P q es at)
+  where
+    by : (b : Bool) → passes P (cond b (Some e.1) (lookup (same_det q) es)) ≡ true → (passes P (lookup (same_det q) es) ≡ true → list_any (λ e. same_det q e.0 && P e.1) es ≡ true)
+        → ((b && P e.1) || list_any (λ e. same_det q e.0 && P e.1) es) ≡ true
+    by true at later = ap (λ b. b || list_any (λ e. same_det q e.0 && P e.1) es) at
+    by false at later = later at
+
+-- what a message carries where so many may fail is among what it carries where more may
+pub carried_among : (es : List (Det × Known)) (f g : ℕ) → f ≤ g → (q : Det) → is_chosen f (fin.get (log_of es) q) ≡ true → IsAmong q (map (λ e. e.0) (filter (λ e. is_carried g e.1) es))
+carried_among es f g low q h =
+    any_kept (λ e. e.0) (λ e. is_carried g e.1) (same_det q) (λ e. same_det q e.0 && is_carried g e.1) (λ e. swap (is_carried g e.1) (same_det q e.0)) es
+    ∙ any_found (is_carried g) q es (passing f g low (lookup (same_det q) es) (ap (is_chosen f) (sym (get_log es q)) ∙ h))
+
 -- notes made of entries are true of them
-pub noted_made : (notes : Notes) (es : List (Det × Known)) (g : ℕ) → is_ascending (keys_of es) ≡ true → notes.limit ≤ g + 1
+pub noted_made : (notes : Notes) (es : List (Det × Known)) (g : ℕ) → notes.limit ≤ g + 1
     → notes.few.items ≡ map (λ e. e.0) (filter (λ e. is_carried g e.1) es) → IsLast notes.dest (keys_of es) notes.last → IsNoted notes (log_of es)
-noted_made notes es g ascend limit few last = record {
-  carried = λ f low q h.
-      ap (list_any (same_det q)) few
-      ∙ any_kept (λ e. e.0) (λ e. is_carried g e.1) (same_det q) (λ e. same_det q e.0 && is_carried g e.1) (λ e. swap (is_carried g e.1) (same_det q e.0)) es
-      ∙ ap (list_any (λ e. same_det q e.0 && is_carried g e.1)) (sym (own_entries es ascend))
-      ∙ any_logged (is_carried g) q (log_of es)
-      ∙ passing f g (omega (arith, low, limit)) (fin.get (log_of es) q) h;
-  last = λ some q h.
-      last q (ap (λ xs. list_any (same_det q) (keys_of xs)) (sym (own_entries es ascend)) ∙ keys_logged (log_of es) q ∙ h);
+noted_made notes es g limit few last = record {
+  carried = λ f low q h. ap (list_any (same_det q)) few ∙ carried_among es f g (omega (arith, low, limit)) q h;
+  last = λ some q h. last q (sym (is_some-lookup (same_det q) es) ∙ ap is_some (sym (get_log es q)) ∙ h);
 }
 
 -- what is left of a list, one after the other

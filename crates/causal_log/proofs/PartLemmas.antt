@@ -9,7 +9,7 @@ use Rattle.causal_log.specs.declared.known.Known.{Known}
 use Rattle.causal_log.specs.declared.batch.Item.{Item}
 use Rattle.causal_log.specs.Knowledge.{nothing_known, joined, held_by, told, is_carried}
 use Rattle.causal_log.specs.Logs.{LogMap, log_of, known_of, learned, learned_all, absorbed, grown, chosen, is_chosen, item_of, dets_of}
-use Rattle.causal_log.specs.Inside.Parts.{copied, with_copy, with_copies, part_for}
+use Rattle.causal_log.specs.Inside.Parts.{copied, with_copy, with_copies, carried_in, part_for}
 use Rattle.causal_name.proofs.Lemmas.DetOrder.{dets_total, exact_dets, det_ties, same_is, same_itself}
 use Rattle.causal_log.proofs.EntryLemmas.{own_entries}
 use Rattle.causal_log.proofs.Lemmas.Ascents.{filter_ascends}
@@ -92,7 +92,7 @@ module _ (f : ℕ) where
   not_chosen None h = refl
   not_chosen (Some known) h = ap (λ b. cond b (Some known) None) h
 
-  get_carried : (log : LogMap) (q : Det) → fin.get (log_of (filter (λ e. is_carried f e.1) (fin.entries log))) q ≡ carried_of (fin.get log q)
+  pub get_carried : (log : LogMap) (q : Det) → fin.get (log_of (filter (λ e. is_carried f e.1) (fin.entries log))) q ≡ carried_of (fin.get log q)
   get_carried log q =
       fin.get-from_entries dets_total _ q
       ∙ find_kept (is_carried f) q (fin.entries log) (shown _ (fin.entries_sorted log))
@@ -166,9 +166,31 @@ module _ (f : ℕ) (log : LogMap) (few : List Det) (all : (q : Det) → is_chose
       by (inr none) true is = ap (carried_of f) (copies_there log few fin.empty q nothing_part (all q is))
       by (inr none) false is = ap (carried_of f) none ∙ sym (not_chosen f (fin.get log q) is)
 
-  -- the entries of some determinants, among which are all that a message carries, give the batch that the log does
-  pub few_chosen : chosen f (with_copies log few fin.empty) ≡ chosen f log
-  few_chosen = agree_chosen f log (with_copies log few fin.empty) few_agree
+  all_chosen : chosen f (with_copies log few fin.empty) ≡ chosen f log
+  all_chosen = agree_chosen f log (with_copies log few fin.empty) few_agree
+
+still_chosen : (f : ℕ) (o : Option Known) → is_chosen f (carried_of f o) ≡ true → is_chosen f o ≡ true
+still_chosen f None h = h
+still_chosen f (Some known) h = by (is_carried f known) refl h
+  where
+    by : (b : Bool) → is_carried f known ≡ b → is_chosen f (cond b (Some known) None) ≡ true → is_carried f known ≡ true
+    by true is h = is
+    by false is h = absurd (true≢false (sym h))
+
+carried_twice : (f : ℕ) (o : Option Known) → carried_of f (carried_of f o) ≡ carried_of f o
+carried_twice f None = refl
+carried_twice f (Some known) = by (is_carried f known) refl
+  where
+    by : (b : Bool) → is_carried f known ≡ b → carried_of f (cond b (Some known) None) ≡ cond b (Some known) None
+    by true is = ap (λ b. cond b (Some known) None) is
+    by false is = refl
+
+-- the carried entries of some determinants, among which are all that a message carries, give the batch that the log does
+pub few_chosen : (f : ℕ) (log : LogMap) (few : List Det) → ((q : Det) → is_chosen f (fin.get log q) ≡ true → list_any (same_det q) few ≡ true)
+    → chosen f (with_copies (carried_in f log) few fin.empty) ≡ chosen f log
+few_chosen f log few all =
+    all_chosen f (carried_in f log) few (λ q h. all q (still_chosen f (fin.get log q) (ap (is_chosen f) (sym (get_carried f log q)) ∙ h)))
+    ∙ agree_chosen f log (carried_in f log) (λ q. ap (carried_of f) (get_carried f log q) ∙ carried_twice f (fin.get log q))
 
 module _ (f : ℕ) (items : List Item) (own_det : Det) (log : LogMap) where
   abbrev first : LogMap

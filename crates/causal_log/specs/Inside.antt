@@ -2,3 +2,4 @@
 pub mod Kept
 pub mod Noted
 pub mod Parts
+pub mod Ranks

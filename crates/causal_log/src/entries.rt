@@ -1,17 +1,19 @@
-//! The entries of a volatile log, in ascending order. A log's methods work on its entries by these functions.
-ghost use Rattle.std.specs.Prelude.{◌≡◌, ◌↔◌, ◌<◌, ◌≤◌, ◌+◌, ◌^◌, true, Some, None, IsTrue, IsSome, IfSome, IfOk, OnOk, length, slice_get, filter, map, not};
+//! The entries of a volatile log, in the order in which they came. A log's methods work on its entries by these functions.
+ghost use Rattle.std.specs.Prelude.{◌≡◌, ◌↔◌, ◌<◌, ◌≤◌, ◌+◌, ◌^◌, true, Some, None, IsTrue, IsSome, IfSome, IfOk, OnOk, find, length, slice_get, filter, map, not};
+ghost use Rattle.std.specs.List.{IsDistinct};
 ghost use Rattle.std.specs.Option.{option_map};
 ghost use Rattle.std.specs.FinMap as fin;
 ghost use Rattle.indexmap.specs.IndexMap.{keys, spare};
-ghost use Rattle.causal_name.specs.Names.{message_of, is_ascending};
-ghost use Rattle.causal_log.specs.Slots.{first_of_slot};
+ghost use Rattle.causal_name.specs.Names.{same_det, is_ascending};
 ghost use Rattle.causal_log.specs.Knowledge.{is_carried};
-ghost use Rattle.causal_log.specs.Inside.Parts.{with_copy, with_copies};
-ghost use Rattle.causal_log.specs.Logs.{log_of, known_of, learned, absorbed, learned_all, item_of, dets_of, marked, chosen};
+ghost use Rattle.causal_log.specs.Inside.Parts.{carried_in, with_copy, with_copies};
+ghost use Rattle.causal_log.specs.Inside.Ranks.{has_rank};
+ghost use Rattle.causal_log.specs.Logs.{log_of, learned, absorbed, learned_all, item_of, dets_of, marked, chosen};
 
 use crate::batch::Item;
 use crate::known::{Known, told};
-use causal_name::{Det, MsgName, NoMemory, Pid};
+use crate::ranks::rank;
+use causal_name::{Det, NoMemory, Pid};
 use indexmap::IndexMap;
 use std::alloc::Global;
 
@@ -96,14 +98,31 @@ pub(crate) fn carried(
     Ok(items.collect(alloc)?)
 }
 
-/// The message of the first determinant of a slot.
-pub(crate) fn message_for(entries: &IndexMap<Det, Known>, dest: Pid, rsn: u32) -> Option<MsgName>
-    ensures { result ≡ option_map message_of (first_of_slot dest rsn (keys entries.now)) }
+/// The entry that so many come before.
+pub(crate) fn ranked(entries: &IndexMap<Det, Known>, place: u32) -> Option<(Det, Known)>
+    ensures { result ≡ find (λ e. has_rank (keys entries.now) place e.0) entries.now.entries }
 {
-    entries
-        .keys()
-        .find(|det| det.dest == dest && det.rsn == rsn)
-        .map(|det| det.message())
+    let dets = entries.keys().as_slice();
+    for (det, known) in entries.iter() {
+        if rank(dets, det) == place as usize {
+            return Some((*det, *known));
+        }
+    }
+    None
+}
+
+/// The determinants of the entries that messages carry where so many may fail.
+pub(crate) fn carried_dets(
+    alloc: Global,
+    entries: &IndexMap<Det, Known>,
+    failures: u32,
+) -> Result<Vec<Det>, NoMemory>
+    ensures { IfOk result (λ dets. dets.items ≡ map (λ e. e.0) (filter (λ e. is_carried failures e.1) entries.now.entries)) }
+{
+    let carried = entries
+        .iter()
+        .filter(|(_, known)| known.is_within(failures));
+    Ok(carried.map(|(det, _)| *det).collect(alloc)?)
 }
 
 /// The place of a determinant and what is known of it, where it is logged.
@@ -122,6 +141,7 @@ pub(crate) fn put_at(entries: &mut IndexMap<Det, Known>, place: usize, known: Kn
     ensures put { (det : Det) (was : Known) → slice_get entries.old.entries place ≡ Some (det, was) →
         log_of entries.new.entries ≡ fin.insert (log_of entries.old.entries) det known }
     ensures keys { keys entries.new ≡ keys entries.old }
+    ensures distinct { IsDistinct same_det (keys entries.new) }
     ensures spare { spare entries.new ≡ spare entries.old }
 {
     let Some(slot) = entries.get_index_mut(place) else {
@@ -130,18 +150,17 @@ pub(crate) fn put_at(entries: &mut IndexMap<Det, Known>, place: usize, known: Kn
     *slot = known;
 }
 
-/// Adds a determinant that is not logged, in room made before.
+/// Adds a determinant that is not logged behind the others, in room made before.
 pub(crate) fn add(entries: &mut IndexMap<Det, Known>, det: Det, heard: Known)
-    requires ascending { is_ascending (keys entries.old) ≡ true }
     requires room { 1 ≤ spare entries.old }
     requires new { fin.get (log_of entries.old.entries) det ≡ None }
     ensures learned { log_of entries.new.entries ≡ learned (log_of entries.old.entries) det heard }
-    ensures ascending { is_ascending (keys entries.new) ≡ true }
+    ensures distinct { IsDistinct same_det (keys entries.new) }
     ensures spare { spare entries.old ≤ spare entries.new + 1 }
     ensures len { length entries.new.entries ≡ length entries.old.entries + 1 }
 {
     let known = Known::nothing().joined(heard);
-    match entries.insert_sorted(det, known) {
+    match entries.insert(det, known) {
         Ok(_) => {}
         Err(_) => unreachable!(),
     }
@@ -149,10 +168,10 @@ pub(crate) fn add(entries: &mut IndexMap<Det, Known>, det: Det, heard: Known)
 
 /// Learns something of one determinant. It takes no memory: where the determinant is not logged, there is room.
 pub(crate) fn learn(entries: &mut IndexMap<Det, Known>, det: Det, heard: Known)
-    requires ascending { is_ascending (keys entries.old) ≡ true }
+    requires distinct { IsDistinct same_det (keys entries.old) }
     requires room { fin.get (log_of entries.old.entries) det ≡ None → 1 ≤ spare entries.old }
     ensures learned { log_of entries.new.entries ≡ learned (log_of entries.old.entries) det heard }
-    ensures ascending { is_ascending (keys entries.new) ≡ true }
+    ensures distinct { IsDistinct same_det (keys entries.new) }
     ensures spare { spare entries.old ≤ spare entries.new + 1 }
     ensures len { length entries.new.entries ≤ length entries.old.entries + 1 }
 {
@@ -164,10 +183,10 @@ pub(crate) fn learn(entries: &mut IndexMap<Det, Known>, det: Det, heard: Known)
 
 /// Learns what the items of a message from one process tell another, in room made before.
 pub(crate) fn learn_items(entries: &mut IndexMap<Det, Known>, items: &[Item], from: Pid, me: Pid)
-    requires ascending { is_ascending (keys entries.old) ≡ true }
+    requires distinct { IsDistinct same_det (keys entries.old) }
     requires room { length items.now ≤ spare entries.old }
     ensures learned { log_of entries.new.entries ≡ absorbed items.now from me (log_of entries.old.entries) }
-    ensures ascending { is_ascending (keys entries.new) ≡ true }
+    ensures distinct { IsDistinct same_det (keys entries.new) }
     ensures spare { spare entries.old ≤ spare entries.new + length items.now }
     ensures len { length entries.new.entries ≤ length entries.old.entries + length items.now }
 {
@@ -179,10 +198,10 @@ pub(crate) fn learn_items(entries: &mut IndexMap<Det, Known>, items: &[Item], fr
 
 /// Learns what other entries say, in room made before.
 pub(crate) fn learn_entries(entries: &mut IndexMap<Det, Known>, others: &IndexMap<Det, Known>)
-    requires ascending { is_ascending (keys entries.old) ≡ true }
+    requires distinct { IsDistinct same_det (keys entries.old) }
     requires room { length others.now.entries ≤ spare entries.old }
     ensures learned { log_of entries.new.entries ≡ learned_all others.now.entries (log_of entries.old.entries) }
-    ensures ascending { is_ascending (keys entries.new) ≡ true }
+    ensures distinct { IsDistinct same_det (keys entries.new) }
     ensures spare { spare entries.old ≤ spare entries.new + length others.now.entries }
     ensures len { length entries.new.entries ≤ length entries.old.entries + length others.now.entries }
 {
@@ -220,16 +239,36 @@ pub(crate) fn copy_items(
     Ok(())
 }
 
-/// Copies the entries of some determinants behind some others, where they are logged.
+/// Copies the entry of a determinant behind some others, where a message carries it.
+fn copy_carried(
+    part: &mut IndexMap<Det, Known>,
+    entries: &IndexMap<Det, Known>,
+    det: Det,
+    f: u16,
+) -> Result<(), NoMemory>
+    ensures { OnOk result (log_of part.new.entries ≡ with_copy (carried_in f (log_of entries.now.entries)) det (log_of part.old.entries)) }
+{
+    let Some(known) = entries.get(&det) else {
+        return Ok(());
+    };
+    if !known.is_carried(f) {
+        return Ok(());
+    }
+    part.insert(det, *known)?;
+    Ok(())
+}
+
+/// Copies the entries of some determinants behind some others, where a message carries them.
 fn copy_dets(
     part: &mut IndexMap<Det, Known>,
     entries: &IndexMap<Det, Known>,
     dets: &[Det],
+    f: u16,
 ) -> Result<(), NoMemory>
-    ensures { OnOk result (log_of part.new.entries ≡ with_copies (log_of entries.now.entries) dets.now (log_of part.old.entries)) }
+    ensures { OnOk result (log_of part.new.entries ≡ with_copies (carried_in f (log_of entries.now.entries)) dets.now (log_of part.old.entries)) }
 {
     for det in dets {
-        copy(part, entries, *det)?;
+        copy_carried(part, entries, *det, f)?;
     }
     Ok(())
 }
@@ -241,18 +280,21 @@ pub(crate) fn carried_among(
     dets: &[Det],
     f: u16,
 ) -> Result<Vec<Item>, NoMemory>
-    ensures { IfOk result (λ items. items.items ≡ chosen f (with_copies (log_of entries.now.entries) dets.now fin.empty)) }
+    ensures { IfOk result (λ items. items.items ≡ chosen f (with_copies (carried_in f (log_of entries.now.entries)) dets.now fin.empty)) }
 {
     let mut part = IndexMap::new(alloc);
-    copy_dets(&mut part, entries, dets)?;
+    copy_dets(&mut part, entries, dets, f)?;
     sort(&mut part)?;
     carried(alloc, &part, f)
 }
 
 /// Puts entries in order. More entries than a log may have are refused as want of memory.
 pub(crate) fn sort(entries: &mut IndexMap<Det, Known>) -> Result<(), NoMemory>
-    ensures same { OnOk result (log_of entries.new.entries ≡ log_of entries.old.entries) }
+    ensures same { log_of entries.new.entries ≡ log_of entries.old.entries }
     ensures ascending { OnOk result (is_ascending (keys entries.new) ≡ true) }
+    ensures distinct { IsDistinct same_det (keys entries.old) → IsDistinct same_det (keys entries.new) }
+    ensures len { length entries.new.entries ≡ length entries.old.entries }
+    ensures spare { spare entries.old ≤ spare entries.new }
     ensures few { OnOk result (length entries.new.entries < 2 ^ 32) }
 {
     if entries.len() > MOST_ENTRIES {
@@ -262,82 +304,14 @@ pub(crate) fn sort(entries: &mut IndexMap<Det, Known>) -> Result<(), NoMemory>
     Ok(())
 }
 
-/// What is known of a determinant, logged or not.
-fn known_of(entries: &IndexMap<Det, Known>, det: Det) -> Known
-    ensures { result ≡ known_of (log_of entries.now.entries) det }
+/// A copy of the entries in ascending order.
+pub(crate) fn in_order(entries: &IndexMap<Det, Known>) -> Result<IndexMap<Det, Known>, NoMemory>
+    ensures same { IfOk result (λ copy. log_of copy.entries ≡ log_of entries.now.entries) }
+    ensures ascending { IfOk result (λ copy. is_ascending (keys copy) ≡ true) }
 {
-    let nothing = Known::nothing();
-    entries.get(&det).copied().unwrap_or(nothing)
-}
-
-/// Learns something of one determinant, behind the others where it is not logged.
-fn append(entries: &mut IndexMap<Det, Known>, det: Det, heard: Known) -> Result<(), NoMemory>
-    ensures { OnOk result (log_of entries.new.entries ≡ learned (log_of entries.old.entries) det heard) }
-{
-    let known = known_of(entries, det).joined(heard);
-    entries.insert(det, known)?;
-    Ok(())
-}
-
-/// Learns what the items of a message tell, behind the others.
-fn append_items(
-    entries: &mut IndexMap<Det, Known>,
-    items: &[Item],
-    from: Pid,
-    me: Pid,
-) -> Result<(), NoMemory>
-    ensures { OnOk result (log_of entries.new.entries ≡ absorbed items.now from me (log_of entries.old.entries)) }
-{
-    for item in items {
-        let (det, heard) = told(from, me, item);
-        append(entries, det, heard)?;
-    }
-    Ok(())
-}
-
-/// Learns what other entries say, behind the others.
-fn append_entries(
-    entries: &mut IndexMap<Det, Known>,
-    others: &IndexMap<Det, Known>,
-) -> Result<(), NoMemory>
-    ensures { OnOk result (log_of entries.new.entries ≡ learned_all others.now.entries (log_of entries.old.entries)) }
-{
-    for (det, heard) in others.iter() {
-        append(entries, *det, *heard)?;
-    }
-    Ok(())
-}
-
-/// The entries with what the items of a message tell. It takes the time of a sort, however many of the items are new.
-pub(crate) fn merged_items(
-    entries: &IndexMap<Det, Known>,
-    items: &[Item],
-    from: Pid,
-    me: Pid,
-) -> Result<IndexMap<Det, Known>, NoMemory>
-    ensures learned { IfOk result (λ merged. log_of merged.entries ≡ absorbed items.now from me (log_of entries.now.entries)) }
-    ensures ascending { IfOk result (λ merged. is_ascending (keys merged) ≡ true) }
-    ensures few { IfOk result (λ merged. length merged.entries < 2 ^ 32) }
-{
-    let mut merged = entries.clone()?;
-    append_items(&mut merged, items, from, me)?;
-    sort(&mut merged)?;
-    Ok(merged)
-}
-
-/// The entries with what others say. It takes the time of a sort, however many of the others are new.
-pub(crate) fn merged(
-    entries: &IndexMap<Det, Known>,
-    others: &IndexMap<Det, Known>,
-) -> Result<IndexMap<Det, Known>, NoMemory>
-    ensures learned { IfOk result (λ merged. log_of merged.entries ≡ learned_all others.now.entries (log_of entries.now.entries)) }
-    ensures ascending { IfOk result (λ merged. is_ascending (keys merged) ≡ true) }
-    ensures few { IfOk result (λ merged. length merged.entries < 2 ^ 32) }
-{
-    let mut merged = entries.clone()?;
-    append_entries(&mut merged, others)?;
-    sort(&mut merged)?;
-    Ok(merged)
+    let mut copy = entries.clone()?;
+    sort(&mut copy)?;
+    Ok(copy)
 }
 
 /// Marks a determinant as stable, and says whether it is logged.
@@ -358,6 +332,7 @@ pub(crate) fn mark(entries: &mut IndexMap<Det, Known>, det: Det) -> bool
 pub(crate) fn drop_stable(entries: &mut IndexMap<Det, Known>) -> u32
     requires { length entries.old.entries < 2 ^ 32 }
     ensures left { entries.new.entries ≡ filter (λ e. not e.1.stable) entries.old.entries }
+    ensures distinct { IsDistinct same_det (keys entries.new) }
     ensures spare { spare entries.old ≤ spare entries.new }
     ensures count { result + length entries.new.entries ≡ length entries.old.entries }
 {

@@ -40,6 +40,7 @@ pub mod laws;
 mod log;
 mod memory;
 mod notes;
+mod ranks;
 mod stable;
 
 pub use batch::{Batch, Item};

@@ -1,32 +1,34 @@
 //! The volatile log of a process.
-ghost use Rattle.std.specs.Prelude.{◌≡◌, ◌↔◌, ◌<◌, ◌≤◌, ◌+◌, IsTrue, IsFalse, IsSome, IsOk, IfOk, OnOk, OnErr, length, slice_get};
+ghost use Rattle.std.specs.Prelude.{◌≡◌, ◌↔◌, ◌<◌, ◌≤◌, ◌+◌, ◌^◌, Bool, IsTrue, IsSome, IsOk, IfOk, OnOk, OnErr, count_by, length, slice_get};
 ghost use Rattle.std.specs.FinMap as fin;
 ghost use Rattle.causal_log.specs.Knowledge.{held_by, stable_and_held_by};
 ghost use Rattle.causal_log.specs.Logs.{learned, absorbed, grown, united, marked, stable_in, unstable_in, unmarked, chosen, named};
+ghost use Rattle.causal_log.specs.Slots.{first_of_slot};
 ghost use Rattle.causal_log.specs.Inside.Parts.{part_for};
+ghost use Rattle.causal_name.specs.declared.Det.{Det as Determinant};
 ghost use Rattle.causal_log.specs.declared.known.Known.{Known};
 
 use crate::batch::{Batch, Item};
 use crate::entries;
 use crate::known::Known;
 use crate::notes::Notes;
+use crate::ranks::least_of_slot;
 use causal_name::{Det, MsgName, NoMemory, Pid};
 use indexmap::IndexMap;
 use std::alloc::Global;
 use std::marker::Model;
 
-/// How many determinants are learned one by one: about so many insertions cost what a sort of all entries does.
-const FEW: usize = 64;
-
 /// The volatile log of a process: what it knows of each determinant that it logs (`Log(e)` of Elnozahy, Alvisi, Wang and
 /// Johnson 2002, from one process's side).
 ///
 /// It is seen as a finite map, and as the number of insertions that are sure of their memory, of which equality does not
-/// speak. Its entries are kept in ascending order, and are at most 4,294,967,295: further ones are refused as want of
-/// memory.
+/// speak. It has at most 4,294,967,295 entries: further ones are refused as want of memory.
 #[derive(Debug, Drop)]
 pub struct Log {
+    /// In the order in which they came, unless they were sorted since.
     entries: IndexMap<Det, Known>,
+    /// Whether they ascend.
+    sorted: bool,
     room: u32,
     notes: Notes,
 }
@@ -43,7 +45,7 @@ impl Model for Log {
 
     ghost view = { λ log. record { map = fin.from_entries log.entries.entries; spare = log.room } };
 
-    ghost invariant = { λ log. IsKept (keys log.entries) log.room (spare log.entries) log.notes (fin.from_entries log.entries.entries) };
+    ghost invariant = { λ log. IsKept (keys log.entries) log.sorted log.room (spare log.entries) log.notes (fin.from_entries log.entries.entries) };
 }
 
 impl Log {
@@ -53,6 +55,7 @@ impl Log {
     {
         Log {
             entries: IndexMap::new(alloc),
+            sorted: true,
             room: 0,
             notes: Notes::none(alloc),
         }
@@ -76,14 +79,26 @@ impl Log {
     pub fn at(&self, i: u32) -> Option<(Det, Known)>
         ensures { result ≡ slice_get (fin.entries self.now.map) i }
     {
-        entries::entry_at(&self.entries, i)
+        if self.sorted {
+            return entries::entry_at(&self.entries, i);
+        }
+        entries::ranked(&self.entries, i)
     }
 
     /// The determinants, ascending. Its only error is want of memory.
     pub fn dets(&self, alloc: Global) -> Result<Vec<Det>, NoMemory>
         ensures { IfOk result (λ dets. dets.items ≡ fin.keys self.now.map) }
     {
-        entries::dets(alloc, &self.entries)
+        let sorted = entries::in_order(&self.entries)?;
+        entries::dets(alloc, &sorted)
+    }
+
+    /// The determinants, each once, in no order that is promised. It takes neither memory nor time.
+    pub fn unordered(&self) -> &[Det]
+        ensures counted { (test : Determinant → Bool) → count_by test result.now ≡ count_by test (fin.keys self.now.map) }
+        ensures few { length result.now < 2 ^ 32 }
+    {
+        self.entries.keys().as_slice()
     }
 
     /// A copy. Its only error is want of memory.
@@ -94,6 +109,7 @@ impl Log {
         let notes = Notes::none(*self.entries.allocator());
         Ok(Log {
             entries,
+            sorted: self.sorted,
             room: 0,
             notes,
         })
@@ -116,7 +132,11 @@ impl Log {
         if self.notes.serves(f, self.entries.len()) {
             return entries::carried_among(alloc, &self.entries, self.notes.few(), f);
         }
-        entries::carried(alloc, &self.entries, f)
+        if self.sorted {
+            return entries::carried(alloc, &self.entries, f);
+        }
+        let dets = entries::carried_dets(alloc, &self.entries, u32::from(f))?;
+        entries::carried_among(alloc, &self.entries, dets.as_slice(), f)
     }
 
     /// What the messages of a step would carry once `grow` has taken in a delivery. The log is not changed. Its only error
@@ -135,6 +155,7 @@ impl Log {
         let mut part = self.part_for(alloc, carried, own, f)?;
         part.absorb(carried, from, me)?;
         part.add_own(own, me)?;
+        part.sort()?;
         part.choose(alloc, f)
     }
 
@@ -151,6 +172,7 @@ impl Log {
         entries::sort(&mut entries)?;
         Ok(Log {
             entries,
+            sorted: true,
             room: 0,
             notes: Notes::none(alloc),
         })
@@ -160,14 +182,16 @@ impl Log {
     pub fn stable_dets(&self, alloc: Global) -> Result<Vec<Det>, NoMemory>
         ensures { IfOk result (λ dets. dets.items ≡ stable_in self.now.map) }
     {
-        entries::stable_dets(alloc, &self.entries)
+        let sorted = entries::in_order(&self.entries)?;
+        entries::stable_dets(alloc, &sorted)
     }
 
     /// The determinants that are not known to be stable, ascending. Its only error is want of memory.
     pub fn unstable_dets(&self, alloc: Global) -> Result<Vec<Det>, NoMemory>
         ensures { IfOk result (λ dets. dets.items ≡ unstable_in self.now.map) }
     {
-        entries::unstable_dets(alloc, &self.entries)
+        let sorted = entries::in_order(&self.entries)?;
+        entries::unstable_dets(alloc, &sorted)
     }
 
     /// How many determinants are known to be stable. Takes no memory.
@@ -192,7 +216,14 @@ impl Log {
         if self.notes.is_beyond(dest, rsn) {
             return None;
         }
-        entries::message_for(&self.entries, dest, rsn)
+        self.least_of(dest, rsn).map(|det| det.message())
+    }
+
+    /// The least determinant that is logged for a slot.
+    fn least_of(&self, dest: Pid, rsn: u32) -> Option<Det>
+        ensures { result ≡ first_of_slot dest rsn (fin.keys self.now.map) }
+    {
+        least_of_slot(self.entries.keys().as_slice(), dest, rsn)
     }
 
     /// Makes the next `more` insertions sure of their memory. Where it is refused nothing changes, and its only error is
@@ -226,6 +257,20 @@ impl Log {
         Ok(())
     }
 
+    /// Puts the entries in order, so that `at` takes constant time until a determinant comes in. Its only error is want of
+    /// memory.
+    pub fn sort(&mut self) -> Result<(), NoMemory>
+        ensures map { self.new.map ≡ self.old.map }
+        ensures spare { self.new.spare ≡ self.old.spare }
+    {
+        if self.sorted {
+            return Ok(());
+        }
+        entries::sort(&mut self.entries)?;
+        self.sorted = true;
+        Ok(())
+    }
+
     /// Learns something of one determinant. The only error is want of memory, which comes for a determinant that is not
     /// logged yet.
     fn learn(&mut self, det: Det, heard: Known) -> Result<(), NoMemory>
@@ -243,6 +288,7 @@ impl Log {
         }
         self.make_room(1)?;
         entries::add(&mut self.entries, det, heard);
+        self.sorted = false;
         self.notes.learn(det, count);
         self.room -= 1;
         Ok(())
@@ -273,14 +319,6 @@ impl Log {
         self.learn(det, Known::stable_and_held(me))
     }
 
-    /// Whether so many determinants are learned one by one, each in its place: few ones, and those for which room was made.
-    /// More are learned all at once, since each one that is put in its place moves the entries behind it.
-    fn is_few(&self, more: usize) -> bool
-        ensures { IsFalse result → self.now.spare < more }
-    {
-        more <= FEW || more <= self.room as usize
-    }
-
     /// Takes in what a message from process `from` carries to process `me`: the known holders of each of its determinants
     /// grow by the item's holders, the sender and the receiver. On want of memory nothing changes.
     pub fn absorb(&mut self, batch: &Batch, from: Pid, me: Pid) -> Result<(), NoMemory>
@@ -290,16 +328,11 @@ impl Log {
         ensures spare { self.old.spare ≤ self.new.spare + length batch.now }
     {
         let items = batch.as_slice();
-        if self.is_few(items.len()) {
-            self.make_room(items.len())?;
-            entries::learn_items(&mut self.entries, items, from, me);
-            self.notes.learn_items(items, from, me);
-            self.room -= items.len() as u32;
-            return Ok(());
-        }
-        self.entries = entries::merged_items(&self.entries, items, from, me)?;
-        self.notes.forget();
-        self.room = 0;
+        self.make_room(items.len())?;
+        entries::learn_items(&mut self.entries, items, from, me);
+        self.sorted = false;
+        self.notes.learn_items(items, from, me);
+        self.room -= items.len() as u32;
         Ok(())
     }
 
@@ -316,6 +349,7 @@ impl Log {
         let count = held.holders.len();
         entries::learn_items(&mut self.entries, items, from, me);
         entries::learn(&mut self.entries, own, held);
+        self.sorted = false;
         self.notes.follow(own.dest);
         self.notes.learn_items(items, from, me);
         self.notes.learn(own, count);
@@ -330,16 +364,11 @@ impl Log {
         ensures succeeds { fin.len other.now.map ≤ self.old.spare → IsOk result }
         ensures spare { self.old.spare ≤ self.new.spare + fin.len other.now.map }
     {
-        if self.is_few(other.entries.len()) {
-            self.make_room(other.entries.len())?;
-            entries::learn_entries(&mut self.entries, &other.entries);
-            self.notes.forget();
-            self.room -= other.entries.len() as u32;
-            return Ok(());
-        }
-        self.entries = entries::merged(&self.entries, &other.entries)?;
+        self.make_room(other.entries.len())?;
+        entries::learn_entries(&mut self.entries, &other.entries);
+        self.sorted = false;
         self.notes.forget();
-        self.room = 0;
+        self.room -= other.entries.len() as u32;
         Ok(())
     }
 

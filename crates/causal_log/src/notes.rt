@@ -1,17 +1,17 @@
 //! What a log notes of its entries, so that it need not read them all: which of them messages carry, and which delivery to
 //! its process is the last.
-ghost use Rattle.std.specs.Prelude.{◌≡◌, true, ◌<◌, ◌≤◌, ◌+◌, IsTrue, IfOk, map, filter};
+ghost use Rattle.std.specs.Prelude.{◌≡◌, true, ◌<◌, ◌≤◌, ◌+◌, IsTrue, map};
 ghost use Rattle.std.specs.FinSet as set;
-ghost use Rattle.indexmap.specs.IndexMap.{keys};
-ghost use Rattle.causal_name.specs.Names.{is_ascending, same_pid};
-ghost use Rattle.causal_log.specs.Knowledge.{told, is_carried};
+ghost use Rattle.causal_name.specs.Names.{same_pid};
+ghost use Rattle.causal_log.specs.Knowledge.{told};
 ghost use Rattle.causal_log.specs.declared.known.Known.{Known};
 ghost use Rattle.causal_log.specs.Logs.{LogMap, log_of};
 ghost use Rattle.causal_log.specs.Inside.Noted.{IsLast, IsNoted, Learn, LearnAll};
 
 use crate::batch::Item;
+use crate::entries::carried_dets;
 use crate::known::{Known, told};
-use causal_name::{Det, NoMemory, Pid};
+use causal_name::{Det, Pid};
 use indexmap::IndexMap;
 use std::alloc::Global;
 
@@ -61,7 +61,7 @@ impl Notes {
     pub(crate) fn serves(&self, f: u16, entries: usize) -> bool
         ensures { IsTrue result → f < self.now.limit }
     {
-        u32::from(f) < self.limit && self.few.len() < entries / 16
+        u32::from(f) < self.limit && self.few.len() < entries / 4
     }
 
     /// The determinants among which those are that messages carry.
@@ -151,7 +151,6 @@ impl Notes {
     /// Makes the notes of entries anew where too many are noted, or where they say nothing, and makes room for more. Where
     /// there is no memory they say nothing.
     pub(crate) fn tidy(&mut self, entries: &IndexMap<Det, Known>, more: usize)
-        requires { is_ascending (keys entries.now) ≡ true }
         ensures { IsNoted self.old (log_of entries.now.entries) → IsNoted self.new (log_of entries.now.entries) }
     {
         if self.seen >= self.limit || self.few.len() > self.most {
@@ -162,7 +161,6 @@ impl Notes {
 
     /// Makes the notes of entries anew.
     fn renew(&mut self, entries: &IndexMap<Det, Known>)
-        requires { is_ascending (keys entries.now) ≡ true }
         ensures { IsNoted self.new (log_of entries.now.entries) }
     {
         let alloc = *entries.allocator();
@@ -182,20 +180,6 @@ impl Notes {
             self.limit = 0;
         }
     }
-}
-
-/// The determinants of the entries that messages carry where so many may fail.
-fn carried_dets(
-    alloc: Global,
-    entries: &IndexMap<Det, Known>,
-    failures: u32,
-) -> Result<Vec<Det>, NoMemory>
-    ensures { IfOk result (λ dets. dets.items ≡ map (λ e. e.0) (filter (λ e. is_carried failures e.1) entries.now.entries)) }
-{
-    let carried = entries
-        .iter()
-        .filter(|(_, known)| known.is_within(failures));
-    Ok(carried.map(|(det, _)| *det).collect(alloc)?)
 }
 
 /// The later of a number and that of a delivery, where it is one to this process.

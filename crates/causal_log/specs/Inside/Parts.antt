@@ -1,10 +1,11 @@
 -- The part of a log on which the batch of a delivery's sends depends.
-use Rattle.std.specs.Prelude.{ℕ, List, [], ◌∷◌, Option, Some, None}
+use Rattle.std.specs.Prelude.{ℕ, List, [], ◌∷◌, filter, Option, Some, None}
 use Rattle.std.specs.FinMap as fin
 use Rattle.causal_name.specs.declared.Det.{Det}
 use Rattle.causal_log.specs.declared.known.Known.{Known}
 use Rattle.causal_log.specs.declared.batch.Item.{Item}
-use Rattle.causal_log.specs.Logs.{LogMap, chosen, dets_of}
+use Rattle.causal_log.specs.Knowledge.{is_carried}
+use Rattle.causal_log.specs.Logs.{LogMap, log_of, chosen, dets_of}
 
 abbrev pub copied : Det → Option Known → LogMap → LogMap
 copied det None part = part
@@ -18,6 +19,10 @@ with_copy log det part = copied det (fin.get log det) part
 abbrev pub with_copies : LogMap → List Det → LogMap → LogMap
 with_copies log [] part = part
 with_copies log (det ∷ dets) part = with_copies log dets (with_copy log det part)
+
+-- the part of a log that a message carries
+abbrev pub carried_in : ℕ → LogMap → LogMap
+carried_in f log = log_of (filter (λ e. is_carried f e.1) (fin.entries log))
 
 -- the entries that a message carries now, and those that a delivery touches
 abbrev pub part_for : ℕ → List Item → Det → LogMap → LogMap

@@ -3,19 +3,14 @@ use Rattle.std.specs.FinMap as fin
 use Rattle.causal_log.specs.Knowledge.{nothing_known, joined}
 use Rattle.causal_log.specs.Logs.{log_of}
 use Rattle.std.proofs.Common.{sym, unwrap_or}
-use Rattle.causal_log.proofs.EntryLemmas.{inserted, ascending_log, get_log}
-use Rattle.causal_name.proofs.Lemmas.DetOrder.{ascending_sorted}
+use Rattle.causal_log.proofs.EntryLemmas.{inserted, get_log}
 use Rattle.causal_log.proofs.entries.add.Goals as goal
 
 pub returns-clause-learned : goal.returns-clause-learned
 returns-clause-learned c =
-    inserted c.args.entries.now.entries c.insert_sorted.new.self.entries c.args.det _ c.in-Ok.ensures.updates.0
+    inserted c.args.entries.now.entries c.insert.new.self.entries c.args.det _ c.in-Ok.ensures.updates.0
     ∙ ap (fin.insert (log_of c.args.entries.now.entries) c.args.det)
     (c.joined-known.ensures ∙ ap (λ k. joined k c.args.heard) (c.nothing.ensures ∙ ap (λ o. unwrap_or o nothing_known) (sym c.requires.new)))
-
-pub returns-clause-ascending : goal.returns-clause-ascending
-returns-clause-ascending c =
-    ascending_log c.insert_sorted.new.self.entries (c.in-Ok.ensures.sorted (ascending_sorted _ c.requires.ascending)) c.insert_sorted.ensures.unique
 
 pub returns-clause-len : goal.returns-clause-len
 returns-clause-len c =

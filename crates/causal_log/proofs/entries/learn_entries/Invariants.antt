@@ -1,6 +1,7 @@
-use Rattle.std.proofs.Common.{◌≡◌, ◌≤◌, ◌+◌, true, length}
+use Rattle.std.proofs.Common.{◌≡◌, ◌≤◌, ◌+◌, length}
 use Rattle.indexmap.specs.IndexMap.{keys, spare}
-use Rattle.causal_name.specs.Names.{is_ascending}
+use Rattle.std.specs.List.{IsDistinct}
+use Rattle.causal_name.specs.Names.{same_det}
 use Rattle.causal_log.specs.Logs.{learned_all, log_of}
 use Rattle.causal_log.proofs.entries.learn_entries.Given as goal
 
@@ -10,5 +11,5 @@ invariant-loop-det l = record {
   room : length l.det-iterator ≤ spare l.entries;
   spare : spare l.fn.entries + length l.det-iterator ≤ spare l.entries + length l.others.entries;
   len : length l.entries.entries + length l.det-iterator ≤ length l.fn.entries.entries + length l.others.entries;
-  ascending : is_ascending (keys l.entries) ≡ true;
+  distinct : IsDistinct same_det (keys l.entries);
 }

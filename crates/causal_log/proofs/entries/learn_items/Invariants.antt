@@ -1,6 +1,7 @@
-use Rattle.std.proofs.Common.{◌≡◌, ◌≤◌, ◌+◌, true, drop, length}
+use Rattle.std.proofs.Common.{◌≡◌, ◌≤◌, ◌+◌, drop, length}
 use Rattle.indexmap.specs.IndexMap.{keys, spare}
-use Rattle.causal_name.specs.Names.{is_ascending}
+use Rattle.std.specs.List.{IsDistinct}
+use Rattle.causal_name.specs.Names.{same_det}
 use Rattle.causal_log.specs.Logs.{absorbed, log_of}
 use Rattle.causal_log.proofs.entries.learn_items.Given as goal
 
@@ -10,5 +11,5 @@ invariant-loop-item l = record {
   room : length l.items ≤ spare l.entries + l.item-index;
   spare : spare l.fn.entries ≤ spare l.entries + l.item-index;
   len : length l.entries.entries ≤ length l.fn.entries.entries + l.item-index;
-  ascending : is_ascending (keys l.entries) ≡ true;
+  distinct : IsDistinct same_det (keys l.entries);
 }

@@ -1,3 +1,6 @@
+use Rattle.std.proofs.Common.{sym, subst}
+use Rattle.std.specs.List.{IsDistinct}
+use Rattle.causal_name.specs.Names.{same_det}
 use Rattle.indexmap.proofs.CallerLemmas.{keys-with_value_at, updates-with_value_at}
 use Rattle.indexmap.specs.IndexMap.{with_value_at}
 use Rattle.causal_log.proofs.EntryLemmas.{inserted, det_equiv}
@@ -10,3 +13,6 @@ returns-clause-put c = λ det was at.
 
 pub returns-clause-keys : goal.returns-clause-keys
 returns-clause-keys c = keys-with_value_at c.args.entries.now c.args.place c.args.known
+
+pub returns-clause-distinct : goal.returns-clause-distinct
+returns-clause-distinct c = subst (IsDistinct same_det) (sym (keys-with_value_at c.args.entries.now c.args.place c.args.known)) c.get_index_mut.ensures.unique

@@ -1,10 +1,17 @@
 use Rattle.std.proofs.Common.{◌∙◌, ap, sym, slice_get}
 use Rattle.std.specs.FinMap as fin
 use Rattle.causal_log.proofs.EntryLemmas.{own_entries}
+use Rattle.causal_log.proofs.PlaceLemmas.{ranked_order}
 use Rattle.causal_log.proofs.log.Log.at.Goals as goal
 
 pub returns : goal.returns
 returns c =
+    c.ranked.ensures
+    ∙ ranked_order c.self.inside.entries.entries c.self.invariant.distinct c.args.i
+    ∙ ap (λ log. slice_get (fin.entries log.map) c.args.i) c.self.view_is
+
+pub returns-then-self : goal.returns-then-self
+returns-then-self c =
     c.entry_at.ensures
-    ∙ ap (λ es. slice_get es c.args.i) (sym (own_entries c.self.inside.entries.entries c.self.invariant.ascending))
+    ∙ ap (λ es. slice_get es c.args.i) (sym (own_entries c.self.inside.entries.entries (c.self.invariant.ascending c.if-self.true)))
     ∙ ap (λ log. slice_get (fin.entries log.map) c.args.i) c.self.view_is

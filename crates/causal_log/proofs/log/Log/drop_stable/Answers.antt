@@ -11,12 +11,9 @@ use Rattle.causal_log.proofs.Lemmas.Ascents.{filter_ascends}
 use Rattle.causal_log.specs.Inside.Noted.{IsNoted}
 use Rattle.causal_log.proofs.EntryLemmas.{own_entries}
 use Rattle.causal_log.proofs.NoteLemmas.{noted_unmarked}
+use Rattle.causal_log.proofs.PlaceLemmas.{in_order, same_kept, same_count}
 use Rattle.causal_log.proofs.log.Log.drop_stable.Goals as goal
 use Rattle.causal_log.proofs.log.Log.drop_stable.Goals.{After-drop_stable}
-
--- the entries before are those of the map that they make
-own : (c : After-drop_stable) → fin.entries (log_of c.self.inside.entries.entries) ≡ c.self.inside.entries.entries
-own c = own_entries c.self.inside.entries.entries c.self.invariant.ascending
 
 -- the marked and the others are all
 parts : (es : List (Det × Known)) → length (map (λ e. e.0) (filter (λ e. e.1.stable) es)) + length (filter (λ e. not e.1.stable) es) ≡ length es
@@ -24,28 +21,35 @@ parts es =
     ap (λ n. n + length (filter (λ e. not e.1.stable) es)) (length-map (filter (λ e. e.1.stable) es) (λ e. e.0))
     ∙ length-filter_both (λ e. e.1.stable) (λ e. not e.1.stable) (λ x. refl) es
 
-ascend : (c : After-drop_stable) → is_ascending (keys_of c.drop_stable.new.entries.entries) ≡ true
-ascend c =
-    ap (λ es. is_ascending (keys_of es)) (c.drop_stable.ensures.left ∙ ap (filter (λ e. not e.1.stable)) (sym (own c)))
+-- the entries left are those of the map without what is marked
+left : (c : After-drop_stable) → log_of c.drop_stable.new.entries.entries ≡ unmarked (log_of c.self.inside.entries.entries)
+left c = ap log_of c.drop_stable.ensures.left ∙ same_kept c.self.inside.entries.entries c.self.invariant.distinct (λ known. not known.stable)
+
+ascend : (c : After-drop_stable) → c.self.inside.sorted ≡ true → is_ascending (keys_of c.drop_stable.new.entries.entries) ≡ true
+ascend c h =
+    ap (λ es. is_ascending (keys_of es))
+    (c.drop_stable.ensures.left ∙ ap (filter (λ e. not e.1.stable)) (sym (own_entries c.self.inside.entries.entries (c.self.invariant.ascending h))))
     ∙ filter_ascends (λ e. not e.1.stable) (log_of c.self.inside.entries.entries)
 
 pub invariant_of-self : goal.invariant_of-self
 invariant_of-self c = record {
-  ascending = ascend c;
+  distinct = c.drop_stable.ensures.distinct;
+  ascending = λ h. ascend c h;
   few = omega (arith, c.drop_stable.ensures.count, c.self.invariant.few, length-map c.drop_stable.new.entries.entries (λ e. e.0), length-map c.self.inside.entries.entries (λ e. e.0));
   sure = omega (arith, c.self.invariant.sure, c.drop_stable.ensures.spare);
-  noted = subst (IsNoted c.self.inside.notes)
-      (sym (ap log_of (c.drop_stable.ensures.left ∙ ap (filter (λ e. not e.1.stable)) (sym (own c)))))
-      (noted_unmarked c.self.inside.notes (log_of c.self.inside.entries.entries) c.self.invariant.noted);
+  noted = subst (IsNoted c.self.inside.notes) (sym (left c)) (noted_unmarked c.self.inside.notes (log_of c.self.inside.entries.entries) c.self.invariant.noted);
 }
 
 pub returns-clause-left : goal.returns-clause-left
-returns-clause-left c =
-    ap log_of (c.drop_stable.ensures.left ∙ ap (filter (λ e. not e.1.stable)) (sym (own c))) ∙ ap (λ log. unmarked log.map) c.self.view_is
+returns-clause-left c = left c ∙ ap (λ log. unmarked log.map) c.self.view_is
 
 pub returns-clause-count : goal.returns-clause-count
 returns-clause-count c =
     let all = parts c.self.inside.entries.entries in
     let left = ap length c.drop_stable.ensures.left in
     let count : c.drop_stable.result ≡ length (map (λ e. e.0) (filter (λ e. e.1.stable) c.self.inside.entries.entries)) = omega (arith, all, left, c.drop_stable.ensures.count) in
-    count ∙ ap (λ es. length (map (λ e. e.0) (filter (λ e. e.1.stable) es))) (sym (own c)) ∙ ap (λ m. length (stable_in m.map)) c.self.view_is
+    count
+    ∙ length-map (filter (λ e. e.1.stable) c.self.inside.entries.entries) (λ e. e.0)
+    ∙ same_count c.self.inside.entries.entries c.self.invariant.distinct (λ known. known.stable)
+    ∙ sym (length-map (filter (λ e. e.1.stable) (in_order c.self.inside.entries.entries)) (λ e. e.0))
+    ∙ ap (λ m. length (stable_in m.map)) c.self.view_is

@@ -1,18 +1,7 @@
 use Rattle.std.proofs.Common.{◌∙◌, ap, sym}
-use Rattle.std.specs.Option.{option_map}
-use Rattle.std.specs.Map.{keys_of}
-use Rattle.causal_name.specs.Names.{message_of}
-use Rattle.causal_log.specs.Slots.{first_of_slot}
 use Rattle.causal_log.specs.Logs.{log_of, named}
-use Rattle.causal_log.proofs.EntryLemmas.{own_entries}
 use Rattle.causal_log.proofs.NoteLemmas.{none_beyond}
 use Rattle.causal_log.proofs.log.Log.for_slot.Goals as goal
-
-pub returns : goal.returns
-returns c =
-    c.message_for.ensures
-    ∙ ap (λ es. option_map message_of (first_of_slot c.args.dest c.args.rsn (keys_of es))) (sym (own_entries c.self.inside.entries.entries c.self.invariant.ascending))
-    ∙ ap (λ log. named c.args.dest c.args.rsn log.map) c.self.view_is
 
 pub returns-then-is_beyond : goal.returns-then-is_beyond
 returns-then-is_beyond c =

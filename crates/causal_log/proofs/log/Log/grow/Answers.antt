@@ -1,4 +1,4 @@
-use Rattle.std.proofs.Common.{ap, sym, subst, map, length, arith}
+use Rattle.std.proofs.Common.{ap, sym, subst, map, length, true≢false, arith}
 use Rattle.std.proofs.lemmas.List.{length-map}
 use Rattle.causal_log.specs.Knowledge.{told}
 use Rattle.causal_log.specs.Logs.{log_of}
@@ -16,7 +16,8 @@ invariant_of-self c =
     subst (IsNoted c.learn_items-2.new.self) (sym c.learn_items.ensures.learned)
     (noted_all (map (told c.args.from c.args.me) c.as_slice-items.result.now) c.follow.new.self c.learn_items-2.new.self (log_of before.inside.entries.entries) served c.learn_items-2.ensures) in
     record {
-      ascending = c.learn.ensures.ascending;
+      distinct = c.learn.ensures.distinct;
+      ascending = λ h. absurd (true≢false (sym h));
       few = omega (arith, room, items, c.requires.room, before.invariant.few, c.learn_items.ensures.len, c.learn.ensures.len, length-map before.inside.entries.entries (λ e. e.0), length-map c.learn.new.entries.entries (λ e. e.0));
       sure = omega (arith, before.invariant.sure, c.learn_items.ensures.spare, c.learn.ensures.spare);
       noted = subst (IsNoted c.learn-2.new.self) (sym c.learn.ensures.learned)

@@ -1,4 +1,4 @@
-use Rattle.std.proofs.Common.{◌≡◌, ◌∙◌, ap, sym, subst, length, unwrap_or, arith}
+use Rattle.std.proofs.Common.{◌≡◌, ◌∙◌, ap, sym, subst, length, unwrap_or, true≢false, arith}
 use Rattle.std.proofs.lemmas.List.{length-map}
 use Rattle.std.specs.FinMap as fin
 use Rattle.causal_name.specs.Names.{is_ascending}
@@ -16,7 +16,8 @@ changed c =
 
 pub invariant_of-self : goal.invariant_of-self
 invariant_of-self c = record {
-  ascending = ap is_ascending c.put_at.ensures.keys ∙ c.self.invariant.ascending;
+  distinct = c.put_at.ensures.distinct;
+  ascending = λ h. ap is_ascending c.put_at.ensures.keys ∙ c.self.invariant.ascending h;
   few = omega (arith, ap length c.put_at.ensures.keys, c.self.invariant.few);
   sure = omega (arith, c.put_at.ensures.spare, c.self.invariant.sure);
   noted = subst (IsNoted c.learn.new.self) (sym (changed (goal.at.invariant_of-self c).After-put_at))
@@ -30,7 +31,8 @@ pub invariant_of-self-2 : goal.invariant_of-self-2
 invariant_of-self-2 c =
     let room = ap (λ log. log.spare) c.self-2.view_is in
     record {
-      ascending = c.add.ensures.ascending;
+      distinct = c.add.ensures.distinct;
+      ascending = λ h. absurd (true≢false (sym h));
       few = omega (arith, room, c.in_ok-make_room.ensures.ok, c.self-2.invariant.few, c.add.ensures.len, length-map c.self-2.inside.entries.entries (λ e. e.0), length-map c.add.new.entries.entries (λ e. e.0));
       sure = omega (arith, c.self-2.invariant.sure, c.add.ensures.spare);
       noted = subst (IsNoted c.learn-2.new.self) (sym c.add.ensures.learned)

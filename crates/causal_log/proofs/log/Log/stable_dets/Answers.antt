@@ -8,5 +8,6 @@ pub returns : goal.returns
 returns c =
     IfOk-weaker c.stable_dets.result _ _ (λ dets is.
     is
-    ∙ ap (λ es. map (λ e. e.0) (filter (λ e. e.1.stable) es)) (sym (own_entries c.self.inside.entries.entries c.self.invariant.ascending))
+    ∙ ap (λ es. map (λ e. e.0) (filter (λ e. e.1.stable) es)) (sym (own_entries c.in_ok-sorted.sorted.entries c.in_ok-sorted.ensures.ascending))
+    ∙ ap (λ log. stable_in log) c.in_ok-sorted.ensures.same
     ∙ ap (λ log. stable_in log.map) c.self.view_is) c.stable_dets.ensures

@@ -1,0 +1,18 @@
+-- What is asked of determinants in no order.
+use Rattle.std.specs.Prelude.{◌≡◌, ◌⊎◌, ◌==◌, ℕ, Bool, true, false, List, Option, Some, None, filter, length}
+use Rattle.causal_name.specs.declared.Det.{Det}
+use Rattle.causal_name.specs.declared.Pid.{Pid}
+use Rattle.causal_name.specs.Names.{is_before}
+use Rattle.causal_log.specs.Slots.{is_of_slot}
+use Rattle.causal_log.specs.Inside.Noted.{IsAmong}
+
+-- of some determinants this is the least that fills the slot, if one does
+abbrev pub IsLeastOfSlot : Pid → ℕ → List Det → Option Det → Type 0
+IsLeastOfSlot dest rsn dets None = (q : Det) → IsAmong q dets → is_of_slot dest rsn q ≡ false
+IsLeastOfSlot dest rsn dets (Some d) =
+    (is_of_slot dest rsn d ≡ true) × IsAmong d dets
+    × ((q : Det) → IsAmong q dets → is_of_slot dest rsn q ≡ true → (d ≡ q) ⊎ (is_before d q ≡ true))
+
+-- whether so many of some determinants come before one
+abbrev pub has_rank : List Det → ℕ → Det → Bool
+has_rank dets n det = length (filter (λ d. is_before d det) dets) == n
