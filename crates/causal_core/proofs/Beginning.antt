@@ -1,16 +1,16 @@
 -- The processes of a core begin.
-use Rattle.std.proofs.Common.{ℕ, zero, suc, ◌≡◌, ◌≢◌, ◌+◌, ◌-◌, ◌*◌, ◌<◌, ◌≤◌, Bool, true, false, List, [], ◌∷◌, ◌++◌, length, map, replicate, Option, Some, None, is_some, refl, sym, ap, subst, ◌∙◌, arith, slice_get, slice_set, length-append, append-nil}
+use Rattle.std.proofs.Common.{ℕ, zero, suc, ◌≡◌, ◌+◌, ◌-◌, ◌<◌, ◌≤◌, Bool, true, List, [], ◌∷◌, ◌++◌, length, map, replicate, Option, Some, None, is_some, refl, sym, ap, subst, ◌∙◌, arith, slice_set, length-append}
 use Rattle.std.specs.List.{list_all}
 use Rattle.std.specs.FinMap as fin
 use Rattle.std.proofs.lemmas.Bool.{false≢true}
-use Rattle.std.proofs.lemmas.List.{length-map, length-replicate, map-append, append_assoc}
+use Rattle.std.proofs.lemmas.List.{length-map, length-replicate, map-append}
 use Rattle.causal_name.specs.declared.Pid.{Pid}
 use Rattle.causal_name.specs.declared.Det.{Det}
 use Rattle.causal_name.specs.Names.{det_cmp}
 use Rattle.causal_process.specs.declared.message.Input.{Input}
 use Rattle.causal_process.specs.declared.message.Outgoing.{Outgoing}
 use Rattle.causal_log.specs.Logs.{LogMap, chosen}
-use Rattle.causal_log.specs.Stores.{DetSet, has, count_in}
+use Rattle.causal_log.specs.Stores.{DetSet, has}
 use Rattle.causal_trace.specs.declared.entry.Entry.{Entry}
 use Rattle.causal_trace.specs.Past.{is_stable, is_delivered}
 use Rattle.causal_protocol.specs.Memory.{Memories, fresh, at}
@@ -18,8 +18,8 @@ use Rattle.causal_protocol.specs.Run.{Run, memories, memories_of}
 use Rattle.causal_protocol.specs.Runs.{Opens}
 use Rattle.causal_protocol.specs.Steps.{pushed, sends_of}
 use Rattle.causal_core.specs.Boxes.{Began}
-use Rattle.causal_core.specs.Inside.Facts.{Fits, FitsAt, AllFit, IsHeld}
-use Rattle.causal_core.specs.Inside.Begins.{begun_by, MayBegin, HasBegun, Begins, HaveBegun}
+use Rattle.causal_core.specs.Inside.Facts.{Fits, FitsAt, IsHeld}
+use Rattle.causal_core.specs.Inside.Begins.{begun_by, MayBegin, Begins, HaveBegun}
 use Rattle.causal_core.specs.Starts.{with_beginning, with_beginnings, opening}
 use Rattle.causal_core.specs.View.{DataState, receivers, sent_bodies, keep_all}
 use Rattle.causal_core.proofs.Sending.{memories_sends, are_sends, receivers_below, receivers_long, addressed_few, pushed_length, sends_length}

@@ -1,13 +1,12 @@
 -- A cell among others: what is read at its place, and what a write there changes.
-use Rattle.std.proofs.Common.{ℕ, zero, suc, ◌≡◌, ◌+◌, ◌<◌, ◌≤◌, Bool, true, false, cond, List, [], ◌∷◌, ◌++◌, length, get_or, map, Option, Some, None, refl, sym, ap, ◌∙◌, arith, slice_get, slice_set}
-use Rattle.std.specs.Prelude.{is_none, is_some, unwrap_or}
-use Rattle.std.specs.Option as Option
+use Rattle.std.proofs.Common.{ℕ, zero, suc, ◌≡◌, ◌<◌, true, List, [], ◌∷◌, ◌++◌, length, get_or, map, Option, Some, None, refl, sym, ap, ◌∙◌, arith, slice_get, slice_set}
+use Rattle.std.specs.Prelude.{is_some, unwrap_or}
 use Rattle.std.specs.Option.{option_map, option_map_or, option_and_then}
 use Rattle.std.proofs.lemmas.Option.{slice_get_read}
 use Rattle.std.proofs.lemmas.Bool.{false≢true}
 use Rattle.causal_core.specs.declared.cell.Cell.{Cell}
 use Rattle.causal_protocol.specs.Memory.{Memory, Memories, at}
-use Rattle.causal_core.specs.View.{memory_of, memories_in, memory_at, bodies_of, bodies_in, with_bodies, Room, no_room, room_of, rooms_in, room_at}
+use Rattle.causal_core.specs.View.{memory_of, memories_in, memory_at, bodies_of, bodies_in, with_bodies, no_room, room_of, rooms_in, room_at}
 use Rattle.causal_core.proofs.Sending.{set_same, set_twice}
 
 pub get-map : {X Y : Type 0} (f : X → Y) (xs : List X) (p : ℕ) → slice_get (map f xs) p ≡ option_map f (slice_get xs p)

@@ -1,41 +1,37 @@
 -- A delivery against which nothing stands.
-use Rattle.std.proofs.Common.{ℕ, zero, suc, ◌≡◌, ◌≢◌, ◌+◌, ◌<◌, ◌≤◌, Bool, true, false, cond, ◌==◌, List, [], ◌∷◌, ◌++◌, length, map, Option, Some, None, refl, sym, ap, subst, ◌∙◌, arith, slice_get, slice_set, replicate}
+use Rattle.std.proofs.Common.{ℕ, ◌≡◌, ◌<◌, ◌≤◌, true, false, List, [], length, Option, Some, None, refl, sym, ap, subst, ◌∙◌, arith, slice_get, replicate}
 use Rattle.std.specs.Prelude.{◌||◌, ◌&&◌, not, nat_lt, is_none, is_some, unwrap_or}
 use Rattle.std.specs.List.{list_any, list_all}
 use Rattle.std.specs.Option.{option_map, option_map_or, option_and_then}
-use Rattle.std.specs.FinMap as fin
+use Rattle.std.specs.Arc.{arc_value}
 use Rattle.std.proofs.lemmas.Bool.{false≢true}
 use Rattle.std.proofs.lemmas.Bool.Decides.{nat_tests}
 use Rattle.causal_name.specs.declared.Pid.{Pid}
 use Rattle.causal_name.specs.declared.MsgName.{MsgName}
 use Rattle.causal_name.specs.declared.Det.{Det}
-use Rattle.causal_name.specs.Names.{same_message, same_pid, is_ascending, message_of}
+use Rattle.causal_name.specs.Names.{same_message, same_pid, is_ascending}
 use Rattle.causal_name.proofs.Lemmas.DetOrder.{same_itself}
-use Rattle.causal_log.specs.Logs.{LogMap, chosen, dets_of}
-use Rattle.causal_log.proofs.Lemmas.ChosenLemmas.{chosen_ascend}
+use Rattle.causal_log.specs.Logs.{chosen, dets_of}
 use Rattle.causal_trace.specs.declared.entry.Entry.{Entry}
-use Rattle.causal_trace.specs.declared.entry.Entry.TheVariants.{Send, Deliver}
-use Rattle.causal_trace.specs.Past.{entry_at, is_send_to, is_sent_to, message_sent, message_at, det_from, det_of, is_det, is_down, is_delivered, has_delivered, deliveries, listed_in}
+use Rattle.causal_trace.specs.Past.{is_send_to, is_sent_to, message_sent, message_at, det_from, det_of, is_det, is_delivered, has_delivered, deliveries}
 use Rattle.causal_trace.specs.Rows as Rows
 use Rattle.causal_trace.specs.Rows.{are_delivered, are_delivered_with}
 use Rattle.causal_protocol.specs.declared.request.Request.TheVariants as Ask
-use Rattle.causal_protocol.specs.Memory.{Kept, Memory, Memories, at, kept_by, batch_of, gained, with_received}
-use Rattle.causal_protocol.specs.Run.{Run, memories, memories_of, stable_of, receive}
-use Rattle.causal_protocol.specs.Naming.{name, named_for, kept_for, send_of, has_received, next_rsn, next_ssn, own_det, with_own, listed_for}
+use Rattle.causal_protocol.specs.Memory.{Kept, Memory, Memories, at, kept_by, batch_of, gained}
+use Rattle.causal_protocol.specs.Run.{Run, memories_of}
+use Rattle.causal_protocol.specs.Naming.{name, kept_for, send_of, has_received, next_rsn, next_ssn, own_det, with_own, listed_for}
 use Rattle.causal_protocol.specs.Refusals.{rows, first_fault, is_full}
-use Rattle.causal_protocol.specs.Steps.{delivery_of, pushed, sends_of, extended}
-use Rattle.causal_core.specs.Inside.Facts.{IsPlaced, Fits, FitsAt, AllFit, IsHeld}
+use Rattle.causal_protocol.specs.Steps.{delivery_of}
+use Rattle.causal_core.specs.Inside.Facts.{IsPlaced, Fits, FitsAt, AllFit}
 use Rattle.causal_process.specs.declared.message.Input.TheVariants.{Message as Given}
 use Rattle.causal_core.specs.declared.cell.Message.{Message}
 use Rattle.causal_core.specs.declared.grown.Grown.{Grown}
-use Rattle.causal_core.specs.View.{DataState, IsMade, IsGrown, kept_of, body_at, memory_at, log_at, keep_all}
-use Rattle.causal_core.proofs.Fitting.{all_more, or_left, or_right, delivered_more, length-slice_set, at-set_same}
-use Rattle.causal_core.proofs.Sending.{memories_sends, set_twice}
-use Rattle.causal_core.proofs.Receiving.{gained_all, chosen_all, own_delivered}
+use Rattle.causal_core.specs.View.{DataState, IsMade, IsGrown, kept_of, body_at, carried_by, memory_at, log_at}
+use Rattle.causal_core.proofs.Fitting.{all_more, or_left, or_right}
 use Rattle.std.proofs.lemmas.List.{length-map}
 use Rattle.causal_core.proofs.Listing.{with_all, with_ascending, with_longer}
 use Rattle.causal_core.proofs.Legal.{row_none, when_false, there}
-use Rattle.causal_core.proofs.Telling.{kept_found, listed_is}
+use Rattle.causal_core.proofs.Telling.{kept_found}
 
 -- what is known of the receiver, the sender and the message
 pub record MayDeliver (r : Run) (q source : Pid) (ssn : ℕ) : Type 0 where
@@ -111,7 +107,7 @@ made_grown d ms q source ssn m message g mine same up kept body is made =
     let by : kept_by ms (name source ssn) ≡ Some (kept_of message) = (kept_found q (kept_by ms (name source ssn)) (kept_of message) kept).0 in
     let rsn : next_rsn (memories_of d.run) q ≡ length m.received = ap (λ xs. next_rsn xs q) (sym same) ∙ ap (λ o. option_map_or (λ (x : Memory). length x.received) o 0) up in
     let here : mine ≡ own_det (memories_of d.run) q (name source ssn) = is ∙ ap (λ k. det_from q k (name source ssn)) (sym rsn) in
-    let batch : message.batch ≡ batch_of (memories_of d.run) (name source ssn) = sym (ap (λ xs. batch_of xs (name source ssn)) (sym same) ∙ ap (λ o. option_map_or (λ (x : Kept). x.batch) o []) by) in
+    let batch : arc_value message.batch ≡ batch_of (memories_of d.run) (name source ssn) = sym (ap (λ xs. batch_of xs (name source ssn)) (sym same) ∙ ap (λ o. option_map_or (λ (x : Kept). x.batch) o []) by) in
     let send : message.send ≡ send_of (memories_of d.run) (name source ssn) = sym (ap (λ xs. send_of xs (name source ssn)) (sym same) ∙ ap (λ o. option_map_or (λ (x : Kept). x.send) o 0) by) in
     let log : m.log ≡ log_at (memories_of d.run) q.0 = sym (ap (λ xs. log_at xs q.0) (sym same) ∙ ap (λ o. (unwrap_or o (memory_at [] 0)).log) up) in
     record {
@@ -119,7 +115,7 @@ made_grown d ms q source ssn m message g mine same up kept body is made =
       send = made.send ∙ send;
       listed = made.listed ∙ (λ i. with_own (here i) (dets_of (batch i)));
       carried = made.carried ∙ batch;
-      copies = made.copies ∙ (λ i. replicate 8 (chosen d.run.faults (gained (sym made.carried i) (sym made.own_is i) (log i))));
+      shares = made.shares ∙ (λ i. replicate 8 (chosen d.run.faults (gained (sym made.carried i) (sym made.own_is i) (log i))));
       input = made.input ∙ (λ i. Given (here i).source (body i));
     }
 
@@ -130,7 +126,7 @@ grown_same a b q m g run bodies h = record {
   send = h.send ∙ ap (λ r. send_of (memories_of r) m) (sym run);
   listed = h.listed ∙ ap (λ r. listed_for (memories_of r) q m) (sym run);
   carried = h.carried ∙ ap (λ r. batch_of (memories_of r) m) (sym run);
-  copies = h.copies ∙ ap (λ r. replicate 8 (chosen r.faults (gained g.carried g.own (log_at (memories_of r) q.0)))) (sym run);
+  shares = h.shares ∙ ap (λ r. replicate 8 (chosen r.faults (gained (carried_by g) g.own (log_at (memories_of r) q.0)))) (sym run);
   input = h.input ∙ ap (λ bs. Given m.source (body_at bs m)) (sym bodies);
 }
 
@@ -140,7 +136,7 @@ unfolding rows
 listed_few r q source ssn none =
     let long : is_full r 9 (length (listed_for (memories_of r) q (name source ssn))) ≡ false = when_false _ _ (row_none (rows r (Ask.Deliver q source ssn)) none 5 _ refl) in grind (arith, nat_tests, long)
 
-pub carried_listed : (d : DataState) (q : Pid) (m : MsgName) (g : Grown) → IsGrown d q m g → length g.carried ≤ length g.listed.items
+pub carried_listed : (d : DataState) (q : Pid) (m : MsgName) (g : Grown) → IsGrown d q m g → length (carried_by g) ≤ length g.listed.items
 carried_listed d q m g h =
     let longer = with_longer (own_det (memories_of d.run) q m) (dets_of (batch_of (memories_of d.run) m)) in
     let count = ap length h.carried in

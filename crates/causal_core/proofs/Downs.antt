@@ -1,8 +1,7 @@
 -- Which processes have no memory: those that are down.
-use Rattle.std.proofs.Common.{ℕ, zero, suc, ◌≡◌, ◌≢◌, ◌<◌, ◌∙◌, inl, inr, Bool, true, false, List, [], ◌∷◌, length, map, replicate, Option, Some, None, is_some, refl, sym, ap, arith, slice_get, slice_set}
+use Rattle.std.proofs.Common.{ℕ, zero, suc, ◌≡◌, ◌<◌, ◌∙◌, inl, inr, false, List, [], ◌∷◌, length, map, replicate, Option, Some, None, is_some, refl, sym, ap, arith, slice_get, slice_set}
 use Rattle.std.specs.Prelude.{not, ◌&&◌, ◌||◌, is_none, unwrap_or, drop}
 use Rattle.std.specs.FinMap as fin
-use Rattle.std.specs.Option.{option_map}
 use Rattle.std.proofs.lemmas.Bool.Decides.{eqb_tells}
 use Rattle.causal_name.specs.declared.Pid.{Pid}
 use Rattle.causal_name.specs.declared.MsgName.{MsgName}

@@ -1,14 +1,12 @@
 -- Memories that fit the entries, with one more entry.
-use Rattle.std.proofs.Common.{ℕ, zero, suc, ◌≡◌, ◌≢◌, ◌+◌, ◌<◌, ◌≤◌, inl, inr, Bool, true, false, cond, ◌==◌, List, [], ◌∷◌, length, Option, Some, None, refl, sym, ap, subst, ◌∙◌, arith, slice_get, slice_set}
+use Rattle.std.proofs.Common.{ℕ, zero, suc, ◌≡◌, ◌≢◌, ◌+◌, ◌<◌, inl, inr, Bool, true, false, cond, ◌==◌, List, [], ◌∷◌, length, Option, Some, None, refl, sym, ap, subst, ◌∙◌, arith, slice_set}
 use Rattle.std.specs.Prelude.{◌||◌, ◌&&◌, not}
-use Rattle.std.specs.List.{list_any, list_all}
+use Rattle.std.specs.List.{list_all}
 use Rattle.std.specs.FinMap as fin
-use Rattle.std.proofs.lemmas.Bool.{false≢true, cond-false, cases_lt, ne_eqb}
-use Rattle.std.proofs.lemmas.Bool.Decides.{nat_tests, eqb_tells}
-use Rattle.causal_name.specs.declared.Pid.{Pid}
+use Rattle.std.proofs.lemmas.Bool.{false≢true, cond-false, ne_eqb}
+use Rattle.std.proofs.lemmas.Bool.Decides.{eqb_tells}
 use Rattle.causal_name.specs.declared.MsgName.{MsgName}
 use Rattle.causal_name.specs.declared.Det.{Det}
-use Rattle.causal_name.specs.Names.{same_message}
 use Rattle.causal_trace.specs.declared.entry.Entry.{Entry}
 use Rattle.causal_trace.specs.declared.entry.Entry.TheVariants.{Send, Deliver, Stable, Crash, Restart, Forget}
 use Rattle.causal_trace.specs.Past.{entry_at, is_down, sends, deliveries, has_delivered, is_delivered, det_of, is_det, message_at, is_message}
@@ -16,7 +14,7 @@ use Rattle.causal_trace.specs.Rows.{are_delivered}
 use Rattle.causal_trace.proofs.Lemmas.Instants.{entry_beyond}
 use Rattle.causal_log.specs.Logs.{dets_of}
 use Rattle.causal_protocol.specs.Memory.{Kept, Memory, Memories, at}
-use Rattle.causal_core.specs.Inside.Facts.{IsPlaced, Fits, FitsAt, AllFit}
+use Rattle.causal_core.specs.Inside.Facts.{IsPlaced, FitsAt, AllFit}
 
 -- whether an entry is of the process p
 abbrev pub is_of : ℕ → Entry → Bool

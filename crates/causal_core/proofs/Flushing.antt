@@ -1,7 +1,7 @@
 -- What a flush writes, and that it is a legal step.
 use Rattle.std.proofs.Common.{ℕ, zero, suc, ◌≡◌, ◌+◌, ◌<◌, ◌≤◌, ◌∙◌, Bool, true, false, cond, List, [], ◌∷◌, ◌++◌, length, take, map, replicate, get_or, Option, Some, None, is_some, refl, sym, ap, subst, arith}
-use Rattle.std.specs.Prelude.{◌&&◌, ◌||◌, not, nat_lt, unwrap_or, Result, Ok, Err, IfOk, IfErr, is_none, slice_set}
-use Rattle.std.specs.List.{list_any, list_all}
+use Rattle.std.specs.Prelude.{◌&&◌, not, nat_lt, unwrap_or, Result, Ok, Err, IfOk, IfErr, is_none}
+use Rattle.std.specs.List.{list_all}
 use Rattle.std.specs.Option.{option_map, option_map_or}
 use Rattle.std.specs.FinMap as fin
 use Rattle.std.proofs.lemmas.Bool.{false≢true}
@@ -26,7 +26,7 @@ use Rattle.causal_protocol.specs.declared.request.Reply.TheVariants as Told
 use Rattle.causal_protocol.specs.Memory.{Memory, Memories, at, changed, with_log}
 use Rattle.causal_protocol.specs.Run.{Run, memories, memories_of}
 use Rattle.causal_protocol.specs.Refusals.{rows, first_of, when, first_fault, is_long, unwritten}
-use Rattle.causal_protocol.specs.Steps.{LegalStep, Steps, IsPart, pushed, extended, reason_of, flush_reason_of, told_flush}
+use Rattle.causal_protocol.specs.Steps.{LegalStep, Steps, IsPart, extended, reason_of, flush_reason_of, told_flush}
 use Rattle.causal_core.specs.View.{memory_at, log_at}
 use Rattle.causal_core.specs.Flushes.{written}
 use Rattle.causal_core.proofs.Fitting.{all_more, or_left, or_right}

@@ -1,7 +1,7 @@
 -- That a process forgets what it knows to be stable.
-use Rattle.std.proofs.Common.{ℕ, ◌≡◌, ◌≢◌, ◌+◌, ◌<◌, ◌≤◌, ◌∙◌, Bool, true, false, cond, List, [], ◌∷◌, length, map, filter, Option, Some, None, is_some, refl, sym, ap, subst, arith, slice_set}
-use Rattle.std.specs.Prelude.{◌&&◌, ◌||◌, not, nat_lt, is_none, Result, Ok, Err}
-use Rattle.std.specs.List.{list_any, list_all}
+use Rattle.std.proofs.Common.{ℕ, ◌≡◌, ◌≢◌, ◌<◌, ◌≤◌, ◌∙◌, Bool, true, false, List, [], ◌∷◌, length, map, Option, Some, None, is_some, refl, sym, ap, subst, arith, slice_set}
+use Rattle.std.specs.Prelude.{◌&&◌, not, nat_lt, is_none, Result, Ok, Err}
+use Rattle.std.specs.List.{list_all}
 use Rattle.std.specs.Option.{option_map, option_map_or}
 use Rattle.std.specs.FinMap as fin
 use Rattle.std.proofs.lemmas.Bool.{false≢true}
@@ -15,7 +15,7 @@ use Rattle.causal_log.proofs.Lemmas.Ascents.{filter_ascends}
 use Rattle.causal_log.proofs.Lemmas.Searches.{any_map, any_dets, kept_if, passes}
 use Rattle.causal_trace.specs.declared.entry.Entry.{Entry}
 use Rattle.causal_trace.specs.declared.entry.Entry.TheVariants.{Forget}
-use Rattle.causal_trace.specs.Past.{has, is_down, is_delivered, listed_in}
+use Rattle.causal_trace.specs.Past.{has, is_down, is_delivered}
 use Rattle.causal_trace.specs.Rows as Rows
 use Rattle.causal_trace.specs.Rows.{are_delivered}
 use Rattle.causal_protocol.specs.declared.request.Request.TheVariants as Ask

@@ -1,5 +1,5 @@
 -- What is known where nothing stands against a request.
-use Rattle.std.proofs.Common.{ℕ, zero, suc, ◌≡◌, ◌≢◌, ◌+◌, ◌<◌, ◌≤◌, Bool, true, false, cond, ◌==◌, List, [], ◌∷◌, length, Option, Some, None, refl, sym, ap, subst, ◌∙◌, arith, slice_get, slice_set}
+use Rattle.std.proofs.Common.{ℕ, zero, suc, ◌≡◌, ◌≢◌, ◌<◌, ◌≤◌, Bool, true, false, cond, ◌==◌, List, [], ◌∷◌, length, Option, Some, None, refl, sym, ap, subst, ◌∙◌, arith, slice_get, slice_set}
 use Rattle.std.specs.Prelude.{◌||◌, ◌&&◌, not, nat_lt, nat_le, is_none, is_some}
 use Rattle.std.specs.List.{list_all}
 use Rattle.std.proofs.lemmas.Bool.{false≢true}
@@ -22,7 +22,7 @@ use Rattle.causal_protocol.specs.Run.{stable_of}
 use Rattle.causal_protocol.specs.Naming.{name, named_for, kept_for, has_received, listed_for}
 use Rattle.causal_protocol.specs.Refusals.{rows, first_of, first_fault, is_long, is_full, when, unless, count_down, gathered, unwritten, forgettable}
 use Rattle.causal_protocol.specs.Steps.{reason_of, extended}
-use Rattle.causal_core.specs.Inside.Facts.{Fits, FitsAt, AllFit, IsHeld}
+use Rattle.causal_core.specs.Inside.Facts.{FitsAt, AllFit, IsHeld}
 use Rattle.causal_core.proofs.Fitting.{is_of, fits_other, all_fit_set}
 
 none_first : (row : Option CoreFault) (rest : List (Option CoreFault)) → first_of (row ∷ rest) ≡ None → (row ≡ None) × (first_of rest ≡ None)

@@ -1,27 +1,27 @@
-pub mod Fitting
-pub mod Sending
-pub mod Receiving
-pub mod Listing
-pub mod Cells
-pub mod Legal
-pub mod Telling
-pub mod Refused
-pub mod Delivering
-pub mod Making
-pub mod BoxLemmas
-pub mod Stored
-pub mod Filled
-pub mod Stepped
-pub mod Gathers
-pub mod Writing
-pub mod Forgetting
-pub mod Downs
-pub mod Counting
-pub mod Restarting
-pub mod Dets
-pub mod Replaying
-pub mod Flushing
-pub mod Forgotten
-pub mod DownSets
-pub mod Waiting
-pub mod Beginning
+mod Beginning
+mod BoxLemmas
+mod Cells
+mod Counting
+mod Delivering
+mod Dets
+mod DownSets
+mod Downs
+mod Filled
+mod Fitting
+mod Flushing
+mod Forgetting
+mod Forgotten
+mod Gathers
+mod Legal
+mod Listing
+mod Making
+mod Receiving
+mod RefusedRequests
+mod Replaying
+mod Restarting
+mod Sending
+mod Stepped
+mod Stored
+mod Telling
+mod Waiting
+mod Writing

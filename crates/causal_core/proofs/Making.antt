@@ -1,23 +1,21 @@
 -- What a delivery and its sends make of the memories.
-use Rattle.std.proofs.Common.{ℕ, ◌≡◌, ◌+◌, ◌<◌, ◌≤◌, Bool, true, false, List, [], ◌∷◌, ◌++◌, length, Option, Some, None, refl, sym, ap, subst, ◌∙◌, arith, slice_get, slice_set, replicate}
+use Rattle.std.proofs.Common.{ℕ, ◌≡◌, ◌+◌, ◌<◌, true, List, [], ◌∷◌, ◌++◌, length, Some, sym, ap, subst, ◌∙◌, arith, slice_set}
 use Rattle.std.specs.Prelude.{unwrap_or}
-use Rattle.std.specs.Option.{option_map, option_map_or}
+use Rattle.std.specs.Option.{option_map}
 use Rattle.std.specs.FinMap as fin
 use Rattle.causal_name.specs.declared.Pid.{Pid}
 use Rattle.causal_name.specs.declared.Det.{Det}
-use Rattle.causal_name.specs.Names.{message_of, is_ascending}
+use Rattle.causal_name.specs.Names.{message_of}
 use Rattle.causal_log.specs.declared.batch.Item.{Item}
 use Rattle.causal_log.specs.Logs.{LogMap, chosen, dets_of}
-use Rattle.causal_log.proofs.Lemmas.ChosenLemmas.{chosen_ascend}
 use Rattle.causal_trace.specs.declared.entry.Entry.{Entry}
 use Rattle.causal_trace.specs.declared.entry.Entry.TheVariants.{Deliver}
-use Rattle.causal_trace.specs.Past.{is_delivered, det_from}
+use Rattle.causal_trace.specs.Past.{is_delivered}
 use Rattle.causal_trace.specs.Rows.{are_delivered}
-use Rattle.causal_protocol.specs.Memory.{Memory, Memories, at, batch_of, gained, with_received}
+use Rattle.causal_protocol.specs.Memory.{Memory, Memories, batch_of, gained, with_received}
 use Rattle.causal_protocol.specs.Run.{Run, memories, memories_of, receive}
 use Rattle.causal_protocol.specs.Naming.{name, send_of, next_rsn, own_det, listed_for}
 use Rattle.causal_protocol.specs.Steps.{delivery_of, pushed, sends_of}
-use Rattle.causal_core.specs.Inside.Facts.{Fits, AllFit}
 use Rattle.causal_core.specs.View.{memory_at, log_at, keep_all}
 use Rattle.causal_core.proofs.Fitting.{delivered_more, length-slice_set, at-set_same}
 use Rattle.causal_core.proofs.Sending.{memories_sends, set_twice}

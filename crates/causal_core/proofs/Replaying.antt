@@ -1,6 +1,6 @@
 -- Deliveries of a replay, one after the other.
-use Rattle.std.proofs.Common.{ℕ, zero, suc, ◌≡◌, ◌≢◌, ◌+◌, ◌<◌, ◌∙◌, List, [], ◌∷◌, ◌++◌, length, Option, Some, None, refl, sym, ap, subst, arith}
-use Rattle.std.specs.Prelude.{Result, Ok, Err}
+use Rattle.std.proofs.Common.{ℕ, ◌≡◌, ◌+◌, ◌<◌, ◌∙◌, List, [], ◌∷◌, length, Option, Some, None, refl, sym, ap, subst, arith}
+use Rattle.std.specs.Prelude.{Ok, Err}
 use Rattle.causal_name.specs.declared.Pid.{Pid}
 use Rattle.causal_name.specs.declared.MsgName.{MsgName}
 use Rattle.causal_name.specs.Names.{message_of}
@@ -14,10 +14,10 @@ use Rattle.causal_protocol.specs.declared.request.Delivered.{Delivered}
 use Rattle.causal_protocol.specs.Run.{Run}
 use Rattle.causal_protocol.specs.Refusals.{first_fault}
 use Rattle.causal_protocol.specs.Steps.{LegalStep, Steps, reason_of}
-use Rattle.causal_core.specs.Boxes.{answers_at, after, after_all, SameAnswers, SameElsewhere}
+use Rattle.causal_core.specs.Boxes.{answers_at, after, after_all}
 use Rattle.causal_core.specs.View.{body_at, naming}
 use Rattle.causal_core.specs.CoreView.{CoreState, IsUnchanged, Delivers}
-use Rattle.causal_core.specs.Replays.{Redelivery, inputs_of, sends_in, IsRefused, RefusesNamed, Redelivers, Replays, Replayed, Redelivered, Ends, at_limit, unnamed, refused}
+use Rattle.causal_core.specs.Replays.{Redelivery, inputs_of, sends_in, IsRefused, RefusesNamed, Redelivers, Replays, Replayed, Redelivered, Ends, unnamed, refused}
 use Rattle.causal_core.proofs.BoxLemmas.{told_more, same_refl}
 
 -- what is told of a delivery names its message

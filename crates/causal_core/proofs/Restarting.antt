@@ -1,5 +1,5 @@
 -- A restart of the runtime.
-use Rattle.std.proofs.Common.{ℕ, zero, suc, ◌≡◌, ◌≢◌, ◌+◌, ◌<◌, ◌≤◌, Bool, true, false, cond, ◌==◌, List, [], ◌∷◌, ◌++◌, length, map, reverse, take, get_or, Option, Some, None, refl, sym, ap, subst, ◌∙◌, arith, slice_get, slice_set}
+use Rattle.std.proofs.Common.{ℕ, suc, ◌≡◌, ◌≢◌, ◌+◌, ◌<◌, ◌≤◌, Bool, true, false, cond, List, [], ◌∷◌, length, map, reverse, take, get_or, Option, Some, None, refl, sym, ap, subst, ◌∙◌, arith, slice_set}
 use Rattle.std.specs.Prelude.{◌||◌, ◌&&◌, not, nat_lt, nat_le, is_some}
 use Rattle.std.specs.List.{list_any, list_all}
 use Rattle.std.specs.FinMap as fin
@@ -11,7 +11,7 @@ use Rattle.causal_name.specs.declared.Det.{Det}
 use Rattle.causal_name.specs.Names.{det_cmp, same_det, is_ascending}
 use Rattle.causal_name.proofs.Lemmas.DetOrder.{dets_total, same_is, same_itself}
 use Rattle.causal_log.specs.Logs.{LogMap, chosen}
-use Rattle.causal_log.specs.Stores.{DetSet, has, with_det, count_in}
+use Rattle.causal_log.specs.Stores.{has, with_det, count_in}
 use Rattle.causal_log.proofs.Lemmas.Ascents.{map_ascends}
 use Rattle.causal_trace.specs.declared.entry.Entry.{Entry}
 use Rattle.causal_trace.specs.declared.entry.Entry.TheVariants.{Send, Deliver, Stable, Crash, Restart, Forget}

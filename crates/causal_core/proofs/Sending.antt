@@ -1,14 +1,12 @@
 -- A send of the runtime.
-use Rattle.std.proofs.Common.{ℕ, zero, suc, ◌≡◌, ◌≢◌, ◌+◌, ◌<◌, ◌≤◌, ◌⊎◌, inl, inr, Bool, true, false, cond, ◌==◌, List, [], ◌∷◌, ◌++◌, length, map, Option, Some, None, refl, sym, ap, subst, ◌∙◌, arith, slice_get, slice_set, length-append, replicate, filter}
-use Rattle.std.specs.Prelude.{◌||◌, ◌&&◌, not, nat_lt}
-use Rattle.std.specs.List.{list_any, list_all, filter_map}
+use Rattle.std.proofs.Common.{ℕ, zero, suc, ◌≡◌, ◌≢◌, ◌+◌, ◌<◌, ◌≤◌, ◌⊎◌, inl, inr, true, false, cond, ◌==◌, List, [], ◌∷◌, ◌++◌, length, map, Option, Some, None, refl, sym, ap, subst, ◌∙◌, arith, slice_get, slice_set, length-append, replicate}
+use Rattle.std.specs.Prelude.{◌&&◌, nat_lt}
+use Rattle.std.specs.List.{list_all, filter_map}
 use Rattle.std.specs.Option.{option_map}
 use Rattle.std.specs.FinMap as fin
-use Rattle.std.proofs.lemmas.Bool.Decides.{nat_tests, eqb_tells}
-use Rattle.std.proofs.lemmas.List.{map-append, length-map}
+use Rattle.std.proofs.lemmas.Bool.Decides.{nat_tests}
+use Rattle.std.proofs.lemmas.List.{length-map}
 use Rattle.causal_name.specs.declared.Pid.{Pid}
-use Rattle.causal_name.specs.declared.MsgName.{MsgName}
-use Rattle.causal_name.specs.declared.Det.{Det}
 use Rattle.causal_name.specs.Names.{is_ascending}
 use Rattle.causal_process.specs.declared.message.Outgoing.{Outgoing}
 use Rattle.causal_log.specs.declared.batch.Item.{Item}
@@ -19,11 +17,11 @@ use Rattle.causal_trace.specs.Past as Past
 use Rattle.causal_trace.specs.Past.{is_down, has_delivered, listed_in}
 use Rattle.causal_trace.specs.Rows as Rows
 use Rattle.causal_trace.specs.Rows.{are_delivered}
-use Rattle.causal_protocol.specs.Memory.{Kept, Memory, Memories, at, keeping, with_sent}
+use Rattle.causal_protocol.specs.Memory.{Memory, Memories, at, keeping, with_sent}
 use Rattle.causal_protocol.specs.Run.{memories}
 use Rattle.causal_protocol.specs.Steps.{pushed, sends_of, receiver_of, AreSends}
 use Rattle.causal_core.specs.Inside.Facts.{IsPlaced, Fits}
-use Rattle.causal_core.specs.View.{addressed, receivers, sent_bodies, keep_all}
+use Rattle.causal_core.specs.View.{addressed, receivers, keep_all}
 use Rattle.causal_core.proofs.Fitting.{is_of, length-slice_set, delivered_more, placed_more, at-set_same}
 
 pub eqb_refl : (n : ℕ) → (n == n) ≡ true

@@ -1,19 +1,18 @@
 -- What a step tells of the run after it.
-use Rattle.std.proofs.Common.{ℕ, ◌≡◌, ◌<◌, ◌∙◌, Bool, true, false, List, [], ◌∷◌, map, length, Option, Some, None, is_some, refl, sym, ap, arith, slice_set}
+use Rattle.std.proofs.Common.{ℕ, ◌≡◌, ◌<◌, ◌∙◌, false, List, [], ◌∷◌, map, None, is_some, refl, sym, ap, arith, slice_set}
 use Rattle.std.specs.Prelude.{not, nat_lt}
 use Rattle.std.proofs.lemmas.Bool.Decides.{nat_tests}
 use Rattle.causal_name.specs.declared.Pid.{Pid}
 use Rattle.causal_name.specs.declared.MsgName.{MsgName}
 use Rattle.causal_name.specs.declared.Det.{Det}
-use Rattle.causal_trace.specs.declared.entry.Entry.{Entry}
-use Rattle.causal_trace.specs.declared.entry.Entry.TheVariants.{Send, Deliver, Stable, Crash}
+use Rattle.causal_trace.specs.declared.entry.Entry.TheVariants.{Stable, Crash}
 use Rattle.causal_trace.specs.Past.{is_stable}
 use Rattle.causal_protocol.specs.declared.request.CoreFault.{CoreFault}
 use Rattle.causal_protocol.specs.declared.request.Request.TheVariants as Ask
 use Rattle.causal_protocol.specs.declared.request.Reply.TheVariants as Told
 use Rattle.causal_protocol.specs.Run.{Run, memories, memories_of}
 use Rattle.causal_protocol.specs.Naming.{send_of, next_rsn, listed_for}
-use Rattle.causal_protocol.specs.Refusals.{rows, first_fault}
+use Rattle.causal_protocol.specs.Refusals.{rows}
 use Rattle.causal_protocol.specs.Steps.{LegalStep, Steps, extended, delivery_of, sends_of}
 use Rattle.causal_core.proofs.Legal.{row_none, when_false}
 use Rattle.causal_core.proofs.BoxLemmas.{map-set}

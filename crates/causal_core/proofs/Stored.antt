@@ -1,8 +1,7 @@
 -- The store, said by the stable entries.
-use Rattle.std.proofs.Common.{ℕ, ◌≡◌, ◌∙◌, Bool, true, false, cond, List, [], ◌∷◌, Option, Some, None, is_some, refl, sym, ap}
+use Rattle.std.proofs.Common.{ℕ, ◌≡◌, ◌∙◌, true, false, cond, List, [], ◌∷◌, Option, Some, None, is_some, refl, sym, ap}
 use Rattle.std.specs.Prelude.{◌||◌}
 use Rattle.std.specs.FinMap as fin
-use Rattle.std.specs.Ordering.{eq_by_cmp}
 use Rattle.causal_name.specs.declared.Pid.{Pid}
 use Rattle.causal_name.specs.declared.Det.{Det}
 use Rattle.causal_name.specs.Names.{det_cmp, same_det}

@@ -1,6 +1,6 @@
 -- Which row of a delivery is told.
-use Rattle.std.proofs.Common.{ℕ, ◌≡◌, ◌+◌, ◌<◌, ◌≤◌, Bool, true, false, cond, List, [], ◌∷◌, length, Option, Some, None, refl, sym, ap, subst, ◌∙◌, arith}
-use Rattle.std.specs.Prelude.{◌||◌, ◌&&◌, not, nat_lt, is_none}
+use Rattle.std.proofs.Common.{ℕ, ◌≡◌, ◌<◌, ◌≤◌, Bool, true, false, cond, List, [], ◌∷◌, length, Option, Some, None, refl, sym, ap, subst, ◌∙◌, arith}
+use Rattle.std.specs.Prelude.{◌&&◌, not, nat_lt, is_none}
 use Rattle.std.specs.List.{list_any}
 use Rattle.std.specs.Option.{option_map, option_map_or, option_and_then}
 use Rattle.causal_name.specs.declared.Pid.{Pid}
@@ -8,7 +8,6 @@ use Rattle.causal_name.specs.declared.MsgName.{MsgName}
 use Rattle.causal_name.specs.Names.{same_message, message_of}
 use Rattle.causal_trace.specs.declared.entry.Entry.{Entry}
 use Rattle.causal_trace.proofs.Lemmas.Counted.{deliveries_few}
-use Rattle.causal_log.specs.Stores.{DetSet}
 use Rattle.causal_protocol.specs.declared.request.CoreFault.{CoreFault}
 use Rattle.causal_protocol.specs.declared.request.CoreFault.TheVariants as Why
 use Rattle.causal_protocol.specs.declared.request.Request.TheVariants as Ask
@@ -23,7 +22,7 @@ use Rattle.causal_protocol.specs.Memory.{kept_by}
 use Rattle.causal_core.specs.View.{stored_for}
 use Rattle.causal_protocol.specs.Naming.{name, next_rsn, next_det, named_for, if_to, kept_for, has_received, with_own, listed_for}
 use Rattle.causal_protocol.specs.Refusals.{rows, first_of, first_fault, is_full, when, unless}
-use Rattle.causal_core.specs.Inside.Facts.{Fits, FitsAt, AllFit, IsHeld}
+use Rattle.causal_core.specs.Inside.Facts.{Fits, FitsAt, AllFit}
 
 module _ (r : Run) (ms : Memories) (q source : Pid) (ssn : ℕ) (same : ms ≡ memories_of r) where
   abbrev outside : Bool

@@ -1,19 +1,24 @@
 -- What is pending, process by process.
-use Rattle.std.proofs.Common.{ℕ, zero, suc, ◌≡◌, ◌+◌, ◌<◌, ◌≤◌, ◌∙◌, inl, inr, List, [], ◌∷◌, ◌++◌, length, get_or, drop, filter, map, Option, Some, None, refl, sym, ap, arith, append_assoc, append-nil}
-use Rattle.std.specs.Option.{option_map, option_map_or, option_and_then}
-use Rattle.std.proofs.lemmas.Bool.{cases_lt}
+use Rattle.std.proofs.Common.{ℕ, zero, suc, ◌≡◌, ◌+◌, ◌<◌, ◌≤◌, ◌∙◌, inl, inr, List, [], ◌∷◌, ◌++◌, true, false, length, get_or, drop, filter, Option, Some, None, refl, sym, ap, arith, append_assoc, append-nil}
+use Rattle.std.specs.Prelude.{is_some}
+use Rattle.std.specs.Borrow.{Bor}
+use Rattle.std.specs.List.{list_any}
+use Rattle.std.specs.Option.{option_map, option_map_or, option_and_then, option_copied}
+use Rattle.std.proofs.lemmas.Bool.{cases_lt, false≢true}
 use Rattle.std.proofs.lemmas.List.{drop_more, drop_all}
 use Rattle.std.proofs.lemmas.List.Elements.{filter-append}
 use Rattle.causal_name.specs.declared.MsgName.{MsgName}
 use Rattle.causal_name.specs.declared.Pid.{Pid}
+use Rattle.causal_name.specs.Names.{same_message}
 use Rattle.causal_trace.proofs.Lemmas.Counted.{sends_few}
 use Rattle.causal_trace.specs.declared.entry.Entry.{Entry}
+use Rattle.causal_trace.specs.Past.{has_delivered}
 use Rattle.causal_protocol.specs.Memory.{Memory, Memories, at}
 use Rattle.causal_core.specs.declared.cell.Cell.{Cell}
-use Rattle.causal_core.specs.Inside.Facts.{Fits, FitsAt, AllFit}
+use Rattle.causal_core.specs.Inside.Facts.{FitsAt, AllFit, SameReceived}
 use Rattle.causal_core.specs.View.{memory_of, memories_in}
 use Rattle.causal_core.specs.Pendings.{is_pending, names_sent, names_from}
-use Rattle.causal_core.proofs.Cells.{get-map, read_at, memories_length}
+use Rattle.causal_core.proofs.Cells.{get-map, read_at}
 
 module _ (ms : Memories) (q : Pid) (cells : List (Option Cell)) (p : ℕ) (c : Option Cell) (h : p < length cells) (is : c ≡ get_or cells p c) where
   here : memories_in (drop p cells) ≡ option_map memory_of c ∷ memories_in (drop (p + 1) cells)
@@ -52,3 +57,16 @@ sent_few n past ms p fit short = elim (cases_lt p n) [
     sent_none : (o : Option Memory) → o ≡ None → option_map_or (λ m. length m.sent) o 0 ≤ 65536
     sent_none None is = omega arith
     sent_none (Some m) is = absurd (let e : Some m ≡ None = is in cc)
+
+-- the entries tell what an up process has received
+pub received_same : (n : ℕ) (past : List Entry) (ms : Memories) (q : Pid) → AllFit n past ms → q.0 < n → is_some (at ms q.0) ≡ true → SameReceived past ms q
+received_same n past ms q fit inside up =
+    elim (at ms q.0) as (λ o. FitsAt past q.0 o → is_some o ≡ true → (k : MsgName) → has_delivered past q.0 k ≡ option_map_or (λ (m : Memory). list_any (λ r. same_message r k) m.received) o false) [
+      | None ↦ λ _ h. absurd (false≢true h)
+      | Some m ↦ λ fits _. fits.received
+    ] (fit.each q.0 inside) up
+
+-- what is read where it stands is there
+pub some_read : (o : Option (Bor Cell)) → is_some o ≡ true → is_some (option_map memory_of (option_copied o)) ≡ true
+some_read None h = h
+some_read (Some c) h = refl

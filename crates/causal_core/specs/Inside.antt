@@ -2,3 +2,4 @@
 pub mod Facts
 pub mod Gathers
 pub mod Begins
+pub mod Commits

@@ -1,6 +1,5 @@
 -- What a restart does to a core.
-use Rattle.std.specs.Prelude.{◌≡◌, ℕ, List, ◌∷◌, length, replicate, Some, slice_set}
-use Rattle.std.specs.FinMap as fin
+use Rattle.std.specs.Prelude.{◌≡◌, List, ◌∷◌, Some, slice_set}
 use Rattle.causal_name.specs.declared.Pid.{Pid}
 use Rattle.causal_process.specs.declared.message.Input.{Input}
 use Rattle.causal_process.specs.declared.message.Input.TheVariants.{Begin}

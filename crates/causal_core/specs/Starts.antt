@@ -1,9 +1,6 @@
 -- How a core begins.
-use Rattle.std.specs.Prelude.{◌≡◌, ◌≢◌, ◌<◌, ◌≤◌, ◌+◌, ◌-◌, ◌*◌, ℕ, nat_lt, not, if◌then◌else◌, List, [], ◌∷◌, ◌++◌, length, map, replicate, Option, Some, None, slice_set}
-use Rattle.std.specs.FinMap as fin
-use Rattle.causal_name.specs.declared.Pid.{Pid}
+use Rattle.std.specs.Prelude.{◌≡◌, ◌+◌, ℕ, nat_lt, not, if◌then◌else◌, List, [], ◌∷◌, length, map, Option, Some, None}
 use Rattle.causal_process.specs.declared.message.Input.{Input}
-use Rattle.causal_process.specs.declared.message.Input.TheVariants.{Begin}
 use Rattle.causal_process.specs.declared.message.Outgoing.{Outgoing}
 use Rattle.causal_log.specs.Stores.{DetSet, count_in}
 use Rattle.causal_trace.specs.declared.entry.Entry.{Entry}

@@ -1,10 +1,12 @@
 -- What contracts see of the data of a core.
-use Rattle.std.specs.Prelude.{◌≡◌, ◌-◌, ℕ, ◌+◌, ◌≤◌, Bool, true, false, nat_lt, List, [], ◌∷◌, ◌++◌, length, map, filter, reverse, replicate, Option, Some, None, unwrap_or, slice_get, slice_set, vec_capacity, vec_len, Result, Ok, Err, if◌then◌else◌, not, is_some}
+use Rattle.std.specs.Prelude.{◌≡◌, ◌-◌, ℕ, ◌+◌, ◌≤◌, Bool, true, false, nat_lt, List, [], ◌∷◌, ◌++◌, map, filter, reverse, replicate, Option, Some, None, unwrap_or, slice_get, slice_set, vec_capacity, vec_len, Result, Ok, Err, if◌then◌else◌, not, is_some}
 use Rattle.std.specs.Option.{option_map, option_map_or}
+use Rattle.std.specs.Arc.{arc_value}
+use Rattle.std.specs.declared.sync.Arc.{Arc}
+use Rattle.std.proofs.Common.{Global}
 use Rattle.std.specs.FinMap as fin
 use Rattle.causal_name.specs.declared.Pid.{Pid}
 use Rattle.causal_name.specs.declared.MsgName.{MsgName}
-use Rattle.causal_process.specs.declared.message.Input.{Input}
 use Rattle.causal_process.specs.declared.message.Input.TheVariants.{Message as Given}
 use Rattle.causal_process.specs.declared.message.Outgoing.{Outgoing}
 use Rattle.causal_trace.specs.Rows.{Recording}
@@ -25,7 +27,7 @@ use Rattle.causal_protocol.specs.Naming.{next_det, next_rsn, own_det, send_of, w
 use Rattle.causal_name.specs.declared.Det.{Det}
 
 abbrev pub kept_of : Message → Kept
-kept_of m = record { to = m.to; send = m.send; batch = m.batch }
+kept_of m = record { to = m.to; send = m.send; batch = arc_value m.batch }
 
 abbrev pub memory_of : Cell → Memory
 memory_of c = record { log = c.log.map; sent = map kept_of c.sent.items; received = c.received.items }
@@ -117,30 +119,38 @@ abbrev pub rest_of : Bool → Det → List Det → List Det
 rest_of true own ds = ds
 rest_of false own ds = with_own own ds
 
+-- the batches that are shared, and the first of these
+abbrev pub batches_of : List (Arc (List Item) Global) → List (List Item)
+batches_of shares = map arc_value shares
+
 abbrev pub first_batch : List (List Item) → List Item
 first_batch [] = []
 first_batch (b ∷ bs) = b
 
+-- what the delivered message carries
+abbrev pub carried_by : Grown → List Item
+carried_by g = arc_value g.carried
+
 -- a log after the delivery
 abbrev pub grown_log : Grown → LogMap → LogMap
-grown_log g log = gained g.carried g.own log
+grown_log g log = gained (carried_by g) g.own log
 
 -- what a delivery to q of the message of that name puts in place, and what its box is given
 pub record IsGrown (d : DataState) (q : Pid) (name : MsgName) (g : Grown) : Type 0 where
   pub own : g.own ≡ own_det (memories_of d.run) q name
   pub send : g.send ≡ send_of (memories_of d.run) name
   pub listed : g.listed.items ≡ listed_for (memories_of d.run) q name
-  pub carried : g.carried ≡ batch_of (memories_of d.run) name
-  pub copies : g.copies.items ≡ replicate 8 (chosen d.run.faults (grown_log g (log_at (memories_of d.run) q.0)))
+  pub carried : carried_by g ≡ batch_of (memories_of d.run) name
+  pub shares : batches_of g.shares.items ≡ replicate 8 (chosen d.run.faults (grown_log g (log_at (memories_of d.run) q.0)))
   pub input : g.input ≡ Given name.source (body_at d.bodies name)
 
 -- what the delivery of a kept message as this determinant puts in place, by the receiver's memory
 pub record IsMade (f : ℕ) (own : Det) (m : Memory) (message : Message) (g : Grown) : Type 0 where
   pub own_is : g.own ≡ own
   pub send : g.send ≡ message.send
-  pub listed : g.listed.items ≡ with_own own (dets_of message.batch)
-  pub carried : g.carried ≡ message.batch
-  pub copies : g.copies.items ≡ replicate 8 (chosen f (gained message.batch own m.log))
+  pub listed : g.listed.items ≡ with_own own (dets_of (arc_value message.batch))
+  pub carried : carried_by g ≡ arc_value message.batch
+  pub shares : batches_of g.shares.items ≡ replicate 8 (chosen f (gained (arc_value message.batch) own m.log))
   pub input : g.input ≡ Given own.source message.body
 
 -- what is answered to the question what is named for q's next delivery

@@ -1,15 +1,15 @@
 //! A delivery and its sends, once the box has stepped.
-ghost use Rattle.std.specs.Prelude.{◌≡◌, ◌≢◌, ◌<◌, ◌≤◌, ◌+◌, ◌++◌, ◌∷◌, [], ℕ, Option, Some, None, true, length, replicate, slice_set, vec_len, OnOk, IfSome, is_some};
-ghost use Rattle.std.specs.FinMap as fin;
+ghost use Rattle.std.specs.Prelude.{◌≡◌, ◌<◌, ◌≤◌, ◌+◌, ◌++◌, Some, true, length, replicate, OnOk, is_some};
 ghost use Rattle.causal_name.specs.Names.{message_of, is_ascending};
 ghost use Rattle.causal_log.specs.Logs.{dets_of};
-ghost use Rattle.causal_trace.specs.declared.entry.Entry.TheVariants as Entries;
-ghost use Rattle.causal_trace.specs.Rows.{first_fault as first_told, are_delivered};
 ghost use Rattle.causal_trace.specs.Past.{message_at};
-ghost use Rattle.causal_protocol.specs.Memory.{Memory, at};
-ghost use Rattle.causal_protocol.specs.Steps.{sends_of, pushed};
-ghost use Rattle.causal_core.specs.Inside.Facts.{Fits, FitsAt, AllFit};
-ghost use Rattle.causal_core.specs.View.{memory_of, memories_in, memory_at, bodies_of, bodies_in, with_bodies, room_of, rooms_in, room_at, receivers, sent_bodies, first_batch, keep_all, grown_log};
+ghost use Rattle.causal_protocol.specs.Memory.{at};
+ghost use Rattle.causal_core.specs.Inside.Facts.{Fits, AllFit};
+ghost use Rattle.causal_core.specs.Inside.Commits.{entry_of, next_batch, step_kept, step_kept_at, with_step};
+ghost use Rattle.causal_core.specs.Inside.Commits.{IsBatchDelivered, IsLogDelivered, MayCome, OthersFit};
+ghost use Rattle.causal_core.specs.View.{memory_of, memories_in, memory_at, bodies_of, bodies_in, with_bodies};
+ghost use Rattle.causal_core.specs.View.{room_of, rooms_in, room_at, receivers, sent_bodies};
+ghost use Rattle.causal_core.specs.View.{batches_of, carried_by, grown_log};
 
 use crate::cell::Cell;
 use crate::grown::Grown;
@@ -28,24 +28,25 @@ pub(crate) fn commit(
     sends: Vec<Outgoing>,
 ) -> u32
     requires process { q.0 < trace.old.recording.processes }
-    requires legal { first_told trace.old.recording.processes trace.old.recording.past (Entries.Deliver q grown.send grown.own.rsn grown.listed.items) ≡ None }
+    requires legal { MayCome trace.old.recording (entry_of q grown) }
     requires sent { message_at trace.old.recording.past grown.send ≡ Some (message_of grown.own) }
     requires fit { Fits trace.old.recording.past q.0 (memory_of cell.old) }
-    requires logged { are_delivered (Entries.Deliver q grown.send grown.own.rsn grown.listed.items ∷ trace.old.recording.past) (fin.keys (grown_log grown (memory_of cell.old).log)) ≡ true }
-    requires ascending { is_ascending (dets_of (first_batch grown.copies.items)) ≡ true }
-    requires delivered { are_delivered (Entries.Deliver q grown.send grown.own.rsn grown.listed.items ∷ trace.old.recording.past) (dets_of (first_batch grown.copies.items)) ≡ true }
-    requires copies { grown.copies.items ≡ replicate 8 (first_batch grown.copies.items) }
+    requires logged { IsLogDelivered trace.old.recording.past (entry_of q grown)
+        (grown_log grown (memory_of cell.old).log) }
+    requires ascending { is_ascending (dets_of (next_batch grown)) ≡ true }
+    requires delivered { IsBatchDelivered trace.old.recording.past q grown }
+    requires shares { batches_of grown.shares.items ≡ replicate 8 (next_batch grown) }
     requires few { length sends.items ≤ 8 }
     requires spare { 9 ≤ trace.old.spare }
     requires room { 8 ≤ (room_of cell.old).sent }
     requires received { 1 ≤ (room_of cell.old).received }
-    requires insertions { length grown.carried + 1 ≤ (room_of cell.old).log }
+    requires insertions { length (carried_by grown) + 1 ≤ (room_of cell.old).log }
     requires short { length trace.old.recording.past + 9 ≤ 65536 }
     ensures number { result ≡ length (receivers trace.old.recording.processes sends.items) }
-    ensures recording { trace.new.recording ≡ record { processes = trace.old.recording.processes; past = pushed (sends_of q (length (memory_of cell.old).sent) (receivers trace.old.recording.processes sends.items)) (Entries.Deliver q grown.send grown.own.rsn grown.listed.items ∷ trace.old.recording.past) } }
-    ensures memory { memory_of cell.new ≡ keep_all (length trace.old.recording.past + 1) (first_batch grown.copies.items) (receivers trace.old.recording.processes sends.items) (record { log = grown_log grown (memory_of cell.old).log; sent = (memory_of cell.old).sent; received = (memory_of cell.old).received ++ message_of grown.own ∷ [] }) }
+    ensures recording { trace.new.recording ≡ with_step trace.old.recording q grown sends.items (memory_of cell.old) }
+    ensures memory { memory_of cell.new ≡ step_kept trace.old.recording grown sends.items (memory_of cell.old) }
     ensures fit { Fits trace.new.recording.past q.0 (memory_of cell.new) }
-    ensures others { (p : ℕ) (m : Option Memory) → p ≢ q.0 → FitsAt trace.old.recording.past p m → FitsAt trace.new.recording.past p m }
+    ensures others { OthersFit q.0 trace.old.recording.past trace.new.recording.past }
     ensures bodies { bodies_of cell.new ≡ bodies_of cell.old ++ sent_bodies trace.old.recording.processes sends.items }
 {
     let Grown {
@@ -53,11 +54,11 @@ pub(crate) fn commit(
         send,
         listed,
         carried,
-        copies,
+        shares,
         input: _,
     } = grown;
-    receive(trace, cell, q, send, own, listed, &carried);
-    append_sends(trace, cell, q, sends, copies)
+    receive(trace, cell, q, send, own, listed, &*carried);
+    append_sends(trace, cell, q, sends, shares)
 }
 
 /// The same, where the cell stands among the others.
@@ -70,24 +71,28 @@ pub(crate) fn commit_at(
 ) -> u32
     requires process { q.0 < trace.old.recording.processes }
     requires up { is_some (at (memories_in cells.old.items) q.0) ≡ true }
-    requires legal { first_told trace.old.recording.processes trace.old.recording.past (Entries.Deliver q grown.send grown.own.rsn grown.listed.items) ≡ None }
+    requires legal { MayCome trace.old.recording (entry_of q grown) }
     requires sent { message_at trace.old.recording.past grown.send ≡ Some (message_of grown.own) }
     requires fit { AllFit trace.old.recording.processes trace.old.recording.past (memories_in cells.old.items) }
-    requires logged { are_delivered (Entries.Deliver q grown.send grown.own.rsn grown.listed.items ∷ trace.old.recording.past) (fin.keys (grown_log grown (memory_at (memories_in cells.old.items) q.0).log)) ≡ true }
-    requires ascending { is_ascending (dets_of (first_batch grown.copies.items)) ≡ true }
-    requires delivered { are_delivered (Entries.Deliver q grown.send grown.own.rsn grown.listed.items ∷ trace.old.recording.past) (dets_of (first_batch grown.copies.items)) ≡ true }
-    requires copies { grown.copies.items ≡ replicate 8 (first_batch grown.copies.items) }
+    requires logged { IsLogDelivered trace.old.recording.past (entry_of q grown)
+        (grown_log grown (memory_at (memories_in cells.old.items) q.0).log) }
+    requires ascending { is_ascending (dets_of (next_batch grown)) ≡ true }
+    requires delivered { IsBatchDelivered trace.old.recording.past q grown }
+    requires shares { batches_of grown.shares.items ≡ replicate 8 (next_batch grown) }
     requires few { length sends.items ≤ 8 }
     requires spare { 9 ≤ trace.old.spare }
     requires room { 8 ≤ (room_at (rooms_in cells.old.items) q.0).sent }
     requires received { 1 ≤ (room_at (rooms_in cells.old.items) q.0).received }
-    requires insertions { length grown.carried + 1 ≤ (room_at (rooms_in cells.old.items) q.0).log }
+    requires insertions { length (carried_by grown) + 1 ≤ (room_at (rooms_in cells.old.items) q.0).log }
     requires short { length trace.old.recording.past + 9 ≤ 65536 }
     ensures number { result ≡ length (receivers trace.old.recording.processes sends.items) }
-    ensures recording { trace.new.recording ≡ record { processes = trace.old.recording.processes; past = pushed (sends_of q (length (memory_at (memories_in cells.old.items) q.0).sent) (receivers trace.old.recording.processes sends.items)) (Entries.Deliver q grown.send grown.own.rsn grown.listed.items ∷ trace.old.recording.past) } }
-    ensures memories { memories_in cells.new.items ≡ slice_set (memories_in cells.old.items) q.0 (Some (keep_all (length trace.old.recording.past + 1) (first_batch grown.copies.items) (receivers trace.old.recording.processes sends.items) (record { log = grown_log grown (memory_at (memories_in cells.old.items) q.0).log; sent = (memory_at (memories_in cells.old.items) q.0).sent; received = (memory_at (memories_in cells.old.items) q.0).received ++ message_of grown.own ∷ [] }))) }
+    ensures recording { trace.new.recording
+        ≡ with_step trace.old.recording q grown sends.items (memory_at (memories_in cells.old.items) q.0) }
+    ensures memories { memories_in cells.new.items
+        ≡ step_kept_at trace.old.recording q grown sends.items (memories_in cells.old.items) }
     ensures fit { AllFit trace.old.recording.processes trace.new.recording.past (memories_in cells.new.items) }
-    ensures bodies { bodies_in cells.new.items ≡ with_bodies (bodies_in cells.old.items) q.0 (sent_bodies trace.old.recording.processes sends.items) }
+    ensures bodies { bodies_in cells.new.items
+        ≡ with_bodies (bodies_in cells.old.items) q.0 (sent_bodies trace.old.recording.processes sends.items) }
 {
     let Some(mut cell) = cells[usize::from(q.0)].take() else {
         unreachable!()

@@ -1,8 +1,7 @@
 //! How many determinants a restart lists, counted without memory.
-ghost use Rattle.std.specs.Prelude.{◌≡◌, ◌≤◌, ◌<◌, ◌^◌, not, ◌||◌, length, is_some, count_by, get_or, false};
+ghost use Rattle.std.specs.Prelude.{◌≡◌, ◌≤◌, ◌<◌, ◌^◌, not, ◌||◌, length, is_some, count_by, false};
 ghost use Rattle.std.specs.Option.{option_map, option_map_or};
 ghost use Rattle.std.specs.FinMap as fin;
-ghost use Rattle.causal_name.specs.declared.Det.{Det as Determinant};
 ghost use Rattle.causal_name.specs.declared.Pid.{Pid as Process};
 ghost use Rattle.causal_log.specs.Stores.{has, count_in};
 ghost use Rattle.causal_protocol.specs.Gathering.{gathered_log};
@@ -42,24 +41,15 @@ fn is_new<S: Stable>(cells: &[Option<Cell>], store: &S, det: Det) -> bool
     !store.contains(det) && !is_logged(cells, det)
 }
 
-/// The same of the determinant at a place of a log.
-fn is_new_at<S: Stable>(cells: &[Option<Cell>], store: &S, log: &Log, i: u32) -> bool
-    ensures { (d : Determinant) → i < length (fin.keys log.now.map) → result ≡ not (has (S.contents store.now) (get_or (fin.keys log.now.map) i d) || is_logged (memories_in cells.now) (get_or (fin.keys log.now.map) i d)) }
-{
-    match log.at(i) {
-        Some((det, _)) => is_new(cells, store, det),
-        None => false,
-    }
-}
-
 /// How many determinants of a log neither the store nor one of these processes has.
 fn count_new<S: Stable>(cells: &[Option<Cell>], store: &S, log: &Log) -> usize
     ensures value { result ≡ count_by (λ d. not (has (S.contents store.now) d || is_logged (memories_in cells.now) d)) (fin.keys log.now.map) }
     ensures few { result < 2 ^ 32 }
 {
+    let dets = log.unordered();
     let mut count = 0;
-    for i in 0..log.len() {
-        if is_new_at(cells, store, log, i) {
+    for det in dets {
+        if is_new(cells, store, *det) {
             count += 1;
         }
     }

@@ -14,7 +14,7 @@ ghost use Rattle.causal_protocol.specs.Run.{memories_of, stable_of};
 ghost use Rattle.causal_protocol.specs.Naming.{name, next_rsn, next_ssn};
 ghost use Rattle.causal_protocol.specs.Refusals.{first_fault};
 ghost use Rattle.causal_protocol.specs.Steps.{reason_of, extended, delivery_of, sends_of, Steps, told_crash};
-ghost use Rattle.causal_core.specs.View.{memory_of, bodies_of, log_at, memories_in, bodies_in, naming, gathering_fault, stored_for, IsGrown, HasRoom, receivers, sent_bodies, with_bodies};
+ghost use Rattle.causal_core.specs.View.{memory_of, bodies_of, log_at, memories_in, bodies_in, naming, gathering_fault, stored_for, IsGrown, HasRoom, carried_by, receivers, sent_bodies, with_bodies};
 
 use crate::cell::Cell;
 use crate::commit::{commit_at, make_room_at};
@@ -23,7 +23,7 @@ use crate::grow::grow;
 use crate::grown::Grown;
 use crate::insertion::listed_len;
 use crate::named::{named, other_named};
-use crate::search::{cell_at, count_down, has_received, message};
+use crate::search::{cell_at, count_down, message};
 use causal_log::Log;
 use causal_name::{Det, MsgName, NoMemory, Pid};
 use causal_process::Outgoing;
@@ -192,7 +192,7 @@ impl Data {
         let Some(message) = message(cells, q, source, ssn) else {
             return Some(CoreFault::NotAvailable);
         };
-        if has_received(cell, asked) {
+        if self.trace.has_delivered(q, asked) {
             return Some(CoreFault::AlreadyDelivered);
         }
         let own = Det {
@@ -267,7 +267,7 @@ impl Data {
         ensures legal { OnOk result (first_fault self.old.run (Ask.Deliver q source ssn) ≡ None) }
         ensures refused { IfErr result (λ fault. first_fault self.old.run (Ask.Deliver q source ssn) ≡ reason_of fault) }
         ensures grown { IfOk result (λ g. IsGrown self.new q (name source ssn) g) }
-        ensures room { IfOk result (λ g. HasRoom q.0 (length g.carried + 1) self.new) }
+        ensures room { IfOk result (λ g. HasRoom q.0 (length (carried_by g) + 1) self.new) }
     {
         if let Some(fault) = self.delivery_fault(q, source, ssn, stored) {
             return Err(fault);
@@ -288,7 +288,7 @@ impl Data {
         requires legal { first_fault self.old.run (Ask.Deliver q grown.own.source grown.own.ssn) ≡ None }
         requires grown { IsGrown self.old q (message_of grown.own) grown }
         requires few { length sends.items ≤ 8 }
-        requires room { HasRoom q.0 (length grown.carried + 1) self.old }
+        requires room { HasRoom q.0 (length (carried_by grown) + 1) self.old }
         ensures run { self.new.run ≡ extended self.old.run (Ask.Deliver q grown.own.source grown.own.ssn) (delivery_of self.old.run q (message_of grown.own) ∷ sends_of q (next_ssn (memories_of self.old.run) q) (receivers self.old.run.recording.processes sends.items)) }
         ensures step { Steps self.old.run (Ask.Deliver q grown.own.source grown.own.ssn) (Told.Delivered result) self.new.run }
         ensures det { det_at self.new.run.recording.past result.first ≡ Some result.det }

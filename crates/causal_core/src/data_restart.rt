@@ -18,7 +18,7 @@ use crate::count::count_gathered;
 use crate::data::{Data, is_full};
 use crate::fresh::fresh_cell;
 use crate::gathered::Gathered;
-use crate::grow::copies;
+use crate::grow::shares;
 use crate::sends::append_sends;
 use causal_log::{Log, Stable};
 use causal_name::{NoMemory, Pid};
@@ -63,11 +63,11 @@ pub(crate) fn gathered(alloc: Global, f: u16, log: Log) -> Result<Gathered, NoMe
 {
     let listed = log.dets(alloc)?;
     let batch = log.choose(alloc, f)?;
-    let copies = copies(alloc, &batch)?;
+    let shares = shares(alloc, batch)?;
     let cell = fresh_cell(alloc, log)?;
     Ok(Gathered {
         listed,
-        copies,
+        shares,
         cell,
     })
 }
@@ -160,7 +160,7 @@ impl Data {
         let _listed = self.trace.listed();
         let Gathered {
             listed,
-            copies,
+            shares,
             mut cell,
         } = gathered;
         let count = listed.len() as u32;
@@ -168,7 +168,7 @@ impl Data {
             who: p,
             listed: Dets::new(listed),
         });
-        let sends = append_sends(&mut self.trace, &mut cell, p, sends, copies);
+        let sends = append_sends(&mut self.trace, &mut cell, p, sends, shares);
         put(&mut self.cells, usize::from(p.0), cell);
         Restarted {
             first,

@@ -75,10 +75,10 @@ impl Data {
     {
         let Gathered {
             listed: _,
-            copies,
+            shares,
             mut cell,
         } = fresh;
-        let _number = append_sends(&mut self.trace, &mut cell, p, sends, copies);
+        let _number = append_sends(&mut self.trace, &mut cell, p, sends, shares);
         put(&mut self.cells, usize::from(p.0), cell);
     }
 }

@@ -1,7 +1,7 @@
 //! What a delivery needs memory for, made before the box steps.
 ghost use Rattle.std.specs.Prelude.{◌≡◌, replicate, unwrap_or, slice_get, IfOk};
 ghost use Rattle.causal_process.specs.declared.message.Input.TheVariants.{Message as Given};
-ghost use Rattle.causal_core.specs.View.{memory_of, kept_of, IsMade};
+ghost use Rattle.causal_core.specs.View.{memory_of, kept_of, batches_of, IsMade};
 
 use crate::cell::{Cell, Message};
 use crate::grown::Grown;
@@ -10,16 +10,18 @@ use causal_log::Batch;
 use causal_name::{Det, NoMemory, Pid};
 use causal_process::{Body, Input};
 use std::alloc::Global;
+use std::sync::Arc;
 
-/// Eight copies: one for each send of a step.
-pub(crate) fn copies(alloc: Global, batch: &Batch) -> Result<Vec<Batch>, NoMemory>
-    ensures { IfOk result (λ copies. copies.items ≡ replicate 8 batch.now) }
+/// Eight shares of a batch: one for each send of a step.
+pub(crate) fn shares(alloc: Global, batch: Batch) -> Result<Vec<Arc<Batch>>, NoMemory>
+    ensures { IfOk result (λ shares. batches_of shares.items ≡ replicate 8 batch) }
 {
-    let mut copies = Vec::new(alloc);
-    while copies.len() < 8 {
-        copies.push(batch.try_clone()?)?;
+    let first = Arc::new(alloc, batch)?;
+    let mut shares = Vec::new(alloc);
+    while shares.len() < 8 {
+        shares.push(Arc::try_clone(&first)?)?;
     }
-    Ok(copies)
+    Ok(shares)
 }
 
 /// What a box is given with a message of `source`.
@@ -44,18 +46,18 @@ pub(crate) fn grow(
     ensures { IfOk result (λ g. IsMade f own (memory_of cell.now) message.now g) }
 {
     let listed = listed(alloc, own, message.batch.as_slice())?;
-    let carried = message.batch.try_clone()?;
+    let carried = Arc::try_clone(&message.batch)?;
     let batch = cell
         .log
-        .choose_grown(alloc, &carried, own, own.source, own.dest, f)?;
-    let copies = copies(alloc, &batch)?;
+        .choose_grown(alloc, &*carried, own, own.source, own.dest, f)?;
+    let shares = shares(alloc, batch)?;
     let input = input_of(alloc, own.source, &message.body)?;
     Ok(Grown {
         own,
         send: message.send,
         listed,
         carried,
-        copies,
+        shares,
         input,
     })
 }

@@ -2,6 +2,7 @@
 use causal_log::Batch;
 use causal_name::Det;
 use causal_process::Input;
+use std::sync::Arc;
 
 /// All that a delivery needs memory for, made before the box steps.
 #[derive(Drop)]
@@ -12,10 +13,10 @@ pub struct Grown {
     pub send: u32,
     /// What the deliver entry lists.
     pub listed: Vec<Det>,
-    /// What the message carries.
-    pub carried: Batch,
-    /// What each of the next sends carries, once for each of them.
-    pub copies: Vec<Batch>,
+    /// What the message carries, which its sender still keeps.
+    pub carried: Arc<Batch>,
+    /// The batch that the next sends carry, with one share for each of them.
+    pub shares: Vec<Arc<Batch>>,
     /// What the receiver's box is given.
     pub input: Input,
 }

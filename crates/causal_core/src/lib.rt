@@ -29,5 +29,6 @@ mod sends;
 pub mod start;
 
 pub use causal_protocol::request::{CoreFault, Delivered, FlushFault, Reply, Request, Restarted};
+pub use restart::Refused;
 pub use runtime::Core;
 pub use start::StartFault;

@@ -7,24 +7,26 @@ ghost use Rattle.causal_protocol.specs.Run.{memories_of};
 ghost use Rattle.causal_protocol.specs.Naming.{name};
 ghost use Rattle.causal_protocol.specs.Steps.{reason_of};
 ghost use Rattle.causal_core.specs.View.{memory_of, memories_in};
+ghost use Rattle.causal_core.specs.Inside.Facts.{SameReceived};
 ghost use Rattle.causal_core.specs.Pendings.{is_pending, pending_in, pending_fault};
 ghost use Rattle.causal_core.specs.CoreView.{run_of};
 
 use crate::cell::Cell;
 use crate::data::{Data, is_process};
 use crate::runtime::Core;
-use crate::search::{cell_at, has_received, message};
+use crate::search::{cell_at, message};
 use causal_log::Stable;
 use causal_name::{MsgName, NoMemory, Pid};
 use causal_protocol::request::CoreFault;
+use causal_trace::trace::Trace;
 use std::alloc::Global;
 
-/// Whether a message is kept for q, which has this, and q has not received it.
-fn is_pending(cells: &[Option<Cell>], q: Pid, cell: &Cell, name: MsgName) -> bool
-    requires { at (memories_in cells.now) q.0 ≡ Some (memory_of cell.now) }
+/// Whether a message is kept for q, which is up, and q has not received it.
+fn is_pending(trace: &Trace, cells: &[Option<Cell>], q: Pid, name: MsgName) -> bool
+    requires { SameReceived trace.now.recording.past (memories_in cells.now) q }
     ensures { result ≡ is_pending (memories_in cells.now) q name }
 {
-    message(cells, q, name.source, name.ssn).is_some() && !has_received(cell, name)
+    message(cells, q, name.source, name.ssn).is_some() && !trace.has_delivered(q, name)
 }
 
 /// Lists one more name, where it is wanted.
@@ -51,30 +53,30 @@ fn count_sent(cell: &Option<Cell>) -> u32
 /// Lists what is pending for q among the first messages of a sender.
 fn list_pending(
     names: &mut Vec<MsgName>,
+    trace: &Trace,
     cells: &[Option<Cell>],
     q: Pid,
-    cell: &Cell,
     source: Pid,
     count: u32,
 ) -> Result<(), NoMemory>
-    requires { at (memories_in cells.now) q.0 ≡ Some (memory_of cell.now) }
+    requires { SameReceived trace.now.recording.past (memories_in cells.now) q }
     ensures { OnOk result (names.new.items ≡ names.old.items ++ filter (is_pending (memories_in cells.now) q) (map (name source) (range_with_len 0 count))) }
 {
     for ssn in 0..count {
         let name = MsgName { source, ssn };
-        push_if(names, name, is_pending(cells, q, cell, name))?;
+        push_if(names, name, is_pending(trace, cells, q, name))?;
     }
     Ok(())
 }
 
-/// Lists what is pending for q, which has this.
+/// Lists what is pending for q, which is up.
 fn pending_among(
     alloc: Global,
+    trace: &Trace,
     cells: &[Option<Cell>],
     q: Pid,
-    cell: &Cell,
 ) -> Result<Vec<MsgName>, NoMemory>
-    requires here { at (memories_in cells.now) q.0 ≡ Some (memory_of cell.now) }
+    requires received { SameReceived trace.now.recording.past (memories_in cells.now) q }
     requires few { length cells.now ≤ 256 }
     requires short { (p : ℕ) → option_map_or (λ m. length m.sent) (at (memories_in cells.now) p) 0 ≤ 65536 }
     ensures { IfOk result (λ names. names.items ≡ pending_in (memories_in cells.now) q) }
@@ -82,7 +84,7 @@ fn pending_among(
     let mut names = Vec::new(alloc);
     for (p, sender) in cells.iter().enumerate() {
         let count = count_sent(sender);
-        list_pending(&mut names, cells, q, cell, Pid(p as u8), count)?;
+        list_pending(&mut names, trace, cells, q, Pid(p as u8), count)?;
     }
     Ok(names)
 }
@@ -98,10 +100,10 @@ impl Data {
             return Err(CoreFault::NoProcess);
         }
         let cells = self.cells.as_slice();
-        let Some(cell) = cell_at(cells, q) else {
+        if cell_at(cells, q).is_none() {
             return Err(CoreFault::Down);
-        };
-        match pending_among(alloc, cells, q, cell) {
+        }
+        match pending_among(alloc, &self.trace, cells, q) {
             Ok(names) => Ok(names),
             Err(_) => Err(CoreFault::NoMemory),
         }
@@ -111,7 +113,7 @@ impl Data {
 impl<S: Stable> Core<S> {
     /// The messages that up processes keep for q and that q's present lane has not received, by sender and number; they
     /// are listed also where another message is named for q's next delivery. It costs what is kept, and for each message
-    /// kept for q what q has received.
+    /// kept for q one look-up in the trace.
     ///
     /// # Errors
     /// The first of `NoProcess` and `Down`; where neither stands, `NoMemory` where memory was refused.

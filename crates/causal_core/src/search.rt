@@ -1,8 +1,6 @@
 //! What stands in the cells.
 ghost use Rattle.std.specs.Prelude.{◌≡◌, ◌<◌, ◌^◌, length, vec_len, is_none, count_by, Option, IfSome};
 ghost use Rattle.std.specs.Option.{option_map, option_copied};
-ghost use Rattle.std.specs.List.{list_any};
-ghost use Rattle.causal_name.specs.Names.{same_message};
 ghost use Rattle.causal_name.specs.declared.Det.{Det as Determinant};
 ghost use Rattle.causal_log.specs.Slots.{first_of_slot};
 ghost use Rattle.causal_protocol.specs.Memory.{at};
@@ -10,7 +8,7 @@ ghost use Rattle.causal_protocol.specs.Naming.{kept_for, name};
 ghost use Rattle.causal_core.specs.View.{kept_of, memory_of, memories_in, bodies_in, body_at};
 
 use crate::cell::{Cell, Message};
-use causal_name::{MsgName, Pid};
+use causal_name::Pid;
 
 /// How many are down.
 pub(crate) fn count_down(cells: &[Option<Cell>]) -> usize
@@ -43,11 +41,4 @@ pub(crate) fn message(cells: &[Option<Cell>], q: Pid, source: Pid, ssn: u32) -> 
         .sent
         .get(ssn as usize)?;
     if message.to == q { Some(message) } else { None }
-}
-
-/// Whether the present lane has received a message of that name.
-pub(crate) fn has_received(cell: &Cell, name: MsgName) -> bool
-    ensures { result ≡ list_any (λ k. same_message k name) (memory_of cell.now).received }
-{
-    cell.received.iter().any(|k| *k == name)
 }

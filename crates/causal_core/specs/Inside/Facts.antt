@@ -11,6 +11,7 @@ use Rattle.causal_trace.specs.Past.{entry_at, is_down, sends, deliveries, has_de
 use Rattle.causal_trace.specs.Rows.{are_delivered}
 use Rattle.causal_log.specs.Logs.{dets_of}
 use Rattle.causal_protocol.specs.Memory.{Kept, Memory, Memories, at}
+use Rattle.causal_protocol.specs.Naming.{has_received}
 use Rattle.causal_protocol.specs.Run.{Run, memories_of}
 
 -- a message that p keeps stands where it was sent; what it carries ascends, and all of it was delivered
@@ -33,6 +34,10 @@ pub record Fits (past : List Entry) (p : ℕ) (m : Memory) : Type 0 where
 abbrev pub FitsAt : List Entry → ℕ → Option Memory → Type 0
 FitsAt past p (Some m) = Fits past p m
 FitsAt past p None = is_down past p ≡ true
+
+-- the entries and the memories say the same of what q's present lane has received
+abbrev pub SameReceived : List Entry → Memories → Pid → Type 0
+SameReceived past ms q = (k : MsgName) → has_delivered past q.0 k ≡ has_received ms q k
 
 pub record AllFit (n : ℕ) (past : List Entry) (ms : Memories) : Type 0 where
   pub count : length ms ≡ n

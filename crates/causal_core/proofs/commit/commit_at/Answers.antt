@@ -1,10 +1,6 @@
-use Rattle.std.proofs.Common.{◌≡◌, ◌≤◌, ◌∙◌, ◌∷◌, [], ◌++◌, ◌+◌, ap, sym, subst, Some, length, slice_get, slice_set, arith}
-use Rattle.causal_name.specs.Names.{message_of}
-use Rattle.causal_trace.specs.declared.entry.Entry.TheVariants as Entries
-use Rattle.causal_protocol.specs.Memory.{at}
-use Rattle.causal_protocol.specs.Steps.{sends_of, pushed}
-use Rattle.causal_core.specs.Inside.Facts.{Fits, FitsAt, AllFit}
-use Rattle.causal_core.specs.View.{memory_of, memories_in, memory_at, room_of, receivers, first_batch, keep_all}
+use Rattle.std.proofs.Common.{◌≡◌, ◌∙◌, ap, sym, subst, Some, slice_get, slice_set, arith}
+use Rattle.causal_core.specs.Inside.Facts.{FitsAt}
+use Rattle.causal_core.specs.View.{memory_of, memories_in}
 use Rattle.causal_core.proofs.Fitting.{all_fit_set}
 use Rattle.causal_core.proofs.Cells.{read_at, up_within, there, memory_there, room_there, memories_put, bodies_more}
 use Rattle.causal_core.proofs.commit.commit_at.Goals as goal

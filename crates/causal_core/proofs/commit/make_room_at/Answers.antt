@@ -1,6 +1,4 @@
-use Rattle.std.proofs.Common.{◌≡◌, ◌≤◌, ◌∙◌, ap, sym, subst, Some, slice_get, arith}
-use Rattle.std.proofs.lemmas.Result.{on_ok_weaker}
-use Rattle.causal_core.specs.View.{room_at, rooms_in}
+use Rattle.std.proofs.Common.{◌≡◌, ◌∙◌, sym, Some, slice_get, arith}
 use Rattle.causal_core.proofs.Cells.{read_at, up_within, memories_kept, bodies_kept, room_put}
 use Rattle.causal_core.proofs.commit.make_room_at.Goals as goal
 use Rattle.causal_core.proofs.commit.make_room_at.Goals.{After-make_room-made}

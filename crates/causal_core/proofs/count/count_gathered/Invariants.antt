@@ -1,4 +1,4 @@
-use Rattle.std.proofs.Common.{◌≡◌, ◌≤◌, ◌+◌, ◌*◌, ◌^◌, take}
+use Rattle.std.proofs.Common.{◌≡◌, ◌≤◌, ◌+◌, ◌*◌, take}
 use Rattle.causal_log.specs.Stores.{count_in}
 use Rattle.causal_core.specs.View.{memories_in}
 use Rattle.causal_core.proofs.Counting.{count_all}

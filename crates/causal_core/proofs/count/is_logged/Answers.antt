@@ -1,4 +1,4 @@
-use Rattle.std.proofs.Common.{◌≡◌, ◌∙◌, ◌+◌, ◌||◌, drop, sym, ap, true, false, arith}
+use Rattle.std.proofs.Common.{◌∙◌, ◌+◌, ◌||◌, drop, sym, ap, arith}
 use Rattle.causal_core.specs.View.{memories_in}
 use Rattle.causal_core.specs.Inside.Gathers.{is_logged}
 use Rattle.causal_core.proofs.Counting.{logged_here, logged_end}

@@ -1,4 +1,4 @@
-use Rattle.std.proofs.Common.{◌≡◌, ◌∙◌, ◌+◌, sym, ap, arith, reverse}
+use Rattle.std.proofs.Common.{◌∙◌, ◌+◌, sym, ap, arith, reverse}
 use Rattle.std.proofs.lemmas.List.{take_all}
 use Rattle.causal_trace.specs.Past.{restarts}
 use Rattle.causal_core.proofs.Restarting.{one_restart, no_restart}

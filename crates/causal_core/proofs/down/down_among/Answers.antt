@@ -1,4 +1,4 @@
-use Rattle.std.proofs.Common.{◌≡◌, ◌+◌, ◌∙◌, sym, subst, true, false}
+use Rattle.std.proofs.Common.{◌+◌, ◌∙◌, sym, subst}
 use Rattle.std.specs.Prelude.{is_none}
 use Rattle.causal_holders.specs.Members.{HasMembers}
 use Rattle.causal_protocol.specs.Memory.{at}

@@ -1,4 +1,3 @@
-use Rattle.std.proofs.Common.{◌≤◌, length}
 use Rattle.std.specs.Prelude.{is_none}
 use Rattle.causal_holders.specs.Members.{HasMembers}
 use Rattle.causal_protocol.specs.Memory.{at}

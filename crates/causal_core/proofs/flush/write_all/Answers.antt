@@ -1,4 +1,4 @@
-use Rattle.std.proofs.Common.{◌≡◌, ◌∙◌, ◌∷◌, [], ap, refl, arith, length}
+use Rattle.std.proofs.Common.{◌∙◌, ap, refl, arith, length}
 use Rattle.causal_core.proofs.Flushing.{flushed_one, still_up, still_logged}
 use Rattle.causal_core.proofs.flush.write_all.Goals as goal
 

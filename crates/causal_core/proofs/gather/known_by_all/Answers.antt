@@ -1,4 +1,4 @@
-use Rattle.std.proofs.Common.{◌≡◌, ◌∙◌, ◌+◌, Some, None, ap, sym, drop, arith}
+use Rattle.std.proofs.Common.{◌∙◌, ◌+◌, ap, sym, drop, arith}
 use Rattle.causal_protocol.specs.Gathering.{united_all}
 use Rattle.causal_core.specs.View.{memories_in}
 use Rattle.causal_core.proofs.Gathers.{united_up, united_down, united_end}

@@ -1,6 +1,5 @@
-use Rattle.std.proofs.Common.{◌≡◌, ◌∙◌, ◌++◌, ◌+◌, drop, ap, sym, filter, map, arith}
+use Rattle.std.proofs.Common.{◌∙◌, ◌++◌, ◌+◌, drop, ap, sym, filter, map, arith}
 use Rattle.std.specs.List.{range_with_len}
-use Rattle.causal_name.specs.declared.Pid.{Pid}
 use Rattle.causal_protocol.specs.Naming.{name}
 use Rattle.causal_core.specs.View.{memories_in}
 use Rattle.causal_core.specs.Pendings.{is_pending, names_from}

@@ -1,6 +1,6 @@
-use Rattle.std.proofs.Common.{◌≡◌, ◌∙◌, ◌<◌, ◌≤◌, ◌+◌, ◌-◌, ◌++◌, ◌∷◌, [], ℕ, List, true, false, cond, ap, sym, refl, arith, length, map, replicate, suc, append-nil, length-append}
+use Rattle.std.proofs.Common.{◌≡◌, ◌∙◌, ◌+◌, ◌-◌, ◌++◌, ◌∷◌, [], ℕ, List, true, false, cond, ap, sym, refl, arith, length, map, replicate, suc, append-nil, length-append}
 use Rattle.std.specs.Prelude.{nat_lt}
-use Rattle.std.proofs.lemmas.Grind.{common_steps}
+use Rattle.std.specs.Arc.{arc_value}
 use Rattle.std.proofs.lemmas.Bool.Decides.{nat_tests}
 use Rattle.std.proofs.lemmas.List.{map-append, append_assoc}
 use Rattle.causal_name.specs.declared.Pid.{Pid}
@@ -11,7 +11,7 @@ use Rattle.causal_trace.specs.declared.entry.Entry.TheVariants.{Send}
 use Rattle.causal_trace.specs.State.{with_entry}
 use Rattle.causal_protocol.specs.Memory.{keeping}
 use Rattle.causal_protocol.specs.Steps.{sends_of, pushed}
-use Rattle.causal_core.specs.View.{memory_of, bodies_of, addressed, receivers, sent_bodies, first_batch, keep_all}
+use Rattle.causal_core.specs.View.{memory_of, bodies_of, addressed, receivers, sent_bodies, first_batch, batches_of, keep_all}
 use Rattle.causal_core.proofs.Sending.{addressed_more, replicate_last, keep_more, sends_more, kept_length, sends_length, pushed_last, pushed_length}
 use Rattle.causal_core.proofs.sends.append_sends.Goals as goal
 use Rattle.causal_core.proofs.sends.append_sends.Goals.{After-send-arg-then-from-n-1}
@@ -26,7 +26,7 @@ loop-outgoing-init c = record {
   others = λ p m apart was. was;
   delivered = λ ds was. was;
   bodies = sym (append-nil _);
-  copies = c.requires.copies;
+  shares = c.requires.shares;
   few = omega arith;
   spare = omega (arith, c.requires.spare);
   room = omega (arith, c.requires.room);
@@ -37,10 +37,12 @@ abbrev tos : After-send-arg-then-from-n-1 → List Pid
 tos c = receivers c.args.trace.now.recording.processes c.loop-outgoing.yielded
 
 abbrev batch : After-send-arg-then-from-n-1 → List Item
-batch c = first_batch c.args.copies.items
+batch c = first_batch (batches_of c.args.shares.items)
 
-popped : (c : After-send-arg-then-from-n-1) → (j : ℕ) × (8 - length (tos c) ≡ suc j) × (c.pop.new.self.items ≡ replicate j (batch c)) × (c.in-Some-pop.batch ≡ batch c)
-popped c = replicate_last (8 - length (tos c)) (batch c) c.pop.new.self.items c.in-Some-pop.batch (sym c.loop-outgoing.invariant.copies ∙ c.in-Some-pop.ensures.items)
+popped : (c : After-send-arg-then-from-n-1) → (j : ℕ) × (8 - length (tos c) ≡ suc j) × (batches_of c.pop.new.self.items ≡ replicate j (batch c)) × (arc_value c.in-Some-pop.batch ≡ batch c)
+popped c =
+    replicate_last (8 - length (tos c)) (batch c) (batches_of c.pop.new.self.items) (arc_value c.in-Some-pop.batch)
+    (sym c.loop-outgoing.invariant.shares ∙ ap batches_of c.in-Some-pop.ensures.items ∙ map-append arc_value c.pop.new.self.items (c.in-Some-pop.batch ∷ []))
 
 pub send-requires-clause-delivered : goal.send-requires-clause-delivered
 send-requires-clause-delivered c = rw (popped c).3 (c.loop-outgoing.invariant.delivered (dets_of (batch c)) c.requires.delivered)
@@ -97,7 +99,7 @@ loop-outgoing-preserved-then-from-n c =
           ∙ ap (λ bs. bs ++ c.in-Some.outgoing.body ∷ []) inv.bodies
           ∙ append_assoc (bodies_of c.args.cell.now) (sent_bodies c.args.trace.now.recording.processes c.loop-outgoing.yielded) (c.in-Some.outgoing.body ∷ [])
           ∙ ap (λ bs. bodies_of c.args.cell.now ++ bs) (sym (more_bodies at));
-      copies = let p = popped at in rw (more at, one_to) (p.2 ∙ ap (λ k. replicate k (batch at)) (let left = p.1 in omega (arith, left)));
+      shares = let p = popped at in rw (more at, one_to) (p.2 ∙ ap (λ k. replicate k (batch at)) (let left = p.1 in omega (arith, left)));
       few = rw (more at) (omega (arith, one_to, longer, inv.few));
       spare = omega (arith, c.send.ensures.spare, inv.spare, longer);
       room = omega (arith, c.send.ensures.room, inv.room, longer);
@@ -122,7 +124,7 @@ loop-outgoing-preserved c =
       others = inv.others;
       delivered = inv.delivered;
       bodies = rw same_bodies inv.bodies;
-      copies = rw same_to inv.copies;
+      shares = rw same_to inv.shares;
       few = rw same_to (omega (arith, inv.few, longer));
       spare = omega (arith, inv.spare, longer);
       room = omega (arith, inv.room, longer);

@@ -1,22 +1,22 @@
-use Rattle.std.proofs.Common.{◌≡◌, ◌≢◌, ◌<◌, ◌≤◌, ◌+◌, ◌-◌, ◌++◌, ℕ, length, replicate, Option, true, List}
+use Rattle.std.proofs.Common.{◌≡◌, ◌≢◌, ◌≤◌, ◌+◌, ◌-◌, ◌++◌, ℕ, length, replicate, Option, true, List}
 use Rattle.causal_name.specs.declared.Det.{Det}
 use Rattle.causal_trace.specs.Rows.{are_delivered}
 use Rattle.causal_protocol.specs.Memory.{Memory}
 use Rattle.causal_protocol.specs.Steps.{sends_of, pushed}
 use Rattle.causal_core.specs.Inside.Facts.{Fits, FitsAt}
-use Rattle.causal_core.specs.View.{memory_of, room_of, bodies_of, receivers, sent_bodies, first_batch, keep_all}
+use Rattle.causal_core.specs.View.{memory_of, room_of, bodies_of, receivers, sent_bodies, first_batch, batches_of, keep_all}
 use Rattle.causal_core.proofs.sends.append_sends.Given as goal
 
 abbrev pub invariant-loop-outgoing : goal.invariant-loop-outgoing
 invariant-loop-outgoing l = record {
   number : l.number ≡ length (receivers l.fn.trace.recording.processes l.yielded);
   recording : l.trace.recording ≡ record { processes = l.fn.trace.recording.processes; past = pushed (sends_of l.q (length (memory_of l.fn.cell).sent) (receivers l.fn.trace.recording.processes l.yielded)) l.fn.trace.recording.past };
-  memory : memory_of l.cell ≡ keep_all (length l.fn.trace.recording.past) (first_batch l.fn.copies.items) (receivers l.fn.trace.recording.processes l.yielded) (memory_of l.fn.cell);
+  memory : memory_of l.cell ≡ keep_all (length l.fn.trace.recording.past) (first_batch (batches_of l.fn.shares.items)) (receivers l.fn.trace.recording.processes l.yielded) (memory_of l.fn.cell);
   fit : Fits l.trace.recording.past l.q.0 (memory_of l.cell);
   others : (p : ℕ) (m : Option Memory) → p ≢ l.q.0 → FitsAt l.fn.trace.recording.past p m → FitsAt l.trace.recording.past p m;
   delivered : (ds : List Det) → are_delivered l.fn.trace.recording.past ds ≡ true → are_delivered l.trace.recording.past ds ≡ true;
   bodies : bodies_of l.cell ≡ bodies_of l.fn.cell ++ sent_bodies l.fn.trace.recording.processes l.yielded;
-  copies : l.copies.items ≡ replicate (8 - length (receivers l.fn.trace.recording.processes l.yielded)) (first_batch l.fn.copies.items);
+  shares : batches_of l.shares.items ≡ replicate (8 - length (receivers l.fn.trace.recording.processes l.yielded)) (first_batch (batches_of l.fn.shares.items));
   few : length (receivers l.fn.trace.recording.processes l.yielded) ≤ length l.yielded;
   spare : 8 ≤ l.trace.spare + length l.yielded;
   room : 8 ≤ (room_of l.cell).sent + length l.yielded;

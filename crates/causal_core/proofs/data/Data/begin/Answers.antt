@@ -1,5 +1,4 @@
-use Rattle.std.proofs.Common.{List, ◌≡◌, ◌∙◌, ◌<◌, ◌≤◌, ◌+◌, ◌++◌, Some, refl, ap, sym, subst, arith, length, vec_len, slice_set}
-use Rattle.std.proofs.lemmas.Grind.{common_steps}
+use Rattle.std.proofs.Common.{List, ◌≡◌, ◌∙◌, ◌++◌, Some, refl, ap, sym, subst, length, slice_set}
 use Rattle.std.specs.FinMap as fin
 use Rattle.causal_name.specs.declared.Pid.{Pid}
 use Rattle.causal_name.specs.Names.{is_ascending}
@@ -7,28 +6,27 @@ use Rattle.causal_log.specs.Logs.{chosen, dets_of}
 use Rattle.causal_log.proofs.Lemmas.ChosenLemmas.{chosen_ascend}
 use Rattle.causal_trace.specs.Past.{is_delivered}
 use Rattle.causal_trace.specs.Rows.{Recording, are_delivered}
-use Rattle.causal_protocol.specs.Memory.{Memory, fresh, at}
+use Rattle.causal_protocol.specs.Memory.{fresh, at}
 use Rattle.causal_protocol.specs.Run.{Run, memories_of}
 use Rattle.causal_protocol.specs.Steps.{pushed, sends_of}
-use Rattle.causal_core.specs.Inside.Facts.{Fits, FitsAt, AllFit, IsHeld}
-use Rattle.causal_core.specs.Inside.Begins.{MayBegin, HasBegun, begun_by}
+use Rattle.causal_core.specs.Inside.Facts.{AllFit}
+use Rattle.causal_core.specs.Inside.Begins.{MayBegin, begun_by}
 use Rattle.causal_core.specs.Inside.Gathers.{IsGathered}
 use Rattle.causal_core.specs.View.{run_from, memory_of, memories_in, bodies_in, sent_bodies, receivers, first_batch, keep_all}
 use Rattle.causal_core.proofs.Fitting.{all_fit_set, at-set_other}
 use Rattle.causal_core.proofs.Receiving.{chosen_all}
-use Rattle.causal_core.proofs.Cells.{memories_length}
-use Rattle.causal_core.proofs.Beginning.{none_pass, fresh_fits, begun_memories}
+use Rattle.causal_core.proofs.Beginning.{none_pass, begun_memories}
 use Rattle.causal_core.proofs.data.Data.begin.Goals as goal
 use Rattle.causal_core.proofs.data.Data.begin.Goals.{After-drop-fresh}
 
 pub append_sends-number-requires-clause-ascending : goal.append_sends-number-requires-clause-ascending
 append_sends-number-requires-clause-ascending c =
-    ap (λ cs. is_ascending (dets_of (first_batch cs))) c.requires.fresh.copies ∙ chosen_ascend c.args.self.now.run.faults fin.empty
+    ap (λ cs. is_ascending (dets_of (first_batch cs))) c.requires.fresh.shares ∙ chosen_ascend c.args.self.now.run.faults fin.empty
 
 pub append_sends-number-requires-clause-delivered : goal.append_sends-number-requires-clause-delivered
 append_sends-number-requires-clause-delivered c =
     let past = c.self.inside.trace.recording.past in
-    ap (λ cs. are_delivered past (dets_of (first_batch cs))) c.requires.fresh.copies
+    ap (λ cs. are_delivered past (dets_of (first_batch cs))) c.requires.fresh.shares
     ∙ chosen_all (is_delivered past) c.args.self.now.run.faults fin.empty (none_pass (is_delivered past) fin.empty refl)
 
 -- to whom it sends
@@ -60,7 +58,7 @@ invariant_of-self c =
     let placed : memories_in c.put.new.cells.items ≡ slice_set ms c.args.p.0 (Some (memory_of c.append_sends-number.new.cell)) =
     c.put.ensures.memories ∙ ap (λ k. slice_set ms k (Some (memory_of c.append_sends-number.new.cell))) c.from.ensures in
     let memory : memory_of c.append_sends-number.new.cell ≡ keep_all (length past) (chosen c.self.inside.faults fin.empty) (tos c) (fresh fin.empty) =
-    c.append_sends-number.ensures.memory ∙ (λ i. keep_all (length past) (first_batch (g.copies i)) (tos c) (g.memory i)) in
+    c.append_sends-number.ensures.memory ∙ (λ i. keep_all (length past) (first_batch (g.shares i)) (tos c) (g.memory i)) in
     let fits : AllFit n next.past (slice_set ms c.args.p.0 (Some (memory_of c.append_sends-number.new.cell))) =
     all_fit_set n past next.past ms c.args.p.0 (Some (memory_of c.append_sends-number.new.cell)) d.process c.self.invariant.fit c.append_sends-number.ensures.others c.append_sends-number.ensures.fit in
     record {

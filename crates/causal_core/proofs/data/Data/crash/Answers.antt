@@ -1,4 +1,4 @@
-use Rattle.std.proofs.Common.{◌≡◌, ◌∙◌, ◌<◌, ◌≤◌, ◌∷◌, [], ap, sym, subst, refl, None, arith, length}
+use Rattle.std.proofs.Common.{◌≡◌, ◌∙◌, ◌<◌, ◌∷◌, [], ap, sym, subst, refl, None, arith}
 use Rattle.std.proofs.lemmas.Grind.{common_steps}
 use Rattle.causal_trace.specs.declared.entry.Entry.TheVariants as Entries
 use Rattle.causal_trace.specs.Rows as Rows
@@ -11,7 +11,7 @@ use Rattle.causal_protocol.specs.Steps.{Steps, LegalStep, extended}
 use Rattle.causal_core.specs.View.{run_from, memories_in}
 use Rattle.causal_core.proofs.Cells.{memories_length}
 use Rattle.causal_core.proofs.Legal.{tells_reason, held_fit, crash_legal, crash_held}
-use Rattle.causal_core.proofs.Refused.{refused_crash}
+use Rattle.causal_core.proofs.RefusedRequests.{refused_crash}
 use Rattle.causal_core.proofs.data.Data.crash.Goals as goal
 use Rattle.causal_core.proofs.data.Data.crash.Goals.{After-len-first}
 

@@ -1,19 +1,20 @@
-use Rattle.std.proofs.Common.{◌≡◌, ◌∙◌, ◌<◌, ◌≤◌, ◌+◌, Option, Some, None, true, false, ap, sym, refl, arith, length}
+use Rattle.std.proofs.Common.{◌≡◌, ◌∙◌, ◌<◌, ◌≤◌, Some, None, true, false, ap, sym, subst, arith, length}
 use Rattle.std.specs.Prelude.{not, ◌&&◌, nat_lt}
 use Rattle.std.specs.Option.{option_map, option_copied}
+use Rattle.std.specs.List.{list_any}
 use Rattle.std.specs.FinMap as fin
 use Rattle.std.proofs.lemmas.Grind.{common_steps}
 use Rattle.std.proofs.lemmas.Bool.Decides.{nat_tests}
-use Rattle.causal_name.specs.Names.{message_of}
+use Rattle.causal_name.specs.Names.{message_of, same_message}
 use Rattle.causal_log.specs.Slots.{first_of_slot}
-use Rattle.causal_protocol.specs.declared.request.CoreFault.{CoreFault}
 use Rattle.causal_protocol.specs.declared.request.Request.TheVariants as Ask
 use Rattle.causal_protocol.specs.Memory.{Memories, at}
 use Rattle.causal_protocol.specs.Run.{Run, stable_of}
-use Rattle.causal_trace.specs.Past.{det_from}
+use Rattle.causal_trace.specs.Past.{det_from, has_delivered}
 use Rattle.causal_log.specs.Logs.{dets_of}
 use Rattle.causal_protocol.specs.Naming.{with_own, name, lesser, next_det, kept_for, listed_for}
 use Rattle.causal_protocol.specs.Refusals.{first_fault, unless, is_full}
+use Rattle.causal_core.specs.Inside.Facts.{Fits, FitsAt}
 use Rattle.causal_core.specs.View.{run_from, memories_in, memory_of, kept_of, stored_for}
 use Rattle.causal_core.proofs.Telling.{tell_process, tell_down, tell_other, tell_absent, tell_again, tell_full, received_few, stored_here, listed_is}
 use Rattle.causal_core.proofs.data.Data.delivery_fault.Goals as goal
@@ -47,6 +48,14 @@ inside c = grind (arith, c.are_processes.ensures, c.processes.ensures, c.if-not-
 
 up : (c : In-Some) → at (memories_in c.self.inside.cells.items) c.args.q.0 ≡ Some (memory_of c.in-Some.cell.now)
 up c = ap (λ xs. at (memories_in xs) c.args.q.0) (sym c.as_slice-cells.ensures.value) ∙ sym c.cell_at.ensures ∙ ap (λ o. option_map memory_of (option_copied o)) c.in-Some.is
+
+-- the trace says what the receiver has received
+again : (c : In-Some) → has_delivered c.self.inside.trace.recording.past c.args.q.0 (name c.args.source c.args.ssn) ≡ list_any (λ k. same_message k (name c.args.source c.args.ssn)) c.in-Some.cell.now.received.items
+again c =
+    let h = inside c in
+    let process : c.args.q.0 < c.self.inside.trace.recording.processes = grind (arith, nat_tests, h) in
+    let fits : Fits c.self.inside.trace.recording.past c.args.q.0 (memory_of c.in-Some.cell.now) = subst (FitsAt c.self.inside.trace.recording.past c.args.q.0) (up c) (c.self.invariant.fit.each c.args.q.0 process) in
+    fits.received (name c.args.source c.args.ssn)
 
 few : (c : In-Some) → length c.in-Some.cell.now.received.items ≤ 65536
 few c =
@@ -83,13 +92,13 @@ returns-in_default-message c =
 kept : (c : In-Some-message) → kept_for (memories_in c.self.inside.cells.items) c.args.q (name c.args.source c.args.ssn) ≡ Some (kept_of c.in-Some-message.message.now)
 kept c = ap (λ xs. kept_for (memories_in xs) c.args.q (name c.args.source c.args.ssn)) (sym c.as_slice-cells.ensures.value) ∙ sym c.message.ensures.kept ∙ ap (λ o. option_map kept_of (option_copied o)) c.in-Some-message.is
 
-pub returns-then-has_received : goal.returns-then-has_received
-returns-then-has_received c =
-    let at0 = (goal.at.returns-then-has_received c).After-are_processes in
-    let at1 = (goal.at.returns-then-has_received c).In-Some in
-    let at2 = (goal.at.returns-then-has_received c).After-other_named in
-    let at3 = (goal.at.returns-then-has_received c).In-Some-message in
-    sym (tell_again (run at0) (ms at0) c.args.q c.args.source c.args.ssn c.self.invariant.same (inside at1) (memory_of c.in-Some.cell.now) (up at1) (sym (other_is at2 (up at1)) ∙ c.in_default-other_named.is) (kept_of c.in-Some-message.message.now) (kept at3) (sym c.has_received.ensures ∙ c.if-has_received.true)) ∙ asked_of at0
+pub returns-then-has_delivered : goal.returns-then-has_delivered
+returns-then-has_delivered c =
+    let at0 = (goal.at.returns-then-has_delivered c).After-are_processes in
+    let at1 = (goal.at.returns-then-has_delivered c).In-Some in
+    let at2 = (goal.at.returns-then-has_delivered c).After-other_named in
+    let at3 = (goal.at.returns-then-has_delivered c).In-Some-message in
+    sym (tell_again (run at0) (ms at0) c.args.q c.args.source c.args.ssn c.self.invariant.same (inside at1) (memory_of c.in-Some.cell.now) (up at1) (sym (other_is at2 (up at1)) ∙ c.in_default-other_named.is) (kept_of c.in-Some-message.message.now) (kept at3) (sym (again at1) ∙ sym c.has_delivered.ensures ∙ c.if-has_delivered.true)) ∙ asked_of at0
 
 pub overflow_cast-own : goal.overflow_cast-own
 overflow_cast-own c = let h = few (goal.at.overflow_cast-own c).In-Some in grind (arith, common_steps, h, c.len.ensures)
@@ -102,7 +111,7 @@ full_is c here sent =
     let list = listed_is (memories_in c.self.inside.cells.items) c.args.q (name c.args.source c.args.ssn) (memory_of c.in-Some.cell.now) (kept_of c.in-Some-message.message.now) here sent in
     let long : length (listed_for (memories_in c.self.inside.cells.items) c.args.q (name c.args.source c.args.ssn)) ≡ c.listed_len.result =
     ap length list
-    ∙ (λ i. length (with_own (det_from c.args.q (count i) (name c.args.source c.args.ssn)) (dets_of (sym c.as_slice.ensures.items i))))
+    ∙ (λ i. length (with_own (det_from c.args.q (count i) (name c.args.source c.args.ssn)) (dets_of (sym (c.as_slice.ensures.items ∙ c.deref.ensures) i))))
     ∙ sym c.listed_len.ensures in
     ap (is_full r 9) long ∙ sym c.is_full.ensures
 
@@ -113,7 +122,7 @@ returns-then-is_full c =
     let at2 = (goal.at.returns-then-is_full c).After-other_named in
     let at3 = (goal.at.returns-then-is_full c).In-Some-message in
     let at4 = (goal.at.returns-then-is_full c).After-is_full in
-    sym (tell_full (run at0) (ms at0) c.args.q c.args.source c.args.ssn c.self.invariant.same (inside at1) (memory_of c.in-Some.cell.now) (up at1) (sym (other_is at2 (up at1)) ∙ c.in_default-other_named.is) (kept_of c.in-Some-message.message.now) (kept at3) (sym c.has_received.ensures ∙ c.if-has_received.false) true (full_is at4 (up at1) (kept at3) ∙ c.if-is_full.true)) ∙ asked_of at0
+    sym (tell_full (run at0) (ms at0) c.args.q c.args.source c.args.ssn c.self.invariant.same (inside at1) (memory_of c.in-Some.cell.now) (up at1) (sym (other_is at2 (up at1)) ∙ c.in_default-other_named.is) (kept_of c.in-Some-message.message.now) (kept at3) (sym (again at1) ∙ sym c.has_delivered.ensures ∙ c.if-has_delivered.false) true (full_is at4 (up at1) (kept at3) ∙ c.if-is_full.true)) ∙ asked_of at0
 
 pub returns : goal.returns
 returns c =
@@ -122,4 +131,4 @@ returns c =
     let at2 = (goal.at.returns c).After-other_named in
     let at3 = (goal.at.returns c).In-Some-message in
     let at4 = (goal.at.returns c).After-is_full in
-    sym (tell_full (run at0) (ms at0) c.args.q c.args.source c.args.ssn c.self.invariant.same (inside at1) (memory_of c.in-Some.cell.now) (up at1) (sym (other_is at2 (up at1)) ∙ c.in_default-other_named.is) (kept_of c.in-Some-message.message.now) (kept at3) (sym c.has_received.ensures ∙ c.if-has_received.false) false (full_is at4 (up at1) (kept at3) ∙ c.if-is_full.false)) ∙ asked_of at0
+    sym (tell_full (run at0) (ms at0) c.args.q c.args.source c.args.ssn c.self.invariant.same (inside at1) (memory_of c.in-Some.cell.now) (up at1) (sym (other_is at2 (up at1)) ∙ c.in_default-other_named.is) (kept_of c.in-Some-message.message.now) (kept at3) (sym (again at1) ∙ sym c.has_delivered.ensures ∙ c.if-has_delivered.false) false (full_is at4 (up at1) (kept at3) ∙ c.if-is_full.false)) ∙ asked_of at0

@@ -1,5 +1,5 @@
-use Rattle.std.proofs.Common.{◌≡◌, ◌∙◌, ◌<◌, ◌≤◌, ◌+◌, ◌∷◌, [], Some, None, true, false, refl, ap, sym, subst, arith, length, vec_len, slice_set}
-use Rattle.std.specs.Prelude.{is_some, ◌-◌, vec_capacity, drop}
+use Rattle.std.proofs.Common.{◌≡◌, ◌∙◌, ◌∷◌, Some, None, refl, ap, sym, subst, arith, length, vec_len}
+use Rattle.std.specs.Prelude.{is_some, ◌-◌, vec_capacity}
 use Rattle.std.specs.FinMap as fin
 use Rattle.std.proofs.lemmas.Bool.Decides.{nat_tests}
 use Rattle.causal_name.specs.Names.{message_of, is_ascending}
@@ -14,16 +14,16 @@ use Rattle.causal_trace.specs.Rows.{are_delivered}
 use Rattle.causal_protocol.specs.declared.request.Request.TheVariants as Ask
 use Rattle.causal_protocol.specs.declared.request.Reply.TheVariants as Told
 use Rattle.causal_protocol.specs.Memory.{at, gained}
-use Rattle.causal_protocol.specs.Run.{Run, memories_of}
+use Rattle.causal_protocol.specs.Run.{memories_of}
 use Rattle.causal_protocol.specs.Naming.{name, next_ssn}
 use Rattle.causal_protocol.specs.Refusals.{first_fault}
 use Rattle.causal_protocol.specs.Steps.{LegalStep, Steps, extended, delivery_of, pushed, sends_of}
 use Rattle.causal_core.specs.Inside.Facts.{AllFit}
-use Rattle.causal_core.specs.View.{DataState, IsGrown, run_from, memories_in, memory_at, log_at, bodies_in, rooms_in, receivers, first_batch}
+use Rattle.causal_core.specs.View.{DataState, IsGrown, run_from, memories_in, memory_at, log_at, bodies_in, rooms_in, receivers, carried_by, first_batch, batches_of}
 use Rattle.causal_core.proofs.Sending.{are_sends, receivers_below, receivers_long, addressed_few}
 use Rattle.causal_core.proofs.Legal.{held_fit}
 use Rattle.causal_core.proofs.Delivering.{MayDeliver, may_deliver, legal, sent_name, ssn_is}
-use Rattle.causal_core.proofs.Making.{memory_here, all_delivered, chosen_delivered, same_memories, log}
+use Rattle.causal_core.proofs.Making.{memory_here, all_delivered, chosen_delivered, same_memories}
 use Rattle.causal_core.proofs.data.Data.finish.Goals as goal
 use Rattle.causal_core.proofs.data.Data.finish.Goals.{After-len-first}
 
@@ -68,14 +68,14 @@ commit_at-sends-requires-clause-logged c =
 pub commit_at-sends-requires-clause-ascending : goal.commit_at-sends-requires-clause-ascending
 commit_at-sends-requires-clause-ascending c =
     let at0 = (goal.at.commit_at-sends-requires-clause-ascending c).After-len-first in
-    ap (λ cs. is_ascending (dets_of (first_batch cs))) (grown at0).copies ∙ chosen_ascend c.self.inside.faults (gained c.args.grown.carried c.args.grown.own (log_at (memories_of (state at0).run) c.args.q.0))
+    ap (λ cs. is_ascending (dets_of (first_batch cs))) (grown at0).shares ∙ chosen_ascend c.self.inside.faults (gained (carried_by c.args.grown) c.args.grown.own (log_at (memories_of (state at0).run) c.args.q.0))
 
 pub commit_at-sends-requires-clause-delivered : goal.commit_at-sends-requires-clause-delivered
 commit_at-sends-requires-clause-delivered c =
     let at0 = (goal.at.commit_at-sends-requires-clause-delivered c).After-len-first in
     let g = grown at0 in
     let count = sym (ap length c.self.invariant.same) ∙ c.self.invariant.fit.count in
-    ap (λ cs. are_delivered (Deliver c.args.q c.args.grown.send c.args.grown.own.rsn c.args.grown.listed.items ∷ c.self.inside.trace.recording.past) (dets_of (first_batch cs))) g.copies
+    ap (λ cs. are_delivered (Deliver c.args.q c.args.grown.send c.args.grown.own.rsn c.args.grown.listed.items ∷ c.self.inside.trace.recording.past) (dets_of (first_batch cs))) g.shares
     ∙ (λ i. are_delivered (Deliver c.args.q (g.send i) (g.own i).rsn (g.listed i) ∷ c.self.inside.trace.recording.past) (dets_of (chosen c.self.inside.faults (gained (g.carried i) (g.own i) (log_at (memories_of (state at0).run) c.args.q.0)))))
     ∙ chosen_delivered (state at0).run c.args.q c.args.grown.own.source c.args.grown.own.ssn (may at0) count
 
@@ -96,7 +96,7 @@ invariant_of-self c =
     (record {
       same =
           c.commit_at-sends.ensures.memories
-          ∙ same_memories (state at0).run c.args.q c.args.grown.own.source c.args.grown.own.ssn (may at0) count (memories_in c.self.inside.cells.items) (gained c.args.grown.carried c.args.grown.own (memory_at (memories_in c.self.inside.cells.items) c.args.q.0).log) (first_batch c.args.grown.copies.items) c.args.grown.own c.args.grown.send c.args.grown.listed.items tos same (λ i. gained (g.carried i) (g.own i) (memory_at (same i) c.args.q.0).log) (ap first_batch g.copies ∙ ap (λ xs. chosen c.self.inside.faults (gained c.args.grown.carried c.args.grown.own (memory_at xs c.args.q.0).log)) (sym same)) g.own g.send g.listed;
+          ∙ same_memories (state at0).run c.args.q c.args.grown.own.source c.args.grown.own.ssn (may at0) count (memories_in c.self.inside.cells.items) (gained (carried_by c.args.grown) c.args.grown.own (memory_at (memories_in c.self.inside.cells.items) c.args.q.0).log) (first_batch (batches_of c.args.grown.shares.items)) c.args.grown.own c.args.grown.send c.args.grown.listed.items tos same (λ i. gained (g.carried i) (g.own i) (memory_at (same i) c.args.q.0).log) (ap first_batch g.shares ∙ ap (λ xs. chosen c.self.inside.faults (gained (carried_by c.args.grown) c.args.grown.own (memory_at xs c.args.q.0).log)) (sym same)) g.own g.send g.listed;
       fit = fit_new;
     })
 

@@ -1,6 +1,5 @@
-use Rattle.std.proofs.Common.{List, ◌≡◌, ◌∙◌, ◌<◌, ◌≤◌, ◌+◌, ◌∷◌, Some, None, true, refl, ap, sym, subst, arith, length, vec_len, slice_set}
+use Rattle.std.proofs.Common.{List, ◌≡◌, ◌∙◌, ◌<◌, ◌∷◌, Some, None, true, refl, ap, sym, subst, arith, length, vec_len, slice_set}
 use Rattle.std.specs.Prelude.{◌-◌, vec_capacity}
-use Rattle.std.specs.FinMap as fin
 use Rattle.std.proofs.lemmas.Grind.{common_steps}
 use Rattle.causal_name.specs.declared.Pid.{Pid}
 use Rattle.causal_name.specs.Names.{is_ascending}
@@ -16,8 +15,8 @@ use Rattle.causal_protocol.specs.Memory.{fresh}
 use Rattle.causal_protocol.specs.Gathering.{gathered_log}
 use Rattle.causal_protocol.specs.Run.{Run, memories_of, stable_of}
 use Rattle.causal_protocol.specs.Refusals.{first_fault, gathered}
-use Rattle.causal_protocol.specs.Steps.{LegalStep, Steps, extended, pushed, sends_of}
-use Rattle.causal_core.specs.Inside.Facts.{Fits, FitsAt, AllFit, IsHeld}
+use Rattle.causal_protocol.specs.Steps.{LegalStep, Steps, pushed, sends_of}
+use Rattle.causal_core.specs.Inside.Facts.{Fits, FitsAt, AllFit}
 use Rattle.causal_core.specs.Inside.Gathers.{IsGathered}
 use Rattle.causal_core.specs.View.{DataState, run_from, memory_of, memories_in, bodies_in, rooms_in, receivers, first_batch, keep_all}
 use Rattle.causal_core.proofs.Fitting.{fits_other, all_fit_set, delivered_more}
@@ -80,13 +79,13 @@ append_sends-sends-requires-clause-fit c =
 pub append_sends-sends-requires-clause-ascending : goal.append_sends-sends-requires-clause-ascending
 append_sends-sends-requires-clause-ascending c =
     let at = (goal.at.append_sends-sends-requires-clause-ascending c).After-len-first in
-    ap (λ cs. is_ascending (dets_of (first_batch cs))) (made at).copies ∙ chosen_ascend c.self.inside.faults (log at)
+    ap (λ cs. is_ascending (dets_of (first_batch cs))) (made at).shares ∙ chosen_ascend c.self.inside.faults (log at)
 
 pub append_sends-sends-requires-clause-delivered : goal.append_sends-sends-requires-clause-delivered
 append_sends-sends-requires-clause-delivered c =
     let at = (goal.at.append_sends-sends-requires-clause-delivered c).After-len-first in
     let past = c.self.inside.trace.recording.past in
-    (λ i. are_delivered (c.push_reserved.ensures.recording i).past (dets_of (first_batch ((made at).copies i))))
+    (λ i. are_delivered (c.push_reserved.ensures.recording i).past (dets_of (first_batch ((made at).shares i))))
     ∙ delivered_more (Restart c.args.p c.new.result) past _ (chosen_all (is_delivered past) c.self.inside.faults (log at) (delivered at))
 
 pub append_sends-sends-requires-clause-short : goal.append_sends-sends-requires-clause-short
@@ -137,7 +136,7 @@ invariant_of-self c =
     let one = c.push_reserved.ensures.recording in
     let memory : memory_of c.append_sends-sends.new.cell ≡ keep_all (length (Restart c.args.p (gathered r c.args.p) ∷ past)) (chosen c.self.inside.faults (log at)) (tos c) (fresh (log at)) =
     c.append_sends-sends.ensures.memory
-    ∙ (λ i. keep_all (length (one i).past) (first_batch (g.copies i)) (receivers (one i).processes c.args.sends.items) (g.memory i)) in
+    ∙ (λ i. keep_all (length (one i).past) (first_batch (g.shares i)) (receivers (one i).processes c.args.sends.items) (g.memory i)) in
     let fits : AllFit n next.past (slice_set (memories_in c.self.inside.cells.items) c.args.p.0 (Some (memory_of c.append_sends-sends.new.cell))) =
     all_fit_set n past next.past (memories_in c.self.inside.cells.items) c.args.p.0 (Some (memory_of c.append_sends-sends.new.cell)) d.process held.fit
     (λ q o apart was. c.append_sends-sends.ensures.others q o apart (subst (λ (x : Recording). FitsAt x.past q o) (sym one) (fits_other (Restart c.args.p c.new.result) past q (restart_apart q c.args.p c.new.result apart) o was)))

@@ -1,10 +1,10 @@
-use Rattle.std.proofs.Common.{◌≡◌, ◌∙◌, ap, sym, refl, arith, length}
+use Rattle.std.proofs.Common.{◌∙◌, ap, sym, refl, arith}
 use Rattle.std.proofs.lemmas.Grind.{common_steps}
 use Rattle.causal_protocol.specs.declared.request.CoreFault.TheVariants as Why
 use Rattle.causal_protocol.specs.declared.request.Request.TheVariants as Ask
 use Rattle.causal_core.specs.View.{run_from}
 use Rattle.causal_core.proofs.Legal.{tells_reason}
-use Rattle.causal_core.proofs.Refused.{refused_forgetting}
+use Rattle.causal_core.proofs.RefusedRequests.{refused_forgetting}
 use Rattle.causal_core.proofs.Forgotten.{forgot, forgot_nothing}
 use Rattle.causal_core.proofs.data.Data.forget.Goals as goal
 

@@ -1,4 +1,4 @@
-use Rattle.std.proofs.Common.{◌≡◌, ◌<◌, ◌∙◌, ap, is_some, arith, length}
+use Rattle.std.proofs.Common.{◌<◌, ◌∙◌, ap, is_some, arith, length}
 use Rattle.std.specs.FinMap as fin
 use Rattle.std.proofs.lemmas.List.{reverse-append}
 use Rattle.causal_protocol.specs.Memory.{at}

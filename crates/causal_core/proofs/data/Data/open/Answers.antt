@@ -1,4 +1,4 @@
-use Rattle.std.proofs.Common.{◌≡◌, [], sym, subst}
+use Rattle.std.proofs.Common.{[], sym, subst}
 use Rattle.causal_core.specs.Inside.Facts.{IsHeld}
 use Rattle.causal_core.specs.View.{run_from, memories_in}
 use Rattle.causal_core.proofs.Beginning.{fresh_held}

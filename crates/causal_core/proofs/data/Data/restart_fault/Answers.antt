@@ -1,4 +1,4 @@
-use Rattle.std.proofs.Common.{◌≡◌, ◌≤◌, ◌∙◌, ap, sym, arith, length}
+use Rattle.std.proofs.Common.{◌≡◌, ◌∙◌, ap, sym, arith, length}
 use Rattle.std.specs.FinMap as fin
 use Rattle.causal_log.specs.Stores.{count_in}
 use Rattle.causal_trace.specs.Past.{restarts}

@@ -1,4 +1,4 @@
-use Rattle.std.proofs.Common.{◌≡◌, ◌<◌, ◌≤◌, ◌∙◌, ap, sym, subst, arith, length, map, is_some}
+use Rattle.std.proofs.Common.{◌<◌, ◌∙◌, ap, sym, subst, arith, length, map, is_some}
 use Rattle.std.specs.FinMap as fin
 use Rattle.std.specs.List.{list_all}
 use Rattle.causal_protocol.specs.declared.request.Request.TheVariants as Ask

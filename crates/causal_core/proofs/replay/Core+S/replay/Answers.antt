@@ -1,7 +1,6 @@
-use Rattle.std.proofs.Common.{◌≡◌, ◌<◌, ◌∙◌, Some, None, sym, ap, subst, arith}
+use Rattle.std.proofs.Common.{arith}
 use Rattle.std.proofs.lemmas.Grind.{common_steps}
-use Rattle.causal_core.specs.CoreView.{run_of, state_of}
-use Rattle.causal_core.specs.Replays.{Redelivered, RefusesNamed}
+use Rattle.causal_core.specs.CoreView.{state_of}
 use Rattle.causal_core.proofs.Replaying.{replayed_none, replayed_more, replayed_on, replayed_unnamed, replayed_nothing, unchanged_twice, ends_refused}
 use Rattle.causal_core.proofs.replay.Core+S.replay.Goals as goal
 

@@ -1,7 +1,6 @@
-use Rattle.std.proofs.Common.{◌≡◌, ◌∙◌, ◌<◌, ◌∷◌, Some, ap, sym, subst, refl, arith, map, length, is_some, true, slice_set}
+use Rattle.std.proofs.Common.{◌∙◌, ◌∷◌, Some, ap, sym, subst, arith, length, is_some, true, slice_set}
 use Rattle.std.proofs.lemmas.Grind.{common_steps}
 use Rattle.std.proofs.lemmas.List.{length-map}
-use Rattle.causal_process.specs.declared.message.Input.TheVariants.{Begin}
 use Rattle.causal_trace.specs.declared.entry.Entry.TheVariants.{Restart}
 use Rattle.causal_protocol.specs.declared.request.CoreFault.TheVariants as Why
 use Rattle.causal_protocol.specs.declared.request.Request.TheVariants as Ask
@@ -11,11 +10,11 @@ use Rattle.causal_protocol.specs.Refusals.{gathered}
 use Rattle.causal_protocol.specs.Runs.{IsRun}
 use Rattle.causal_protocol.specs.Steps.{extended, sends_of}
 use Rattle.causal_protocol.proofs.Lemmas.Carried.{step_carried}
-use Rattle.causal_core.specs.Boxes.{after, answers_at}
+use Rattle.causal_core.specs.Boxes.{after}
 use Rattle.causal_core.specs.View.{receivers, sent_bodies}
 use Rattle.causal_core.proofs.BoxLemmas.{elsewhere_same}
 use Rattle.causal_core.proofs.Filled.{memories_count}
-use Rattle.causal_core.proofs.Refused.{refused_restart}
+use Rattle.causal_core.proofs.RefusedRequests.{refused_restart}
 use Rattle.causal_core.proofs.Restarting.{restart_below, restart_filled, restart_stable}
 use Rattle.causal_core.proofs.restart.Core+S.restart.Goals as goal
 

@@ -1,9 +1,8 @@
-use Rattle.std.proofs.Common.{◌≡◌, ◌∙◌, ◌<◌, ◌∷◌, ap, sym, subst, refl, arith, map, length, is_some}
+use Rattle.std.proofs.Common.{◌≡◌, ◌∙◌, ◌∷◌, ap, sym, subst}
 use Rattle.causal_name.specs.Names.{message_of}
 use Rattle.causal_process.specs.declared.message.Input.TheVariants.{Message as Given}
 use Rattle.causal_log.specs.Slots.{first_of_slot}
 use Rattle.causal_log.specs.Stores.{dets_in}
-use Rattle.causal_trace.specs.Past.{is_stable}
 use Rattle.causal_protocol.specs.declared.request.CoreFault.TheVariants as Why
 use Rattle.causal_protocol.specs.Run.{memories_of}
 use Rattle.causal_protocol.specs.Runs.{IsRun}
@@ -16,7 +15,7 @@ use Rattle.causal_core.specs.View.{receivers, body_at, with_bodies, sent_bodies}
 use Rattle.causal_core.proofs.BoxLemmas.{step_same, elsewhere_same}
 use Rattle.causal_core.proofs.Stored.{store_is}
 use Rattle.causal_core.proofs.Filled.{box_there}
-use Rattle.causal_core.proofs.Refused.{refused_delivery}
+use Rattle.causal_core.proofs.RefusedRequests.{refused_delivery}
 use Rattle.causal_core.proofs.Delivering.{receiver_up}
 use Rattle.causal_core.proofs.Stepped.{delivery_filled, delivery_stable}
 use Rattle.causal_core.proofs.runtime.Core+S.deliver.Goals as goal

@@ -1,5 +1,5 @@
 -- A refusal is a legal step.
-use Rattle.std.proofs.Common.{ℕ, ◌≡◌, [], refl, Some}
+use Rattle.std.proofs.Common.{ℕ, ◌≡◌, [], refl}
 use Rattle.causal_name.specs.declared.Pid.{Pid}
 use Rattle.causal_protocol.specs.declared.request.CoreFault.{CoreFault}
 use Rattle.causal_protocol.specs.declared.request.Request.TheVariants as Ask
