@@ -1,7 +1,7 @@
 pub mod Lemmas
-pub mod Cuts
-pub mod Numbers
-pub mod Commands
-pub mod Starts
-pub mod Texts
-pub mod Scripts
+mod Commands
+mod Cuts
+mod Numbers
+mod Scripts
+mod Starts
+mod Texts

@@ -1,13 +1,12 @@
 -- A text that has been read to its end.
-use Rattle.std.proofs.Common.{◌≡◌, ℕ, suc, ◌+◌, ◌<◌, ◌≤◌, List, [], ◌∷◌, ◌++◌, length, map, refl, ap, sym, ◌∙◌, subst, arith}
+use Rattle.std.proofs.Common.{◌≡◌, ℕ, suc, ◌<◌, ◌≤◌, List, [], ◌∷◌, length, map, refl, ap, sym, ◌∙◌, subst, arith}
 use Rattle.std.proofs.lemmas.List.{append-nil}
 use Rattle.causal_script.specs.declared.script.Command.{Command}
-use Rattle.causal_script.specs.declared.script.ScriptFault.{ScriptFault}
-use Rattle.causal_script.specs.declared.script.ScriptFaultKind.TheVariants.{Big, Script}
+use Rattle.causal_script.specs.declared.script.ScriptFaultKind.TheVariants.{Script}
 use Rattle.causal_script.specs.declared.start.Start.{Start}
 use Rattle.causal_script.specs.Lines.{lines}
-use Rattle.causal_script.specs.Spelling.{max_script, Plan, IsStart, IsPlan, Spells, start_line, command_line}
-use Rattle.causal_script.specs.Faults.{IsFaultAfter, AreSound, IsFirstFault, IsReadUpTo}
+use Rattle.causal_script.specs.Spelling.{max_script, IsStart, Spells, start_line, command_line}
+use Rattle.causal_script.specs.Faults.{IsFirstFault, IsReadUpTo}
 use Rattle.causal_script.specs.Inside.Place.{AreCommands, Reaches}
 use Rattle.causal_script.proofs.Texts.{sound_none, length_lines, whole_within}
 

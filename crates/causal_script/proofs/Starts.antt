@@ -1,5 +1,5 @@
 -- A start and its line.
-use Rattle.std.proofs.Common.{◌≡◌, ℕ, ◌<◌, ◌≤◌, ◌^◌, List, [], ◌∷◌, ◌++◌, Bool, true, false, cond, Option, Some, None, refl, ap, sym, ◌∙◌, subst, arith, decimal, codes, bytes_eq}
+use Rattle.std.proofs.Common.{◌≡◌, ℕ, ◌<◌, ◌≤◌, ◌^◌, List, ◌∷◌, ◌++◌, Some, None, refl, ap, sym, ◌∙◌, subst, arith, decimal, codes}
 use Rattle.std.proofs.lemmas.Option.{none-some, same_Some}
 use Rattle.causal_script.specs.declared.script.Kind.{Kind}
 use Rattle.causal_script.specs.declared.script.Kind.TheVariants.{Ring, Echo, Tally}

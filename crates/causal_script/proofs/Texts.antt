@@ -1,12 +1,12 @@
 -- The lines of a text, one after another.
-use Rattle.std.proofs.Common.{◌≡◌, ◌≢◌, ◌⊎◌, inl, inr, ℕ, zero, suc, ◌+◌, ◌<◌, ◌≤◌, List, [], ◌∷◌, ◌++◌, length, take, drop, map, Bool, true, false, cond, eqb, Option, Some, None, Result, Ok, Err, refl, ap, sym, ◌∙◌, subst, arith, add-one, option_map}
+use Rattle.std.proofs.Common.{◌≡◌, ◌⊎◌, inl, inr, ℕ, zero, suc, ◌+◌, ◌<◌, ◌≤◌, List, [], ◌∷◌, ◌++◌, length, take, drop, map, Bool, true, false, cond, eqb, Option, Some, None, Result, Ok, Err, refl, ap, sym, ◌∙◌, subst, arith, option_map}
 use Rattle.std.specs.Prelude.{slice_get, ok_or, is_ok, is_err, min, ◌-◌, ◌^◌}
 use Rattle.std.specs.List.{onto_first, AllByRecursion, range_with_len}
 use Rattle.std.proofs.Math.Seq.{take-length}
 use Rattle.std.proofs.lemmas.List.Sums.{sum_by-cons}
 use Rattle.std.proofs.lemmas.Bool.{eqb-true, eq-eqb, cases_lt}
 use Rattle.std.proofs.lemmas.Option.{none-some, same_Some, slice_get_within}
-use Rattle.std.proofs.lemmas.List.{map-append, append_assoc, append-nil}
+use Rattle.std.proofs.lemmas.List.{map-append, append_assoc}
 use Rattle.causal_script.specs.declared.script.Command.{Command}
 use Rattle.causal_script.specs.declared.script.ScriptFault.{ScriptFault}
 use Rattle.causal_script.specs.declared.script.ScriptFaultKind.{ScriptFaultKind}

@@ -12,7 +12,7 @@ use Rattle.causal_script.specs.declared.script.ScriptFaultKind.TheVariants.{Big,
 use Rattle.causal_script.specs.declared.start.Start.{Start}
 use Rattle.causal_script.specs.Lines.{lines, feeds}
 use Rattle.causal_script.specs.Spelling.{max_script, Plan, IsStart, IsRequest, Spells, start_line, command_line}
-use Rattle.causal_script.specs.Faults.{IsCommandLine, IsInPlace, IsFaultAfter, AreSound, IsFirstFault}
+use Rattle.causal_script.specs.Faults.{IsInPlace, IsFaultAfter, AreSound, IsFirstFault}
 use Rattle.causal_script.specs.Inside.Reading.{request_of, start_of}
 use Rattle.causal_script.specs.Inside.Place.{IsBigLine, judged}
 use Rattle.causal_script.proofs.Commands.{request_back, commanded, not_commanded, says_request}

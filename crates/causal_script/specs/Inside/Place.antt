@@ -1,5 +1,5 @@
 -- How far a text has been read.
-use Rattle.std.specs.Prelude.{◌≡◌, ℕ, ◌+◌, ◌≤◌, ◌<◌, ◌==◌, Bool, false, if◌then◌else◌, List, ◌++◌, length, take, drop, map, Option, Some, None, ok_or, Result, Ok, Err}
+use Rattle.std.specs.Prelude.{◌≡◌, ℕ, ◌+◌, ◌≤◌, ◌<◌, ◌==◌, Bool, false, if◌then◌else◌, List, ◌++◌, length, take, drop, map, Option, Some, None, ok_or, Result, Err}
 use Rattle.std.specs.List.{AllByRecursion, range_with_len}
 use Rattle.causal_script.specs.declared.script.Command.{Command}
 use Rattle.causal_script.specs.declared.script.ScriptFault.{ScriptFault}

@@ -1,4 +1,4 @@
-use Rattle.std.proofs.Common.{◌≡◌, eqb, refl, rules, tests}
+use Rattle.std.proofs.Common.{eqb, refl, rules, tests}
 use Rattle.std.proofs.lemmas.Iterator.{YieldsList-from_slice}
 use Rattle.std.proofs.lemmas.Iterator.Search.{position_from_yields_List}
 use Rattle.causal_script.proofs.Cuts.{cut_at, cut_nowhere, cut_slices}

@@ -1,7 +1,6 @@
-use Rattle.std.proofs.Common.{◌≡◌, ◌≢◌, ◌<◌, ◌≤◌, ◌^◌, ℕ, List, length, get_or, true, leb, Some, None, refl, ap, sym, ◌∙◌, subst, arith, rules}
+use Rattle.std.proofs.Common.{◌≡◌, ◌≢◌, ◌≤◌, ℕ, List, length, get_or, true, leb, refl, ap, sym, ◌∙◌, subst, arith}
 use Rattle.std.specs.Str.Parse.{ParsesUnsigned}
 use Rattle.std.proofs.lemmas.Bool.Decides.{nat_tests}
-use Rattle.causal_script.specs.Inside.Reading.{number_of}
 use Rattle.causal_script.proofs.Numbers.{within, parsed, no_text, first_is, lone_from}
 use Rattle.causal_script.proofs.words.number.Goals as goal
 
