@@ -1,5 +1,5 @@
 -- What a seat is told of a list of commands, one after the other.
-use Rattle.std.proofs.Common.{◌≡◌, ◌≢◌, ◌<◌, ◌≤◌, ◌+◌, ◌-◌, ◌∙◌, sym, refl, ap, ℕ, suc, List, [], ◌∷◌, ◌++◌, length, take, drop, get_or, length-drop, arith, Some, None, Result, Ok, Err}
+use Rattle.std.proofs.Common.{◌≡◌, ◌≢◌, ◌<◌, ◌+◌, ◌∙◌, sym, refl, ap, ℕ, suc, List, [], ◌∷◌, ◌++◌, length, take, drop, get_or, arith, Some, Ok}
 use Rattle.std.specs.List.{AllZip}
 use Rattle.std.proofs.lemmas.List.{take_more, take-append-drop}
 use Rattle.std.proofs.lemmas.List.Sums.{sum_by-drop_more}
@@ -12,7 +12,6 @@ use Rattle.causal_shared.specs.declared.fault.SharedFault.{SharedFault}
 use Rattle.causal_shared.specs.declared.fault.SharedFault.TheVariants as Call
 use Rattle.causal_shared.specs.Seat.{Sitting, Calls, SeatCall, heard_fault, next_item}
 use Rattle.causal_script.specs.declared.script.Command.{Command}
-use Rattle.causal_run.specs.declared.fault.RunFault.TheVariants as Fault
 use Rattle.causal_run.specs.Runs.{fault_told, spares_for, spares_in}
 use Rattle.causal_run.specs.Inside.Asking.{Asked, AreDone, IsDone, IsStopped, IsStoppedAt, refusal_at, stop_at}
 

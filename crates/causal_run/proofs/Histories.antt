@@ -1,15 +1,13 @@
 -- A legal history whose items tell that commands were done is a run of the commands.
-use Rattle.std.proofs.Common.{◌≡◌, ◌≢◌, ◌<◌, ◌-◌, ◌∙◌, sym, refl, ap, ap₂, subst, ℕ, zero, suc, true, List, [], ◌∷◌, ◌++◌, length, get_or, slice_set, arith, None}
+use Rattle.std.proofs.Common.{◌≡◌, ◌<◌, ◌-◌, ◌∙◌, sym, refl, ap, ap₂, subst, ℕ, zero, suc, true, List, [], ◌∷◌, ◌++◌, length, get_or, slice_set, arith}
 use Rattle.std.specs.Prelude.{◌==◌, All}
 use Rattle.std.proofs.lemmas.Bool.Decides.{nat_tests}
-use Rattle.std.specs.List.{AllZip}
 use Rattle.causal_process.specs.declared.message.Input.{Input}
 use Rattle.causal_process.specs.declared.message.Outgoing.{Outgoing}
 use Rattle.causal_trace.specs.Rows.{Recording}
 use Rattle.causal_trace.specs.Judgement.{IsSafeTrace}
 use Rattle.causal_protocol.specs.declared.request.Request.{Request}
 use Rattle.causal_protocol.specs.declared.request.CoreFault.{CoreFault}
-use Rattle.causal_protocol.specs.declared.request.CoreFault.TheVariants as Why
 use Rattle.causal_protocol.specs.Run.{Run}
 use Rattle.causal_protocol.specs.Runs.{IsSafeRun}
 use Rattle.causal_protocol.specs.Steps.{Steps}
@@ -19,7 +17,7 @@ use Rattle.causal_shared.specs.declared.item.Item.{Item}
 use Rattle.causal_shared.specs.History.{instant, shortened, cut, since, IsStep, AllLegal, opening_in, items_of}
 use Rattle.causal_shared.specs.Shared.{Opening, opening_from}
 use Rattle.causal_shared.specs.Seat.{SeatState}
-use Rattle.causal_shared.specs.Finish.{Agrees, AllSeated, HasSeat, before_items}
+use Rattle.causal_shared.specs.Finish.{Agrees, AllSeated, before_items}
 use Rattle.causal_script.specs.declared.script.Command.{Command}
 use Rattle.causal_run.specs.declared.fault.RunFault.{RunFault}
 use Rattle.causal_run.specs.declared.fault.RunFault.TheVariants as Fault

@@ -1,3 +1,5 @@
 mod Asks
 mod Histories
+mod Objects
 mod Refusals
+mod Starts

@@ -1,5 +1,5 @@
 -- The run of a script.
-use Rattle.std.specs.Prelude.{◌≡◌, ℕ, ◌+◌, List, [], ◌∷◌, ◌++◌, length, sum_by, Option, Some, None}
+use Rattle.std.specs.Prelude.{◌≡◌, ℕ, List, ◌∷◌, ◌++◌, sum_by, Option, Some, None}
 use Rattle.std.specs.List.{FoldsTo}
 use Rattle.causal_trace.specs.Rows.{Recording}
 use Rattle.causal_process.specs.declared.message.Input.{Input}

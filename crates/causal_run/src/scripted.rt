@@ -1,6 +1,8 @@
 //! A script run by processes of its kind.
-ghost use Rattle.std.specs.Prelude.{◌≡◌, ◌≤◌, ◌<◌, IfOk};
+ghost use Rattle.std.specs.Prelude.{◌≡◌, ◌≤◌, ◌<◌, IfOk, IfErr};
 ghost use Rattle.causal_trace.specs.Judgement.{IsSafeTrace};
+ghost use Rattle.causal_run.specs.Runs.{IsRunFrom, Tells};
+ghost use Rattle.causal_run.specs.Members.{IsStartOf};
 
 use crate::fault::RunFault;
 use crate::member::Member;
@@ -29,7 +31,9 @@ fn spare_for(script: &Script, p: u8) -> u8
 pub fn run_script<R: Wait>(rt: &R, alloc: Global, script: &Script) -> Result<Trace, RunFault>
     requires some { 1 ≤ script.now.n }
     requires few { script.now.n ≤ 256 }
-    ensures { IfOk result (λ trace. IsSafeTrace trace.recording script.now.f) }
+    ensures run { IfOk result (λ trace. IsRunFrom (IsStartOf script.now) script.now.commands.items trace.recording) }
+    ensures safe { IfOk result (λ trace. IsSafeTrace trace.recording script.now.f) }
+    ensures refused { IfErr result (Tells (IsStartOf script.now) script.now.commands.items) }
 {
     let mut boxes: Vec<Box<dyn Process + Send>> = Vec::new(alloc);
     for me in 0..script.n {

@@ -1,405 +1,107 @@
-//! Scripts with the traces that they have to give, or the line at which they are refused.
+//! Scripts of each kind, with how long the traces are that they give or the line at which they are refused. What traces
+//! say, to the byte, stands with the tests of the program.
 use crate::{RunFault, run_script};
-use causal_name::{Det, MsgName, NoMemory, Pid};
+use causal_name::{NoMemory, Pid};
 use causal_protocol::request::{CoreFault, Request};
-use causal_script::{Command, Kind, Script};
-use causal_trace::entry::Entry;
-use causal_trace::trace::Trace;
+use causal_script::{Command, Kind, Script, parse_script};
 use std::alloc::Global;
 use std::sync::Wait;
 use std::test::Fail;
 
-/// The fields of a determinant, in their order.
-type Fields = (u8, u32, u8, u32);
-
-/// An entry of a trace, in the order of the fields of its text.
-#[derive(Clone, Copy)]
-enum Line<'a> {
-    Send(u8, u8, u32),
-    Deliver(u8, u32, u32, &'a [Fields]),
-    Stable(Fields),
-    Crash(u8),
-    Restart(u8, &'a [Fields]),
-    Forget(u8, &'a [Fields]),
+/// How many entries and how many deliveries the trace of a script has. A text that is no script is told as a want of memory.
+fn sizes<R: Wait>(rt: &R, alloc: Global, text: &str) -> Result<(u32, u32), RunFault> {
+    let Ok(script) = parse_script(alloc, text.as_bytes()) else {
+        return Err(RunFault::Memory);
+    };
+    let trace = run_script(rt, alloc, &script)?;
+    Ok((trace.len(), trace.deliveries()))
 }
 
-fn det(fields: Fields) -> Det {
-    Det {
-        source: Pid(fields.0),
-        ssn: fields.1,
-        dest: Pid(fields.2),
-        rsn: fields.3,
+#[test]
+fn each_kind_runs(rt: HostRuntime) -> Result<(), Fail> {
+    for (script, entries, deliveries) in [
+        ("start ring 1 0 0", 1, 0),
+        ("start echo 2 1 1\ndeliver 1 0 0\ndeliver 0 1 1\n", 5, 2),
+        ("start tally 2 1\ncrash 1\nrestart 1\ndeliver 0 1 0\n", 6, 1),
+    ] {
+        assert_eq!(rt;
+            sizes(&rt, rt.alloc(), script)?,
+            (entries, deliveries),
+            "{script}"
+        );
     }
+    Ok(())
 }
 
-/// Whether these are the determinants of these fields.
-fn are(dets: &[Det], fields: &[Fields]) -> bool {
-    dets.len() == fields.len() && dets.iter().zip(fields).all(|(d, it)| *d == det(*it))
-}
-
-fn is_line(entry: &Entry, line: &Line) -> bool {
-    match (entry, line) {
-        (Entry::Send { from, to, ssn }, Line::Send(p, q, s)) => {
-            from.0 == *p && to.0 == *q && ssn == s
-        }
+#[test]
+fn the_first_refused_line_is_told(rt: HostRuntime) {
+    for (script, line, fault) in [
         (
-            Entry::Deliver {
-                to,
-                send,
-                rsn,
-                listed,
-            },
-            Line::Deliver(q, k, r, fields),
-        ) => { to.0 == *q && send == k && rsn == r && are(listed.as_slice(), fields) }
-        (Entry::Stable { det: stable }, Line::Stable(fields)) => *stable == det(*fields),
-        (Entry::Crash { who }, Line::Crash(p)) => who.0 == *p,
-        (Entry::Restart { who, listed }, Line::Restart(p, fields)) => {
-            who.0 == *p && are(listed.as_slice(), fields)
-        }
-        (Entry::Forget { who, listed }, Line::Forget(p, fields)) => {
-            who.0 == *p && are(listed.as_slice(), fields)
-        }
-        _ => false,
+            "start ring 2 1 1\ncrash 1\nflush 1\ncrash 1\n",
+            3,
+            CoreFault::Down,
+        ),
+        ("start ring 2 1 1\nrestart 200\n", 2, CoreFault::NoProcess),
+    ] {
+        let told = match sizes(&rt, rt.alloc(), script) {
+            Ok(_) => None,
+            Err(fault) => Some(fault),
+        };
+        assert!(rt; told == Some(RunFault::Refused { line, fault }), "{script}");
     }
 }
 
-/// Whether the trace has just these entries.
-fn has_lines(trace: &Trace, lines: &[Line]) -> bool {
-    let entries = trace.entries();
-    entries.len() == lines.len()
-        && entries
-            .iter()
-            .zip(lines)
-            .all(|(entry, line)| is_line(entry, line))
-}
-
-fn deliver(q: u8, source: u8, ssn: u32) -> Request {
+/// Of 128 pairs of processes that count down from 255, one pair after the other, the delivery of this number: in turn to
+/// the second and to the first of the pair, of a count from each side.
+fn delivery(number: u16) -> Request {
+    let first = (number / 512 * 2) as u8;
+    let second = first + 1;
+    let (q, source) = if number % 2 == 0 {
+        (second, first)
+    } else {
+        (first, second)
+    };
     Request::Deliver {
         q: Pid(q),
         source: Pid(source),
-        ssn,
+        ssn: u32::from(number % 512 / 2),
     }
 }
 
-fn crash(p: u8) -> Request {
-    Request::Crash { p: Pid(p) }
-}
-
-fn restart(p: u8) -> Request {
-    Request::Restart { p: Pid(p) }
-}
-
-fn flush(p: u8) -> Request {
-    Request::Flush { p: Pid(p) }
-}
-
-fn forget(p: u8) -> Request {
-    Request::Forget { p: Pid(p) }
-}
-
-/// These requests, one a line, from line 2 on.
-fn commands(alloc: Global, requests: &[Request]) -> Result<Vec<Command>, NoMemory> {
+/// So many of these deliveries, on the lines from 2 on.
+fn deliveries(alloc: Global, count: u16) -> Result<Vec<Command>, NoMemory> {
     let mut commands = Vec::new(alloc);
-    let mut line: u32 = 1;
-    for request in requests {
-        line = line.saturating_add(1);
+    for number in 0..count {
         commands.push(Command {
-            line,
-            request: *request,
+            line: u32::from(number) + 2,
+            request: delivery(number),
         })?;
     }
     Ok(commands)
 }
 
-/// What a script of three processes tells.
-fn told<R: Wait>(
-    rt: &R,
-    alloc: Global,
-    kind: Kind,
-    f: u16,
-    requests: &[Request],
-) -> Result<Trace, RunFault> {
-    let script = Script {
-        kind,
-        n: 3,
-        f,
-        param: 2,
-        commands: commands(alloc, requests)?,
-    };
-    run_script(rt, alloc, &script)
-}
-
+// A command is refused where it could pass 65,536 entries, of which a delivery may need nine. 256 sends open the run; each pair
+// has 512 deliveries and 510 more sends, so 63 pairs and 443 deliveries of the next come to 65,528.
 #[test]
-fn a_process_alone_sends_to_itself(rt: HostRuntime) -> Result<(), Fail> {
-    let script = Script {
-        kind: Kind::Ring,
-        n: 1,
+fn a_run_to_the_limit(rt: HostRuntime) -> Result<(), Fail> {
+    let mut script = Script {
+        kind: Kind::Echo,
+        n: 256,
         f: 0,
-        param: 0,
-        commands: Vec::new(rt.alloc()),
+        param: 255,
+        commands: deliveries(rt.alloc(), 32_699)?,
     };
     let trace = run_script(&rt, rt.alloc(), &script)?;
-    assert!(rt; has_lines(&trace, &[Line::Send(0, 0, 0)]));
-    Ok(())
-}
-
-// The message at 4 does not carry what 1 delivered: 2 knows 1 and itself as its holders.
-#[test]
-fn a_ring_comes_back(rt: HostRuntime) -> Result<(), Fail> {
-    let requests = [
-        deliver(1, 0, 0),
-        deliver(2, 1, 0),
-        deliver(0, 2, 0),
-        crash(1),
-        restart(1),
-        deliver(1, 0, 0),
-    ];
-    let lines = [
-        Line::Send(0, 1, 0),
-        Line::Deliver(1, 0, 0, &[(0, 0, 1, 0)]),
-        Line::Send(1, 2, 0),
-        Line::Deliver(2, 2, 0, &[(0, 0, 1, 0), (1, 0, 2, 0)]),
-        Line::Send(2, 0, 0),
-        Line::Deliver(0, 4, 0, &[(1, 0, 2, 0), (2, 0, 0, 0)]),
-        Line::Crash(1),
-        Line::Restart(1, &[(0, 0, 1, 0), (1, 0, 2, 0), (2, 0, 0, 0)]),
-        Line::Deliver(1, 0, 0, &[(0, 0, 1, 0)]),
-        Line::Send(1, 2, 0),
-    ];
-    assert!(rt; has_lines(&told(&rt, rt.alloc(), Kind::Ring, 1, &requests)?, &lines));
-    Ok(())
-}
-
-// What 0 delivered at 5 was known to 0 alone, so after both crashes no message is named for 0.
-#[test]
-fn two_of_a_ring_come_back(rt: HostRuntime) -> Result<(), Fail> {
-    let requests = [
-        deliver(1, 0, 0),
-        deliver(2, 1, 0),
-        deliver(0, 2, 0),
-        crash(0),
-        crash(1),
-        restart(0),
-        restart(1),
-        deliver(1, 0, 0),
-        deliver(0, 2, 0),
-    ];
-    let lines = [
-        Line::Send(0, 1, 0),
-        Line::Deliver(1, 0, 0, &[(0, 0, 1, 0)]),
-        Line::Send(1, 2, 0),
-        Line::Deliver(2, 2, 0, &[(0, 0, 1, 0), (1, 0, 2, 0)]),
-        Line::Send(2, 0, 0),
-        Line::Deliver(0, 4, 0, &[(0, 0, 1, 0), (1, 0, 2, 0), (2, 0, 0, 0)]),
-        Line::Crash(0),
-        Line::Crash(1),
-        Line::Restart(0, &[(0, 0, 1, 0), (1, 0, 2, 0)]),
-        Line::Send(0, 1, 0),
-        Line::Restart(1, &[(0, 0, 1, 0), (1, 0, 2, 0)]),
-        Line::Deliver(1, 9, 0, &[(0, 0, 1, 0), (1, 0, 2, 0)]),
-        Line::Send(1, 2, 0),
-        Line::Deliver(0, 4, 0, &[(0, 0, 1, 0), (1, 0, 2, 0), (2, 0, 0, 0)]),
-    ];
-    assert!(rt; has_lines(&told(&rt, rt.alloc(), Kind::Ring, 2, &requests)?, &lines));
-    Ok(())
-}
-
-#[test]
-fn a_tally_delivers_in_the_old_order(rt: HostRuntime) -> Result<(), Fail> {
-    let requests = [
-        deliver(0, 2, 0),
-        deliver(2, 0, 0),
-        crash(0),
-        restart(0),
-        deliver(0, 2, 0),
-    ];
-    let lines = [
-        Line::Send(1, 0, 0),
-        Line::Send(2, 0, 0),
-        Line::Deliver(0, 1, 0, &[(2, 0, 0, 0)]),
-        Line::Send(0, 2, 0),
-        Line::Deliver(2, 3, 0, &[(0, 0, 2, 0), (2, 0, 0, 0)]),
-        Line::Crash(0),
-        Line::Restart(0, &[(0, 0, 2, 0), (2, 0, 0, 0)]),
-        Line::Deliver(0, 1, 0, &[(2, 0, 0, 0)]),
-        Line::Send(0, 2, 0),
-    ];
-    assert!(rt; has_lines(&told(&rt, rt.alloc(), Kind::Tally, 1, &requests)?, &lines));
-    Ok(())
-}
-
-// The second flush writes nothing; the third writes what 0 did not know to be stable, once more.
-#[test]
-fn a_tally_is_flushed(rt: HostRuntime) -> Result<(), Fail> {
-    let requests = [
-        deliver(0, 2, 0),
-        deliver(2, 0, 0),
-        flush(2),
-        flush(2),
-        flush(0),
-    ];
-    let lines = [
-        Line::Send(1, 0, 0),
-        Line::Send(2, 0, 0),
-        Line::Deliver(0, 1, 0, &[(2, 0, 0, 0)]),
-        Line::Send(0, 2, 0),
-        Line::Deliver(2, 3, 0, &[(0, 0, 2, 0), (2, 0, 0, 0)]),
-        Line::Stable((0, 0, 2, 0)),
-        Line::Stable((2, 0, 0, 0)),
-        Line::Stable((2, 0, 0, 0)),
-    ];
-    assert!(rt; has_lines(&told(&rt, rt.alloc(), Kind::Tally, 1, &requests)?, &lines));
-    Ok(())
-}
-
-#[test]
-fn a_tally_forgets(rt: HostRuntime) -> Result<(), Fail> {
-    let requests = [
-        deliver(0, 2, 0),
-        deliver(2, 0, 0),
-        flush(0),
-        forget(0),
-        crash(0),
-        restart(0),
-        forget(0),
-        deliver(0, 2, 0),
-    ];
-    let lines = [
-        Line::Send(1, 0, 0),
-        Line::Send(2, 0, 0),
-        Line::Deliver(0, 1, 0, &[(2, 0, 0, 0)]),
-        Line::Send(0, 2, 0),
-        Line::Deliver(2, 3, 0, &[(0, 0, 2, 0), (2, 0, 0, 0)]),
-        Line::Stable((2, 0, 0, 0)),
-        Line::Forget(0, &[(2, 0, 0, 0)]),
-        Line::Crash(0),
-        Line::Restart(0, &[(0, 0, 2, 0), (2, 0, 0, 0)]),
-        Line::Forget(0, &[(2, 0, 0, 0)]),
-        Line::Deliver(0, 1, 0, &[(2, 0, 0, 0)]),
-        Line::Send(0, 2, 0),
-    ];
-    assert!(rt; has_lines(&told(&rt, rt.alloc(), Kind::Tally, 1, &requests)?, &lines));
-    Ok(())
-}
-
-/// Whether the script is refused just so.
-fn is_refused<R: Wait>(
-    rt: &R,
-    alloc: Global,
-    kind: Kind,
-    f: u16,
-    requests: &[Request],
-    line: u32,
-    fault: CoreFault,
-) -> bool {
-    match told(rt, alloc, kind, f, requests) {
-        Ok(_) => false,
-        Err(other) => other == RunFault::Refused { line, fault },
+    assert_eq!(rt; trace.len(), 65_528);
+    assert_eq!(rt; trace.deliveries(), 32_699);
+    script.commands = deliveries(rt.alloc(), 32_700)?;
+    let refused = RunFault::Refused {
+        line: 32_701,
+        fault: CoreFault::Full,
+    };
+    match run_script(&rt, rt.alloc(), &script) {
+        Ok(_) => panic!(rt; "the run passes the limit"),
+        Err(fault) => assert!(rt; fault == refused),
     }
-}
-
-#[test]
-fn rings_are_refused(rt: HostRuntime) {
-    let again = [deliver(1, 0, 0), deliver(1, 0, 0)];
-    assert!(rt;
-        is_refused(
-            &rt,
-            rt.alloc(),
-            Kind::Ring,
-            1,
-            &again,
-            3,
-            CoreFault::AlreadyDelivered
-        )
-    );
-    let none = [deliver(9, 0, 0)];
-    assert!(rt;
-        is_refused(
-            &rt,
-            rt.alloc(),
-            Kind::Ring,
-            1,
-            &none,
-            2,
-            CoreFault::NoProcess
-        )
-    );
-    let down = [crash(1), flush(1)];
-    assert!(rt; is_refused(&rt, rt.alloc(), Kind::Ring, 1, &down, 3, CoreFault::Down));
-    let up = [restart(1)];
-    assert!(rt; is_refused(&rt, rt.alloc(), Kind::Ring, 1, &up, 2, CoreFault::NotDown));
-    let nobody = [restart(200)];
-    assert!(rt;
-        is_refused(
-            &rt,
-            rt.alloc(),
-            Kind::Ring,
-            1,
-            &nobody,
-            2,
-            CoreFault::NoProcess
-        )
-    );
-}
-
-#[test]
-fn a_ring_lacks_a_message(rt: HostRuntime) {
-    let requests = [
-        deliver(1, 0, 0),
-        deliver(2, 1, 0),
-        deliver(0, 2, 0),
-        crash(0),
-        crash(1),
-        restart(1),
-        deliver(1, 0, 0),
-    ];
-    assert!(rt;
-        is_refused(
-            &rt,
-            rt.alloc(),
-            Kind::Ring,
-            2,
-            &requests,
-            8,
-            CoreFault::NotAvailable
-        )
-    );
-    assert!(rt;
-        is_refused(
-            &rt,
-            rt.alloc(),
-            Kind::Ring,
-            1,
-            &requests,
-            6,
-            CoreFault::OverFaults
-        )
-    );
-}
-
-#[test]
-fn another_message_is_named(rt: HostRuntime) {
-    let named = CoreFault::MustReplay(MsgName {
-        source: Pid(2),
-        ssn: 0,
-    });
-    let logged = [
-        deliver(0, 2, 0),
-        deliver(2, 0, 0),
-        crash(0),
-        restart(0),
-        deliver(0, 1, 0),
-    ];
-    assert!(rt; is_refused(&rt, rt.alloc(), Kind::Tally, 1, &logged, 6, named));
-    let forgotten = [
-        deliver(0, 2, 0),
-        deliver(2, 0, 0),
-        flush(0),
-        forget(0),
-        crash(0),
-        restart(0),
-        forget(0),
-        deliver(0, 1, 0),
-    ];
-    assert!(rt; is_refused(&rt, rt.alloc(), Kind::Tally, 1, &forgotten, 9, named));
+    Ok(())
 }

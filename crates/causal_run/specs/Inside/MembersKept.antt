@@ -1,9 +1,7 @@
 -- The processes of a script keep the laws of processes.
-use Rattle.std.specs.Prelude.{List}
 use Rattle.causal_process.specs.Kinds.{ring_reaction, echo_reaction, tally_reaction, adder_after}
 use Rattle.causal_process.specs.Laws.{AnswersEach, AnswersInOrder}
 use Rattle.causal_process.specs.LawsKept.{map_each, map_in_order, from_each, from_in_order}
-use Rattle.causal_run.specs.declared.member.Member.{Member}
 use Rattle.causal_run.specs.declared.member.Member.TheVariants.{Ring, Echo, Tally}
 use Rattle.causal_run.specs.Members.{member_answers}
 

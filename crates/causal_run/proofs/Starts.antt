@@ -1,0 +1,82 @@
+-- Boxes that answer as other values do start the same runs.
+use Rattle.std.proofs.Common.{◌≡◌, ◌∙◌, ◌+◌, ℕ, List, [], ◌∷◌, ◌++◌, map, length, Option, Some, None, sym, ap, ap₂, refl, arith}
+use Rattle.std.specs.List.{range_with_len}
+use Rattle.std.proofs.lemmas.List.{map_push, length-map}
+use Rattle.std.proofs.lemmas.List.FromFn.{map-range_with_len_more, length-map-range_with_len}
+use Rattle.causal_process.specs.declared.message.Input.{Input}
+use Rattle.causal_process.specs.declared.message.Input.TheVariants.{Begin}
+use Rattle.causal_process.specs.declared.message.Outgoing.{Outgoing}
+use Rattle.causal_trace.specs.Rows.{Recording}
+use Rattle.causal_protocol.specs.Run.{Run}
+use Rattle.causal_core.specs.Boxes.{Began, box_answers, after}
+use Rattle.causal_core.specs.View.{sent_bodies}
+use Rattle.causal_core.specs.Starts.{opening, with_beginnings}
+use Rattle.causal_script.specs.declared.script.Command.{Command}
+use Rattle.causal_run.specs.declared.fault.RunFault.{RunFault}
+use Rattle.causal_run.specs.declared.fault.RunFault.TheVariants as Fault
+use Rattle.causal_run.specs.Runs.{IsStarted, IsRunFrom, Tells}
+
+-- one more box, of the next member
+pub more_members : {B C : Type 0} (of : B → C) (member : ℕ → C) (boxes more : List B) (b : B) (k : ℕ) → more ≡ boxes ++ b ∷ [] → map of boxes ≡ map member (range_with_len 0 k)
+    → of b ≡ member k → map of more ≡ map member (range_with_len 0 (k + 1))
+more_members of member boxes more b k is before one =
+    ap (map of) is ∙ map_push of boxes b ∙ ap₂ (λ xs x. xs ++ x ∷ []) before one ∙ sym (map-range_with_len_more member 0 k k (omega arith))
+
+-- there are as many boxes as members
+pub as_many : {B C : Type 0} (of : B → C) (member : ℕ → C) (boxes : List B) (k : ℕ) → map of boxes ≡ map member (range_with_len 0 k) → length boxes ≡ k
+as_many of member boxes k is = sym (length-map boxes of) ∙ ap length is ∙ length-map-range_with_len member 0 k
+
+slot_of : {B C : Type 0} → (B → C) → Option B → Option C
+slot_of of None = None
+slot_of of (Some b) = Some (of b)
+
+module _ {B C : Type 0} (answers : B → List Input → List (List Outgoing)) (others : C → List Input → List (List Outgoing)) (of : B → C)
+    (same : (b : B) (inputs : List Input) → answers b inputs ≡ others (of b) inputs) where
+  slot_same : (slot : Option B) (inputs : List Input) → box_answers answers slot inputs ≡ box_answers others (slot_of of slot) inputs
+  unfolding slot_of
+  slot_same None inputs = refl
+  slot_same (Some b) inputs = ap Some (same b inputs)
+
+  began-as : (boxes : List B) (sends : List (List Outgoing)) (slots : List (Option B)) → Began answers boxes sends slots → Began others (map of boxes) sends (map (slot_of of) slots)
+  began-as [] [] [] began = tt
+  began-as (b ∷ boxes) (sent ∷ sends) (slot ∷ slots) began =
+      (λ inputs. ap Some (sym (same b (Begin ∷ inputs))) ∙ began.0 inputs ∙ ap (after sent) (slot_same slot inputs), began-as boxes sends slots began.1)
+  began-as [] (sent ∷ sends) slots began = absurd began
+  began-as [] [] (slot ∷ slots) began = absurd began
+  began-as (b ∷ boxes) [] slots began = absurd began
+  began-as (b ∷ boxes) (sent ∷ sends) [] began = absurd began
+
+  pub started-as : (f : ℕ) (boxes : List B) (r : Run) → IsStarted answers f boxes r → IsStarted others f (map of boxes) r
+  started-as f boxes r is = record {
+    core = record { run = is.core.run; bodies = is.core.bodies; slots = map (slot_of of) is.core.slots };
+    starts = record {
+      sends = is.starts.sends;
+      began = began-as boxes is.starts.sends is.core.slots is.starts.began;
+      run = is.starts.run ∙ ap (λ n. opening n f (with_beginnings n 0 is.starts.sends [])) (sym (length-map boxes of));
+      bodies = is.starts.bodies ∙ ap (λ n. map (sent_bodies n) is.starts.sends) (sym (length-map boxes of));
+    };
+    recording = is.recording;
+    faults = is.faults;
+  }
+
+-- the same run from another kind of start
+pub run-as : (Is Other : Run → Type 0) → ((r : Run) → Is r → Other r) → (commands : List Command) (recording : Recording) → IsRunFrom Is commands recording → IsRunFrom Other commands recording
+run-as Is Other turn commands recording run = record { start = run.start; end = run.end; started = turn run.start run.started; performed = run.performed; recorded = run.recorded }
+
+-- and the same refusal
+pub told-as : (Is Other : Run → Type 0) → ((r : Run) → Is r → Other r) → (commands : List Command) (fault : RunFault) → Tells Is commands fault → Tells Other commands fault
+told-as Is Other turn commands (Fault.Refused line fault) is = record {
+  before = is.before;
+  command = is.command;
+  after = is.after;
+  split = is.split;
+  here = is.here;
+  start = is.start;
+  end = is.end;
+  started = turn is.start is.started;
+  performed = is.performed;
+  refused = is.refused;
+}
+told-as Is Other turn commands Fault.Memory is = tt
+told-as Is Other turn commands Fault.Lock is = tt
+told-as Is Other turn commands (Fault.Finish fault) is = tt

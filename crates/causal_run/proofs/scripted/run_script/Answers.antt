@@ -1,0 +1,39 @@
+use Rattle.std.proofs.Common.{◌≡◌, ◌∙◌, refl, ap, subst, map, List, arith}
+use Rattle.std.proofs.lemmas.Result.{IfOk-weaker, IfErr-weaker}
+use Rattle.causal_run.specs.declared.member.Member.{Member}
+use Rattle.causal_run.specs.contracts.member.Member.{the_row}
+use Rattle.causal_run.specs.Runs.{IsStarted}
+use Rattle.causal_run.specs.Members.{member_of, member_answers, members_below}
+use Rattle.causal_run.proofs.Objects.{value_of, made_of, of_each}
+use Rattle.causal_run.proofs.Starts.{started-as, run-as, told-as, more_members, as_many}
+use Rattle.causal_run.proofs.scripted.run_script.Goals as goal
+
+pub loop-me-preserved : goal.loop-me-preserved
+loop-me-preserved g c =
+    let script = c.args.script.now in
+    let value : value_of c.into_dyn_box.result ≡ c.in_ok-new.field-0.value = made_of c.into_dyn_box.result _ the_row.coded _ c.into_dyn_box.ensures.1 (λ x. refl) in
+    let member : value_of c.into_dyn_box.result ≡ member_of script.kind script.n script.param c.loop-me.me = value ∙ (c.in_ok-new.ensures.ok ∙ c.new.ensures) in
+    more_members _ (λ me. member_of script.kind script.n script.param me) c.loop-me.boxes.items c.push.new.self.items c.into_dyn_box.result c.loop-me.me c.in_ok-push.ensures.items c.loop-me.invariant member
+
+pub perform-requires-clause-boxes : goal.perform-requires-clause-boxes
+perform-requires-clause-boxes g c =
+    let script = c.args.script.now in
+    as_many _ (λ me. member_of script.kind script.n script.param me) c.loop-me.boxes.items c.loop-me.me c.loop-me.invariant ∙ omega arith
+
+pub returns-clause-run : goal.returns-clause-run
+returns-clause-run g c =
+    let script = c.args.script.now in
+    let all : c.loop-me.me ≡ script.n = omega arith in
+    let members : map (λ b. value_of b) c.loop-me.boxes.items ≡ members_below script.kind script.n script.param script.n = c.loop-me.invariant ∙ ap (members_below script.kind script.n script.param) all in
+    IfOk-weaker c.perform.result _ _ (λ trace run. run-as _ _ (λ r is.
+    subst (λ (ms : List Member). IsStarted member_answers script.f ms r) members
+    (started-as _ member_answers (λ b. value_of b) (of_each _ (λ b w inputs. refl)) script.f c.loop-me.boxes.items r is)) script.commands.items trace.recording run) c.perform.ensures.run
+
+pub returns-clause-refused : goal.returns-clause-refused
+returns-clause-refused g c =
+    let script = c.args.script.now in
+    let all : c.loop-me.me ≡ script.n = omega arith in
+    let members : map (λ b. value_of b) c.loop-me.boxes.items ≡ members_below script.kind script.n script.param script.n = c.loop-me.invariant ∙ ap (members_below script.kind script.n script.param) all in
+    IfErr-weaker c.perform.result _ _ (λ fault told. told-as _ _ (λ r is.
+    subst (λ (ms : List Member). IsStarted member_answers script.f ms r) members
+    (started-as _ member_answers (λ b. value_of b) (of_each _ (λ b w inputs. refl)) script.f c.loop-me.boxes.items r is)) script.commands.items fault told) c.perform.ensures.refused
