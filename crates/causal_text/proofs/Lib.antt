@@ -1,17 +1,17 @@
 pub mod Lemmas
-pub mod Fields
-pub mod Values
-pub mod Passed
-pub mod Outlines
-pub mod Joined
-pub mod Steps
-pub mod Spellings
-pub mod Complete
-pub mod Texts
-pub mod ReadsBack
-pub mod ShapeData
-pub mod Plain
-pub mod Sizes
-pub mod Canonicals
-pub mod Feeds
-pub mod StreamLemmas
+mod Canonicals
+mod Complete
+mod Feeds
+mod Fields
+mod Joined
+mod Outlines
+mod Passed
+mod Plain
+mod ReadsBack
+mod ShapeData
+mod Sizes
+mod Spellings
+mod Steps
+mod StreamLemmas
+mod Texts
+mod Values

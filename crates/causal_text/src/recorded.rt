@@ -1,7 +1,7 @@
 //! A trace of which clauses see the recording alone: what the lines of a text determine.
-ghost use Rattle.std.specs.Prelude.{◌≡◌, length, None, IfOk, IfErr, OnOk, MatchBool, unwrap_or};
-ghost use Rattle.causal_trace.specs.Limits.{IsProcessCount, is_process_count};
-ghost use Rattle.causal_trace.specs.Rows.{first_fault, IsWellFormed};
+ghost use Rattle.std.specs.Prelude.{◌≡◌, length, None, IfOk, IfErr, OnOk};
+ghost use Rattle.causal_trace.specs.Limits.{IsProcessCount};
+ghost use Rattle.causal_trace.specs.Rows.{fault_next, refusal_next, IsRefusedBeginning, IsWellFormed};
 ghost use Rattle.causal_trace.specs.State.{with_entry};
 ghost use Rattle.causal_text.specs.Stages.{opened};
 
@@ -29,7 +29,7 @@ impl Recorded {
     /// A trace of so many processes and no entries.
     pub(crate) fn new(alloc: Global, n: u16) -> Result<Recorded, TraceFault>
         ensures ok { IfOk result (λ r. IsProcessCount n × (r ≡ opened n)) }
-        ensures refused { IfErr result (λ fault. MatchBool (is_process_count n) (fault ≡ TraceFault.NoMemory) (fault ≡ TraceFault.Processes)) }
+        ensures refused { IfErr result (IsRefusedBeginning n) }
     {
         let trace = Trace::new(alloc, n)?;
         Ok(Recorded {
@@ -39,9 +39,9 @@ impl Recorded {
 
     /// Takes one more entry, where nothing stands against it.
     pub(crate) fn push(&mut self, entry: Entry) -> Result<(), TraceFault>
-        ensures legal { OnOk result (first_fault self.old.processes self.old.past entry ≡ None) }
+        ensures legal { OnOk result (fault_next self.old entry ≡ None) }
         ensures ok { OnOk result (self.new ≡ with_entry self.old entry) }
-        ensures refused { IfErr result (λ fault. fault ≡ unwrap_or (first_fault self.old.processes self.old.past entry) TraceFault.NoMemory) }
+        ensures refused { IfErr result (λ fault. fault ≡ refusal_next self.old entry) }
     {
         self.trace.push(entry)
     }
