@@ -16,10 +16,10 @@ use Rattle.causal_trace.proofs.Lemmas.Reached.{reaches_begins}
 use Rattle.causal_audit.specs.declared.sight.Sight.{Sight}
 use Rattle.causal_audit.specs.Laws.{gone, IsExposed}
 use Rattle.causal_audit.specs.Quiet.{is_turn, mentioned_by, IsQuiet, AreQuiet, Agree, InstantsAgree, OrphansAgree}
-use Rattle.causal_audit.specs.Sights.{IsSight}
+use Rattle.causal_audit.specs.Inside.Sights.{IsSight}
 use Rattle.causal_audit.proofs.Dependence.{IsNoTurn, depends_more, depends_before}
 use Rattle.causal_trace.proofs.Lemmas.AtInstants.{instants_stay, one_more_instant, last_instant, instant_length, accepted_then, det_then, det_within}
-use Rattle.causal_audit.proofs.Judged.{exposed, unexposed}
+use Rattle.causal_audit.proofs.Lemmas.Judged.{exposed, unexposed}
 use Rattle.causal_audit.proofs.Legal.{sends_up, delivery_event}
 use Rattle.causal_audit.proofs.Orphaned.{not_yet}
 

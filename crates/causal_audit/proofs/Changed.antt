@@ -11,12 +11,12 @@ use Rattle.causal_trace.specs.Dependence.{actor, IsEventOf, Reaches}
 use Rattle.causal_clock.specs.declared.Event.{Event}
 use Rattle.causal_clock.specs.Precedence as clock
 use Rattle.causal_audit.specs.declared.sight.Sight.{Sight}
-use Rattle.causal_audit.specs.Ahead.{AreNoneUntil}
-use Rattle.causal_audit.specs.Changes.{AreChanges}
+use Rattle.causal_audit.specs.Inside.Ahead.{AreNoneUntil}
+use Rattle.causal_audit.specs.Inside.Changes.{AreChanges}
 use Rattle.causal_audit.specs.declared.changes.Changes.{Changes}
 use Rattle.causal_audit.specs.Quiet.{is_turn, mentioned_by, IsQuiet, AreQuiet}
-use Rattle.causal_audit.specs.Sights.{IsSight, TellsNextReach}
-use Rattle.causal_audit.specs.Stands.{Stands}
+use Rattle.causal_audit.specs.Inside.Sights.{IsSight, TellsNextReach}
+use Rattle.causal_audit.specs.Inside.Stands.{Stands}
 use Rattle.causal_audit.proofs.Between.{next_entry, known_already, instants_agree, sight_agrees}
 use Rattle.causal_trace.proofs.Lemmas.AtInstants.{accepted_then, instant_length}
 use Rattle.causal_audit.proofs.Orphaned.{tells}
@@ -31,7 +31,7 @@ event_dropped (suc m) [] i p l below at = at
 event_dropped (suc m) (e ∷ past) i p l below (inl at) = event_dropped m past i p l (omega (arith, below)) at
 event_dropped (suc m) (e ∷ past) i p l below (inr at) = absurd (omega (arith, below, at.0))
 
-event_then : (past : List Entry) (t i p l : ℕ) → t ≤ length past → i < t → IsEventOf past i p l → IsEventOf (instant past t) i p l
+pub event_then : (past : List Entry) (t i p l : ℕ) → t ≤ length past → i < t → IsEventOf past i p l → IsEventOf (instant past t) i p l
 event_then past t i p l within below at = event_dropped (length past - t) past i p l (omega (arith, within, below)) at
 
 -- ---- what is in none of the lists is quiet

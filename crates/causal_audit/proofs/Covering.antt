@@ -13,11 +13,11 @@ use Rattle.causal_trace.specs.declared.entry.Entry.{Entry}
 use Rattle.causal_trace.specs.Past.{instant, entry_at, det_at, has, is_down, logs}
 use Rattle.causal_trace.specs.Rows.{AreAccepted}
 use Rattle.causal_trace.specs.Judgement.{HasOrphan}
-use Rattle.causal_audit.specs.Ahead.{HasNoneUntil}
-use Rattle.causal_audit.specs.Changes.{AreMentionsOf, HasMentions, HasTurns}
+use Rattle.causal_audit.specs.Inside.Ahead.{HasNoneUntil}
+use Rattle.causal_audit.specs.Inside.Changes.{AreMentionsOf, HasMentions, HasTurns}
 use Rattle.causal_audit.specs.Laws.{gone}
 use Rattle.causal_audit.specs.Quiet.{is_turn, mentioned_by}
-use Rattle.causal_audit.specs.Sights.{Shows}
+use Rattle.causal_audit.specs.Inside.Sights.{Shows}
 use Rattle.causal_audit.specs.Spread.{StaysUntil, LastsUntil}
 use Rattle.causal_audit.proofs.Begun.{onward_to, down_stays}
 use Rattle.causal_audit.proofs.Between.{logs_stay}

@@ -14,7 +14,7 @@ use Rattle.causal_trace.specs.Rows.{AreAccepted}
 use Rattle.causal_trace.specs.Dependence.{actor, IsEventOf, DirectlyPrecedes, in_order, by_message, Reaches, itself, onward, Depends}
 use Rattle.causal_trace.proofs.Lemmas.Reached.{event_below, reaches_old, depends_restarted}
 use Rattle.causal_trace.proofs.Lemmas.Accepted.{accepted_forward, delivers_up}
-use Rattle.causal_audit.specs.Sights.{AreDependents, TellsNextReach}
+use Rattle.causal_audit.specs.Inside.Sights.{AreDependents, TellsNextReach}
 use Rattle.causal_audit.proofs.Legal.{sends_up}
 use Rattle.causal_audit.proofs.Shown.{inserted, removed}
 
@@ -107,7 +107,7 @@ module _ (n : ℕ) (e : Entry) (past : List Entry) (k : ℕ) (formed : AreAccept
             (λ h. f.0 (sym (removed_other s w p apart.1) ∙ h), λ d. removed_other s w p apart.1 ∙ f.1 d)
       ]
 
-no_event : {G : Type 0} (e : Entry) (p : ℕ) → actor e ≡ None → actor e ≡ Some p → G
+pub no_event : {G : Type 0} (e : Entry) (p : ℕ) → actor e ≡ None → actor e ≡ Some p → G
 no_event e p none who = absurd (let x : None ≡ Some p = sym none ∙ who in cc)
 
 -- the same, at an entry that is known by an equation

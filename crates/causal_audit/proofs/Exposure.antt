@@ -15,10 +15,10 @@ use Rattle.causal_trace.specs.Dependence.{Depends}
 use Rattle.causal_trace.specs.Rows.{AreAccepted}
 use Rattle.causal_trace.specs.Judgement.{HasOrphan, IsCrashSet, IsOrphan}
 use Rattle.causal_audit.specs.declared.sight.Sight.{Sight}
-use Rattle.causal_audit.specs.Sights.{IsSight, IsUnheard, Shows}
+use Rattle.causal_audit.specs.Inside.Sights.{IsSight, IsUnheard, Shows}
 use Rattle.causal_audit.specs.Laws.{gone}
 use Rattle.causal_audit.specs.Verdicts.{IsLeastOrphan}
-use Rattle.causal_audit.proofs.Judged.{exposed, crash_contains, orphan_without, gone_crash, gone_orphan}
+use Rattle.causal_audit.proofs.Lemmas.Judged.{exposed, crash_contains, orphan_without, gone_crash, gone_orphan}
 use Rattle.causal_audit.proofs.Legal.{event_inside}
 use Rattle.causal_audit.proofs.Shown.{shows_none, down_inside, logs_inside}
 

@@ -14,7 +14,7 @@ use Rattle.causal_trace.specs.Past.{lane}
 use Rattle.causal_trace.specs.Dependence.{actor, IsEventOf}
 use Rattle.causal_clock.specs.declared.Event.{Event}
 use Rattle.causal_clock.specs.Timeline.{lane_of}
-use Rattle.causal_audit.specs.Filed.{Ascends, AreLanes, list_at, with_added}
+use Rattle.causal_audit.specs.Inside.Filed.{Ascends, AreLanes, list_at, with_added}
 
 -- ---- a list with one more position
 

@@ -15,9 +15,9 @@ use Rattle.causal_trace.specs.Rows.{AreAccepted}
 use Rattle.causal_clock.specs.declared.Event.{Event}
 use Rattle.causal_clock.specs.Timeline.{lane_of}
 use Rattle.causal_clock.specs.Precedence.{Reaches, onward}
-use Rattle.causal_audit.specs.Changes.{HasFirsts}
-use Rattle.causal_audit.specs.Filed.{Ascends, AreLanes, AreFirsts, IsFirstReached, list_at}
-use Rattle.causal_audit.specs.Stands.{Stands}
+use Rattle.causal_audit.specs.Inside.Changes.{HasFirsts}
+use Rattle.causal_audit.specs.Inside.Filed.{Ascends, AreLanes, AreFirsts, IsFirstReached, list_at}
+use Rattle.causal_audit.specs.Inside.Stands.{Stands}
 use Rattle.causal_audit.proofs.Legal.{delivery_event}
 use Rattle.causal_audit.proofs.Link.{in_clock, clock_tells, same_event}
 

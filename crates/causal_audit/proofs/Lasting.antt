@@ -12,7 +12,7 @@ use Rattle.causal_trace.specs.Past.{instant, is_down, is_stable, logs, has}
 use Rattle.causal_audit.specs.Laws.{gone}
 use Rattle.causal_audit.specs.Lasting.{may_release, NoneReleasedFrom, IsOver, IsOverAt, OrphansEnd}
 use Rattle.causal_trace.proofs.Lemmas.AtInstants.{instants_stay, one_more_instant, last_instant, instant_length, det_then}
-use Rattle.causal_audit.proofs.Judged.{exposed}
+use Rattle.causal_audit.proofs.Lemmas.Judged.{exposed}
 use Rattle.causal_audit.proofs.Orphaned.{not_yet}
 
 -- ---- what each entry from a position on keeps holds at the later instants
@@ -37,7 +37,7 @@ kept P (e ∷ past) t u keeps up within h =
 
 -- ---- what is stable stays stable
 
-or_more : (a b : Bool) → b ≡ true → (a || b) ≡ true
+pub or_more : (a b : Bool) → b ≡ true → (a || b) ≡ true
 or_more true b h = refl
 or_more false b h = h
 

@@ -10,7 +10,7 @@ use Rattle.causal_trace.proofs.Lemmas.Accepted.{accepted_forward}
 use Rattle.causal_clock.specs.declared.Event.{Event}
 use Rattle.causal_clock.specs.Timeline.{lane_of}
 use Rattle.causal_clock.specs.Precedence as clock
-use Rattle.causal_audit.specs.Stands.{Stands}
+use Rattle.causal_audit.specs.Inside.Stands.{Stands}
 use Rattle.causal_audit.proofs.Legal.{sender_event, receiver_event}
 
 pub delivers_below : (past : List Entry) (j i : ℕ) → Delivers past j i → j < length past

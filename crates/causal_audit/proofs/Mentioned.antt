@@ -1,5 +1,5 @@
 -- The lists of the entries that mention each determinant.
-use Rattle.std.proofs.Common.{ℕ, ◌≡◌, ◌+◌, ◌<◌, inl, inr, Bool, true, false, cond, List, [], ◌∷◌, ◌++◌, length, Option, Some, None, refl, sym, ap, subst, ◌∙◌, arith, length-append}
+use Rattle.std.proofs.Common.{ℕ, ◌≡◌, ◌+◌, ◌<◌, inl, inr, Bool, true, false, List, [], ◌∷◌, ◌++◌, length, Option, Some, None, refl, sym, ap, subst, ◌∙◌, arith, length-append}
 use Rattle.std.specs.Prelude.{◌⊎◌, ◌==◌, ◌&&◌, ◌||◌, Contains}
 use Rattle.std.specs.List.{All}
 use Rattle.std.specs.List.Sorted.{IsNonDecreasing}
@@ -15,13 +15,13 @@ use Rattle.causal_name.specs.Names.{same_det}
 use Rattle.causal_trace.specs.declared.entry.Entry.{Entry}
 use Rattle.causal_trace.specs.Past.{entry_at, has}
 use Rattle.causal_trace.proofs.Lemmas.Instants.{entry_beyond}
-use Rattle.causal_audit.specs.Changes.{HasMentions}
-use Rattle.causal_audit.specs.Filed.{Ascends, AreMentions, AreMentionsWith, AreNumbered, Numbers, list_at, mentions_of, number_of, with_added}
+use Rattle.causal_audit.specs.Inside.Changes.{HasMentions}
+use Rattle.causal_audit.specs.Inside.Filed.{Ascends, AreMentions, AreMentionsWith, AreNumbered, Numbers, list_at, mentions_of, number_of, with_added}
 use Rattle.causal_audit.specs.Quiet.{mentioned_by}
 use Rattle.causal_audit.proofs.Filings.{added_cases, added_has, added_keeps, added_ascend, ascend_weaker}
 
 -- determinants that are the same are one
-same_is : (x y : Det) → same_det x y ≡ true → x ≡ y
+pub same_is : (x y : Det) → same_det x y ≡ true → x ≡ y
 same_is x y h =
     let source = and_parts (x.source.0 == y.source.0) (x.ssn == y.ssn && (x.dest.0 == y.dest.0 && x.rsn == y.rsn)) h in
     let ssn = and_parts (x.ssn == y.ssn) (x.dest.0 == y.dest.0 && x.rsn == y.rsn) source.1 in
@@ -54,7 +54,7 @@ newest_below x older c d m same other at to =
     omega (arith, it, number_below older d m (sym (cond-false (same_det x d) (Some (length older)) (number_of older d) other) ∙ to))
 
 -- only one determinant has each number
-numbers_apart : (numbers : Numbers) (c d : Det) (m : ℕ) → number_of numbers c ≡ Some m → number_of numbers d ≡ Some m → same_det c d ≡ true
+pub numbers_apart : (numbers : Numbers) (c d : Det) (m : ℕ) → number_of numbers c ≡ Some m → number_of numbers d ≡ Some m → same_det c d ≡ true
 numbers_apart [] c d m at to = absurd (let x : None ≡ Some m = at in cc)
 numbers_apart (x ∷ older) c d m at to =
     elim (cases_Bool (same_det x c)) [

@@ -15,7 +15,7 @@ use Rattle.causal_trace.specs.Dependence.{actor, is_delivery_of, IsEventOf, Deli
 use Rattle.causal_trace.proofs.Lemmas.Reached.{event_below, event_lane}
 use Rattle.causal_clock.specs.declared.Event.{Event}
 use Rattle.causal_clock.specs.Timeline.{Timeline, lane_of, send_of, with_event}
-use Rattle.causal_audit.specs.Stands.{Stands, Mirrors}
+use Rattle.causal_audit.specs.Inside.Stands.{Stands, Mirrors}
 use Rattle.causal_audit.proofs.Link.{delivers_below}
 
 lane_of-old : (es : List Event) (e : Event) (i : ℕ) → i < length es → lane_of (es ++ e ∷ []) i ≡ lane_of es i

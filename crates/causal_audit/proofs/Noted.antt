@@ -11,7 +11,7 @@ use Rattle.causal_trace.proofs.Lemmas.Accepted.{delivers_sent, sent_within}
 use Rattle.causal_clock.specs.declared.ClockFault.{ClockFault}
 use Rattle.causal_clock.specs.declared.ClockFault.TheVariants.{Lanes as ClockLanes, NoMemory as ClockNoMemory}
 use Rattle.causal_clock.specs.Timeline.{Timeline, with_event}
-use Rattle.causal_audit.specs.Stands.{CanMirror, Mirrors}
+use Rattle.causal_audit.specs.Inside.Stands.{CanMirror, Mirrors}
 use Rattle.causal_audit.proofs.Legal.{restarts_few, entry_short}
 use Rattle.causal_audit.proofs.Shown.{send_inside, deliver_inside, restart_inside}
 use Rattle.causal_audit.proofs.Mirrored.{mirrors_event, mirrors_restart}

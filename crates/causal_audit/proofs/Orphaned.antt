@@ -12,8 +12,8 @@ use Rattle.causal_clock.specs.declared.Event.{Event}
 use Rattle.causal_clock.specs.Precedence as clock
 use Rattle.causal_audit.specs.declared.breach.Breach.{Breach}
 use Rattle.causal_audit.specs.Breaches.{IsFirstBreach}
-use Rattle.causal_audit.specs.Sights.{TellsNextReach}
-use Rattle.causal_audit.specs.Stands.{Stands}
+use Rattle.causal_audit.specs.Inside.Sights.{TellsNextReach}
+use Rattle.causal_audit.specs.Inside.Stands.{Stands}
 use Rattle.causal_audit.specs.Verdicts.{IsLeastOrphan}
 use Rattle.causal_trace.proofs.Lemmas.AtInstants.{instant_length, accepted_then, det_then}
 use Rattle.causal_audit.proofs.Legal.{delivery_event}

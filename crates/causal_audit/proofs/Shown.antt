@@ -17,7 +17,7 @@ use Rattle.causal_trace.specs.Past.{is_down, logs, has}
 use Rattle.causal_trace.specs.Rows.{AreAccepted, rows, first_fault}
 use Rattle.causal_trace.proofs.Lemmas.Accepted.{row_fails}
 use Rattle.causal_audit.specs.Verdicts.{HasMembers}
-use Rattle.causal_audit.specs.Sights.{Shows}
+use Rattle.causal_audit.specs.Inside.Sights.{Shows}
 
 same_number : (p q : ℕ) → (q == p) ≡ (p == q)
 same_number p q =

@@ -16,10 +16,10 @@ use Rattle.causal_clock.specs.declared.Event.{Event}
 use Rattle.causal_clock.specs.Timeline.{lane_of}
 use Rattle.causal_audit.specs.Laws.{gone}
 use Rattle.causal_audit.specs.Spread.{StaysUntil, AreSpreads, StaysAlone, CoveredHasNone}
-use Rattle.causal_audit.specs.Stands.{Stands}
-use Rattle.causal_audit.proofs.Happened.{event_once}
+use Rattle.causal_audit.specs.Inside.Stands.{Stands}
+use Rattle.causal_trace.proofs.Lemmas.Happened.{event_once}
 use Rattle.causal_trace.proofs.Lemmas.AtInstants.{instant_length, det_then}
-use Rattle.causal_audit.proofs.Judged.{exposed}
+use Rattle.causal_audit.proofs.Lemmas.Judged.{exposed}
 use Rattle.causal_audit.proofs.Legal.{delivery_event}
 use Rattle.causal_audit.proofs.Orphaned.{not_yet}
 use Rattle.causal_audit.proofs.Walked.{reaches_whole, event_whole}

@@ -10,7 +10,7 @@ use Rattle.causal_trace.specs.Past.{instant, entry_at, is_down}
 use Rattle.causal_trace.specs.Rows.{Recording, IsWellFormed}
 use Rattle.causal_trace.specs.State.{past_at, entries_of}
 use Rattle.causal_trace.proofs.Lemmas.Instants.{past_more}
-use Rattle.causal_audit.specs.Sights.{Shows}
+use Rattle.causal_audit.specs.Inside.Sights.{Shows}
 use Rattle.causal_holders.proofs.Lemmas.Counting.{count_below-none}
 use Rattle.causal_audit.proofs.Between.{next_entry}
 use Rattle.causal_trace.proofs.Lemmas.AtInstants.{read_instant, accepted_then}

@@ -19,7 +19,7 @@ use Rattle.causal_audit.specs.Lasting.{may_release}
 use Rattle.causal_audit.specs.Sweep.{MayNewlyFail, SweepLaw, OneNewOrphan}
 use Rattle.causal_audit.proofs.Dependence.{IsNoTurn, depends_before}
 use Rattle.causal_audit.proofs.Known.{depends_known}
-use Rattle.causal_audit.proofs.Judged.{exposed, unexposed, orphan_without}
+use Rattle.causal_audit.proofs.Lemmas.Judged.{exposed, unexposed, orphan_without}
 use Rattle.causal_audit.proofs.Lasting.{stable_more, gone_more}
 use Rattle.causal_audit.proofs.Legal.{sends_up}
 

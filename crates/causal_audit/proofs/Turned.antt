@@ -8,9 +8,9 @@ use Rattle.std.proofs.lemmas.Bool.{cases_lt, false_from_ne_true, ltb-true, ltb-f
 use Rattle.std.proofs.lemmas.List.{get_or_default}
 use Rattle.causal_trace.specs.declared.entry.Entry.{Entry}
 use Rattle.causal_trace.specs.Past.{instant, entry_at, is_down}
-use Rattle.causal_audit.specs.Filed.{AreTurns}
+use Rattle.causal_audit.specs.Inside.Filed.{AreTurns}
 use Rattle.causal_audit.specs.Quiet.{is_turn}
-use Rattle.causal_audit.specs.Sights.{Shows}
+use Rattle.causal_audit.specs.Inside.Sights.{Shows}
 use Rattle.causal_audit.proofs.Begun.{down_stays}
 use Rattle.causal_audit.proofs.Steps.{nobody_down}
 

@@ -2,7 +2,7 @@
 ghost use Rattle.std.specs.Prelude.{◌≤◌};
 ghost use Rattle.std.specs.List.Sorted.{IsNonDecreasing};
 ghost use Rattle.causal_audit.specs.declared.changes.Changes.{Changes};
-ghost use Rattle.causal_audit.specs.Ahead.{AreAhead, AreNoneUntil, HasNoneUntil, TellsMention};
+ghost use Rattle.causal_audit.specs.Inside.Ahead.{AreAhead, AreNoneUntil, HasNoneUntil, TellsMention};
 
 use crate::cursor::Cursor;
 

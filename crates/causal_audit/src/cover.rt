@@ -6,12 +6,12 @@ ghost use Rattle.causal_name.specs.declared.Det.{Det};
 ghost use Rattle.causal_trace.specs.declared.entry.Entry.{Entry};
 ghost use Rattle.causal_trace.specs.Judgement.{HasOrphan};
 ghost use Rattle.causal_trace.specs.Past.{det_at, has, instant, is_down, is_stable, logs};
-ghost use Rattle.causal_audit.specs.Ahead.{HasNoneUntil};
-ghost use Rattle.causal_audit.specs.Changes.{AreMentionsOf, HasMentions};
-ghost use Rattle.causal_audit.specs.Filed.{AreTurns};
+ghost use Rattle.causal_audit.specs.Inside.Ahead.{HasNoneUntil};
+ghost use Rattle.causal_audit.specs.Inside.Changes.{AreMentionsOf, HasMentions};
+ghost use Rattle.causal_audit.specs.Inside.Filed.{AreTurns};
 ghost use Rattle.causal_audit.specs.Lasting.{NoneReleasedFrom};
 ghost use Rattle.causal_audit.specs.Quiet.{mentioned_by};
-ghost use Rattle.causal_audit.specs.Sights.{Shows};
+ghost use Rattle.causal_audit.specs.Inside.Sights.{Shows};
 ghost use Rattle.causal_audit.specs.Spread.{LastsUntil, StaysUntil};
 
 use crate::cursor::Cursor;

@@ -1,7 +1,7 @@
 //! A walk over an ascending list of positions.
 ghost use Rattle.std.specs.Prelude.{◌≤◌, ◌<◌, Contains, List, ℕ};
 ghost use Rattle.std.specs.List.Sorted.{IsNonDecreasing};
-ghost use Rattle.causal_audit.specs.Ahead.{IsCursor, HasNoneUntil};
+ghost use Rattle.causal_audit.specs.Inside.Ahead.{IsCursor, HasNoneUntil};
 
 /// An ascending list of positions, and how many of them have been passed.
 #[derive(Clone, Copy)]

@@ -1,9 +1,10 @@
 //! The clock of a run. It has one event for each entry, so that an event's number is the entry's position; those of
 //! entries that are neither sends nor deliveries are idle, and tell nothing of the others.
-ghost use Rattle.std.specs.Prelude.{◌≡◌, ◌<◌, ◌∷◌, ℕ, List, OnOk, IfOk, IfErr, length, slice_index};
+ghost use Rattle.std.specs.Prelude.{◌≡◌, ◌<◌, ◌≤◌, ◌∷◌, ℕ, List, OnOk, IfOk, IfErr, length, slice_index};
 ghost use Rattle.causal_trace.specs.declared.entry.Entry.{Entry};
+ghost use Rattle.causal_trace.specs.Past.{instant};
 ghost use Rattle.causal_trace.specs.Rows.{AreAccepted};
-ghost use Rattle.causal_audit.specs.Stands.{CanMirror, Mirrors, Stands};
+ghost use Rattle.causal_audit.specs.Inside.Stands.{CanMirror, Mirrors, Stands};
 
 use causal_clock::{ClockFault, Clocks};
 use causal_name::NoMemory;
@@ -58,9 +59,10 @@ fn first_lanes(alloc: Global, n: u16) -> Result<Vec<u32>, NoMemory>
     Ok(lanes)
 }
 
-/// The clock of a whole run.
-pub fn clocks_of(alloc: Global, trace: &Trace) -> Result<Clocks, NoMemory>
-    ensures { IfOk result (λ clocks. Stands trace.now.recording.past clocks.events) }
+/// The clock of a run up to the instant `end`.
+pub fn clocks_until(alloc: Global, trace: &Trace, end: u32) -> Result<Clocks, NoMemory>
+    requires { end ≤ length trace.now.recording.past }
+    ensures { IfOk result (λ clocks. Stands (instant trace.now.recording.past end) clocks.events) }
 {
     let _formed = trace.len();
     let n = trace.processes();
@@ -68,10 +70,17 @@ pub fn clocks_of(alloc: Global, trace: &Trace) -> Result<Clocks, NoMemory>
         return Err(NoMemory);
     };
     let mut present = first_lanes(alloc, n)?;
-    for entry in trace.entries() {
+    for entry in &trace.entries()[..end as usize] {
         if note(entry, &mut clocks, present.as_mut_slice()).is_err() {
             return Err(NoMemory);
         }
     }
     Ok(clocks)
+}
+
+/// The clock of a whole run.
+pub fn clocks_of(alloc: Global, trace: &Trace) -> Result<Clocks, NoMemory>
+    ensures { IfOk result (λ clocks. Stands trace.now.recording.past clocks.events) }
+{
+    clocks_until(alloc, trace, trace.len())
 }

@@ -3,7 +3,7 @@ ghost use Rattle.std.specs.Prelude.{◌≡◌, ◌∷◌, true, false, List};
 ghost use Rattle.causal_trace.specs.declared.entry.Entry.{Entry};
 ghost use Rattle.causal_trace.specs.Past.{has, logs};
 ghost use Rattle.causal_audit.specs.Quiet.{mentioned_by};
-ghost use Rattle.causal_audit.specs.Sights.{Shows};
+ghost use Rattle.causal_audit.specs.Inside.Sights.{Shows};
 
 use crate::sight::{with, without};
 use causal_holders::Holders;

@@ -9,27 +9,15 @@ ghost use Rattle.causal_audit.specs.declared.verdict.Verdict.{Verdict};
 ghost use Rattle.causal_audit.specs.declared.breach.Breach.{Breach};
 
 use crate::breach::{Breach, Excess, earlier};
-use crate::sight::down_after;
+use crate::excess::{deciding_in, first_excess_in};
 use crate::tables::Tables;
 use crate::verdict::Verdict;
-use causal_holders::Holders;
 
 /// The first instant with more than f processes down, with these processes; None where there is none.
 pub fn first_excess(tables: &Tables, f: u16) -> Option<Excess>
     ensures { FirstExcess tables.now f result }
 {
-    let entries = tables.recorded();
-    let mut down = Holders::none();
-    for t in 0..tables.entries() {
-        down = down_after(down, &entries[t as usize]);
-        if down.len() > u32::from(f) {
-            return Some(Excess {
-                instant: t + 1,
-                down,
-            });
-        }
-    }
-    None
+    first_excess_in(tables.trace(), f)
 }
 
 /// The last instant that can decide: that of the first excess, or the last of the run.
@@ -37,10 +25,7 @@ pub fn deciding(tables: &Tables, excess: &Option<Excess>) -> u32
     ensures value { result ≡ deciding (length tables.now.past) excess.now }
     ensures within { (f : ℕ) → FirstExcess tables.now f excess.now → result ≤ length tables.now.past }
 {
-    match excess {
-        Some(first) => first.instant,
-        None => tables.entries(),
-    }
+    deciding_in(tables.trace(), excess)
 }
 
 /// How the delivery of number i first has an orphan, if it has one by the instant `end`.

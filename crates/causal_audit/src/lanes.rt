@@ -10,7 +10,7 @@ ghost use Rattle.causal_trace.specs.Rows.{IsWellFormed};
 ghost use Rattle.causal_trace.specs.State.{past_at};
 ghost use Rattle.causal_clock.specs.declared.Event.{Event};
 ghost use Rattle.causal_clock.specs.Timeline.{lane_of};
-ghost use Rattle.causal_audit.specs.Filed.{Ascends, AreLanes, AreFirsts, IsFirstReached, list_at};
+ghost use Rattle.causal_audit.specs.Inside.Filed.{Ascends, AreLanes, AreFirsts, IsFirstReached, list_at};
 
 use crate::lists::{add_to, empty_lists};
 use causal_clock::Clocks;

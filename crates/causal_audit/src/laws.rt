@@ -1,4 +1,5 @@
 //! Laws over the judgement of recorded runs. Each function does nothing: what it ensures is the law.
+ghost use Rattle.causal_audit.specs.Courses.{LeastUpTo};
 ghost use Rattle.causal_audit.specs.Held.{SafeIsHeld};
 ghost use Rattle.causal_audit.specs.Lasting.{OrphansEnd};
 ghost use Rattle.causal_audit.specs.Quiet.{InstantsAgree, OrphansAgree};
@@ -64,4 +65,9 @@ pub fn sweep_law()
 pub fn covered_deliveries()
     ensures alone { StaysAlone }
     ensures covered { CoveredHasNone }
+{}
+
+/// What a run up to one of its instants tells of its least breach, it tells of the whole run up to that instant.
+pub fn runs_up_to()
+    ensures { LeastUpTo }
 {}

@@ -1,15 +1,18 @@
 //! The judgement of recorded runs: is each delivery's determinant safe from f crashes at every instant?
 //!
 //! `Tables::of` prepares a trace, and `judge` gives its verdict for f. `first_excess`, `least_by` and `decided` are the
-//! steps of that, for a caller that divides the deliveries; `first_breach` judges one of them. `laws` states what the
-//! judgement rests on.
+//! steps of that; `first_breach` judges one delivery. For a caller that divides the deliveries, `Course::of` prepares a trace
+//! up to an instant, and `least_swept` reads its entries once for a part of them. `laws` states what the judgement rests on.
 #![tactic(auto)]
 
 pub mod breach;
 mod changes;
+pub mod course;
 mod cover;
 mod cursor;
+mod effects;
 mod events;
+pub mod excess;
 mod holding;
 pub mod judging;
 mod lanes;
@@ -18,15 +21,22 @@ mod lists;
 mod mentions;
 mod numbering;
 mod orphans;
-pub mod plain;
 mod releases;
+mod rising;
+pub mod room;
+mod sharing;
 mod sight;
 mod spreads;
+pub mod sweep;
 pub mod tables;
 mod turns;
 pub mod verdict;
 
 pub use breach::{Breach, Excess, earlier};
+pub use course::Course;
+pub use excess::{deciding_in, first_excess_in};
 pub use judging::{decided, deciding, first_breach, first_excess, judge, least_between, least_by};
+pub use room::Room;
+pub use sweep::least_swept;
 pub use tables::Tables;
 pub use verdict::Verdict;

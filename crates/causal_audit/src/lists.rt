@@ -1,7 +1,7 @@
 //! Numbered lists of positions.
 ghost use Rattle.std.specs.Prelude.{◌≡◌, ◌<◌, [], IfOk, OnOk, map, vec_len};
 ghost use Rattle.std.specs.List.{All};
-ghost use Rattle.causal_audit.specs.Filed.{with_added};
+ghost use Rattle.causal_audit.specs.Inside.Filed.{with_added};
 
 use causal_name::NoMemory;
 use std::alloc::Global;

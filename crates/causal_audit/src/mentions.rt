@@ -6,7 +6,7 @@ ghost use Rattle.causal_trace.specs.declared.entry.Entry.{Entry};
 ghost use Rattle.causal_trace.specs.Limits.{max_entries};
 ghost use Rattle.causal_trace.specs.State.{past_at};
 ghost use Rattle.causal_audit.specs.Quiet.{mentioned_by};
-ghost use Rattle.causal_audit.specs.Filed.{Ascends, AreMentions, AreMentionsWith, AreNumbered, mentions_of, number_of};
+ghost use Rattle.causal_audit.specs.Inside.Filed.{Ascends, AreMentions, AreMentionsWith, AreNumbered, mentions_of, number_of};
 
 use crate::lists::add_to;
 use crate::numbering::Numbering;
@@ -85,7 +85,7 @@ impl Mentions {
 }
 
 /// The determinants that an entry lists or writes to stable storage.
-fn mentioned(entry: &Entry) -> &[Det]
+pub fn mentioned(entry: &Entry) -> &[Det]
     ensures { result.now ≡ mentioned_by entry.now }
 {
     match entry {

@@ -1,7 +1,7 @@
 //! Numbers for determinants, found by chains, so that no input makes a search long.
 ghost use Rattle.std.specs.Prelude.{◌≡◌, ◌<◌, ◌∷◌, [], ℕ, Some, None, IfOk, OnOk, OnErr, if◌then◌else◌, length, map, reverse, replicate, slice_index_or};
 ghost use Rattle.causal_name.specs.declared.Det.{Det};
-ghost use Rattle.causal_audit.specs.Filed.{number_of};
+ghost use Rattle.causal_audit.specs.Inside.Filed.{number_of};
 ghost use Rattle.causal_audit.specs.Inside.Index.{HasHead, IsBelow, LeadDown, head_of, is_kin, sought};
 
 use causal_name::{Det, NoMemory};

@@ -4,13 +4,13 @@ ghost use Rattle.causal_name.specs.declared.Det.{Det};
 ghost use Rattle.causal_trace.specs.declared.entry.Entry.{Entry};
 ghost use Rattle.causal_trace.specs.Past.{det_at};
 ghost use Rattle.causal_trace.specs.Rows.{AreAccepted};
-ghost use Rattle.causal_audit.specs.BreachAt.{BreachAt};
+ghost use Rattle.causal_audit.specs.Inside.BreachAt.{BreachAt};
 ghost use Rattle.causal_audit.specs.Breaches.{FirstBreachBy};
-ghost use Rattle.causal_audit.specs.Changes.{AreChanges};
-ghost use Rattle.causal_audit.specs.Filed.{AreTurns};
+ghost use Rattle.causal_audit.specs.Inside.Changes.{AreChanges};
+ghost use Rattle.causal_audit.specs.Inside.Filed.{AreTurns};
 ghost use Rattle.causal_audit.specs.Lasting.{NoneReleasedFrom};
-ghost use Rattle.causal_audit.specs.Sights.{IsSight};
-ghost use Rattle.causal_audit.specs.Stands.{Stands};
+ghost use Rattle.causal_audit.specs.Inside.Sights.{IsSight};
+ghost use Rattle.causal_audit.specs.Inside.Stands.{Stands};
 
 use crate::breach::Breach;
 use crate::changes::Changes;
@@ -31,7 +31,7 @@ pub struct Run<'a> {
 }
 
 /// How the delivery at position k has an orphan at the instant t; None where it has none. It has none before it is made.
-fn breach_at(sight: &Sight, f: u16, k: u32, t: u32) -> Option<Breach>
+pub fn breach_at(sight: &Sight, f: u16, k: u32, t: u32) -> Option<Breach>
     ensures { (n : ℕ) (past : List Entry) (d : Det) → AreAccepted n past → length past ≡ t → (k < t → det_at past k ≡ Some d) →
         IsSight past k d sight.now → BreachAt n f past k t result }
 {

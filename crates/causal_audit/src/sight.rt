@@ -9,7 +9,7 @@ ghost use Rattle.causal_trace.specs.Rows.{AreAccepted};
 ghost use Rattle.causal_trace.specs.Judgement.{HasOrphan};
 ghost use Rattle.causal_audit.specs.Lasting.{IsOverAt};
 ghost use Rattle.causal_audit.specs.Quiet.{mentioned_by};
-ghost use Rattle.causal_audit.specs.Sights.{AreDependents, IsSight, IsUnheard, Shows, TellsNextReach};
+ghost use Rattle.causal_audit.specs.Inside.Sights.{AreDependents, IsSight, IsUnheard, Shows, TellsNextReach};
 ghost use Rattle.causal_audit.specs.Verdicts.{IsLeastOrphan};
 
 use crate::holding::holders_after;

@@ -4,7 +4,7 @@ ghost use Rattle.causal_trace.specs.Limits.{max_entries};
 ghost use Rattle.causal_trace.specs.Rows.{Recording, IsWellFormed};
 ghost use Rattle.causal_trace.specs.State.{entries_of};
 ghost use Rattle.causal_audit.specs.Spread.{AreSpreads, spread_at, with_delivered};
-ghost use Rattle.causal_audit.specs.Stands.{Stands};
+ghost use Rattle.causal_audit.specs.Inside.Stands.{Stands};
 
 use crate::lanes::LANES;
 use causal_clock::Clocks;

@@ -4,7 +4,7 @@ ghost use Rattle.causal_trace.specs.declared.entry.Entry.{Entry};
 ghost use Rattle.causal_trace.specs.Limits.{max_entries};
 ghost use Rattle.causal_trace.specs.Past.{deliveries_in, det_at};
 ghost use Rattle.causal_trace.specs.Rows.{IsWellFormed};
-ghost use Rattle.causal_trace.specs.State.{entries_of, past_at};
+ghost use Rattle.causal_trace.specs.State.{past_at};
 ghost use Rattle.causal_audit.specs.Breaches.{FirstBreachBy};
 ghost use Rattle.causal_audit.specs.Numbers.{IsNumbered, ArePositions};
 
@@ -43,7 +43,7 @@ pub struct Tables {
 impl Model for Tables {
     ghost use Rattle.std.specs.Prelude.{map};
     ghost use Rattle.causal_trace.specs.Rows.{Recording};
-    ghost use Rattle.causal_audit.specs.Stored.{AreIndexes, AreTables};
+    ghost use Rattle.causal_audit.specs.Inside.Stored.{AreIndexes, AreTables};
 
     ghost Value = { Recording };
 
@@ -108,11 +108,11 @@ impl Tables {
         self.positions[i as usize]
     }
 
-    /// The entries in the order in which they came.
-    pub(crate) fn recorded(&self) -> &[Entry]
-        ensures { result.now ≡ entries_of self.now }
+    /// The trace that they are of.
+    pub(crate) fn trace(&self) -> &Trace
+        ensures { result.now.recording ≡ self.now }
     {
-        self.trace.entries()
+        &self.trace
     }
 
     /// The determinant of the delivery at a position; None where there is no delivery.
@@ -162,7 +162,7 @@ fn note(positions: &mut Vec<u32>, entry: &Entry, i: u32) -> Result<(), NoMemory>
 }
 
 /// The positions of the deliveries, in order.
-fn positions_of(alloc: Global, entries: &[Entry]) -> Result<Vec<u32>, NoMemory>
+pub fn positions_of(alloc: Global, entries: &[Entry]) -> Result<Vec<u32>, NoMemory>
     requires { length entries.now ≤ max_entries }
     ensures { IfOk result (λ positions. ArePositions (past_at entries.now (length entries.now)) positions.items) }
 {

@@ -6,8 +6,8 @@ ghost use Rattle.causal_trace.specs.Limits.{max_entries};
 ghost use Rattle.causal_trace.specs.Past.{instant, is_down};
 ghost use Rattle.causal_trace.specs.State.{past_at};
 ghost use Rattle.causal_audit.specs.Quiet.{is_turn};
-ghost use Rattle.causal_audit.specs.Filed.{AreTurns};
-ghost use Rattle.causal_audit.specs.Sights.{Shows};
+ghost use Rattle.causal_audit.specs.Inside.Filed.{AreTurns};
+ghost use Rattle.causal_audit.specs.Inside.Sights.{Shows};
 
 use crate::sight::down_after;
 use causal_holders::Holders;

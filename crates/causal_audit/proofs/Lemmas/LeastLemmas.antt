@@ -176,3 +176,13 @@ module _ (r : Recording) (f : ℕ) where
   pub least_whole : (from to : ℕ) (found : Option Breach) → LeastBreachBy r f (length r.past) from to found → LeastBreach r f from to found
   least_whole from to None none = none
   least_whole from to (Some b) least = least.1
+
+  pub least_bounded : (from to : ℕ) (found : Option Breach) → LeastBreach r f from to found → LeastBreachBy r f (length r.past) from to found
+  least_bounded from to None none = none
+  least_bounded from to (Some b) least = (least.first.within, least)
+
+  -- of two neighbouring parts that are known to the end of the run
+  pub least_of_both : (from mid to : ℕ) (one other : Option Breach) → from ≤ mid → mid ≤ to → LeastBreach r f from mid one → LeastBreach r f mid to other → LeastBreach r f from to (earlier one other)
+  least_of_both from mid to one other low high first second =
+      least_whole from to (earlier one other)
+      (least_joined (length r.past) (length r.past) from mid to one other (horizon_within (length r.past) from mid one (least_bounded from mid one first)) (omega arith) low high (least_bounded from mid one first) (least_bounded mid to other second))

@@ -5,7 +5,7 @@ use Rattle.std.specs.Prelude.{◌≡◌, ℕ, ◌<◌, Bool, false, ◌==◌, if
 use Rattle.std.specs.Option.{option_map_or}
 use Rattle.causal_name.specs.declared.Det.{Det}
 use Rattle.causal_name.specs.Names.{message_of, same_det, same_message}
-use Rattle.causal_audit.specs.Filed.{number_of}
+use Rattle.causal_audit.specs.Inside.Filed.{number_of}
 use Rattle.causal_audit.specs.declared.numbering.Node.{Node}
 
 -- the heads of each sender, by the numbers of its messages

@@ -1,4 +1,4 @@
-use Rattle.std.proofs.Common.{ℕ, ◌≡◌, ◌∷◌, ◌+◌, ◌<◌, ◌≤◌, inl, inr, true, false, length, sym, ap, subst, ◌∙◌, arith}
+use Rattle.std.proofs.Common.{ℕ, ◌≡◌, ◌∷◌, ◌+◌, ◌<◌, ◌≤◌, inl, inr, true, length, sym, ap, subst, ◌∙◌, arith}
 use Rattle.std.specs.Prelude.{Contains}
 use Rattle.std.specs.FinSet.{len}
 use Rattle.std.proofs.lemmas.Bool.{cases_lt}
@@ -6,8 +6,8 @@ use Rattle.causal_trace.specs.Judgement.{HasOrphan}
 use Rattle.causal_name.specs.Sets.{count_below}
 use Rattle.causal_trace.specs.Past.{instant, is_down, is_stable, logs}
 use Rattle.causal_audit.specs.Laws.{gone}
-use Rattle.causal_audit.specs.Ahead.{IsCursor, HasNoneUntil}
-use Rattle.causal_audit.specs.Sights.{Shows}
+use Rattle.causal_audit.specs.Inside.Ahead.{IsCursor, HasNoneUntil}
+use Rattle.causal_audit.specs.Inside.Sights.{Shows}
 use Rattle.causal_audit.proofs.Begun.{unheard_until}
 use Rattle.causal_audit.proofs.Covering.{none_sooner, none_until, downs_until, holds_until, gone_many, mentioned_next}
 use Rattle.causal_audit.proofs.Cursors.{cursor_later}

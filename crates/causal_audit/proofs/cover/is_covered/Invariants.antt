@@ -1,8 +1,8 @@
 use Rattle.std.proofs.Common.{ℕ, ◌<◌, ◌≤◌, ◌-◌, length}
 use Rattle.causal_trace.specs.Judgement.{HasOrphan}
 use Rattle.causal_trace.specs.Past.{instant, is_down, logs}
-use Rattle.causal_audit.specs.Ahead.{IsCursor}
-use Rattle.causal_audit.specs.Sights.{Shows}
+use Rattle.causal_audit.specs.Inside.Ahead.{IsCursor}
+use Rattle.causal_audit.specs.Inside.Sights.{Shows}
 use Rattle.causal_audit.proofs.cover.is_covered.Given as goal
 
 abbrev pub invariant-loop-t : goal.invariant-loop-t

@@ -2,7 +2,7 @@ use Rattle.std.proofs.Common.{◌≡◌, ◌<◌, [], ℕ, List, Vec, Global, le
 use Rattle.std.proofs.lemmas.List.Elements.{All-map}
 use Rattle.causal_trace.specs.State.{past_at}
 use Rattle.causal_trace.proofs.Lemmas.Instants.{past_more, past_length}
-use Rattle.causal_audit.specs.Filed.{AreLanes}
+use Rattle.causal_audit.specs.Inside.Filed.{AreLanes}
 use Rattle.causal_audit.proofs.Filings.{lanes_none}
 use Rattle.causal_audit.proofs.lanes.lanes_of.Goals as goal
 

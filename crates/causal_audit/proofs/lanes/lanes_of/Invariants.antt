@@ -1,6 +1,6 @@
 use Rattle.std.proofs.Common.{◌≡◌, map, vec_len}
 use Rattle.causal_trace.specs.State.{past_at}
-use Rattle.causal_audit.specs.Filed.{AreLanes}
+use Rattle.causal_audit.specs.Inside.Filed.{AreLanes}
 use Rattle.causal_audit.proofs.lanes.lanes_of.Given as goal
 
 -- those of the entries so far

@@ -2,7 +2,7 @@ use Rattle.std.proofs.Common.{◌<◌, ◌∷◌, length, map, sym, ap, subst, �
 use Rattle.std.proofs.lemmas.List.{length-map}
 use Rattle.causal_trace.specs.Dependence.{actor}
 use Rattle.causal_clock.specs.Timeline.{lane_of}
-use Rattle.causal_audit.specs.Filed.{AreLanes, with_added}
+use Rattle.causal_audit.specs.Inside.Filed.{AreLanes, with_added}
 use Rattle.causal_audit.proofs.Filings.{lanes_more, lanes_same, has_actor, no_actor, on_ok}
 use Rattle.causal_audit.proofs.lanes.note_event.Goals as goal
 

@@ -4,7 +4,7 @@ use Rattle.std.proofs.Math.ListN.{set}
 use Rattle.std.proofs.lemmas.Bool.Decides.{eqb_tells}
 use Rattle.std.proofs.lemmas.List.{get_or-map, length-map, get_or-set_same, get_or-set_other}
 use Rattle.std.proofs.lemmas.List.Sorted.{IsNonDecreasingBy-from_sort}
-use Rattle.causal_audit.specs.Filed.{Ascends, IsFirstReached, list_at}
+use Rattle.causal_audit.specs.Inside.Filed.{Ascends, IsFirstReached, list_at}
 use Rattle.causal_audit.proofs.Firsts.{firsts_from}
 use Rattle.causal_audit.proofs.lanes.write_firsts.Goals as goal
 

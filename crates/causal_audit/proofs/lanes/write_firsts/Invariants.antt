@@ -1,5 +1,5 @@
 use Rattle.std.proofs.Common.{ℕ, ◌<◌, map, get_or}
-use Rattle.causal_audit.specs.Filed.{IsFirstReached, list_at}
+use Rattle.causal_audit.specs.Inside.Filed.{IsFirstReached, list_at}
 use Rattle.causal_audit.proofs.lanes.write_firsts.Given as goal
 
 abbrev pub invariant-loop-m : goal.invariant-loop-m

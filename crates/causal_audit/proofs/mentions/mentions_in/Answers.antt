@@ -1,7 +1,7 @@
 use Rattle.std.proofs.Common.{◌<◌, length, map, sym, subst, arith}
 use Rattle.causal_trace.specs.State.{past_at}
 use Rattle.causal_trace.proofs.Lemmas.Instants.{past_more, past_length}
-use Rattle.causal_audit.specs.Filed.{AreMentions}
+use Rattle.causal_audit.specs.Inside.Filed.{AreMentions}
 use Rattle.causal_audit.proofs.mentions.mentions_in.Goals as goal
 
 pub loop-i-preserved : goal.loop-i-preserved

@@ -1,6 +1,6 @@
 use Rattle.std.proofs.Common.{map}
 use Rattle.causal_trace.specs.State.{past_at}
-use Rattle.causal_audit.specs.Filed.{AreMentions}
+use Rattle.causal_audit.specs.Inside.Filed.{AreMentions}
 use Rattle.causal_audit.proofs.mentions.mentions_in.Given as goal
 
 -- those of the entries so far

@@ -1,4 +1,4 @@
-use Rattle.std.proofs.Common.{Vec, Global, Option, ℕ, ◌≡◌, ◌<◌, [], List, Some, length, map, get_or, set, sym, ap, ◌∙◌, arith}
+use Rattle.std.proofs.Common.{Vec, Global, Option, ℕ, ◌≡◌, ◌<◌, [], List, Some, length, map, set, sym, ap, ◌∙◌, arith}
 use Rattle.std.specs.Vec.{with_item}
 use Rattle.std.proofs.lemmas.List.{map-set, get_or-map, length-map}
 use Rattle.causal_audit.specs.Inside.Index.{head_of, heads_of}

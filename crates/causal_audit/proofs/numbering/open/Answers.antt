@@ -1,4 +1,4 @@
-use Rattle.std.proofs.Common.{Vec, Global, Option, ℕ, ◌≡◌, ◌<◌, [], List, None, length, map, get_or, set, refl, sym, ap, subst, ◌∙◌, arith}
+use Rattle.std.proofs.Common.{Vec, Global, Option, ℕ, ◌≡◌, ◌<◌, [], List, None, length, map, get_or, refl, sym, ap, subst, ◌∙◌, arith}
 use Rattle.std.proofs.lemmas.Bool.{cond-true, eq-eqb}
 use Rattle.std.proofs.lemmas.List.{map-set, get_or-map, length-map, length-set}
 use Rattle.causal_audit.specs.Inside.Index.{HasHead, head_of, heads_of}

@@ -4,10 +4,10 @@ use Rattle.std.proofs.lemmas.Bool.{cases_lt, leb-true}
 use Rattle.causal_trace.specs.Past.{instant, det_at, has}
 use Rattle.causal_trace.specs.Judgement.{HasOrphan}
 use Rattle.causal_trace.proofs.Lemmas.Reached.{event_below}
-use Rattle.causal_audit.specs.Ahead.{AreNoneUntil}
+use Rattle.causal_audit.specs.Inside.Ahead.{AreNoneUntil}
 use Rattle.causal_audit.specs.Lasting.{IsOver}
 use Rattle.causal_audit.specs.Quiet.{AreQuiet, mentioned_by}
-use Rattle.causal_audit.specs.Sights.{IsSight}
+use Rattle.causal_audit.specs.Inside.Sights.{IsSight}
 use Rattle.causal_audit.proofs.Begun.{unheard_until}
 use Rattle.causal_audit.proofs.Between.{still_none}
 use Rattle.causal_audit.proofs.Changed.{quiet_until, seen_at}

@@ -1,8 +1,8 @@
 use Rattle.std.proofs.Common.{ℕ, ◌≤◌, ◌-◌, length}
 use Rattle.causal_trace.specs.Past.{instant}
 use Rattle.causal_trace.specs.Judgement.{HasOrphan}
-use Rattle.causal_audit.specs.Ahead.{AreAhead}
-use Rattle.causal_audit.specs.Sights.{IsSight}
+use Rattle.causal_audit.specs.Inside.Ahead.{AreAhead}
+use Rattle.causal_audit.specs.Inside.Sights.{IsSight}
 use Rattle.causal_audit.proofs.orphans.first_orphan.Given as goal
 
 abbrev pub invariant-loop-t : goal.invariant-loop-t

@@ -1,7 +1,7 @@
 use Rattle.std.proofs.Common.{◌≡◌, ◌≤◌, length}
 use Rattle.causal_trace.specs.Rows.{Recording, IsWellFormed}
 use Rattle.causal_trace.specs.State.{entries_of}
-use Rattle.causal_audit.specs.Stands.{Stands}
+use Rattle.causal_audit.specs.Inside.Stands.{Stands}
 use Rattle.causal_audit.proofs.Outward.{AreSpreadsFrom}
 use Rattle.causal_audit.proofs.spreads.spreads_of.Given as goal
 

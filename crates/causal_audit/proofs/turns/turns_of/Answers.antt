@@ -2,8 +2,8 @@ use Rattle.std.proofs.Common.{◌≡◌, ◌∷◌, ◌+◌, ◌<◌, [], length
 use Rattle.causal_trace.specs.Past.{is_down}
 use Rattle.causal_trace.specs.State.{past_at}
 use Rattle.causal_trace.proofs.Lemmas.Instants.{past_more, past_length}
-use Rattle.causal_audit.specs.Filed.{AreTurns}
-use Rattle.causal_audit.specs.Sights.{Shows}
+use Rattle.causal_audit.specs.Inside.Filed.{AreTurns}
+use Rattle.causal_audit.specs.Inside.Sights.{Shows}
 use Rattle.causal_audit.proofs.Shown.{shows_none}
 use Rattle.causal_audit.proofs.Turned.{turns_none}
 use Rattle.causal_audit.proofs.turns.turns_of.Goals as goal

@@ -1,7 +1,7 @@
 use Rattle.causal_trace.specs.Past.{is_down}
 use Rattle.causal_trace.specs.State.{past_at}
-use Rattle.causal_audit.specs.Filed.{AreTurns}
-use Rattle.causal_audit.specs.Sights.{Shows}
+use Rattle.causal_audit.specs.Inside.Filed.{AreTurns}
+use Rattle.causal_audit.specs.Inside.Sights.{Shows}
 use Rattle.causal_audit.proofs.turns.turns_of.Given as goal
 
 -- those of the entries so far, and who is down after these

@@ -1,6 +1,6 @@
 use Rattle.std.proofs.Common.{◌∷◌, ◌++◌, [], map, sym, ap, subst, ◌∙◌, arith}
 use Rattle.std.proofs.lemmas.List.{length-map}
-use Rattle.causal_audit.specs.Filed.{AreMentionsWith, with_added}
+use Rattle.causal_audit.specs.Inside.Filed.{AreMentionsWith, with_added}
 use Rattle.causal_audit.proofs.Filings.{on_ok}
 use Rattle.causal_audit.proofs.Mentioned.{number_below, mentions_more, mentions_alike}
 use Rattle.causal_audit.proofs.mentions.Mentions.add.Goals as goal

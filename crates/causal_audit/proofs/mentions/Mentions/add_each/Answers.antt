@@ -1,6 +1,6 @@
 use Rattle.std.proofs.Common.{◌<◌, length, map, take, sym, subst}
 use Rattle.std.proofs.lemmas.List.{take_more}
-use Rattle.causal_audit.specs.Filed.{AreMentionsWith}
+use Rattle.causal_audit.specs.Inside.Filed.{AreMentionsWith}
 use Rattle.causal_audit.proofs.mentions.Mentions.add_each.Goals as goal
 
 pub loop-det-preserved : goal.loop-det-preserved

@@ -1,6 +1,6 @@
 use Rattle.std.proofs.Common.{◌≡◌, List, [], length, map, take}
 use Rattle.causal_trace.specs.declared.entry.Entry.{Entry}
-use Rattle.causal_audit.specs.Filed.{AreMentionsWith, AreNumbered}
+use Rattle.causal_audit.specs.Inside.Filed.{AreMentionsWith, AreNumbered}
 use Rattle.causal_audit.proofs.mentions.Mentions.add_each.Given as goal
 
 -- the determinants so far have it

@@ -2,7 +2,7 @@ use Rattle.std.proofs.Common.{◌≡◌, ◌<◌, [], ℕ, Vec, Global, List, le
 use Rattle.std.specs.Prelude.{Some}
 use Rattle.std.specs.Option.{option_map_or}
 use Rattle.std.proofs.lemmas.List.{get_or-map, length-map}
-use Rattle.causal_audit.specs.Filed.{list_at, number_of}
+use Rattle.causal_audit.specs.Inside.Filed.{list_at, number_of}
 use Rattle.causal_audit.proofs.Mentioned.{number_below}
 use Rattle.causal_audit.proofs.mentions.Mentions.list.Goals as goal
 

@@ -1,7 +1,7 @@
 use Rattle.std.proofs.Common.{ℕ, ◌≡◌, ◌∷◌, ◌++◌, [], Vec, Global, List, map, None, sym, ap, subst, ◌∙◌}
 use Rattle.std.specs.List.{All}
 use Rattle.std.proofs.lemmas.List.{map-append}
-use Rattle.causal_audit.specs.Filed.{Ascends, AreNumbered, mentions_of, number_of}
+use Rattle.causal_audit.specs.Inside.Filed.{Ascends, AreNumbered, mentions_of, number_of}
 use Rattle.causal_audit.proofs.Mentioned.{new_numbered, new_same, new_ascend}
 use Rattle.causal_audit.proofs.mentions.Mentions.number.Goals as goal
 

@@ -4,8 +4,8 @@ use Rattle.std.specs.List.{All}
 use Rattle.std.specs.List.Sorted.{IsNonDecreasing}
 use Rattle.std.proofs.lemmas.List.{get_or_default}
 use Rattle.causal_trace.specs.Past.{det_at}
-use Rattle.causal_audit.specs.Changes.{AreMentionsOf, HasMentions, HasTurns}
-use Rattle.causal_audit.specs.Filed.{Ascends, AreFirsts, list_at}
+use Rattle.causal_audit.specs.Inside.Changes.{AreMentionsOf, HasMentions, HasTurns}
+use Rattle.causal_audit.specs.Inside.Filed.{Ascends, AreFirsts, list_at}
 use Rattle.causal_audit.proofs.Firsts.{firsts_listed}
 use Rattle.causal_trace.proofs.Lemmas.AtInstants.{det_within}
 use Rattle.causal_audit.proofs.Mentioned.{mentions_ascend}

@@ -1,0 +1,50 @@
+use Rattle.std.proofs.Common.{ℕ, List, length, ◌≡◌, ◌+◌, ◌<◌, ◌∷◌, ◌≤◌, arith, sym, subst}
+use Rattle.causal_name.specs.Sets.{count_below}
+use Rattle.causal_trace.specs.Past.{instant, is_down}
+use Rattle.causal_trace.specs.declared.entry.Entry.{Entry}
+use Rattle.causal_trace.specs.Rows.{Recording}
+use Rattle.causal_trace.specs.State.{entries_of}
+use Rattle.causal_audit.specs.Inside.Sights.{Shows}
+use Rattle.causal_trace.proofs.Lemmas.AtInstants.{accepted_then}
+use Rattle.causal_audit.proofs.Shown.{down_members}
+use Rattle.causal_audit.proofs.Steps.{how_many, next_state, nobody_down, down_count, few_at_first, up_to_next}
+use Rattle.causal_audit.proofs.excess.first_excess_in.Goals as goal
+
+below : (r : Recording) (es : List Entry) (t : ℕ) → es ≡ entries_of r → t < length es → t < length r.past
+below r es t read there = omega (arith, there, how_many r es read)
+
+pub loop-t-init : goal.loop-t-init
+loop-t-init c = record {
+  down = rw c.none-down.ensures (nobody_down c.args.trace.now.recording.past);
+  before = λ u h. few_at_first c.args.trace.now.recording c.args.f u h;
+}
+
+pub returns-then-len-from : goal.returns-then-len-from
+returns-then-len-from c =
+    let r = c.args.trace.now.recording in
+    let t = c.loop-t.t in
+    let next : instant r.past (t + 1) ≡ c.index-recorded-t.result ∷ instant r.past t = next_state r c.entries-recorded.result.now c.entries-recorded.ensures t c.index-recorded-t.result (below r c.entries-recorded.result.now t c.entries-recorded.ensures c.loop-t-test.true) c.index-recorded-t.is in
+    let shown : Shows c.down_after-down.result (λ p. is_down (instant r.past (t + 1)) p) = subst (λ q. Shows c.down_after-down.result (λ p. is_down q p)) (sym next) (c.down_after-down.ensures (instant r.past t) c.loop-t.invariant.down) in
+    record {
+      within = omega (arith, below r c.entries-recorded.result.now t c.entries-recorded.ensures c.loop-t-test.true);
+      before = λ u h. c.loop-t.invariant.before u (omega (arith, h));
+      excess = record {
+        many = omega (arith, c.if-len-from.true, c.len.ensures.counted, c.from.ensures, down_count r c.len-formed.ensures.formed (t + 1) c.down_after-down.result shown);
+        members = down_members r.processes (instant r.past (t + 1)) c.down_after-down.result (accepted_then r.processes r.past (t + 1) c.len-formed.ensures.formed.accepted) shown;
+      };
+    }
+
+pub loop-t-preserved : goal.loop-t-preserved
+loop-t-preserved c =
+    let r = c.args.trace.now.recording in
+    let t = c.loop-t.t in
+    let next : instant r.past (t + 1) ≡ c.index-recorded-t.result ∷ instant r.past t = next_state r c.entries-recorded.result.now c.entries-recorded.ensures t c.index-recorded-t.result (below r c.entries-recorded.result.now t c.entries-recorded.ensures c.loop-t-test.true) c.index-recorded-t.is in
+    let shown : Shows c.down_after-down.result (λ p. is_down (instant r.past (t + 1)) p) = subst (λ q. Shows c.down_after-down.result (λ p. is_down q p)) (sym next) (c.down_after-down.ensures (instant r.past t) c.loop-t.invariant.down) in
+    record {
+      down = shown;
+      before = up_to_next (λ u. count_below r.processes (is_down (instant r.past u)) ≤ c.args.f) t c.loop-t.invariant.before
+          (omega (arith, c.if-len-from.false, c.len.ensures.counted, c.from.ensures, down_count r c.len-formed.ensures.formed (t + 1) c.down_after-down.result shown));
+    }
+
+pub returns : goal.returns
+returns c = λ u h. c.loop-t.invariant.before u (omega (arith, h, how_many c.args.trace.now.recording c.entries-recorded.result.now c.entries-recorded.ensures, c.loop-t-test.false))

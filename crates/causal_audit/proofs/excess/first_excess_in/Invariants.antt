@@ -1,0 +1,12 @@
+use Rattle.std.proofs.Common.{ℕ, ◌≤◌}
+use Rattle.causal_name.specs.Sets.{count_below}
+use Rattle.causal_trace.specs.Past.{instant, is_down}
+use Rattle.causal_audit.specs.Inside.Sights.{Shows}
+use Rattle.causal_audit.proofs.excess.first_excess_in.Given as goal
+
+-- who is down at this instant, and at most f were at each so far
+abbrev pub invariant-loop-t : goal.invariant-loop-t
+invariant-loop-t l = record {
+  down : Shows l.down (λ p. is_down (instant l.trace.recording.past l.t) p);
+  before : (u : ℕ) → u ≤ l.t → count_below l.trace.recording.processes (is_down (instant l.trace.recording.past u)) ≤ l.f;
+}

@@ -1,0 +1,40 @@
+use Rattle.std.proofs.Common.{◌≡◌, ◌+◌, ◌<◌, ◌≤◌, length, arith, sym, subst}
+use Rattle.std.specs.Prelude.{slice_index}
+use Rattle.causal_audit.specs.Courses.{end_of}
+use Rattle.causal_audit.specs.Inside.Courses.{run_read}
+use Rattle.causal_audit.specs.Inside.Moments.{LeastOf}
+use Rattle.causal_audit.specs.Inside.Newly.{is_between}
+use Rattle.causal_audit.proofs.Newly.{with_next, position_of, rest_to_come}
+use Rattle.causal_audit.proofs.Numbered.{deliveries_few}
+use Rattle.causal_audit.proofs.sweep.Moment.least_in_part.Goals as goal
+
+pub overflow_cast-end : goal.overflow_cast-end
+overflow_cast-end c = omega (arith, c.len.ensures, c.requires.moment.seen.part, deliveries_few (run_read c.args.self.now.reading).past, c.requires.moment.reading.short)
+
+pub overflow_add-end : goal.overflow_add-end
+overflow_add-end c = omega (arith, c.len.ensures, c.requires.moment.seen.part, deliveries_few (run_read c.args.self.now.reading).past, c.requires.moment.reading.short)
+
+pub returns-then-self-i : goal.returns-then-self-i
+returns-then-self-i c =
+    let reading = c.args.self.now.reading in
+    let r = run_read reading in
+    let i = c.loop-i.i in
+    let there : i < length reading.positions.now = omega (arith, c.loop-i-test.true, c.len.ensures, c.requires.moment.seen.part, c.requires.moment.reading.numbered.count) in
+    rest_to_come r c.args.self.now.f c.args.self.now.t c.args.room.now.from (end_of c.args.room.now) i (slice_index reading.positions.now i) c.loop-i.least
+    (c.requires.moment.reading.numbered.each i there) c.if-self-i.true c.requires.moment.within c.loop-i.invariant
+
+pub loop-i-preserved : goal.loop-i-preserved
+loop-i-preserved c =
+    let r = run_read c.args.self.now.reading in
+    let from = c.args.room.now.from in
+    let to = end_of c.args.room.now in
+    let i = c.loop-i.i in
+    let between : (from ≤ i) × (i < to) = (omega (arith, c.loop-i.auto.i), omega (arith, c.loop-i-test.true, c.len.ensures)) in
+    let place = position_of r.past i (omega (arith, between.1, c.requires.moment.seen.part)) in
+    subst (LeastOf c.args.self.now c.args.room.now (λ x. is_between from (i + 1) x)) (sym c.earlier-least.ensures)
+    (with_next r c.args.self.now.f c.args.self.now.t from to i place.0 c.loop-i.least c.found.result between place.1 (c.found.ensures place.0 place.1) c.loop-i.invariant)
+
+pub returns : goal.returns
+returns c =
+    let ended : c.loop-i.i ≡ end_of c.args.room.now = omega (arith, c.loop-i-test.false, c.loop-i.auto.i, c.len.ensures) in
+    subst (λ i. LeastOf c.args.self.now c.args.room.now (λ x. is_between c.args.room.now.from i x) c.loop-i.least) ended c.loop-i.invariant

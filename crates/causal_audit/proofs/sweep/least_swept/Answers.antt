@@ -1,0 +1,136 @@
+use Rattle.std.proofs.Common.{ℕ, ◌≡◌, ◌+◌, ◌<◌, ◌∷◌, Bool, Option, Some, None, length, arith, refl, ap, sym, subst, ◌∙◌}
+use Rattle.std.specs.List.{All}
+use Rattle.std.specs.Prelude.{◌&&◌}
+use Rattle.std.proofs.lemmas.List.{length-map, length-reverse, reverse-reverse}
+use Rattle.causal_trace.specs.Past.{instant, deliveries_in}
+use Rattle.causal_trace.specs.Rows.{Recording}
+use Rattle.causal_audit.specs.Breaches.{LeastBreach}
+use Rattle.causal_audit.specs.Courses.{end_of, IsUnused}
+use Rattle.causal_audit.specs.declared.breach.Breach.{Breach}
+use Rattle.causal_audit.specs.declared.effects.Reading.{Reading}
+use Rattle.causal_audit.specs.Inside.Filed.{list_at}
+use Rattle.causal_audit.specs.Inside.Courses.{IsPrepared, IsReading, run_read}
+use Rattle.causal_audit.specs.Inside.Newly.{LeastAt, is_between, is_candidate, same_of, marks_of, risen_of}
+use Rattle.causal_audit.specs.Inside.Rooms.{IsRoom, holders_after, stable_after, dependents_after}
+use Rattle.causal_audit.proofs.Begins.{room_begins}
+use Rattle.causal_audit.proofs.Newly.{row_read}
+use Rattle.causal_audit.proofs.Steps.{next_state}
+use Rattle.causal_audit.proofs.Sweeping.{room_next, none_next, some_next, at_first, kept_count, moved}
+use Rattle.causal_audit.proofs.sweep.least_swept.Goals as goal
+use Rattle.causal_audit.proofs.sweep.least_swept.Goals.{After-see}
+
+reading_of : (reading : Reading) (r : Recording) → run_read reading ≡ r → IsPrepared r reading.positions.now reading.effects.now → IsReading reading
+reading_of reading r is prepared = subst (λ x. IsPrepared x reading.positions.now reading.effects.now) (sym is) prepared
+
+-- ---- what is read of one more entry
+
+abbrev run : After-see → Recording
+run c = run_read c.reading-reading.result
+
+prepared : (c : After-see) → IsReading c.reading-reading.result
+prepared c = reading_of c.reading-reading.result c.args.course.now c.reading-reading.ensures.run c.reading-reading.ensures.prepared
+
+below : (c : After-see) → c.loop-t.t < length (run c).past
+below c = omega (arith, c.loop-t-test.true, length-reverse c.reading-reading.result.entries.now)
+
+next : (c : After-see) → instant (run c).past (c.loop-t.t + 1) ≡ c.entry-item.result ∷ instant (run c).past c.loop-t.t
+next c = next_state (run c) c.reading-reading.result.entries.now (sym (reverse-reverse c.reading-reading.result.entries.now)) c.loop-t.t c.entry-item.result (below c) c.entry-item.is
+
+marks_read : (c : After-see) → c.as_slice-marks.result.now ≡ list_at (marks_of c.reading-reading.result.effects.now) c.loop-t.t
+marks_read c =
+    let effects = c.reading-reading.result.effects.now in
+    row_read effects.marks.items c.loop-t.t c.index.result.now c.as_slice-marks.result.now c.index.ensures c.as_slice-marks.ensures.value
+    (omega (arith, below c, (prepared c).has_effects.marks_count, length-map effects.marks.items (λ list. list.items)))
+
+risen_read : (c : After-see) → c.as_slice-risen.result.now ≡ list_at (risen_of c.reading-reading.result.effects.now) c.loop-t.t
+risen_read c =
+    let effects = c.reading-reading.result.effects.now in
+    row_read effects.risen.items c.loop-t.t c.index-in-loop-t.result.now c.as_slice-risen.result.now c.index-in-loop-t.ensures c.as_slice-risen.ensures.value
+    (omega (arith, below c, (prepared c).has_effects.risen_count, length-map effects.risen.items (λ list. list.items)))
+
+-- ---- what the room has then
+
+dependents_next : (c : After-see) → c.see.new.self.dependents.items ≡ dependents_after c.loop-t.room.from c.entry-item.result (list_at (risen_of c.reading-reading.result.effects.now) c.loop-t.t) c.loop-t.room.dependents.items
+dependents_next c = c.see.ensures.dependents ∙ ap (λ xs. dependents_after c.loop-t.room.from c.entry-item.result xs c.loop-t.room.dependents.items) (risen_read c)
+
+seen_next : (c : After-see) → IsRoom (run c) c.reading-reading.result.effects.now.first.items (c.loop-t.t + 1) c.down_after-down.result c.see.new.self
+seen_next c =
+    let e = c.entry-item.result in
+    room_next (run c) (prepared c).formed c.loop-t.t e (below c) (next c) c.reading-reading.result.effects.now (prepared c).has_effects
+    c.loop-t.down c.down_after-down.result c.loop-t.room c.see.new.self c.loop-t.invariant.seen
+    (c.down_after-down.ensures (instant (run c).past c.loop-t.t) c.loop-t.invariant.seen.shows_down) c.see.ensures.from
+    (c.see.ensures.holders ∙ ap (λ xs. holders_after e xs c.loop-t.room.holders.items) (marks_read c))
+    (c.see.ensures.stable ∙ ap (λ xs. stable_after e xs c.loop-t.room.stable.items) (marks_read c))
+    (dependents_next c)
+
+from_kept : (c : After-see) → c.see.new.self.from ≡ c.args.room.now.from
+from_kept c = c.see.ensures.from ∙ c.loop-t.invariant.from
+
+count_kept : (c : After-see) → length c.see.new.self.dependents.items ≡ length c.args.room.now.dependents.items
+count_kept c = kept_count c.entry-item.result c.loop-t.room.from (list_at (risen_of c.reading-reading.result.effects.now) c.loop-t.t) c.loop-t.room.dependents.items c.see.new.self.dependents.items (dependents_next c) ∙ c.loop-t.invariant.count
+
+-- ---- and which delivery of the part has an orphan by the entry
+
+abbrev may_fail : After-see → ℕ → Bool
+may_fail c i =
+    is_candidate c.entry-item.result (same_of c.reading-reading.result.effects.now) (list_at (marks_of c.reading-reading.result.effects.now) c.loop-t.t) (list_at (risen_of c.reading-reading.result.effects.now) c.loop-t.t) i
+    && is_between c.args.room.now.from (end_of c.args.room.now) i
+
+found_next : (c : After-see) (found : Option Breach)
+    → LeastAt (run c) c.args.f (c.loop-t.t + 1) c.see.new.self.from (end_of c.see.new.self) (λ i. is_candidate c.entry-item.result (same_of c.reading-reading.result.effects.now) c.as_slice-marks.result.now c.as_slice-risen.result.now i && is_between c.see.new.self.from (end_of c.see.new.self) i) found
+    → LeastAt (run c) c.args.f (c.loop-t.t + 1) c.args.room.now.from (end_of c.args.room.now) (may_fail c) found
+found_next c found least =
+    moved (run c) c.args.f (c.loop-t.t + 1) c.see.new.self.from c.args.room.now.from (length c.see.new.self.dependents.items) (length c.args.room.now.dependents.items) c.entry-item.result (same_of c.reading-reading.result.effects.now)
+    c.as_slice-marks.result.now (list_at (marks_of c.reading-reading.result.effects.now) c.loop-t.t) c.as_slice-risen.result.now (list_at (risen_of c.reading-reading.result.effects.now) c.loop-t.t) found
+    (from_kept c) (count_kept c) (marks_read c) (risen_read c) least
+
+-- ---- the answers
+
+pub loop-t-init : goal.loop-t-init
+loop-t-init c =
+    let reading = c.reading-reading.result in
+    record {
+      seen = rw c.none-down.ensures (room_begins (run_read reading) c.args.room.now (subst (λ r. IsUnused r c.args.room.now) (sym c.reading-reading.ensures.run) c.requires) reading.effects.now.first.items);
+      from = refl;
+      count = refl;
+      before = λ i k u low high numbered in_time has. at_first (run_read reading) c.args.f k u in_time has;
+    }
+
+pub newly-requires-clause-marks : goal.newly-requires-clause-marks
+newly-requires-clause-marks c =
+    let here = (goal.at.newly-requires-clause-marks c).After-see in
+    subst (All (λ m. m < deliveries_in (run here).past)) (sym (marks_read here)) ((prepared here).has_effects.marks_within c.loop-t.t)
+
+pub newly-requires-clause-moment : goal.newly-requires-clause-moment
+newly-requires-clause-moment c =
+    let here = (goal.at.newly-requires-clause-moment c).After-see in
+    record {
+      reading = prepared here;
+      within = omega (arith, below here);
+      seen = seen_next here;
+    }
+
+pub returns-in-Some : goal.returns-in-Some
+returns-in-Some c =
+    let here = (goal.at.returns-in-Some c).After-see in
+    let least = some_next (run here) (prepared here).formed c.args.f c.loop-t.t c.args.room.now.from (end_of c.args.room.now) c.entry-item.result (below here) (next here) c.reading-reading.result.effects.now (prepared here).has_effects c.loop-t.invariant.before c.in-Some.breach
+    (found_next here (Some c.in-Some.breach) c.in-Some.ensures) in
+    subst (λ r. LeastBreach r c.args.f c.args.room.now.from (end_of c.args.room.now) (Some c.in-Some.breach)) c.reading-reading.ensures.run least
+
+pub loop-t-preserved : goal.loop-t-preserved
+loop-t-preserved c =
+    let here = (goal.at.loop-t-preserved c).After-see in
+    record {
+      seen = seen_next here;
+      from = from_kept here;
+      count = count_kept here;
+      before = none_next (run here) (prepared here).formed c.args.f c.loop-t.t c.args.room.now.from (end_of c.args.room.now) c.entry-item.result (below here) (next here) c.reading-reading.result.effects.now (prepared here).has_effects c.loop-t.invariant.before
+          (found_next here None c.in_default.ensures);
+    }
+
+pub returns : goal.returns
+returns c =
+    let reading = c.reading-reading.result in
+    let none : LeastBreach (run_read reading) c.args.f c.args.room.now.from (end_of c.args.room.now) None =
+    λ i k u low high numbered within has. c.loop-t.invariant.before i k u low high numbered (omega (arith, within, length-reverse reading.entries.now, c.loop-t-test.false)) has in
+    subst (λ r. LeastBreach r c.args.f c.args.room.now.from (end_of c.args.room.now) None) c.reading-reading.ensures.run none

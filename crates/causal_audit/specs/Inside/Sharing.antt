@@ -1,0 +1,41 @@
+-- The first delivery of each determinant, what shares it and what mentions it. Deliveries go by their numbers here, and a
+-- determinant by the number of its first delivery.
+use Rattle.std.specs.Prelude.{◌≡◌, ℕ, ◌<◌, ◌≤◌, List, [], ◌∷◌, length, Option, Some, None, slice_index, Contains}
+use Rattle.std.specs.List.{slice_get}
+use Rattle.std.specs.Option.{option_map}
+use Rattle.causal_name.specs.declared.Det.{Det}
+use Rattle.causal_audit.specs.declared.sharing.Firsts.{Firsts}
+use Rattle.causal_audit.specs.Inside.Filed.{list_at, number_of}
+
+-- each determinant that is numbered has a first delivery
+abbrev pub IsPaired : Firsts → Type 0
+IsPaired firsts = length firsts.deliveries.items ≡ length firsts.numbers
+
+-- the number of the first delivery of a determinant, if it has one
+abbrev pub first_of : Firsts → Det → Option ℕ
+first_of firsts d = option_map (λ m. slice_index firsts.deliveries.items m) (number_of firsts.numbers d)
+
+-- of the first `count` deliveries, which have these determinants, each has the number of the first with its own; no other
+-- determinant has one
+pub record AreFirstOnes (dets : List Det) (count : ℕ) (of : Det → Option ℕ) (first : List ℕ) : Type 0 where
+  pub counted : length first ≡ count
+  pub own : (i : ℕ) (d : Det) → i < count → slice_get dets i ≡ Some d → of d ≡ Some (slice_index first i)
+  pub named : (d e : Det) (m : ℕ) → of d ≡ Some m → slice_get dets m ≡ Some e → d ≡ e
+  pub below : (d : Det) (m : ℕ) → of d ≡ Some m → m < count
+  pub least : (i : ℕ) → i < count → slice_index first i ≤ i
+
+-- each list of `same` has just those of the first `count` deliveries that have this first one
+pub record AreShared (first : List ℕ) (count : ℕ) (same : List (List ℕ)) : Type 0 where
+  pub counted : length same ≡ length first
+  pub shared : (i : ℕ) → i < count → Contains (list_at same (slice_index first i)) i
+  pub only : (m i : ℕ) → Contains (list_at same m) i → (i < count) × (slice_index first i ≡ m)
+
+-- a list with one more number before it, if there is one
+abbrev pub added : Option ℕ → List ℕ → List ℕ
+added None numbers = numbers
+added (Some m) numbers = m ∷ numbers
+
+-- the numbers of these determinants, without those that have none
+abbrev pub numbers_in : (Det → Option ℕ) → List Det → List ℕ
+numbers_in of [] = []
+numbers_in of (d ∷ ds) = added (of d) (numbers_in of ds)

@@ -1,0 +1,92 @@
+//! A recorded run up to an instant, prepared for a sweep over its entries.
+ghost use Rattle.std.specs.Prelude.{◌≡◌, ◌≤◌, IfOk, length};
+ghost use Rattle.causal_trace.specs.Limits.{max_entries};
+ghost use Rattle.causal_trace.specs.Past.{deliveries_in};
+ghost use Rattle.causal_trace.specs.Rows.{IsWellFormed};
+ghost use Rattle.causal_audit.specs.Courses.{up_to};
+ghost use Rattle.causal_audit.specs.Inside.Courses.{IsPrepared, run_read};
+
+use crate::effects::{Effects, Reading, effects_of};
+use crate::tables::positions_of;
+use causal_name::NoMemory;
+use causal_trace::trace::Trace;
+use std::alloc::Global;
+use std::marker::Model;
+
+/// A recorded run up to an instant, prepared for a sweep over its entries: a copy of its trace, the positions of the
+/// deliveries up to there, and what each entry does to the deliveries. It is seen as the recording up to that instant.
+#[derive(Drop)]
+pub struct Course {
+    trace: Trace,
+    end: u32,
+    positions: Vec<u32>,
+    effects: Effects,
+}
+
+impl Model for Course {
+    ghost use Rattle.causal_trace.specs.Rows.{Recording};
+    ghost use Rattle.causal_audit.specs.Courses.{up_to};
+    ghost use Rattle.causal_audit.specs.Inside.Courses.{IsCourse};
+
+    ghost Value = { Recording };
+
+    ghost view = { λ a. up_to a.trace.recording a.end };
+
+    ghost invariant = { λ a. IsCourse a.trace.recording a.end a.positions.items a.effects };
+}
+
+impl Course {
+    /// The course of a trace up to the instant `end`, which is at most its length.
+    ///
+    /// It takes time as the entries up to there, the determinants that they list, and the deliveries times the lanes
+    /// (processes and restarts). It has a list for each entry, with what that mentions and what newly reaches it: in all at
+    /// most the listed determinants, and the deliveries times the lanes, beside a copy of the trace. A clock of the run is let go when it is made.
+    ///
+    /// # Errors
+    /// `NoMemory` where memory was refused.
+    pub fn of(alloc: Global, trace: &Trace, end: u32) -> Result<Course, NoMemory>
+        requires { end ≤ length trace.now.recording.past }
+        ensures { IfOk result (λ course. course ≡ up_to trace.now.recording end) }
+    {
+        let _len = trace.len();
+        let entries = &trace.entries()[..end as usize];
+        let positions = positions_of(alloc, entries)?;
+        let effects = effects_of(alloc, trace, end, positions.as_slice())?;
+        let copy = trace.try_clone()?;
+        Ok(Course {
+            trace: copy,
+            end,
+            positions,
+            effects,
+        })
+    }
+
+    /// How many entries the run has up to this instant, at most 65,536. They are well formed.
+    pub fn entries(&self) -> u32
+        ensures length { result ≡ length self.now.past }
+        ensures formed { IsWellFormed self.now }
+        ensures few { result ≤ max_entries }
+    {
+        self.end
+    }
+
+    /// How many deliveries it has up to this instant; they are numbered from 0 in their order.
+    pub fn deliveries(&self) -> u32
+        ensures { result ≡ deliveries_in self.now.past }
+    {
+        self.positions.len() as u32
+    }
+
+    /// What a sweep reads of it.
+    pub(crate) fn reading(&self) -> Reading<'_>
+        ensures run { run_read result ≡ self.now }
+        ensures prepared { IsPrepared self.now result.positions.now result.effects.now }
+    {
+        Reading {
+            processes: self.trace.processes(),
+            entries: &self.trace.entries()[..self.end as usize],
+            positions: self.positions.as_slice(),
+            effects: &self.effects,
+        }
+    }
+}

@@ -1,0 +1,125 @@
+//! What a sweep over the entries keeps of the deliveries of a part.
+ghost use Rattle.std.specs.Prelude.{◌≡◌, ◌≤◌, IfOk, true, false, map};
+ghost use Rattle.std.specs.FinSet as set;
+ghost use Rattle.causal_trace.specs.Past.{deliveries_in};
+ghost use Rattle.causal_audit.specs.Courses.{IsUnused, end_of};
+ghost use Rattle.causal_audit.specs.Inside.Moments.{is_followed};
+ghost use Rattle.causal_audit.specs.Inside.Rooms.{changed, dependents_after, holders_after, stable_after};
+
+use crate::course::Course;
+use causal_holders::Holders;
+use causal_name::NoMemory;
+use causal_trace::entry::Entry;
+use std::alloc::Global;
+
+/// What is known at an instant: for each determinant, by the number of its first delivery, who holds it and whether it is
+/// stable, and for each delivery numbered from `from` on who depends on it.
+#[derive(Drop)]
+pub struct Room {
+    pub from: u32,
+    pub holders: Vec<Holders>,
+    pub stable: Vec<bool>,
+    pub dependents: Vec<Holders>,
+}
+
+/// Puts p into the sets of these numbers, which count from `from` on.
+fn insert_each(sets: &mut [Holders], from: u32, numbers: &[u32], p: u8)
+    ensures { sets.new ≡ changed (λ s. set.insert s p) set.empty from sets.old numbers.now }
+{
+    for number in numbers {
+        if from <= *number {
+            let place = (*number - from) as usize;
+            if place < sets.len() {
+                sets[place].insert(p);
+            }
+        }
+    }
+}
+
+/// Takes p out of the sets of these numbers.
+fn remove_each(sets: &mut [Holders], numbers: &[u32], p: u8)
+    ensures { sets.new ≡ changed (λ s. set.remove s p) set.empty 0 sets.old numbers.now }
+{
+    for number in numbers {
+        let place = *number as usize;
+        if place < sets.len() {
+            sets[place].remove(p);
+        }
+    }
+}
+
+/// Takes p out of all sets.
+fn remove_all(sets: &mut [Holders], p: u8)
+    ensures { sets.new ≡ map (λ s. set.remove s p) sets.old }
+{
+    for set in sets {
+        set.remove(p);
+    }
+}
+
+/// Marks these numbers.
+fn mark_each(flags: &mut [bool], numbers: &[u32])
+    ensures { flags.new ≡ changed (λ _. true) false 0 flags.old numbers.now }
+{
+    for number in numbers {
+        let place = *number as usize;
+        if place < flags.len() {
+            flags[place] = true;
+        }
+    }
+}
+
+impl Room {
+    /// The room for the deliveries numbered from `from` and below `to`, in which nothing is noted yet.
+    ///
+    /// # Errors
+    /// `NoMemory` where memory was refused.
+    pub fn new(alloc: Global, course: &Course, from: u32, to: u32) -> Result<Room, NoMemory>
+        requires { (from ≤ to) × (to ≤ deliveries_in course.now.past) }
+        ensures unused { IfOk result (IsUnused course.now) }
+        ensures begins { IfOk result (λ room. room.from ≡ from) }
+        ensures ends { IfOk result (λ room. end_of room ≡ to) }
+    {
+        let all = course.deliveries() as usize;
+        let holders = vec![in alloc; Holders::none(); all]?;
+        let stable = vec![in alloc; false; all]?;
+        let dependents = vec![in alloc; Holders::none(); (to - from) as usize]?;
+        Ok(Room {
+            from,
+            holders,
+            stable,
+            dependents,
+        })
+    }
+
+    /// Takes in one more entry, which mentions the determinants of these numbers, and whose receiver these deliveries newly
+    /// reach.
+    pub fn see(&mut self, entry: &Entry, marks: &[u32], risen: &[u32])
+        ensures from { self.new.from ≡ self.old.from }
+        ensures holders { self.new.holders.items ≡ holders_after entry.now marks.now self.old.holders.items }
+        ensures stable { self.new.stable.items ≡ stable_after entry.now marks.now self.old.stable.items }
+        ensures dependents { self.new.dependents.items ≡ dependents_after self.old.from entry.now risen.now self.old.dependents.items }
+    {
+        match entry {
+            Entry::Send { .. } => {}
+            Entry::Deliver { to, .. } => {
+                insert_each(&mut self.holders, 0, marks, to.0);
+                insert_each(&mut self.dependents, self.from, risen, to.0);
+            }
+            Entry::Stable { .. } => mark_each(&mut self.stable, marks),
+            Entry::Crash { who } => {
+                remove_all(&mut self.holders, who.0);
+                remove_all(&mut self.dependents, who.0);
+            }
+            Entry::Restart { who, .. } => insert_each(&mut self.holders, 0, marks, who.0),
+            Entry::Forget { who, .. } => remove_each(&mut self.holders, marks, who.0),
+        }
+    }
+
+    /// Whether it follows the delivery of this number.
+    pub fn follows(&self, number: u32) -> bool
+        ensures { result ≡ is_followed self.now number }
+    {
+        self.from <= number && ((number - self.from) as usize) < self.dependents.len()
+    }
+}

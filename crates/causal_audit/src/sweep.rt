@@ -1,0 +1,137 @@
+//! The least breach of a part of the deliveries, by one sweep over the entries.
+ghost use Rattle.std.specs.Prelude.{◌≡◌, ◌<◌, ◌||◌, ◌&&◌, ℕ, Bool};
+ghost use Rattle.std.specs.List.{All};
+ghost use Rattle.causal_trace.specs.Past.{deliveries_in, instant};
+ghost use Rattle.causal_audit.specs.Inside.BreachAt.{BreachAt};
+ghost use Rattle.causal_audit.specs.Breaches.{LeastBreach};
+ghost use Rattle.causal_audit.specs.Courses.{IsUnused, end_of};
+ghost use Rattle.causal_audit.specs.Inside.Courses.{run_read};
+ghost use Rattle.causal_audit.specs.Inside.Moments.{IsMoment, LeastOf, is_followed};
+ghost use Rattle.causal_audit.specs.Inside.Newly.{is_candidate, is_sharing, same_of};
+ghost use Rattle.causal_audit.specs.Inside.Rooms.{IsFollowed, is_among};
+ghost use Rattle.causal_audit.specs.Numbers.{IsNumbered};
+
+use crate::breach::{Breach, earlier};
+use crate::course::Course;
+use crate::effects::Reading;
+use crate::orphans::breach_at;
+use crate::room::Room;
+use crate::sight::{Sight, down_after};
+use causal_holders::Holders;
+use causal_trace::entry::Entry;
+
+/// An instant of a sweep: what is read of the run, who is down, and how many entries were read.
+#[derive(Clone, Copy)]
+pub struct Moment<'a> {
+    pub reading: Reading<'a>,
+    pub f: u16,
+    pub down: Holders,
+    pub t: u32,
+}
+
+impl Moment<'_> {
+    /// How the delivery of number i has an orphan at this instant.
+    fn found(&self, room: &Room, i: u32) -> Option<Breach>
+        requires moment { IsMoment self.now room.now }
+        requires followed { IsFollowed room.now i }
+        ensures { (k : ℕ) → IsNumbered (run_read self.now.reading).past i k →
+            BreachAt self.now.reading.processes self.now.f (instant (run_read self.now.reading).past self.now.t) k self.now.t result }
+    {
+        let position = self.reading.positions[i as usize];
+        let number = self.reading.effects.first[i as usize] as usize;
+        let sight = Sight {
+            down: self.down,
+            holders: room.holders[number],
+            stable: room.stable[number],
+            dependents: room.dependents[(i - room.from) as usize],
+        };
+        breach_at(&sight, self.f, position, self.t)
+    }
+
+    /// The earlier of what is given and how one of these deliveries that the room follows has an orphan.
+    fn least_of(&self, room: &Room, numbers: &[u32], so_far: Option<Breach>) -> Option<Breach>
+        requires moment { IsMoment self.now room.now }
+        ensures { (C : ℕ → Bool) → LeastOf self.now room.now C so_far →
+            LeastOf self.now room.now (λ i. C i || (is_among numbers.now i && is_followed room.now i)) result }
+    {
+        let mut least = so_far;
+        for number in numbers {
+            if room.follows(*number) {
+                least = earlier(least, self.found(room, *number));
+            }
+        }
+        least
+    }
+
+    /// How the first of the deliveries that the room follows has an orphan that has one. Those that are still to come have
+    /// none.
+    fn least_in_part(&self, room: &Room) -> Option<Breach>
+        requires moment { IsMoment self.now room.now }
+        ensures { LeastOf self.now room.now (is_followed room.now) result }
+    {
+        let mut least = None;
+        let end = room.from + room.dependents.len() as u32;
+        for i in room.from..end {
+            if self.t <= self.reading.positions[i as usize] {
+                return least;
+            }
+            least = earlier(least, self.found(room, i));
+        }
+        least
+    }
+
+    /// The same of those that have one of these determinants.
+    fn least_sharing(&self, room: &Room, marks: &[u32]) -> Option<Breach>
+        requires moment { IsMoment self.now room.now }
+        requires marks { All (λ m. m < deliveries_in (run_read self.now.reading).past) marks.now }
+        ensures { LeastOf self.now room.now (λ i. is_sharing (same_of self.now.reading.effects.now) marks.now i && is_followed room.now i) result }
+    {
+        let mut least = None;
+        for mark in marks {
+            let sharing = self.reading.effects.same[*mark as usize].as_slice();
+            least = self.least_of(room, sharing, least);
+        }
+        least
+    }
+
+    /// The same of those that may newly have an orphan by this entry.
+    fn newly(&self, room: &Room, entry: &Entry, marks: &[u32], risen: &[u32]) -> Option<Breach>
+        requires moment { IsMoment self.now room.now }
+        requires marks { All (λ m. m < deliveries_in (run_read self.now.reading).past) marks.now }
+        ensures { LeastOf self.now room.now (λ i. is_candidate entry.now (same_of self.now.reading.effects.now) marks.now risen.now i && is_followed room.now i) result }
+    {
+        match entry {
+            Entry::Deliver { .. } => self.least_of(room, risen, None),
+            Entry::Restart { .. } => self.least_in_part(room),
+            Entry::Forget { .. } => self.least_sharing(room, marks),
+            _ => None,
+        }
+    }
+}
+
+/// The least breach, by instant and then by position, of the deliveries that the room follows; None where none of them has
+/// an orphan. Each entry is read once, and only those deliveries are asked that may newly have an orphan by it. It takes no
+/// memory: the room, in which nothing may have been noted before, is used up.
+pub fn least_swept(course: &Course, f: u16, room: &mut Room) -> Option<Breach>
+    requires { IsUnused course.now room.old }
+    ensures { LeastBreach course.now f room.old.from (end_of room.old) result }
+{
+    let reading = course.reading();
+    let mut down = Holders::none();
+    for (t, entry) in reading.entries.iter().enumerate() {
+        let marks = reading.effects.marks[t].as_slice();
+        let risen = reading.effects.risen[t].as_slice();
+        down = down_after(down, entry);
+        room.see(entry, marks, risen);
+        let moment = Moment {
+            reading,
+            f,
+            down,
+            t: t as u32 + 1,
+        };
+        if let Some(breach) = moment.newly(room, entry, marks, risen) {
+            return Some(breach);
+        }
+    }
+    None
+}
