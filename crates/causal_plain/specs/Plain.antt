@@ -1,0 +1,91 @@
+-- What the parts of the plain judgement find.
+use Rattle.std.specs.Prelude.{◌≡◌, ℕ, ◌<◌, ◌≤◌, ◌↔◌, ◌⊎◌, Bool, true, false, List, length, slice_index_or, Contains}
+use Rattle.std.specs.Ordering.{nat_cmp}
+use Rattle.std.specs.FinSet.{FinSet, contains, insert, is_subset, len}
+use Rattle.causal_name.specs.declared.Det.{Det}
+use Rattle.causal_trace.specs.declared.entry.Entry.{Entry}
+use Rattle.causal_trace.specs.Past.{is_stable, logs}
+use Rattle.causal_trace.specs.Dependence.{IsEventOf, DirectlyPrecedes, Reaches, Depends}
+use Rattle.causal_audit.specs.declared.verdict.Verdict.{Verdict}
+use Rattle.causal_audit.specs.declared.verdict.Verdict.TheVariants.{Accept, Exceeded, Orphan}
+use Rattle.causal_audit.specs.Verdicts.{IsExcess, IsBreach}
+
+-- of the positions that have a mark, k reaches just the marked ones
+abbrev pub MarksReached : List Entry → ℕ → List Bool → Type 0
+MarksReached past k marks = (j : ℕ) → j < length marks → (slice_index_or marks j false ≡ true) ↔ Reaches past k j
+
+-- a marked position directly precedes j
+abbrev pub FollowsMarked : List Entry → List Bool → ℕ → Type 0
+FollowsMarked past marks j = (i : ℕ) × (i < length marks) × (slice_index_or marks i false ≡ true) × DirectlyPrecedes past i j
+
+-- a marked position is an event of p in this lane
+abbrev pub HasMarkedEvent : List Entry → List Bool → ℕ → ℕ → Type 0
+HasMarkedEvent past marks p l = (i : ℕ) × (i < length marks) × (slice_index_or marks i false ≡ true) × IsEventOf past i p l
+
+-- a set has just those of the numbers below n for which P holds
+pub record HasJust (n : ℕ) (P : ℕ → Type 0) (set : FinSet nat_cmp) : Type 0 where
+  pub process : (p : ℕ) → contains set p ≡ true → p < n
+  pub member : (p : ℕ) → p < n → (contains set p ≡ true) ↔ P p
+
+-- a set has just those of n processes whose state depends on the delivery k
+abbrev pub AreDependentProcesses : ℕ → List Entry → ℕ → FinSet nat_cmp → Type 0
+AreDependentProcesses n past k set = HasJust n (Depends past k) set
+
+-- all has just the sets of the list, and those with p put in
+abbrev pub AreWithAndWithout : List (FinSet nat_cmp) → ℕ → List (FinSet nat_cmp) → Type 0
+AreWithAndWithout sets p all =
+    (s : FinSet nat_cmp) → Contains all s ↔ (Contains sets s ⊎ ((t : FinSet nat_cmp) × Contains sets t × (s ≡ insert t p)))
+
+-- each member is below n
+abbrev pub IsBelow : ℕ → FinSet nat_cmp → Type 0
+IsBelow n s = (p : ℕ) → contains s p ≡ true → p < n
+
+-- a list has just the sets of numbers below n
+abbrev pub AreSetsBelow : ℕ → List (FinSet nat_cmp) → Type 0
+AreSetsBelow n sets = (s : FinSet nat_cmp) → Contains sets s ↔ IsBelow n s
+
+-- the set contains the processes that are down and has at most f members
+abbrev pub MayCrash : ℕ → FinSet nat_cmp → FinSet nat_cmp → Type 0
+MayCrash f down s = (is_subset down s ≡ true) × (len s ≤ f)
+
+-- a list has just the sets of numbers below n that may crash
+abbrev pub AreCrashSets : ℕ → ℕ → FinSet nat_cmp → List (FinSet nat_cmp) → Type 0
+AreCrashSets n f down sets = (s : FinSet nat_cmp) → Contains sets s ↔ (IsBelow n s × MayCrash f down s)
+
+-- one of n processes that is not in the crash set has d in its log
+abbrev pub IsLoggedOutside : ℕ → List Entry → Det → FinSet nat_cmp → Type 0
+IsLoggedOutside n past d crash = (q : ℕ) × (q < n) × (contains crash q ≡ false) × (logs past q d ≡ true)
+
+-- d is lost under the crash set: it is not stable, and of n processes none that survives has it in its log
+abbrev pub IsLost : ℕ → List Entry → Det → FinSet nat_cmp → Type 0
+IsLost n past d crash = (is_stable past d ≡ false) × ((q : ℕ) → q < n → contains crash q ≡ false → logs past q d ≡ false)
+
+-- a set has just the dependents that survive, where d is lost, and else none
+abbrev pub AreOrphans : ℕ → List Entry → Det → FinSet nat_cmp → FinSet nat_cmp → FinSet nat_cmp → Type 0
+AreOrphans n past d dependents crash set =
+    (p : ℕ) → (contains set p ≡ true) ↔ (IsLost n past d crash × (contains dependents p ≡ true) × (contains crash p ≡ false))
+
+-- under the crash set d is lost and a dependent survives
+abbrev pub Breaks : ℕ → List Entry → Det → FinSet nat_cmp → FinSet nat_cmp → Type 0
+Breaks n past d dependents crash = IsLost n past d crash × ((p : ℕ) × (contains dependents p ≡ true) × (contains crash p ≡ false))
+
+-- found has just those of the sets that do
+abbrev pub AreBreaking : ℕ → List Entry → Det → FinSet nat_cmp → List (FinSet nat_cmp) → List (FinSet nat_cmp) → Type 0
+AreBreaking n past d dependents sets found = (s : FinSet nat_cmp) → Contains found s ↔ (Contains sets s × Breaks n past d dependents s)
+
+-- a set that is contained in each of the list
+abbrev pub IsInEach : List (FinSet nat_cmp) → FinSet nat_cmp → Type 0
+IsInEach sets s = (t : FinSet nat_cmp) → Contains sets t → is_subset s t ≡ true
+
+-- one of the list that is; and that there is none
+abbrev pub IsLeastSet : List (FinSet nat_cmp) → FinSet nat_cmp → Type 0
+IsLeastSet sets s = Contains sets s × IsInEach sets s
+
+abbrev pub HasNoLeast : List (FinSet nat_cmp) → Type 0
+HasNoLeast sets = (s : FinSet nat_cmp) → IsLeastSet sets s → ⊥
+
+-- the verdict says how the last of these instants fails
+abbrev pub IsFailure : ℕ → ℕ → List Entry → Verdict → Type 0
+IsFailure n f past Accept = ⊥
+IsFailure n f past (Exceeded t down) = (t ≡ length past) × IsExcess n f past down
+IsFailure n f past (Orphan t k crash orphan) = (t ≡ length past) × IsBreach n f past k crash orphan
