@@ -1,3 +1,3 @@
-pub mod Commas
-pub mod JudgementLemmas
-pub mod PartLemmas
+mod Commas
+mod JudgementLemmas
+mod PartLemmas

@@ -3,13 +3,13 @@ ghost use Rattle.std.specs.Prelude.{◌≡◌, ◌+◌, ◌≤◌, ℕ, [], vec_
 ghost use Rattle.std.specs.Bool.{OnTrue};
 ghost use Rattle.causal_trace.specs.Past.{deliveries_in};
 ghost use Rattle.causal_trace.specs.Rows.{Recording};
-ghost use Rattle.causal_audit.specs.Breaches.{LeastBreachBy};
+ghost use Rattle.causal_audit.specs.Breaches.{LeastBreach};
 ghost use Rattle.causal_audit.specs.Verdicts.{IsVerdict};
-ghost use Rattle.causal_workers.specs.Parts.{Follows, Covers, IsPart};
+ghost use Rattle.causal_workers.specs.Parts.{AreTasks, Covers, Follows, HasRoom, IsFirstPart};
 
 use crate::gate::Gate;
-use crate::part::{Part, Started};
-use causal_audit::{Breach, Tables, Verdict, decided, deciding, earlier, first_excess};
+use crate::part::{Part, Started, Task};
+use causal_audit::{Breach, Course, Room, Verdict, decided, deciding_in, earlier, first_excess_in};
 use causal_name::NoMemory;
 use causal_trace::trace::Trace;
 use std::alloc::Global;
@@ -44,8 +44,8 @@ impl From<NoMemory> for AuditFault {
 /// no delivery is left for it.
 ///
 /// # Errors
-/// `NoMemory` where the memory for the tables or for the list of workers was refused; then no worker was started.
-/// `NoWorker` where a worker could not be started, after those that were started ended; never with one worker.
+/// `NoMemory` where the memory for the course, for the rooms or for the list of workers was refused; then no worker was
+/// started. `NoWorker` where a worker could not be started, after those that were started ended; never with one worker.
 #[tactic(auto, using(causal_audit::proofs::Lemmas::OneVerdict::one_verdict))]
 pub fn audit<G: Gate + Sync, R: Threads + Wait>(
     rt: &R,
@@ -60,112 +60,124 @@ pub fn audit<G: Gate + Sync, R: Threads + Wait>(
     ensures only { IfOk result (λ verdict. (other : Verdict) → IsVerdict trace.now.recording f other → other ≡ verdict) }
     ensures alone { result ≡ Err AuditFault.NoWorker → 2 ≤ workers }
 {
-    let tables = Tables::of(alloc, trace)?;
-    let excess = first_excess(&tables, f);
-    let end = deciding(&tables, &excess);
-    let least = least_of_all(rt, alloc, &tables, f, end, workers, gate)?;
+    let excess = first_excess_in(trace, f);
+    let end = deciding_in(trace, &excess);
+    let course = Course::of(alloc, trace, end)?;
+    let least = least_of_all(rt, alloc, &course, f, workers, gate)?;
     Ok(decided(excess, least))
 }
 
-/// The least breach of all deliveries, if it comes by the instant `end`.
+/// The least breach of all deliveries of a run.
 fn least_of_all<G: Gate + Sync, R: Threads + Wait>(
     rt: &R,
     alloc: Global,
-    tables: &Tables,
+    course: &Course,
     f: u16,
-    end: u32,
     workers: u32,
     gate: &G,
 ) -> Result<Option<Breach>, AuditFault>
-    requires workers { (1 ≤ workers) × (workers ≤ 64) }
-    requires within { end ≤ length tables.now.past }
-    ensures least { IfOk result (LeastBreachBy tables.now f end 0 (deliveries_in tables.now.past)) }
+    requires { (1 ≤ workers) × (workers ≤ 64) }
+    ensures least { IfOk result (LeastBreach course.now f 0 (deliveries_in course.now.past)) }
     ensures alone { result ≡ Err AuditFault.NoWorker → 2 ≤ workers }
 {
     thread::scope(
         thread::scope_env(),
         rt,
         |scope| -> Result<Option<Breach>, AuditFault>
-            requires workers { (1 ≤ workers) × (workers ≤ 64) }
-            requires within { end ≤ length tables.now.past }
-            ensures least { IfOk result (LeastBreachBy tables.entry.now f end 0 (deliveries_in tables.entry.now.past)) }
+            requires { (1 ≤ workers) × (workers ≤ 64) }
+            ensures least { IfOk result (LeastBreach course.entry.now f 0 (deliveries_in course.entry.now.past)) }
             ensures alone { result ≡ Err AuditFault.NoWorker → 2 ≤ workers }
-        { least_in(rt, scope, alloc, tables, f, end, workers, gate) },
+        { least_in(rt, scope, alloc, course, f, workers, gate) },
     )
 }
 
-/// Starts all workers but the first, does the first part itself, and joins them.
+/// Starts all workers but the first, does the first part itself, and joins them. All rooms are made before the first worker
+/// is started.
 fn least_in<'s, 't: 's, 'g: 's, E, G: Gate + Sync, R: Threads>(
     rt: &R,
     scope: &Scope<'s, E>,
     alloc: Global,
-    tables: &'t Tables,
+    course: &'t Course,
     f: u16,
-    end: u32,
     workers: u32,
     gate: &'g G,
 ) -> Result<Option<Breach>, AuditFault>
-    requires workers { (1 ≤ workers) × (workers ≤ 64) }
-    requires within { end ≤ length tables.now.past }
-    ensures least { IfOk result (LeastBreachBy tables.entry.now f end 0 (deliveries_in tables.entry.now.past)) }
+    requires { (1 ≤ workers) × (workers ≤ 64) }
+    ensures least { IfOk result (LeastBreach course.entry.now f 0 (deliveries_in course.entry.now.past)) }
     ensures alone { result ≡ Err AuditFault.NoWorker → 2 ≤ workers }
 {
     let Ok(mut started) = Vec::with_capacity(alloc, (workers - 1) as usize) else {
         return Err(AuditFault::NoMemory);
     };
     let own = Part {
-        tables,
+        course,
         f,
-        end,
         from: 0,
-        to: part_end(0, tables.deliveries(), workers),
+        to: part_end(0, course.deliveries(), workers),
     };
-    if !all_started(scope, &mut started, own, workers, gate) {
+    let mut room = Room::new(alloc, course, own.from, own.to)?;
+    let tasks = tasks_after(alloc, own, workers)?;
+    if !all_started(scope, &mut started, own, tasks, gate) {
         join_all(rt, started);
         return Err(AuditFault::NoWorker);
     }
-    let first = own.judged(0, gate);
+    let first = own.judged(0, gate, &mut room);
     Ok(least_joined(rt, first, started))
 }
 
-/// Starts the workers from 1 on, each with a part of what follows `own`, and says whether all could be started.
+/// The parts of the workers from 1 on, of what follows `own`, each with its room.
+fn tasks_after<'t>(alloc: Global, own: Part<'t>, workers: u32) -> Result<Vec<Task<'t>>, NoMemory>
+    requires workers { (1 ≤ workers) × (workers ≤ 64) }
+    requires own { IsFirstPart workers own }
+    ensures tasks { IfOk result (λ tasks. AreTasks own.entry.course.now own.entry.f own.entry.to tasks.items (deliveries_in own.entry.course.now.past)) }
+    ensures count { IfOk result (λ tasks. length tasks.items + 1 ≡ workers) }
+{
+    let Part { course, f, .. } = own;
+    let all = course.deliveries();
+    let mut tasks = Vec::new(alloc);
+    let mut from = own.to;
+    for worker in 1..workers {
+        let to = part_end(from, all, workers - worker);
+        let room = Room::new(alloc, course, from, to)?;
+        let part = Part {
+            course,
+            f,
+            from,
+            to,
+        };
+        tasks.push(Task { part, room })?;
+        from = to;
+    }
+    Ok(tasks)
+}
+
+/// Starts a worker for each task, the first with the number 1, and says whether all could be started.
 fn all_started<'s, 't: 's, 'g: 's, E, G: Gate + Sync>(
     scope: &Scope<'s, E>,
     started: &mut Vec<Started<'t>>,
     own: Part<'t>,
-    workers: u32,
+    tasks: Vec<Task<'t>>,
     gate: &'g G,
 ) -> bool
-    requires workers { (1 ≤ workers) × (workers ≤ 64) }
-    requires room { (started.old.items ≡ []) × (workers ≤ vec_capacity started.old + 1) }
-    requires own { IsPart own }
-    requires alone { workers ≡ 1 → own.to ≡ deliveries_in own.tables.now.past }
-    ensures parts { OnTrue result (Follows own.entry.tables.now own.entry.f own.entry.end own.entry.to started.new.items (deliveries_in own.entry.tables.now.past)) }
-    ensures alone { workers ≡ 1 → result ≡ true }
+    requires capacity { (started.old.items ≡ []) × (length tasks.items ≤ vec_capacity started.old) }
+    requires few { length tasks.items ≤ 63 }
+    requires tasks { AreTasks own.course.now own.f own.to tasks.items (deliveries_in own.course.now.past) }
+    ensures parts { OnTrue result (Follows own.entry.course.now own.entry.f own.entry.to started.new.items (deliveries_in own.entry.course.now.past)) }
+    ensures alone { tasks.entry.items ≡ [] → result ≡ true }
 {
-    let Part { tables, f, end, .. } = own;
-    let all = tables.deliveries();
-    let mut from = own.to;
-    for worker in 1..workers {
-        let to = part_end(from, all, workers - worker);
-        let part = Part {
-            tables,
-            f,
-            end,
-            from,
-            to,
-        };
+    for task in tasks {
+        let Task { part, mut room } = task;
+        let worker = started.len() as u32 + 1;
         let work = move || -> Option<Breach>
-            requires { IsPart part }
-            ensures { LeastBreachBy part.entry.tables.now part.entry.f part.entry.end part.entry.from part.entry.to result }
-        { part.judged(worker, gate) };
+            requires { HasRoom part room }
+            ensures { LeastBreach part.entry.course.now part.entry.f part.entry.from part.entry.to result }
+        { part.judged(worker, gate, &mut room) };
         let Ok(handle) = scope.spawn_with(part, work) else {
             return false;
         };
         if started.push(handle).is_err() {
             unreachable!()
         }
-        from = to;
     }
     true
 }
@@ -185,7 +197,7 @@ fn least_joined<'t, R: Threads>(
     first: Option<Breach>,
     started: Vec<Started<'t>>,
 ) -> Option<Breach>
-    ensures { (r : Recording) (f end to : ℕ) → Covers r f end first started.entry.items to → LeastBreachBy r f end 0 to result }
+    ensures { (r : Recording) (f to : ℕ) → Covers r f first started.entry.items to → LeastBreach r f 0 to result }
 {
     let mut least = first;
     for handle in started {

@@ -7,4 +7,4 @@ use Rattle.causal_workers.proofs.divided.least_joined.Given as goal
 abbrev pub invariant-loop-handle : goal.invariant-loop-handle
 invariant-loop-handle g l =
     (into_iter_len l.handle-iterator ≡ length (into_iter_items l.handle-iterator))
-    × ((r : Recording) (f end to : ℕ) → Covers r f end l.initial.least (into_iter_items l.initial.handle-iterator) to → Covers r f end l.least (into_iter_items l.handle-iterator) to)
+    × ((r : Recording) (f to : ℕ) → Covers r f l.initial.least (into_iter_items l.initial.handle-iterator) to → Covers r f l.least (into_iter_items l.handle-iterator) to)
