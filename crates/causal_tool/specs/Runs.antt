@@ -10,6 +10,8 @@ use Rattle.causal_script.specs.declared.script.ScriptFault.{ScriptFault}
 use Rattle.causal_script.specs.Spelling.{Spells, plan_of, max_script}
 use Rattle.causal_script.specs.Faults.{IsFirstFault}
 use Rattle.causal_script.specs.Printing.{script_line, refused_line}
+use Rattle.causal_run.specs.Runs.{IsRunFrom, IsRefusedFrom}
+use Rattle.causal_run.specs.Members.{IsStartOf}
 use Rattle.causal_tool.specs.declared.ended.Ended.{Ended}
 use Rattle.causal_tool.specs.declared.ended.Ended.TheVariants.{Faulted, Ran, Refused, ReadFault, WriteFault, NoMemory, FinishFault}
 
@@ -17,12 +19,14 @@ use Rattle.causal_tool.specs.declared.ended.Ended.TheVariants.{Faulted, Ran, Ref
 abbrev pub read_of : List ℕ → List ℕ
 read_of text = take (max_script + 1) text
 
--- the answer to the text of a script where the program ends so: the canonical text of a trace that is safe for its f, or a line
--- that tells a refusal; or, where it is no script, the line of its first fault
+-- the answer to the text of a script where the program ends so: the canonical text of the trace of a run, by the script's own
+-- processes, of all its commands, none refused, and that trace is safe for its f; or the line that tells the first command that
+-- such a run refuses; or, where it is no script, the line of its first fault
 abbrev pub IsPrinted : List ℕ → Ended → List ℕ → Type 0
 IsPrinted text Ran out = (script : Script) × Spells text (plan_of script) × (recording : Recording)
-    × IsSafeTrace recording script.f × (out ≡ canonical recording)
-IsPrinted text Refused out = (script : Script) × Spells text (plan_of script) × (line : ℕ) × (why : CoreFault) × (out ≡ refused_line line why)
+    × IsRunFrom (IsStartOf script) script.commands.items recording × IsSafeTrace recording script.f × (out ≡ canonical recording)
+IsPrinted text Refused out = (script : Script) × Spells text (plan_of script) × (line : ℕ) × (why : CoreFault)
+    × IsRefusedFrom (IsStartOf script) script.commands.items line why × (out ≡ refused_line line why)
 IsPrinted text Faulted out = (first : ScriptFault) × IsFirstFault text first × (out ≡ script_line first)
 IsPrinted text _ out = ⊥
 

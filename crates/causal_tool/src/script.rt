@@ -4,6 +4,8 @@ ghost use Rattle.std.specs.Io.KnownBytes.{Consumes};
 ghost use Rattle.causal_script.specs.declared.script.Script.{Script};
 ghost use Rattle.causal_script.specs.Spelling.{Spells, plan_of, max_script};
 ghost use Rattle.causal_script.specs.Faults.{IsFirstFault};
+ghost use Rattle.causal_run.specs.Runs.{Tells};
+ghost use Rattle.causal_run.specs.Members.{IsStartOf};
 ghost use Rattle.causal_tool.specs.Runs.{IsPrinted, Prints, PrintsNothing, read_of};
 
 use crate::ended::Ended;
@@ -87,7 +89,7 @@ fn faulted(alloc: Global, fault: ScriptFault) -> Result<Answer, Ended>
 
 fn stopped(alloc: Global, fault: RunFault) -> Result<Answer, Ended>
     ensures ok { IfOk result (λ answer. (text : List ℕ) (script : Script) → Spells text (plan_of script)
-        → IsPrinted text answer.ended answer.text.items) }
+        → Tells (IsStartOf script) script.commands.items fault → IsPrinted text answer.ended answer.text.items) }
     ensures err { IfErr result PrintsNothing }
 {
     match fault {

@@ -15,10 +15,11 @@ returns-in-Ok-run_script-clause-ok g c =
       c.in-Ok.script,
       c.in-Ok.ensures.ok,
       trace,
-      c.in-Ok-run_script.ensures,
+      c.in-Ok-run_script.ensures.run,
+      c.in-Ok-run_script.ensures.safe,
       subst (λ r. IfOk r (λ text. text.items ≡ canonical trace)) h.1 c.text_of.ensures,
     )) c.told.ensures.ok
 
 pub returns-clause-ok : goal.returns-clause-ok
 returns-clause-ok g c =
-    IfOk-weaker c.stopped.result _ _ (λ answer h. h c.args.text.now c.in-Ok.script c.in-Ok.ensures.ok) c.stopped.ensures.ok
+    IfOk-weaker c.stopped.result _ _ (λ answer h. h c.args.text.now c.in-Ok.script c.in-Ok.ensures.ok c.in-Err-run_script.ensures.refused) c.stopped.ensures.ok
