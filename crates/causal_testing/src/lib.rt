@@ -14,6 +14,8 @@ mod plain_audits;
 #[cfg(test)]
 mod random_audits;
 #[cfg(test)]
+mod random_logs;
+#[cfg(test)]
 mod random_traces;
 #[cfg(test)]
 mod runtime;

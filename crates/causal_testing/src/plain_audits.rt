@@ -1,8 +1,8 @@
 //! Traces of a few entries, with verdicts that were worked out by hand.
 use causal_audit::Verdict;
-use causal_audit::plain::judge;
 use causal_holders::Holders;
 use causal_name::{Det, Pid};
+use causal_plain::judge;
 use causal_trace::entry::{Dets, Entry};
 use causal_trace::fault::TraceFault;
 use causal_trace::trace::Trace;

@@ -1,6 +1,6 @@
 //! The audit and the plain program beside it give the same verdict on small random traces, for each f.
 use crate::numbers::Numbers;
-use causal_audit::{Tables, Verdict, judge, plain};
+use causal_audit::{Course, Room, Tables, Verdict, judge, least_between, least_swept};
 use causal_name::{Det, MsgName, NoMemory, Pid};
 use causal_trace::entry::{Dets, Entry};
 use causal_trace::fault::TraceFault;
@@ -180,12 +180,49 @@ fn trace_of(alloc: Global, walk: &mut Walk, n: u16, tries: u32) -> Result<Trace,
     Ok(trace)
 }
 
-/// Whether both programs say the same of a trace for f, and whether it is accepted.
-fn agree(alloc: Global, trace: &Trace, f: u16) -> Result<(bool, bool), NoMemory> {
+/// Whether a sweep for the deliveries numbered from `from` and below `to` finds the breach that walks find.
+fn part_agrees(
+    alloc: Global,
+    tables: &Tables,
+    course: &Course,
+    f: u16,
+    from: u32,
+    to: u32,
+) -> Result<bool, NoMemory> {
+    if from > to || to > course.deliveries() || to > tables.deliveries() {
+        return Ok(false);
+    }
+    let mut room = Room::new(alloc, course, from, to)?;
+    Ok(least_swept(course, f, &mut room) == least_between(tables, f, from, to))
+}
+
+/// The same of all deliveries and of several parts of them.
+fn sweeps_agree(alloc: Global, tables: &Tables, course: &Course, f: u16) -> Result<bool, NoMemory> {
+    let all = tables.deliveries();
+    let (third, half) = (all / 3, all / 2);
+    let mut same = true;
+    for (from, to) in [(0, all), (third, half), (half, all)] {
+        same = part_agrees(alloc, tables, course, f, from, to)? && same;
+    }
+    Ok(same)
+}
+
+/// Of how many of these numbers of failures all programs say the same of a trace, and of how many it is accepted.
+fn agreed(alloc: Global, trace: &Trace, most: u16) -> Result<(u32, u32), NoMemory> {
     let tables = Tables::of(alloc, trace)?;
-    let fast = judge(&tables, f);
-    let plain = plain::judge(alloc, trace, f)?;
-    Ok((fast == plain, fast == Verdict::Accept))
+    let course = Course::of(alloc, trace, trace.len())?;
+    let (mut same, mut accepted) = (0u32, 0u32);
+    for f in 0..=most {
+        let fast = judge(&tables, f);
+        let plain = causal_plain::judge(alloc, trace, f)?;
+        if fast == plain && sweeps_agree(alloc, &tables, &course, f)? {
+            same = same.saturating_add(1);
+        }
+        if fast == Verdict::Accept {
+            accepted = accepted.saturating_add(1);
+        }
+    }
+    Ok((same, accepted))
 }
 
 /// Whether a restarted process has delivered again what it had delivered before, with the same determinant.
@@ -252,17 +289,13 @@ fn compared(
         if ends_in_release(&trace) {
             found.releases = found.releases.saturating_add(1);
         }
-        for f in 0..=n.saturating_add(1) {
-            let Ok((same, accepts)) = agree(alloc, &trace, f) else {
-                return Err(TraceFault::NoMemory);
-            };
-            if !same {
-                found.differ = found.differ.saturating_add(1);
-            }
-            if accepts {
-                found.accepted = found.accepted.saturating_add(1);
-            }
-        }
+        let most = n.saturating_add(1);
+        let Ok((same, accepted)) = agreed(alloc, &trace, most) else {
+            return Err(TraceFault::NoMemory);
+        };
+        let differ = (u32::from(most) + 1).saturating_sub(same);
+        found.differ = found.differ.saturating_add(differ);
+        found.accepted = found.accepted.saturating_add(accepted);
     }
     Ok(found)
 }

@@ -1,9 +1,9 @@
 //! The trace and the plain program beside it answer the same to the same entries, half of them bad.
 use crate::numbers::Numbers;
 use causal_name::{Det, MsgName, Pid};
+use causal_plain::PlainTrace;
 use causal_trace::entry::{Dets, Entry};
 use causal_trace::fault::TraceFault;
-use causal_trace::plain::PlainTrace;
 use causal_trace::trace::Trace;
 use std::alloc::Global;
 

@@ -1,4 +1,4 @@
-use causal_name::{Det, Pid};
+use causal_name::{Det, MsgName, Pid};
 use causal_trace::entry::{Dets, Entry};
 use causal_trace::fault::TraceFault;
 use causal_trace::trace::Trace;
@@ -121,6 +121,29 @@ fn delivered_again(alloc: Global) -> Result<bool, TraceFault> {
     let none = !trace.up(0, Pid(2)) && trace.lane(5, Pid(2)).is_none();
     let lanes = trace.lane(3, Pid(1)) == Some(0) && trace.lane(4, Pid(1)) == Some(1);
     Ok(up && none && lanes && trace.deliveries() == 2)
+}
+
+/// Whether each of two processes, and one that is not there, has delivered the first message of process 0.
+fn have_delivered(trace: &Trace) -> [bool; 3] {
+    let message = MsgName {
+        source: Pid(0),
+        ssn: 0,
+    };
+    [0, 1, 2].map(|p| trace.has_delivered(Pid(p), message))
+}
+
+/// A restart opens a lane that has delivered nothing; a crash does not.
+fn delivered_by_lane(alloc: Global) -> Result<bool, TraceFault> {
+    let mut trace = one_delivery(alloc)?;
+    trace.push(crash(1))?;
+    let before = have_delivered(&trace) == [false, true, false];
+    trace.push(restart(alloc, 1, &[])?)?;
+    Ok(before && have_delivered(&trace) == [false; 3])
+}
+
+#[test]
+fn a_new_lane_has_delivered_nothing(rt: HostRuntime) {
+    assert!(rt; delivered_by_lane(rt.alloc()) == Ok(true));
 }
 
 #[test]
