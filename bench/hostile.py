@@ -5,6 +5,7 @@ to answer is known from how each was made, and the same command makes the same b
     hostile.py SHAPE F [--part 8] [--seed 1]
 """
 import argparse
+import functools
 import random
 import sys
 
@@ -19,6 +20,7 @@ SHAPES = {
     "early": "256 processes; 192 crashes and restarts come first",
     "late": "256 processes; 192 crashes and restarts come last",
     "down": "256 processes, of which one is down from the first instant on",
+    "orphaned": "256 processes, of which one depends on the first delivery, which nobody lists, from then on",
     "shared": "256 processes; nearly all lists name the same determinants, so that each is held in many lanes",
     "released": "a determinant is forgotten and listed in turn, while very many deliveries of it and others stand",
 }
@@ -131,6 +133,15 @@ def down(part, rng):
     return 256, [("crash", 255)] + moved(run.entries, 1)
 
 
+def orphaned(part, rng):
+    run = generate.Run(256, 1, MAX_ENTRIES // part, 32, False)
+    draw = generate.run_gossip(run, rng)
+    run.finish(draw, False)
+    first = generate.deliveries_of(run.entries)[0]
+    run.entries[first][4].clear()
+    return 256, run.entries
+
+
 def shared(part, rng):
     run = generate.Run(256, 1, MAX_ENTRIES // part, 32, False)
     draw = generate.run_chain(run, rng)
@@ -172,9 +183,18 @@ MAKERS = {
     "early": early,
     "late": late,
     "down": down,
+    "orphaned": orphaned,
     "shared": shared,
     "released": released,
 }
+
+
+def answer_of(shape, f, entries):
+    """What the auditor has to answer, and the status with which it ends."""
+    if shape != "orphaned":
+        return generate.answer_of("safe", f, entries)
+    first = generate.deliveries_of(entries)[0]
+    return f"orphan f={f} instant={first + 1} delivery={first} crash=- orphan={entries[first][1]}", 1
 
 
 def text_of(n, entries):
@@ -195,6 +215,13 @@ def one_line(shape, size):
     return repeated(piece, size - 1) + "\n"
 
 
+@functools.lru_cache(maxsize=1)
+def made(shape, part, seed):
+    """The text, which is the same for every f, with the number of processes and the entries."""
+    n, entries = MAKERS[shape](part, random.Random(f"{shape} {part} {seed}"))
+    return text_of(n, entries), n, entries
+
+
 def make(shape, f_word, part=1, seed=1):
     """The text and what is known of it."""
     f = int(f_word)
@@ -202,9 +229,8 @@ def make(shape, f_word, part=1, seed=1):
         text = one_line(shape, MAX_BYTES // part)
         about = {"processes": 0, "entries": 0, "deliveries": 0, "listed": 0, "answer": "fault line=1 Form", "status": 2}
     else:
-        n, entries = MAKERS[shape](part, random.Random(f"{shape} {part} {seed}"))
-        text = text_of(n, entries)
-        answer, status = generate.answer_of("safe", f, entries)
+        text, n, entries = made(shape, part, seed)
+        answer, status = answer_of(shape, f, entries)
         about = {
             "processes": n,
             "entries": len(entries),

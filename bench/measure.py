@@ -5,113 +5,24 @@ Nothing here fails for being slow. The status is 1 where an answer is not the on
 """
 import argparse
 import concurrent.futures
-import json
 import os
 import platform
 import re
 import shutil
-import signal
 import subprocess
 import sys
-import threading
 import time
 
 import generate
 import hostile
+import runtime_log
+from measure_runtime import measure_runtime
+from timed import HERE, INPUTS, LIMIT, SLOW, measure, measure_in_turn, target_line
 
-HERE = os.path.dirname(os.path.abspath(__file__))
 TOP = os.path.dirname(HERE)
-INPUTS = os.path.join(HERE, "inputs")
 RESULTS = os.path.join(HERE, "RESULTS.md")
 KIT_JSON = os.path.join(HERE, "out", "json_lines")
-TIME = shutil.which("time")
-LIMIT = 20.0  # seconds that one run may take
-SLOW = 5.0  # a run that takes so long is not repeated
 FAULTS = ("0", "1", "3", "n")
-
-
-class Measured:
-    """Several runs of one command."""
-
-    def __init__(self):
-        self.walls = []
-        self.users = []
-        self.peak = 0
-        self.line = ""
-        self.status = None
-        self.over = False
-
-    def best(self):
-        return min(self.walls)
-
-    def told(self):
-        if self.over:
-            return f"over {LIMIT:.0f}"
-        if len(self.walls) == 1:
-            return f"{self.best():.3f} (once)"
-        return f"{self.best():.3f} (+{100 * (max(self.walls) / self.best() - 1):.0f}%)"
-
-
-def kill(group):
-    try:
-        os.killpg(group, signal.SIGKILL)
-    except ProcessLookupError:
-        pass
-
-
-def once(command, path, measured):
-    """One run with the file on standard input. The peak is told by the command `time` where there is one, since what the
-    system itself says of a child counts the memory of this program too."""
-    peak_file = os.path.join(INPUTS, "peak")
-    timed = [TIME, "-q", "-f", "%M", "-o", peak_file, *command] if TIME else command
-    with open(path, "rb") as given:
-        start = time.perf_counter()
-        child = subprocess.Popen(
-            timed, stdin=given, stdout=subprocess.PIPE, stderr=subprocess.DEVNULL, start_new_session=True
-        )
-        timer = threading.Timer(LIMIT, kill, [child.pid])
-        timer.start()
-        line = child.stdout.read().decode()
-        _, status, usage = os.wait4(child.pid, 0)
-        wall = time.perf_counter() - start
-        timer.cancel()
-    child.returncode = os.waitstatus_to_exitcode(status)
-    if child.returncode == -signal.SIGKILL:
-        measured.over = True
-        return
-    measured.walls.append(wall)
-    measured.users.append(usage.ru_utime)
-    measured.line = line.rstrip("\n")
-    measured.status = child.returncode
-    if timed is not command:
-        with open(peak_file) as told:
-            measured.peak = max(measured.peak, int(told.read().split()[-1]))
-    else:
-        measured.peak = max(measured.peak, usage.ru_maxrss)
-
-
-def measure(command, path):
-    """The best of three to five runs; a single one where it is slow."""
-    measured = Measured()
-    while not measured.over and len(measured.walls) < 5:
-        once(command, path, measured)
-        if measured.over or measured.walls[0] > SLOW:
-            break
-        if len(measured.walls) >= 3 and sum(measured.walls) > 1.0:
-            break
-    return measured
-
-
-def measure_in_turn(runs):
-    """Runs whose times are compared, one after the other and again, so that a change of the machine's speed meets all of
-    them: five to fifteen times each."""
-    measured = [Measured() for _ in runs]
-    while len(measured[0].walls) < 5 or (len(measured[0].walls) < 15 and sum(sum(each.walls) for each in measured) < 2.0):
-        for each, (command, path) in zip(measured, runs):
-            once(command, path, each)
-            if each.over:
-                return measured
-    return measured
 
 
 def misended(path, about):
@@ -204,11 +115,18 @@ def make_input(text):
     return text[:3], about
 
 
+def make_group(texts):
+    return [make_input(text) for text in texts]
+
+
 def make_inputs(rows, seed):
+    """The inputs, by two processes. Hostile texts of one shape are made by the same one, which makes them once."""
     os.makedirs(INPUTS, exist_ok=True)
-    texts = list(dict.fromkeys((*row[:3], seed) for row in rows))
+    groups = {}
+    for text in dict.fromkeys((*row[:3], seed) for row in rows):
+        groups.setdefault(text[:2] if text[1] == "hostile" else text, []).append(text)
     with concurrent.futures.ProcessPoolExecutor(2) as pool:
-        return dict(pool.map(make_input, texts))
+        return dict(each for group in pool.map(make_group, groups.values()) for each in group)
 
 
 def output_of(command, otherwise):
@@ -286,11 +204,7 @@ def columns(row, before):
 
 def earlier_walls(this_machine):
     """The wall times of the table that is there, if it is of such a machine."""
-    try:
-        with open(RESULTS) as file:
-            text = file.read()
-    except OSError:
-        return {}
+    text = sections_there().get("Audit", "")
     if f"- Machine: {this_machine}\n" not in text:
         return {}
     walls = {}
@@ -317,13 +231,6 @@ def worst(rows, ratio):
     return max(((ratio(row), " ".join(row.key()[:2])) for row in rows), default=(None, "no trace"))
 
 
-def target_line(name, value, bound, over=False):
-    if value is None:
-        return f"| {name} | {bound:.1f} | not measured | no |"
-    told = f"over {value:.2f}" if over else f"{value:.2f}"
-    return f"| {name} | {bound:.1f} | {told} | {'yes' if value <= bound and not over else 'no'} |"
-
-
 def lists_targets(row):
     """What is asked of the trace with the most entries and the most listed determinants."""
     name = "{entries:,} entries with {listed:,} listed determinants by one worker".format(**row.about)
@@ -340,7 +247,9 @@ def targets(rows):
     row = next((row for row in rows if row.key() == ("lists safe", "1", "1") and row.full), None)
     lines += lists_targets(row) if row else ["| not run | | | no |"]
     compared = [row for row in rows if row.read and row.kit]
-    for row in compared[: len(generate.SHAPES)]:
+    for row in compared:
+        if (row.about["variant"], row.about["f_word"]) != ("safe", "1"):
+            continue
         name = f"reading and checking `{row.key()[0]}` / the kit's JSON reader"
         lines.append(target_line(name, row.read.best() / row.kit.best(), 1.3))
     value, trace = worst(compared, lambda row: row.read.best() / row.kit.best())
@@ -383,10 +292,10 @@ def hostile_targets(rows):
     if colliding and scattered:
         lines.append(target_line("colliding determinants / the same in a random order",
                                  colliding.full.best() / scattered.full.best(), 1.3, colliding.full.over))
-    for shape in ("early", "down"):
-        row = found.get((f"{shape} hostile", "0", "1"))
+    for shape, f in (("early", "0"), ("down", "0"), ("orphaned", "0"), ("orphaned", "1")):
+        row = found.get((f"{shape} hostile", f, "1"))
         if row:
-            lines.append(target_line(f"`{shape} hostile` for f = 0, told at the first instant: whole audit / reading",
+            lines.append(target_line(f"`{shape} hostile` for f = {f}, told at an early instant: whole audit / reading",
                                      row.full.best() / row.read.best(), 1.3, row.full.over))
     for shape in hostile.LINES:
         row = found.get((f"{shape} hostile", "1", "1"))
@@ -396,16 +305,18 @@ def hostile_targets(rows):
     return lines
 
 
+HEAD = """\
+# Results of the benchmark
+
+`bench/run` makes traces and scripts, measures the program on them, and rewrites this file.
+"""
+
 ABOUT = """\
-`bench/run` makes the traces, measures the program on them, and rewrites this file.
-
-{facts}
-
-## Targets
+### Targets
 
 {targets}
 
-## Table
+### Table
 
 {shapes}
 - {variants}.
@@ -444,9 +355,8 @@ def table_of(rows, before):
     return "\n".join(lines)
 
 
-def report(rows, facts, before):
+def audit_section(rows, before):
     return ABOUT.format(
-        facts="\n".join(f"- {name}: {value}" for name, value in facts.items()),
         targets="\n".join(targets(rows)),
         shapes="\n".join(f"- `{name}`: {text}." for name, text in generate.SHAPES.items()),
         variants="; ".join(f"`{name}`: {text}" for name, text in generate.VARIANTS.items()),
@@ -457,15 +367,8 @@ def report(rows, facts, before):
     )
 
 
-def main():
-    words = argparse.ArgumentParser(description=__doc__.split("\n")[0])
-    words.add_argument("--program", default=os.path.join(TOP, "crates/causal_tool/out/causal_tool"))
-    words.add_argument("--seed", type=int, default=1)
-    words.add_argument("--seconds", type=float, default=530, help="no row is begun after so many seconds (530)")
-    words.add_argument("--commit", help="the commit of the program, if it is not the one that is checked out")
-    given = words.parse_args()
-    start = time.monotonic()
-    load = os.getloadavg()[0]
+def measure_audit(given, start):
+    """The section on the audit, and what was answered wrongly."""
     rows = plan()
     abouts = make_inputs(rows, given.seed)
     rows = [Row(abouts[row[:3]], row[3]) for row in rows]
@@ -474,6 +377,10 @@ def main():
             text = (row.about["shape"], row.about["variant"], row.about["f_word"])
             measure_row(row, given.program, path_of(text))
             print(*row.key(), row.full.told(), *row.wrong, file=sys.stderr, flush=True)
+    return audit_section(rows, earlier_walls(machine())), [line for row in rows for line in row.wrong]
+
+
+def facts_of(part, given, load, start):
     facts = {
         "Date": time.strftime("%Y-%m-%d %H:%M UTC", time.gmtime()),
         "Machine": machine(),
@@ -485,11 +392,63 @@ def main():
         "Seed": given.seed,
         "Time taken": f"{time.monotonic() - start:.0f} s",
     }
-    written = "# Results of the benchmark\n\n" + report(rows, facts, earlier_walls(facts["Machine"]))
-    with open(RESULTS, "w") as file:
+    if part != "audit":
+        del facts["Yardsticks"], facts["Seed"]
+    return "\n".join(f"- {name}: {value}" for name, value in facts.items())
+
+
+def sections_there():
+    """The sections of the results that are there, by their names."""
+    try:
+        with open(RESULTS) as file:
+            _, *parts = re.split(r"^## ", file.read(), flags=re.MULTILINE)
+    except OSError:
+        return {}
+    return {name: text.strip("\n") for name, text in (part.split("\n", 1) for part in parts)}
+
+
+def earlier_runtime():
+    """The runtime's section that is there, if it is of such a machine."""
+    text = sections_there().get("Runtime", "")
+    return text if f"- Machine: {machine()}\n" in text else ""
+
+
+SECTIONS = {"runtime": "Runtime", "log": "The runtime's log", "audit": "Audit"}
+MEASURES = {
+    "runtime": lambda given, start: measure_runtime(given, earlier_runtime()),
+    "log": lambda given, start: runtime_log.section(),
+    "audit": measure_audit,
+}
+
+
+def words():
+    words = argparse.ArgumentParser(description=__doc__.split("\n")[0])
+    words.add_argument("--program", default=os.path.join(TOP, "crates/causal_tool/out/causal_tool"))
+    words.add_argument("--only", choices=SECTIONS, help="one part; the other's results stay as they are")
+    words.add_argument("--seed", type=int, default=1)
+    words.add_argument("--seconds", type=float, default=530, help="no row of the audit is begun after so many seconds (530)")
+    words.add_argument("--core-seconds", type=int, default=2, help="how long a core delivers at most (2)")
+    words.add_argument("--part", type=int, default=1, help="scripts and calls of the runtime are divided by this (1)")
+    words.add_argument("--commit", help="the commit of the program, if it is not the one that is checked out")
+    words.add_argument("--out", default=RESULTS, help="the file to write, if it is not RESULTS.md")
+    return words.parse_args()
+
+
+def main():
+    given = words()
+    start = time.monotonic()
+    sections, wrong = sections_there(), []
+    for part, name in SECTIONS.items():
+        if given.only in (None, part):
+            began, load = time.monotonic(), os.getloadavg()[0]
+            text, found = MEASURES[part](given, start)
+            sections[name] = facts_of(part, given, load, began) + "\n\n" + text.strip("\n")
+            wrong += found
+    written = HEAD + "".join(f"\n## {name}\n\n{sections[name].strip()}\n" for name in SECTIONS.values() if name in sections)
+    with open(given.out, "w") as file:
         file.write(written)
     print(written)
-    return 1 if any(row.wrong for row in rows) else 0
+    return 1 if wrong else 0
 
 
 if __name__ == "__main__":
