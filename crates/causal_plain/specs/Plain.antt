@@ -1,18 +1,30 @@
 -- What the parts of the plain judgement find.
-use Rattle.std.specs.Prelude.{◌≡◌, ℕ, ◌<◌, ◌≤◌, ◌↔◌, ◌⊎◌, Bool, true, false, List, length, slice_index_or, Contains}
+use Rattle.std.specs.Prelude.{◌≡◌, ℕ, ◌<◌, ◌≤◌, ◌↔◌, ◌⊎◌, Bool, true, false, List, length, reverse, slice_index_or, Contains, Option, MatchOption}
 use Rattle.std.specs.Ordering.{nat_cmp}
 use Rattle.std.specs.FinSet.{FinSet, contains, insert, is_subset, len}
 use Rattle.causal_name.specs.declared.Det.{Det}
 use Rattle.causal_trace.specs.declared.entry.Entry.{Entry}
-use Rattle.causal_trace.specs.Past.{is_stable, logs}
+use Rattle.causal_trace.specs.Past.{is_down, is_stable, lane, logs}
 use Rattle.causal_trace.specs.Dependence.{IsEventOf, DirectlyPrecedes, Reaches, Depends}
+use Rattle.causal_trace.specs.Judgement.{HasOrphan, IsSafe}
+use Rattle.causal_trace.specs.Rows.{Recording}
 use Rattle.causal_audit.specs.declared.verdict.Verdict.{Verdict}
 use Rattle.causal_audit.specs.declared.verdict.Verdict.TheVariants.{Accept, Exceeded, Orphan}
-use Rattle.causal_audit.specs.Verdicts.{IsExcess, IsBreach}
+use Rattle.causal_audit.specs.Verdicts.{IsExcess, IsBreach, IsLeastOrphan}
+use Rattle.causal_plain.specs.declared.orphans.LeastOrphan.{LeastOrphan}
+use Rattle.causal_plain.specs.declared.state.Lane.{Lane}
+
+-- the lane of the event at i is found, or there is no event
+abbrev pub IsLaneAt : List Entry → ℕ → Option Lane → Type 0
+IsLaneAt past i found = MatchOption found ((p l : ℕ) → IsEventOf past i p l → ⊥) (λ lane. IsEventOf past i lane.process.0 lane.number)
 
 -- of the positions that have a mark, k reaches just the marked ones
 abbrev pub MarksReached : List Entry → ℕ → List Bool → Type 0
 MarksReached past k marks = (j : ℕ) → j < length marks → (slice_index_or marks j false ≡ true) ↔ Reaches past k j
+
+-- each of these entries, the oldest first, has a mark: whether k reaches it
+abbrev pub AreReachMarks : List Entry → ℕ → List Bool → Type 0
+AreReachMarks entries k marks = (length marks ≡ length entries) × MarksReached (reverse entries) k marks
 
 -- a marked position directly precedes j
 abbrev pub FollowsMarked : List Entry → List Bool → ℕ → Type 0
@@ -21,6 +33,10 @@ FollowsMarked past marks j = (i : ℕ) × (i < length marks) × (slice_index_or 
 -- a marked position is an event of p in this lane
 abbrev pub HasMarkedEvent : List Entry → List Bool → ℕ → ℕ → Type 0
 HasMarkedEvent past marks p l = (i : ℕ) × (i < length marks) × (slice_index_or marks i false ≡ true) × IsEventOf past i p l
+
+-- p is up and a marked position is an event of its present lane
+abbrev pub DependsByMarks : List Entry → List Bool → ℕ → Type 0
+DependsByMarks past marks p = (is_down past p ≡ false) × HasMarkedEvent past marks p (lane past p)
 
 -- a set has just those of the numbers below n for which P holds
 pub record HasJust (n : ℕ) (P : ℕ → Type 0) (set : FinSet nat_cmp) : Type 0 where
@@ -84,8 +100,25 @@ IsLeastSet sets s = Contains sets s × IsInEach sets s
 abbrev pub HasNoLeast : List (FinSet nat_cmp) → Type 0
 HasNoLeast sets = (s : FinSet nat_cmp) → IsLeastSet sets s → ⊥
 
+-- how k fails is found, or it has no orphan
+abbrev pub TellsLeastOrphan : ℕ → ℕ → List Entry → ℕ → Option LeastOrphan → Type 0
+TellsLeastOrphan n f past k found =
+    MatchOption found (HasOrphan n f past k → ⊥) (λ least. IsLeastOrphan n f past k least.crash least.orphan)
+
 -- the verdict says how the last of these instants fails
 abbrev pub IsFailure : ℕ → ℕ → List Entry → Verdict → Type 0
 IsFailure n f past Accept = ⊥
 IsFailure n f past (Exceeded t down) = (t ≡ length past) × IsExcess n f past down
 IsFailure n f past (Orphan t k crash orphan) = (t ≡ length past) × IsBreach n f past k crash orphan
+
+-- a failure is found, or no delivery has an orphan
+abbrev pub TellsOrphan : ℕ → ℕ → List Entry → Option Verdict → Type 0
+TellsOrphan n f past found = MatchOption found ((k : ℕ) → HasOrphan n f past k → ⊥) (IsFailure n f past)
+
+-- a failure is found, or the last instant is safe
+abbrev pub TellsFailure : ℕ → ℕ → List Entry → Option Verdict → Type 0
+TellsFailure n f past found = MatchOption found (IsSafe n f past) (IsFailure n f past)
+
+-- what is recorded of so many processes by these entries, the oldest first
+abbrev pub recorded : ℕ → List Entry → Recording
+recorded processes entries = record { processes = processes; past = reverse entries }

@@ -3,7 +3,7 @@ ghost use Rattle.std.specs.Prelude.{◌≡◌, ◌≤◌, ◌<◌, ◌↔◌, �
 ghost use Rattle.std.specs.Option.{option_map};
 ghost use Rattle.causal_trace.specs.Past as past;
 ghost use Rattle.causal_trace.specs.Dependence.{AreForward, actor, is_delivery_of, IsEventOf, DirectlyPrecedes, Reaches};
-ghost use Rattle.causal_plain.specs.Plain.{MarksReached, FollowsMarked, HasMarkedEvent, AreDependentProcesses};
+ghost use Rattle.causal_plain.specs.Plain.{IsLaneAt, MarksReached, AreReachMarks, FollowsMarked, HasMarkedEvent, DependsByMarks, AreDependentProcesses};
 
 use crate::state::{Lane, is_down, present_lane};
 use causal_holders::Holders;
@@ -24,7 +24,7 @@ fn actor_of(e: &Entry) -> Option<Pid>
 
 /// The lane of the event at a position, or `None` where no event is.
 fn lane_at(entries: &[Entry], i: usize) -> Option<Lane>
-    ensures { MatchOption result ((p l : ℕ) → ¬ IsEventOf (reverse entries.now) i p l) (λ lane. IsEventOf (reverse entries.now) i lane.process.0 lane.number) }
+    ensures { IsLaneAt (reverse entries.now) i result }
 {
     let process = actor_of(entries.get(i)?)?;
     Some(present_lane(&entries[..i], process))
@@ -95,7 +95,7 @@ fn is_reached(entries: &[Entry], marks: &[bool], k: usize, j: usize) -> bool
 /// A mark for each position: whether the event at k reaches it.
 fn reached_from(alloc: Global, entries: &[Entry], k: usize) -> Result<Vec<bool>, AllocError>
     requires { AreForward (reverse entries.now) }
-    ensures { IfOk result (λ marks. (length marks.items ≡ length entries.now) × MarksReached (reverse entries.now) k marks.items) }
+    ensures { IfOk result (λ marks. AreReachMarks entries.now k marks.items) }
 {
     let mut marks = Vec::new(alloc);
     for j in 0..entries.len() {
@@ -120,7 +120,7 @@ fn has_marked_event(entries: &[Entry], marks: &[bool], lane: Lane) -> bool
 /// Whether the process's state depends on the delivery whose reach is marked: it is up, and an event of its present lane
 /// is marked.
 fn depends(entries: &[Entry], marks: &[bool], p: Pid) -> bool
-    ensures { IsTrue result ↔ ((past.is_down (reverse entries.now) p.0 ≡ false) × HasMarkedEvent (reverse entries.now) marks.now p.0 (past.lane (reverse entries.now) p.0)) }
+    ensures { IsTrue result ↔ DependsByMarks (reverse entries.now) marks.now p.0 }
 {
     !is_down(entries, p) && has_marked_event(entries, marks, present_lane(entries, p))
 }

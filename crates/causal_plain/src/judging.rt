@@ -1,11 +1,10 @@
 //! Each instant judged, from the first on.
-ghost use Rattle.std.specs.Prelude.{◌≡◌, ◌≤◌, ℕ, length, reverse, MatchOption, IfOk};
+ghost use Rattle.std.specs.Prelude.{◌≤◌, length, reverse, IfOk};
 ghost use Rattle.causal_name.specs.Sets.{count_below};
 ghost use Rattle.causal_trace.specs.Past as past;
-ghost use Rattle.causal_trace.specs.Judgement.{HasOrphan, IsSafe};
 ghost use Rattle.causal_trace.specs.Rows.{AreAccepted};
 ghost use Rattle.causal_trace.specs.Dependence.{AreForward};
-ghost use Rattle.causal_plain.specs.Plain.{IsFailure};
+ghost use Rattle.causal_plain.specs.Plain.{TellsFailure, TellsOrphan};
 ghost use Rattle.causal_audit.specs.Verdicts.{IsVerdict};
 
 use crate::orphans::least_orphan;
@@ -25,7 +24,7 @@ fn first_orphan(
     requires few { length entries.now ≤ 65536 }
     requires earlier { AreForward (reverse entries.now) }
     requires few_down { count_below n (past.is_down (reverse entries.now)) ≤ f }
-    ensures { IfOk result (λ found. MatchOption found ((k : ℕ) → ¬ HasOrphan n f (reverse entries.now) k) (IsFailure n f (reverse entries.now))) }
+    ensures { IfOk result (TellsOrphan n f (reverse entries.now)) }
 {
     for k in 0..entries.len() {
         if let Some(least) = least_orphan(alloc, entries, n, f, k)? {
@@ -45,7 +44,7 @@ fn failure(alloc: Global, entries: &[Entry], n: u16, f: u16) -> Result<Option<Ve
     requires count { n ≤ 256 }
     requires few { length entries.now ≤ 65536 }
     requires earlier { AreForward (reverse entries.now) }
-    ensures { IfOk result (λ found. MatchOption found (IsSafe n f (reverse entries.now)) (IsFailure n f (reverse entries.now))) }
+    ensures { IfOk result (TellsFailure n f (reverse entries.now)) }
 {
     let down = down_set(entries, n);
     if down.len() > u32::from(f) {

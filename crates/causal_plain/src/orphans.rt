@@ -2,10 +2,8 @@
 ghost use Rattle.std.specs.Prelude.{◌≡◌, ◌≤◌, ◌<◌, ◌↔◌, ℕ, IsTrue, true, false, reverse, MatchOption, IfOk, Some};
 ghost use Rattle.std.specs.FinSet.{contains};
 ghost use Rattle.causal_trace.specs.Past as past;
-ghost use Rattle.causal_trace.specs.Judgement.{HasOrphan};
 ghost use Rattle.causal_trace.specs.Dependence.{AreForward};
-ghost use Rattle.causal_audit.specs.Verdicts.{IsLeastOrphan};
-ghost use Rattle.causal_plain.specs.Plain.{IsLoggedOutside, IsLost, AreOrphans, Breaks, AreBreaking, IsInEach, IsLeastSet, HasNoLeast};
+ghost use Rattle.causal_plain.specs.Plain.{IsLoggedOutside, IsLost, AreOrphans, Breaks, AreBreaking, IsInEach, IsLeastSet, HasNoLeast, TellsLeastOrphan};
 
 use crate::crash_sets::crash_sets;
 use crate::events::dependents;
@@ -125,7 +123,7 @@ pub fn least_orphan(
 ) -> Result<Option<LeastOrphan>, AllocError>
     requires count { n ≤ 256 }
     requires earlier { AreForward (reverse entries.now) }
-    ensures { IfOk result (λ found. MatchOption found (¬ HasOrphan n f (reverse entries.now) k) (λ o. IsLeastOrphan n f (reverse entries.now) k o.crash o.orphan)) }
+    ensures { IfOk result (TellsLeastOrphan n f (reverse entries.now) k) }
 {
     let Some(det) = det_at(entries, k) else {
         return Ok(None);

@@ -16,6 +16,7 @@ use Rattle.causal_protocol.specs.Refusals.{first_fault}
 use Rattle.causal_core.specs.CoreView.{CoreState}
 use Rattle.causal_core.specs.Starts.{Starts}
 use Rattle.causal_script.specs.declared.script.Command.{Command}
+use Rattle.causal_script.specs.declared.script.Script.{Script}
 use Rattle.causal_run.specs.declared.fault.RunFault.{RunFault}
 use Rattle.causal_run.specs.declared.fault.RunFault.TheVariants as Fault
 
@@ -81,3 +82,7 @@ module _ {B : Type 0} (answers : B → List Input → List (List Outgoing)) wher
     pub starts : Starts answers f boxes core
     pub recording : r.recording ≡ core.run.recording
     pub faults : r.faults ≡ f
+
+  -- what is recorded of a run of all the script's commands, from such a start on
+  abbrev pub IsRunOf : Script → List B → Recording → Type 0
+  IsRunOf script boxes recording = IsRunFrom (IsStarted script.f boxes) script.commands.items recording

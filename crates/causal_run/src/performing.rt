@@ -2,7 +2,7 @@
 ghost use Rattle.std.specs.Prelude.{◌≡◌, ◌≤◌, [], length, drop, IfOk, IfErr, OnOk};
 ghost use Rattle.std.specs.Vec.Iter.{into_iter_items};
 ghost use Rattle.causal_trace.specs.Judgement.{IsSafeTrace};
-ghost use Rattle.causal_run.specs.Runs.{spares_for, spares_in, IsStarted, IsRunFrom, Tells};
+ghost use Rattle.causal_run.specs.Runs.{spares_for, spares_in, IsRunOf, IsStarted, Tells};
 ghost use Rattle.causal_run.specs.Inside.Asking.{Asked, AreDone, IsStopped};
 
 use crate::fault::RunFault;
@@ -100,7 +100,7 @@ pub fn perform<R: Wait>(
     requires few { script.now.n ≤ 256 }
     requires boxes { length boxes.items ≡ script.now.n }
     requires spares { length spares.items ≡ spares_in script.now.commands.items }
-    ensures run { IfOk result (λ trace. IsRunFrom (IsStarted answers script.now.f boxes.items) script.now.commands.items trace.recording) }
+    ensures run { IfOk result (λ trace. IsRunOf answers script.now boxes.items trace.recording) }
     ensures safe { IfOk result (λ trace. IsSafeTrace trace.recording script.now.f) }
     ensures refused { IfErr result (Tells (IsStarted answers script.now.f boxes.items) script.now.commands.items) }
 {

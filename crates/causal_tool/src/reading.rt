@@ -1,8 +1,6 @@
 //! The text of a script, from a reader of bytes.
-ghost use Rattle.std.specs.Prelude.{◌≡◌, ◌≤◌, ◌+◌, ℕ, List, length, IfOk, IfSome};
-ghost use Rattle.std.specs.Io.KnownBytes.{Consumes};
-ghost use Rattle.causal_script.specs.Spelling.{max_script};
-ghost use Rattle.causal_tool.specs.Runs.{read_of};
+ghost use Rattle.std.specs.Prelude.{◌≡◌, IfOk, IfSome};
+ghost use Rattle.causal_tool.specs.Runs.{ReadsNoMore, read_of};
 
 use std::alloc::Global;
 use std::io::Read;
@@ -32,7 +30,7 @@ pub enum ReadFault {
 /// `Read` where the reader failed, `NoMemory` where memory was refused; the reader has then lost what it gave before.
 pub fn read_script<I: Read>(alloc: Global, input: &mut I) -> Result<Vec<u8>, ReadFault>
     ensures text { IfOk result (λ bytes. IfSome (I.remaining input.old) (λ text. bytes.items ≡ read_of text)) }
-    ensures most { (given : List ℕ) × Consumes (I.remaining input.old) (I.remaining input.new) given × (length given ≤ max_script + 1) }
+    ensures most { ReadsNoMore (I.remaining input.old) (I.remaining input.new) }
 {
     let mut bytes = Vec::new(alloc);
     let mut piece = [0u8; PIECE];

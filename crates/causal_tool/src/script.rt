@@ -1,12 +1,6 @@
 //! The run of a script, over any reader and writer.
-ghost use Rattle.std.specs.Prelude.{◌≡◌, ◌≢◌, ◌+◌, ◌≤◌, ℕ, List, length, Ok, IfOk, IfErr, IfSome};
-ghost use Rattle.std.specs.Io.KnownBytes.{Consumes};
-ghost use Rattle.causal_script.specs.declared.script.Script.{Script};
-ghost use Rattle.causal_script.specs.Spelling.{Spells, plan_of, max_script};
-ghost use Rattle.causal_script.specs.Faults.{IsFirstFault};
-ghost use Rattle.causal_run.specs.Runs.{Tells};
-ghost use Rattle.causal_run.specs.Members.{IsStartOf};
-ghost use Rattle.causal_tool.specs.Runs.{IsPrinted, Prints, PrintsNothing, read_of};
+ghost use Rattle.std.specs.Prelude.{◌≡◌, Ok, IfOk, IfErr};
+ghost use Rattle.causal_tool.specs.Runs.{AnswersFault, AnswersStop, IsPrinted, IsPrintedFor, PrintsFor, PrintsNothing, ReadsNoMore};
 
 use crate::ended::Ended;
 use crate::reading::{ReadFault, read_script};
@@ -30,8 +24,8 @@ pub fn run_stream<R: Wait, I: Read, O: Write>(
     input: &mut I,
     output: &mut O,
 ) -> Ended
-    ensures prints { IfSome (I.remaining input.old) (λ text. Prints (read_of text) result (O.contents output.old) (O.contents output.new)) }
-    ensures most { (given : List ℕ) × Consumes (I.remaining input.old) (I.remaining input.new) given × (length given ≤ max_script + 1) }
+    ensures prints { PrintsFor (I.remaining input.old) result (O.contents output.old) (O.contents output.new) }
+    ensures most { ReadsNoMore (I.remaining input.old) (I.remaining input.new) }
 {
     let Answer { ended, text } = match answer_from(rt, alloc, input) {
         Ok(answer) => answer,
@@ -51,9 +45,9 @@ struct Answer {
 }
 
 fn answer_from<R: Wait, I: Read>(rt: &R, alloc: Global, input: &mut I) -> Result<Answer, Ended>
-    ensures ok { IfOk result (λ answer. IfSome (I.remaining input.old) (λ text. IsPrinted (read_of text) answer.ended answer.text.items)) }
+    ensures ok { IfOk result (λ answer. IsPrintedFor (I.remaining input.old) answer.ended answer.text.items) }
     ensures err { IfErr result PrintsNothing }
-    ensures most { (given : List ℕ) × Consumes (I.remaining input.old) (I.remaining input.new) given × (length given ≤ max_script + 1) }
+    ensures most { ReadsNoMore (I.remaining input.old) (I.remaining input.new) }
 {
     match read_script(alloc, input) {
         Ok(text) => answer_to(rt, alloc, text.as_slice()),
@@ -77,8 +71,7 @@ fn answer_to<R: Wait>(rt: &R, alloc: Global, text: &[u8]) -> Result<Answer, Ende
 }
 
 fn faulted(alloc: Global, fault: ScriptFault) -> Result<Answer, Ended>
-    ensures ok { IfOk result (λ answer. (text : List ℕ) → (fault.kind ≢ ScriptFaultKind.NoMemory → IsFirstFault text fault)
-        → IsPrinted text answer.ended answer.text.items) }
+    ensures ok { IfOk result (λ answer. AnswersFault fault answer.ended answer.text.items) }
     ensures err { IfErr result PrintsNothing }
 {
     match fault.kind {
@@ -88,8 +81,7 @@ fn faulted(alloc: Global, fault: ScriptFault) -> Result<Answer, Ended>
 }
 
 fn stopped(alloc: Global, fault: RunFault) -> Result<Answer, Ended>
-    ensures ok { IfOk result (λ answer. (text : List ℕ) (script : Script) → Spells text (plan_of script)
-        → Tells (IsStartOf script) script.commands.items fault → IsPrinted text answer.ended answer.text.items) }
+    ensures ok { IfOk result (λ answer. AnswersStop fault answer.ended answer.text.items) }
     ensures err { IfErr result PrintsNothing }
 {
     match fault {

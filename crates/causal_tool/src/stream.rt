@@ -1,7 +1,6 @@
 //! The program's work over any reader and writer.
-ghost use Rattle.std.specs.Prelude.{◌≡◌, ◌≢◌, ◌≤◌, IfOk, IfErr, IfSome, Err};
-ghost use Rattle.causal_text.specs.Spelling.{IsFirstFault};
-ghost use Rattle.causal_tool.specs.Streams.{IsAnswer, IsSilent, Writes};
+ghost use Rattle.std.specs.Prelude.{◌≡◌, ◌≢◌, ◌≤◌, IfOk, IfErr, Err};
+ghost use Rattle.causal_tool.specs.Streams.{IsAnswerFor, IsSilent, NamesFirstFault, WritesFor};
 
 use crate::ended::Ended;
 use crate::judged::{StreamFault, audit_from};
@@ -37,7 +36,7 @@ pub fn audit_stream<R: Threads + Wait, I: Read, O: Write, G: Gate + Sync>(
     gate: &G,
 ) -> Ended
     requires { (1 ≤ workers) × (workers ≤ 64) }
-    ensures writes { IfSome (I.remaining input.old) (λ text. Writes text f result (O.contents output.old) (O.contents output.new)) }
+    ensures writes { WritesFor (I.remaining input.old) f result (O.contents output.old) (O.contents output.new) }
     ensures alone { result ≡ Ended.NoWorker → 2 ≤ workers }
 {
     audit_and_tell(rt, alloc, input, output, f, workers, gate).ended
@@ -54,8 +53,8 @@ pub fn audit_and_tell<R: Threads + Wait, I: Read, O: Write, G: Gate + Sync>(
     gate: &G,
 ) -> Told
     requires { (1 ≤ workers) × (workers ≤ 64) }
-    ensures writes { IfSome (I.remaining input.old) (λ text. Writes text f result.ended (O.contents output.old) (O.contents output.new)) }
-    ensures fault { IfSome (I.remaining input.old) (λ text. IfSome result.fault (λ fault. IsFirstFault text fault)) }
+    ensures writes { WritesFor (I.remaining input.old) f result.ended (O.contents output.old) (O.contents output.new) }
+    ensures fault { NamesFirstFault (I.remaining input.old) result.fault }
     ensures alone { result.ended ≡ Ended.NoWorker → 2 ≤ workers }
 {
     let answer = match answered(rt, alloc, input, f, workers, gate) {
@@ -89,8 +88,8 @@ fn answered<I: Read, G: Gate + Sync, R: Threads + Wait>(
     gate: &G,
 ) -> Result<Answer, Ended>
     requires { (1 ≤ workers) × (workers ≤ 64) }
-    ensures ok { IfOk result (λ answer. IfSome (I.remaining input.old) (λ text. IsAnswer text f answer.ended answer.line.items)) }
-    ensures fault { IfOk result (λ answer. IfSome (I.remaining input.old) (λ text. IfSome answer.fault (λ fault. IsFirstFault text fault))) }
+    ensures ok { IfOk result (λ answer. IsAnswerFor (I.remaining input.old) f answer.ended answer.line.items) }
+    ensures fault { IfOk result (λ answer. NamesFirstFault (I.remaining input.old) answer.fault) }
     ensures whole { IfOk result (λ answer. answer.ended ≢ Ended.NoWorker) }
     ensures err { IfErr result IsSilent }
     ensures alone { result ≡ Err Ended.NoWorker → 2 ≤ workers }

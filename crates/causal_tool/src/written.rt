@@ -1,6 +1,7 @@
 //! Bytes to a writer, call by call.
-ghost use Rattle.std.specs.Prelude.{◌<◌, length, take, IfErr, OnOk};
+ghost use Rattle.std.specs.Prelude.{◌<◌, length, IfErr, OnOk};
 ghost use Rattle.std.specs.Io.KnownBytes.{Appends};
+ghost use Rattle.causal_tool.specs.Streams.{StopsIn};
 
 use std::io::Write;
 use thiserror::Error;
@@ -17,7 +18,7 @@ pub struct WriteFault {
 pub fn write_whole<O: Write>(output: &mut O, bytes: &[u8]) -> Result<(), WriteFault>
     ensures ok { OnOk result (Appends (O.contents output.old) (O.contents output.new) bytes.now) }
     ensures part { IfErr result (λ fault. fault.written < length bytes.now) }
-    ensures err { IfErr result (λ fault. Appends (O.contents output.old) (O.contents output.new) (take fault.written bytes.now)) }
+    ensures err { IfErr result (StopsIn bytes.now (O.contents output.old) (O.contents output.new)) }
 {
     let mut written = 0;
     while written < bytes.len() {

@@ -4,6 +4,7 @@ use Rattle.causal_trace.specs.Past.{deliveries_in}
 use Rattle.causal_trace.specs.Rows.{Recording}
 use Rattle.causal_text.specs.Spelling.{Spells, IsFirstFault}
 use Rattle.causal_text.specs.declared.kind.TextKind.TheVariants as kind
+use Rattle.causal_audit.specs.declared.verdict.Verdict.{Verdict}
 use Rattle.causal_audit.specs.Verdicts.{IsVerdict}
 use Rattle.causal_workers.specs.declared.judged.Judged.{Judged}
 use Rattle.causal_workers.specs.declared.judged.AuditTextFault.{AuditTextFault}
@@ -16,6 +17,10 @@ pub record IsJudgement (text : List ℕ) (f : ℕ) (judged : Judged) : Type 0 wh
   pub verdict : IsVerdict recording f judged.verdict
   pub entries : judged.entries ≡ length recording.past
   pub deliveries : judged.deliveries ≡ deliveries_in recording.past
+
+-- no other verdict on the recording for f is true
+abbrev pub IsOnlyVerdict : Recording → ℕ → Verdict → Type 0
+IsOnlyVerdict recording f verdict = (other : Verdict) → IsVerdict recording f other → other ≡ verdict
 
 -- a fault of the text that is not want of memory is its first, and only a text that spells a trace is audited
 abbrev pub IsFaultOf : List ℕ → AuditTextFault → Type 0

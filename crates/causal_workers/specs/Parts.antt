@@ -38,10 +38,18 @@ abbrev pub AreTasks : Recording → ℕ → ℕ → List Task → ℕ → Type 0
 AreTasks r f from [] to = from ≡ to
 AreTasks r f from (task ∷ tasks) to = IsPart r f from task.part × HasRoom task.part task.room × AreTasks r f task.part.to tasks to
 
+-- the same of all that comes after this part, in the same run and for the same f
+abbrev pub AreTasksAfter : Part → List Task → Type 0
+AreTasksAfter own tasks = AreTasks own.course.now own.f own.to tasks (deliveries_in own.course.now.past)
+
 -- the workers' parts follow one another in the same way
 abbrev pub Follows : Recording → ℕ → ℕ → List Started → ℕ → Type 0
 Follows r f from [] to = from ≡ to
 Follows r f from (w ∷ ws) to = IsPart r f from w.promise × Follows r f w.promise.to ws to
+
+-- the same of all that comes after this part, in the same run and for the same f
+abbrev pub FollowsAfter : Part → List Started → Type 0
+FollowsAfter own started = Follows own.course.now own.f own.to started (deliveries_in own.course.now.past)
 
 -- `first` is the least breach of the deliveries below some number, and the workers' parts go on from there to `to`
 abbrev pub Covers : Recording → ℕ → Option Breach → List Started → ℕ → Type 0

@@ -5,7 +5,8 @@ ghost use Rattle.causal_trace.specs.Past.{deliveries_in};
 ghost use Rattle.causal_trace.specs.Rows.{Recording};
 ghost use Rattle.causal_audit.specs.Breaches.{LeastBreach};
 ghost use Rattle.causal_audit.specs.Verdicts.{IsVerdict};
-ghost use Rattle.causal_workers.specs.Parts.{AreTasks, Covers, Follows, HasRoom, IsFirstPart};
+ghost use Rattle.causal_workers.specs.Judgements.{IsOnlyVerdict};
+ghost use Rattle.causal_workers.specs.Parts.{AreTasksAfter, Covers, FollowsAfter, HasRoom, IsFirstPart};
 
 use crate::gate::Gate;
 use crate::part::{Part, Started, Task};
@@ -57,7 +58,7 @@ pub fn audit<G: Gate + Sync, R: Threads + Wait>(
 ) -> Result<Verdict, AuditFault>
     requires { (1 ≤ workers) × (workers ≤ 64) }
     ensures verdict { IfOk result (IsVerdict trace.now.recording f) }
-    ensures only { IfOk result (λ verdict. (other : Verdict) → IsVerdict trace.now.recording f other → other ≡ verdict) }
+    ensures only { IfOk result (IsOnlyVerdict trace.now.recording f) }
     ensures alone { result ≡ Err AuditFault.NoWorker → 2 ≤ workers }
 {
     let excess = first_excess_in(trace, f);
@@ -129,7 +130,7 @@ fn least_in<'s, 't: 's, 'g: 's, E, G: Gate + Sync, R: Threads>(
 fn tasks_after<'t>(alloc: Global, own: Part<'t>, workers: u32) -> Result<Vec<Task<'t>>, NoMemory>
     requires workers { (1 ≤ workers) × (workers ≤ 64) }
     requires own { IsFirstPart workers own }
-    ensures tasks { IfOk result (λ tasks. AreTasks own.entry.course.now own.entry.f own.entry.to tasks.items (deliveries_in own.entry.course.now.past)) }
+    ensures tasks { IfOk result (λ tasks. AreTasksAfter own.entry tasks.items) }
     ensures count { IfOk result (λ tasks. length tasks.items + 1 ≡ workers) }
 {
     let Part { course, f, .. } = own;
@@ -161,8 +162,8 @@ fn all_started<'s, 't: 's, 'g: 's, E, G: Gate + Sync>(
 ) -> bool
     requires capacity { (started.old.items ≡ []) × (length tasks.items ≤ vec_capacity started.old) }
     requires few { length tasks.items ≤ 63 }
-    requires tasks { AreTasks own.course.now own.f own.to tasks.items (deliveries_in own.course.now.past) }
-    ensures parts { OnTrue result (Follows own.entry.course.now own.entry.f own.entry.to started.new.items (deliveries_in own.entry.course.now.past)) }
+    requires tasks { AreTasksAfter own tasks.items }
+    ensures parts { OnTrue result (FollowsAfter own.entry started.new.items) }
     ensures alone { tasks.entry.items ≡ [] → result ≡ true }
 {
     for task in tasks {

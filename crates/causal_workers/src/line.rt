@@ -1,5 +1,5 @@
 //! How a verdict prints.
-ghost use Rattle.std.specs.Prelude.{◌≡◌, ℕ, List, IfOk, map};
+ghost use Rattle.std.specs.Prelude.{◌≡◌, IfOk, map};
 ghost use Rattle.std.specs.Fmt.{decimal};
 ghost use Rattle.std.specs.String.{string_bytes};
 ghost use Rattle.causal_holders.specs.Members.{ascending};
@@ -76,7 +76,7 @@ fn set_text(alloc: Global, processes: Holders) -> Result<String, AllocError>
 
 /// Numbers joined by commas; `-` where there is none.
 fn joined(alloc: Global, numbers: &[String]) -> Result<String, AllocError>
-    ensures { (ps : List ℕ) → map string_bytes numbers.now ≡ map decimal ps → IfOk result (λ text. string_bytes text ≡ lines.joined_by_commas ps) }
+    ensures { IfOk result (λ line. lines.JoinsNumbers (map string_bytes numbers.now) (string_bytes line)) }
 {
     if numbers.is_empty() {
         format!(in alloc; "-")
