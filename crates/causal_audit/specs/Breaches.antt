@@ -81,3 +81,12 @@ abbrev pub Decides : Option Excess → Option Breach → Verdict → Type 0
 Decides excess breach verdict =
     (r : Recording) (f : ℕ) → FirstExcess r f excess
     → LeastBreachBy r f (deciding (length r.past) excess) 0 (deliveries_in r.past) breach → IsVerdict r f verdict
+
+-- the delivery at position k has no orphan up to the instant `end`
+abbrev pub HasNoOrphanBy : Recording → ℕ → ℕ → ℕ → Type 0
+HasNoOrphanBy r f k end = (u : ℕ) → u ≤ end → HasOrphan r.processes f (instant r.past u) k → ⊥
+
+-- the verdict is that of every run of which these are the first excess and the least breach of all deliveries
+abbrev pub DecidesWhole : Option Excess → Option Breach → Verdict → Type 0
+DecidesWhole excess breach verdict =
+    (r : Recording) (f : ℕ) → FirstExcess r f excess → LeastBreach r f 0 (deliveries_in r.past) breach → IsVerdict r f verdict

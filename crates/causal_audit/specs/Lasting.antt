@@ -32,3 +32,7 @@ abbrev pub OrphansEnd : Type 0
 OrphansEnd =
     (n f : ℕ) (past : List Entry) (k : ℕ) (d : Det) (t u : ℕ) → det_at past k ≡ Some d → IsOver n f past t d
     → t ≤ u → u ≤ length past → HasOrphan n f (instant past u) k → ⊥
+
+-- from `after` on none is released with one more entry, where from `before` on none was without it
+abbrev pub LastsAfter : Entry → ℕ → ℕ → ℕ → Type 0
+LastsAfter e i before after = (past : List Entry) → length past ≡ i → NoneReleasedFrom past before → NoneReleasedFrom (e ∷ past) after

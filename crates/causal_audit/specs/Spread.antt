@@ -56,3 +56,7 @@ spread_at e i lane spreads outs = min (slice_index_or (with_delivered e i spread
 abbrev pub LastsUntil : ℕ → ℕ → ℕ → ℕ → ℕ → FinSet nat_cmp → Type 0
 LastsUntil f k receiver spread next set =
     (next ≤ k) ⊎ ((f < len set) ⊎ ((next ≤ spread) × (contains set receiver ≡ true)))
+
+-- the list with the entry at position i noted, of this lane
+abbrev pub with_spread : Entry → ℕ → ℕ → List ℕ → List ℕ → List ℕ
+with_spread e i lane spreads outs = slice_set (with_delivered e i spreads) i (spread_at e i lane spreads outs)

@@ -2,7 +2,7 @@
 ghost use Rattle.std.specs.Prelude.{◌≤◌};
 ghost use Rattle.std.specs.List.Sorted.{IsNonDecreasing};
 ghost use Rattle.causal_audit.specs.declared.changes.Changes.{Changes};
-ghost use Rattle.causal_audit.specs.Inside.Ahead.{AreAhead, AreNoneUntil, HasNoneUntil, TellsMention};
+ghost use Rattle.causal_audit.specs.Inside.Ahead.{AreAhead, HasNoneUntil, PassesNone, TellsNext};
 
 use crate::cursor::Cursor;
 
@@ -64,8 +64,8 @@ impl Ahead<'_> {
         requires { from ≤ end }
         ensures bounds { (from ≤ result.position) × (result.position ≤ end) }
         ensures ahead { (changes : Changes) → AreAhead changes from self.old → AreAhead changes from self.new }
-        ensures none { (changes : Changes) → AreAhead changes from self.old → AreNoneUntil changes from result.position }
-        ensures mentioned { (changes : Changes) → AreAhead changes from self.old → TellsMention changes from end result }
+        ensures none { PassesNone from self.old result.position }
+        ensures mentioned { TellsNext from end self.old result }
     {
         let mention = self.mentions.next(from, end);
         let turn = self.turns.next(from, end);

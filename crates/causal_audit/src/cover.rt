@@ -1,17 +1,17 @@
 //! The deliveries that are covered throughout: they have no orphan, whoever depends on them.
-ghost use Rattle.std.specs.Prelude.{◌≡◌, ◌≤◌, ◌<◌, ◌∷◌, ◌⊎◌, ℕ, true, false, List, length, Some};
+ghost use Rattle.std.specs.Prelude.{◌≡◌, ◌≤◌, ◌<◌, ◌∷◌, true, false, List, length, Some};
 ghost use Rattle.std.specs.FinSet as set;
 ghost use Rattle.std.specs.List.Sorted.{IsNonDecreasing};
 ghost use Rattle.causal_name.specs.declared.Det.{Det};
 ghost use Rattle.causal_trace.specs.declared.entry.Entry.{Entry};
-ghost use Rattle.causal_trace.specs.Judgement.{HasOrphan};
-ghost use Rattle.causal_trace.specs.Past.{det_at, has, instant, is_down, is_stable, logs};
+ghost use Rattle.causal_trace.specs.Past.{det_at, has, is_stable, logs};
+ghost use Rattle.causal_audit.specs.Breaches.{HasNoOrphanBy};
 ghost use Rattle.causal_audit.specs.Inside.Ahead.{HasNoneUntil};
 ghost use Rattle.causal_audit.specs.Inside.Changes.{AreMentionsOf, HasMentions};
-ghost use Rattle.causal_audit.specs.Inside.Filed.{AreTurns};
+ghost use Rattle.causal_audit.specs.Inside.Kept.{AreTurnsKept};
 ghost use Rattle.causal_audit.specs.Lasting.{NoneReleasedFrom};
 ghost use Rattle.causal_audit.specs.Quiet.{mentioned_by};
-ghost use Rattle.causal_audit.specs.Inside.Sights.{Shows};
+ghost use Rattle.causal_audit.specs.Inside.Sights.{Shows, ShowsDownAfter, ShowsHoldersAfter};
 ghost use Rattle.causal_audit.specs.Spread.{LastsUntil, StaysUntil};
 
 use crate::cursor::Cursor;
@@ -64,9 +64,8 @@ impl Cover {
 
     /// Takes in one more entry, which mentions the determinant or does not.
     fn see(&mut self, entry: &Entry, det: Det, mentioned: bool)
-        ensures down { (past : List Entry) → Shows self.old.down (λ p. is_down past p) → Shows self.new.down (λ p. is_down (entry.now ∷ past) p) }
-        ensures holders { (past : List Entry) → mentioned ≡ has (mentioned_by entry.now) det →
-            Shows self.old.holders (λ p. logs past p det) → Shows self.new.holders (λ p. logs (entry.now ∷ past) p det) }
+        ensures down { ShowsDownAfter entry.now self.old.down self.new.down }
+        ensures holders { ShowsHoldersAfter (mentioned ≡ has (mentioned_by entry.now) det) entry.now det self.old.holders self.new.holders }
     {
         self.down = down_after(self.down, entry);
         self.holders = holders_after(self.holders, entry, det, mentioned);
@@ -99,13 +98,13 @@ pub fn is_covered(
 ) -> bool
     requires within { end ≤ length run.now.trace.now.recording.past }
     requires lasting { NoneReleasedFrom run.now.trace.now.recording.past run.now.lasting_from }
-    requires turns { AreTurns run.now.trace.now.recording.past run.now.turns.now.positions.items run.now.turns.now.downs.items }
+    requires turns { AreTurnsKept run.now.trace.now.recording.past run.now.turns.now }
     requires delivery { det_at run.now.trace.now.recording.past k ≡ Some det }
     requires ascending { IsNonDecreasing mentions.now }
     requires mentioned { HasMentions run.now.trace.now.recording.past det mentions.now }
     requires only { AreMentionsOf run.now.trace.now.recording.past det mentions.now }
     requires stays { StaysUntil run.now.trace.now.recording.past k spread }
-    ensures { result ≡ true → (u : ℕ) → u ≤ end → HasOrphan run.now.trace.now.recording.processes f (instant run.now.trace.now.recording.past u) k → ⊥ }
+    ensures { result ≡ true → HasNoOrphanBy run.now.trace.now.recording f k end }
 {
     let _len = run.trace.len();
     let entries = run.trace.entries();

@@ -15,8 +15,8 @@ use std::alloc::Global;
 /// Adds the event of one more entry. `present` has the clock's lane of each process's present lane.
 fn note(entry: &Entry, clocks: &mut Clocks, present: &mut [u32]) -> Result<(), ClockFault>
     requires { CanMirror entry.now clocks.old present.old }
-    ensures mirrors { (n : ℕ) (past : List Entry) → AreAccepted n (entry.now ∷ past) → Mirrors n past clocks.old present.old →
-        OnOk result (Mirrors n (entry.now ∷ past) clocks.new present.new) }
+    ensures mirrors { (n : ℕ) (past : List Entry) → AreAccepted n (entry.now ∷ past) →
+        Mirrors n past clocks.old present.old → OnOk result (Mirrors n (entry.now ∷ past) clocks.new present.new) }
     ensures refused { IfErr result (λ fault. fault ≡ ClockFault.NoMemory) }
 {
     match entry {

@@ -1,9 +1,8 @@
 //! Who holds a determinant after one more entry.
-ghost use Rattle.std.specs.Prelude.{◌≡◌, ◌∷◌, true, false, List};
-ghost use Rattle.causal_trace.specs.declared.entry.Entry.{Entry};
-ghost use Rattle.causal_trace.specs.Past.{has, logs};
+ghost use Rattle.std.specs.Prelude.{◌≡◌, true, false};
+ghost use Rattle.causal_trace.specs.Past.{has};
 ghost use Rattle.causal_audit.specs.Quiet.{mentioned_by};
-ghost use Rattle.causal_audit.specs.Inside.Sights.{Shows};
+ghost use Rattle.causal_audit.specs.Inside.Sights.{ShowsHoldersAfter};
 
 use crate::sight::{with, without};
 use causal_holders::Holders;
@@ -12,7 +11,7 @@ use causal_trace::entry::Entry;
 
 /// Who holds the determinant after an entry that mentions it.
 fn holders_mentioned(holders: Holders, entry: &Entry, det: Det) -> Holders
-    ensures { (past : List Entry) → has (mentioned_by entry.now) det ≡ true → Shows holders (λ p. logs past p det) → Shows result (λ p. logs (entry.now ∷ past) p det) }
+    ensures { ShowsHoldersAfter (has (mentioned_by entry.now) det ≡ true) entry.now det holders result }
 {
     match entry {
         Entry::Deliver { to, .. } => with(holders, to.0),
@@ -24,7 +23,7 @@ fn holders_mentioned(holders: Holders, entry: &Entry, det: Det) -> Holders
 
 /// Who holds the determinant after an entry that does not mention it.
 fn holders_unmentioned(holders: Holders, entry: &Entry, det: Det) -> Holders
-    ensures { (past : List Entry) → has (mentioned_by entry.now) det ≡ false → Shows holders (λ p. logs past p det) → Shows result (λ p. logs (entry.now ∷ past) p det) }
+    ensures { ShowsHoldersAfter (has (mentioned_by entry.now) det ≡ false) entry.now det holders result }
 {
     match entry {
         Entry::Crash { who } => without(holders, who.0),
@@ -34,7 +33,7 @@ fn holders_unmentioned(holders: Holders, entry: &Entry, det: Det) -> Holders
 
 /// Who holds the determinant after one more entry, which mentions it or does not: its list is not searched.
 pub fn holders_after(holders: Holders, entry: &Entry, det: Det, mentioned: bool) -> Holders
-    ensures { (past : List Entry) → mentioned ≡ has (mentioned_by entry.now) det → Shows holders (λ p. logs past p det) → Shows result (λ p. logs (entry.now ∷ past) p det) }
+    ensures { ShowsHoldersAfter (mentioned ≡ has (mentioned_by entry.now) det) entry.now det holders result }
 {
     if mentioned {
         holders_mentioned(holders, entry, det)

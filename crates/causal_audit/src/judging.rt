@@ -1,8 +1,7 @@
 //! The verdict on a recorded run.
-ghost use Rattle.std.specs.Prelude.{◌≡◌, ◌≤◌, ◌<◌, ◌+◌, ℕ, length};
+ghost use Rattle.std.specs.Prelude.{◌≡◌, ◌≤◌, ◌<◌, ℕ, length};
 ghost use Rattle.causal_trace.specs.Past.{deliveries_in};
-ghost use Rattle.causal_trace.specs.Rows.{Recording};
-ghost use Rattle.causal_audit.specs.Breaches.{Decides, FirstBreach, FirstBreachBy, FirstExcess, LeastBreach, LeastBreachBy, deciding, horizon};
+ghost use Rattle.causal_audit.specs.Breaches.{Decides, DecidesWhole, FirstBreach, FirstBreachBy, FirstExcess, LeastBreach, LeastBreachBy, deciding, horizon};
 ghost use Rattle.causal_audit.specs.Numbers.{IsNumbered};
 ghost use Rattle.causal_audit.specs.Verdicts.{IsVerdict};
 ghost use Rattle.causal_audit.specs.declared.verdict.Verdict.{Verdict};
@@ -111,7 +110,7 @@ fn orphan(breach: Breach) -> Verdict
 /// decide.
 pub fn decided(excess: Option<Excess>, breach: Option<Breach>) -> Verdict
     ensures bounded { Decides excess breach result }
-    ensures whole { (r : Recording) (f : ℕ) → FirstExcess r f excess → LeastBreach r f 0 (deliveries_in r.past) breach → IsVerdict r f result }
+    ensures whole { DecidesWhole excess breach result }
 {
     match (excess, breach) {
         (None, None) => Verdict::Accept,

@@ -1,16 +1,13 @@
 //! The events of each lane, and the first of them that a delivery reaches.
-ghost use Rattle.std.specs.Prelude.{◌≡◌, ◌<◌, ◌≤◌, ◌∷◌, ℕ, List, IfOk, OnOk, Contains, length, map, vec_len};
+ghost use Rattle.std.specs.Prelude.{◌≡◌, ◌<◌, ◌≤◌, ◌∷◌, List, IfOk, OnOk, length, vec_len};
 ghost use Rattle.std.specs.List.{All};
 ghost use Rattle.std.specs.Option.{is_some};
 ghost use Rattle.std.specs.List.Sorted.{IsNonDecreasing};
 ghost use Rattle.causal_trace.specs.declared.entry.Entry.{Entry};
 ghost use Rattle.causal_trace.specs.Dependence.{actor};
-ghost use Rattle.causal_trace.specs.Limits.{max_entries};
-ghost use Rattle.causal_trace.specs.Rows.{IsWellFormed};
-ghost use Rattle.causal_trace.specs.State.{past_at};
 ghost use Rattle.causal_clock.specs.declared.Event.{Event};
 ghost use Rattle.causal_clock.specs.Timeline.{lane_of};
-ghost use Rattle.causal_audit.specs.Inside.Filed.{Ascends, AreLanes, AreFirsts, IsFirstReached, list_at};
+ghost use Rattle.causal_audit.specs.Inside.Filed.{Ascends, AreFirsts, AreInLanes, AreLanes, AreOfOneLane, IsFirstReached, lists_in, past_of};
 
 use crate::lists::{add_to, empty_lists};
 use causal_clock::Clocks;
@@ -36,7 +33,8 @@ fn is_event(entry: &Entry) -> bool
 fn note_event(lanes: &mut Vec<Vec<u32>>, entry: &Entry, lane: u32, i: u32) -> Result<(), NoMemory>
     requires { lane < vec_len lanes.old }
     ensures lanes { OnOk result ((past : List Entry) (events : List Event) → length past ≡ i → lane_of events i ≡ lane →
-        AreLanes past events (map (λ list. list.items) lanes.old.items) → AreLanes (entry.now ∷ past) events (map (λ list. list.items) lanes.new.items)) }
+        AreLanes past events (lists_in lanes.old.items) →
+        AreLanes (entry.now ∷ past) events (lists_in lanes.new.items)) }
     ensures count { vec_len lanes.new ≡ vec_len lanes.old }
 {
     if !is_event(entry) {
@@ -52,7 +50,7 @@ pub fn lanes_of(
     clocks: &Clocks,
 ) -> Result<Vec<Vec<u32>>, NoMemory>
     requires { length entries.now ≡ length clocks.now.events }
-    ensures lanes { IfOk result (λ lanes. AreLanes (past_at entries.now (length entries.now)) clocks.now.events (map (λ list. list.items) lanes.items)) }
+    ensures lanes { IfOk result (λ lanes. AreLanes (past_of entries.now) clocks.now.events (lists_in lanes.items)) }
     ensures few { IfOk result (λ lanes. vec_len lanes ≤ LANES) }
 {
     let mut lanes = empty_lists(alloc, clocks.lanes())?;
@@ -67,7 +65,7 @@ pub fn lanes_of(
 fn first_reached(clocks: &Clocks, k: u32, lane: &[u32], end: u32) -> u32
     requires delivery { k < length clocks.now.events }
     requires ascends { Ascends (length clocks.now.events) lane.now }
-    requires one_lane { (v w : ℕ) → Contains lane.now v → Contains lane.now w → lane_of clocks.now.events v ≡ lane_of clocks.now.events w }
+    requires one_lane { AreOfOneLane clocks.now.events lane.now }
     ensures { IsFirstReached clocks.now.events k lane.now result }
 {
     let mut low = 0;
@@ -87,10 +85,10 @@ fn first_reached(clocks: &Clocks, k: u32, lane: &[u32], end: u32) -> u32
 pub fn write_firsts(firsts: &mut [u32], clocks: &Clocks, lanes: &[Vec<u32>], k: u32, end: u32)
     requires count { length firsts.old ≡ length lanes.now }
     requires delivery { k < length clocks.now.events }
-    requires ascend { All (Ascends (length clocks.now.events)) (map (λ list. list.items) lanes.now) }
-    requires inside { (m v : ℕ) → Contains (list_at (map (λ list. list.items) lanes.now) m) v → lane_of clocks.now.events v ≡ m }
+    requires ascend { All (Ascends (length clocks.now.events)) (lists_in lanes.now) }
+    requires inside { AreInLanes clocks.now.events (lists_in lanes.now) }
     ensures ascending { IsNonDecreasing firsts.new }
-    ensures firsts { AreFirsts clocks.now.events k (map (λ list. list.items) lanes.now) firsts.new }
+    ensures firsts { AreFirsts clocks.now.events k (lists_in lanes.now) firsts.new }
 {
     for (m, lane) in lanes.iter().enumerate() {
         firsts[m] = first_reached(clocks, k, lane.as_slice(), end);

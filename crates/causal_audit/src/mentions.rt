@@ -1,12 +1,11 @@
 //! The positions of the entries that mention each determinant.
-ghost use Rattle.std.specs.Prelude.{◌≡◌, ◌<◌, ◌≤◌, ◌∷◌, ◌++◌, [], ℕ, List, IfOk, OnOk, Some, length, map, vec_len};
-ghost use Rattle.std.specs.List.{All};
+ghost use Rattle.std.specs.Prelude.{◌≡◌, ◌<◌, ◌≤◌, ◌∷◌, ◌++◌, [], List, IfOk, OnOk, Some, length};
 ghost use Rattle.causal_name.specs.declared.Det.{Det};
 ghost use Rattle.causal_trace.specs.declared.entry.Entry.{Entry};
 ghost use Rattle.causal_trace.specs.Limits.{max_entries};
-ghost use Rattle.causal_trace.specs.State.{past_at};
 ghost use Rattle.causal_audit.specs.Quiet.{mentioned_by};
-ghost use Rattle.causal_audit.specs.Inside.Filed.{Ascends, AreMentions, AreMentionsWith, AreNumbered, mentions_of, number_of};
+ghost use Rattle.causal_audit.specs.Inside.Filed.{AreNumbered, lists_in, mentions_of, number_of, past_of};
+ghost use Rattle.causal_audit.specs.Inside.Kept.{AreMentionsKept, AreMentionsWithKept, KeepAscending, MentionTheSame};
 
 use crate::lists::add_to;
 use crate::numbering::Numbering;
@@ -25,8 +24,8 @@ pub struct Mentions {
 impl Mentions {
     /// The list of a determinant.
     pub fn list(&self, det: Det) -> &[u32]
-        requires { AreNumbered self.now.numbers (map (λ list. list.items) self.now.lists.items) }
-        ensures { result.now ≡ mentions_of self.now.numbers (map (λ list. list.items) self.now.lists.items) det }
+        requires { AreNumbered self.now.numbers (lists_in self.now.lists.items) }
+        ensures { result.now ≡ mentions_of self.now.numbers (lists_in self.now.lists.items) det }
     {
         match self.numbers.find(det) {
             Some(number) => self.lists[number].as_slice(),
@@ -36,11 +35,11 @@ impl Mentions {
 
     /// The number of a determinant's list, which is a new one where it has none.
     fn number(&mut self, alloc: Global, det: Det) -> Result<usize, NoMemory>
-        requires { AreNumbered self.old.numbers (map (λ list. list.items) self.old.lists.items) }
+        requires { AreNumbered self.old.numbers (lists_in self.old.lists.items) }
         ensures number { IfOk result (λ m. number_of self.new.numbers det ≡ Some m) }
-        ensures numbered { OnOk result (AreNumbered self.new.numbers (map (λ list. list.items) self.new.lists.items)) }
-        ensures ascend { OnOk result ((bound : ℕ) → All (Ascends bound) (map (λ list. list.items) self.old.lists.items) → All (Ascends bound) (map (λ list. list.items) self.new.lists.items)) }
-        ensures same { OnOk result ((d : Det) → mentions_of self.new.numbers (map (λ list. list.items) self.new.lists.items) d ≡ mentions_of self.old.numbers (map (λ list. list.items) self.old.lists.items) d) }
+        ensures numbered { OnOk result (AreNumbered self.new.numbers (lists_in self.new.lists.items)) }
+        ensures ascend { OnOk result (KeepAscending self.old self.new) }
+        ensures same { OnOk result (MentionTheSame self.old self.new) }
     {
         if let Some(number) = self.numbers.find(det) {
             return Ok(number);
@@ -53,10 +52,10 @@ impl Mentions {
 
     /// Puts the position of an entry into the list of a determinant that it mentions.
     fn add(&mut self, alloc: Global, det: Det, i: u32) -> Result<(), NoMemory>
-        requires { AreNumbered self.old.numbers (map (λ list. list.items) self.old.lists.items) }
-        ensures numbered { OnOk result (AreNumbered self.new.numbers (map (λ list. list.items) self.new.lists.items)) }
+        requires { AreNumbered self.old.numbers (lists_in self.old.lists.items) }
+        ensures numbered { OnOk result (AreNumbered self.new.numbers (lists_in self.new.lists.items)) }
         ensures noted { OnOk result ((past : List Entry) (dets : List Det) → length past ≡ i →
-            AreMentionsWith past dets self.old.numbers (map (λ list. list.items) self.old.lists.items) → AreMentionsWith past (dets ++ det ∷ []) self.new.numbers (map (λ list. list.items) self.new.lists.items)) }
+            AreMentionsWithKept past dets self.old → AreMentionsWithKept past (dets ++ det ∷ []) self.new) }
     {
         let number = self.number(alloc, det)?;
         add_to(&mut self.lists, number, i)
@@ -64,9 +63,9 @@ impl Mentions {
 
     /// Puts the position of an entry into the lists of the determinants that it mentions.
     fn add_each(&mut self, alloc: Global, dets: &[Det], i: u32) -> Result<(), NoMemory>
-        requires { AreNumbered self.old.numbers (map (λ list. list.items) self.old.lists.items) }
+        requires { AreNumbered self.old.numbers (lists_in self.old.lists.items) }
         ensures { OnOk result ((past : List Entry) → length past ≡ i →
-            AreMentionsWith past [] self.old.numbers (map (λ list. list.items) self.old.lists.items) → AreMentionsWith past dets.now self.new.numbers (map (λ list. list.items) self.new.lists.items)) }
+            AreMentionsWithKept past [] self.old → AreMentionsWithKept past dets.now self.new) }
     {
         for det in dets {
             self.add(alloc, *det, i)?;
@@ -76,9 +75,9 @@ impl Mentions {
 
     /// Notes one more entry, at position i.
     fn note(&mut self, alloc: Global, entry: &Entry, i: u32) -> Result<(), NoMemory>
-        requires { AreNumbered self.old.numbers (map (λ list. list.items) self.old.lists.items) }
+        requires { AreNumbered self.old.numbers (lists_in self.old.lists.items) }
         ensures { OnOk result ((past : List Entry) → length past ≡ i →
-            AreMentions past self.old.numbers (map (λ list. list.items) self.old.lists.items) → AreMentions (entry.now ∷ past) self.new.numbers (map (λ list. list.items) self.new.lists.items)) }
+            AreMentionsKept past self.old → AreMentionsKept (entry.now ∷ past) self.new) }
     {
         self.add_each(alloc, mentioned(entry), i)
     }
@@ -101,7 +100,7 @@ pub fn mentioned(entry: &Entry) -> &[Det]
 /// The positions of the entries that mention each determinant, in order.
 pub fn mentions_in(alloc: Global, entries: &[Entry]) -> Result<Mentions, NoMemory>
     requires { length entries.now ≤ max_entries }
-    ensures { IfOk result (λ mentions. AreMentions (past_at entries.now (length entries.now)) mentions.numbers (map (λ list. list.items) mentions.lists.items)) }
+    ensures { IfOk result (AreMentionsKept (past_of entries.now)) }
 {
     let mut mentions = Mentions {
         numbers: Numbering::new(alloc)?,

@@ -1,8 +1,8 @@
 //! Numbers for determinants, found by chains, so that no input makes a search long.
-ghost use Rattle.std.specs.Prelude.{◌≡◌, ◌<◌, ◌∷◌, [], ℕ, Some, None, IfOk, OnOk, OnErr, if◌then◌else◌, length, map, reverse, replicate, slice_index_or};
+ghost use Rattle.std.specs.Prelude.{◌≡◌, ◌<◌, ◌∷◌, [], ℕ, Some, None, IfOk, OnOk, OnErr, length, map, reverse, replicate, slice_index_or};
 ghost use Rattle.causal_name.specs.declared.Det.{Det};
-ghost use Rattle.causal_audit.specs.Inside.Filed.{number_of};
-ghost use Rattle.causal_audit.specs.Inside.Index.{HasHead, IsBelow, LeadDown, head_of, is_kin, sought};
+ghost use Rattle.causal_audit.specs.Inside.Filed.{lists_in, number_of};
+ghost use Rattle.causal_audit.specs.Inside.Index.{HasHead, IsBelow, LeadDown, LeadsTo, head_of, sought};
 
 use causal_name::{Det, NoMemory};
 use std::alloc::Global;
@@ -31,13 +31,14 @@ pub struct Numbering {
 impl Model for Numbering {
     ghost use Rattle.std.specs.Prelude.{List, map, reverse};
     ghost use Rattle.causal_name.specs.declared.Det.{Det};
+    ghost use Rattle.causal_audit.specs.Inside.Filed.{lists_in};
     ghost use Rattle.causal_audit.specs.Inside.Index.{IsIndex};
 
     ghost Value = { List Det };
 
     ghost view = { λ a. map (λ node. node.det) (reverse a.nodes.items) };
 
-    ghost invariant = { λ a. IsIndex (map (λ list. list.items) a.heads.items) (reverse a.nodes.items) };
+    ghost invariant = { λ a. IsIndex (lists_in a.heads.items) (reverse a.nodes.items) };
 }
 
 impl Numbering {
@@ -75,7 +76,7 @@ impl Numbering {
 
 /// No heads of each sender.
 fn empty_heads(alloc: Global) -> Result<Vec<Vec<Option<usize>>>, NoMemory>
-    ensures { IfOk result (λ heads. map (λ list. list.items) heads.items ≡ replicate 256 []) }
+    ensures { IfOk result (λ heads. lists_in heads.items ≡ replicate 256 []) }
 {
     let mut heads = Vec::new(alloc);
     for _ in 0..SENDERS {
@@ -86,7 +87,7 @@ fn empty_heads(alloc: Global) -> Result<Vec<Vec<Option<usize>>>, NoMemory>
 
 /// The head of a determinant's message.
 fn head(heads: &[Vec<Option<usize>>], det: Det) -> Option<usize>
-    ensures { result ≡ head_of (map (λ list. list.items) heads.now) det }
+    ensures { result ≡ head_of (lists_in heads.now) det }
 {
     let list = heads.get(det.source.0 as usize)?;
     *list.get(det.ssn as usize)?
@@ -107,17 +108,17 @@ fn lengthen(list: &mut Vec<Option<usize>>, ssn: u32) -> Result<(), NoMemory>
 fn open(heads: &mut Vec<Vec<Option<usize>>>, det: Det) -> Result<(), NoMemory>
     requires { det.source.0 < length heads.old.items }
     ensures count { length heads.new.items ≡ length heads.old.items }
-    ensures same { (d : Det) → head_of (map (λ list. list.items) heads.new.items) d ≡ head_of (map (λ list. list.items) heads.old.items) d }
-    ensures there { OnOk result (HasHead (map (λ list. list.items) heads.new.items) det) }
+    ensures same { (d : Det) → head_of (lists_in heads.new.items) d ≡ head_of (lists_in heads.old.items) d }
+    ensures there { OnOk result (HasHead (lists_in heads.new.items) det) }
 {
     lengthen(&mut heads[det.source.0 as usize], det.ssn)
 }
 
 /// Lets the head of a determinant's message lead to a place.
 fn lead(heads: &mut Vec<Vec<Option<usize>>>, det: Det, place: usize)
-    requires { HasHead (map (λ list. list.items) heads.old.items) det }
+    requires { HasHead (lists_in heads.old.items) det }
     ensures count { length heads.new.items ≡ length heads.old.items }
-    ensures heads { (d : Det) → head_of (map (λ list. list.items) heads.new.items) d ≡ (if is_kin det d then Some place else head_of (map (λ list. list.items) heads.old.items) d) }
+    ensures heads { LeadsTo det place (lists_in heads.old.items) (lists_in heads.new.items) }
 {
     heads[det.source.0 as usize][det.ssn as usize] = Some(place);
 }

@@ -1,15 +1,12 @@
 //! The first instant at which a delivery has an orphan.
-ghost use Rattle.std.specs.Prelude.{◌≡◌, ◌<◌, ◌≤◌, ℕ, List, length, Some};
+ghost use Rattle.std.specs.Prelude.{◌≡◌, ◌<◌, ◌≤◌, length, Some};
 ghost use Rattle.causal_name.specs.declared.Det.{Det};
-ghost use Rattle.causal_trace.specs.declared.entry.Entry.{Entry};
 ghost use Rattle.causal_trace.specs.Past.{det_at};
-ghost use Rattle.causal_trace.specs.Rows.{AreAccepted};
-ghost use Rattle.causal_audit.specs.Inside.BreachAt.{BreachAt};
+ghost use Rattle.causal_audit.specs.Inside.BreachAt.{TellsBreachAt};
 ghost use Rattle.causal_audit.specs.Breaches.{FirstBreachBy};
-ghost use Rattle.causal_audit.specs.Inside.Changes.{AreChanges};
-ghost use Rattle.causal_audit.specs.Inside.Filed.{AreTurns};
+ghost use Rattle.causal_audit.specs.Inside.Changes.{AreChangesKept};
+ghost use Rattle.causal_audit.specs.Inside.Kept.{AreTurnsKept};
 ghost use Rattle.causal_audit.specs.Lasting.{NoneReleasedFrom};
-ghost use Rattle.causal_audit.specs.Inside.Sights.{IsSight};
 ghost use Rattle.causal_audit.specs.Inside.Stands.{Stands};
 
 use crate::breach::Breach;
@@ -32,8 +29,7 @@ pub struct Run<'a> {
 
 /// How the delivery at position k has an orphan at the instant t; None where it has none. It has none before it is made.
 pub fn breach_at(sight: &Sight, f: u16, k: u32, t: u32) -> Option<Breach>
-    ensures { (n : ℕ) (past : List Entry) (d : Det) → AreAccepted n past → length past ≡ t → (k < t → det_at past k ≡ Some d) →
-        IsSight past k d sight.now → BreachAt n f past k t result }
+    ensures { TellsBreachAt f k t sight.now result }
 {
     if t <= k {
         return None;
@@ -61,9 +57,9 @@ pub fn first_orphan(
     requires within { end ≤ length run.now.trace.now.recording.past }
     requires clock { Stands run.now.trace.now.recording.past run.now.clocks.now.events }
     requires lasting { NoneReleasedFrom run.now.trace.now.recording.past run.now.lasting_from }
-    requires turns { AreTurns run.now.trace.now.recording.past run.now.turns.now.positions.items run.now.turns.now.downs.items }
+    requires turns { AreTurnsKept run.now.trace.now.recording.past run.now.turns.now }
     requires delivery { det_at run.now.trace.now.recording.past k ≡ Some det }
-    requires changes { AreChanges run.now.trace.now.recording.past k det changes.now.mentions.now changes.now.turns.now changes.now.firsts.now }
+    requires changes { AreChangesKept run.now.trace.now.recording.past k det changes.now }
     ensures { FirstBreachBy run.now.trace.now.recording f end k result }
 {
     let _len = run.trace.len();

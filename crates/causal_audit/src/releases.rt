@@ -1,9 +1,9 @@
 //! From which position on no process is released: who is down or holds a determinant then stays so.
-ghost use Rattle.std.specs.Prelude.{◌≡◌, ◌<◌, ◌≤◌, ◌∷◌, ℕ, List, length};
+ghost use Rattle.std.specs.Prelude.{◌≡◌, ◌<◌, ◌≤◌, length};
 ghost use Rattle.causal_trace.specs.declared.entry.Entry.{Entry};
 ghost use Rattle.causal_trace.specs.Limits.{max_entries};
-ghost use Rattle.causal_trace.specs.State.{past_at};
-ghost use Rattle.causal_audit.specs.Lasting.{may_release, NoneReleasedFrom};
+ghost use Rattle.causal_audit.specs.Inside.Filed.{past_of};
+ghost use Rattle.causal_audit.specs.Lasting.{LastsAfter, NoneReleasedFrom, may_release};
 
 use causal_trace::entry::Entry;
 
@@ -21,7 +21,7 @@ fn may_release(entry: &Entry) -> bool
 /// The position from which on no process is released, after one more entry, at position i.
 fn lasting_after(from: u32, entry: &Entry, i: u32) -> u32
     requires { i < max_entries }
-    ensures { (past : List Entry) → length past ≡ i → NoneReleasedFrom past from → NoneReleasedFrom (entry.now ∷ past) result }
+    ensures { LastsAfter entry.now i from result }
 {
     if may_release(entry) { i + 1 } else { from }
 }
@@ -29,7 +29,7 @@ fn lasting_after(from: u32, entry: &Entry, i: u32) -> u32
 /// The position from which on no entry is a restart or a forgetting.
 pub fn lasting_from(entries: &[Entry]) -> u32
     requires { length entries.now ≤ max_entries }
-    ensures { NoneReleasedFrom (past_at entries.now (length entries.now)) result }
+    ensures { NoneReleasedFrom (past_of entries.now) result }
 {
     let mut from = 0;
     for (i, entry) in entries.iter().enumerate() {

@@ -1,12 +1,11 @@
 //! The first delivery of each determinant, what shares it and what mentions it.
-ghost use Rattle.std.specs.Prelude.{◌≡◌, ◌≢◌, ◌<◌, ◌≤◌, ◌+◌, ℕ, List, IfOk, OnOk, Some, None, if◌then◌else◌, length, map, slice_index};
+ghost use Rattle.std.specs.Prelude.{◌≡◌, ◌<◌, ◌≤◌, ◌+◌, ℕ, List, IfOk, OnOk, Some, None, length, map, slice_index};
 ghost use Rattle.std.specs.List.{slice_get};
 ghost use Rattle.causal_name.specs.declared.Det.{Det};
-ghost use Rattle.causal_name.specs.Names.{same_det};
 ghost use Rattle.causal_trace.specs.Limits.{max_entries};
 ghost use Rattle.causal_trace.specs.Past.{det_at};
-ghost use Rattle.causal_audit.specs.Quiet.{mentioned_by};
-ghost use Rattle.causal_audit.specs.Inside.Sharing.{AreFirstOnes, AreShared, IsPaired, first_of, numbers_in};
+ghost use Rattle.causal_audit.specs.Inside.Filed.{lists_in};
+ghost use Rattle.causal_audit.specs.Inside.Sharing.{AreDeliveryPositions, AreDetsAt, AreFirstOnes, AreShared, HasFirstAlso, IsPaired, first_of, marks_by, numbers_in};
 
 use crate::lists::{add_to, empty_lists};
 use crate::mentions::mentioned;
@@ -50,7 +49,7 @@ impl Firsts {
     fn add(&mut self, det: Det, i: u32) -> Result<(), NoMemory>
         requires { IsPaired self.old }
         ensures paired { OnOk result (IsPaired self.new) }
-        ensures added { OnOk result ((d : Det) → first_of self.new d ≡ (if same_det det d then Some i else first_of self.old d)) }
+        ensures added { OnOk result (HasFirstAlso det i self.old self.new) }
     {
         self.numbers.add(det)?;
         self.deliveries.push(i)?;
@@ -62,7 +61,8 @@ impl Firsts {
         requires { IsPaired self.old }
         ensures paired { OnOk result (IsPaired self.new) }
         ensures noted { OnOk result ((dets : List Det) → slice_get dets i ≡ Some det →
-            AreFirstOnes dets i (first_of self.old) first.old.items → AreFirstOnes dets (i + 1) (first_of self.new) first.new.items) }
+            AreFirstOnes dets i (first_of self.old) first.old.items →
+            AreFirstOnes dets (i + 1) (first_of self.new) first.new.items) }
     {
         if let Some(known) = self.find(det) {
             return Ok(first.push(known)?);
@@ -80,7 +80,7 @@ impl Firsts {
         requires paired { IsPaired self.old }
         requires none { (d : Det) → first_of self.old d ≡ None }
         ensures paired { OnOk result (IsPaired self.new) }
-        ensures firsts { IfOk result (λ first. AreFirstOnes dets.now (length dets.now) (first_of self.new) first.items) }
+        ensures firsts { IfOk result (λ ones. AreFirstOnes dets.now (length dets.now) (first_of self.new) ones.items) }
     {
         let mut first = Vec::new(alloc);
         for (i, det) in dets.iter().enumerate() {
@@ -107,7 +107,7 @@ impl Firsts {
     /// determinants, and for each of these as the determinants of its message.
     pub fn marks_of(&self, alloc: Global, entries: &[Entry]) -> Result<Vec<Vec<u32>>, NoMemory>
         requires { IsPaired self.now }
-        ensures { IfOk result (λ marks. map (λ list. list.items) marks.items ≡ map (λ e. numbers_in (first_of self.now) (mentioned_by e)) entries.now) }
+        ensures { IfOk result (λ marks. lists_in marks.items ≡ marks_by (first_of self.now) entries.now) }
     {
         let mut marks = Vec::new(alloc);
         for entry in entries {
@@ -119,9 +119,9 @@ impl Firsts {
 
 /// The determinants of the deliveries at these positions.
 pub fn dets_of(alloc: Global, trace: &Trace, positions: &[u32]) -> Result<Vec<Det>, NoMemory>
-    requires { (i : ℕ) → i < length positions.now → det_at trace.now.recording.past (slice_index positions.now i) ≢ None }
+    requires { AreDeliveryPositions trace.now.recording.past positions.now }
     ensures count { IfOk result (λ dets. length dets.items ≡ length positions.now) }
-    ensures dets { IfOk result (λ dets. (i : ℕ) → i < length positions.now → det_at trace.now.recording.past (slice_index positions.now i) ≡ slice_get dets.items i) }
+    ensures dets { IfOk result (λ dets. AreDetsAt trace.now.recording.past positions.now dets.items) }
 {
     let mut dets = Vec::new(alloc);
     for position in positions {
@@ -138,7 +138,7 @@ pub fn dets_of(alloc: Global, trace: &Trace, positions: &[u32]) -> Result<Vec<De
 pub fn same_of(alloc: Global, first: &[u32]) -> Result<Vec<Vec<u32>>, NoMemory>
     requires few { length first.now ≤ max_entries }
     requires within { (i : ℕ) → i < length first.now → slice_index first.now i ≤ i }
-    ensures { IfOk result (λ same. AreShared first.now (length first.now) (map (λ list. list.items) same.items)) }
+    ensures { IfOk result (λ same. AreShared first.now (length first.now) (lists_in same.items)) }
 {
     let mut same = empty_lists(alloc, first.len() as u32)?;
     for (i, number) in first.iter().enumerate() {

@@ -1,16 +1,11 @@
 //! What is known of one delivery at an instant, and what one more entry makes of it. Where the delivery has an orphan is
 //! told by counting: no crash set is tried.
-ghost use Rattle.std.specs.Prelude.{◌≡◌, ◌∷◌, ℕ, List, MatchOption, Some, true};
+ghost use Rattle.std.specs.Prelude.{◌≡◌, ◌∷◌, List, Some, true};
 ghost use Rattle.std.specs.FinSet as set;
 ghost use Rattle.causal_name.specs.declared.Det.{Det};
 ghost use Rattle.causal_trace.specs.declared.entry.Entry.{Entry};
-ghost use Rattle.causal_trace.specs.Past.{det_at, has, is_down, is_stable, logs};
-ghost use Rattle.causal_trace.specs.Rows.{AreAccepted};
-ghost use Rattle.causal_trace.specs.Judgement.{HasOrphan};
-ghost use Rattle.causal_audit.specs.Lasting.{IsOverAt};
-ghost use Rattle.causal_audit.specs.Quiet.{mentioned_by};
-ghost use Rattle.causal_audit.specs.Inside.Sights.{AreDependents, IsSight, IsUnheard, Shows, TellsNextReach};
-ghost use Rattle.causal_audit.specs.Verdicts.{IsLeastOrphan};
+ghost use Rattle.causal_trace.specs.Past.{is_stable};
+ghost use Rattle.causal_audit.specs.Inside.Sights.{ExposesLeast, IsSightAfter, IsSightBegun, ShowsDependentsAfter, ShowsDownAfter, TellsOver};
 
 use crate::holding::holders_after;
 use causal_holders::Holders;
@@ -50,7 +45,7 @@ pub fn without(mut members: Holders, p: u8) -> Holders
 
 /// Who is down after one more entry.
 pub fn down_after(down: Holders, entry: &Entry) -> Holders
-    ensures { (past : List Entry) → Shows down (λ p. is_down past p) → Shows result (λ p. is_down (entry.now ∷ past) p) }
+    ensures { ShowsDownAfter entry.now down result }
 {
     match entry {
         Entry::Crash { who } => with(down, who.0),
@@ -75,8 +70,7 @@ fn stable_after(stable: bool, entry: &Entry, det: Det) -> bool
 /// Who depends on the delivery after one more entry, which it reaches or not. An event brings its process in where it is
 /// reached; a crash and a restart take theirs out.
 fn dependents_after(dependents: Holders, entry: &Entry, reached: bool) -> Holders
-    ensures { (n : ℕ) (past : List Entry) (k : ℕ) → AreAccepted n (entry.now ∷ past) → TellsNextReach past entry.now k reached →
-        AreDependents past k dependents → AreDependents (entry.now ∷ past) k result }
+    ensures { ShowsDependentsAfter entry.now reached dependents result }
 {
     match entry {
         Entry::Send { from, .. } => {
@@ -103,7 +97,7 @@ fn dependents_after(dependents: Holders, entry: &Entry, reached: bool) -> Holder
 impl Sight {
     /// Where nothing is known of the delivery yet but who is down.
     pub fn begin(down: Holders) -> Sight
-        ensures { (past : List Entry) (k : ℕ) (d : Det) → Shows down (λ p. is_down past p) → IsUnheard past k d → IsSight past k d result }
+        ensures { IsSightBegun down result }
     {
         Sight {
             down,
@@ -115,8 +109,7 @@ impl Sight {
 
     /// Takes in one more entry, which mentions this determinant or not, and which its delivery reaches or not.
     pub fn see(&mut self, entry: &Entry, det: Det, mentioned: bool, reached: bool)
-        ensures { (n : ℕ) (past : List Entry) (k : ℕ) → AreAccepted n (entry.now ∷ past) → mentioned ≡ has (mentioned_by entry.now) det → TellsNextReach past entry.now k reached →
-            IsSight past k det self.old → IsSight (entry.now ∷ past) k det self.new }
+        ensures { IsSightAfter entry.now det mentioned reached self.old self.new }
     {
         *self = Sight {
             down: down_after(self.down, entry),
@@ -130,8 +123,7 @@ impl Sight {
     /// an orphan where the determinant is not stable, the down processes and the holders together are at most f, and some
     /// dependent is no holder; no crash set is tried.
     pub fn exposed(self, f: u16) -> Option<Exposed>
-        ensures { (n : ℕ) (past : List Entry) (k : ℕ) (d : Det) → AreAccepted n past → det_at past k ≡ Some d → IsSight past k d self →
-            MatchOption result (HasOrphan n f past k → ⊥) (λ x. IsLeastOrphan n f past k x.crash x.orphan) }
+        ensures { ExposesLeast f self result }
     {
         if self.stable {
             return None;
@@ -149,8 +141,7 @@ impl Sight {
     /// Whether the delivery has no orphan now or later: its determinant is stable, or more than f processes are down or
     /// hold it and `lasting` tells that no later entry releases one of them.
     pub fn is_over(self, f: u16, lasting: bool) -> bool
-        ensures { (n : ℕ) (past : List Entry) (k : ℕ) (d : Det) → AreAccepted n past → IsSight past k d self → result ≡ true →
-            IsOverAt n f past d lasting }
+        ensures { TellsOver f lasting self result }
     {
         if self.stable {
             return true;

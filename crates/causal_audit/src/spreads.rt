@@ -1,10 +1,8 @@
 //! How long each event stays with its lane: until a message that the lane sends from then on is delivered.
-ghost use Rattle.std.specs.Prelude.{◌≡◌, ◌≤◌, ◌<◌, ℕ, IfOk, length, slice_set};
+ghost use Rattle.std.specs.Prelude.{◌≡◌, ◌≤◌, ◌<◌, IfOk, length, slice_set};
 ghost use Rattle.causal_trace.specs.Limits.{max_entries};
-ghost use Rattle.causal_trace.specs.Rows.{Recording, IsWellFormed};
-ghost use Rattle.causal_trace.specs.State.{entries_of};
-ghost use Rattle.causal_audit.specs.Spread.{AreSpreads, spread_at, with_delivered};
-ghost use Rattle.causal_audit.specs.Inside.Stands.{Stands};
+ghost use Rattle.causal_audit.specs.Spread.{spread_at, with_delivered, with_spread};
+ghost use Rattle.causal_audit.specs.Inside.Stands.{SpreadsOf};
 
 use crate::lanes::LANES;
 use causal_clock::Clocks;
@@ -28,7 +26,7 @@ fn note_delivered(spreads: &mut Vec<u32>, entry: &Entry, i: u32)
 fn note_spread(spreads: &mut Vec<u32>, outs: &mut [u32], entry: &Entry, lane: usize, i: u32)
     requires event { i < length spreads.old.items }
     requires lane { lane < length outs.old }
-    ensures spreads { spreads.new.items ≡ slice_set (with_delivered entry.now i spreads.old.items) i (spread_at entry.now i lane spreads.old.items outs.old) }
+    ensures spreads { spreads.new.items ≡ with_spread entry.now i lane spreads.old.items outs.old }
     ensures outs { outs.new ≡ slice_set outs.old lane (spread_at entry.now i lane spreads.old.items outs.old) }
 {
     note_delivered(spreads, entry, i);
@@ -41,7 +39,7 @@ fn note_spread(spreads: &mut Vec<u32>, outs: &mut [u32], entry: &Entry, lane: us
 pub fn spreads_of(alloc: Global, entries: &[Entry], clocks: &Clocks) -> Result<Vec<u32>, NoMemory>
     requires few { length entries.now ≤ max_entries }
     requires count { length entries.now ≡ length clocks.now.events }
-    ensures { IfOk result (λ spreads. (r : Recording) → IsWellFormed r → entries.now ≡ entries_of r → Stands r.past clocks.now.events → AreSpreads r.past clocks.now.events spreads.items) }
+    ensures { IfOk result (λ spreads. SpreadsOf entries.now clocks.now.events spreads.items) }
 {
     let end = entries.len() as u32;
     let mut spreads = vec![in alloc; end; entries.len()]?;

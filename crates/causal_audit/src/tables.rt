@@ -1,12 +1,12 @@
 //! What is kept of a recorded run to judge it.
-ghost use Rattle.std.specs.Prelude.{◌≡◌, ◌≤◌, ◌<◌, ◌∷◌, IfOk, List, length, Some};
+ghost use Rattle.std.specs.Prelude.{◌≡◌, ◌≤◌, ◌<◌, IfOk, length, Some};
 ghost use Rattle.causal_trace.specs.declared.entry.Entry.{Entry};
 ghost use Rattle.causal_trace.specs.Limits.{max_entries};
 ghost use Rattle.causal_trace.specs.Past.{deliveries_in, det_at};
 ghost use Rattle.causal_trace.specs.Rows.{IsWellFormed};
-ghost use Rattle.causal_trace.specs.State.{past_at};
 ghost use Rattle.causal_audit.specs.Breaches.{FirstBreachBy};
-ghost use Rattle.causal_audit.specs.Numbers.{IsNumbered, ArePositions};
+ghost use Rattle.causal_audit.specs.Inside.Filed.{past_of};
+ghost use Rattle.causal_audit.specs.Numbers.{IsNumbered, ArePositions, ArePositionsAfter};
 
 use crate::breach::Breach;
 use crate::changes::Changes;
@@ -41,8 +41,8 @@ pub struct Tables {
 }
 
 impl Model for Tables {
-    ghost use Rattle.std.specs.Prelude.{map};
     ghost use Rattle.causal_trace.specs.Rows.{Recording};
+    ghost use Rattle.causal_audit.specs.Inside.Filed.{lists_in};
     ghost use Rattle.causal_audit.specs.Inside.Stored.{AreIndexes, AreTables};
 
     ghost Value = { Recording };
@@ -50,7 +50,8 @@ impl Model for Tables {
     ghost view = { λ a. a.trace.recording };
 
     ghost invariant = { λ a. AreTables a.trace.recording a.positions.items a.clocks.events a.lasting_from
-        × AreIndexes a.trace.recording a.clocks.events a.mentions.numbers (map (λ list. list.items) a.mentions.lists.items) a.turns.positions.items a.turns.downs.items (map (λ list. list.items) a.lanes.items) a.spreads.items };
+        × AreIndexes a.trace.recording a.clocks.events a.mentions.numbers (lists_in a.mentions.lists.items)
+        a.turns.positions.items a.turns.downs.items (lists_in a.lanes.items) a.spreads.items };
 }
 
 impl Tables {
@@ -153,7 +154,7 @@ impl Tables {
 
 /// Notes the position of an entry, if it is a delivery.
 fn note(positions: &mut Vec<u32>, entry: &Entry, i: u32) -> Result<(), NoMemory>
-    ensures { IfOk result (λ _. (past : List Entry) → length past ≡ i → ArePositions past positions.old.items → ArePositions (entry.now ∷ past) positions.new.items) }
+    ensures { IfOk result (λ _. ArePositionsAfter entry.now i positions.old.items positions.new.items) }
 {
     match entry {
         Entry::Deliver { .. } => Ok(positions.push(i)?),
@@ -164,7 +165,7 @@ fn note(positions: &mut Vec<u32>, entry: &Entry, i: u32) -> Result<(), NoMemory>
 /// The positions of the deliveries, in order.
 pub fn positions_of(alloc: Global, entries: &[Entry]) -> Result<Vec<u32>, NoMemory>
     requires { length entries.now ≤ max_entries }
-    ensures { IfOk result (λ positions. ArePositions (past_at entries.now (length entries.now)) positions.items) }
+    ensures { IfOk result (λ positions. ArePositions (past_of entries.now) positions.items) }
 {
     let mut positions = Vec::new(alloc);
     for (i, entry) in entries.iter().enumerate() {

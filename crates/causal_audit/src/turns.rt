@@ -1,12 +1,12 @@
 //! The positions of the crashes and restarts, and who is down after each.
-ghost use Rattle.std.specs.Prelude.{◌≡◌, ◌≤◌, ◌∷◌, ℕ, List, IfOk, length};
+ghost use Rattle.std.specs.Prelude.{◌≡◌, ◌≤◌, ◌∷◌, List, IfOk, length};
 ghost use Rattle.std.specs.List.Sorted.{IsNonDecreasing};
 ghost use Rattle.causal_trace.specs.declared.entry.Entry.{Entry};
 ghost use Rattle.causal_trace.specs.Limits.{max_entries};
 ghost use Rattle.causal_trace.specs.Past.{instant, is_down};
-ghost use Rattle.causal_trace.specs.State.{past_at};
 ghost use Rattle.causal_audit.specs.Quiet.{is_turn};
-ghost use Rattle.causal_audit.specs.Inside.Filed.{AreTurns};
+ghost use Rattle.causal_audit.specs.Inside.Filed.{past_of};
+ghost use Rattle.causal_audit.specs.Inside.Kept.{AreTurnsKept};
 ghost use Rattle.causal_audit.specs.Inside.Sights.{Shows};
 
 use crate::sight::down_after;
@@ -27,7 +27,7 @@ impl Turns {
     pub fn down_at(&self, t: u32) -> Holders
         requires ascending { IsNonDecreasing self.now.positions.items }
         requires counted { length self.now.downs.items ≡ length self.now.positions.items }
-        ensures { (past : List Entry) → t ≤ length past → AreTurns past self.now.positions.items self.now.downs.items → Shows result (λ p. is_down (instant past t) p) }
+        ensures { (past : List Entry) → t ≤ length past → AreTurnsKept past self.now → Shows result (λ p. is_down (instant past t) p) }
     {
         let passed = self.positions.partition_point(|position| *position < t);
         if passed == 0 {
@@ -51,7 +51,7 @@ fn is_turn(entry: &Entry) -> bool
 /// Notes the position of an entry after which these processes are down, if it is a crash or a restart.
 fn note_turn(turns: &mut Turns, entry: &Entry, down: Holders, i: u32) -> Result<(), NoMemory>
     ensures { IfOk result (λ _. (past : List Entry) → length past ≡ i → Shows down (λ p. is_down (entry.now ∷ past) p) →
-        AreTurns past turns.old.positions.items turns.old.downs.items → AreTurns (entry.now ∷ past) turns.new.positions.items turns.new.downs.items) }
+        AreTurnsKept past turns.old → AreTurnsKept (entry.now ∷ past) turns.new) }
 {
     if !is_turn(entry) {
         return Ok(());
@@ -64,7 +64,7 @@ fn note_turn(turns: &mut Turns, entry: &Entry, down: Holders, i: u32) -> Result<
 /// The positions of the crashes and restarts, in order, and who is down after each.
 pub fn turns_of(alloc: Global, entries: &[Entry]) -> Result<Turns, NoMemory>
     requires { length entries.now ≤ max_entries }
-    ensures { IfOk result (λ turns. AreTurns (past_at entries.now (length entries.now)) turns.positions.items turns.downs.items) }
+    ensures { IfOk result (AreTurnsKept (past_of entries.now)) }
 {
     let mut turns = Turns {
         positions: Vec::new(alloc),

@@ -32,3 +32,11 @@ pub record AreNoneUntil (changes : Changes) (from next : ℕ) : Type 0 where
 abbrev pub TellsMention : Changes → ℕ → ℕ → Next → Type 0
 TellsMention changes from end next =
     next.position < end → (next.mentioned ≡ true) ↔ Contains changes.mentions.now next.position
+
+-- from there on no change comes before this one, if the cursors have passed none
+abbrev pub PassesNone : ℕ → Ahead → ℕ → Type 0
+PassesNone from ahead next = (changes : Changes) → AreAhead changes from ahead → AreNoneUntil changes from next
+
+-- and it is told whether it is a mention
+abbrev pub TellsNext : ℕ → ℕ → Ahead → Next → Type 0
+TellsNext from end ahead next = (changes : Changes) → AreAhead changes from ahead → TellsMention changes from end next

@@ -5,6 +5,7 @@ use Rattle.causal_name.specs.declared.Det.{Det}
 use Rattle.causal_trace.specs.declared.entry.Entry.{Entry}
 use Rattle.causal_trace.specs.Past.{entry_at, has}
 use Rattle.causal_trace.specs.Dependence.{IsEventOf, Reaches}
+use Rattle.causal_audit.specs.declared.changes.Changes.{Changes}
 use Rattle.causal_audit.specs.Quiet.{is_turn, mentioned_by}
 
 -- the list has the position of each entry that mentions d
@@ -34,3 +35,7 @@ pub record AreChanges (past : List Entry) (k : ℕ) (d : Det) (mentions turns fi
   pub only : AreMentionsOf past d mentions
   pub turned : HasTurns past turns
   pub first : HasFirsts past k firsts
+
+-- the same of what a walk reads
+abbrev pub AreChangesKept : List Entry → ℕ → Det → Changes → Type 0
+AreChangesKept past k d changes = AreChanges past k d changes.mentions.now changes.turns.now changes.firsts.now

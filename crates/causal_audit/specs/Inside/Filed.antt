@@ -1,5 +1,6 @@
 -- The lists of positions that tables keep, so that only changes are looked at.
-use Rattle.std.specs.Prelude.{◌≡◌, ℕ, ◌+◌, ◌<◌, ◌≤◌, ◌⊎◌, true, if◌then◌else◌, List, [], ◌∷◌, ◌++◌, length, Option, Some, None, slice_set, slice_index_or, Contains}
+use Rattle.std.specs.Prelude.{◌≡◌, ℕ, ◌+◌, ◌<◌, ◌≤◌, ◌⊎◌, true, if◌then◌else◌, List, [], ◌∷◌, ◌++◌, length, map, Option, Some, None, slice_set, slice_index_or, Contains}
+use Rattle.std.specs.Global.{Vec}
 use Rattle.std.specs.List.{All}
 use Rattle.std.specs.List.Sorted.{IsNonDecreasing}
 use Rattle.std.specs.Option.{option_map_or}
@@ -9,6 +10,7 @@ use Rattle.causal_name.specs.declared.Det.{Det}
 use Rattle.causal_name.specs.Names.{same_det}
 use Rattle.causal_trace.specs.declared.entry.Entry.{Entry}
 use Rattle.causal_trace.specs.Past.{entry_at, has, instant, is_down}
+use Rattle.causal_trace.specs.State.{past_at}
 use Rattle.causal_trace.specs.Dependence.{IsEventOf}
 use Rattle.causal_clock.specs.declared.Event.{Event}
 use Rattle.causal_clock.specs.Timeline.{lane_of}
@@ -21,6 +23,14 @@ use Rattle.causal_audit.specs.Inside.Sights.{Shows}
 pub record Ascends (bound : ℕ) (list : List ℕ) : Type 0 where
   pub ascending : IsNonDecreasing list
   pub below : All (λ v. v < bound) list
+
+-- the lists themselves, of what a program keeps
+abbrev pub lists_in : {A : Type 0} → List (Vec A) → List (List A)
+lists_in lists = map (λ list. list.items) lists
+
+-- what these entries record, the oldest of which stands first
+abbrev pub past_of : List Entry → List Entry
+past_of entries = past_at entries (length entries)
 
 -- the list of a number
 abbrev pub list_at : List (List ℕ) → ℕ → List ℕ
@@ -36,6 +46,14 @@ pub record AreTurns (past : List Entry) (list : List ℕ) (downs : List (FinSet 
   pub turned : HasTurns past list
   pub counted : length downs ≡ length list
   pub shown : (i : ℕ) (s : FinSet nat_cmp) → i < length list → Shows (slice_index_or downs i s) (λ p. is_down (instant past (slice_index_or list i 0 + 1)) p)
+
+-- all events of the list are of one lane
+abbrev pub AreOfOneLane : List Event → List ℕ → Type 0
+AreOfOneLane events lane = (v w : ℕ) → Contains lane v → Contains lane w → lane_of events v ≡ lane_of events w
+
+-- each list has events of its own lane alone
+abbrev pub AreInLanes : List Event → List (List ℕ) → Type 0
+AreInLanes events lanes = (m v : ℕ) → Contains (list_at lanes m) v → lane_of events v ≡ m
 
 -- for each lane of the clock the positions of its sends and deliveries
 pub record AreLanes (past : List Entry) (events : List Event) (lanes : List (List ℕ)) : Type 0 where

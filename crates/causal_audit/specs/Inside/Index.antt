@@ -51,3 +51,7 @@ pub record IsIndex (heads : Heads) (nodes : List Node) : Type 0 where
   pub heads_lead : (d : Det) → IsBelow (head_of heads d) (length nodes)
   pub nodes_lead : LeadDown nodes
   pub finds : (d : Det) → sought nodes (head_of heads d) d ≡ number_of (map (λ node. node.det) nodes) d
+
+-- the head of the determinant's message leads to that place, and all others lead where they led
+abbrev pub LeadsTo : Det → ℕ → Heads → Heads → Type 0
+LeadsTo d place old new = (e : Det) → head_of new e ≡ (if is_kin d e then Some place else head_of old e)

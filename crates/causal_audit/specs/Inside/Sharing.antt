@@ -1,9 +1,13 @@
 -- The first delivery of each determinant, what shares it and what mentions it. Deliveries go by their numbers here, and a
 -- determinant by the number of its first delivery.
-use Rattle.std.specs.Prelude.{◌≡◌, ℕ, ◌<◌, ◌≤◌, List, [], ◌∷◌, length, Option, Some, None, slice_index, Contains}
+use Rattle.std.specs.Prelude.{◌≡◌, ◌≢◌, ℕ, ◌<◌, ◌≤◌, if◌then◌else◌, List, [], ◌∷◌, length, map, Option, Some, None, slice_index, Contains}
 use Rattle.std.specs.List.{slice_get}
 use Rattle.std.specs.Option.{option_map}
 use Rattle.causal_name.specs.declared.Det.{Det}
+use Rattle.causal_name.specs.Names.{same_det}
+use Rattle.causal_trace.specs.declared.entry.Entry.{Entry}
+use Rattle.causal_trace.specs.Past.{det_at}
+use Rattle.causal_audit.specs.Quiet.{mentioned_by}
 use Rattle.causal_audit.specs.declared.sharing.Firsts.{Firsts}
 use Rattle.causal_audit.specs.Inside.Filed.{list_at, number_of}
 
@@ -39,3 +43,19 @@ added (Some m) numbers = m ∷ numbers
 abbrev pub numbers_in : (Det → Option ℕ) → List Det → List ℕ
 numbers_in of [] = []
 numbers_in of (d ∷ ds) = added (of d) (numbers_in of ds)
+
+-- one more determinant has this first delivery, and all others the one that they had
+abbrev pub HasFirstAlso : Det → ℕ → Firsts → Firsts → Type 0
+HasFirstAlso det i old new = (d : Det) → first_of new d ≡ (if same_det det d then Some i else first_of old d)
+
+-- a delivery stands at each of the positions
+abbrev pub AreDeliveryPositions : List Entry → List ℕ → Type 0
+AreDeliveryPositions past positions = (i : ℕ) → i < length positions → det_at past (slice_index positions i) ≢ None
+
+-- these are the determinants of the deliveries at the positions
+abbrev pub AreDetsAt : List Entry → List ℕ → List Det → Type 0
+AreDetsAt past positions dets = (i : ℕ) → i < length positions → det_at past (slice_index positions i) ≡ slice_get dets i
+
+-- for each entry the numbers of the determinants that it mentions
+abbrev pub marks_by : (Det → Option ℕ) → List Entry → List (List ℕ)
+marks_by of entries = map (λ e. numbers_in of (mentioned_by e)) entries

@@ -1,13 +1,19 @@
 -- What is known of one delivery at a state: who is down, who holds its determinant, whether that is stable, and who
 -- depends on the delivery.
-use Rattle.std.specs.Prelude.{◌≡◌, ℕ, ◌↔◌, Bool, true, false, List, ◌∷◌, length, Some}
+use Rattle.std.specs.Prelude.{◌≡◌, ℕ, ◌↔◌, Bool, true, false, List, ◌∷◌, length, Option, Some, MatchOption}
 use Rattle.std.specs.Ordering.{nat_cmp}
 use Rattle.std.specs.FinSet.{FinSet, contains}
 use Rattle.causal_name.specs.declared.Det.{Det}
 use Rattle.causal_trace.specs.declared.entry.Entry.{Entry}
-use Rattle.causal_trace.specs.Past.{is_down, logs, is_stable}
+use Rattle.causal_trace.specs.Past.{det_at, has, is_down, logs, is_stable}
+use Rattle.causal_trace.specs.Rows.{AreAccepted}
+use Rattle.causal_trace.specs.Judgement.{HasOrphan}
 use Rattle.causal_trace.specs.Dependence.{actor, Reaches, Depends}
 use Rattle.causal_audit.specs.declared.sight.Sight.{Sight}
+use Rattle.causal_audit.specs.declared.sight.Exposed.{Exposed}
+use Rattle.causal_audit.specs.Lasting.{IsOverAt}
+use Rattle.causal_audit.specs.Quiet.{mentioned_by}
+use Rattle.causal_audit.specs.Verdicts.{IsLeastOrphan}
 
 -- the members of the set are just the numbers that pass
 abbrev pub Shows : FinSet nat_cmp → (ℕ → Bool) → Type 0
@@ -33,3 +39,39 @@ pub record IsUnheard (past : List Entry) (k : ℕ) (d : Det) : Type 0 where
   pub unlogged : (p : ℕ) → logs past p d ≡ false
   pub unstable : is_stable past d ≡ false
   pub independent : (p : ℕ) → Depends past k p → ⊥
+
+-- where `before` shows who is down, `after` does with one more entry
+abbrev pub ShowsDownAfter : Entry → FinSet nat_cmp → FinSet nat_cmp → Type 0
+ShowsDownAfter e before after = (past : List Entry) → Shows before (λ p. is_down past p) → Shows after (λ p. is_down (e ∷ past) p)
+
+-- on a condition the same holds of who holds d
+abbrev pub ShowsHoldersAfter : Type 0 → Entry → Det → FinSet nat_cmp → FinSet nat_cmp → Type 0
+ShowsHoldersAfter When e d before after =
+    (past : List Entry) → When → Shows before (λ p. logs past p d) → Shows after (λ p. logs (e ∷ past) p d)
+
+-- and of who depends on a delivery that reaches the entry or not
+abbrev pub ShowsDependentsAfter : Entry → Bool → FinSet nat_cmp → FinSet nat_cmp → Type 0
+ShowsDependentsAfter e reached before after =
+    (n : ℕ) (past : List Entry) (k : ℕ) → AreAccepted n (e ∷ past) → TellsNextReach past e k reached
+    → AreDependents past k before → AreDependents (e ∷ past) k after
+
+-- the sight of each delivery of which nobody heard, where these are down
+abbrev pub IsSightBegun : FinSet nat_cmp → Sight → Type 0
+IsSightBegun down s = (past : List Entry) (k : ℕ) (d : Det) → Shows down (λ p. is_down past p) → IsUnheard past k d → IsSight past k d s
+
+-- the sight after one more entry, which mentions d or not, and which the delivery reaches or not
+abbrev pub IsSightAfter : Entry → Det → Bool → Bool → Sight → Sight → Type 0
+IsSightAfter e d mentioned reached before after =
+    (n : ℕ) (past : List Entry) (k : ℕ) → AreAccepted n (e ∷ past) → mentioned ≡ has (mentioned_by e) d
+    → TellsNextReach past e k reached → IsSight past k d before → IsSight (e ∷ past) k d after
+
+-- the orphan of each delivery of which this is the sight, and its least crash set; None where it has none
+abbrev pub ExposesLeast : ℕ → Sight → Option Exposed → Type 0
+ExposesLeast f s found =
+    (n : ℕ) (past : List Entry) (k : ℕ) (d : Det) → AreAccepted n past → det_at past k ≡ Some d → IsSight past k d s
+    → MatchOption found (HasOrphan n f past k → ⊥) (λ x. IsLeastOrphan n f past k x.crash x.orphan)
+
+-- where it is told so, each delivery of which this is the sight has no orphan any more
+abbrev pub TellsOver : ℕ → Bool → Sight → Bool → Type 0
+TellsOver f lasting s over =
+    (n : ℕ) (past : List Entry) (k : ℕ) (d : Det) → AreAccepted n past → IsSight past k d s → over ≡ true → IsOverAt n f past d lasting

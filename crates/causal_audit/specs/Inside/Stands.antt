@@ -2,10 +2,12 @@
 use Rattle.std.specs.Prelude.{◌≡◌, ℕ, ◌<◌, ◌≤◌, ◌↔◌, Some, List, ◌∷◌, length, slice_index}
 use Rattle.causal_trace.specs.declared.entry.Entry.{Entry}
 use Rattle.causal_trace.specs.Past.{lane, restarts}
-use Rattle.causal_trace.specs.Rows.{AreAccepted}
+use Rattle.causal_trace.specs.Rows.{AreAccepted, IsWellFormed, Recording}
+use Rattle.causal_trace.specs.State.{entries_of}
 use Rattle.causal_trace.specs.Dependence.{IsEventOf, Delivers}
 use Rattle.causal_clock.specs.declared.Event.{Event}
 use Rattle.causal_clock.specs.Timeline.{Timeline, lane_of, send_of}
+use Rattle.causal_audit.specs.Spread.{AreSpreads}
 
 -- the clock has an event for each entry, at its position: two sends or deliveries are of one lane of the clock exactly
 -- where they are of one lane of one process, and an event receives just what the delivery at its position delivers
@@ -32,3 +34,8 @@ pub record CanMirror (e : Entry) (clock : Timeline) (present : List ℕ) : Type 
   pub some : 1 ≤ processes
   pub accepted : AreAccepted processes (e ∷ past)
   pub mirrors : Mirrors processes past clock present
+
+-- a list has the spreads of each well-formed run of these entries, the oldest first, for which these events stand
+abbrev pub SpreadsOf : List Entry → List Event → List ℕ → Type 0
+SpreadsOf entries events spreads =
+    (r : Recording) → IsWellFormed r → entries ≡ entries_of r → Stands r.past events → AreSpreads r.past events spreads
