@@ -164,23 +164,13 @@ impl<R: Read + Drop> TraceReader<R> {
         ensures ok { IfOk result (λ trace. (b : List ℕ) → HasRead self.state b → Spells b trace.recording) }
         ensures value { IsHeldTrace result (held_trace self.state) }
     {
-        match self.into_recorded() {
-            Ok(recorded) => Ok(recorded.into_trace()),
-            Err(fault) => Err(fault),
-        }
-    }
-
-    fn into_recorded(self) -> Result<Recorded, ReaderFault>
-        ensures ok { IfOk result (λ r. (b : List ℕ) → HasRead self.state b → Spells b r) }
-        ensures value { result ≡ held_trace self.state }
-    {
         let TraceReader {
             source: _source,
             alloc: _alloc,
             state,
         } = self;
         match state {
-            State::Ended(trace) => Ok(trace),
+            State::Ended(recorded) => Ok(recorded.into_trace()),
             State::Failed => Err(ReaderFault::Failed),
             State::Reading(_) => Err(ReaderFault::Unfinished),
         }
