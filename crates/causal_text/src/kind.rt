@@ -50,7 +50,7 @@ pub enum TextKind {
     NoMemory,
 }
 
-// One text for each kind stands in a function of its own, which is proved in a tenth of the time of a derived `Display`.
+// A derived `Display` of so many messages takes ten times as long to prove.
 impl fmt::Display for TextKind {
     fn fmt<W: fmt::Write>(&self, f: &mut fmt::Formatter<W>) -> fmt::Result {
         f.write_str(self.sentence())

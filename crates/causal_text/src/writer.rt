@@ -2,7 +2,7 @@
 ghost use Rattle.std.specs.Prelude.{◌≡◌, ◌++◌, codes, ◌<◌, length, take, OnOk, IfOk, IfErr, string_bytes};
 ghost use Rattle.std.specs.Io.KnownBytes.{Appends};
 ghost use Rattle.causal_text.specs.Canonical.{det_text, more_dets_text, dets_text, entry_text, entries_text, canonical, canonical_version};
-ghost use Rattle.causal_text.specs.Inside.Texts.{numbers_text, named_text};
+ghost use Rattle.causal_text.specs.Inside.Texts.{numbers_text, named_text, listed_text};
 
 use crate::version::Version;
 use causal_name::{Det, NoMemory, Pid};
@@ -81,7 +81,7 @@ fn push_listed(
     numbers: &[u32],
     dets: &[Det],
 ) -> Result<(), AllocError>
-    ensures { OnOk result (string_bytes out.new ≡ string_bytes out.old ++ (named_text name.now numbers.now (codes ",") ++ (dets_text dets.now ++ codes "]"))) }
+    ensures { OnOk result (string_bytes out.new ≡ string_bytes out.old ++ listed_text name.now numbers.now dets.now) }
 {
     push_named(out, name, numbers, ",")?;
     push_dets(out, dets)?;
