@@ -7,7 +7,7 @@ use Rattle.causal_protocol.specs.declared.request.Request.{Request}
 use Rattle.causal_protocol.specs.declared.request.Request.TheVariants.{Deliver, Crash, Restart, Flush, Forget}
 use Rattle.causal_script.specs.Spelling.{command_line, IsRequest}
 use Rattle.causal_script.specs.Faults.{IsCommandLine}
-use Rattle.causal_script.specs.Inside.Reading.{◌>>=◌, cut, number_of, process_of, delivery_of, named_request, request_of}
+use Rattle.causal_script.specs.Inside.Reading.{◌>>=◌, cut, number_of, process_of, delivery_of, of_process, named_request, request_of}
 use Rattle.causal_script.proofs.Cuts.{IsCut, cut_whole, cut_front}
 use Rattle.causal_script.proofs.Numbers.{number_of-decimal, decimal-number_of, process_of-decimal, decimal-process_of, decimal_lacks}
 
@@ -67,25 +67,32 @@ says_delivery name words line r whole named e =
     subst (λ (q : Request). Says line q) (sym d.is) says
 
 -- a command of one process
-says_process : (make : Pid → Request) (word name words line : List ℕ) (r : Request)
-    → ((p : Pid) → p.0 < 2 ^ 8 → IsRequest (make p)) → ((p : Pid) → word ++ 32 ∷ decimal p.0 ≡ command_line (make p))
-    → line ≡ name ++ 32 ∷ words → name ≡ word → (process_of words >>= λ p. Some (make p)) ≡ Some r → Says line r
-says_process make word name words line r fits spells whole named e =
-    let p = bind_some (process_of words) _ r e in
-    let number = decimal-process_of p.0 words p.1 in
-    let spelled : line ≡ command_line (make p.0) = whole ∙ ap (λ xs. xs ++ 32 ∷ words) named ∙ ap (λ xs. word ++ 32 ∷ xs) number.0 ∙ spells p.0 in
-    let says : Says line (make p.0) = (fits p.0 number.1, spelled) in
-    subst (λ (q : Request). Says line q) (same_Some _ _ p.2) says
+says_process : (make : Pid → Request) (word name words line : List ℕ) (p : Pid) (r : Request)
+    → IsRequest (make p) → word ++ 32 ∷ decimal p.0 ≡ command_line (make p)
+    → line ≡ name ++ 32 ∷ words → words ≡ decimal p.0 → name ≡ word → Some (make p) ≡ Some r → Says line r
+says_process make word name words line p r fits spells whole number named e =
+    let spelled : line ≡ command_line (make p) = whole ∙ ap (λ xs. xs ++ 32 ∷ words) named ∙ ap (λ xs. word ++ 32 ∷ xs) number ∙ spells in
+    let says : Says line (make p) = (fits, spelled) in
+    subst (λ (q : Request). Says line q) (same_Some _ _ e) says
+
+says_of_process : (name words line : List ℕ) (p : Pid) (r : Request) → line ≡ name ++ 32 ∷ words → words ≡ decimal p.0 → p.0 < 2 ^ 8 → of_process name p ≡ Some r → Says line r
+unfolding of_process
+says_of_process name words line p r whole number small e =
+    chosen name (codes "crash") _ _ r (λ named is. says_process Crash (codes "crash") name words line p r small refl whole number named is)
+    (chosen name (codes "restart") _ _ r (λ named is. says_process Restart (codes "restart") name words line p r small refl whole number named is)
+    (chosen name (codes "flush") _ _ r (λ named is. says_process Flush (codes "flush") name words line p r small refl whole number named is)
+    (chosen name (codes "forget") _ None r (λ named is. says_process Forget (codes "forget") name words line p r small refl whole number named is)
+    (λ no. absurd (none-some r no))))) e
 
 says_named : (name words line : List ℕ) (r : Request) → line ≡ name ++ 32 ∷ words → named_request name words ≡ Some r → Says line r
 unfolding named_request
 says_named name words line r whole e =
-    chosen name (codes "deliver") _ _ r (λ named is. says_delivery name words line r whole named is)
-    (chosen name (codes "crash") _ _ r (λ named is. says_process Crash (codes "crash") name words line r (λ p h. h) (λ p. refl) whole named is)
-    (chosen name (codes "restart") _ _ r (λ named is. says_process Restart (codes "restart") name words line r (λ p h. h) (λ p. refl) whole named is)
-    (chosen name (codes "flush") _ _ r (λ named is. says_process Flush (codes "flush") name words line r (λ p h. h) (λ p. refl) whole named is)
-    (chosen name (codes "forget") _ None r (λ named is. says_process Forget (codes "forget") name words line r (λ p h. h) (λ p. refl) whole named is)
-    (λ no. absurd (none-some r no)))))) e
+    chosen name (codes "deliver") _ _ r (λ named is. says_delivery name words line r whole named is) behind e where
+      behind : (process_of words >>= λ p. of_process name p) ≡ Some r → Says line r
+      behind is =
+          let p = bind_some (process_of words) _ r is in
+          let number = decimal-process_of p.0 words p.1 in
+          says_of_process name words line p.0 r whole number.0 number.1 p.2
 
 pub says_request : (line : List ℕ) (r : Request) → request_of line ≡ Some r → Says line r
 unfolding request_of
@@ -110,7 +117,7 @@ process_back : (make : Pid → Request) (p : Pid) → p.0 < 2 ^ 8 → (process_o
 process_back make p small = rw (process_of-decimal p small) refl
 
 pub request_back : (r : Request) → IsRequest r → request_of (command_line r) ≡ Some r
-unfolding request_of named_request
+unfolding request_of named_request of_process
 request_back (Deliver q source ssn) h = delivery_back q source ssn h.0 h.1 h.2
 request_back (Crash p) h = process_back Crash p h
 request_back (Restart p) h = process_back Restart p h

@@ -6,7 +6,7 @@ use Rattle.causal_script.specs.declared.script.Kind.TheVariants.{Ring, Echo, Tal
 use Rattle.causal_script.specs.declared.start.Start.{Start}
 use Rattle.causal_script.specs.Spelling.{start_line_at, start_line, IsStart}
 use Rattle.causal_script.specs.Faults.{IsStartLine}
-use Rattle.causal_script.specs.Inside.Reading.{◌>>=◌, cut, number_of, count_of, with_param, tally_of, start_of_kind, named_start, start_of}
+use Rattle.causal_script.specs.Inside.Reading.{◌>>=◌, cut, number_of, count_of, numbered_start, with_param, tally_of, start_of_kind, named_start, start_of}
 use Rattle.causal_script.proofs.Cuts.{IsCut, cut_whole, cut_front}
 use Rattle.causal_script.proofs.Numbers.{number_of-decimal, decimal-number_of, count_of-decimal, decimal-count_of, decimal_lacks}
 use Rattle.causal_script.proofs.Commands.{bind_some, chosen}
@@ -24,55 +24,49 @@ record IsNumbers (kind : Kind) (words : List ℕ) (s : Start) : Type 0 where
   faults : f < 2 ^ 16
   small : param < 2 ^ 8
 
+numbered_is : (kind : Kind) (words front back : List ℕ) (param : ℕ) (s : Start) → param < 2 ^ 8 → numbered_start kind front back param ≡ Some s
+    → (w : IsNumbers kind words s) × (front ≡ decimal w.n) × (back ≡ decimal w.f) × (w.param ≡ param)
+unfolding numbered_start
+numbered_is kind words front back param s small e =
+    let n = bind_some (count_of front) _ s e in
+    let f = bind_some (number_of 65535 back) _ s n.2 in
+    let count = decimal-count_of n.0 front n.1 in
+    let faults = decimal-number_of 65535 f.0 back (omega arith) f.1 in (
+      record {
+        n = n.0;
+        f = f.0;
+        param = param;
+        is = sym (same_Some _ _ f.2);
+        some = count.1;
+        few = count.2;
+        faults = omega (arith, faults.1);
+        small = small;
+      },
+      count.0,
+      faults.0,
+      refl,
+    )
+
 with_param_is : (kind : Kind) (words : List ℕ) (s : Start) → with_param kind words ≡ Some s → (w : IsNumbers kind words s) × (words ≡ decimal w.n ++ (32 ∷ (decimal w.f ++ (32 ∷ decimal w.param))))
 unfolding with_param
 with_param_is kind words s e =
     let a = bind_some (cut 32 words) _ s e in
     let b = bind_some (cut 32 a.0.1) _ s a.2 in
-    let n = bind_some (count_of a.0.0) _ s b.2 in
-    let f = bind_some (number_of 65535 b.0.0) _ s n.2 in
-    let param = bind_some (number_of 255 b.0.1) _ s f.2 in
+    let param = bind_some (number_of 255 b.0.1) _ s b.2 in
     let first : IsCut 32 words a.0 = cut_whole 32 words a.0 a.1 in
     let second : IsCut 32 a.0.1 b.0 = cut_whole 32 a.0.1 b.0 b.1 in
-    let count = decimal-count_of n.0 a.0.0 n.1 in
-    let faults = decimal-number_of 65535 f.0 b.0.0 (omega arith) f.1 in
     let number = decimal-number_of 255 param.0 b.0.1 (omega arith) param.1 in
-    let rest : a.0.1 ≡ decimal f.0 ++ (32 ∷ decimal param.0) = second.whole ∙ ap (λ xs. xs ++ 32 ∷ b.0.1) faults.0 ∙ ap (λ xs. decimal f.0 ++ (32 ∷ xs)) number.0 in (
-      record {
-        n = n.0;
-        f = f.0;
-        param = param.0;
-        is = sym (same_Some _ _ param.2);
-        some = count.1;
-        few = count.2;
-        faults = omega (arith, faults.1);
-        small = omega (arith, number.1);
-      },
-      first.whole ∙ ap (λ xs. xs ++ 32 ∷ a.0.1) count.0 ∙ ap (λ xs. decimal n.0 ++ (32 ∷ xs)) rest,
-    )
+    let w = numbered_is kind words a.0.0 b.0.0 param.0 s (omega (arith, number.1)) param.2 in
+    let rest : a.0.1 ≡ decimal w.0.f ++ (32 ∷ decimal w.0.param) = second.whole ∙ ap (λ xs. xs ++ 32 ∷ b.0.1) w.2 ∙ ap (λ xs. decimal w.0.f ++ (32 ∷ xs)) (number.0 ∙ ap decimal (sym w.3)) in
+    (w.0, first.whole ∙ ap (λ xs. xs ++ 32 ∷ a.0.1) w.1 ∙ ap (λ xs. decimal w.0.n ++ (32 ∷ xs)) rest)
 
 tally_is : (words : List ℕ) (s : Start) → tally_of words ≡ Some s → (w : IsNumbers Tally words s) × (w.param ≡ 0) × (words ≡ decimal w.n ++ (32 ∷ decimal w.f))
 unfolding tally_of
 tally_is words s e =
     let a = bind_some (cut 32 words) _ s e in
-    let n = bind_some (count_of a.0.0) _ s a.2 in
-    let f = bind_some (number_of 65535 a.0.1) _ s n.2 in
     let first : IsCut 32 words a.0 = cut_whole 32 words a.0 a.1 in
-    let count = decimal-count_of n.0 a.0.0 n.1 in
-    let faults = decimal-number_of 65535 f.0 a.0.1 (omega arith) f.1 in (
-      record {
-        n = n.0;
-        f = f.0;
-        param = 0;
-        is = sym (same_Some _ _ f.2);
-        some = count.1;
-        few = count.2;
-        faults = omega (arith, faults.1);
-        small = omega arith;
-      },
-      refl,
-      first.whole ∙ ap (λ xs. xs ++ 32 ∷ a.0.1) count.0 ∙ ap (λ xs. decimal n.0 ++ (32 ∷ xs)) faults.0,
-    )
+    let w = numbered_is Tally words a.0.0 a.0.1 0 s (omega arith) a.2 in
+    (w.0, w.3, first.whole ∙ ap (λ xs. xs ++ 32 ∷ a.0.1) w.1 ∙ ap (λ xs. decimal w.0.n ++ (32 ∷ xs)) w.2)
 
 -- the line says this
 abbrev pub SaysStart : List ℕ → Start → Type 0
@@ -127,17 +121,17 @@ says_start line s e =
 
 with_param_back : (kind : Kind) (n f param : ℕ) → 1 ≤ n → n ≤ 256 → f < 2 ^ 16 → param < 2 ^ 8
     → with_param kind (decimal n ++ (32 ∷ (decimal f ++ (32 ∷ decimal param)))) ≡ Some (record { kind = kind; n = n; f = f; param = param })
-unfolding with_param
+unfolding with_param numbered_start
 with_param_back kind n f param some few faults small =
     let first : cut 32 (decimal n ++ (32 ∷ (decimal f ++ (32 ∷ decimal param)))) ≡ Some (decimal n, decimal f ++ (32 ∷ decimal param)) = cut_front 32 (decimal n) _ (decimal_lacks n (omega arith)) in
     let second : cut 32 (decimal f ++ (32 ∷ decimal param)) ≡ Some (decimal f, decimal param) = cut_front 32 (decimal f) (decimal param) (decimal_lacks f (omega arith)) in
     let a = count_of-decimal n some few in
     let b = number_of-decimal 65535 f (omega arith) (omega arith) in
     let c = number_of-decimal 255 param (omega arith) (omega arith) in
-    rw first (rw second (rw a (rw b (rw c refl))))
+    rw first (rw second (rw c (rw a (rw b refl))))
 
 tally_back : (n f : ℕ) → 1 ≤ n → n ≤ 256 → f < 2 ^ 16 → tally_of (decimal n ++ (32 ∷ decimal f)) ≡ Some (record { kind = Tally; n = n; f = f; param = 0 })
-unfolding tally_of
+unfolding tally_of numbered_start
 tally_back n f some few faults =
     let first : cut 32 (decimal n ++ (32 ∷ decimal f)) ≡ Some (decimal n, decimal f) = cut_front 32 (decimal n) (decimal f) (decimal_lacks n (omega arith)) in
     let a = count_of-decimal n some few in

@@ -1,8 +1,9 @@
 //! A command of a script.
 ghost use Rattle.std.specs.Prelude.{◌≡◌};
-ghost use Rattle.causal_script.specs.Inside.Reading.{delivery_of, named_request, request_of};
+ghost use Rattle.causal_script.specs.Inside.Reading.{delivery_of, of_process, named_request, request_of};
 
 use crate::words::{cut, number, process};
+use causal_name::Pid;
 use causal_protocol::request::Request;
 
 /// `Q SOURCE SSN`.
@@ -19,19 +20,33 @@ fn delivery(words: &[u8]) -> Option<Request>
     })
 }
 
+/// A command of one process, by its name.
+#[tactic(auto, unfolding(crate::specs::Inside::Reading::of_process))]
+fn of_process(name: &[u8], p: Pid) -> Option<Request>
+    ensures { result ≡ of_process name.now p }
+{
+    if name == b"crash".as_slice() {
+        Some(Request::Crash { p })
+    } else if name == b"restart".as_slice() {
+        Some(Request::Restart { p })
+    } else if name == b"flush".as_slice() {
+        Some(Request::Flush { p })
+    } else if name == b"forget".as_slice() {
+        Some(Request::Forget { p })
+    } else {
+        None
+    }
+}
+
 /// A command by its name and the words behind it.
 #[tactic(auto, unfolding(crate::specs::Inside::Reading::named_request))]
 fn named(name: &[u8], words: &[u8]) -> Option<Request>
     ensures { result ≡ named_request name.now words.now }
 {
-    match name {
-        b"deliver" => delivery(words),
-        b"crash" => Some(Request::Crash { p: process(words)? }),
-        b"restart" => Some(Request::Restart { p: process(words)? }),
-        b"flush" => Some(Request::Flush { p: process(words)? }),
-        b"forget" => Some(Request::Forget { p: process(words)? }),
-        _ => None,
+    if name == b"deliver".as_slice() {
+        return delivery(words);
     }
+    of_process(name, process(words)?)
 }
 
 /// What a line after the first asks for.

@@ -1,6 +1,6 @@
 //! The first line of a script.
 ghost use Rattle.std.specs.Prelude.{◌≡◌};
-ghost use Rattle.causal_script.specs.Inside.Reading.{with_param, tally_of, start_of_kind, named_start, start_of};
+ghost use Rattle.causal_script.specs.Inside.Reading.{numbered_start, with_param, tally_of, start_of_kind, named_start, start_of};
 
 use crate::script::Kind;
 use crate::words::{count, cut, number};
@@ -14,6 +14,19 @@ pub(crate) struct Start {
     pub(crate) param: u8,
 }
 
+/// A start by the words of its two first numbers.
+#[tactic(auto, unfolding(crate::specs::Inside::Reading::numbered_start))]
+fn numbered(kind: Kind, n: &[u8], f: &[u8], param: u8) -> Option<Start>
+    ensures { result ≡ numbered_start kind n.now f.now param }
+{
+    Some(Start {
+        kind,
+        n: count(n)?,
+        f: number(f, 65_535)? as u16,
+        param,
+    })
+}
+
 /// `N F PARAM`.
 #[tactic(auto, unfolding(crate::specs::Inside::Reading::with_param))]
 fn with_param(kind: Kind, words: &[u8]) -> Option<Start>
@@ -21,12 +34,7 @@ fn with_param(kind: Kind, words: &[u8]) -> Option<Start>
 {
     let (n, words) = cut(words, b' ')?;
     let (f, param) = cut(words, b' ')?;
-    Some(Start {
-        kind,
-        n: count(n)?,
-        f: number(f, 65_535)? as u16,
-        param: number(param, 255)? as u8,
-    })
+    numbered(kind, n, f, number(param, 255)? as u8)
 }
 
 /// `N F`.
@@ -35,12 +43,7 @@ fn tally(words: &[u8]) -> Option<Start>
     ensures { result ≡ tally_of words.now }
 {
     let (n, f) = cut(words, b' ')?;
-    Some(Start {
-        kind: Kind::Tally,
-        n: count(n)?,
-        f: number(f, 65_535)? as u16,
-        param: 0,
-    })
+    numbered(Kind::Tally, n, f, 0)
 }
 
 /// A start by its kind and the words behind it.
@@ -48,11 +51,14 @@ fn tally(words: &[u8]) -> Option<Start>
 fn of_kind(kind: &[u8], words: &[u8]) -> Option<Start>
     ensures { result ≡ start_of_kind kind.now words.now }
 {
-    match kind {
-        b"ring" => with_param(Kind::Ring, words),
-        b"echo" => with_param(Kind::Echo, words),
-        b"tally" => tally(words),
-        _ => None,
+    if kind == b"ring".as_slice() {
+        with_param(Kind::Ring, words)
+    } else if kind == b"echo".as_slice() {
+        with_param(Kind::Echo, words)
+    } else if kind == b"tally".as_slice() {
+        tally(words)
+    } else {
+        None
     }
 }
 
@@ -60,13 +66,11 @@ fn of_kind(kind: &[u8], words: &[u8]) -> Option<Start>
 fn named(name: &[u8], words: &[u8]) -> Option<Start>
     ensures { result ≡ named_start name.now words.now }
 {
-    match name {
-        b"start" => {
-            let (kind, words) = cut(words, b' ')?;
-            of_kind(kind, words)
-        }
-        _ => None,
+    if name != b"start".as_slice() {
+        return None;
     }
+    let (kind, words) = cut(words, b' ')?;
+    of_kind(kind, words)
 }
 
 /// What a first line says.

@@ -216,3 +216,33 @@ IsReadAt-more b piece line h more = subst (λ (text : List ℕ). IsReadUpTo text
 pub line_of_part : (h0 h : Held) (done left b : List ℕ) (line : ℕ) → Comes h0 done h → StandsFor h0 b → line ≡ h.place.count + 1 → IsReadAt (b ++ (done ++ left)) line
 line_of_part h0 h done left b line c s is =
     subst (λ (bytes : List ℕ). IsReadAt bytes line) (append_assoc b done left) (IsReadAt-more (b ++ done) left line (IsReadAt-stands h (b ++ done) line (c b s) is))
+
+-- a fault is told, or it is want of memory
+pub fault_told : {A : Type 0} (k : TextKind) (f : TextFault) (read : Result A TextFault) → (k ≢ kind.NoMemory → read ≡ Err f) → IsTextFaultOf k f read
+fault_told kind.NoMemory f read h = tt
+fault_told kind.After f read h = h (λ e. cc)
+fault_told kind.Big f read h = h (λ e. cc)
+fault_told kind.Syntax f read h = h (λ e. cc)
+fault_told kind.Form f read h = h (λ e. cc)
+fault_told kind.Header f read h = h (λ e. cc)
+fault_told kind.Version f read h = h (λ e. cc)
+fault_told kind.Processes f read h = h (λ e. cc)
+fault_told kind.TooLong f read h = h (λ e. cc)
+fault_told kind.NoProcess f read h = h (λ e. cc)
+fault_told kind.NotUp f read h = h (λ e. cc)
+fault_told kind.NotDown f read h = h (λ e. cc)
+fault_told kind.Lanes f read h = h (λ e. cc)
+fault_told kind.WrongSsn f read h = h (λ e. cc)
+fault_told kind.NoSend f read h = h (λ e. cc)
+fault_told kind.WrongRsn f read h = h (λ e. cc)
+fault_told kind.Doubled f read h = h (λ e. cc)
+fault_told kind.Unsorted f read h = h (λ e. cc)
+fault_told kind.NoDelivery f read h = h (λ e. cc)
+fault_told kind.Count f read h = h (λ e. cc)
+fault_told kind.Cut f read h = h (λ e. cc)
+
+-- what an unfinished line has however it goes on, it has where it ends here
+pub faulty_line : (h : Held) (line : List ℕ) (f : TextFault) → IsPast (record { place = h.place; rest = h.rest ++ line }) f → with_line h line ≡ Err f
+faulty_line h line f past =
+    let here : next h.place (h.rest ++ line) ≡ Err f = ap (next h.place) (sym (append-nil (h.rest ++ line))) ∙ past [] in
+    ap (λ (r : Result Place TextFault). and_then r (λ p. Ok (record { place = p; rest = [] }))) here

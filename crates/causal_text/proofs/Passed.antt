@@ -1,13 +1,16 @@
 -- The grammar's loops over a value that is passed, a turn at a time: what was read of it, as data.
-use Rattle.std.proofs.Common.{◌≡◌, ℕ, zero, suc, ◌-◌, ◌<◌, ◌≤◌, List, [], ◌∷◌, length, Bool, true, false, Option, Some, None, option_map, option_and_then, refl, ap, ◌∙◌}
+use Rattle.std.proofs.Common.{◌≡◌, ◌≢◌, ℕ, zero, suc, ◌-◌, ◌<◌, ◌≤◌, List, [], ◌∷◌, length, Bool, true, false, Option, Some, None, option_map, option_and_then, refl, ap, ◌∙◌}
 use Rattle.std.specs.Prelude.{◌&&◌, is_some, Result, Ok, Err, OnErr}
 use Rattle.json.specs.Token.{Token}
 use Rattle.json.specs.Json as json
-use Rattle.json.specs.Json.{Parse, parse_map, after_end_array, read_key, items_step, items, members, if_last}
-use Rattle.json.proofs.Grammar.{items_end, items_more, members_end, members_no_key, members_more}
-use Rattle.serde_json.specs.Data.{Num, Data, number, array, object, Items, no_items, item, Members, no_members, put}
+use Rattle.json.specs.Reads.{token_of}
+use Rattle.json.specs.declared.token.Token.{Token as Read}
+use Rattle.json.specs.declared.token.Token.TheVariants as read
+use Rattle.json.specs.Json.{Parse, parse_map, after_end_array, read_key, items_step, items, members, value, if_last}
+use Rattle.json.proofs.Grammar.{value_is, items_end, items_more, members_end, members_no_key, members_more}
+use Rattle.serde_json.specs.Data.{Num, Data, null, boolean, number, string, array, object, Items, no_items, item, Members, no_members, put}
 use Rattle.serde_json.specs.Read.{number_of, of_json, of_items, of_members, converted}
-use Rattle.causal_text.specs.Inside.Outline.{one_more, fits, items_fit}
+use Rattle.causal_text.specs.Inside.Outline.{one_more, is_plain, fits, items_fit}
 
 -- ---- one read
 
@@ -127,16 +130,43 @@ unmapped f (Some p) e = absurd (cc)
 
 -- ---- a number
 
-pub number_read : (n : Option Num) → is_some n ≡ true → (x : Num) × (n ≡ Some x)
+number_read : (n : Option Num) → is_some n ≡ true → (x : Num) × (n ≡ Some x)
 number_read None e = absurd (cc)
 number_read (Some x) e = (x, refl)
 
-pub number_passed : (s : List ℕ) (x : Num) (r : List Token) → number_of s ≡ Some x → converted of_json (Some (json.number s, r)) ≡ Some (number x, r)
+number_passed : (s : List ℕ) (x : Num) (r : List Token) → number_of s ≡ Some x → converted of_json (Some (json.number s, r)) ≡ Some (number x, r)
 number_passed s x r e = ap (λ n. option_map (λ d. (d, r)) (option_map number n)) e
 
-pub number_refused : (n : Option Num) → is_some n ≡ false → n ≡ None
+number_refused : (n : Option Num) → is_some n ≡ false → n ≡ None
 number_refused None e = refl
 number_refused (Some x) e = absurd (cc)
+
+-- ---- values by themselves
+
+pub plain_read : (depth left : ℕ) (t : Token) (r : List Token) → is_plain t ≡ true → (d : Data) × (converted of_json (value depth (t ∷ r)) ≡ Some (d, r)) × (fits left d ≡ true)
+plain_read depth left Token.begin_object r h = absurd (cc)
+plain_read depth left Token.end_object r h = absurd (cc)
+plain_read depth left Token.begin_array r h = absurd (cc)
+plain_read depth left Token.end_array r h = absurd (cc)
+plain_read depth left (Token.key s) r h = absurd (cc)
+plain_read depth left (Token.string s) r h = (string s, ap (converted of_json) (value_is depth _), refl)
+plain_read depth left (Token.number s) r h = let x = number_read (number_of s) h in (number x.0, ap (converted of_json) (value_is depth _) ∙ number_passed s x.0 r x.1, refl)
+plain_read depth left (Token.boolean b) r h = (boolean b, ap (converted of_json) (value_is depth _), refl)
+plain_read depth left Token.null r h = (null, ap (converted of_json) (value_is depth _), refl)
+plain_read depth left Token.bad r h = absurd (cc)
+
+-- neither a value by itself nor the beginning of one
+pub no_value : (depth : ℕ) (t : Read) (r : List Token) → t ≢ read.BeginArray → t ≢ read.BeginObject → is_plain (token_of t) ≡ false → converted of_json (value depth (token_of t ∷ r)) ≡ None
+no_value depth read.BeginObject r a o h = absurd (o refl)
+no_value depth read.EndObject r a o h = ap (converted of_json) (value_is depth _)
+no_value depth read.BeginArray r a o h = absurd (a refl)
+no_value depth read.EndArray r a o h = ap (converted of_json) (value_is depth _)
+no_value depth (read.Key s) r a o h = ap (converted of_json) (value_is depth _)
+no_value depth (read.String s) r a o h = absurd (cc)
+no_value depth (read.Number s) r a o h = ap (converted of_json) (value_is depth _) ∙ rw (number_refused (number_of s.now) h) refl
+no_value depth (read.Bool b) r a o h = absurd (cc)
+no_value depth read.Null r a o h = absurd (cc)
+no_value depth read.Bad r a o h = ap (converted of_json) (value_is depth _)
 
 -- ---- results
 

@@ -1,2 +1,3 @@
 -- What models and private functions keep. No public clause cites these.
 pub mod Outline
+pub mod Texts

@@ -1,5 +1,5 @@
 -- A text that comes from a reader of bytes.
-use Rattle.std.specs.Prelude.{◌≡◌, ◌≢◌, ◌<◌, ◌≤◌, ℕ, List, [], ◌∷◌, ◌++◌, length, Option, Result, Ok, Err}
+use Rattle.std.specs.Prelude.{◌≡◌, ◌≢◌, ◌<◌, ◌≤◌, ℕ, List, [], ◌∷◌, ◌++◌, length, Option, Result, Ok, Err, IfOk, IfErr}
 use Rattle.std.specs.Io.KnownBytes.{Consumes, IsAtEnd}
 use Rattle.causal_trace.specs.Rows.{Recording}
 use Rattle.causal_trace.specs.State.{TraceState}
@@ -50,6 +50,10 @@ abbrev pub EndsAt : Progress → Option (List ℕ) → Type 0
 EndsAt progress.More left = Unit {0}
 EndsAt progress.Ended left = IsAtEnd left
 
+-- a call of a reader that told how far it is found the source so
+abbrev pub Ends : Result Progress ReaderFault → Option (List ℕ) → Type 0
+Ends result left = IfOk result (λ progress. EndsAt progress left)
+
 abbrev pub PieceEndsAt : List ℕ → Option (List ℕ) → Type 0
 PieceEndsAt [] left = IsAtEnd left
 PieceEndsAt (x ∷ xs) left = Unit {0}
@@ -72,6 +76,14 @@ TellsFault old new read fault.Unfinished = ⊥
 abbrev pub TellsLine : Option (List ℕ) → Option (List ℕ) → (List ℕ → Type 0) → ReaderFault → Type 0
 TellsLine old new read (fault.Text f) = f.kind ≡ NoMemory → (piece : List ℕ) × Consumes old new piece × ((b : List ℕ) → read b → IsReadAt (b ++ piece) f.line)
 TellsLine old new read fault = Unit {0}
+
+-- where a call fails of a reader in this state, whose source had and has so many bytes, its fault tells why
+abbrev pub FailsBy : Result Progress ReaderFault → Option (List ℕ) → Option (List ℕ) → State → Type 0
+FailsBy result old new state = IfErr result (TellsFault old new (HasRead state))
+
+-- and, where it is for want of memory, at which line
+abbrev pub FailsAt : Result Progress ReaderFault → Option (List ℕ) → Option (List ℕ) → State → Type 0
+FailsAt result old new state = IfErr result (TellsLine old new (HasRead state))
 
 -- the same of a source that is read to its end
 abbrev pub TellsLineOf : List ℕ → ReaderFault → Type 0

@@ -2,10 +2,11 @@
 //! has many small arrays or objects; what a line of a trace may look like takes 20 times its bytes at most.
 ghost use Rattle.std.specs.Prelude.{◌≡◌, ◌≢◌, ◌<◌, length, true, false, Some, None, Err, IfOk, IfErr, OnOk, OnErr, is_some, slice_index, ◌==◌, IsTrue};
 ghost use Rattle.json.specs.Json.{parse_map, items, members, value};
+ghost use Rattle.json.specs.Reads.{token_of};
 ghost use Rattle.serde_json.specs.Data.{Data, Members, no_members};
 ghost use Rattle.serde_json.specs.Read.{of_json, of_items, of_members, converted, number_of, number_from, read};
 ghost use Rattle.causal_text.specs.Reading.{IsFaultOf};
-ghost use Rattle.causal_text.specs.Inside.Outline.{levels, one_more, may_have, fits, items_fit, shape_in};
+ghost use Rattle.causal_text.specs.Inside.Outline.{levels, one_more, may_have, is_plain, fits, items_fit, shape_in};
 
 use crate::kind::TextKind;
 use fast_float::Numeral;
@@ -73,6 +74,17 @@ fn may_have(left: usize, count: u32) -> bool
     }
 }
 
+/// Whether a token is a value by itself that `serde_json` reads.
+fn is_plain(token: Token<'_>) -> bool
+    ensures { result ≡ is_plain (token_of token.entry) }
+{
+    match token {
+        Token::String(_) | Token::Bool(_) | Token::Null => true,
+        Token::Number(text) => is_in_range(text),
+        _ => false,
+    }
+}
+
 /// Passes the next value, and tells whether it fits where so many levels are left.
 #[cycle(fits)]
 fn fits(reader: &mut Reader<'_>, depth: usize, left: usize) -> Result<bool, Invalid>
@@ -83,17 +95,6 @@ fn fits(reader: &mut Reader<'_>, depth: usize, left: usize) -> Result<bool, Inva
 {
     let token = reader.next().ok_or(Invalid)?;
     match token {
-        Token::String(_) => Ok(true),
-        Token::Bool(_) => Ok(true),
-        Token::Null => Ok(true),
-        Token::Number(text) => {
-            if is_in_range(text) {
-                Ok(true)
-            } else {
-                Err(Invalid)
-            }
-        }
-        Token::EndObject | Token::EndArray | Token::Key(_) | Token::Bad => Err(Invalid),
         Token::BeginArray => {
             if depth == 0 {
                 return Err(Invalid);
@@ -106,6 +107,13 @@ fn fits(reader: &mut Reader<'_>, depth: usize, left: usize) -> Result<bool, Inva
             }
             pass_members(reader, depth - 1)?;
             Ok(false)
+        }
+        _ => {
+            if is_plain(token) {
+                Ok(true)
+            } else {
+                Err(Invalid)
+            }
         }
     }
 }

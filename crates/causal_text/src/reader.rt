@@ -45,17 +45,12 @@ impl PieceReader {
         ensures value { GivesText result (with_line self line.now) }
         ensures line { IfErr result (λ fault. fault.line ≡ self.place.count + 1) }
     {
-        let PieceReader { lines, mut rest } = self;
-        if rest.is_empty() {
+        if self.rest.is_empty() {
+            let PieceReader { lines, rest } = self;
             let lines = lines.take(alloc, line)?;
             return Ok(PieceReader { lines, rest });
         }
-        if let Some(fault) = lines.past(rest.len().saturating_add(line.len())) {
-            return Err(fault);
-        }
-        if rest.extend_from_slice(line).is_err() {
-            return Err(lines.no_memory());
-        }
+        let PieceReader { lines, mut rest } = self.hold(line)?;
         let lines = lines.take(alloc, rest.as_slice())?;
         rest.clear();
         Ok(PieceReader { lines, rest })

@@ -3,7 +3,7 @@ ghost use Rattle.std.specs.Prelude.{◌≡◌, ◌≢◌, ◌++◌, ◌<◌, Lis
 ghost use Rattle.std.specs.Io.KnownBytes.{Consumes};
 ghost use Rattle.causal_trace.specs.Rows.{Recording};
 ghost use Rattle.causal_text.specs.Spelling.{Spells, IsReadAt};
-ghost use Rattle.causal_text.specs.Streams.{HasRead, IsReading, HasPiece, Follows, EndsAt, IsFaultAfter, TellsFault, TellsLine, TellsOf, TellsLineOf, held_trace, IsHeldTrace};
+ghost use Rattle.causal_text.specs.Streams.{HasRead, IsReading, HasPiece, Follows, Ends, IsFaultAfter, FailsBy, FailsAt, TellsOf, TellsLineOf, held_trace, IsHeldTrace};
 
 use crate::kind::{TextFault, TextKind};
 use crate::reader::PieceReader;
@@ -69,8 +69,8 @@ fn advance(alloc: Global, pieces: PieceReader, piece: &[u8]) -> Result<State, Te
     }
 }
 
-/// Reads a trace from a source of bytes, a piece at a time. Only the unfinished line and the trace are kept, and of a line
-/// that is too long or follows the end line no byte more. After an error each call answers `Failed`.
+/// Reads a trace from a source of bytes, a piece at a time. Only the unfinished line and the trace are kept, and of a
+/// line that is too long or follows the end line no byte more. After an error each call answers `Failed`.
 #[derive(Drop)]
 pub struct TraceReader<R: Drop> {
     source: R,
@@ -108,9 +108,9 @@ impl<R: Read + Drop> TraceReader<R> {
             × HasPiece progress piece
             × ((b : List ℕ) → HasRead (State.Reading pieces) b → HasRead self.new.state (b ++ piece))) }
         ensures follows { IfOk result (λ progress. Follows progress self.new.state) }
-        ensures end { IfOk result (λ progress. EndsAt progress (R.remaining self.new.source)) }
-        ensures text { IfErr result (λ fault. TellsFault (R.remaining self.old.source) (R.remaining self.new.source) (HasRead (State.Reading pieces)) fault) }
-        ensures memory { IfErr result (λ fault. TellsLine (R.remaining self.old.source) (R.remaining self.new.source) (HasRead (State.Reading pieces)) fault) }
+        ensures end { Ends result (R.remaining self.new.source) }
+        ensures text { FailsBy result (R.remaining self.old.source) (R.remaining self.new.source) (State.Reading pieces) }
+        ensures memory { FailsAt result (R.remaining self.old.source) (R.remaining self.new.source) (State.Reading pieces) }
         ensures failed { OnErr result (self.new.state ≡ State.Failed) }
     {
         let mut buffer = [0u8; PIECE];
@@ -130,10 +130,10 @@ impl<R: Read + Drop> TraceReader<R> {
         }
     }
 
-    /// Reads the next piece, by one call of the source for 4,096 bytes. A line is judged when its line feed has come, or
-    /// the text is too long, or has ended; a line that follows the end line with its first byte. After `Ended` it answers `Ended` again and reads nothing. `Read` is answered
-    /// only where the source answered an error; a fault of the text with the kind `NoMemory` only where a growth was
-    /// refused, with a line before which no line has a fault.
+    /// Reads the next piece, by one call of the source for 4,096 bytes. A line is judged when its line feed has come,
+    /// or the text is too long, or has ended; a line that follows the end line with its first byte. After `Ended` it
+    /// answers `Ended` again and reads nothing. `Read` is answered only where the source answered an error; a fault of
+    /// the text with the kind `NoMemory` only where a growth was refused, with a line before which no line has a fault.
     pub fn next_piece(&mut self) -> Result<Progress, ReaderFault>
         // One more piece was read, which is empty at the end.
         ensures ok { IfOk result (λ progress. (piece : List ℕ)
@@ -141,9 +141,9 @@ impl<R: Read + Drop> TraceReader<R> {
             × HasPiece progress piece
             × ((b : List ℕ) → HasRead self.old.state b → HasRead self.new.state (b ++ piece))) }
         ensures follows { IfOk result (λ progress. Follows progress self.new.state) }
-        ensures end { IsReading self.old.state → IfOk result (λ progress. EndsAt progress (R.remaining self.new.source)) }
-        ensures text { IfErr result (λ fault. TellsFault (R.remaining self.old.source) (R.remaining self.new.source) (HasRead self.old.state) fault) }
-        ensures memory { IfErr result (λ fault. TellsLine (R.remaining self.old.source) (R.remaining self.new.source) (HasRead self.old.state) fault) }
+        ensures end { IsReading self.old.state → Ends result (R.remaining self.new.source) }
+        ensures text { FailsBy result (R.remaining self.old.source) (R.remaining self.new.source) self.old.state }
+        ensures memory { FailsAt result (R.remaining self.old.source) (R.remaining self.new.source) self.old.state }
         ensures failed { OnErr result (self.new.state ≡ State.Failed) }
         ensures ended { (r : Recording) → self.old.state ≡ State.Ended r
             → (result ≡ Ok Progress.Ended) × (self.new ≡ self.old) }
@@ -164,23 +164,13 @@ impl<R: Read + Drop> TraceReader<R> {
         ensures ok { IfOk result (λ trace. (b : List ℕ) → HasRead self.state b → Spells b trace.recording) }
         ensures value { IsHeldTrace result (held_trace self.state) }
     {
-        match self.into_recorded() {
-            Ok(recorded) => Ok(recorded.into_trace()),
-            Err(fault) => Err(fault),
-        }
-    }
-
-    fn into_recorded(self) -> Result<Recorded, ReaderFault>
-        ensures ok { IfOk result (λ r. (b : List ℕ) → HasRead self.state b → Spells b r) }
-        ensures value { result ≡ held_trace self.state }
-    {
         let TraceReader {
             source: _source,
             alloc: _alloc,
             state,
         } = self;
         match state {
-            State::Ended(trace) => Ok(trace),
+            State::Ended(recorded) => Ok(recorded.into_trace()),
             State::Failed => Err(ReaderFault::Failed),
             State::Reading(_) => Err(ReaderFault::Unfinished),
         }

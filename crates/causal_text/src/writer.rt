@@ -2,9 +2,10 @@
 ghost use Rattle.std.specs.Prelude.{◌≡◌, ◌++◌, codes, ◌<◌, length, take, OnOk, IfOk, IfErr, string_bytes};
 ghost use Rattle.std.specs.Io.KnownBytes.{Appends};
 ghost use Rattle.causal_text.specs.Canonical.{det_text, more_dets_text, dets_text, entry_text, entries_text, canonical, canonical_version};
+ghost use Rattle.causal_text.specs.Inside.Texts.{numbers_text, named_text, listed_text};
 
 use crate::version::Version;
-use causal_name::{Det, NoMemory};
+use causal_name::{Det, NoMemory, Pid};
 use causal_trace::entry::Entry;
 use causal_trace::trace::Trace;
 use std::alloc::{AllocError, Global};
@@ -23,11 +24,30 @@ fn canonical_version(trace: &Trace) -> Version
     }
 }
 
+// numbers with a comma before each, and what ends them
+fn push_numbers(out: &mut String, numbers: &[u32], end: &str) -> Result<(), AllocError>
+    ensures { OnOk result (string_bytes out.new ≡ string_bytes out.old ++ numbers_text numbers.now end.now) }
+{
+    for number in numbers {
+        write!(out, ",{number}")?;
+    }
+    out.push_str(end)
+}
+
+// an array that begins with a name
+fn push_named(out: &mut String, name: &str, numbers: &[u32], end: &str) -> Result<(), AllocError>
+    ensures { OnOk result (string_bytes out.new ≡ string_bytes out.old ++ named_text name.now numbers.now end.now) }
+{
+    write!(out, "[\"{name}\"")?;
+    push_numbers(out, numbers, end)
+}
+
 fn push_det(out: &mut String, det: &Det) -> Result<(), AllocError>
     ensures { OnOk result (string_bytes out.new ≡ string_bytes out.old ++ det_text det.now) }
 {
-    let (source, ssn, dest, rsn) = (det.source.0, det.ssn, det.dest.0, det.rsn);
-    write!(out, "[{source},{ssn},{dest},{rsn}]")
+    let Pid(source) = det.source;
+    write!(out, "[{source}")?;
+    push_numbers(out, &[det.ssn, u32::from(det.dest.0), det.rsn], "]")
 }
 
 fn push_more_dets(out: &mut String, dets: &[Det]) -> Result<(), AllocError>
@@ -54,13 +74,26 @@ fn push_dets(out: &mut String, dets: &[Det]) -> Result<(), AllocError>
     }
 }
 
-// the list of an entry, which is its last item
-fn push_listed(out: &mut String, dets: &[Det]) -> Result<(), AllocError>
-    ensures { OnOk result (string_bytes out.new ≡ string_bytes out.old ++ (dets_text dets.now ++ codes "]")) }
+// an entry whose last item is a list
+fn push_listed(
+    out: &mut String,
+    name: &str,
+    numbers: &[u32],
+    dets: &[Det],
+) -> Result<(), AllocError>
+    ensures { OnOk result (string_bytes out.new ≡ string_bytes out.old ++ listed_text name.now numbers.now dets.now) }
 {
+    push_named(out, name, numbers, ",")?;
     push_dets(out, dets)?;
-    out.push_str("]")?;
-    Ok(())
+    out.push_str("]")
+}
+
+fn push_stable(out: &mut String, det: &Det) -> Result<(), AllocError>
+    ensures { OnOk result (string_bytes out.new ≡ string_bytes out.old ++ entry_text (Entry.Stable det.now)) }
+{
+    push_named(out, "stable", &[], ",")?;
+    push_det(out, det)?;
+    out.push_str("]")
 }
 
 fn push_entry(out: &mut String, entry: &Entry) -> Result<(), AllocError>
@@ -68,8 +101,8 @@ fn push_entry(out: &mut String, entry: &Entry) -> Result<(), AllocError>
 {
     match entry {
         Entry::Send { from, to, ssn } => {
-            let (from, to) = (from.0, to.0);
-            write!(out, "[\"send\",{from},{to},{ssn}]")
+            let numbers = [u32::from(from.0), u32::from(to.0), *ssn];
+            push_named(out, "send", &numbers, "]")
         }
         Entry::Deliver {
             to,
@@ -77,31 +110,16 @@ fn push_entry(out: &mut String, entry: &Entry) -> Result<(), AllocError>
             rsn,
             listed,
         } => {
-            let to = to.0;
-            write!(out, "[\"deliver\",{to},{send},{rsn},")?;
-            push_listed(out, listed.as_slice())?;
-            Ok(())
+            let numbers = [u32::from(to.0), *send, *rsn];
+            push_listed(out, "deliver", &numbers, listed.as_slice())
         }
-        Entry::Stable { det } => {
-            out.push_str("[\"stable\",")?;
-            push_det(out, det)?;
-            out.push_str("]")
-        }
-        Entry::Crash { who } => {
-            let who = who.0;
-            write!(out, "[\"crash\",{who}]")
-        }
+        Entry::Stable { det } => push_stable(out, det),
+        Entry::Crash { who } => push_named(out, "crash", &[u32::from(who.0)], "]"),
         Entry::Restart { who, listed } => {
-            let who = who.0;
-            write!(out, "[\"restart\",{who},")?;
-            push_listed(out, listed.as_slice())?;
-            Ok(())
+            push_listed(out, "restart", &[u32::from(who.0)], listed.as_slice())
         }
         Entry::Forget { who, listed } => {
-            let who = who.0;
-            write!(out, "[\"forget\",{who},")?;
-            push_listed(out, listed.as_slice())?;
-            Ok(())
+            push_listed(out, "forget", &[u32::from(who.0)], listed.as_slice())
         }
     }
 }
@@ -119,11 +137,15 @@ fn push_entries(out: &mut String, entries: &[Entry]) -> Result<(), AllocError>
 fn push_trace(out: &mut String, trace: &Trace) -> Result<(), AllocError>
     ensures { OnOk result (string_bytes out.new ≡ string_bytes out.old ++ canonical trace.now.recording) }
 {
-    let (version, processes) = (canonical_version(trace).number(), trace.processes());
-    write!(out, "[\"trace\",{version},{processes}]\n")?;
+    let version = canonical_version(trace).number();
+    push_named(
+        out,
+        "trace",
+        &[version, u32::from(trace.processes())],
+        "]\n",
+    )?;
     push_entries(out, trace.entries())?;
-    let entries = trace.len();
-    write!(out, "[\"end\",{entries}]\n")?;
+    push_named(out, "end", &[trace.len()], "]\n")?;
     Ok(())
 }
 

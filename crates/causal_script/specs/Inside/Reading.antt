@@ -43,14 +43,18 @@ delivery_of words =
     cut space words >>= λ a. cut space a.1 >>= λ b.
     process_of a.0 >>= λ q. process_of b.0 >>= λ source. number_of 4294967295 b.1 >>= λ ssn. Some (Deliver q source ssn)
 
+-- a command of one process
+unfoldable pub of_process : List ℕ → Pid → Option Request
+of_process name p =
+    if bytes_eq name (codes "crash") then Some (Crash p) else
+    if bytes_eq name (codes "restart") then Some (Restart p) else
+    if bytes_eq name (codes "flush") then Some (Flush p) else
+    if bytes_eq name (codes "forget") then Some (Forget p) else
+    None
+
 unfoldable pub named_request : List ℕ → List ℕ → Option Request
 named_request name words =
-    if bytes_eq name (codes "deliver") then delivery_of words else
-    if bytes_eq name (codes "crash") then process_of words >>= (λ p. Some (Crash p)) else
-    if bytes_eq name (codes "restart") then process_of words >>= (λ p. Some (Restart p)) else
-    if bytes_eq name (codes "flush") then process_of words >>= (λ p. Some (Flush p)) else
-    if bytes_eq name (codes "forget") then process_of words >>= (λ p. Some (Forget p)) else
-    None
+    if bytes_eq name (codes "deliver") then delivery_of words else process_of words >>= (λ p. of_process name p)
 
 -- what a command asks for
 unfoldable pub request_of : List ℕ → Option Request
@@ -59,18 +63,19 @@ request_of line = cut space line >>= λ a. named_request a.0 a.1
 unfoldable pub count_of : List ℕ → Option ℕ
 count_of word = number_of 256 word >>= λ n. if nat_lt 0 n then Some n else None
 
+-- a start by the words of its two first numbers
+unfoldable pub numbered_start : Kind → List ℕ → List ℕ → ℕ → Option Start
+numbered_start kind n f param =
+    count_of n >>= λ n. number_of 65535 f >>= λ f. Some (record { kind = kind; n = n; f = f; param = param })
+
 -- `N F PARAM`
 unfoldable pub with_param : Kind → List ℕ → Option Start
 with_param kind words =
-    cut space words >>= λ a. cut space a.1 >>= λ b.
-    count_of a.0 >>= λ n. number_of 65535 b.0 >>= λ f. number_of 255 b.1 >>= λ param.
-    Some (record { kind = kind; n = n; f = f; param = param })
+    cut space words >>= λ a. cut space a.1 >>= λ b. number_of 255 b.1 >>= λ param. numbered_start kind a.0 b.0 param
 
 -- `N F`
 unfoldable pub tally_of : List ℕ → Option Start
-tally_of words =
-    cut space words >>= λ a.
-    count_of a.0 >>= λ n. number_of 65535 a.1 >>= λ f. Some (record { kind = Tally; n = n; f = f; param = 0 })
+tally_of words = cut space words >>= λ a. numbered_start Tally a.0 a.1 0
 
 unfoldable pub start_of_kind : List ℕ → List ℕ → Option Start
 start_of_kind kind words =

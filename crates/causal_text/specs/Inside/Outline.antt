@@ -1,8 +1,10 @@
 -- The outline of a JSON value: whether it nests and is as wide as a line of a trace may, whatever its names and numbers.
 -- A line is an array of at most five fields, a field at most a list of any length, and an item of a list at most a
 -- determinant, which is an array of four. There is no object in any of them.
-use Rattle.std.specs.Prelude.{ℕ, List, Result, zero, suc, ◌-◌, ◌+◌, ◌==◌, ◌&&◌, nat_lt, Bool, true, false, if◌then◌else◌}
+use Rattle.std.specs.Prelude.{ℕ, List, Result, zero, suc, ◌-◌, ◌+◌, ◌==◌, ◌&&◌, nat_lt, is_some, Bool, true, false, if◌then◌else◌}
+use Rattle.json.specs.Token.{Token}
 use Rattle.serde_json.specs.Data.{Data, number, string, array, object, Items, no_items, item}
+use Rattle.serde_json.specs.Read.{number_of}
 use Rattle.causal_text.specs.declared.kind.TextKind.{TextKind}
 use Rattle.causal_text.specs.declared.shape.Shape.{Shape}
 use Rattle.causal_text.specs.Reading.{◌>>=◌}
@@ -23,6 +25,14 @@ may_have zero n = false
 may_have (suc zero) n = n == 4
 may_have (suc (suc zero)) n = true
 may_have (suc (suc (suc more))) n = nat_lt n 6
+
+-- whether a token is a value by itself, of which data can be made
+abbrev pub is_plain : Token → Bool
+is_plain (Token.string s) = true
+is_plain (Token.number s) = is_some (number_of s)
+is_plain (Token.boolean b) = true
+is_plain Token.null = true
+is_plain _ = false
 
 -- whether a value fits where so many levels of arrays are left, and items do after n others
 abbrev mutual

@@ -2,7 +2,7 @@
 ghost use Rattle.std.specs.Prelude.{◌≡◌};
 ghost use Rattle.serde_json.specs.View.{view};
 ghost use Rattle.causal_text.specs.Reading.{Gives};
-ghost use Rattle.causal_text.specs.Shapes.{header_of, send_of, deliver_of, stable_of, crash_of, restart_of, forget_of, end_of, shape_of};
+ghost use Rattle.causal_text.specs.Shapes.{header_of, send_of, deliver_of, stable_of, crash_of, restart_of, forget_of, end_of, begins, shape_of};
 
 use crate::kind::TextKind;
 use crate::shape::Shape;
@@ -98,28 +98,32 @@ fn end_of(value: &Value) -> Result<Shape, TextKind>
     })
 }
 
+fn begins(value: &Value, name: &str, n: usize) -> bool
+    ensures { result ≡ begins (view value.now) name.now n }
+{
+    value.get(0).and_then(Value::as_str).unwrap_or("") == name && size(value) == n
+}
+
 /// What the value of a line says.
 #[tactic(auto, unfolding(crate::specs::Shapes::shape_of))]
 pub(crate) fn shape_of(alloc: Global, value: &Value) -> Result<Shape, TextKind>
     ensures { Gives result (shape_of (view value.now)) }
 {
-    let name = value.get(0).and_then(Value::as_str).unwrap_or("");
-    let n = size(value);
-    if name == "trace" && n == 3 {
+    if begins(value, "trace", 3) {
         header_of(value)
-    } else if name == "send" && n == 4 {
+    } else if begins(value, "send", 4) {
         send_of(value)
-    } else if name == "deliver" && n == 5 {
+    } else if begins(value, "deliver", 5) {
         deliver_of(alloc, value)
-    } else if name == "stable" && n == 2 {
+    } else if begins(value, "stable", 2) {
         stable_of(value)
-    } else if name == "crash" && n == 2 {
+    } else if begins(value, "crash", 2) {
         crash_of(value)
-    } else if name == "restart" && n == 3 {
+    } else if begins(value, "restart", 3) {
         restart_of(alloc, value)
-    } else if name == "forget" && n == 3 {
+    } else if begins(value, "forget", 3) {
         forget_of(alloc, value)
-    } else if name == "end" && n == 2 {
+    } else if begins(value, "end", 2) {
         end_of(value)
     } else {
         Err(TextKind::Form)

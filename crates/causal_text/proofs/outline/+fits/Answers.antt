@@ -1,14 +1,13 @@
 use Rattle.std.proofs.Common.{◌≡◌, ◌-◌, ◌<◌, [], ◌∷◌, length, Some, None, refl, sym, ap, ap₂, ◌∙◌, arith}
 use Rattle.std.specs.Prelude.{◌&&◌}
 use Rattle.std.proofs.lemmas.Result.{IfOk-weaker}
-use Rattle.json.specs.Token.{Token}
 use Rattle.json.specs.Json.{parse_map, after_end_array, read_key, items, members, value}
 use Rattle.json.specs.Reads.{token_of}
 use Rattle.json.proofs.Grammar.{value_is, value-begin_array, value-begin_object, read_key-shorter}
-use Rattle.serde_json.specs.Data.{null, number, array, object, no_members, put}
-use Rattle.serde_json.specs.Read.{of_json, of_items, converted, number_of}
+use Rattle.serde_json.specs.Data.{array, object, no_members, put}
+use Rattle.serde_json.specs.Read.{of_json, of_items, converted}
 use Rattle.causal_text.specs.Inside.Outline.{fits, items_fit}
-use Rattle.causal_text.proofs.Passed.{AllFit, converted-array, converted-object, item_refused, items_over, member_read, member_refused, key_refused, members_over, turn, mapped, unmapped, none_mapped, number_read, number_passed, number_refused, on_err, on_err_weaker}
+use Rattle.causal_text.proofs.Passed.{AllFit, converted-array, converted-object, item_refused, items_over, member_read, member_refused, key_refused, members_over, turn, mapped, unmapped, none_mapped, plain_read, no_value, on_err, on_err_weaker}
 use Rattle.causal_text.proofs.outline.+fits.Goals as goal
 
 pub fits-returns-in_err-token-clause-err : goal.fits-returns-in_err-token-clause-err
@@ -36,43 +35,16 @@ fits-returns-in_err-pass_members-in-BeginObject-clause-err t c =
     let opened = ap (converted of_json) (ap (value c.args.depth) (first ∙ ap (λ k. token_of k ∷ c.next.new.self) c.in-BeginObject.is) ∙ value-begin_object c.args.depth c.next.new.self (omega arith)) ∙ converted-object (members (value (c.args.depth - 1)) (length c.next.new.self) c.next.new.self) in
     on_err _ (opened ∙ ap (parse_map object) c.in_err-pass_members-in-BeginObject.ensures.err)
 
-pub fits-returns-in-String-clause-ok : goal.fits-returns-in-String-clause-ok
-fits-returns-in-String-clause-ok t c =
+pub fits-returns-then-is_plain-clause-ok : goal.fits-returns-then-is_plain-clause-ok
+fits-returns-then-is_plain-clause-ok t c =
     let first : c.args.reader.now ≡ token_of c.in_ok-token.token ∷ c.next.new.self = grind arith in
-    let is = first ∙ ap (λ k. token_of k ∷ c.next.new.self) c.in-String.is in
-    (_, ap (converted of_json) (ap (value c.args.depth) is ∙ value_is c.args.depth _), refl)
+    let d = plain_read c.args.depth c.args.left (token_of c.in_ok-token.token) c.next.new.self (sym c.is_plain.ensures ∙ c.if-is_plain.true) in
+    (d.0, ap (λ ts. converted of_json (value c.args.depth ts)) first ∙ d.1, d.2)
 
-pub fits-returns-in-Bool-clause-ok : goal.fits-returns-in-Bool-clause-ok
-fits-returns-in-Bool-clause-ok t c =
+pub fits-returns-else-is_plain-clause-err : goal.fits-returns-else-is_plain-clause-err
+fits-returns-else-is_plain-clause-err t c =
     let first : c.args.reader.now ≡ token_of c.in_ok-token.token ∷ c.next.new.self = grind arith in
-    let is = first ∙ ap (λ k. token_of k ∷ c.next.new.self) c.in-Bool.is in
-    (_, ap (converted of_json) (ap (value c.args.depth) is ∙ value_is c.args.depth _), refl)
-
-pub fits-returns-in-Null-clause-ok : goal.fits-returns-in-Null-clause-ok
-fits-returns-in-Null-clause-ok t c =
-    let first : c.args.reader.now ≡ token_of c.in_ok-token.token ∷ c.next.new.self = grind arith in
-    let is = first ∙ ap (λ k. token_of k ∷ c.next.new.self) c.in-Null.is in
-    (null, ap (converted of_json) (ap (value c.args.depth) is ∙ value_is c.args.depth _), refl)
-
-pub fits-returns-then-is_in_range-clause-ok : goal.fits-returns-then-is_in_range-clause-ok
-fits-returns-then-is_in_range-clause-ok t c =
-    let first : c.args.reader.now ≡ token_of c.in_ok-token.token ∷ c.next.new.self = grind arith in
-    let is : c.args.reader.now ≡ Token.number c.in-Number.text.now ∷ c.next.new.self = grind (arith, first) in
-    let x = number_read (number_of c.in-Number.text.now) (sym c.is_in_range.ensures ∙ c.if-is_in_range.true) in
-    (number x.0, ap (converted of_json) (ap (value c.args.depth) is ∙ value_is c.args.depth _) ∙ number_passed c.in-Number.text.now x.0 c.next.new.self x.1, refl)
-
-pub fits-returns-else-is_in_range-clause-err : goal.fits-returns-else-is_in_range-clause-err
-fits-returns-else-is_in_range-clause-err t c =
-    let first : c.args.reader.now ≡ token_of c.in_ok-token.token ∷ c.next.new.self = grind arith in
-    let is : c.args.reader.now ≡ Token.number c.in-Number.text.now ∷ c.next.new.self = grind (arith, first) in
-    let x = number_refused (number_of c.in-Number.text.now) (sym c.is_in_range.ensures ∙ c.if-is_in_range.false) in
-    ap (converted of_json) (ap (value c.args.depth) is ∙ value_is c.args.depth _) ∙ rw x refl
-
-pub fits-returns-in-EndObject-clause-err : goal.fits-returns-in-EndObject-clause-err
-fits-returns-in-EndObject-clause-err t c =
-    let first : c.args.reader.now ≡ token_of c.in_ok-token.token ∷ c.next.new.self = grind arith in
-    let none : value c.args.depth c.args.reader.now ≡ None = rw (value_is c.args.depth c.args.reader.now, first) (grind arith) in
-    ap (converted of_json) none
+    ap (λ ts. converted of_json (value c.args.depth ts)) first ∙ no_value c.args.depth c.in_ok-token.token c.next.new.self c.in_default.not-BeginArray c.in_default.not-BeginObject (sym c.is_plain.ensures ∙ c.if-is_plain.false)
 
 pub fits-returns-else-depth-eq0-clause-ok : goal.fits-returns-else-depth-eq0-clause-ok
 fits-returns-else-depth-eq0-clause-ok t c =

@@ -1,38 +1,13 @@
-use Rattle.std.proofs.Common.{◌≡◌, ◌≢◌, ◌∙◌, sym, ap, ℕ, ◌+◌, List, [], Result, Ok, Err, IfErr, append-nil, subst}
+use Rattle.std.proofs.Common.{◌≡◌, ◌∙◌, sym, ap, ℕ, ◌+◌, List, [], Result, Ok, Err, IfErr, append-nil, subst}
 use Rattle.std.proofs.lemmas.Result.{err_from_is_err_and}
 use Rattle.causal_trace.specs.Rows.{Recording}
-use Rattle.causal_text.specs.declared.kind.TextKind.{TextKind}
 use Rattle.causal_text.specs.declared.kind.TextKind.TheVariants as kind
 use Rattle.causal_text.specs.declared.kind.TextFault.{TextFault}
-use Rattle.causal_text.specs.Place.{GivesText, IsTextFaultOf, reading}
+use Rattle.causal_text.specs.Place.{GivesText, reading}
 use Rattle.causal_text.specs.Spelling.{IsReadUpTo, IsReadAt}
 use Rattle.causal_text.specs.Pieces.{Held, StandsFor}
-use Rattle.causal_text.proofs.Feeds.{reading-ending, IsReadAt-stands}
+use Rattle.causal_text.proofs.Feeds.{reading-ending, IsReadAt-stands, fault_told}
 use Rattle.causal_text.proofs.reader.read_whole.Goals as goal
-
--- a fault is told, or it is want of memory
-fault_told : (k : TextKind) (f : TextFault) (read : Result Recording TextFault) → (k ≢ kind.NoMemory → read ≡ Err f) → IsTextFaultOf k f read
-fault_told kind.NoMemory f read h = tt
-fault_told kind.After f read h = h (λ e. cc)
-fault_told kind.Big f read h = h (λ e. cc)
-fault_told kind.Syntax f read h = h (λ e. cc)
-fault_told kind.Form f read h = h (λ e. cc)
-fault_told kind.Header f read h = h (λ e. cc)
-fault_told kind.Version f read h = h (λ e. cc)
-fault_told kind.Processes f read h = h (λ e. cc)
-fault_told kind.TooLong f read h = h (λ e. cc)
-fault_told kind.NoProcess f read h = h (λ e. cc)
-fault_told kind.NotUp f read h = h (λ e. cc)
-fault_told kind.NotDown f read h = h (λ e. cc)
-fault_told kind.Lanes f read h = h (λ e. cc)
-fault_told kind.WrongSsn f read h = h (λ e. cc)
-fault_told kind.NoSend f read h = h (λ e. cc)
-fault_told kind.WrongRsn f read h = h (λ e. cc)
-fault_told kind.Doubled f read h = h (λ e. cc)
-fault_told kind.Unsorted f read h = h (λ e. cc)
-fault_told kind.NoDelivery f read h = h (λ e. cc)
-fault_told kind.Count f read h = h (λ e. cc)
-fault_told kind.Cut f read h = h (λ e. cc)
 
 pub returns-in_err-reader-clause-value : goal.returns-in_err-reader-clause-value
 returns-in_err-reader-clause-value c =
