@@ -8,12 +8,12 @@ ghost use Rattle.causal_name.specs.Names.{same_det, is_ascending};
 ghost use Rattle.causal_log.specs.Knowledge.{is_carried};
 ghost use Rattle.causal_log.specs.Inside.Parts.{carried_in, with_copy, with_copies};
 ghost use Rattle.causal_log.specs.Inside.Ranks.{has_rank};
-ghost use Rattle.causal_log.specs.Logs.{log_of, learned, absorbed, learned_all, item_of, dets_of, marked, chosen};
+ghost use Rattle.causal_log.specs.Logs.{log_of, learned, item_of, dets_of, marked, chosen, is_chosen};
 
 use crate::batch::Item;
-use crate::known::{Known, told};
+use crate::known::Known;
 use crate::ranks::rank;
-use causal_name::{Det, NoMemory, Pid};
+use causal_name::{Det, NoMemory};
 use indexmap::IndexMap;
 use std::alloc::Global;
 
@@ -125,6 +125,16 @@ pub(crate) fn carried_dets(
     Ok(carried.map(|(det, _)| *det).collect(alloc)?)
 }
 
+/// Whether a message carries a determinant where so many may fail.
+pub(crate) fn is_chosen(entries: &IndexMap<Det, Known>, det: Det, failures: u32) -> bool
+    ensures { result ≡ is_chosen failures (fin.get (log_of entries.now.entries) det) }
+{
+    match entries.get(&det) {
+        Some(known) => known.is_within(failures),
+        None => false,
+    }
+}
+
 /// The place of a determinant and what is known of it, where it is logged.
 pub(crate) fn place_of(entries: &IndexMap<Det, Known>, det: Det) -> Option<(usize, Known)>
     ensures known { option_map (λ found. found.1) result ≡ fin.get (log_of entries.now.entries) det }
@@ -163,50 +173,6 @@ pub(crate) fn add(entries: &mut IndexMap<Det, Known>, det: Det, heard: Known)
     match entries.insert(det, known) {
         Ok(_) => {}
         Err(_) => unreachable!(),
-    }
-}
-
-/// Learns something of one determinant. It takes no memory: where the determinant is not logged, there is room.
-pub(crate) fn learn(entries: &mut IndexMap<Det, Known>, det: Det, heard: Known)
-    requires distinct { IsDistinct same_det (keys entries.old) }
-    requires room { fin.get (log_of entries.old.entries) det ≡ None → 1 ≤ spare entries.old }
-    ensures learned { log_of entries.new.entries ≡ learned (log_of entries.old.entries) det heard }
-    ensures distinct { IsDistinct same_det (keys entries.new) }
-    ensures spare { spare entries.old ≤ spare entries.new + 1 }
-    ensures len { length entries.new.entries ≤ length entries.old.entries + 1 }
-{
-    match place_of(entries, det) {
-        Some((place, known)) => put_at(entries, place, known.joined(heard)),
-        None => add(entries, det, heard),
-    }
-}
-
-/// Learns what the items of a message from one process tell another, in room made before.
-pub(crate) fn learn_items(entries: &mut IndexMap<Det, Known>, items: &[Item], from: Pid, me: Pid)
-    requires distinct { IsDistinct same_det (keys entries.old) }
-    requires room { length items.now ≤ spare entries.old }
-    ensures learned { log_of entries.new.entries ≡ absorbed items.now from me (log_of entries.old.entries) }
-    ensures distinct { IsDistinct same_det (keys entries.new) }
-    ensures spare { spare entries.old ≤ spare entries.new + length items.now }
-    ensures len { length entries.new.entries ≤ length entries.old.entries + length items.now }
-{
-    for item in items {
-        let (det, heard) = told(from, me, item);
-        learn(entries, det, heard);
-    }
-}
-
-/// Learns what other entries say, in room made before.
-pub(crate) fn learn_entries(entries: &mut IndexMap<Det, Known>, others: &IndexMap<Det, Known>)
-    requires distinct { IsDistinct same_det (keys entries.old) }
-    requires room { length others.now.entries ≤ spare entries.old }
-    ensures learned { log_of entries.new.entries ≡ learned_all others.now.entries (log_of entries.old.entries) }
-    ensures distinct { IsDistinct same_det (keys entries.new) }
-    ensures spare { spare entries.old ≤ spare entries.new + length others.now.entries }
-    ensures len { length entries.new.entries ≤ length entries.old.entries + length others.now.entries }
-{
-    for (det, heard) in others.iter() {
-        learn(entries, *det, *heard);
     }
 }
 
@@ -273,17 +239,29 @@ fn copy_dets(
     Ok(())
 }
 
-/// The items of those entries of some determinants that a message carries.
+/// The entries of some determinants that a message carries, with room for some more entries.
 pub(crate) fn carried_among(
     alloc: Global,
     entries: &IndexMap<Det, Known>,
     dets: &[Det],
     f: u16,
-) -> Result<Vec<Item>, NoMemory>
-    ensures { IfOk result (λ items. items.items ≡ chosen f (with_copies (carried_in f (log_of entries.now.entries)) dets.now fin.empty)) }
+    more: usize,
+) -> Result<IndexMap<Det, Known>, NoMemory>
+    ensures { IfOk result (λ part. log_of part.entries ≡ with_copies (carried_in f (log_of entries.now.entries)) dets.now fin.empty) }
 {
-    let mut part = IndexMap::new(alloc);
+    let mut part = IndexMap::with_capacity(alloc, dets.len().saturating_add(more))?;
     copy_dets(&mut part, entries, dets, f)?;
+    Ok(part)
+}
+
+/// The items of what a message carries of some entries, ascending.
+pub(crate) fn chosen(
+    alloc: Global,
+    mut part: IndexMap<Det, Known>,
+    f: u16,
+) -> Result<Vec<Item>, NoMemory>
+    ensures { IfOk result (λ items. items.items ≡ chosen f (log_of part.entries)) }
+{
     sort(&mut part)?;
     carried(alloc, &part, f)
 }

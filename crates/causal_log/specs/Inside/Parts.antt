@@ -5,7 +5,7 @@ use Rattle.causal_name.specs.declared.Det.{Det}
 use Rattle.causal_log.specs.declared.known.Known.{Known}
 use Rattle.causal_log.specs.declared.batch.Item.{Item}
 use Rattle.causal_log.specs.Knowledge.{is_carried}
-use Rattle.causal_log.specs.Logs.{LogMap, log_of, chosen, dets_of}
+use Rattle.causal_log.specs.Logs.{LogMap, log_of, dets_of}
 
 abbrev pub copied : Det → Option Known → LogMap → LogMap
 copied det None part = part
@@ -26,4 +26,4 @@ carried_in f log = log_of (filter (λ e. is_carried f e.1) (fin.entries log))
 
 -- the entries that a message carries now, and those that a delivery touches
 abbrev pub part_for : ℕ → List Item → Det → LogMap → LogMap
-part_for f items own log = with_copy log own (with_copies log (dets_of items) (with_copies log (dets_of (chosen f log)) fin.empty))
+part_for f items own log = with_copy log own (with_copies log (dets_of items) (carried_in f log))
