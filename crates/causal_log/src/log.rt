@@ -79,14 +79,18 @@ impl Log {
         entries::count(&self.entries)
     }
 
-    /// The entry at a place, in ascending order of determinants; none from `len` on.
+    /// The entry at a place, in ascending order of determinants; none from `len` on. A log that is not sorted is copied and
+    /// the copy sorted; where there is no memory for it, entries are compared with each other.
     pub fn at(&self, i: u32) -> Option<(Det, Known)>
         ensures { result ≡ slice_get (fin.entries self.now.map) i }
     {
         if self.sorted {
             return entries::entry_at(&self.entries, i);
         }
-        entries::ranked(&self.entries, i)
+        match entries::in_order(&self.entries) {
+            Ok(sorted) => entries::entry_at(&sorted, i),
+            Err(_) => entries::ranked(&self.entries, i),
+        }
     }
 
     /// The determinants, ascending. Its only error is want of memory.
