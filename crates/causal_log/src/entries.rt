@@ -1,12 +1,12 @@
 //! The entries of a volatile log, in the order in which they came. A log's methods work on its entries by these functions.
-ghost use Rattle.std.specs.Prelude.{◌≡◌, ◌↔◌, ◌<◌, ◌≤◌, ◌+◌, ◌^◌, true, Some, None, IsTrue, IsSome, IfSome, IfOk, OnOk, find, length, slice_get, filter, map, not};
+ghost use Rattle.std.specs.Prelude.{◌≡◌, ◌↔◌, ◌<◌, ◌≤◌, ◌+◌, ◌^◌, true, Some, None, IsTrue, IsSome, IfSome, IfOk, OnOk, [], find, length, slice_get, filter, map, not};
 ghost use Rattle.std.specs.List.{IsDistinct};
 ghost use Rattle.std.specs.Option.{option_map};
 ghost use Rattle.std.specs.FinMap as fin;
 ghost use Rattle.indexmap.specs.IndexMap.{keys, spare};
 ghost use Rattle.causal_name.specs.Names.{same_det, is_ascending};
 ghost use Rattle.causal_log.specs.Knowledge.{is_carried};
-ghost use Rattle.causal_log.specs.Inside.Parts.{carried_in, with_copy, with_copies};
+ghost use Rattle.causal_log.specs.Inside.Parts.{carried_from, dets_carried, Adds, AddsAll};
 ghost use Rattle.causal_log.specs.Inside.Ranks.{has_rank};
 ghost use Rattle.causal_log.specs.Logs.{log_of, learned, item_of, dets_of, marked, chosen, is_chosen};
 
@@ -117,7 +117,7 @@ pub(crate) fn carried_dets(
     entries: &IndexMap<Det, Known>,
     failures: u32,
 ) -> Result<Vec<Det>, NoMemory>
-    ensures { IfOk result (λ dets. dets.items ≡ map (λ e. e.0) (filter (λ e. is_carried failures e.1) entries.now.entries)) }
+    ensures { IfOk result (λ dets. dets.items ≡ dets_carried failures entries.now.entries) }
 {
     let carried = entries
         .iter()
@@ -182,7 +182,7 @@ pub(crate) fn copy(
     entries: &IndexMap<Det, Known>,
     det: Det,
 ) -> Result<(), NoMemory>
-    ensures { OnOk result (log_of part.new.entries ≡ with_copy (log_of entries.now.entries) det (log_of part.old.entries)) }
+    ensures { OnOk result (Adds (log_of entries.now.entries) det part.old.entries part.new.entries) }
 {
     let Some(known) = entries.get(&det) else {
         return Ok(());
@@ -197,7 +197,7 @@ pub(crate) fn copy_items(
     entries: &IndexMap<Det, Known>,
     items: &[Item],
 ) -> Result<(), NoMemory>
-    ensures { OnOk result (log_of part.new.entries ≡ with_copies (log_of entries.now.entries) (dets_of items.now) (log_of part.old.entries)) }
+    ensures { OnOk result (AddsAll (log_of entries.now.entries) (dets_of items.now) part.old.entries part.new.entries) }
 {
     for item in items {
         copy(part, entries, item.det)?;
@@ -212,7 +212,7 @@ fn copy_carried(
     det: Det,
     f: u16,
 ) -> Result<(), NoMemory>
-    ensures { OnOk result (log_of part.new.entries ≡ with_copy (carried_in f (log_of entries.now.entries)) det (log_of part.old.entries)) }
+    ensures { OnOk result (Adds (carried_from f entries.now.entries) det part.old.entries part.new.entries) }
 {
     let Some(known) = entries.get(&det) else {
         return Ok(());
@@ -231,7 +231,7 @@ fn copy_dets(
     dets: &[Det],
     f: u16,
 ) -> Result<(), NoMemory>
-    ensures { OnOk result (log_of part.new.entries ≡ with_copies (carried_in f (log_of entries.now.entries)) dets.now (log_of part.old.entries)) }
+    ensures { OnOk result (AddsAll (carried_from f entries.now.entries) dets.now part.old.entries part.new.entries) }
 {
     for det in dets {
         copy_carried(part, entries, *det, f)?;
@@ -247,7 +247,7 @@ pub(crate) fn carried_among(
     f: u16,
     more: usize,
 ) -> Result<IndexMap<Det, Known>, NoMemory>
-    ensures { IfOk result (λ part. log_of part.entries ≡ with_copies (carried_in f (log_of entries.now.entries)) dets.now fin.empty) }
+    ensures { IfOk result (λ part. AddsAll (carried_from f entries.now.entries) dets.now [] part.entries) }
 {
     let mut part = IndexMap::with_capacity(alloc, dets.len().saturating_add(more))?;
     copy_dets(&mut part, entries, dets, f)?;

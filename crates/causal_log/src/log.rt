@@ -1,14 +1,13 @@
 //! The volatile log of a process.
-ghost use Rattle.std.specs.Prelude.{◌≡◌, ◌↔◌, ◌<◌, ◌≤◌, ◌+◌, ◌^◌, Bool, IsTrue, IsSome, IsOk, IfOk, OnOk, OnErr, count_by, length, slice_get};
+ghost use Rattle.std.specs.Prelude.{◌≡◌, ◌↔◌, ◌<◌, ◌≤◌, ◌+◌, ◌^◌, IsTrue, IsSome, IsOk, IfOk, OnOk, OnErr, length, slice_get};
 ghost use Rattle.std.specs.List.{IsDistinct};
 ghost use Rattle.std.specs.FinMap as fin;
 ghost use Rattle.indexmap.specs.IndexMap.{keys, spare};
 ghost use Rattle.causal_name.specs.Names.{same_det};
 ghost use Rattle.causal_log.specs.Knowledge.{held_by, stable_and_held_by};
-ghost use Rattle.causal_log.specs.Logs.{log_of, learned, absorbed, grown, united, marked, stable_in, unstable_in, unmarked, chosen, named};
+ghost use Rattle.causal_log.specs.Logs.{log_of, learned, absorbed, grown, united, marked, stable_in, unstable_in, unmarked, chosen, named, HaveSame};
 ghost use Rattle.causal_log.specs.Slots.{first_of_slot};
 ghost use Rattle.causal_log.specs.Inside.Parts.{carried_in, part_for};
-ghost use Rattle.causal_name.specs.declared.Det.{Det as Determinant};
 ghost use Rattle.causal_log.specs.declared.known.Known.{Known};
 
 use crate::batch::{Batch, Item};
@@ -103,7 +102,7 @@ impl Log {
 
     /// The determinants, each once, in no order that is promised. It takes neither memory nor time.
     pub fn unordered(&self) -> &[Det]
-        ensures counted { (test : Determinant → Bool) → count_by test result.now ≡ count_by test (fin.keys self.now.map) }
+        ensures counted { HaveSame result.now (fin.keys self.now.map) }
         ensures few { length result.now < 2 ^ 32 }
     {
         self.entries.keys().as_slice()

@@ -1,9 +1,8 @@
 //! Stable storage in memory, for programs that need no device.
-ghost use Rattle.std.specs.Prelude.{◌≡◌, ◌≤◌, ◌++◌, ◌∷◌, [], List, IfOk};
+ghost use Rattle.std.specs.Prelude.{◌≡◌, ◌≤◌, IfOk};
 ghost use Rattle.std.specs.FinMap as fin;
 ghost use Rattle.indexmap.specs.IndexMap.{spare};
-ghost use Rattle.causal_name.specs.declared.Det.{Det as Determinant};
-ghost use Rattle.causal_log.specs.Inside.Ranks.{AreSlots};
+ghost use Rattle.causal_log.specs.Inside.Ranks.{FillsSlot};
 
 use crate::ranks::is_below;
 use crate::stable::{PutFault, Stable};
@@ -98,7 +97,7 @@ fn members(alloc: Global, dets: &BTreeSet<Det>) -> Result<Vec<Det>, NoMemory>
 /// Fills a determinant's slot, in room made before, unless a lesser one does.
 fn fill_slot(slots: &mut IndexMap<Slot, Det>, det: Det)
     requires { 1 ≤ spare slots.old }
-    ensures { (dets : List Determinant) → AreSlots dets slots.old.entries → AreSlots (dets ++ det ∷ []) slots.new.entries }
+    ensures { FillsSlot det slots.old.entries slots.new.entries }
 {
     let slot = det.slot();
     let found = slots.get(&slot).copied();

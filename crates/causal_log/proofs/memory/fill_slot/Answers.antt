@@ -1,4 +1,4 @@
-use Rattle.std.proofs.Common.{◌≡◌, ◌∙◌, Bool, true, cond, Some, ap, sym}
+use Rattle.std.proofs.Common.{◌≡◌, ◌∙◌, true, cond, Some, ap, sym}
 use Rattle.std.specs.Option.{option_map_or}
 use Rattle.std.specs.Map.{lookup}
 use Rattle.causal_name.specs.Names.{is_before, same_slot, slot_of}

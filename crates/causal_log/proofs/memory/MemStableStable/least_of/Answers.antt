@@ -1,7 +1,6 @@
 use Rattle.std.proofs.Common.{◌∙◌, ap, sym}
 use Rattle.std.specs.List.{list_any}
 use Rattle.causal_name.specs.Names.{same_det}
-use Rattle.causal_log.specs.Slots.{first_of_slot}
 use Rattle.causal_log.specs.Stores.{dets_in}
 use Rattle.causal_log.proofs.Lemmas.Ascents.{map_ascends}
 use Rattle.causal_log.proofs.Lemmas.Storing.{dets_set}

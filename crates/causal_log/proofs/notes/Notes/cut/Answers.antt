@@ -7,6 +7,5 @@ use Rattle.causal_log.proofs.notes.Notes.cut.Goals as goal
 
 pub returns : goal.returns
 returns c =
-    let log = log_of c.args.entries.now.entries in
-    noted_cut c.args.self.now _ log c.saturating_sub-failures.result (omega (arith, c.saturating_sub-failures.ensures)) refl refl refl
-    (filter_same _ (λ d. is_chosen c.saturating_sub-failures.result (fin.get log d)) _ (λ d b g call. search rules) _ _ c.retain.ensures.filtered)
+    noted_cut c.args.self.now _ (log_of c.args.entries.now.entries) c.saturating_sub-failures.result (omega (arith, c.saturating_sub-failures.ensures)) refl refl refl
+    (filter_same _ (λ d. is_chosen c.saturating_sub-failures.result (fin.get (log_of c.args.entries.now.entries) d)) _ (λ d b g call. search rules) _ _ c.retain.ensures.filtered)
