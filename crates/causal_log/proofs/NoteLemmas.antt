@@ -1,5 +1,5 @@
 -- That notes go on saying what is true of a log.
-use Rattle.std.proofs.Common.{ℕ, ◌≡◌, ◌∙◌, ◌≤◌, ◌<◌, ◌+◌, ◌&&◌, ◌||◌, ◌==◌, Bool, true, false, cond, not, nat_le, List, [], ◌∷◌, map, filter, Option, Some, None, is_some, get_or, length, drop, add-one, ◌⊎◌, inl, inr, true≢false, refl, sym, ap, subst, arith}
+use Rattle.std.proofs.Common.{ℕ, ◌≡◌, ◌∙◌, ◌≤◌, ◌<◌, ◌+◌, ◌&&◌, ◌||◌, ◌==◌, Bool, true, false, cond, not, nat_le, List, [], ◌∷◌, map, filter, Option, Some, None, is_some, unwrap_or, get_or, length, drop, add-one, ◌⊎◌, inl, inr, true≢false, refl, sym, ap, subst, arith}
 use Rattle.std.proofs.lemmas.Bool.Decides.{nat_tests}
 use Rattle.std.proofs.Math.Seq.{drop-cons}
 use Rattle.std.specs.List.{list_any}
@@ -16,10 +16,10 @@ use Rattle.causal_name.proofs.Lemmas.DetOrder.{same_is}
 use Rattle.causal_holders.proofs.Lemmas.Sets.{len-is_subset}
 use Rattle.causal_log.specs.declared.known.Known.{Known}
 use Rattle.causal_log.specs.declared.notes.Notes.{Notes}
-use Rattle.causal_log.specs.Knowledge.{joined, as_stable, is_carried}
-use Rattle.causal_log.specs.Logs.{LogMap, log_of, known_of, learned, learned_all, marked, unmarked, is_chosen, named}
+use Rattle.causal_log.specs.Knowledge.{nothing_known, joined, as_stable, is_carried}
+use Rattle.causal_log.specs.Logs.{LogMap, log_of, known_of, learned, marked, unmarked, is_chosen, named}
 use Rattle.causal_log.specs.Slots.{is_of_slot, first_of_slot}
-use Rattle.causal_log.specs.Inside.Noted.{IsAmong, IsLast, IsNoted, GoOn, Learn, LearnAll}
+use Rattle.causal_log.specs.Inside.Noted.{IsAmong, IsLast, IsNoted, GoOn, Learn}
 use Rattle.causal_log.proofs.EntryLemmas.{get_log}
 use Rattle.causal_log.proofs.Lemmas.Learning.{get_learned}
 use Rattle.causal_log.proofs.Lemmas.Marking.{get_marked, get_unmarked}
@@ -38,6 +38,10 @@ or_both : (a b : Bool) → b ≡ true → (a || b) ≡ true
 or_both true b h = refl
 or_both false b h = h
 
+or_first : (a b : Bool) → a ≡ true → (a || b) ≡ true
+or_first true b h = refl
+or_first false b h = absurd (true≢false (sym h))
+
 -- two pieces of knowledge together have no fewer holders
 count_joined : (one other : Known) → set.len other.holders ≤ set.len (joined one other).holders
 count_joined one other =
@@ -45,8 +49,17 @@ count_joined one other =
     (set.contains-is_subset nat_cmp_total other.holders (set.union one.holders other.holders) (λ q h.
     set.contains-union nat_cmp_total one.holders other.holders q ∙ or_both (set.contains one.holders q) (set.contains other.holders q) h))
 
+count_known : (one other : Known) → set.len one.holders ≤ set.len (joined one other).holders
+count_known one other =
+    len-is_subset one.holders (set.union one.holders other.holders)
+    (set.contains-is_subset nat_cmp_total one.holders (set.union one.holders other.holders) (λ q h.
+    set.contains-union nat_cmp_total one.holders other.holders q ∙ or_first (set.contains one.holders q) (set.contains other.holders q) h))
+
 at_most : (n f : ℕ) → nat_le n f ≡ true → n ≤ f
 at_most n f h = grind (arith, nat_tests)
+
+is_most : (n f : ℕ) → n ≤ f → nat_le n f ≡ true
+is_most n f h = grind (arith, nat_tests)
 
 few_enough : (n f g : ℕ) → f ≤ g → nat_le n f ≡ true → nat_le n g ≡ true
 few_enough n f g low h = grind (arith, nat_tests)
@@ -106,11 +119,6 @@ noted_same before after log same is = record {
       subst (λ n. q.rsn ≤ n.last) (sym one) (is.last (subst (λ n. 0 < n.limit) one some) q logged (ap (λ n. same_pid q.dest n.dest) (sym one) ∙ dest));
 }
 
--- one after the other
-pub noted_all : (es : List (Det × Known)) (before after : Notes) (log : LogMap) → IsNoted before log → LearnAll es before after → IsNoted after (learned_all es log)
-noted_all [] before after log is same = subst (λ n. IsNoted n log) same is
-noted_all (e ∷ es) before after log is goes = noted_all es goes.0 after (learned log e.0 e.1) (noted_learned before goes.0 log e is goes.1) goes.2
-
 module _ (notes : Notes) (log less : LogMap) (is : IsNoted notes log) where
   -- and they are true of a log that knows less, and of which less is carried
   noted_less : ((q : Det) → is_some (fin.get less q) ≡ true → is_some (fin.get log q) ≡ true)
@@ -119,6 +127,67 @@ module _ (notes : Notes) (log less : LogMap) (is : IsNoted notes log) where
     carried = λ f low q h. is.carried f low q (carried f q h);
     last = λ some q h. is.last some q (logged q h);
   }
+
+unmarked_both : (a b : Bool) → not (a || b) ≡ true → not a ≡ true
+unmarked_both true b h = h
+unmarked_both false b h = refl
+
+-- what is carried once more is known of it was carried before
+less_carried : (f : ℕ) (known heard : Known) → is_carried f (joined known heard) ≡ true → is_carried f known ≡ true
+less_carried f known heard h =
+    let two = both (not (joined known heard).stable) (nat_le (set.len (joined known heard).holders) f) h in
+    let count = count_known known heard in
+    let most = at_most (set.len (joined known heard).holders) f two.1 in
+    and_both (not known.stable) (nat_le (set.len known.holders) f) (unmarked_both known.stable heard.stable two.0) (is_most (set.len known.holders) f (omega (arith, count, most)))
+
+-- notes stay true where more is learned of a determinant that is logged
+pub noted_more : (notes : Notes) (log : LogMap) (det : Det) (known heard : Known) → fin.get log det ≡ Some known → IsNoted notes log → IsNoted notes (learned log det heard)
+noted_more notes log det known heard was is =
+    noted_less notes log (learned log det heard) is
+    (λ q h. logged q (same_det q det) refl (ap is_some (sym (get_learned log det heard q)) ∙ h))
+    (λ f q h. carried f q (same_det q det) refl (ap (is_chosen f) (sym (get_learned log det heard q)) ∙ h))
+  where
+    here : (q : Det) → same_det q det ≡ true → fin.get log q ≡ Some known
+    here q same = ap (fin.get log) (same_is q det same) ∙ was
+
+    logged : (q : Det) (b : Bool) → same_det q det ≡ b → is_some (cond b (Some (joined (known_of log det) heard)) (fin.get log q)) ≡ true → is_some (fin.get log q) ≡ true
+    logged q true same h = ap is_some (here q same)
+    logged q false same h = h
+
+    carried : (f : ℕ) (q : Det) (b : Bool) → same_det q det ≡ b → is_chosen f (cond b (Some (joined (known_of log det) heard)) (fin.get log q)) ≡ true → is_chosen f (fin.get log q) ≡ true
+    carried f q true same h = ap (is_chosen f) (here q same) ∙ less_carried f known heard (ap (λ o. is_carried f (joined (unwrap_or o nothing_known) heard)) (sym was) ∙ h)
+    carried f q false same h = h
+
+-- one of some determinants is one of those that pass a test which it passes
+kept_among : (P : Det → Bool) (q : Det) (ds : List Det) → P q ≡ true → IsAmong q ds → IsAmong q (filter P ds)
+kept_among P q [] fits among = among
+kept_among P q (d ∷ ds) fits among = by (same_det q d) refl (P d) refl among (λ rest. kept_among P q ds fits rest)
+  where
+    by : (b : Bool) → same_det q d ≡ b → (k : Bool) → P d ≡ k → (b || list_any (same_det q) ds) ≡ true
+        → (list_any (same_det q) ds ≡ true → list_any (same_det q) (filter P ds) ≡ true) → list_any (same_det q) (cond k (d ∷ filter P ds) (filter P ds)) ≡ true
+    by true same true is among later = ap (λ b. b || list_any (same_det q) (filter P ds)) same
+    by false same true is among later = ap (λ b. b || list_any (same_det q) (filter P ds)) same ∙ later among
+    by true same false is among later = absurd (true≢false (sym fits ∙ ap P (same_is q d same) ∙ is))
+    by false same false is among later = later among
+
+chosen_more : (f g : ℕ) → f ≤ g → (o : Option Known) → is_chosen f o ≡ true → is_chosen g o ≡ true
+chosen_more f g low None h = h
+chosen_more f g low (Some known) h =
+    let two = both (not known.stable) (nat_le (set.len known.holders) f) h in
+    and_both (not known.stable) (nat_le (set.len known.holders) g) two.0 (few_enough (set.len known.holders) f g low two.1)
+
+-- notes without what messages carry no more
+pub noted_cut : (before after : Notes) (log : LogMap) (g : ℕ) → before.limit ≤ g + 1 → after.limit ≡ before.limit → after.dest ≡ before.dest → after.last ≡ before.last
+    → after.few.items ≡ filter (λ d. is_chosen g (fin.get log d)) before.few.items → IsNoted before log → IsNoted after log
+noted_cut before after log g high limit dest last few is = record {
+  carried = λ f low q h.
+      subst (IsAmong q) (sym few)
+      (kept_among (λ d. is_chosen g (fin.get log d)) q before.few.items (chosen_more f g (omega (arith, low, limit, high)) (fin.get log q) h)
+      (is.carried f (omega (arith, low, limit)) q h));
+  last = λ some q logged at.
+      let low = is.last (omega (arith, some, limit)) q logged (ap (same_pid q.dest) (sym dest) ∙ at) in
+      omega (arith, low, last);
+}
 
 marked_logged : (b : Bool) (o : Option Known) → is_some (cond b (option_map as_stable o) o) ≡ true → is_some o ≡ true
 marked_logged true None h = h
@@ -171,9 +240,7 @@ swap false false = refl
 
 passing : (f g : ℕ) → f ≤ g → (o : Option Known) → is_chosen f o ≡ true → passes (is_carried g) o ≡ true
 passing f g low None h = h
-passing f g low (Some known) h =
-    let two = both (not known.stable) (nat_le (set.len known.holders) f) h in
-    and_both (not known.stable) (nat_le (set.len known.holders) g) two.0 (few_enough (set.len known.holders) f g low two.1)
+passing f g low (Some known) h = chosen_more f g low (Some known) h
 
 any_found : (P : Known → Bool) (q : Det) (es : List (Det × Known)) → passes P (lookup (same_det q) es) ≡ true → list_any (λ e. same_det q e.0 && P e.1) es ≡ true
 any_found P q [] h = absurd (true≢false (sym h))
@@ -201,9 +268,6 @@ noted_made notes es g limit few last = record {
 -- what is left of a list, one after the other
 drop_one : {X : Type 0} (xs : List X) (i : ℕ) (x : X) → i < length xs → drop i xs ≡ get_or xs i x ∷ drop (i + 1) xs
 drop_one xs i x low = rw add-one (drop-cons xs i x low)
-
-pub drop_after : {X : Type 0} (xs : List X) (i : ℕ) (x : X) → i < length xs → x ≡ get_or xs i x → drop i xs ≡ x ∷ drop (i + 1) xs
-drop_after xs i x low is = drop_one xs i x low ∙ ap (λ y. y ∷ drop (i + 1) xs) (sym is)
 
 among_or : (a b : Bool) → (a || b) ≡ true → (a ≡ true) ⊎ (b ≡ true)
 among_or true b h = inl refl

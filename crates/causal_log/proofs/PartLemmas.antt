@@ -14,7 +14,6 @@ use Rattle.causal_name.proofs.Lemmas.DetOrder.{dets_total, exact_dets, det_ties,
 use Rattle.causal_log.proofs.EntryLemmas.{own_entries}
 use Rattle.causal_log.proofs.Lemmas.Ascents.{filter_ascends}
 use Rattle.causal_log.proofs.Lemmas.Learning.{get_learned}
-use Rattle.causal_log.proofs.Lemmas.Choosing.{carried_dets}
 use Rattle.causal_log.proofs.Lemmas.Searches.{any_map, find_kept, kept_if, shown}
 
 -- a part has each entry as the log has it, or not at all
@@ -154,28 +153,18 @@ all_same (e ∷ es) log part q same h =
     or_later false b h = h
 
 module _ (f : ℕ) (log : LogMap) (few : List Det) (all : (q : Det) → is_chosen f (fin.get log q) ≡ true → list_any (same_det q) few ≡ true) where
-  nothing_part : IsPart log fin.empty
+  nothing_part : IsPart (carried_in f log) fin.empty
   nothing_part q = inr (fin.get-empty det_cmp q)
 
-  few_agree : Agree f log (with_copies log few fin.empty)
-  few_agree q = by (copies_part log few fin.empty nothing_part q) (is_chosen f (fin.get log q)) refl
+  -- the carried entries of some determinants, among which are all that a message carries, are all that it carries
+  pub few_carried : with_copies (carried_in f log) few fin.empty ≡ carried_in f log
+  few_carried = fin.same_map dets_total exact_dets _ _ (λ q. by q (copies_part (carried_in f log) few fin.empty nothing_part q) (is_chosen f (fin.get log q)) refl)
     where
-      by : (fin.get (with_copies log few fin.empty) q ≡ fin.get log q) ⊎ (fin.get (with_copies log few fin.empty) q ≡ None) → (b : Bool) → is_chosen f (fin.get log q) ≡ b
-          → carried_of f (fin.get (with_copies log few fin.empty) q) ≡ carried_of f (fin.get log q)
-      by (inl same) b is = ap (carried_of f) same
-      by (inr none) true is = ap (carried_of f) (copies_there log few fin.empty q nothing_part (all q is))
-      by (inr none) false is = ap (carried_of f) none ∙ sym (not_chosen f (fin.get log q) is)
-
-  all_chosen : chosen f (with_copies log few fin.empty) ≡ chosen f log
-  all_chosen = agree_chosen f log (with_copies log few fin.empty) few_agree
-
-still_chosen : (f : ℕ) (o : Option Known) → is_chosen f (carried_of f o) ≡ true → is_chosen f o ≡ true
-still_chosen f None h = h
-still_chosen f (Some known) h = by (is_carried f known) refl h
-  where
-    by : (b : Bool) → is_carried f known ≡ b → is_chosen f (cond b (Some known) None) ≡ true → is_carried f known ≡ true
-    by true is h = is
-    by false is h = absurd (true≢false (sym h))
+      by : (q : Det) → (fin.get (with_copies (carried_in f log) few fin.empty) q ≡ fin.get (carried_in f log) q) ⊎ (fin.get (with_copies (carried_in f log) few fin.empty) q ≡ None)
+          → (b : Bool) → is_chosen f (fin.get log q) ≡ b → fin.get (with_copies (carried_in f log) few fin.empty) q ≡ fin.get (carried_in f log) q
+      by q (inl same) b is = same
+      by q (inr none) true is = copies_there (carried_in f log) few fin.empty q nothing_part (all q is)
+      by q (inr none) false is = none ∙ sym (get_carried f log q ∙ not_chosen f (fin.get log q) is)
 
 carried_twice : (f : ℕ) (o : Option Known) → carried_of f (carried_of f o) ≡ carried_of f o
 carried_twice f None = refl
@@ -185,25 +174,32 @@ carried_twice f (Some known) = by (is_carried f known) refl
     by true is = ap (λ b. cond b (Some known) None) is
     by false is = refl
 
--- the carried entries of some determinants, among which are all that a message carries, give the batch that the log does
-pub few_chosen : (f : ℕ) (log : LogMap) (few : List Det) → ((q : Det) → is_chosen f (fin.get log q) ≡ true → list_any (same_det q) few ≡ true)
-    → chosen f (with_copies (carried_in f log) few fin.empty) ≡ chosen f log
-few_chosen f log few all =
-    all_chosen f (carried_in f log) few (λ q h. all q (still_chosen f (fin.get log q) (ap (is_chosen f) (sym (get_carried f log q)) ∙ h)))
-    ∙ agree_chosen f log (carried_in f log) (λ q. ap (carried_of f) (get_carried f log q) ∙ carried_twice f (fin.get log q))
+-- what a message carries gives the batch that the log does
+pub carried_chosen : (f : ℕ) (log : LogMap) → chosen f (carried_in f log) ≡ chosen f log
+carried_chosen f log = agree_chosen f log (carried_in f log) (λ q. ap (carried_of f) (get_carried f log q) ∙ carried_twice f (fin.get log q))
+
+-- what is known is carried whole or not at all
+carried_or_none : (f : ℕ) (o : Option Known) → (carried_of f o ≡ o) ⊎ (carried_of f o ≡ None)
+carried_or_none f None = inl refl
+carried_or_none f (Some known) = by (is_carried f known)
+  where
+    by : (b : Bool) → (cond b (Some known) None ≡ Some known) ⊎ (cond b (Some known) None ≡ None)
+    by true = inl refl
+    by false = inr refl
+
+chosen_whole : (f : ℕ) (o : Option Known) → is_chosen f o ≡ true → carried_of f o ≡ o
+chosen_whole f None h = refl
+chosen_whole f (Some known) h = ap (λ b. cond b (Some known) None) h
 
 module _ (f : ℕ) (items : List Item) (own_det : Det) (log : LogMap) where
   abbrev first : LogMap
-  first = with_copies log (dets_of (chosen f log)) fin.empty
+  first = carried_in f log
 
   abbrev second : LogMap
   second = with_copies log (dets_of items) first
 
-  empty_part : IsPart log fin.empty
-  empty_part q = inr (fin.get-empty det_cmp q)
-
   first_part : IsPart log first
-  first_part = copies_part log (dets_of (chosen f log)) fin.empty empty_part
+  first_part q = elim (carried_or_none f (fin.get log q)) [ inl whole ↦ inl (get_carried f log q ∙ whole) | inr none ↦ inr (get_carried f log q ∙ none) ]
 
   second_part : IsPart log second
   second_part = copies_part log (dets_of items) first first_part
@@ -212,9 +208,7 @@ module _ (f : ℕ) (items : List Item) (own_det : Det) (log : LogMap) where
   carried_there : (q : Det) → is_chosen f (fin.get log q) ≡ true → SameAt log (part_for f items own_det log) q
   carried_there q h =
       copy_keeps log second own_det q
-      (copies_keep log (dets_of items) first q
-      (copies_there log (dets_of (chosen f log)) fin.empty q empty_part
-      (any_map (λ item. item.det) (same_det q) (λ item. same_det q item.det) (λ item. refl) (chosen f log) ∙ carried_dets f log q ∙ h)))
+      (copies_keep log (dets_of items) first q (get_carried f log q ∙ chosen_whole f (fin.get log q) h))
 
   -- and what the items touch
   touched_there : (q : Det) → list_any (λ item. same_det q item.det) items ≡ true → SameAt log (part_for f items own_det log) q

@@ -1,5 +1,5 @@
 -- Entries in any order, and the map that they make.
-use Rattle.std.proofs.Common.{ℕ, zero, suc, ◌≡◌, ◌∙◌, ◌+◌, ◌==◌, ◌||◌, Bool, true, false, cond, List, [], ◌∷◌, map, filter, find, Option, Some, None, is_some, unwrap_or, slice_get, length, true≢false, refl, sym, ap, subst, arith}
+use Rattle.std.proofs.Common.{ℕ, zero, suc, ◌≡◌, ◌∙◌, ◌==◌, ◌||◌, Bool, true, false, cond, List, [], ◌∷◌, filter, find, Option, Some, None, is_some, unwrap_or, slice_get, length, true≢false, refl, sym, ap, subst, arith}
 use Rattle.std.proofs.lemmas.Bool.Decides.{nat_tests}
 use Rattle.std.proofs.lemmas.List.{length-map}
 use Rattle.std.proofs.lemmas.Map.Entries.{option_filter, lookup-filter-values, lookup-filter-keys, lookup_from_place}
@@ -13,7 +13,7 @@ use Rattle.causal_name.specs.Names.{det_cmp, same_det, is_before, is_ascending}
 use Rattle.causal_name.proofs.Lemmas.DetOrder.{dets_total, exact_dets, det_ties, same_is, same_itself}
 use Rattle.causal_log.specs.declared.known.Known.{Known}
 use Rattle.causal_log.specs.Knowledge.{nothing_known, joined}
-use Rattle.causal_log.specs.Logs.{LogMap, log_of, known_of, learned, learned_all}
+use Rattle.causal_log.specs.Logs.{LogMap, known_of, learned, learned_all}
 use Rattle.causal_log.specs.Inside.Ranks.{has_rank}
 use Rattle.causal_log.proofs.EntryLemmas.{det_equiv, find_lookup, get_log, same_log, strict}
 use Rattle.causal_log.proofs.Lemmas.Ascents.{ascending_tail, ascending_skip, before_trans, first_before, map_ascends}

@@ -1,12 +1,14 @@
 -- A volatile log as contracts see it: what is known of each of some determinants (Alvisi and Marzullo 1998).
-use Rattle.std.specs.Prelude.{◌≡◌, ℕ, Bool, true, false, not, List, [], ◌∷◌, length, map, filter, Option, Some, None, is_none, unwrap_or, ◌+◌, ◌<◌, ◌≤◌, ◌^◌, refl}
+use Rattle.std.specs.Prelude.{◌≡◌, ℕ, Bool, false, not, ◌&&◌, ◌+◌, List, [], ◌∷◌, map, filter, length, slice_get, count_by, Option, Some, None, is_none, unwrap_or, refl}
 use Rattle.std.specs.Coded.{Coded, code_by, coded×, coded_ℕ}
 use Rattle.std.specs.Option.{option_map}
+use Rattle.std.specs.List.{list_any}
 use Rattle.std.specs.FinMap as fin
+use Rattle.std.specs.FinSet as set
 use Rattle.causal_name.specs.declared.Det.{Det}
 use Rattle.causal_name.specs.declared.MsgName.{MsgName}
 use Rattle.causal_name.specs.declared.Pid.{Pid}
-use Rattle.causal_name.specs.Names.{det_cmp, message_of, is_ascending}
+use Rattle.causal_name.specs.Names.{det_cmp, same_det, message_of}
 use Rattle.causal_log.specs.declared.known.Known.{Known}
 use Rattle.causal_log.specs.declared.batch.Item.{Item}
 use Rattle.causal_log.specs.Slots.{first_of_slot}
@@ -38,6 +40,18 @@ known_of log det = unwrap_or (fin.get log det) nothing_known
 abbrev pub unknown_to : LogMap → List Det → List Det
 unknown_to log dets = filter (λ det. is_none (fin.get log det)) dets
 
+-- this is known of a determinant, which is logged
+abbrev pub IsLogged : LogMap → Det → Known → Type 0
+IsLogged log det known = fin.get log det ≡ Some known
+
+-- the entry at a place, by ascending determinant
+abbrev pub StandsAt : LogMap → ℕ → Det → Known → Type 0
+StandsAt log i det known = slice_get (fin.entries log) i ≡ Some (det, known)
+
+-- each determinant stands in two lists alike often
+abbrev pub HaveSame : List Det → List Det → Type 0
+HaveSame dets others = (test : Det → Bool) → count_by test dets ≡ count_by test others
+
 -- this is learned of one determinant, and of no other
 abbrev pub learned : LogMap → Det → Known → LogMap
 learned log det known = fin.insert log det (joined (known_of log det) known)
@@ -58,6 +72,10 @@ grown items own from me log = learned (absorbed items from me log) own (held_by 
 -- all that another log knows is learned
 abbrev pub united : LogMap → LogMap → LogMap
 united log other = learned_all (fin.entries other) log
+
+-- how many determinants two logs united have
+abbrev pub united_len : LogMap → LogMap → ℕ
+united_len log other = fin.len log + length (unknown_to log (fin.keys other))
 
 abbrev pub mark : LogMap → Det → Option Known → LogMap
 mark log det None = log
@@ -95,6 +113,13 @@ is_chosen f (Some known) = is_carried f known
 -- the determinants of items
 abbrev pub dets_of : List Item → List Det
 dets_of items = map (λ item. item.det) items
+
+-- whether items name a determinant, and name one with this holder
+abbrev pub names_det : Det → List Item → Bool
+names_det det items = list_any (λ item. same_det det item.det) items
+
+abbrev pub names_holder : Det → ℕ → List Item → Bool
+names_holder det p items = list_any (λ item. same_det det item.det && set.contains item.holders p) items
 
 -- the message that the log names for a slot: that of the slot's least determinant
 abbrev pub named : Pid → ℕ → LogMap → Option MsgName

@@ -1,5 +1,5 @@
 -- Stable storage as contracts see it: a set of determinants, which is a map with nothing at each of them.
-use Rattle.std.specs.Prelude.{ℕ, Bool, List, map}
+use Rattle.std.specs.Prelude.{◌≡◌, ℕ, Bool, true, List, map}
 use Rattle.std.specs.FinMap as fin
 use Rattle.causal_name.specs.declared.Det.{Det}
 use Rattle.causal_name.specs.Names.{det_cmp}
@@ -18,6 +18,10 @@ with_det s det = fin.insert s det tt
 -- whether a determinant is a member
 abbrev pub has : DetSet → Det → Bool
 has s det = fin.contains_key s det
+
+-- where a determinant is a member, the set and the count of faults stay as they are
+abbrev pub KeepsMember : Det → DetSet → DetSet → ℕ → ℕ → Type 0
+KeepsMember det before after faults later = has before det ≡ true → (after ≡ before) × (later ≡ faults)
 
 -- how many members there are
 abbrev pub count_in : DetSet → ℕ

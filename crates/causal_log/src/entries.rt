@@ -1,19 +1,19 @@
 //! The entries of a volatile log, in the order in which they came. A log's methods work on its entries by these functions.
-ghost use Rattle.std.specs.Prelude.{◌≡◌, ◌↔◌, ◌<◌, ◌≤◌, ◌+◌, ◌^◌, true, Some, None, IsTrue, IsSome, IfSome, IfOk, OnOk, find, length, slice_get, filter, map, not};
+ghost use Rattle.std.specs.Prelude.{◌≡◌, ◌↔◌, ◌<◌, ◌≤◌, ◌+◌, ◌^◌, true, Some, None, IsTrue, IsSome, IfSome, IfOk, OnOk, [], find, length, slice_get, filter, map, not};
 ghost use Rattle.std.specs.List.{IsDistinct};
 ghost use Rattle.std.specs.Option.{option_map};
 ghost use Rattle.std.specs.FinMap as fin;
 ghost use Rattle.indexmap.specs.IndexMap.{keys, spare};
 ghost use Rattle.causal_name.specs.Names.{same_det, is_ascending};
 ghost use Rattle.causal_log.specs.Knowledge.{is_carried};
-ghost use Rattle.causal_log.specs.Inside.Parts.{carried_in, with_copy, with_copies};
+ghost use Rattle.causal_log.specs.Inside.Parts.{carried_from, dets_carried, Adds, AddsAll};
 ghost use Rattle.causal_log.specs.Inside.Ranks.{has_rank};
-ghost use Rattle.causal_log.specs.Logs.{log_of, learned, absorbed, learned_all, item_of, dets_of, marked, chosen};
+ghost use Rattle.causal_log.specs.Logs.{log_of, learned, item_of, dets_of, marked, chosen, is_chosen};
 
 use crate::batch::Item;
-use crate::known::{Known, told};
+use crate::known::Known;
 use crate::ranks::rank;
-use causal_name::{Det, NoMemory, Pid};
+use causal_name::{Det, NoMemory};
 use indexmap::IndexMap;
 use std::alloc::Global;
 
@@ -117,12 +117,22 @@ pub(crate) fn carried_dets(
     entries: &IndexMap<Det, Known>,
     failures: u32,
 ) -> Result<Vec<Det>, NoMemory>
-    ensures { IfOk result (λ dets. dets.items ≡ map (λ e. e.0) (filter (λ e. is_carried failures e.1) entries.now.entries)) }
+    ensures { IfOk result (λ dets. dets.items ≡ dets_carried failures entries.now.entries) }
 {
     let carried = entries
         .iter()
         .filter(|(_, known)| known.is_within(failures));
     Ok(carried.map(|(det, _)| *det).collect(alloc)?)
+}
+
+/// Whether a message carries a determinant where so many may fail.
+pub(crate) fn is_chosen(entries: &IndexMap<Det, Known>, det: Det, failures: u32) -> bool
+    ensures { result ≡ is_chosen failures (fin.get (log_of entries.now.entries) det) }
+{
+    match entries.get(&det) {
+        Some(known) => known.is_within(failures),
+        None => false,
+    }
 }
 
 /// The place of a determinant and what is known of it, where it is logged.
@@ -166,57 +176,13 @@ pub(crate) fn add(entries: &mut IndexMap<Det, Known>, det: Det, heard: Known)
     }
 }
 
-/// Learns something of one determinant. It takes no memory: where the determinant is not logged, there is room.
-pub(crate) fn learn(entries: &mut IndexMap<Det, Known>, det: Det, heard: Known)
-    requires distinct { IsDistinct same_det (keys entries.old) }
-    requires room { fin.get (log_of entries.old.entries) det ≡ None → 1 ≤ spare entries.old }
-    ensures learned { log_of entries.new.entries ≡ learned (log_of entries.old.entries) det heard }
-    ensures distinct { IsDistinct same_det (keys entries.new) }
-    ensures spare { spare entries.old ≤ spare entries.new + 1 }
-    ensures len { length entries.new.entries ≤ length entries.old.entries + 1 }
-{
-    match place_of(entries, det) {
-        Some((place, known)) => put_at(entries, place, known.joined(heard)),
-        None => add(entries, det, heard),
-    }
-}
-
-/// Learns what the items of a message from one process tell another, in room made before.
-pub(crate) fn learn_items(entries: &mut IndexMap<Det, Known>, items: &[Item], from: Pid, me: Pid)
-    requires distinct { IsDistinct same_det (keys entries.old) }
-    requires room { length items.now ≤ spare entries.old }
-    ensures learned { log_of entries.new.entries ≡ absorbed items.now from me (log_of entries.old.entries) }
-    ensures distinct { IsDistinct same_det (keys entries.new) }
-    ensures spare { spare entries.old ≤ spare entries.new + length items.now }
-    ensures len { length entries.new.entries ≤ length entries.old.entries + length items.now }
-{
-    for item in items {
-        let (det, heard) = told(from, me, item);
-        learn(entries, det, heard);
-    }
-}
-
-/// Learns what other entries say, in room made before.
-pub(crate) fn learn_entries(entries: &mut IndexMap<Det, Known>, others: &IndexMap<Det, Known>)
-    requires distinct { IsDistinct same_det (keys entries.old) }
-    requires room { length others.now.entries ≤ spare entries.old }
-    ensures learned { log_of entries.new.entries ≡ learned_all others.now.entries (log_of entries.old.entries) }
-    ensures distinct { IsDistinct same_det (keys entries.new) }
-    ensures spare { spare entries.old ≤ spare entries.new + length others.now.entries }
-    ensures len { length entries.new.entries ≤ length entries.old.entries + length others.now.entries }
-{
-    for (det, heard) in others.iter() {
-        learn(entries, *det, *heard);
-    }
-}
-
 /// Copies the entry of a determinant behind some others, where it is logged.
 pub(crate) fn copy(
     part: &mut IndexMap<Det, Known>,
     entries: &IndexMap<Det, Known>,
     det: Det,
 ) -> Result<(), NoMemory>
-    ensures { OnOk result (log_of part.new.entries ≡ with_copy (log_of entries.now.entries) det (log_of part.old.entries)) }
+    ensures { OnOk result (Adds (log_of entries.now.entries) det part.old.entries part.new.entries) }
 {
     let Some(known) = entries.get(&det) else {
         return Ok(());
@@ -231,7 +197,7 @@ pub(crate) fn copy_items(
     entries: &IndexMap<Det, Known>,
     items: &[Item],
 ) -> Result<(), NoMemory>
-    ensures { OnOk result (log_of part.new.entries ≡ with_copies (log_of entries.now.entries) (dets_of items.now) (log_of part.old.entries)) }
+    ensures { OnOk result (AddsAll (log_of entries.now.entries) (dets_of items.now) part.old.entries part.new.entries) }
 {
     for item in items {
         copy(part, entries, item.det)?;
@@ -246,7 +212,7 @@ fn copy_carried(
     det: Det,
     f: u16,
 ) -> Result<(), NoMemory>
-    ensures { OnOk result (log_of part.new.entries ≡ with_copy (carried_in f (log_of entries.now.entries)) det (log_of part.old.entries)) }
+    ensures { OnOk result (Adds (carried_from f entries.now.entries) det part.old.entries part.new.entries) }
 {
     let Some(known) = entries.get(&det) else {
         return Ok(());
@@ -265,7 +231,7 @@ fn copy_dets(
     dets: &[Det],
     f: u16,
 ) -> Result<(), NoMemory>
-    ensures { OnOk result (log_of part.new.entries ≡ with_copies (carried_in f (log_of entries.now.entries)) dets.now (log_of part.old.entries)) }
+    ensures { OnOk result (AddsAll (carried_from f entries.now.entries) dets.now part.old.entries part.new.entries) }
 {
     for det in dets {
         copy_carried(part, entries, *det, f)?;
@@ -273,17 +239,29 @@ fn copy_dets(
     Ok(())
 }
 
-/// The items of those entries of some determinants that a message carries.
+/// The entries of some determinants that a message carries, with room for some more entries.
 pub(crate) fn carried_among(
     alloc: Global,
     entries: &IndexMap<Det, Known>,
     dets: &[Det],
     f: u16,
-) -> Result<Vec<Item>, NoMemory>
-    ensures { IfOk result (λ items. items.items ≡ chosen f (with_copies (carried_in f (log_of entries.now.entries)) dets.now fin.empty)) }
+    more: usize,
+) -> Result<IndexMap<Det, Known>, NoMemory>
+    ensures { IfOk result (λ part. AddsAll (carried_from f entries.now.entries) dets.now [] part.entries) }
 {
-    let mut part = IndexMap::new(alloc);
+    let mut part = IndexMap::with_capacity(alloc, dets.len().saturating_add(more))?;
     copy_dets(&mut part, entries, dets, f)?;
+    Ok(part)
+}
+
+/// The items of what a message carries of some entries, ascending.
+pub(crate) fn chosen(
+    alloc: Global,
+    mut part: IndexMap<Det, Known>,
+    f: u16,
+) -> Result<Vec<Item>, NoMemory>
+    ensures { IfOk result (λ items. items.items ≡ chosen f (log_of part.entries)) }
+{
     sort(&mut part)?;
     carried(alloc, &part, f)
 }

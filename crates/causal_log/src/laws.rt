@@ -12,13 +12,14 @@ ghost use Rattle.causal_log.specs.declared.known.Known.{Known};
 ghost use Rattle.causal_log.specs.declared.batch.Item.{Item};
 ghost use Rattle.causal_log.specs.Slots.{is_of_slot, first_of_slot};
 ghost use Rattle.causal_log.specs.Knowledge.{joined, as_stable};
-ghost use Rattle.causal_log.specs.Logs.{LogMap, known_of, learned, absorbed, united, marked, unmarked, unknown_to, stable_in, unstable_in, is_chosen, chosen, dets_of};
+ghost use Rattle.causal_log.specs.Logs.{LogMap, known_of, learned, absorbed, united, marked, unmarked, unknown_to, stable_in, unstable_in, is_chosen, chosen, dets_of, united_len, names_det, names_holder, IsLogged, StandsAt};
 ghost use Rattle.causal_log.specs.Stores.{DetSet, with_det, has, count_in, dets_in};
 
 /// What is learned of one determinant changes that entry alone, and adds one where it was not logged.
 pub fn learning_law()
     ensures known { (log : LogMap) (det other : Det) (known : Known) →
-        fin.get (learned log det known) other ≡ (if same_det other det then Some (joined (known_of log det) known) else fin.get log other) }
+        fin.get (learned log det known) other
+        ≡ (if same_det other det then Some (joined (known_of log det) known) else fin.get log other) }
     ensures size { (log : LogMap) (det : Det) (known : Known) →
         fin.len (learned log det known) ≡ fin.len log + (if is_some (fin.get log det) then 0 else 1) }
 {}
@@ -28,11 +29,12 @@ pub fn learning_law()
 /// were not logged.
 pub fn absorbing_law()
     ensures logged { (items : List Item) (from me : Pid) (log : LogMap) (det : Det) →
-        is_some (fin.get (absorbed items from me log) det) ≡ (is_some (fin.get log det) || list_any (λ item. same_det det item.det) items) }
+        is_some (fin.get (absorbed items from me log) det) ≡ (is_some (fin.get log det) || names_det det items) }
     ensures holders { (items : List Item) (from me : Pid) (log : LogMap) (det : Det) (p : ℕ) →
         set.contains (known_of (absorbed items from me log) det).holders p
         ≡ (set.contains (known_of log det).holders p
-        || list_any (λ item. same_det det item.det && (set.contains item.holders p || (p == from.0 || p == me.0))) items) }
+        || list_any (λ item. same_det det item.det && (set.contains item.holders p || (p == from.0 || p == me.0)))
+        items) }
     ensures stable { (items : List Item) (from me : Pid) (log : LogMap) (det : Det) →
         (known_of (absorbed items from me log) det).stable ≡ (known_of log det).stable }
     ensures size { (items : List Item) (from me : Pid) (log : LogMap) → is_ascending (dets_of items) ≡ true →
@@ -45,10 +47,11 @@ pub fn uniting_law()
     ensures logged { (log other : LogMap) (det : Det) →
         is_some (fin.get (united log other) det) ≡ (is_some (fin.get log det) || is_some (fin.get other det)) }
     ensures holders { (log other : LogMap) (det : Det) (p : ℕ) →
-        set.contains (known_of (united log other) det).holders p ≡ (set.contains (known_of log det).holders p || set.contains (known_of other det).holders p) }
+        set.contains (known_of (united log other) det).holders p
+        ≡ (set.contains (known_of log det).holders p || set.contains (known_of other det).holders p) }
     ensures stable { (log other : LogMap) (det : Det) →
         (known_of (united log other) det).stable ≡ ((known_of log det).stable || (known_of other det).stable) }
-    ensures size { (log other : LogMap) → fin.len (united log other) ≡ fin.len log + length (unknown_to log (fin.keys other)) }
+    ensures size { (log other : LogMap) → fin.len (united log other) ≡ united_len log other }
 {}
 
 /// A mark changes the marked entry alone, and leaves its holders; to drop what is stable leaves the other entries.
@@ -66,19 +69,21 @@ pub fn marking_law()
 pub fn choosing_law()
     ensures ascending { (f : ℕ) (log : LogMap) → is_ascending (dets_of (chosen f log)) ≡ true }
     ensures carried { (f : ℕ) (log : LogMap) (det : Det) →
-        list_any (λ item. same_det det item.det) (chosen f log) ≡ is_chosen f (fin.get log det) }
+        names_det det (chosen f log) ≡ is_chosen f (fin.get log det) }
     ensures holders { (f : ℕ) (log : LogMap) (det : Det) (p : ℕ) →
-        list_any (λ item. same_det det item.det && set.contains item.holders p) (chosen f log)
+        names_holder det p (chosen f log)
         ≡ (is_chosen f (fin.get log det) && set.contains (known_of log det).holders p) }
-    ensures left_out { (f : ℕ) (log : LogMap) (det : Det) (known : Known) → fin.get log det ≡ Some known →
-        list_any (λ item. same_det det item.det) (chosen f log) ≡ false → (known.stable ≡ true) ⊎ (f < set.len known.holders) }
+    ensures left_out { (f : ℕ) (log : LogMap) (det : Det) (known : Known) → IsLogged log det known →
+        names_det det (chosen f log) ≡ false → (known.stable ≡ true) ⊎ (f < set.len known.holders) }
 {}
 
 /// The places of a log show each of its entries once: they ascend, each shows an entry, and each entry has one.
 pub fn places_law()
     ensures ascending { (log : LogMap) → is_ascending (fin.keys log) ≡ true }
-    ensures shown { (log : LogMap) (i : ℕ) (det : Det) (known : Known) → slice_get (fin.entries log) i ≡ Some (det, known) → fin.get log det ≡ Some known }
-    ensures found { (log : LogMap) (det : Det) (known : Known) → fin.get log det ≡ Some known → (i : ℕ) × (slice_get (fin.entries log) i ≡ Some (det, known)) }
+    ensures shown { (log : LogMap) (i : ℕ) (det : Det) (known : Known) →
+        StandsAt log i det known → IsLogged log det known }
+    ensures found { (log : LogMap) (det : Det) (known : Known) →
+        IsLogged log det known → (i : ℕ) × StandsAt log i det known }
 {}
 
 /// A determinant is logged where it is one of the log's determinants. Those known to be stable ascend, and are just those with
@@ -99,8 +104,9 @@ pub fn listing_law()
 pub fn slot_law()
     ensures fills { (dest : Pid) (rsn : ℕ) (dets : List Det) (least : Det) → first_of_slot dest rsn dets ≡ Some least →
         (is_of_slot dest rsn least ≡ true) × (list_any (same_det least) dets ≡ true) }
-    ensures least { (dest : Pid) (rsn : ℕ) (dets : List Det) (least det : Det) → is_ascending dets ≡ true → first_of_slot dest rsn dets ≡ Some least →
-        list_any (same_det det) dets ≡ true → is_of_slot dest rsn det ≡ true → (least ≡ det) ⊎ (is_before least det ≡ true) }
+    ensures least { (dest : Pid) (rsn : ℕ) (dets : List Det) (least det : Det) → is_ascending dets ≡ true →
+        first_of_slot dest rsn dets ≡ Some least → list_any (same_det det) dets ≡ true →
+        is_of_slot dest rsn det ≡ true → (least ≡ det) ⊎ (is_before least det ≡ true) }
     ensures none { (dest : Pid) (rsn : ℕ) (dets : List Det) (det : Det) → first_of_slot dest rsn dets ≡ None →
         list_any (same_det det) dets ≡ true → is_of_slot dest rsn det ≡ false }
 {}

@@ -37,6 +37,7 @@ mod entries;
 mod failing;
 mod known;
 pub mod laws;
+mod learning;
 mod log;
 mod memory;
 mod notes;

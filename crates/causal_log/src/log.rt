@@ -1,16 +1,19 @@
 //! The volatile log of a process.
-ghost use Rattle.std.specs.Prelude.{◌≡◌, ◌↔◌, ◌<◌, ◌≤◌, ◌+◌, ◌^◌, Bool, IsTrue, IsSome, IsOk, IfOk, OnOk, OnErr, count_by, length, slice_get};
+ghost use Rattle.std.specs.Prelude.{◌≡◌, ◌↔◌, ◌<◌, ◌≤◌, ◌+◌, ◌^◌, IsTrue, IsSome, IsOk, IfOk, OnOk, OnErr, length, slice_get};
+ghost use Rattle.std.specs.List.{IsDistinct};
 ghost use Rattle.std.specs.FinMap as fin;
+ghost use Rattle.indexmap.specs.IndexMap.{keys, spare};
+ghost use Rattle.causal_name.specs.Names.{same_det};
 ghost use Rattle.causal_log.specs.Knowledge.{held_by, stable_and_held_by};
-ghost use Rattle.causal_log.specs.Logs.{learned, absorbed, grown, united, marked, stable_in, unstable_in, unmarked, chosen, named};
+ghost use Rattle.causal_log.specs.Logs.{log_of, learned, absorbed, grown, united, marked, stable_in, unstable_in, unmarked, chosen, named, HaveSame};
 ghost use Rattle.causal_log.specs.Slots.{first_of_slot};
-ghost use Rattle.causal_log.specs.Inside.Parts.{part_for};
-ghost use Rattle.causal_name.specs.declared.Det.{Det as Determinant};
+ghost use Rattle.causal_log.specs.Inside.Parts.{carried_in, part_for};
 ghost use Rattle.causal_log.specs.declared.known.Known.{Known};
 
 use crate::batch::{Batch, Item};
 use crate::entries;
 use crate::known::Known;
+use crate::learning::{learn, learn_entries, learn_items};
 use crate::notes::Notes;
 use crate::ranks::least_of_slot;
 use causal_name::{Det, MsgName, NoMemory, Pid};
@@ -75,14 +78,18 @@ impl Log {
         entries::count(&self.entries)
     }
 
-    /// The entry at a place, in ascending order of determinants; none from `len` on.
+    /// The entry at a place, in ascending order of determinants; none from `len` on. A log that is not sorted is copied and
+    /// the copy sorted; where there is no memory for it, entries are compared with each other.
     pub fn at(&self, i: u32) -> Option<(Det, Known)>
         ensures { result ≡ slice_get (fin.entries self.now.map) i }
     {
         if self.sorted {
             return entries::entry_at(&self.entries, i);
         }
-        entries::ranked(&self.entries, i)
+        match entries::in_order(&self.entries) {
+            Ok(sorted) => entries::entry_at(&sorted, i),
+            Err(_) => entries::ranked(&self.entries, i),
+        }
     }
 
     /// The determinants, ascending. Its only error is want of memory.
@@ -95,7 +102,7 @@ impl Log {
 
     /// The determinants, each once, in no order that is promised. It takes neither memory nor time.
     pub fn unordered(&self) -> &[Det]
-        ensures counted { (test : Determinant → Bool) → count_by test result.now ≡ count_by test (fin.keys self.now.map) }
+        ensures counted { HaveSame result.now (fin.keys self.now.map) }
         ensures few { length result.now < 2 ^ 32 }
     {
         self.entries.keys().as_slice()
@@ -125,18 +132,32 @@ impl Log {
         Ok(Batch::new(items))
     }
 
-    /// The items of what messages carry: of the noted determinants, where these are few, and else of all entries.
+    /// The items of what messages carry.
     fn carried(&self, alloc: Global, f: u16) -> Result<Vec<Item>, NoMemory>
         ensures { IfOk result (λ items. items.items ≡ chosen f self.now.map) }
     {
-        if self.notes.serves(f, self.entries.len()) {
-            return entries::carried_among(alloc, &self.entries, self.notes.few(), f);
-        }
-        if self.sorted {
+        if self.sorted && !self.notes.serves(f, self.entries.len()) {
             return entries::carried(alloc, &self.entries, f);
         }
+        let part = self.part_carried(alloc, f, 0)?;
+        entries::chosen(alloc, part, f)
+    }
+
+    /// The entries that messages carry, in no order, with room for some more: of the noted determinants, where these are
+    /// few, and else of all.
+    fn part_carried(
+        &self,
+        alloc: Global,
+        f: u16,
+        more: usize,
+    ) -> Result<IndexMap<Det, Known>, NoMemory>
+        ensures { IfOk result (λ part. log_of part.entries ≡ carried_in f self.now.map) }
+    {
+        if self.notes.serves(f, self.entries.len()) {
+            return entries::carried_among(alloc, &self.entries, self.notes.few(), f, more);
+        }
         let dets = entries::carried_dets(alloc, &self.entries, u32::from(f))?;
-        entries::carried_among(alloc, &self.entries, dets.as_slice(), f)
+        entries::carried_among(alloc, &self.entries, dets.as_slice(), f, more)
     }
 
     /// What the messages of a step would carry once `grow` has taken in a delivery. The log is not changed. Its only error
@@ -153,29 +174,33 @@ impl Log {
         ensures { IfOk result (λ batch. batch ≡ chosen f (grown carried.now own from me self.now.map)) }
     {
         let mut part = self.part_for(alloc, carried, own, f)?;
-        part.absorb(carried, from, me)?;
-        part.add_own(own, me)?;
-        part.sort()?;
-        part.choose(alloc, f)
+        let mut notes = Notes::none(alloc);
+        learn_items(&mut part, &mut notes, carried.as_slice(), from, me);
+        learn(&mut part, &mut notes, own, Known::held(me));
+        let items = entries::chosen(alloc, part, f)?;
+        Ok(Batch::new(items))
     }
 
     /// The entries that a message carries now, and those that a delivery touches: the batch of the delivery's sends depends
-    /// on no others.
-    fn part_for(&self, alloc: Global, carried: &Batch, own: Det, f: u16) -> Result<Log, NoMemory>
-        ensures { IfOk result (λ part. part.map ≡ part_for f carried.now own self.now.map) }
+    /// on no others. There is room for the delivery.
+    fn part_for(
+        &self,
+        alloc: Global,
+        carried: &Batch,
+        own: Det,
+        f: u16,
+    ) -> Result<IndexMap<Det, Known>, NoMemory>
+        ensures part { IfOk result (λ part. log_of part.entries ≡ part_for f carried.now own self.now.map) }
+        ensures room { IfOk result (λ part. length carried.now + 1 ≤ spare part) }
+        ensures distinct { IfOk result (λ part. IsDistinct same_det (keys part)) }
     {
-        let chosen = self.choose(alloc, f)?;
-        let mut entries = IndexMap::new(alloc);
-        entries::copy_items(&mut entries, &self.entries, chosen.as_slice())?;
-        entries::copy_items(&mut entries, &self.entries, carried.as_slice())?;
-        entries::copy(&mut entries, &self.entries, own)?;
-        entries::sort(&mut entries)?;
-        Ok(Log {
-            entries,
-            sorted: true,
-            room: 0,
-            notes: Notes::none(alloc),
-        })
+        let items = carried.as_slice();
+        let more = items.len().saturating_add(1);
+        let mut part = self.part_carried(alloc, f, more.saturating_mul(2))?;
+        entries::copy_items(&mut part, &self.entries, items)?;
+        entries::copy(&mut part, &self.entries, own)?;
+        part.reserve(more)?;
+        Ok(part)
     }
 
     /// The determinants that are known to be stable, ascending. Its only error is want of memory.
@@ -280,13 +305,13 @@ impl Log {
         ensures succeeds { 1 ≤ self.old.spare → IsOk result }
         ensures spare { self.old.spare ≤ self.new.spare + 1 }
     {
-        let count = heard.holders.len();
         if let Some((place, known)) = entries::place_of(&self.entries, det) {
-            entries::put_at(&mut self.entries, place, known.joined(heard));
-            self.notes.learn(det, count);
+            let joined = self.notes.join(known, heard);
+            entries::put_at(&mut self.entries, place, joined);
             return Ok(());
         }
         self.make_room(1)?;
+        let count = heard.holders.len();
         entries::add(&mut self.entries, det, heard);
         self.sorted = false;
         self.notes.learn(det, count);
@@ -329,9 +354,9 @@ impl Log {
     {
         let items = batch.as_slice();
         self.make_room(items.len())?;
-        entries::learn_items(&mut self.entries, items, from, me);
+        self.notes.see(items);
+        learn_items(&mut self.entries, &mut self.notes, items, from, me);
         self.sorted = false;
-        self.notes.learn_items(items, from, me);
         self.room -= items.len() as u32;
         Ok(())
     }
@@ -346,13 +371,11 @@ impl Log {
     {
         let items = carried.as_slice();
         let held = Known::held(me);
-        let count = held.holders.len();
-        entries::learn_items(&mut self.entries, items, from, me);
-        entries::learn(&mut self.entries, own, held);
-        self.sorted = false;
         self.notes.follow(own.dest);
-        self.notes.learn_items(items, from, me);
-        self.notes.learn(own, count);
+        self.notes.see(items);
+        learn_items(&mut self.entries, &mut self.notes, items, from, me);
+        learn(&mut self.entries, &mut self.notes, own, held);
+        self.sorted = false;
         self.room -= items.len() as u32 + 1;
     }
 
@@ -365,9 +388,9 @@ impl Log {
         ensures spare { self.old.spare ≤ self.new.spare + fin.len other.now.map }
     {
         self.make_room(other.entries.len())?;
-        entries::learn_entries(&mut self.entries, &other.entries);
-        self.sorted = false;
         self.notes.forget();
+        learn_entries(&mut self.entries, &mut self.notes, &other.entries);
+        self.sorted = false;
         self.room -= other.entries.len() as u32;
         Ok(())
     }

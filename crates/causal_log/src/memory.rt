@@ -1,10 +1,13 @@
 //! Stable storage in memory, for programs that need no device.
-ghost use Rattle.std.specs.Prelude.{◌≡◌, IfOk};
+ghost use Rattle.std.specs.Prelude.{◌≡◌, ◌≤◌, IfOk};
 ghost use Rattle.std.specs.FinMap as fin;
-ghost use Rattle.causal_log.specs.Slots.{first_of_slot};
+ghost use Rattle.indexmap.specs.IndexMap.{spare};
+ghost use Rattle.causal_log.specs.Inside.Ranks.{FillsSlot};
 
+use crate::ranks::is_below;
 use crate::stable::{PutFault, Stable};
 use causal_name::{Det, NoMemory, Slot};
+use indexmap::IndexMap;
 use std::alloc::Global;
 use std::collections::BTreeSet;
 use std::marker::Model;
@@ -13,6 +16,8 @@ use std::marker::Model;
 #[derive(Debug, Drop)]
 pub struct MemStable {
     dets: BTreeSet<Det>,
+    /// The least member that fills each slot.
+    slots: IndexMap<Slot, Det>,
 }
 
 impl Model for MemStable {
@@ -22,6 +27,7 @@ impl Model for MemStable {
     ghost use base.Stored.{coded_unit};
     ghost use Rattle.causal_log.specs.Knowledge.{coded_det};
     ghost use Rattle.causal_log.specs.Stores.{DetSet, set_of};
+    ghost use Rattle.causal_log.specs.Inside.Ranks.{AreSlots};
 
     ghost Value = { DetSet };
 
@@ -29,7 +35,7 @@ impl Model for MemStable {
 
     ghost view = { λ store. set_of store.dets.keys };
 
-    ghost invariant = { λ store. IsOrdered det_cmp store.dets };
+    ghost invariant = { λ store. IsOrdered det_cmp store.dets × AreSlots store.dets.keys store.slots.entries };
 }
 
 impl MemStable {
@@ -39,6 +45,7 @@ impl MemStable {
     {
         MemStable {
             dets: BTreeSet::new(alloc),
+            slots: IndexMap::new(alloc),
         }
     }
 }
@@ -49,9 +56,13 @@ impl Stable for MemStable {
     ghost faults = { λ store. 0 };
 
     fn put(&mut self, det: Det) -> Result<(), PutFault> {
+        if self.slots.reserve(1).is_err() {
+            return Err(PutFault::NoMemory);
+        }
         let Ok(_added) = self.dets.insert(det) else {
             return Err(PutFault::NoMemory);
         };
+        fill_slot(&mut self.slots, det);
         Ok(())
     }
 
@@ -72,7 +83,7 @@ impl Stable for MemStable {
     }
 
     fn least_of(&self, slot: Slot) -> Option<Det> {
-        first_member(&self.dets, slot)
+        self.slots.get(&slot).copied()
     }
 }
 
@@ -83,10 +94,17 @@ fn members(alloc: Global, dets: &BTreeSet<Det>) -> Result<Vec<Det>, NoMemory>
     Ok(dets.iter().copied().collect(alloc)?)
 }
 
-/// The first member that fills a slot.
-fn first_member(dets: &BTreeSet<Det>, slot: Slot) -> Option<Det>
-    ensures { result ≡ first_of_slot slot.dest slot.rsn dets.now.keys }
+/// Fills a determinant's slot, in room made before, unless a lesser one does.
+fn fill_slot(slots: &mut IndexMap<Slot, Det>, det: Det)
+    requires { 1 ≤ spare slots.old }
+    ensures { FillsSlot det slots.old.entries slots.new.entries }
 {
-    let mut members = dets.iter().copied();
-    members.find(|det| det.dest == slot.dest && det.rsn == slot.rsn)
+    let slot = det.slot();
+    let found = slots.get(&slot).copied();
+    if is_below(&det, found) {
+        match slots.insert(slot, det) {
+            Ok(_) => {}
+            Err(_) => unreachable!(),
+        }
+    }
 }

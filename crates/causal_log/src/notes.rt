@@ -1,22 +1,23 @@
 //! What a log notes of its entries, so that it need not read them all: which of them messages carry, and which delivery to
 //! its process is the last.
-ghost use Rattle.std.specs.Prelude.{◌≡◌, true, ◌<◌, ◌≤◌, ◌+◌, IsTrue, map};
+ghost use Rattle.std.specs.Prelude.{◌≡◌, true, ◌<◌, ◌≤◌, ◌+◌, IsTrue};
+ghost use Rattle.std.specs.FinMap as fin;
 ghost use Rattle.std.specs.FinSet as set;
 ghost use Rattle.causal_name.specs.Names.{same_pid};
-ghost use Rattle.causal_log.specs.Knowledge.{told};
 ghost use Rattle.causal_log.specs.declared.known.Known.{Known};
-ghost use Rattle.causal_log.specs.Logs.{LogMap, log_of};
-ghost use Rattle.causal_log.specs.Inside.Noted.{IsLast, IsNoted, Learn, LearnAll};
+ghost use Rattle.causal_log.specs.Knowledge.{joined};
+ghost use Rattle.causal_log.specs.Logs.{LogMap, log_of, is_chosen};
+ghost use Rattle.causal_log.specs.Inside.Noted.{IsLast, IsNoted, Learn};
 
 use crate::batch::Item;
-use crate::entries::carried_dets;
-use crate::known::{Known, told};
+use crate::entries::{carried_dets, is_chosen};
+use crate::known::Known;
 use causal_name::{Det, Pid};
 use indexmap::IndexMap;
 use std::alloc::Global;
 
-/// How many determinants are noted at least before the notes are made anew.
-const FEW: usize = 64;
+/// How many determinants are noted at least before the notes are cut.
+const FEW: usize = 16;
 
 /// What a log notes of its entries. Where there was no memory for it, or the entries changed in another way, it says
 /// nothing, and the log reads its entries until the notes are made anew.
@@ -31,7 +32,7 @@ pub(crate) struct Notes {
     last: u32,
     /// The most holders that an item of a message had: so many failures, or more, are borne.
     seen: u32,
-    /// The notes are made anew once more than these are noted.
+    /// The notes are cut once more than these are noted.
     most: usize,
 }
 
@@ -88,14 +89,33 @@ impl Notes {
         }
     }
 
-    /// Notes that a determinant is marked. It stays noted, and the notes are made anew the sooner.
+    /// Notes that messages carry one determinant less. It stays noted, and the notes are cut the sooner.
     pub(crate) fn expire(&mut self)
         ensures { (log : LogMap) → IsNoted self.old log → IsNoted self.new log }
     {
         self.most = self.most.saturating_sub(2);
     }
 
-    /// Notes that something is learned of a determinant, in which so many holders are named.
+    /// Whether a determinant of which this is known is to be noted.
+    fn notes(&self, known: &Known) -> bool {
+        self.limit > 0 && known.is_within(self.limit - 1)
+    }
+
+    /// What is known of a determinant that is logged once more is heard of it. It stays noted, and where messages carry it no
+    /// more the notes are cut the sooner.
+    pub(crate) fn join(&mut self, known: Known, heard: Known) -> Known
+        ensures joined { result ≡ joined known heard }
+        ensures noted { (log : LogMap) → IsNoted self.old log → IsNoted self.new log }
+    {
+        let noted = self.notes(&known);
+        let joined = known.joined(heard);
+        if noted && !self.notes(&joined) {
+            self.expire();
+        }
+        joined
+    }
+
+    /// Notes a determinant that was not logged, and of which so many holders are known now.
     pub(crate) fn learn(&mut self, det: Det, count: u32)
         ensures { (heard : Known) → set.len heard.holders ≡ count → Learn (det, heard) self.old self.new }
     {
@@ -113,48 +133,37 @@ impl Notes {
         }
     }
 
-    /// Notes that an item of a message is learned.
-    fn learn_item(&mut self, item: &Item, from: Pid, me: Pid)
-        ensures { Learn (told from me item.now) self.old self.new }
-    {
-        self.seen = self.seen.max(item.holders.len());
-        let (det, heard) = told(from, me, item);
-        self.learn(det, heard.holders.len());
-    }
-
-    /// Notes that the items of a message are learned.
-    pub(crate) fn learn_items(&mut self, items: &[Item], from: Pid, me: Pid)
-        ensures { LearnAll (map (told from me) items.now) self.old self.new }
+    /// Notes how many holders the items of a message have.
+    pub(crate) fn see(&mut self, items: &[Item])
+        ensures { (log : LogMap) → IsNoted self.old log → IsNoted self.new log }
     {
         for item in items {
-            self.learn_item(item, from, me);
+            self.seen = self.seen.max(item.holders.len());
         }
     }
 
     /// Notes what is to be noted of entries.
-    fn make(&mut self, few: Vec<Det>, last: u32, entries: usize)
+    fn make(&mut self, few: Vec<Det>, last: u32)
         ensures few { self.new.few.items ≡ few.items }
         ensures limit { self.new.limit ≤ self.old.seen + 1 }
         ensures dest { self.new.dest ≡ self.old.dest }
         ensures last { self.new.last ≡ last }
     {
-        self.most = few
-            .len()
-            .saturating_mul(2)
-            .saturating_add(entries / 512)
-            .saturating_add(FEW);
+        self.most = most_noted(few.len());
         self.limit = self.seen.saturating_add(1);
         self.last = last;
         self.few = few;
     }
 
-    /// Makes the notes of entries anew where too many are noted, or where they say nothing, and makes room for more. Where
-    /// there is no memory they say nothing.
+    /// Makes the notes of entries anew where they say nothing, cuts them where too many determinants are noted, and makes
+    /// room for more. Where there is no memory they say nothing.
     pub(crate) fn tidy(&mut self, entries: &IndexMap<Det, Known>, more: usize)
         ensures { IsNoted self.old (log_of entries.now.entries) → IsNoted self.new (log_of entries.now.entries) }
     {
-        if self.seen >= self.limit || self.few.len() > self.most {
+        if self.seen >= self.limit {
             self.renew(entries);
+        } else if self.few.len() > self.most {
+            self.cut(entries);
         }
         self.make_room(more);
     }
@@ -169,7 +178,20 @@ impl Notes {
             return;
         };
         let last = last_of(entries.keys().as_slice(), self.dest);
-        self.make(few, last, entries.len());
+        self.make(few, last);
+    }
+
+    /// Leaves out of the notes what messages carry no more.
+    fn cut(&mut self, entries: &IndexMap<Det, Known>)
+        ensures { IsNoted self.old (log_of entries.now.entries) → IsNoted self.new (log_of entries.now.entries) }
+    {
+        let failures = self.limit.saturating_sub(1);
+        self.few.retain(
+            |det: &Det| -> bool
+                ensures { result ≡ is_chosen failures (fin.get (log_of entries.entry.now.entries) det.now) }
+            { is_chosen(entries, *det, failures) },
+        );
+        self.most = most_noted(self.few.len());
     }
 
     /// Makes room for more to be noted.
@@ -180,6 +202,11 @@ impl Notes {
             self.limit = 0;
         }
     }
+}
+
+/// The most determinants to be noted before the notes are cut, where so many are noted now.
+fn most_noted(few: usize) -> usize {
+    few.saturating_mul(2).saturating_add(FEW)
 }
 
 /// The later of a number and that of a delivery, where it is one to this process.

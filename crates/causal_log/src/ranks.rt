@@ -8,7 +8,7 @@ ghost use Rattle.causal_log.specs.Inside.Ranks.{IsLeastOfSlot};
 use causal_name::{Det, Pid};
 
 /// Whether a determinant comes before the one that was found, where one was.
-fn is_below(det: &Det, found: Option<Det>) -> bool
+pub(crate) fn is_below(det: &Det, found: Option<Det>) -> bool
     ensures { result ≡ option_map_or (λ f. is_before det.now f) found true }
 {
     match found {

@@ -1,7 +1,7 @@
 //! Stable storage.
 ghost use Rattle.std.specs.Prelude.{◌≡◌, ◌+◌, ◌≤◌, ◌<◌, ◌-◌, ◌^◌, ℕ, true, Err, IfOk, OnOk, OnErr};
 ghost use Rattle.causal_log.specs.Slots.{first_of_slot};
-ghost use Rattle.causal_log.specs.Stores.{DetSet, with_det, has, count_in, dets_in};
+ghost use Rattle.causal_log.specs.Stores.{DetSet, with_det, has, count_in, dets_in, KeepsMember};
 
 use causal_name::{Det, NoMemory, Slot};
 use std::alloc::Global;
@@ -33,7 +33,7 @@ pub trait Stable: Drop {
         ensures err { OnErr result (contents self.new ≡ contents self.old) }
         ensures device { result ≡ Err PutFault.Device → faults self.new ≡ faults self.old + 1 }
         ensures kept { faults self.old ≤ faults self.new }
-        ensures member { has (contents self.old) det ≡ true → (contents self.new ≡ contents self.old) × (faults self.new ≡ faults self.old) };
+        ensures member { KeepsMember det (contents self.old) (contents self.new) (faults self.old) (faults self.new) };
 
     /// Whether a determinant is in the set.
     fn contains(&self, det: Det) -> bool

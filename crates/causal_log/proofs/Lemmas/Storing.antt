@@ -90,3 +90,13 @@ stored s d other =
 -- a store that counts no member is empty
 pub none_stored : (s : DetSet) → count_in s ≡ 0 → s ≡ fin.empty
 none_stored s h = fin.empty_of_len s h
+
+-- the determinants of an ascending list into which one is put
+pub among_put : (ds : List Det) (d q : Det) → IsStrictlySortedBy det_cmp ds → IsStrictlySortedBy det_cmp (insert_key det_cmp ds d)
+    → list_any (same_det q) (insert_key det_cmp ds d) ≡ (same_det q d || list_any (same_det q) ds)
+among_put ds d q ascend new =
+    ap (list_any (same_det q)) (sym (dets_set (insert_key det_cmp ds d) new))
+    ∙ sym (listed (set_of (insert_key det_cmp ds d)) q)
+    ∙ ap (λ s. has s q) (with_det_set ds d ascend new)
+    ∙ stored (set_of ds) d q
+    ∙ ap (λ b. same_det q d || b) (listed (set_of ds) q ∙ ap (list_any (same_det q)) (dets_set ds ascend))

@@ -1,5 +1,5 @@
 -- What a log notes of its entries, so that it need not read them all.
-use Rattle.std.specs.Prelude.{◌≡◌, ℕ, true, List, [], ◌∷◌, ◌<◌, ◌≤◌, is_some}
+use Rattle.std.specs.Prelude.{◌≡◌, ℕ, true, List, ◌<◌, ◌≤◌, is_some}
 use Rattle.std.specs.List.{list_any}
 use Rattle.std.specs.FinMap as fin
 use Rattle.std.specs.FinSet as set
@@ -35,8 +35,3 @@ pub record GoOn (e : Det × Known) (before after : Notes) : Type 0 where
 
 abbrev pub Learn : Det × Known → Notes → Notes → Type 0
 Learn e before after = 0 < after.limit → GoOn e before after
-
--- and once these are learned, one after the other
-abbrev pub LearnAll : List (Det × Known) → Notes → Notes → Type 0
-LearnAll [] before after = before ≡ after
-LearnAll (e ∷ es) before after = (between : Notes) × Learn e before between × LearnAll es between after

@@ -1,6 +1,5 @@
-use Rattle.std.proofs.Common.{◌≡◌, ◌∙◌, ap, sym, cond, Some, None}
+use Rattle.std.proofs.Common.{◌∙◌, ap, sym, cond, Some, None}
 use Rattle.std.specs.Option.{option_copied}
-use Rattle.std.specs.FinMap as fin
 use Rattle.causal_log.specs.Knowledge.{is_carried}
 use Rattle.causal_log.specs.Logs.{log_of}
 use Rattle.causal_log.specs.Inside.Parts.{copied}

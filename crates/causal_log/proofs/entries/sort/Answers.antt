@@ -1,4 +1,3 @@
-use Rattle.std.proofs.Common.{◌∙◌, sym}
 use Rattle.causal_log.proofs.EntryLemmas.{same_log, ascending_log}
 use Rattle.causal_log.proofs.entries.sort.Goals as goal
 

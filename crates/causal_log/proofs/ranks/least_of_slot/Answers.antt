@@ -1,6 +1,5 @@
-use Rattle.std.proofs.Common.{◌≡◌, ◌∙◌, take, sym, subst}
+use Rattle.std.proofs.Common.{◌∙◌, take, sym, subst}
 use Rattle.std.proofs.lemmas.List.{take_more}
-use Rattle.causal_log.specs.Slots.{is_of_slot}
 use Rattle.causal_log.specs.Inside.Ranks.{IsLeastOfSlot}
 use Rattle.causal_log.proofs.Lemmas.Searches.{both}
 use Rattle.causal_log.proofs.RankLemmas.{less, more, not_both}

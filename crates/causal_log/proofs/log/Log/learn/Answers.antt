@@ -5,14 +5,14 @@ use Rattle.causal_name.specs.Names.{is_ascending}
 use Rattle.causal_log.specs.Knowledge.{nothing_known, joined}
 use Rattle.causal_log.specs.Logs.{log_of, learned}
 use Rattle.causal_log.specs.Inside.Noted.{IsNoted}
-use Rattle.causal_log.proofs.NoteLemmas.{noted_learned}
+use Rattle.causal_log.proofs.NoteLemmas.{noted_learned, noted_more}
 use Rattle.causal_log.proofs.log.Log.learn.Goals.{After-put_at}
 use Rattle.causal_log.proofs.log.Log.learn.Goals as goal
 
 changed : (c : After-put_at) → log_of c.put_at.new.entries.entries ≡ learned (log_of c.self.inside.entries.entries) c.args.det c.args.heard
 changed c =
     c.put_at.ensures.put c.args.det c.in-Some.known c.in-Some.ensures.place
-    ∙ ap (fin.insert (log_of c.self.inside.entries.entries) c.args.det) (c.joined.ensures ∙ ap (λ o. joined (unwrap_or o nothing_known) c.args.heard) c.in-Some.ensures.known)
+    ∙ ap (fin.insert (log_of c.self.inside.entries.entries) c.args.det) (c.join-joined.ensures.joined ∙ ap (λ o. joined (unwrap_or o nothing_known) c.args.heard) c.in-Some.ensures.known)
 
 pub invariant_of-self : goal.invariant_of-self
 invariant_of-self c = record {
@@ -20,8 +20,8 @@ invariant_of-self c = record {
   ascending = λ h. ap is_ascending c.put_at.ensures.keys ∙ c.self.invariant.ascending h;
   few = omega (arith, ap length c.put_at.ensures.keys, c.self.invariant.few);
   sure = omega (arith, c.put_at.ensures.spare, c.self.invariant.sure);
-  noted = subst (IsNoted c.learn.new.self) (sym (changed (goal.at.invariant_of-self c).After-put_at))
-      (noted_learned c.self.inside.notes c.learn.new.self (log_of c.self.inside.entries.entries) (c.args.det, c.args.heard) c.self.invariant.noted (c.learn.ensures c.args.heard (sym c.len-count.ensures.counted)));
+  noted = subst (IsNoted c.join-joined.new.self) (sym (changed (goal.at.invariant_of-self c).After-put_at))
+      (noted_more c.join-joined.new.self (log_of c.self.inside.entries.entries) c.args.det c.in-Some.known c.args.heard (sym c.in-Some.ensures.known) (c.join-joined.ensures.noted (log_of c.self.inside.entries.entries) c.self.invariant.noted));
 }
 
 pub returns-in-Some-clause-ok : goal.returns-in-Some-clause-ok
@@ -35,6 +35,6 @@ invariant_of-self-2 c =
       ascending = λ h. absurd (true≢false (sym h));
       few = omega (arith, room, c.in_ok-make_room.ensures.ok, c.self-2.invariant.few, c.add.ensures.len, length-map c.self-2.inside.entries.entries (λ e. e.0), length-map c.add.new.entries.entries (λ e. e.0));
       sure = omega (arith, c.self-2.invariant.sure, c.add.ensures.spare);
-      noted = subst (IsNoted c.learn-2.new.self) (sym c.add.ensures.learned)
-          (noted_learned c.self-2.inside.notes c.learn-2.new.self (log_of c.self-2.inside.entries.entries) (c.args.det, c.args.heard) c.self-2.invariant.noted (c.learn-2.ensures c.args.heard (sym c.len-count.ensures.counted)));
+      noted = subst (IsNoted c.learn.new.self) (sym c.add.ensures.learned)
+          (noted_learned c.self-2.inside.notes c.learn.new.self (log_of c.self-2.inside.entries.entries) (c.args.det, c.args.heard) c.self-2.invariant.noted (c.learn.ensures c.args.heard (sym c.len-count.ensures.counted)));
     }

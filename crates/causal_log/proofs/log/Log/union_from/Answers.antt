@@ -1,9 +1,7 @@
-use Rattle.std.proofs.Common.{◌≡◌, ◌∙◌, ap, sym, true≢false, arith}
-use Rattle.std.proofs.lemmas.List.{length-map}
+use Rattle.std.proofs.Common.{◌∙◌, ap, sym, arith}
 use Rattle.std.specs.FinMap as fin
-use Rattle.causal_log.specs.Logs.{log_of, learned_all, united}
+use Rattle.causal_log.specs.Logs.{log_of, united}
 use Rattle.causal_log.proofs.PlaceLemmas.{same_length, same_learned}
-use Rattle.causal_log.proofs.NoteLemmas.{nothing_noted}
 use Rattle.causal_log.proofs.log.Log.union_from.Goals as goal
 
 pub returns-in_err-make_room-clause-succeeds : goal.returns-in_err-make_room-clause-succeeds

@@ -6,4 +6,4 @@ use Rattle.causal_log.proofs.memory.MemStableStable.all.Goals as goal
 
 pub returns : goal.returns
 returns c =
-    IfOk-weaker c.members.result _ _ (λ dets is. is ∙ sym (dets_set c.self.inside.dets.keys c.self.invariant) ∙ ap dets_in c.self.view_is) c.members.ensures
+    IfOk-weaker c.members.result _ _ (λ dets is. is ∙ sym (dets_set c.self.inside.dets.keys c.self.invariant.0) ∙ ap dets_in c.self.view_is) c.members.ensures
