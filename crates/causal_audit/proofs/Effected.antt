@@ -1,6 +1,6 @@
 -- What entries do to deliveries, from the lists by which it is kept.
 use Rattle.std.proofs.Common.{ℕ, zero, suc, ◌≡◌, ◌+◌, ◌-◌, ◌<◌, ◌≤◌, inl, inr, true, false, List, [], ◌∷◌, length, map, get_or, Option, Some, None, refl, sym, ap, subst, ◌∙◌, arith, length-drop}
-use Rattle.std.specs.Prelude.{◌⊎◌, ◌==◌, slice_index, Contains}
+use Rattle.std.specs.Prelude.{◌≢◌, ◌⊎◌, ◌==◌, slice_index, Contains}
 use Rattle.std.specs.List.{All, slice_get}
 use Rattle.std.specs.List.Sorted.{IsNonDecreasing}
 use Rattle.std.proofs.Math.ListN.{get_or-eq_default}
@@ -15,18 +15,18 @@ use Rattle.causal_trace.specs.declared.entry.Entry.{Entry}
 use Rattle.causal_trace.specs.declared.entry.Entry.TheVariants.{Send, Deliver, Stable, Crash, Restart, Forget}
 use Rattle.causal_trace.specs.Past.{instant, is_down, lane, det_at, has, deliveries_in}
 use Rattle.causal_trace.specs.Rows.{Recording, IsWellFormed, AreAccepted}
-use Rattle.causal_trace.specs.Dependence.{IsEventOf, Reaches, Depends}
+use Rattle.causal_trace.specs.Dependence.{IsEventOf, Delivers, Reaches, Depends, is_delivery_of}
 use Rattle.causal_trace.specs.State.{entries_of}
 use Rattle.causal_trace.proofs.Lemmas.Accepted.{delivers_up}
 use Rattle.causal_trace.proofs.Lemmas.AtInstants.{accepted_then, instant_length, det_then}
 use Rattle.causal_clock.specs.declared.Event.{Event}
-use Rattle.causal_clock.specs.Timeline.{lane_of}
+use Rattle.causal_clock.specs.Timeline.{lane_of, send_of}
 use Rattle.causal_clock.specs.Precedence as clock
 use Rattle.causal_audit.specs.Inside.Filed.{list_at}
 use Rattle.causal_audit.specs.Inside.Rises.{AreRisen}
 use Rattle.causal_audit.specs.Inside.Rooms.{AreEffects, IsReceiver, is_among}
 use Rattle.causal_audit.specs.Inside.Sharing.{AreFirstOnes, AreShared, numbers_in}
-use Rattle.causal_audit.specs.Numbers.{IsNumbered, ArePositions}
+use Rattle.causal_audit.specs.Numbers.{IsNumbered, ArePositions, is_delivery}
 use Rattle.causal_audit.specs.Quiet.{mentioned_by}
 use Rattle.causal_audit.specs.Inside.Stands.{Stands}
 use Rattle.causal_audit.proofs.Changed.{event_then}
@@ -79,6 +79,32 @@ module _ (past : List Entry) (positions : List ℕ) (are : ArePositions past pos
 
   position_is : (i k : ℕ) → IsNumbered past i k → slice_index positions i ≡ k
   position_is i k numbered = numbered_one past i (slice_index positions i) k (are.each i (numbered_low i k numbered)) numbered
+
+-- each receive of the clock stands for a delivery
+is_some : (of : Option ℕ) → of ≢ None → (i : ℕ) × (of ≡ Some i)
+is_some None none = absurd (none refl)
+is_some (Some i) some = (i, refl)
+
+delivering : (e : Entry) (i : ℕ) → is_delivery_of i e ≡ true → is_delivery e ≡ true
+delivering (Deliver to send rsn listed) i h = refl
+delivering (Send from to ssn) i h = absurd (false≢true h)
+delivering (Stable det) i h = absurd (false≢true h)
+delivering (Crash who) i h = absurd (false≢true h)
+delivering (Restart who listed) i h = absurd (false≢true h)
+delivering (Forget who listed) i h = absurd (false≢true h)
+
+number_of_delivered : (past : List Entry) (j i : ℕ) → Delivers past j i → (m : ℕ) × IsNumbered past m j
+number_of_delivered [] j i at = absurd at
+number_of_delivered (e ∷ past) j i (inl at) = let older = number_of_delivered past j i at in (older.0, inl older.1)
+number_of_delivered (e ∷ past) j i (inr at) = (deliveries_in past, inr (at.0, delivering e i at.1, refl))
+
+pub receives_are : (past : List Entry) (positions : List ℕ) → ArePositions past positions → (events : List Event) → Stands past events
+    → (j : ℕ) → j < length events → send_of events j ≢ None → Contains positions j
+receives_are past positions are events stands j below received =
+    let sent = is_some (send_of events j) received in
+    let at = number_of_delivered past j sent.0 ((stands.receives j sent.0 (omega (arith, below, stands.count))).0 sent.1) in
+    let low = numbered_low past positions are at.0 j at.1 in
+    (at.0, low, get_or_default positions at.0 j 0 low ∙ position_is past positions are at.0 j at.1)
 
 -- the positions of a run up to an instant are of deliveries of the run
 pub positions_deliver : (n : ℕ) (past : List Entry) (t : ℕ) → AreAccepted n past → t ≤ length past → (positions : List ℕ) → ArePositions (instant past t) positions → (i : ℕ) → i < length positions → det_at past (slice_index positions i) ≡ None → ⊥

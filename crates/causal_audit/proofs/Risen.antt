@@ -1,46 +1,64 @@
--- Which deliveries newly reach a delivery, by the clock: one more lane, and one more delivery.
-use Rattle.std.proofs.Common.{ℕ, ◌≡◌, ◌≢◌, ◌+◌, ◌-◌, ◌<◌, ◌≤◌, inl, inr, List, [], ◌∷◌, ◌++◌, length, take, drop, replicate, refl, sym, ap, subst, ◌∙◌, arith, length-drop}
-use Rattle.std.specs.Prelude.{◌⊎◌, slice_index, slice_set, Contains}
+-- Which deliveries newly reach a delivery, by the rises of the clock.
+use Rattle.std.proofs.Common.{ℕ, zero, suc, ◌≡◌, ◌≢◌, ◌+◌, ◌-◌, ◌<◌, ◌≤◌, inl, inr, List, [], ◌∷◌, ◌++◌, length, take, drop, None, refl, sym, ap, subst, ◌∙◌, arith, length-append, length-drop, eq-eqb, ne_eqb}
+use Rattle.std.specs.Prelude.{◌⊎◌, ◌==◌, slice_index, slice_set, Contains}
 use Rattle.std.specs.List.{All}
 use Rattle.std.specs.List.Sorted.{IsNonDecreasing}
-use Rattle.std.proofs.Math.ListN.{get_or-eq_default}
+use Rattle.std.proofs.Math.ListN.{get_or-eq_default, get_or-append}
+use Rattle.std.proofs.Math.Seq.{get_or-append_seam}
 use Rattle.std.proofs.lemmas.Bool.{cases_lt}
 use Rattle.std.proofs.lemmas.Bool.Decides.{eqb_tells}
-use Rattle.std.proofs.lemmas.List.{get_or_default, get_or-take, get_or-drop, get_or-set_same, get_or-set_other, get_or-replicate, length-replicate, length-set, length-take}
+use Rattle.std.proofs.lemmas.List.{get_or_default, get_or-take, get_or-drop, get_or-set_same, get_or-set_other, length-set, length-take}
 use Rattle.std.proofs.lemmas.List.Elements.{All-weaker, Contains-append_left, Contains-append_right, Contains-append_cases}
+use Rattle.std.proofs.lemmas.List.Sums.{count_by_more_no, count_by_more_yes}
 use Rattle.causal_clock.specs.declared.Event.{Event}
-use Rattle.causal_clock.specs.Timeline.{lane_of}
-use Rattle.causal_clock.specs.Precedence.{DirectlyPrecedes, Reaches, itself, onward}
+use Rattle.causal_clock.specs.declared.Rise.{Rise}
+use Rattle.causal_clock.specs.Timeline.{Timeline, lane_of, lane_length, place_of}
+use Rattle.causal_clock.specs.Precedence.{Reaches, itself, onward}
+use Rattle.causal_clock.specs.Rises.{AreRises, rise_at}
+use Rattle.causal_clock.proofs.Lemmas.Counted.{rise_counts, count_risen}
 use Rattle.causal_audit.specs.Inside.Filed.{Ascends, list_at, with_added}
-use Rattle.causal_audit.specs.Inside.Rises.{AddsReached, AreCounts, AreDeliveryLanes, AreKnown, AreRisen, IsCounted, WasReached}
+use Rattle.causal_audit.specs.Inside.Rises.{AreDeliveryLanes, AreEventLanes, AreKept, AreLaid, AreOwn, AreRisen, AreSound, HasRisen, IsRisenAt, IsWalked, WasReached, place_in, risen_event}
 use Rattle.causal_audit.proofs.Filings.{added_has, added_keeps, added_cases, added_ascend, ascend_weaker}
 use Rattle.causal_audit.proofs.Sharings.{nothing}
 
 -- ---- the clock
 
-joined : {events : List Event} {i j k : ℕ} → Reaches events i j → Reaches events j k → Reaches events i k
-joined r (itself h) = r
-joined r (onward s d) = onward (joined r s) d
-
 pub clock_forward : {events : List Event} {i j : ℕ} → Reaches events i j → i ≤ j
 clock_forward (itself h) = omega arith
 clock_forward (onward r d) = omega (arith, clock_forward r, d.earlier)
 
--- where a later event of a lane reaches v, an earlier one does
-pub earlier_too : (events : List Event) (i j v : ℕ) → i ≤ j → j < length events → lane_of events i ≡ lane_of events j → Reaches events j v → Reaches events i v
-earlier_too events i j v low inside same reach =
-    elim (cases_lt i j) [
-      | inl less ↦
-          let first : Reaches events i i = itself (omega (arith, less, inside)) in
-          let next : DirectlyPrecedes events i j = record { earlier = less; within = inside; because = inl same } in
-          joined (onward first next) reach
-      | inr least ↦ let is : j ≡ i = omega (arith, least, low) in subst (λ k. Reaches events k v) is reach
+-- a lane after one more event
+lane_step : (events : List Event) (i m : ℕ) → i < length events
+    → ((lane_of events i ≡ m) × (lane_length (take (i + 1) events) m ≡ lane_length (take i events) m + 1))
+    ⊎ ((lane_of events i ≢ m) × (lane_length (take (i + 1) events) m ≡ lane_length (take i events) m))
+lane_step events i m inside =
+    elim (eqb_tells (lane_of events i) m) [
+      | inl here ↦ inl (here.1, count_by_more_yes (λ e. e.lane == m) events i (record { lane = 0; send = None }) inside (eq-eqb (lane_of events i) m here.1))
+      | inr other ↦ inr (other.1, count_by_more_no (λ e. e.lane == m) events i (record { lane = 0; send = None }) inside (ne_eqb (lane_of events i) m other.1))
     ]
+
+-- a lane has no fewer events later
+longer : (events : List Event) (m i k : ℕ) → i + k ≤ length events → lane_length (take i events) m ≤ lane_length (take (i + k) events) m
+longer events m i zero within = let same : i ≡ i + 0 = omega arith in omega (arith, ap (λ n. lane_length (take n events) m) same)
+longer events m i (suc k) within =
+    let before = longer events m i k (omega (arith, within)) in
+    let next : i + k + 1 ≡ i + suc k = omega arith in
+    elim (lane_step events (i + k) m (omega (arith, within))) [
+      | inl here ↦ omega (arith, before, here.1, ap (λ n. lane_length (take n events) m) next)
+      | inr other ↦ omega (arith, before, other.1, ap (λ n. lane_length (take n events) m) next)
+    ]
+
+-- a later event of a lane has no lower place
+places_ascend : (events : List Event) (i j : ℕ) → i ≤ j → j < length events → lane_of events i ≡ lane_of events j → place_of events i ≤ place_of events j
+places_ascend events i j order inside same =
+    let there : i + (j - i) ≡ j = omega (arith, order) in
+    let more = longer events (lane_of events i) i (j - i) (omega (arith, order, inside)) in
+    omega (arith, more, ap (λ n. lane_length (take n events) (lane_of events i)) there, ap (lane_length (take j events)) same)
 
 -- ---- elements by their places
 
-pub place_of : (xs : List ℕ) (i : ℕ) → Contains xs i → (j : ℕ) × (j < length xs) × (slice_index xs j ≡ i)
-place_of xs i has = (has.0, has.1, sym (get_or_default xs has.0 i 0 has.1) ∙ has.2)
+place_of_element : (xs : List ℕ) (i : ℕ) → Contains xs i → (j : ℕ) × (j < length xs) × (slice_index xs j ≡ i)
+place_of_element xs i has = (has.0, has.1, sym (get_or_default xs has.0 i 0 has.1) ∙ has.2)
 
 pub contains_at : (xs : List ℕ) (j : ℕ) → j < length xs → Contains xs (slice_index xs j)
 contains_at xs j below = (j, below, get_or_default xs j (slice_index xs j) 0 below)
@@ -53,7 +71,7 @@ taken_has xs n j i low below is = contains_place (take n xs) j i (omega (arith, 
 
 taken_from : (xs : List ℕ) (n i : ℕ) → Contains (take n xs) i → (j : ℕ) × (j < n) × (j < length xs) × (slice_index xs j ≡ i)
 taken_from xs n i has =
-    let at = place_of (take n xs) i has in
+    let at = place_of_element (take n xs) i has in
     let low : at.0 < n = omega (arith, at.1, length-take n xs) in
     (at.0, low, omega (arith, at.1, length-take n xs), sym (get_or-take n xs at.0 0 low) ∙ at.2)
 
@@ -71,124 +89,6 @@ module _ (xs : List ℕ) (known count : ℕ) (low : known ≤ count) (high : cou
   part_from i has =
       let at = taken_from (drop known xs) (count - known) i has in
       (known + at.0, omega arith, omega (arith, at.1, low), sym (get_or-drop known xs at.0 0) ∙ at.3)
-
--- ---- one more lane
-
-module _ (positions : List ℕ) (events : List Event) (within : All (λ k. k < length events) positions) (ascending : IsNonDecreasing positions) (lanes : List (List ℕ))
-    (are : AreDeliveryLanes positions events (length positions) lanes) (a : ℕ) (there : a < length lanes) (v known count : ℕ) (low : known ≤ count) (high : count ≤ length (list_at lanes a))
-    (old row : List ℕ) (added : row ≡ old ++ take (count - known) (drop known (list_at lanes a)))
-    (reached : (j : ℕ) → known ≤ j → j < count → Reaches events (slice_index positions (slice_index (list_at lanes a) j)) v)
-    (stopped : count < length (list_at lanes a) → Reaches events (slice_index positions (slice_index (list_at lanes a) count)) v → ⊥) where
-  abbrev lane : List ℕ
-  lane = list_at lanes a
-
-  ascends : Ascends (length positions) lane
-  ascends = are.ascend a [] there
-
-  below_of : (j : ℕ) → j < length lane → slice_index lane j < length positions
-  below_of j below = ascends.below j 0 below
-
-  lane_kept : (i : ℕ) → Contains old i → Contains row i
-  lane_kept i has = subst (λ xs. Contains xs i) (sym added) (Contains-append_left old (part lane known count low high) i has)
-
-  lane_sound : (i : ℕ) → Contains row i → Contains old i ⊎ ((i < length positions) × Reaches events (slice_index positions i) v)
-  lane_sound i has =
-      elim (Contains-append_cases old (part lane known count low high) i (subst (λ xs. Contains xs i) added has)) [
-        | inl before ↦ inl before
-        | inr new ↦
-            let at = part_from lane known count low high i new in
-            inr (omega (arith, at.3, below_of at.0 (omega (arith, at.2, high))), subst (λ x. Reaches events (slice_index positions x) v) at.3 (reached at.0 at.1 at.2))
-      ]
-
-  lane_complete : (i : ℕ) → Contains lane i → Reaches events (slice_index positions i) v → Contains row i ⊎ Contains (take known lane) i
-  lane_complete i has reach =
-      let at = place_of lane i has in
-      elim (cases_lt at.0 known) [
-        | inl early ↦ inr (taken_has lane known at.0 i early at.1 at.2)
-        | inr late ↦ elim (cases_lt at.0 count) [
-          | inl new ↦ inl (subst (λ xs. Contains xs i) (sym added) (Contains-append_right old (part lane known count low high) i (part_has lane known count low high at.0 i late new at.2)))
-          | inr beyond ↦
-              let inside : count < length lane = omega (arith, beyond, at.1) in
-              let one = slice_index positions (slice_index lane count) in
-              let order : one ≤ slice_index positions (slice_index lane at.0) = ascending (slice_index lane count) (slice_index lane at.0) 0 (ascends.ascending count at.0 0 beyond at.1) (below_of at.0 at.1) in
-              let same : lane_of events one ≡ lane_of events (slice_index positions (slice_index lane at.0)) = are.inside a (slice_index lane count) (contains_at lane count inside) ∙ sym (are.inside a (slice_index lane at.0) (contains_at lane at.0 at.1)) in
-              let other : slice_index positions (slice_index lane at.0) < length events = within (slice_index lane at.0) 0 (below_of at.0 at.1) in
-              absurd (stopped inside (earlier_too events one (slice_index positions (slice_index lane at.0)) v order other same (subst (λ x. Reaches events (slice_index positions x) v) (sym at.2) reach)))
-        ]
-      ]
-
-  lane_counted : (i : ℕ) → Contains (take count lane) i → Contains (take known lane) i ⊎ Reaches events (slice_index positions i) v
-  lane_counted i has =
-      let at = taken_from lane count i has in
-      elim (cases_lt at.0 known) [
-        | inl early ↦ inl (taken_has lane known at.0 i early at.2 at.3)
-        | inr late ↦ inr (subst (λ x. Reaches events (slice_index positions x) v) at.3 (reached at.0 late at.1))
-      ]
-
-  module _ (first before after : List ℕ) (adds : AddsReached positions events lanes a v first old before after) (is_before : slice_index before a ≡ known) (is_after : slice_index after a ≡ known) where
-    counts_there : a < length after
-    counts_there = omega (arith, there, adds.counts.paired)
-
-    set_here : (m : ℕ) → m ≡ a → slice_index (slice_set after a count) m ≡ count
-    set_here m is = ap (slice_index (slice_set after a count)) is ∙ get_or-set_same after a count 0 counts_there
-
-    set_there : (m : ℕ) → m ≢ a → slice_index (slice_set after a count) m ≡ slice_index after m
-    set_there m apart = get_or-set_other after a m count 0 apart
-
-    abbrev Counted : List ℕ → ℕ → ℕ → Type 0
-    Counted counts m i = IsCounted lanes counts m i
-
-    few_more : (m : ℕ) → m < length lanes → slice_index (slice_set after a count) m ≤ length (list_at lanes m)
-    few_more m below =
-        elim (eqb_tells m a) [
-          | inl here ↦ subst (λ x. slice_index (slice_set after a count) x ≤ length (list_at lanes x)) (sym here.1) (omega (arith, set_here a refl, high))
-          | inr other ↦ omega (arith, set_there m other.1, adds.counts.few m below)
-        ]
-
-    complete_here : (m i : ℕ) → m ≡ a → Contains (list_at lanes m) i → Reaches events (slice_index positions i) v → Contains row i ⊎ IsCounted lanes before m i
-    complete_here m i is has reach =
-        elim (lane_complete i (subst (λ x. Contains (list_at lanes x) i) is has) reach) [
-          | inl new ↦ inl new
-          | inr was ↦ inr (subst (λ x. IsCounted lanes before x i) (sym is) (subst (λ n. Contains (take n lane) i) (sym is_before) was))
-        ]
-
-    counted_here : (m i : ℕ) → m ≡ a → IsCounted lanes (slice_set after a count) m i → IsCounted lanes before m i ⊎ Reaches events (slice_index positions i) v
-    counted_here m i is has =
-        let now : Contains (take (slice_index (slice_set after a count) a) lane) i = subst (λ x. IsCounted lanes (slice_set after a count) x i) is has in
-        elim (lane_counted i (subst (λ n. Contains (take n lane) i) (set_here a refl) now)) [
-          | inl was ↦ inl (subst (λ x. IsCounted lanes before x i) (sym is) (subst (λ n. Contains (take n lane) i) (sym is_before) was))
-          | inr new ↦ inr new
-        ]
-
-    pub adds_more : AddsReached positions events lanes (a + 1) v first row before (slice_set after a count)
-    adds_more = record {
-      counts = record { paired = length-set after a count ∙ adds.counts.paired; few = few_more };
-      kept = λ i has. lane_kept i (adds.kept i has);
-      sound = λ i has. elim (lane_sound i has) [
-        | inl was ↦ adds.sound i was
-        | inr new ↦ inr new
-      ];
-      complete = λ m i below has reach. elim (eqb_tells m a) [
-        | inl here ↦ complete_here m i here.1 has reach
-        | inr other ↦ elim (adds.complete m i (omega (arith, below, other.1)) has reach) [
-          | inl was ↦ inl (lane_kept i was)
-          | inr counted ↦ inr counted
-        ]
-      ];
-      counted = λ m i below has. elim (eqb_tells m a) [
-        | inl here ↦ counted_here m i here.1 has
-        | inr other ↦ adds.counted m i below (subst (λ n. Contains (take n (list_at lanes m)) i) (set_there m other.1) has)
-      ];
-    }
-
-pub adds_none : (positions : List ℕ) (events : List Event) (lanes : List (List ℕ)) (v : ℕ) (row counts : List ℕ) → AreCounts lanes counts → AddsReached positions events lanes 0 v row row counts counts
-adds_none positions events lanes v row counts are = record {
-  counts = are;
-  kept = λ i has. has;
-  sound = λ i has. inl has;
-  complete = λ m i below has reach. absurd (omega (arith, below));
-  counted = λ m i below has. inl has;
-}
 
 -- ---- lanes of deliveries
 
@@ -216,133 +116,372 @@ delivery_more positions events i m lanes is there are = record {
   ];
 }
 
--- ---- one more delivery
+-- ---- lanes of events
 
-was_later : (positions : List ℕ) (events : List Event) (count lane i : ℕ) → WasReached positions events count lane i → WasReached positions events (count + 1) lane i
-was_later positions events count lane i was = record { number = was.number; earlier = omega (arith, was.earlier); here = was.here; reached = was.reached }
-
-module _ (positions : List ℕ) (events : List Event) (lanes : List (List ℕ)) (are : AreDeliveryLanes positions events (length positions) lanes) (j : ℕ) (inside : j < length positions)
-    (risen known : List (List ℕ)) (rises : AreRisen positions events j risen) (knows : AreKnown positions events lanes j known)
-    (v q : ℕ) (here : slice_index positions j ≡ v) (lane : lane_of events v ≡ q) (v_there : v < length risen) (q_there : q < length known) (row counts : List ℕ)
-    (adds : AddsReached positions events lanes (length lanes) v (list_at risen v) row (list_at known q) counts) where
-  row_here : (w : ℕ) → w ≡ v → list_at (slice_set risen v row) w ≡ row
-  row_here w is = ap (list_at (slice_set risen v row)) is ∙ get_or-set_same risen v row [] v_there
-
-  row_there : (w : ℕ) → w ≢ v → list_at (slice_set risen v row) w ≡ list_at risen w
-  row_there w apart = get_or-set_other risen v w row [] apart
-
-  row_keeps : (w i : ℕ) → Contains (list_at risen w) i → Contains (list_at (slice_set risen v row) w) i
-  row_keeps w i has =
-      elim (eqb_tells w v) [
-        | inl is ↦ subst (λ xs. Contains xs i) (sym (row_here w is.1)) (adds.kept i (subst (λ x. Contains (list_at risen x) i) is.1 has))
-        | inr other ↦ subst (λ xs. Contains xs i) (sym (row_there w other.1)) has
-      ]
-
-  sound_here : (i : ℕ) → Contains row i → (i < length positions) × Contains positions v × Reaches events (slice_index positions i) v
-  sound_here i has =
-      elim (adds.sound i has) [
-        | inl was ↦ rises.sound v i was
-        | inr new ↦ (new.0, contains_place positions j v inside here, new.1)
-      ]
-
-  sound_more : (w i : ℕ) → Contains (list_at (slice_set risen v row) w) i → (i < length positions) × Contains positions w × Reaches events (slice_index positions i) w
-  sound_more w i has =
-      elim (eqb_tells w v) [
-        | inl is ↦
-            subst (λ x. (i < length positions) × Contains positions x × Reaches events (slice_index positions i) x) (sym is.1)
-            (sound_here i (subst (λ xs. Contains xs i) (row_here w is.1) has))
-        | inr other ↦ rises.sound w i (subst (λ xs. Contains xs i) (row_there w other.1) has)
-      ]
-
-  lane_there : (m i : ℕ) → Contains (list_at lanes m) i → m < length lanes
-  lane_there m i has =
-      elim (cases_lt m (length lanes)) [
-        | inl low ↦ low
-        | inr high ↦ let none : list_at lanes m ≡ [] = get_or-eq_default lanes [] high in absurd (omega (arith, has.1, ap length none))
-      ]
-
-  found_here : (i : ℕ) → i < length positions → Reaches events (slice_index positions i) v → Contains row i ⊎ WasReached positions events j q i
-  found_here i below reach =
-      let m = lane_of events (slice_index positions i) in
-      let mine : Contains (list_at lanes m) i = are.each i below in
-      let there : m < length lanes = lane_there m i mine in
-      elim (adds.complete m i there mine reach) [
-        | inl new ↦ inl new
-        | inr counted ↦ inr (knows.reached q m i q_there there counted)
-      ]
-
-  found_more : (h i : ℕ) → h < j + 1 → i < length positions → Reaches events (slice_index positions i) (slice_index positions h)
-      → Contains (list_at (slice_set risen v row) (slice_index positions h)) i ⊎ WasReached positions events h (lane_of events (slice_index positions h)) i
-  found_more h i low below reach =
-      elim (cases_lt h j) [
-        | inl early ↦ elim (rises.complete h i early below reach) [
-          | inl has ↦ inl (row_keeps (slice_index positions h) i has)
-          | inr was ↦ inr was
-        ]
-        | inr late ↦
-            let same : h ≡ j = omega (arith, late, low) in
-            let at : slice_index positions h ≡ v = ap (slice_index positions) same ∙ here in
-            elim (found_here i below (subst (Reaches events (slice_index positions i)) at reach)) [
-              | inl has ↦ inl (subst (λ xs. Contains xs i) (sym (row_here (slice_index positions h) at)) has)
-              | inr was ↦ inr (subst (λ x. WasReached positions events x (lane_of events (slice_index positions h)) i) (sym same) (subst (λ x. WasReached positions events j x i) (sym (ap (lane_of events) at ∙ lane)) was))
-            ]
-      ]
-
-  pub risen_more : AreRisen positions events (j + 1) (slice_set risen v row)
-  risen_more = record { counted = length-set risen v row ∙ rises.counted; sound = sound_more; complete = found_more }
-
-  known_row : (p : ℕ) → p ≡ q → list_at (slice_set known q counts) p ≡ counts
-  known_row p is = ap (list_at (slice_set known q counts)) is ∙ get_or-set_same known q counts [] q_there
-
-  known_other : (p : ℕ) → p ≢ q → list_at (slice_set known q counts) p ≡ list_at known p
-  known_other p apart = get_or-set_other known q p counts [] apart
-
-  known_here : (m i : ℕ) → m < length lanes → IsCounted lanes counts m i → WasReached positions events (j + 1) q i
-  known_here m i below has =
-      elim (adds.counted m i below has) [
-        | inl was ↦ was_later positions events j q i (knows.reached q m i q_there below was)
-        | inr new ↦ record { number = j; earlier = omega arith; here = ap (lane_of events) here ∙ lane; reached = subst (Reaches events (slice_index positions i)) (sym here) new }
-      ]
-
-  pub known_more : AreKnown positions events lanes (j + 1) (slice_set known q counts)
-  known_more = record {
-    paired = length-set known q counts ∙ knows.paired;
-    counts = λ p below. elim (eqb_tells p q) [
-      | inl is ↦ subst (AreCounts lanes) (sym (known_row p is.1)) adds.counts
-      | inr other ↦ subst (AreCounts lanes) (sym (known_other p other.1)) (knows.counts p (omega (arith, below, length-set known q counts)))
-    ];
-    reached = λ p m i below low has. elim (eqb_tells p q) [
-      | inl is ↦ subst (λ x. WasReached positions events (j + 1) x i) (sym is.1) (known_here m i low (subst (λ xs. IsCounted lanes xs m i) (known_row p is.1) has))
-      | inr other ↦ was_later positions events j p i (knows.reached p m i (omega (arith, below, length-set known q counts)) low (subst (λ xs. IsCounted lanes xs m i) (known_other p other.1) has))
-    ];
-  }
-
--- ---- before the first delivery
-
-pub risen_none : (positions : List ℕ) (events : List Event) (risen : List (List ℕ)) → length risen ≡ length events → All (λ list. list ≡ []) risen → AreRisen positions events 0 risen
-risen_none positions events risen count all = record {
-  counted = count;
-  sound = λ v i has. absurd (nothing risen all v i has);
-  complete = λ j i low. absurd (omega (arith, low));
+pub events_none : (events : List Event) (lanes : List (List ℕ)) → All (λ list. list ≡ []) lanes → AreEventLanes events 0 lanes
+events_none events lanes all = record {
+  lengths = λ m there. let is : list_at lanes m ≡ [] = all m [] there in ap length is;
+  inside = λ j below. absurd (omega (arith, below));
+  each = λ j below. absurd (omega (arith, below));
 }
 
-module _ (lanes : List (List ℕ)) (n : ℕ) (long : length lanes ≡ n) (known : List (List ℕ)) (count : length known ≡ n) (all : All (λ counts. counts ≡ replicate n 0) known) where
-  none_at : (q : ℕ) → q < length known → list_at known q ≡ replicate n 0
-  none_at q below = all q [] below
+module _ (events : List Event) (j : ℕ) (there : j < length events) (lanes : List (List ℕ)) (are : AreEventLanes events j lanes) (in_lanes : lane_of events j < length lanes) where
+  abbrev m : ℕ
+  m = lane_of events j
 
-  zero_at : (q m : ℕ) → q < length known → m < length lanes → slice_index (list_at known q) m ≡ 0
-  zero_at q m below low = ap (λ xs. slice_index xs m) (none_at q below) ∙ get_or-replicate n m 0 0 (omega (arith, low, long))
+  abbrev more : List (List ℕ)
+  more = with_added lanes m j
 
-  pub known_none : (positions : List ℕ) (events : List Event) → AreKnown positions events lanes 0 known
-  known_none positions events = record {
-    paired = count ∙ sym long;
-    counts = λ q below. record {
-      paired = ap length (none_at q below) ∙ length-replicate n 0 ∙ sym long;
-      few = λ m low. omega (arith, zero_at q m below low);
-    };
-    reached = λ q m i below low has. absurd (let none : take (slice_index (list_at known q) m) (list_at lanes m) ≡ [] = ap (λ k. take k (list_at lanes m)) (zero_at q m below low) ∙ take_none (list_at lanes m) in omega (arith, has.1, ap length none));
+  more_here : list_at more m ≡ list_at lanes m ++ j ∷ []
+  more_here = get_or-set_same lanes m (list_at lanes m ++ j ∷ []) [] in_lanes
+
+  more_other : (n : ℕ) → n ≢ m → list_at more n ≡ list_at lanes n
+  more_other n apart = get_or-set_other lanes m n (list_at lanes m ++ j ∷ []) [] apart
+
+  length_here : length (list_at lanes m) ≡ place_of events j
+  length_here = are.lengths m in_lanes
+
+  placed_old : (n i : ℕ) → i < length (list_at lanes n) → (i < length (list_at more n)) × (slice_index (list_at more n) i ≡ slice_index (list_at lanes n) i)
+  placed_old n i low =
+      elim (eqb_tells n m) [
+        | inl here ↦
+            let list : list_at more n ≡ list_at lanes m ++ j ∷ [] = ap (list_at more) here.1 ∙ more_here in
+            let old : list_at lanes n ≡ list_at lanes m = ap (list_at lanes) here.1 in (
+              omega (arith, low, ap length list, ap length old, length-append (list_at lanes m) (j ∷ [])),
+              ap (λ xs. slice_index xs i) list ∙ get_or-append (list_at lanes m) (j ∷ []) 0 i (omega (arith, low, ap length old)) ∙ ap (λ xs. slice_index xs i) (sym old),
+            )
+        | inr other ↦ let list = more_other n other.1 in (omega (arith, low, ap length list), ap (λ xs. slice_index xs i) list)
+      ]
+
+  placed_new : (place_of events j < length (list_at more m)) × (slice_index (list_at more m) (place_of events j) ≡ j)
+  placed_new = (
+    omega (arith, ap length more_here, length-append (list_at lanes m) (j ∷ []), length_here),
+    ap (λ xs. slice_index xs (place_of events j)) more_here ∙ ap (slice_index (list_at lanes m ++ j ∷ [])) (sym length_here) ∙ get_or-append_seam (list_at lanes m) j [] 0,
+  )
+
+  placed : (i : ℕ) → i < j + 1 → (place_of events i < length (list_at more (lane_of events i))) × (slice_index (list_at more (lane_of events i)) (place_of events i) ≡ i)
+  placed i below =
+      elim (cases_lt i j) [
+        | inl early ↦
+            let was = placed_old (lane_of events i) (place_of events i) (are.inside i early) in
+            (was.0, was.1 ∙ are.each i early)
+        | inr late ↦
+            let same : j ≡ i = omega (arith, late, below) in
+            subst (λ x. (place_of events x < length (list_at more (lane_of events x))) × (slice_index (list_at more (lane_of events x)) (place_of events x) ≡ x)) same placed_new
+      ]
+
+  pub events_more : AreEventLanes events (j + 1) more
+  events_more = record {
+    lengths = λ n below.
+        let low : n < length lanes = omega (arith, below, length-set lanes m (list_at lanes m ++ j ∷ [])) in
+        elim (lane_step events j n there) [
+          | inl here ↦
+              let list : list_at more n ≡ list_at lanes m ++ j ∷ [] = ap (list_at more) (sym here.0) ∙ more_here in
+              let old : list_at lanes n ≡ list_at lanes m = ap (list_at lanes) (sym here.0) in
+              omega (arith, ap length list, ap length old, length-append (list_at lanes m) (j ∷ []), here.1, are.lengths n low)
+          | inr other ↦ omega (arith, ap length (more_other n (λ is. other.0 (sym is))), other.1, are.lengths n low)
+        ];
+    inside = λ i below. (placed i below).0;
+    each = λ i below. (placed i below).1;
   }
-    where
-      take_none : (xs : List ℕ) → take 0 xs ≡ []
-      take_none [] = refl
-      take_none (x ∷ xs) = refl
+
+-- ---- each delivery reaches itself
+
+module _ (positions : List ℕ) (events : List Event) (within : All (λ k. k < length events) positions) (ascending : IsNonDecreasing positions) where
+  place_below : (i : ℕ) → i < length positions → slice_index positions i < length events
+  place_below i low = within i 0 low
+
+  pub own_none : (risen : List (List ℕ)) → length risen ≡ length events → All (λ list. list ≡ []) risen → AreOwn positions events 0 risen
+  own_none risen count all = record {
+    sound = record { counted = count; sound = λ v i has. absurd (nothing risen all v i has) };
+    own = λ i below. absurd (omega (arith, below));
+  }
+
+  pub own_more : (j : ℕ) (risen : List (List ℕ)) → j < length positions → AreOwn positions events j risen → AreOwn positions events (j + 1) (with_added risen (slice_index positions j) j)
+  own_more j risen inside are =
+      let k = slice_index positions j in
+      let there : k < length risen = omega (arith, place_below j inside, are.sound.counted) in
+      record {
+        sound = record {
+          counted = length-set risen k (list_at risen k ++ j ∷ []) ∙ are.sound.counted;
+          sound = λ v i has. elim (added_cases risen k j there v i has) [
+            | inl old ↦ are.sound.sound v i old
+            | inr new ↦ (
+              omega (arith, inside, new.1),
+              contains_place positions j v inside (sym new.0),
+              subst (λ x. Reaches events (slice_index positions i) x) (ap (slice_index positions) (sym new.1) ∙ sym new.0) (itself (place_below i (omega (arith, inside, new.1)))),
+            )
+          ];
+        };
+        own = λ i below. elim (cases_lt i j) [
+          | inl early ↦ added_keeps risen k j there (slice_index positions i) i (are.own i early)
+          | inr late ↦
+              let same : j ≡ i = omega (arith, late, below) in
+              subst (λ x. Contains (list_at (with_added risen k j) (slice_index positions x)) x) same (added_has risen k j there)
+        ];
+      }
+
+  -- of its own lane a delivery is newly reached by itself alone
+  pub own_risen : (risen : List (List ℕ)) → AreOwn positions events (length positions) risen → (lane : ℕ) → HasRisen positions events lane lane risen
+  own_risen risen are lane j i there below of_j of_i reach =
+      elim (cases_lt (slice_index positions i) (slice_index positions j)) [
+        | inl before ↦
+            let early : i < j = elim (cases_lt i j) [
+              | inl less ↦ less
+              | inr least ↦ absurd (let order : slice_index positions j ≤ slice_index positions i = ascending j i 0 least below in omega (arith, before, order))
+            ] in
+            inr (record { number = i; earlier = early; here = of_i; reached = itself (place_below i below) })
+        | inr least ↦
+            let same : slice_index positions i ≡ slice_index positions j = omega (arith, least, clock_forward reach) in
+            inl (subst (λ v. Contains (list_at risen v) i) same (are.own i below))
+      ]
+
+-- ---- a walk over the rises of a lane by a source
+
+module _ (positions : List ℕ) (clock : Timeline) (at lanes : List (List ℕ)) (laid : AreLaid positions clock at lanes) (lane source : ℕ) (in_lanes : source < clock.lanes) (rises : List Rise) (are : AreRises clock.events lane source rises) where
+  abbrev events : List Event
+  events = clock.events
+
+  abbrev own : List ℕ
+  own = list_at at lane
+
+  abbrev from : List ℕ
+  from = list_at lanes source
+
+  abbrev spot : ℕ → ℕ
+  spot k = risen_event own rises k
+
+  -- where a rise stands
+  pub record IsSpot (k : ℕ) : Type 0 where
+    pub inside : (rise_at rises k).place < length own
+    pub within : spot k < length events
+    pub of_lane : lane_of events (spot k) ≡ lane
+    pub placed : place_of events (spot k) ≡ (rise_at rises k).place
+    pub delivery : Contains positions (spot k)
+
+  pub spot_of : (k : ℕ) → k < length rises → IsSpot k
+  spot_of k below =
+      let some = are.received k below in
+      let j = some.0 in
+      let is = some.1 in
+      let list : list_at at (lane_of events j) ≡ own = ap (list_at at) is.of_lane in
+      let here : spot k ≡ j = ap (slice_index own) (sym is.placed) ∙ ap (λ xs. slice_index xs (place_of events j)) (sym list) ∙ laid.placed.each j is.within in
+      record {
+        inside = omega (arith, laid.placed.inside j is.within, ap length list, is.placed);
+        within = omega (arith, here, is.within);
+        of_lane = ap (lane_of events) here ∙ is.of_lane;
+        placed = ap (place_of events) here ∙ is.placed;
+        delivery = subst (Contains positions) (sym here) (laid.received j is.within is.receives);
+      }
+
+  in_source : source < length lanes
+  in_source = omega (arith, in_lanes, laid.lanes)
+
+  ascends : Ascends (length positions) from
+  ascends = laid.numbered.ascend source [] in_source
+
+  pub from_below : All (λ i. i < length positions) from
+  from_below = ascends.below
+
+  low_of : (m : ℕ) → m < length from → slice_index from m < length positions
+  low_of m below = ascends.below m 0 below
+
+  lane_from : (m : ℕ) → m < length from → lane_of events (slice_index positions (slice_index from m)) ≡ source
+  lane_from m below = laid.numbered.inside source (slice_index from m) (contains_at from m below)
+
+  -- a later delivery of the source has no lower place
+  later_place : (m n : ℕ) → m ≤ n → n < length from → place_in positions events (slice_index from m) ≤ place_in positions events (slice_index from n)
+  later_place m n order below =
+      let first : m < length from = omega (arith, order, below) in
+      let numbers : slice_index from m ≤ slice_index from n = ascends.ascending m n 0 order below in
+      let places : slice_index positions (slice_index from m) ≤ slice_index positions (slice_index from n) = laid.ascend (slice_index from m) (slice_index from n) 0 numbers (low_of n below) in
+      places_ascend events (slice_index positions (slice_index from m)) (slice_index positions (slice_index from n)) places (laid.within (slice_index from n) 0 (low_of n below)) (lane_from m first ∙ sym (lane_from n below))
+
+  pub walked_none : (risen : List (List ℕ)) → IsWalked positions events own from rises risen 0 0
+  walked_none risen = record {
+    few = omega arith;
+    risen_at = λ m below. absurd (omega (arith, below));
+    left = λ m k low high below. absurd (omega (arith, below));
+  }
+
+  -- one more rise
+  module _ (x known all : ℕ) (below : x < length rises) (low : known ≤ all) (high : all ≤ length from) (risen : List (List ℕ)) (sound : AreSound positions events risen) (walked : IsWalked positions events own from rises risen x known)
+      (row : List ℕ) (added : row ≡ list_at risen (spot x) ++ take (all - known) (drop known from))
+      (counted : (m : ℕ) → known ≤ m → m < all → place_in positions events (slice_index from m) < (rise_at rises x).count)
+      (stopped : all < length from → (rise_at rises x).count ≤ place_in positions events (slice_index from all)) where
+    abbrev v : ℕ
+    v = spot x
+
+    abbrev after : List (List ℕ)
+    after = slice_set risen v row
+
+    here : IsSpot x
+    here = spot_of x below
+
+    v_there : v < length risen
+    v_there = omega (arith, here.within, sound.counted)
+
+    row_here : (w : ℕ) → w ≡ v → list_at after w ≡ row
+    row_here w is = ap (list_at after) is ∙ get_or-set_same risen v row [] v_there
+
+    row_there : (w : ℕ) → w ≢ v → list_at after w ≡ list_at risen w
+    row_there w apart = get_or-set_other risen v w row [] apart
+
+    pub row_kept : AreKept risen after
+    row_kept w i has =
+        elim (eqb_tells w v) [
+          | inl is ↦
+              let was : Contains (list_at risen v) i = subst (λ y. Contains (list_at risen y) i) is.1 has in
+              subst (λ xs. Contains xs i) (sym (row_here w is.1 ∙ added)) (Contains-append_left (list_at risen v) (part from known all low high) i was)
+          | inr other ↦ subst (λ xs. Contains xs i) (sym (row_there w other.1)) has
+        ]
+
+    reaches_here : (m : ℕ) → known ≤ m → m < all → Reaches events (slice_index positions (slice_index from m)) v
+    reaches_here m more less =
+        let inside : m < length from = omega (arith, less, high) in
+        let k = slice_index positions (slice_index from m) in
+        let told = (are.told v here.within here.of_lane).first k (laid.within (slice_index from m) 0 (low_of m inside)) (lane_from m inside) in
+        told.1 (omega (arith, counted m more less, rise_counts rises (place_of events v) x below (omega (arith, here.placed))))
+
+    sound_here : (i : ℕ) → Contains row i → (i < length positions) × Contains positions v × Reaches events (slice_index positions i) v
+    sound_here i has =
+        elim (Contains-append_cases (list_at risen v) (part from known all low high) i (subst (λ xs. Contains xs i) added has)) [
+          | inl was ↦ sound.sound v i was
+          | inr new ↦
+              let found = part_from from known all low high i new in (
+                omega (arith, found.3, low_of found.0 (omega (arith, found.2, high))),
+                here.delivery,
+                subst (λ y. Reaches events (slice_index positions y) v) found.3 (reaches_here found.0 found.1 found.2),
+              )
+        ]
+
+    pub row_sound : AreSound positions events after
+    row_sound = record {
+      counted = length-set risen v row ∙ sound.counted;
+      sound = λ w i has. elim (eqb_tells w v) [
+        | inl is ↦
+            subst (λ y. (i < length positions) × Contains positions y × Reaches events (slice_index positions i) y) (sym is.1)
+            (sound_here i (subst (λ xs. Contains xs i) (row_here w is.1) has))
+        | inr other ↦ sound.sound w i (subst (λ xs. Contains xs i) (row_there w other.1) has)
+      ];
+    }
+
+    now_at : (m : ℕ) → m < all → (k : ℕ) × (k < x + 1) × IsRisenAt positions events own rises after (slice_index from m) k
+    now_at m less =
+        elim (cases_lt m known) [
+          | inl early ↦
+              let was = walked.risen_at m early in
+              (was.0, omega (arith, was.1), record { listed = row_kept (spot was.0) (slice_index from m) was.2.listed; first = was.2.first })
+          | inr late ↦
+              let new = part_has from known all low high m (slice_index from m) late less refl in
+              let has : Contains row (slice_index from m) = subst (λ xs. Contains xs (slice_index from m)) (sym added) (Contains-append_right (list_at risen v) (part from known all low high) (slice_index from m) new) in (
+                x,
+                omega arith,
+                record {
+                  listed = subst (λ xs. Contains xs (slice_index from m)) (sym (row_here v refl)) has;
+                  first = λ h before. walked.left m h late (omega (arith, less, high)) before;
+                },
+              )
+        ]
+
+    left_now : (m k : ℕ) → all ≤ m → m < length from → k < x + 1 → (rise_at rises k).count ≤ place_in positions events (slice_index from m)
+    left_now m k more inside upto =
+        elim (cases_lt k x) [
+          | inl early ↦ walked.left m k (omega (arith, low, more)) inside early
+          | inr late ↦
+              let same : k ≡ x = omega (arith, late, upto) in
+              omega (arith, stopped (omega (arith, more, inside)), later_place all m more inside, ap (λ y. (rise_at rises y).count) same)
+        ]
+
+    pub walked_more : IsWalked positions events own from rises after (x + 1) all
+    walked_more = record { few = high; risen_at = now_at; left = left_now }
+
+  -- after all rises
+  module _ (known : ℕ) (risen : List (List ℕ)) (sound : AreSound positions events risen) (walked : IsWalked positions events own from rises risen (length rises) known) where
+    -- what a rise of the lane up to an event counts is risen there, or was before
+    module _ (j i : ℕ) (there : j < length positions) (of_j : lane_of events (slice_index positions j) ≡ lane) where
+      risen_by : (k : ℕ) → k < length rises → Contains (list_at risen (spot k)) i → (rise_at rises k).place ≤ place_in positions events j
+          → Contains (list_at risen (slice_index positions j)) i ⊎ WasReached positions events j lane i
+      risen_by k below listed upto =
+          let v = slice_index positions j in
+          let at_k = spot_of k below in
+          let inside : v < length events = laid.within j 0 there in
+          elim (cases_lt (spot k) v) [
+            | inl before ↦
+                let number = place_of_number at_k.delivery in
+                let early : number.0 < j = elim (cases_lt number.0 j) [
+                  | inl less ↦ less
+                  | inr least ↦ absurd (let order : v ≤ slice_index positions number.0 = laid.ascend j number.0 0 least number.1 in omega (arith, before, order, number.2))
+                ] in
+                inr (record {
+                  number = number.0;
+                  earlier = early;
+                  here = ap (lane_of events) number.2 ∙ at_k.of_lane;
+                  reached = subst (Reaches events (slice_index positions i)) (sym number.2) (sound.sound (spot k) i listed).2;
+                })
+            | inr least ↦
+                let order = places_ascend events v (spot k) least at_k.within (of_j ∙ sym at_k.of_lane) in
+                let place : place_of events (spot k) ≡ place_of events v = omega (arith, order, upto, at_k.placed) in
+                let one = laid.placed.each (spot k) at_k.within in
+                let other = laid.placed.each v inside in
+                let list : list_at at (lane_of events (spot k)) ≡ list_at at (lane_of events v) = ap (list_at at) (at_k.of_lane ∙ sym of_j) in
+                let same : spot k ≡ v = sym one ∙ ap (λ xs. slice_index xs (place_of events (spot k))) list ∙ ap (slice_index (list_at at (lane_of events v))) place ∙ other in
+                inl (subst (λ w. Contains (list_at risen w) i) same listed)
+          ]
+        where
+          place_of_number : {w : ℕ} → Contains positions w → (n : ℕ) × (n < length positions) × (slice_index positions n ≡ w)
+          place_of_number {w} has = place_of_element positions w has
+
+    pub walked_all : HasRisen positions events lane source risen
+    walked_all j i there below of_j of_i reach =
+        let v = slice_index positions j in
+        let inside : v < length events = laid.within j 0 there in
+        let told = ((are.told v inside of_j).first (slice_index positions i) (laid.within i 0 below) of_i).0 reach in
+        elim (count_risen rises (place_of events v)) [
+          | inl none ↦ absurd (omega (arith, told, none))
+          | inr some ↦
+              let k = some.0 in
+              let at_k = some.1 in
+              let mine : Contains from i = subst (λ l. Contains (list_at lanes l) i) of_i (laid.numbered.each i below) in
+              let found = place_of_element from i mine in
+              let m = found.0 in
+              let known_m : m < known = elim (cases_lt m known) [
+                | inl less ↦ less
+                | inr least ↦ absurd (omega (arith, told, at_k.count_is, walked.left m k least found.1 at_k.within, ap (place_in positions events) found.2))
+              ] in
+              let was = walked.risen_at m known_m in
+              let order : was.0 ≤ k = elim (cases_lt k was.0) [
+                | inl less ↦ absurd (omega (arith, told, at_k.count_is, was.2.first k less, ap (place_in positions events) found.2))
+                | inr least ↦ least
+              ] in
+              let place : (rise_at rises was.0).place ≤ (rise_at rises k).place = elim (cases_lt was.0 k) [
+                | inl less ↦ omega (arith, are.strictly.places was.0 k less at_k.within)
+                | inr least ↦ let same : was.0 ≡ k = omega (arith, least, order) in omega (arith, ap (λ y. (rise_at rises y).place) same)
+              ] in
+              risen_by j i there of_j was.0 was.1 (subst (Contains (list_at risen (spot was.0))) found.2 was.2.listed) (omega (arith, place, at_k.reached))
+        ]
+
+-- ---- all lanes
+
+pub kept_risen : (positions : List ℕ) (es : List Event) (lane source : ℕ) (old new : List (List ℕ)) → AreKept old new → HasRisen positions es lane source old → HasRisen positions es lane source new
+kept_risen positions es lane source old new kept has j i there below of_j of_i reach =
+    elim (has j i there below of_j of_i reach) [
+      | inl listed ↦ inl (kept (slice_index positions j) i listed)
+      | inr was ↦ inr was
+    ]
+
+module _ (positions : List ℕ) (events : List Event) (lanes : List (List ℕ)) (are : AreDeliveryLanes positions events (length positions) lanes) (n : ℕ) (count : length lanes ≡ n) where
+  lane_below : (i : ℕ) → i < length positions → lane_of events (slice_index positions i) < n
+  lane_below i below =
+      let has = are.each i below in
+      elim (cases_lt (lane_of events (slice_index positions i)) n) [
+        | inl low ↦ low
+        | inr high ↦ let none : list_at lanes (lane_of events (slice_index positions i)) ≡ [] = get_or-eq_default lanes [] (omega (arith, high, count)) in absurd (omega (arith, has.1, ap length none))
+      ]
+
+  pub risen_all : (risen : List (List ℕ)) → AreSound positions events risen → ((lane source : ℕ) → lane < n → source < n → HasRisen positions events lane source risen) → AreRisen positions events (length positions) risen
+  risen_all risen sound has = record {
+    counted = sound.counted;
+    sound = sound.sound;
+    complete = λ j i there below reach. has (lane_of events (slice_index positions j)) (lane_of events (slice_index positions i)) (lane_below j there) (lane_below i below) j i there below refl refl reach;
+  }

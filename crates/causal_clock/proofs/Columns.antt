@@ -8,8 +8,10 @@ use Rattle.std.proofs.lemmas.Bool.Decides.{leb_tells}
 use Rattle.std.specs.List.Sorted.{IsPartitionPoint, IsPartitionedBy}
 use Rattle.std.proofs.lemmas.List.Sorted.{IsPartitionedBy-leb, IsNonDecreasingBy-from_default}
 use Rattle.std.proofs.lemmas.List.{get_or-drop, length-drop, take_all}
-use Rattle.causal_clock.specs.declared.column.Rise.{Rise}
-use Rattle.causal_clock.specs.Inside.Columns.{rise_at, count_at, RisesStrictly, IsColumn, raised}
+use Rattle.causal_clock.specs.declared.Rise.{Rise}
+use Rattle.causal_clock.specs.Rises.{rise_at, count_at, RisesStrictly}
+use Rattle.causal_clock.specs.Inside.Columns.{IsColumn, raised}
+use Rattle.causal_clock.proofs.Lemmas.Counted.{IsCountOf, rise_counts, count_risen}
 
 -- ---- the count at a place
 
@@ -17,45 +19,10 @@ count_at-append : (xs ys : List Rise) (place : ℕ) → count_at (xs ++ ys) plac
 count_at-append [] ys place = omega arith
 count_at-append (x ∷ xs) ys place = omega (arith, count_at-append xs ys place)
 
--- a rise up to the place counts there
-no_less : (rises : List Rise) (place i : ℕ) → i < length rises → (rise_at rises i).place ≤ place → (rise_at rises i).count ≤ count_at rises place
-no_less [] place i lt le = absurd (omega arith)
-no_less (r ∷ rises) place zero lt le =
-    let here : ◌≡◌ {A = ℕ} (if leb r.place place then r.count else 0) r.count = ap (λ b. if b then r.count else 0) (le-leb r.place place le) in
-    omega (arith, here)
-no_less (r ∷ rises) place (suc i) lt le = omega (arith, no_less rises place i (omega arith) le)
-
--- the count is that of some rise up to the place, or there is none
-pub record IsCountOf (rises : List Rise) (place count i : ℕ) : Type 0 where
-  pub within : i < length rises
-  pub reached : (rise_at rises i).place ≤ place
-  pub count_is : count ≡ (rise_at rises i).count
-
-some_rise : (rises : List Rise) (place : ℕ) → (count_at rises place ≡ 0) ⊎ ((i : ℕ) × IsCountOf rises place (count_at rises place) i)
-some_rise [] place = inl refl
-some_rise (r ∷ rises) place =
-    elim (leb_tells r.place place) [
-      | inl here ↦
-          let is : ◌≡◌ {A = ℕ} (if leb r.place place then r.count else 0) r.count = ap (λ b. if b then r.count else 0) here.0 in
-          elim (leb_tells (count_at rises place) r.count) [
-            | inl le ↦ inr (0, record { within = omega arith; reached = here.1; count_is = omega (arith, is, le.1) })
-            | inr gt ↦ later (omega (arith, is, gt.1)) (some_rise rises place)
-          ]
-      | inr past ↦
-          let is : ◌≡◌ {A = ℕ} (if leb r.place place then r.count else 0) 0 = ap (λ b. if b then r.count else 0) past.0 in
-          later (omega (arith, is)) (some_rise rises place)
-    ]
-  where
-    later : count_at (r ∷ rises) place ≡ count_at rises place → (count_at rises place ≡ 0) ⊎ ((i : ℕ) × IsCountOf rises place (count_at rises place) i) → (count_at (r ∷ rises) place ≡ 0) ⊎ ((i : ℕ) × IsCountOf (r ∷ rises) place (count_at (r ∷ rises) place) i)
-    later is (inl none) = inl (omega (arith, is, none))
-    later is (inr some) =
-        let at = some.1 in
-        inr (suc some.0, record { within = omega (arith, at.within); reached = at.reached; count_is = omega (arith, is, at.count_is) })
-
 -- no rise up to the place: the count is 0
 pub count_of_none : (rises : List Rise) (place : ℕ) → ((i : ℕ) → i < length rises → place < (rise_at rises i).place) → count_at rises place ≡ 0
 count_of_none rises place later =
-    elim (some_rise rises place) [
+    elim (count_risen rises place) [
       | inl none ↦ none
       | inr some ↦ absurd (omega (arith, some.1.reached, later some.0 some.1.within))
     ]
@@ -63,8 +30,8 @@ count_of_none rises place later =
 -- the first n rises stand up to the place: the last of them tells the count
 pub count_of_last : (rises : List Rise) (place n : ℕ) → RisesStrictly rises → n < length rises → ((i : ℕ) → i ≤ n → (rise_at rises i).place ≤ place) → ((i : ℕ) → n < i → i < length rises → place < (rise_at rises i).place) → count_at rises place ≡ (rise_at rises n).count
 count_of_last rises place n strictly lt before after =
-    let least = no_less rises place n lt (before n (omega arith)) in
-    elim (some_rise rises place) [
+    let least = rise_counts rises place n lt (before n (omega arith)) in
+    elim (count_risen rises place) [
       | inl none ↦ omega (arith, none, least)
       | inr some ↦ last_of some.0 some.1 least
     ]
@@ -217,7 +184,7 @@ no_more_rises rises events from_events place is le =
       | inl none ↦ omega (arith, none.1)
       | inr some ↦
           let last : length rises - 1 < length rises = omega (arith, some.1) in
-          omega (arith, at_least rises is.strictly (length rises - 1) last, no_less rises place (length rises - 1) last (omega (arith, is.places (length rises - 1) last)))
+          omega (arith, at_least rises is.strictly (length rises - 1) last, rise_counts rises place (length rises - 1) last (omega (arith, is.places (length rises - 1) last)))
     ]
 
 module _ (rises : List Rise) (own from_events from_events' count : ℕ) (is : IsColumn rises own from_events) (grown : from_events ≤ from_events') (few : count ≤ from_events') (more : count_at rises own < count) where
@@ -238,7 +205,7 @@ module _ (rises : List Rise) (own from_events from_events' count : ℕ) (is : Is
       ]
 
   below_next : (i : ℕ) → i < length rises → (rise_at rises i).count < count
-  below_next i lt = omega (arith, more, no_less rises own i lt (omega (arith, is.places i lt)))
+  below_next i lt = omega (arith, more, rise_counts rises own i lt (omega (arith, is.places i lt)))
 
   pub appended : IsColumn (rises ++ next ∷ []) (own + 1) from_events'
   appended = record {

@@ -6,7 +6,7 @@ use Rattle.std.proofs.lemmas.Bool.Decides.{leb_tells}
 use Rattle.std.proofs.lemmas.List.{get_or-map, length-map}
 use Rattle.causal_clock.specs.declared.Event.{Event}
 use Rattle.causal_clock.specs.declared.Entry.{Entry}
-use Rattle.causal_clock.specs.declared.column.Rise.{Rise}
+use Rattle.causal_clock.specs.declared.Rise.{Rise}
 use Rattle.causal_clock.specs.Timeline.{lane_of, lane_length}
 use Rattle.causal_clock.specs.Inside.Kept.{LastOf, Keeps}
 use Rattle.causal_clock.specs.Inside.Fields.{counts_in, KeepsColumns}

@@ -7,7 +7,7 @@ use Rattle.std.proofs.lemmas.List.{map-append, map-set}
 use Rattle.std.proofs.lemmas.List.Sums.{count_by-le-length}
 use Rattle.causal_clock.specs.declared.Event.{Event}
 use Rattle.causal_clock.specs.declared.Entry.{Entry}
-use Rattle.causal_clock.specs.declared.column.Rise.{Rise}
+use Rattle.causal_clock.specs.declared.Rise.{Rise}
 use Rattle.causal_clock.specs.declared.lane.Lane.{Lane}
 use Rattle.causal_clock.specs.Timeline.{lane_length}
 use Rattle.causal_clock.specs.Precedence.{FirstReach}

@@ -5,9 +5,10 @@ use Rattle.std.proofs.Math.ListN.{get_or-append, set, length-set}
 use Rattle.std.proofs.Math.Seq.{get_or-append_seam}
 use Rattle.std.proofs.lemmas.Bool.Decides.{eqb_tells}
 use Rattle.causal_clock.specs.declared.Event.{Event}
-use Rattle.causal_clock.specs.declared.column.Rise.{Rise}
+use Rattle.causal_clock.specs.declared.Rise.{Rise}
 use Rattle.causal_clock.specs.Timeline.{lane_of, lane_length, place_of}
-use Rattle.causal_clock.specs.Inside.Columns.{count_at, raised, IsColumn}
+use Rattle.causal_clock.specs.Rises.{count_at}
+use Rattle.causal_clock.specs.Inside.Columns.{raised, IsColumn}
 use Rattle.causal_clock.specs.Inside.Kept.{LastOf, count_or_none}
 use Rattle.causal_clock.specs.Inside.Fields.{counts_in, KeepsColumns}
 use Rattle.causal_clock.proofs.Chains.{lane_of-old, lane_of-at_new, lane_length-more, place_of-old, place_of-new, old_or_new, one_at_same, one_at_other}

@@ -1,3 +1,4 @@
 pub mod Inside
 pub mod Precedence
+pub mod Rises
 pub mod Timeline

@@ -1,15 +1,10 @@
 //! Columns: for a lane and a source lane, where in the lane the count of the source's events rose.
 ghost use Rattle.std.specs.Prelude.{◌≡◌, ℕ, ◌-◌, ◌<◌, ◌≤◌, length, OnOk, vec_len, vec_capacity};
-ghost use Rattle.causal_clock.specs.Inside.Columns.{rise_at, count_at, raised, RisesStrictly};
+ghost use Rattle.causal_clock.specs.Rises.{rise_at, count_at, RisesStrictly};
+ghost use Rattle.causal_clock.specs.Inside.Columns.{raised};
 
+use crate::Rise;
 use std::alloc::AllocError;
-
-/// From that place of the lane on, so many events of the source lane are reached.
-#[derive(Clone, Copy, Debug, PartialEq, Eq)]
-pub struct Rise {
-    pub place: u16,
-    pub count: u16,
-}
 
 // Where a search for the place may begin: each rise before it stands before the place. It is sought from the end by
 // steps that double, since a place that is asked for is mostly a late one.

@@ -1,10 +1,11 @@
 //! What a clock keeps for each lane: how many events it has, and its columns.
 ghost use Rattle.std.specs.Prelude.{◌≡◌, ℕ, ◌+◌, ◌<◌, ◌≤◌, [], length, OnOk, slice_index};
-ghost use Rattle.causal_clock.specs.Inside.Columns.{column_in, count_at, raised, RisesStrictly};
+ghost use Rattle.causal_clock.specs.Rises.{count_at, RisesStrictly};
+ghost use Rattle.causal_clock.specs.Inside.Columns.{column_in, raised};
 ghost use Rattle.causal_clock.specs.Inside.Lanes.{rises_in, AllStrict, SameColumns, HasRoom};
 
-use crate::EVENTS;
-use crate::column::{Rise, count_at, raise, reserve_rise};
+use crate::column::{count_at, raise, reserve_rise};
+use crate::{EVENTS, Rise};
 use std::alloc::{AllocError, Global};
 
 /// How many events a lane has, and for each source lane where the count of its events rose. A lane has no columns until
@@ -28,15 +29,22 @@ impl Lane {
         }
     }
 
+    /// Where the count of the source lane's events rose.
+    pub fn rises(&self, source: u32) -> &[Rise]
+        ensures { result.now ≡ column_in (rises_in self.now) source }
+    {
+        match self.columns.get(source as usize) {
+            Some(column) => column.as_slice(),
+            None => &[],
+        }
+    }
+
     /// How many events of the source lane, another one, are reached from that place of this lane.
     pub fn count_at(&self, source: u32, place: u16) -> u16
         requires strictly { RisesStrictly (column_in (rises_in self.now) source) }
         ensures { result ≡ count_at (column_in (rises_in self.now) source) place }
     {
-        match self.columns.get(source as usize) {
-            Some(column) => count_at(column, place),
-            None => 0,
-        }
+        count_at(self.rises(source), place)
     }
 
     /// Makes room for the rises that the next event brings, if it receives these counts. A refusal changes nothing else

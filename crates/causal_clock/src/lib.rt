@@ -17,8 +17,9 @@ pub mod laws;
 
 ghost use Rattle.std.specs.Prelude.{◌≡◌, ◌≢◌, ℕ, ◌+◌, ◌<◌, ◌≤◌, ◌↔◌, [], ◌∷◌, ◌++◌, length, vec_len, vec_capacity, IsTrue, IfOk, IfErr, OnOk, OnErr, Some, None, slice_index};
 ghost use Rattle.std.specs.Option.{ForSome};
-ghost use Rattle.causal_clock.specs.Timeline.{lane_of, receiving, with_event, with_lane};
+ghost use Rattle.causal_clock.specs.Timeline.{lane_of, place_of, receiving, with_event, with_lane};
 ghost use Rattle.causal_clock.specs.Precedence.{Reaches, FirstReach};
+ghost use Rattle.causal_clock.specs.Rises.{AreRises};
 ghost use Rattle.causal_clock.specs.Inside.Lanes.{AreEmpty};
 ghost use Rattle.causal_clock.specs.declared.ClockFault.TheVariants.{NoMemory};
 
@@ -41,6 +42,14 @@ pub const EVENTS: u32 = 65_536;
 pub struct Event {
     pub lane: u32,
     pub send: Option<u32>,
+}
+
+/// Where in a lane the count of another lane's events rose: from that place of the lane on, so many of them are reached. An
+/// event's place is how many events of its lane stand before it ([`Clocks::place`]).
+#[derive(Clone, Copy, Debug, PartialEq, Eq)]
+pub struct Rise {
+    pub place: u16,
+    pub count: u16,
 }
 
 /// Why a clock refused a lane or an event.
@@ -149,6 +158,14 @@ impl Clocks {
         self.entries[event as usize].event.lane
     }
 
+    /// How many events of its own lane stand before an event, which exists.
+    pub fn place(&self, event: u32) -> u16
+        requires { event < length self.now.events }
+        ensures { result ≡ place_of self.now.events event }
+    {
+        self.entries[event as usize].place
+    }
+
     /// Opens one more lane and answers its number, which is the number of lanes so far.
     ///
     /// Refusals, in this order: [`ClockFault::Lanes`] where [`OPENED_LANES`] lanes have been opened, and
@@ -253,6 +270,17 @@ impl Clocks {
         } else {
             u32::from(self.lanes[entry.event.lane as usize].count_at(lane, entry.place))
         }
+    }
+
+    /// Where in a lane the count of the events rose that reach it from a source, another lane: the answers of
+    /// [`Clocks::reach`] for all events of the lane, in order. Both lanes exist. Nothing is copied or searched.
+    pub fn rises(&self, lane: u32, source: u32) -> &[Rise]
+        requires lane { lane < self.now.lanes }
+        requires source { source < self.now.lanes }
+        requires apart { source ≢ lane }
+        ensures { AreRises self.now.events lane source result.now }
+    {
+        self.lanes[lane as usize].rises(source)
     }
 }
 

@@ -26,6 +26,23 @@ fn three_lanes_in_a_ring(rt: HostRuntime) -> Result<(), ClockFault> {
 }
 
 #[test]
+fn rises_of_a_lane(rt: HostRuntime) -> Result<(), ClockFault> {
+    let mut clocks = Clocks::new(rt.alloc(), 2)?;
+    assert_eq!(rt; clocks.local(0), Ok(0));
+    assert_eq!(rt; clocks.local(0), Ok(1));
+    assert_eq!(rt; clocks.receive(1, 1), Ok(2));
+    assert_eq!(rt; clocks.receive(1, 0), Ok(3));
+    assert_eq!(rt; clocks.local(0), Ok(4));
+    assert_eq!(rt; clocks.receive(1, 4), Ok(5));
+    let first = Rise { place: 0, count: 2 };
+    let second = Rise { place: 2, count: 3 };
+    assert_eq!(rt; clocks.place(4), 2);
+    assert_eq!(rt; clocks.rises(1, 0), [first, second].as_slice());
+    assert_eq!(rt; clocks.rises(0, 1), [].as_slice());
+    Ok(())
+}
+
+#[test]
 fn lanes_run_out(rt: HostRuntime) -> Result<(), ClockFault> {
     let mut clocks = Clocks::new(rt.alloc(), 2)?;
     for lane in 2..194 {

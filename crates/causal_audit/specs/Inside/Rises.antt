@@ -1,10 +1,15 @@
 -- Which deliveries newly reach the receiver of each delivery, by the clock of a run. Deliveries go by their numbers, and
 -- `positions` has where they stand.
-use Rattle.std.specs.Prelude.{◌≡◌, ℕ, ◌<◌, ◌≤◌, ◌⊎◌, List, length, take, slice_index, Contains}
+use Rattle.std.specs.Prelude.{◌≡◌, ◌≢◌, ℕ, ◌<◌, ◌≤◌, ◌⊎◌, None, List, length, map, take, slice_index, Contains}
+use Rattle.std.proofs.Common.{Vec, Global}
 use Rattle.std.specs.List.{All}
+use Rattle.std.specs.List.Sorted.{IsNonDecreasing}
 use Rattle.causal_clock.specs.declared.Event.{Event}
-use Rattle.causal_clock.specs.Timeline.{lane_of}
+use Rattle.causal_clock.specs.declared.Rise.{Rise}
+use Rattle.causal_clock.specs.Timeline.{Timeline, lane_of, lane_length, place_of, send_of}
 use Rattle.causal_clock.specs.Precedence.{Reaches}
+use Rattle.causal_clock.specs.Rises.{rise_at}
+use Rattle.causal_audit.specs.declared.rising.Laid.{Laid}
 use Rattle.causal_audit.specs.Inside.Filed.{Ascends, list_at}
 
 -- for each lane of the clock those of the first `count` deliveries that are its own, in order
@@ -13,23 +18,21 @@ pub record AreDeliveryLanes (positions : List ℕ) (events : List Event) (count 
   pub inside : (m i : ℕ) → Contains (list_at lanes m) i → lane_of events (slice_index positions i) ≡ m
   pub each : (i : ℕ) → i < count → Contains (list_at lanes (lane_of events (slice_index positions i))) i
 
--- how many deliveries of each lane are counted: no more than it has
-pub record AreCounts (lanes : List (List ℕ)) (counts : List ℕ) : Type 0 where
-  pub paired : length counts ≡ length lanes
-  pub few : (m : ℕ) → m < length lanes → slice_index counts m ≤ length (list_at lanes m)
+-- for each lane of the clock the numbers of those of the first `count` events that are its own, by their places
+pub record AreEventLanes (events : List Event) (count : ℕ) (lanes : List (List ℕ)) : Type 0 where
+  pub lengths : (m : ℕ) → m < length lanes → length (list_at lanes m) ≡ lane_length (take count events) m
+  pub inside : (j : ℕ) → j < count → place_of events j < length (list_at lanes (lane_of events j))
+  pub each : (j : ℕ) → j < count → slice_index (list_at lanes (lane_of events j)) (place_of events j) ≡ j
 
--- the delivery i is a counted one of the lane m
-abbrev pub IsCounted : List (List ℕ) → List ℕ → ℕ → ℕ → Type 0
-IsCounted lanes counts m i = Contains (take (slice_index counts m) (list_at lanes m)) i
-
--- what becomes of a row and of counts, by what they were: the row has besides only deliveries that reach v; of the first
--- `upto` lanes each one that reaches v is in the row or was counted; and what is counted was, or reaches v
-pub record AddsReached (positions : List ℕ) (events : List Event) (lanes : List (List ℕ)) (upto v : ℕ) (old row before after : List ℕ) : Type 0 where
-  pub counts : AreCounts lanes after
-  pub kept : (i : ℕ) → Contains old i → Contains row i
-  pub sound : (i : ℕ) → Contains row i → Contains old i ⊎ ((i < length positions) × Reaches events (slice_index positions i) v)
-  pub complete : (m i : ℕ) → m < upto → Contains (list_at lanes m) i → Reaches events (slice_index positions i) v → Contains row i ⊎ IsCounted lanes before m i
-  pub counted : (m i : ℕ) → m < length lanes → IsCounted lanes after m i → IsCounted lanes before m i ⊎ Reaches events (slice_index positions i) v
+-- deliveries stand at events in ascending order, and each receive is one; their lanes, and those of the events
+pub record AreLaid (positions : List ℕ) (clock : Timeline) (events deliveries : List (List ℕ)) : Type 0 where
+  pub within : All (λ k. k < length clock.events) positions
+  pub ascend : IsNonDecreasing positions
+  pub received : (j : ℕ) → j < length clock.events → send_of clock.events j ≢ None → Contains positions j
+  pub lanes : length deliveries ≡ clock.lanes
+  pub event_lanes : length events ≡ clock.lanes
+  pub placed : AreEventLanes clock.events (length clock.events) events
+  pub numbered : AreDeliveryLanes positions clock.events (length positions) deliveries
 
 -- the delivery i reaches one of the first `count` deliveries, in this lane
 pub record WasReached (positions : List ℕ) (events : List Event) (count lane i : ℕ) : Type 0 where
@@ -46,8 +49,62 @@ pub record AreRisen (positions : List ℕ) (events : List Event) (count : ℕ) (
   pub complete : (j i : ℕ) → j < count → i < length positions → Reaches events (slice_index positions i) (slice_index positions j)
       → Contains (list_at risen (slice_index positions j)) i ⊎ WasReached positions events j (lane_of events (slice_index positions j)) i
 
--- for each lane of the clock counts, of deliveries that reach one of the first `count` deliveries in it
-pub record AreKnown (positions : List ℕ) (events : List Event) (lanes : List (List ℕ)) (count : ℕ) (known : List (List ℕ)) : Type 0 where
-  pub paired : length known ≡ length lanes
-  pub counts : (q : ℕ) → q < length known → AreCounts lanes (list_at known q)
-  pub reached : (q m i : ℕ) → q < length known → m < length lanes → IsCounted lanes (list_at known q) m i → WasReached positions events count q i
+-- the lists have only deliveries, which reach that whose list it is
+pub record AreSound (positions : List ℕ) (events : List Event) (risen : List (List ℕ)) : Type 0 where
+  pub counted : length risen ≡ length events
+  pub sound : (v i : ℕ) → Contains (list_at risen v) i → (i < length positions) × Contains positions v × Reaches events (slice_index positions i) v
+
+-- the lists of the first `count` deliveries have themselves
+pub record AreOwn (positions : List ℕ) (events : List Event) (count : ℕ) (risen : List (List ℕ)) : Type 0 where
+  pub sound : AreSound positions events risen
+  pub own : (i : ℕ) → i < count → Contains (list_at risen (slice_index positions i)) i
+
+-- what was in the lists is in them
+abbrev pub AreKept : List (List ℕ) → List (List ℕ) → Type 0
+AreKept old new = (v i : ℕ) → Contains (list_at old v) i → Contains (list_at new v) i
+
+-- each delivery of the source that reaches one of the lane is in its list, or reaches an earlier one of the lane
+abbrev pub HasRisen : List ℕ → List Event → ℕ → ℕ → List (List ℕ) → Type 0
+HasRisen positions events lane source risen =
+    (j i : ℕ) → j < length positions → i < length positions → lane_of events (slice_index positions j) ≡ lane
+    → lane_of events (slice_index positions i) ≡ source → Reaches events (slice_index positions i) (slice_index positions j)
+    → Contains (list_at risen (slice_index positions j)) i ⊎ WasReached positions events j lane i
+
+-- the event of a lane, which has these events, at which a rise stands
+abbrev pub risen_event : List ℕ → List Rise → ℕ → ℕ
+risen_event own rises k = slice_index own (rise_at rises k).place
+
+-- so many events of its lane stand before a delivery
+abbrev pub place_in : List ℕ → List Event → ℕ → ℕ
+place_in positions events i = place_of events (slice_index positions i)
+
+-- the delivery i is in the list of rise k's event, and no rise before k counts it
+pub record IsRisenAt (positions : List ℕ) (events : List Event) (own : List ℕ) (rises : List Rise) (risen : List (List ℕ)) (i k : ℕ) : Type 0 where
+  pub listed : Contains (list_at risen (risen_event own rises k)) i
+  pub first : (h : ℕ) → h < k → (rise_at rises h).count ≤ place_in positions events i
+
+-- after the first `passed` rises of a lane, whose events are `own`, by a source, whose deliveries are `from`: just the first
+-- `known` of these are counted, each at its first rise
+pub record IsWalked (positions : List ℕ) (events : List Event) (own from : List ℕ) (rises : List Rise) (risen : List (List ℕ)) (passed known : ℕ) : Type 0 where
+  pub few : known ≤ length from
+  pub risen_at : (m : ℕ) → m < known → (k : ℕ) × (k < passed) × IsRisenAt positions events own rises risen (slice_index from m) k
+  pub left : (m k : ℕ) → known ≤ m → m < length from → k < passed → (rise_at rises k).count ≤ place_in positions events (slice_index from m)
+
+-- ---- over vectors
+
+abbrev pub lists_of : List (Vec ℕ Global) → List (List ℕ)
+lists_of lists = map (λ list. list.items) lists
+
+-- what a walk over the rises of a clock reads
+abbrev pub IsLaid : Laid → Type 0
+IsLaid laid = AreLaid laid.positions.now laid.clocks.now (lists_of laid.events.now) (lists_of laid.deliveries.now)
+
+-- so many events of its lane stand before a delivery
+abbrev pub place_for : Laid → ℕ → ℕ
+place_for laid i = place_in laid.positions.now laid.clocks.now.events i
+
+abbrev pub AreSoundFor : Laid → List (Vec ℕ Global) → Type 0
+AreSoundFor laid risen = AreSound laid.positions.now laid.clocks.now.events (lists_of risen)
+
+abbrev pub HasRisenFor : Laid → ℕ → ℕ → List (Vec ℕ Global) → Type 0
+HasRisenFor laid lane source risen = HasRisen laid.positions.now laid.clocks.now.events lane source (lists_of risen)

@@ -1,21 +1,7 @@
 -- A column: where in a lane the count of another lane's events rose.
-use Rattle.std.specs.Prelude.{ℕ, ◌<◌, ◌≤◌, max, leb, ltb, if◌then◌else◌, List, [], ◌∷◌, ◌++◌, length, slice_index_or}
-use Rattle.causal_clock.specs.declared.column.Rise.{Rise}
-
--- rise i
-abbrev pub rise_at : List Rise → ℕ → Rise
-rise_at rises i = slice_index_or rises i (record { place = 0; count = 0 })
-
--- the count at a place of the lane: the greatest of the rises up to there, and 0 where there is none
-abbrev pub count_at : List Rise → ℕ → ℕ
-count_at [] place = 0
-count_at (r ∷ rises) place = max (if leb r.place place then r.count else 0) (count_at rises place)
-
--- places and counts rise strictly, counts from 1 on
-pub record RisesStrictly (rises : List Rise) : Type 0 where
-  pub some : (i : ℕ) → i < length rises → 0 < (rise_at rises i).count
-  pub places : (i k : ℕ) → i < k → k < length rises → (rise_at rises i).place < (rise_at rises k).place
-  pub counts : (i k : ℕ) → i < k → k < length rises → (rise_at rises i).count < (rise_at rises k).count
+use Rattle.std.specs.Prelude.{ℕ, ◌<◌, ◌≤◌, ltb, if◌then◌else◌, List, [], ◌∷◌, ◌++◌, length, slice_index_or}
+use Rattle.causal_clock.specs.declared.Rise.{Rise}
+use Rattle.causal_clock.specs.Rises.{rise_at, count_at, RisesStrictly}
 
 -- a column of a lane that has that many events, for a source lane that has that many
 pub record IsColumn (rises : List Rise) (events from_events : ℕ) : Type 0 where

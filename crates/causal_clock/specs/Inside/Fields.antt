@@ -3,9 +3,10 @@ use Rattle.std.specs.Prelude.{◌≡◌, ℕ, ◌+◌, ◌<◌, ◌≤◌, ◌==
 use Rattle.causal_clock.specs.declared.Event.{Event}
 use Rattle.causal_clock.specs.declared.TheConstants.{FIRST_LANES, OPENED_LANES}
 use Rattle.causal_clock.specs.declared.Clocks.TheInside.{Inside}
-use Rattle.causal_clock.specs.declared.column.Rise.{Rise}
+use Rattle.causal_clock.specs.declared.Rise.{Rise}
 use Rattle.causal_clock.specs.Timeline.{Timeline, lane_of, lane_length, place_of}
-use Rattle.causal_clock.specs.Inside.Columns.{count_at, column_of, IsColumn}
+use Rattle.causal_clock.specs.Rises.{count_at}
+use Rattle.causal_clock.specs.Inside.Columns.{column_of, IsColumn}
 use Rattle.causal_clock.specs.Inside.Kept.{Keeps}
 use Rattle.causal_clock.specs.Inside.Lanes.{rises_in}
 

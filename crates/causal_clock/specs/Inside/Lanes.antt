@@ -1,8 +1,9 @@
 -- What a lane keeps.
 use Rattle.std.specs.Prelude.{◌≡◌, ℕ, ◌-◌, ◌<◌, ◌≤◌, List, [], length, map, slice_index, vec_len, vec_capacity}
-use Rattle.causal_clock.specs.declared.column.Rise.{Rise}
+use Rattle.causal_clock.specs.declared.Rise.{Rise}
 use Rattle.causal_clock.specs.declared.lane.Lane.{Lane}
-use Rattle.causal_clock.specs.Inside.Columns.{count_at, column_in, column_of, RisesStrictly}
+use Rattle.causal_clock.specs.Rises.{count_at, RisesStrictly}
+use Rattle.causal_clock.specs.Inside.Columns.{column_in, column_of}
 
 -- its columns
 abbrev pub rises_in : Lane → List (List Rise)

@@ -8,7 +8,7 @@ use Rattle.causal_audit.specs.Courses.{up_to}
 use Rattle.causal_audit.specs.Inside.Rooms.{AreEffects}
 use Rattle.causal_audit.specs.Inside.Sharing.{AreFirstOnes, AreShared, first_of, numbers_in}
 use Rattle.causal_audit.specs.Quiet.{mentioned_by}
-use Rattle.causal_audit.proofs.Effected.{dets_then, effects_are, positions_ascend, positions_deliver, positions_low}
+use Rattle.causal_audit.proofs.Effected.{dets_then, effects_are, positions_ascend, positions_deliver, positions_low, receives_are}
 use Rattle.causal_audit.proofs.Numbered.{deliveries_few}
 use Rattle.causal_audit.proofs.Prepared.{entries_then, formed_then}
 use Rattle.causal_audit.proofs.effects.effects_of.Goals as goal
@@ -42,6 +42,10 @@ risen_of-requires-clause-events c k d low =
 
 pub risen_of-requires-clause-ascend : goal.risen_of-requires-clause-ascend
 risen_of-requires-clause-ascend c = positions_ascend (instant c.args.trace.now.recording.past c.args.end) c.args.positions.now c.requires.positions
+
+pub risen_of-requires-clause-received : goal.risen_of-requires-clause-received
+risen_of-requires-clause-received c =
+    receives_are (instant c.args.trace.now.recording.past c.args.end) c.args.positions.now c.requires.positions c.in_ok-clocks.clocks.events c.in_ok-clocks.ensures
 
 pub returns : goal.returns
 returns c =

@@ -1,10 +1,11 @@
-use Rattle.std.proofs.Common.{map}
-use Rattle.causal_audit.specs.Inside.Rises.{AreKnown, AreRisen}
+use Rattle.std.specs.Prelude.{ℕ, ◌≢◌, ◌<◌}
+use Rattle.causal_audit.specs.Inside.Rises.{AreSound, HasRisen, lists_of}
 use Rattle.causal_audit.proofs.rising.risen_of.Given as goal
 
--- the lists and the counts of the deliveries so far
-abbrev pub invariant-loop-position : goal.invariant-loop-position
-invariant-loop-position l = record {
-  rises : AreRisen l.positions l.clocks.events l.position-index (map (λ list. list.items) l.risen.items);
-  knows : AreKnown l.positions l.clocks.events (map (λ list. list.items) l.lanes.items) l.position-index (map (λ list. list.items) l.known.items);
+-- each lane by itself, and the lanes so far by the others
+abbrev pub invariant-loop-lane : goal.invariant-loop-lane
+invariant-loop-lane l = record {
+  sound : AreSound l.positions l.clocks.events (lists_of l.risen.items);
+  own : (lane : ℕ) → HasRisen l.positions l.clocks.events lane lane (lists_of l.risen.items);
+  risen : (lane source : ℕ) → lane < l.lane → source < l.clocks.lanes → source ≢ lane → HasRisen l.positions l.clocks.events lane source (lists_of l.risen.items);
 }

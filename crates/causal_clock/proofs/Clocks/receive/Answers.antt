@@ -1,6 +1,7 @@
 use Rattle.std.proofs.Common.{◌≡◌, ◌≢◌, ℕ, ◌+◌, ◌<◌, [], ◌∷◌, ◌++◌, Some, length, get_or, ap, sym, ◌∙◌, subst, arith}
 use Rattle.std.proofs.Math.ListN.{length-set}
-use Rattle.causal_clock.specs.Inside.Columns.{column_in, raised, RisesStrictly}
+use Rattle.causal_clock.specs.Rises.{RisesStrictly}
+use Rattle.causal_clock.specs.Inside.Columns.{column_in, raised}
 use Rattle.causal_clock.specs.Inside.Lanes.{rises_in}
 use Rattle.causal_clock.specs.Inside.Fields.{events_of, places_of}
 use Rattle.causal_clock.specs.Precedence.{FirstReach}

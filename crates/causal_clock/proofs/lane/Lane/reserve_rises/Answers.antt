@@ -1,8 +1,9 @@
 use Rattle.std.proofs.Common.{◌≡◌, ℕ, List, [], map, ◌<◌, ◌-◌, length, get_or, vec_len, vec_capacity, inl, inr, sym, ap, ◌∙◌, subst, arith}
 use Rattle.std.proofs.lemmas.Bool.Decides.{eqb_tells}
 use Rattle.std.proofs.Math.ListN.{set}
-use Rattle.causal_clock.specs.declared.column.Rise.{Rise}
-use Rattle.causal_clock.specs.Inside.Columns.{column_in, count_at}
+use Rattle.causal_clock.specs.declared.Rise.{Rise}
+use Rattle.causal_clock.specs.Rises.{count_at}
+use Rattle.causal_clock.specs.Inside.Columns.{column_in}
 use Rattle.causal_clock.specs.Inside.Lanes.{rises_in}
 use Rattle.causal_clock.proofs.Lanes.{as_many, told_here, told_elsewhere, told_was, told_same}
 use Rattle.causal_clock.proofs.lane.Lane.reserve_rises.Goals as goal

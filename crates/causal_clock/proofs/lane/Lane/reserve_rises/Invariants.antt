@@ -1,5 +1,6 @@
 use Rattle.std.proofs.Common.{◌≡◌, ℕ, ◌<◌, get_or}
-use Rattle.causal_clock.specs.Inside.Columns.{column_in, count_at}
+use Rattle.causal_clock.specs.Rises.{count_at}
+use Rattle.causal_clock.specs.Inside.Columns.{column_in}
 use Rattle.causal_clock.specs.Inside.Lanes.{rises_in, spares_in}
 use Rattle.causal_clock.proofs.lane.Lane.reserve_rises.Given as goal
 
