@@ -96,8 +96,9 @@ fn commands(alloc: Global, rest: &[u8], big: Option<u32>) -> Result<Vec<Command>
     Ok(commands)
 }
 
-/// The script that a text spells, which has at most 1,048,576 bytes. It is read whole before any of it is answered. Each
-/// byte is looked at a few times, so the time is in proportion to their number; the memory is that of the commands.
+/// The script that a text spells, which has at most 1,048,576 bytes. It is read whole before any of it is answered.
+/// Each byte is looked at a few times, so the time is in proportion to their number; the memory is that of the
+/// commands.
 ///
 /// # Errors
 /// Any other text: its first line that breaks the rules, counted from 1, and how. `NoMemory` is answered only where a

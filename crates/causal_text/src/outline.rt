@@ -1,5 +1,5 @@
-//! A look at a long line before a tree is built of it. A tree takes up to 170 times the bytes of a text that nests deep or
-//! has many small arrays or objects; what a line of a trace may look like takes 20 times its bytes at most.
+//! A look at a long line before a tree is built of it. A tree takes up to 170 times the bytes of a text that nests deep
+//! or has many small arrays or objects; what a line of a trace may look like takes 20 times its bytes at most.
 ghost use Rattle.std.specs.Prelude.{◌≡◌, ◌≢◌, ◌<◌, length, true, false, Some, None, Err, IfOk, IfErr, OnOk, OnErr, is_some, slice_index, ◌==◌, IsTrue};
 ghost use Rattle.json.specs.Json.{parse_map, items, members, value};
 ghost use Rattle.json.specs.Reads.{token_of};

@@ -109,8 +109,10 @@ impl<R: Read + Drop> TraceReader<R> {
             × ((b : List ℕ) → HasRead (State.Reading pieces) b → HasRead self.new.state (b ++ piece))) }
         ensures follows { IfOk result (λ progress. Follows progress self.new.state) }
         ensures end { Ends result (R.remaining self.new.source) }
-        ensures text { FailsBy result (R.remaining self.old.source) (R.remaining self.new.source) (State.Reading pieces) }
-        ensures memory { FailsAt result (R.remaining self.old.source) (R.remaining self.new.source) (State.Reading pieces) }
+        ensures text { FailsBy result
+            (R.remaining self.old.source) (R.remaining self.new.source) (State.Reading pieces) }
+        ensures memory { FailsAt result
+            (R.remaining self.old.source) (R.remaining self.new.source) (State.Reading pieces) }
         ensures failed { OnErr result (self.new.state ≡ State.Failed) }
     {
         let mut buffer = [0u8; PIECE];
