@@ -5,6 +5,7 @@ pub mod Changes
 pub mod Courses
 pub mod Filed
 pub mod Index
+pub mod Kinds
 pub mod Moments
 pub mod Newly
 pub mod Rises

@@ -13,6 +13,7 @@ ghost use Rattle.causal_audit.specs.Inside.Sights.{AreDependents, IsSight, IsUnh
 ghost use Rattle.causal_audit.specs.Verdicts.{IsLeastOrphan};
 
 use crate::holding::holders_after;
+use crate::kind::Kind;
 use causal_holders::Holders;
 use causal_name::Det;
 use causal_trace::entry::Entry;
@@ -52,14 +53,7 @@ pub fn without(mut members: Holders, p: u8) -> Holders
 pub fn down_after(down: Holders, entry: &Entry) -> Holders
     ensures { (past : List Entry) → Shows down (λ p. is_down past p) → Shows result (λ p. is_down (entry.now ∷ past) p) }
 {
-    match entry {
-        Entry::Crash { who } => with(down, who.0),
-        Entry::Restart { who, .. } => without(down, who.0),
-        Entry::Send { .. } => down,
-        Entry::Deliver { .. } => down,
-        Entry::Stable { .. } => down,
-        Entry::Forget { .. } => down,
-    }
+    Kind::of(entry).down_after(down)
 }
 
 /// Whether the determinant is stable after one more entry.
