@@ -7,9 +7,9 @@ use Rattle.std.proofs.lemmas.Bool.Decides.{eqb_tells}
 use Rattle.std.proofs.lemmas.Grind.{common_steps}
 use Rattle.std.specs.Ordering.{nat_cmp}
 use Rattle.std.specs.FinSet.{FinSet, empty, insert, remove}
-use Rattle.causal_trace.specs.declared.entry.Entry.{Entry}
-use Rattle.causal_trace.specs.declared.entry.Entry.TheVariants.{Send, Deliver, Stable, Crash, Restart, Forget}
 use Rattle.causal_audit.specs.Inside.Rooms.{is_among, changed_at, changed, holders_after, stable_after, dependents_after}
+use Rattle.causal_audit.specs.declared.kind.Kind.{Kind}
+use Rattle.causal_audit.specs.declared.kind.Kind.TheVariants.{Send, Deliver, Stable, Crash, Restart, Forget}
 use Rattle.std.proofs.lemmas.List.{take_more, take_more_set, map-append, length-map, length-set, get_or-set_same, get_or-set_other}
 
 -- ---- a loop that changes each element in place
@@ -95,11 +95,11 @@ module _ {A : Type 0} (change : A → A) (none : A) (from : ℕ) where
       ]
 
 -- no entry changes how many there are
-pub after_counts : (e : Entry) (from : ℕ) (marks risen : List ℕ) (holders : List (FinSet nat_cmp)) (stable : List Bool) (dependents : List (FinSet nat_cmp))
-    → (length (holders_after e marks holders) ≡ length holders) × (length (stable_after e marks stable) ≡ length stable) × (length (dependents_after from e risen dependents) ≡ length dependents)
-after_counts (Send x to ssn) from marks risen holders stable dependents = (refl, refl, refl)
-after_counts (Deliver to send rsn listed) from marks risen holders stable dependents = (all_changed_count (λ s. insert s to.0) empty 0 holders marks, refl, all_changed_count (λ s. insert s to.0) empty from dependents risen)
-after_counts (Stable det) from marks risen holders stable dependents = (refl, all_changed_count (λ _. true) false 0 stable marks, refl)
+pub after_counts : (kind : Kind) (from : ℕ) (marks risen : List ℕ) (holders : List (FinSet nat_cmp)) (stable : List Bool) (dependents : List (FinSet nat_cmp))
+    → (length (holders_after kind marks holders) ≡ length holders) × (length (stable_after kind marks stable) ≡ length stable) × (length (dependents_after from kind risen dependents) ≡ length dependents)
+after_counts Send from marks risen holders stable dependents = (refl, refl, refl)
+after_counts (Deliver to) from marks risen holders stable dependents = (all_changed_count (λ s. insert s to.0) empty 0 holders marks, refl, all_changed_count (λ s. insert s to.0) empty from dependents risen)
+after_counts Stable from marks risen holders stable dependents = (refl, all_changed_count (λ _. true) false 0 stable marks, refl)
 after_counts (Crash who) from marks risen holders stable dependents = (length-map holders (λ s. remove s who.0), refl, length-map dependents (λ s. remove s who.0))
-after_counts (Restart who listed) from marks risen holders stable dependents = (all_changed_count (λ s. insert s who.0) empty 0 holders marks, refl, refl)
-after_counts (Forget who listed) from marks risen holders stable dependents = (all_changed_count (λ s. remove s who.0) empty 0 holders marks, refl, refl)
+after_counts (Restart who) from marks risen holders stable dependents = (all_changed_count (λ s. insert s who.0) empty 0 holders marks, refl, refl)
+after_counts (Forget who) from marks risen holders stable dependents = (all_changed_count (λ s. remove s who.0) empty 0 holders marks, refl, refl)

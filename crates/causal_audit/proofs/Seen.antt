@@ -18,6 +18,7 @@ use Rattle.causal_trace.proofs.Lemmas.Accepted.{delivers_up, restarts_down, acce
 use Rattle.causal_trace.proofs.Lemmas.Reached.{reaches_newest, depends_restarted}
 use Rattle.causal_audit.specs.Quiet.{mentioned_by}
 use Rattle.causal_audit.specs.Inside.Rooms.{is_among, changed, holders_after, stable_after, dependents_after, IsReceiver}
+use Rattle.causal_audit.specs.Inside.Kinds.{kind_of}
 use Rattle.causal_audit.specs.Inside.Sights.{Shows, AreDependents}
 use Rattle.causal_audit.proofs.Dependence.{IsNoTurn, depends_more, depends_before, same_dependents, no_event}
 use Rattle.causal_audit.proofs.Dependence.{crashed as crash_removes}
@@ -76,7 +77,7 @@ module _ (past : List Entry) (d : Det) (marks : List ℕ) (m : ℕ) where
     shown_whole : Shows (get_or sets (m - 0) empty) (λ p. logs past p d)
     shown_whole = subst (λ i. Shows (get_or sets i empty) (λ p. logs past p d)) (sym whole) shown
 
-    pub holders_seen : (e : Entry) → is_among marks m ≡ has (mentioned_by e) d → Shows (get_or (holders_after e marks sets) m empty) (λ p. logs (e ∷ past) p d)
+    pub holders_seen : (e : Entry) → is_among marks m ≡ has (mentioned_by e) d → Shows (get_or (holders_after (kind_of e) marks sets) m empty) (λ p. logs (e ∷ past) p d)
     holders_seen (Send from to ssn) told = shown
     holders_seen (Deliver to send rsn listed) told = at_whole _ _ (inserted_shows 0 to.0 m (omega arith) marks sets (omega (arith, whole, high)) (λ p. logs past p d) shown_whole (has listed d) told)
     holders_seen (Stable det) told = shown
@@ -94,7 +95,7 @@ module _ (past : List Entry) (d : Det) (marks : List ℕ) (m : ℕ) where
         let whole : m - 0 ≡ m = omega arith in
         subst (λ i. get_or (changed (λ _. true) false 0 flags marks) i false ≡ get_or flags i false) whole (changed_unlisted (λ _. true) false 0 m (omega arith) marks flags among) ∙ is
 
-    pub stable_seen : (e : Entry) → is_among marks m ≡ has (mentioned_by e) d → get_or (stable_after e marks flags) m false ≡ is_stable (e ∷ past) d
+    pub stable_seen : (e : Entry) → is_among marks m ≡ has (mentioned_by e) d → get_or (stable_after (kind_of e) marks flags) m false ≡ is_stable (e ∷ past) d
     stable_seen (Send from to ssn) told = is
     stable_seen (Deliver to send rsn listed) told = is
     stable_seen (Stable det) told = marked det (same_det d det) refl told
@@ -177,7 +178,7 @@ module _ (n : ℕ) (past : List Entry) (k : ℕ) (d : Det) (s : FinSet nat_cmp) 
   module _ (from i : ℕ) (low : from ≤ i) (risen : List ℕ) (sets : List (FinSet nat_cmp)) (high : i - from < length sets) (is : get_or sets (i - from) empty ≡ s) where
     pub dependents_seen : (e : Entry) → AreAccepted n (e ∷ past) → (k ≡ length past → det_at (e ∷ past) k ≡ Some d) → (is_among risen i ≡ true → Reaches (e ∷ past) k (length past))
         → ((p : ℕ) → IsReceiver e p → Reaches (e ∷ past) k (length past) → (is_among risen i ≡ true) ⊎ Depends past k p)
-        → AreDependents (e ∷ past) k (get_or (dependents_after from e risen sets) (i - from) empty)
+        → AreDependents (e ∷ past) k (get_or (dependents_after from (kind_of e) risen sets) (i - from) empty)
     dependents_seen (Send from' to ssn) formed at sound complete = subst (AreDependents (Send from' to ssn ∷ past) k) (sym is) (sent from' to ssn formed at)
     dependents_seen (Deliver to send rsn listed) formed at sound complete =
         received n past k s _ are to send rsn listed (is_among risen i) formed sound (complete to.0 refl)

@@ -21,6 +21,8 @@ use Rattle.causal_audit.specs.Inside.Newly.{HasEffects, same_of, marks_of, risen
 use Rattle.causal_audit.specs.Numbers.{IsNumbered}
 use Rattle.causal_audit.specs.Quiet.{mentioned_by}
 use Rattle.causal_audit.specs.Inside.Rooms.{IsFollowed, IsReceiver, IsRoom, is_among, sight_of, holders_after, stable_after, dependents_after}
+use Rattle.causal_audit.specs.Inside.Kinds.{kind_of}
+use Rattle.causal_audit.specs.declared.kind.Kind.{Kind}
 use Rattle.causal_audit.specs.Inside.Sights.{Shows, IsSight, AreDependents}
 use Rattle.causal_trace.proofs.Lemmas.AtInstants.{instant_length, det_then, det_within}
 use Rattle.causal_audit.proofs.Lemmas.Judged.{exposed}
@@ -58,11 +60,11 @@ module _ (r : Recording) (formed : IsWellFormed r) (t : ℕ) (e : Entry) (below 
   module _ (down down' : FinSet nat_cmp) (room room' : Room) (is : IsRoom r effects.first.items t down room)
       (shown : Shows down' (λ p. is_down (e ∷ instant r.past t) p))
       (from_is : room'.from ≡ room.from)
-      (holders_is : room'.holders.items ≡ holders_after e (list_at (marks_of effects) t) room.holders.items)
-      (stable_is : room'.stable.items ≡ stable_after e (list_at (marks_of effects) t) room.stable.items)
-      (dependents_is : room'.dependents.items ≡ dependents_after room.from e (list_at (risen_of effects) t) room.dependents.items) where
+      (holders_is : room'.holders.items ≡ holders_after (kind_of e) (list_at (marks_of effects) t) room.holders.items)
+      (stable_is : room'.stable.items ≡ stable_after (kind_of e) (list_at (marks_of effects) t) room.stable.items)
+      (dependents_is : room'.dependents.items ≡ dependents_after room.from (kind_of e) (list_at (risen_of effects) t) room.dependents.items) where
     pub same_count : length room'.dependents.items ≡ length room.dependents.items
-    same_count = ap length dependents_is ∙ (after_counts e room.from (list_at (marks_of effects) t) (list_at (risen_of effects) t) room.holders.items room.stable.items room.dependents.items).2
+    same_count = ap length dependents_is ∙ (after_counts (kind_of e) room.from (list_at (marks_of effects) t) (list_at (risen_of effects) t) room.holders.items room.stable.items room.dependents.items).2
 
     sight_next : (i k : ℕ) (d : Det) → IsFollowed room i → IsNumbered r.past i k → det_at r.past k ≡ Some d → IsSight (e ∷ instant r.past t) k d (sight_of effects.first.items down' room' i)
     sight_next i k d followed numbered at =
@@ -86,7 +88,7 @@ module _ (r : Recording) (formed : IsWellFormed r) (t : ℕ) (e : Entry) (below 
 
     pub room_next : IsRoom r effects.first.items (t + 1) down' room'
     room_next =
-        let counts = after_counts e room.from (list_at (marks_of effects) t) (list_at (risen_of effects) t) room.holders.items room.stable.items room.dependents.items in
+        let counts = after_counts (kind_of e) room.from (list_at (marks_of effects) t) (list_at (risen_of effects) t) room.holders.items room.stable.items room.dependents.items in
         record {
           shows_down = subst (λ past. Shows down' (λ p. is_down past p)) (sym next) shown;
           holders_count = ap length holders_is ∙ counts.0 ∙ is.holders_count;
@@ -106,7 +108,7 @@ module _ (r : Recording) (formed : IsWellFormed r) (t : ℕ) (e : Entry) (below 
     legal = accepted_next r formed t e below next
 
     by_entry : (y : Entry) → y ≡ e → (d : Det) → det_at r.past k ≡ Some d → AreAccepted r.processes (y ∷ instant r.past t) → det_at (y ∷ instant r.past t) k ≡ Some d → HasOrphan r.processes f (y ∷ instant r.past t) k
-        → Before ⊎ (is_candidate y (same_of effects) (list_at (marks_of effects) t) (list_at (risen_of effects) t) i ≡ true)
+        → Before ⊎ (is_candidate (kind_of y) (same_of effects) (list_at (marks_of effects) t) (list_at (risen_of effects) t) i ≡ true)
     by_entry (Send from to ssn) same d at legal here orphaned = inl (sent r.processes f (instant r.past t) k d from to ssn legal here orphaned)
     by_entry (Deliver to send rsn listed) same d at legal here orphaned =
         let x = exposed r.processes f (Deliver to send rsn listed ∷ instant r.past t) k d here orphaned in
@@ -127,7 +129,7 @@ module _ (r : Recording) (formed : IsWellFormed r) (t : ℕ) (e : Entry) (below 
           | false ↦ λ miss. inl (forgotten r.processes f (instant r.past t) k d who listed legal here miss orphaned)
         ] refl
 
-    pub candidate : HasOrphan r.processes f (instant r.past (t + 1)) k → Before ⊎ (is_candidate e (same_of effects) (list_at (marks_of effects) t) (list_at (risen_of effects) t) i ≡ true)
+    pub candidate : HasOrphan r.processes f (instant r.past (t + 1)) k → Before ⊎ (is_candidate (kind_of e) (same_of effects) (list_at (marks_of effects) t) (list_at (risen_of effects) t) i ≡ true)
     candidate orphaned =
         let d = orphaned.is_orphan.det in
         let now : det_at (instant r.past (t + 1)) k ≡ Some d = orphaned.is_orphan.delivered in
@@ -140,7 +142,7 @@ module _ (r : Recording) (formed : IsWellFormed r) (t : ℕ) (e : Entry) (below 
 module _ (r : Recording) (formed : IsWellFormed r) (f t from to : ℕ) (e : Entry) (below : t < length r.past) (next : instant r.past (t + 1) ≡ e ∷ instant r.past t) (effects : Effects) (are_effects : HasEffects r.past effects)
     (before : (i k u : ℕ) → from ≤ i → i < to → IsNumbered r.past i k → u ≤ t → HasOrphan r.processes f (instant r.past u) k → ⊥) where
   abbrev chosen : ℕ → Bool
-  chosen i = is_candidate e (same_of effects) (list_at (marks_of effects) t) (list_at (risen_of effects) t) i && is_between from to i
+  chosen i = is_candidate (kind_of e) (same_of effects) (list_at (marks_of effects) t) (list_at (risen_of effects) t) i && is_between from to i
 
   chosen_now : (i k : ℕ) → from ≤ i → i < to → IsNumbered r.past i k → HasOrphan r.processes f (instant r.past (t + 1)) k → chosen i ≡ true
   chosen_now i k low high numbered has =
@@ -192,16 +194,16 @@ at_first r f k u first has =
     let empty : length (instant r.past u) ≡ 0 = instant_length r.past u (omega (arith, first)) ∙ none in
     omega (arith, made, empty)
 
-pub kept_count : (e : Entry) (from : ℕ) (risen : List ℕ) (sets sets' : List (FinSet nat_cmp)) → sets' ≡ dependents_after from e risen sets → length sets' ≡ length sets
-kept_count e from risen sets sets' is = ap length is ∙ (after_counts e from risen risen sets [] sets).2
+pub kept_count : (kind : Kind) (from : ℕ) (risen : List ℕ) (sets sets' : List (FinSet nat_cmp)) → sets' ≡ dependents_after from kind risen sets → length sets' ≡ length sets
+kept_count kind from risen sets sets' is = ap length is ∙ (after_counts kind from risen risen sets [] sets).2
 
 -- the same of lists that are the same
-pub moved : (r : Recording) (f t from' from count' count : ℕ) (e : Entry) (same : List (List ℕ)) (marks' marks risen' risen : List ℕ) (found : Option Breach)
+pub moved : (r : Recording) (f t from' from count' count : ℕ) (kind : Kind) (same : List (List ℕ)) (marks' marks risen' risen : List ℕ) (found : Option Breach)
     → from' ≡ from → count' ≡ count → marks' ≡ marks → risen' ≡ risen
-    → LeastAt r f t from' (from' + count') (λ i. is_candidate e same marks' risen' i && is_between from' (from' + count') i) found
-    → LeastAt r f t from (from + count) (λ i. is_candidate e same marks risen i && is_between from (from + count) i) found
-moved r f t from' from count' count e same marks' marks risen' risen found a b c d h =
-    subst (λ x. LeastAt r f t from (from + count) (λ i. is_candidate e same marks x i && is_between from (from + count) i) found) d
-    (subst (λ x. LeastAt r f t from (from + count) (λ i. is_candidate e same x risen' i && is_between from (from + count) i) found) c
-    (subst (λ x. LeastAt r f t from (from + x) (λ i. is_candidate e same marks' risen' i && is_between from (from + x) i) found) b
-    (subst (λ x. LeastAt r f t x (x + count') (λ i. is_candidate e same marks' risen' i && is_between x (x + count') i) found) a h)))
+    → LeastAt r f t from' (from' + count') (λ i. is_candidate kind same marks' risen' i && is_between from' (from' + count') i) found
+    → LeastAt r f t from (from + count) (λ i. is_candidate kind same marks risen i && is_between from (from + count) i) found
+moved r f t from' from count' count kind same marks' marks risen' risen found a b c d h =
+    subst (λ x. LeastAt r f t from (from + count) (λ i. is_candidate kind same marks x i && is_between from (from + count) i) found) d
+    (subst (λ x. LeastAt r f t from (from + count) (λ i. is_candidate kind same x risen' i && is_between from (from + count) i) found) c
+    (subst (λ x. LeastAt r f t from (from + x) (λ i. is_candidate kind same marks' risen' i && is_between from (from + x) i) found) b
+    (subst (λ x. LeastAt r f t x (x + count') (λ i. is_candidate kind same marks' risen' i && is_between x (x + count') i) found) a h)))

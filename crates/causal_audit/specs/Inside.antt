@@ -6,6 +6,7 @@ pub mod Courses
 pub mod Filed
 pub mod Index
 pub mod Kept
+pub mod Kinds
 pub mod Moments
 pub mod Newly
 pub mod Rises

@@ -7,32 +7,36 @@ ghost use Rattle.causal_audit.specs.Courses.{up_to};
 ghost use Rattle.causal_audit.specs.Inside.Courses.{IsPrepared, run_read};
 
 use crate::effects::{Effects, Reading, effects_of};
+use crate::kind::{Kind, kinds_of};
 use crate::tables::positions_of;
 use causal_name::NoMemory;
 use causal_trace::trace::Trace;
 use std::alloc::Global;
 use std::marker::Model;
+use std::snapshot::Snapshot;
 
-/// A recorded run up to an instant, prepared for a sweep over its entries: a copy of its trace, the positions of the
-/// deliveries up to there, and what each entry does to the deliveries. It is seen as the recording up to that instant.
+/// A recorded run up to an instant, prepared for a sweep over its entries: what each entry is, the positions of the deliveries
+/// up to there, and what each entry does to the deliveries. It is seen as the recording up to that instant, of which it has no
+/// copy: the trace is there for contracts alone.
 #[derive(Drop)]
 pub struct Course {
-    trace: Trace,
-    end: u32,
+    run: Snapshot<Trace>,
+    kinds: Vec<Kind>,
     positions: Vec<u32>,
     effects: Effects,
 }
 
 impl Model for Course {
+    ghost use Rattle.std.specs.Prelude.{length};
     ghost use Rattle.causal_trace.specs.Rows.{Recording};
     ghost use Rattle.causal_audit.specs.Courses.{up_to};
     ghost use Rattle.causal_audit.specs.Inside.Courses.{IsCourse};
 
     ghost Value = { Recording };
 
-    ghost view = { λ a. up_to a.trace.recording a.end };
+    ghost view = { λ a. up_to a.run.value.recording (length a.kinds.items) };
 
-    ghost invariant = { λ a. IsCourse a.trace.recording a.end a.positions.items a.effects };
+    ghost invariant = { λ a. IsCourse a.run.value.recording a.kinds.items a.positions.items a.effects };
 }
 
 impl Course {
@@ -40,7 +44,7 @@ impl Course {
     ///
     /// It takes time as the entries up to there, the determinants that they list, and the deliveries times the lanes
     /// (processes and restarts). It has a list for each entry, with what that mentions and what newly reaches it: in all at
-    /// most the listed determinants, and the deliveries times the lanes, beside a copy of the trace. A clock of the run is let go when it is made.
+    /// most the listed determinants, and the deliveries times the lanes. A clock of the run is let go when it is made.
     ///
     /// # Errors
     /// `NoMemory` where memory was refused.
@@ -52,10 +56,10 @@ impl Course {
         let entries = &trace.entries()[..end as usize];
         let positions = positions_of(alloc, entries)?;
         let effects = effects_of(alloc, trace, end, positions.as_slice())?;
-        let copy = trace.try_clone()?;
+        let kinds = kinds_of(alloc, entries)?;
         Ok(Course {
-            trace: copy,
-            end,
+            run: Snapshot::of(trace),
+            kinds,
             positions,
             effects,
         })
@@ -67,7 +71,7 @@ impl Course {
         ensures formed { IsWellFormed self.now }
         ensures few { result ≤ max_entries }
     {
-        self.end
+        self.kinds.len() as u32
     }
 
     /// How many deliveries it has up to this instant; they are numbered from 0 in their order.
@@ -80,11 +84,11 @@ impl Course {
     /// What a sweep reads of it.
     pub(crate) fn reading(&self) -> Reading<'_>
         ensures run { run_read result ≡ self.now }
-        ensures prepared { IsPrepared self.now result.positions.now result.effects.now }
+        ensures prepared { IsPrepared self.now result.kinds.now result.positions.now result.effects.now }
     {
         Reading {
-            processes: self.trace.processes(),
-            entries: &self.trace.entries()[..self.end as usize],
+            run: &self.run,
+            kinds: self.kinds.as_slice(),
             positions: self.positions.as_slice(),
             effects: &self.effects,
         }

@@ -5,12 +5,13 @@ ghost use Rattle.causal_audit.specs.Inside.Newly.{HasEffects};
 ghost use Rattle.causal_audit.specs.Numbers.{ArePositions};
 
 use crate::events::clocks_until;
+use crate::kind::Kind;
 use crate::rising::risen_of;
 use crate::sharing::{Firsts, dets_of, same_of};
 use causal_name::NoMemory;
-use causal_trace::entry::Entry;
 use causal_trace::trace::Trace;
 use std::alloc::Global;
+use std::snapshot::Snapshot;
 
 /// What the deliveries of a run share, and what each of its entries does to them. A determinant goes by the number of its
 /// first delivery.
@@ -26,12 +27,12 @@ pub struct Effects {
     pub risen: Vec<Vec<u32>>,
 }
 
-/// What a sweep reads of a run of so many processes: its entries, the positions of its deliveries, and what its entries do
-/// to these.
+/// What a sweep reads of a run: the kinds of its entries, the positions of its deliveries, and what its entries do to these.
+/// The trace that the run is of is there for contracts alone.
 #[derive(Clone, Copy)]
 pub struct Reading<'a> {
-    pub processes: u16,
-    pub entries: &'a [Entry],
+    pub run: &'a Snapshot<Trace>,
+    pub kinds: &'a [Kind],
     pub positions: &'a [u32],
     pub effects: &'a Effects,
 }

@@ -15,6 +15,7 @@ mod events;
 pub mod excess;
 mod holding;
 pub mod judging;
+mod kind;
 mod lanes;
 pub mod laws;
 mod lists;

@@ -7,9 +7,9 @@ ghost use Rattle.causal_audit.specs.Inside.Moments.{is_followed};
 ghost use Rattle.causal_audit.specs.Inside.Rooms.{changed, dependents_after, holders_after, stable_after};
 
 use crate::course::Course;
+use crate::kind::Kind;
 use causal_holders::Holders;
 use causal_name::NoMemory;
-use causal_trace::entry::Entry;
 use std::alloc::Global;
 
 /// What is known at an instant: for each determinant, by the number of its first delivery, who holds it and whether it is
@@ -92,27 +92,27 @@ impl Room {
         })
     }
 
-    /// Takes in one more entry, which mentions the determinants of these numbers, and whose receiver these deliveries newly
-    /// reach.
-    pub fn see(&mut self, entry: &Entry, marks: &[u32], risen: &[u32])
+    /// Takes in one more entry of a kind, which mentions the determinants of these numbers, and whose receiver these
+    /// deliveries newly reach.
+    pub(crate) fn see(&mut self, kind: Kind, marks: &[u32], risen: &[u32])
         ensures from { self.new.from ≡ self.old.from }
-        ensures holders { self.new.holders.items ≡ holders_after entry.now marks.now self.old.holders.items }
-        ensures stable { self.new.stable.items ≡ stable_after entry.now marks.now self.old.stable.items }
-        ensures dependents { self.new.dependents.items ≡ dependents_after self.old.from entry.now risen.now self.old.dependents.items }
+        ensures holders { self.new.holders.items ≡ holders_after kind marks.now self.old.holders.items }
+        ensures stable { self.new.stable.items ≡ stable_after kind marks.now self.old.stable.items }
+        ensures dependents { self.new.dependents.items ≡ dependents_after self.old.from kind risen.now self.old.dependents.items }
     {
-        match entry {
-            Entry::Send { .. } => {}
-            Entry::Deliver { to, .. } => {
+        match kind {
+            Kind::Send => {}
+            Kind::Deliver { to } => {
                 insert_each(&mut self.holders, 0, marks, to.0);
                 insert_each(&mut self.dependents, self.from, risen, to.0);
             }
-            Entry::Stable { .. } => mark_each(&mut self.stable, marks),
-            Entry::Crash { who } => {
+            Kind::Stable => mark_each(&mut self.stable, marks),
+            Kind::Crash { who } => {
                 remove_all(&mut self.holders, who.0);
                 remove_all(&mut self.dependents, who.0);
             }
-            Entry::Restart { who, .. } => insert_each(&mut self.holders, 0, marks, who.0),
-            Entry::Forget { who, .. } => remove_each(&mut self.holders, marks, who.0),
+            Kind::Restart { who } => insert_each(&mut self.holders, 0, marks, who.0),
+            Kind::Forget { who } => remove_each(&mut self.holders, marks, who.0),
         }
     }
 

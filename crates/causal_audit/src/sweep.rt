@@ -14,11 +14,11 @@ ghost use Rattle.causal_audit.specs.Numbers.{IsNumbered};
 use crate::breach::{Breach, earlier};
 use crate::course::Course;
 use crate::effects::Reading;
+use crate::kind::Kind;
 use crate::orphans::breach_at;
 use crate::room::Room;
-use crate::sight::{Sight, down_after};
+use crate::sight::Sight;
 use causal_holders::Holders;
-use causal_trace::entry::Entry;
 
 /// An instant of a sweep: what is read of the run, who is down, and how many entries were read.
 #[derive(Clone, Copy)]
@@ -35,7 +35,7 @@ impl Moment<'_> {
         requires moment { IsMoment self.now room.now }
         requires followed { IsFollowed room.now i }
         ensures { (k : ℕ) → IsNumbered (run_read self.now.reading).past i k →
-            BreachAt self.now.reading.processes self.now.f (instant (run_read self.now.reading).past self.now.t) k self.now.t result }
+            BreachAt (run_read self.now.reading).processes self.now.f (instant (run_read self.now.reading).past self.now.t) k self.now.t result }
     {
         let position = self.reading.positions[i as usize];
         let number = self.reading.effects.first[i as usize] as usize;
@@ -94,16 +94,16 @@ impl Moment<'_> {
         least
     }
 
-    /// The same of those that may newly have an orphan by this entry.
-    fn newly(&self, room: &Room, entry: &Entry, marks: &[u32], risen: &[u32]) -> Option<Breach>
+    /// The same of those that may newly have an orphan by an entry of this kind.
+    fn newly(&self, room: &Room, kind: Kind, marks: &[u32], risen: &[u32]) -> Option<Breach>
         requires moment { IsMoment self.now room.now }
         requires marks { All (λ m. m < deliveries_in (run_read self.now.reading).past) marks.now }
-        ensures { LeastOf self.now room.now (λ i. is_candidate entry.now (same_of self.now.reading.effects.now) marks.now risen.now i && is_followed room.now i) result }
+        ensures { LeastOf self.now room.now (λ i. is_candidate kind (same_of self.now.reading.effects.now) marks.now risen.now i && is_followed room.now i) result }
     {
-        match entry {
-            Entry::Deliver { .. } => self.least_of(room, risen, None),
-            Entry::Restart { .. } => self.least_in_part(room),
-            Entry::Forget { .. } => self.least_sharing(room, marks),
+        match kind {
+            Kind::Deliver { .. } => self.least_of(room, risen, None),
+            Kind::Restart { .. } => self.least_in_part(room),
+            Kind::Forget { .. } => self.least_sharing(room, marks),
             _ => None,
         }
     }
@@ -118,18 +118,18 @@ pub fn least_swept(course: &Course, f: u16, room: &mut Room) -> Option<Breach>
 {
     let reading = course.reading();
     let mut down = Holders::none();
-    for (t, entry) in reading.entries.iter().enumerate() {
+    for (t, kind) in reading.kinds.iter().enumerate() {
         let marks = reading.effects.marks[t].as_slice();
         let risen = reading.effects.risen[t].as_slice();
-        down = down_after(down, entry);
-        room.see(entry, marks, risen);
+        down = kind.down_after(down);
+        room.see(*kind, marks, risen);
         let moment = Moment {
             reading,
             f,
             down,
             t: t as u32 + 1,
         };
-        if let Some(breach) = moment.newly(room, entry, marks, risen) {
+        if let Some(breach) = moment.newly(room, *kind, marks, risen) {
             return Some(breach);
         }
     }

@@ -2,12 +2,13 @@
 use Rattle.std.specs.Prelude.{◌≡◌, ℕ, ◌<◌, ◌≤◌, ◌&&◌, Bool, true, false, nat_le, nat_lt, List, map, Option, MatchOption}
 use Rattle.std.specs.List.{list_any}
 use Rattle.causal_trace.specs.declared.entry.Entry.{Entry}
-use Rattle.causal_trace.specs.declared.entry.Entry.TheVariants.{Deliver, Restart, Forget}
 use Rattle.causal_trace.specs.Past.{instant}
 use Rattle.causal_trace.specs.Rows.{Recording}
 use Rattle.causal_trace.specs.Judgement.{HasOrphan}
 use Rattle.causal_audit.specs.declared.breach.Breach.{Breach}
 use Rattle.causal_audit.specs.declared.effects.Effects.{Effects}
+use Rattle.causal_audit.specs.declared.kind.Kind.{Kind}
+use Rattle.causal_audit.specs.declared.kind.Kind.TheVariants.{Deliver, Restart, Forget}
 use Rattle.causal_audit.specs.Inside.Filed.{list_at}
 use Rattle.causal_audit.specs.Numbers.{IsNumbered}
 use Rattle.causal_audit.specs.Inside.Rooms.{is_among, AreEffects}
@@ -34,11 +35,11 @@ is_between from to i = nat_le from i && nat_lt i to
 abbrev pub is_sharing : List (List ℕ) → List ℕ → ℕ → Bool
 is_sharing same marks i = list_any (λ m. is_among (list_at same m) i) marks
 
--- whether a delivery may newly have an orphan by an entry
-abbrev pub is_candidate : Entry → List (List ℕ) → List ℕ → List ℕ → ℕ → Bool
-is_candidate (Deliver to send rsn listed) same marks risen i = is_among risen i
-is_candidate (Restart who listed) same marks risen i = true
-is_candidate (Forget who listed) same marks risen i = is_sharing same marks i
+-- whether a delivery may newly have an orphan by an entry of a kind
+abbrev pub is_candidate : Kind → List (List ℕ) → List ℕ → List ℕ → ℕ → Bool
+is_candidate (Deliver to) same marks risen i = is_among risen i
+is_candidate (Restart who) same marks risen i = true
+is_candidate (Forget who) same marks risen i = is_sharing same marks i
 is_candidate _ same marks risen i = false
 
 -- of the deliveries that pass the test the first that has an orphan at the instant t has it so

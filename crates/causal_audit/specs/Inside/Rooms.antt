@@ -5,10 +5,12 @@ use Rattle.std.specs.Ordering.{nat_cmp}
 use Rattle.std.specs.FinSet.{FinSet, empty, insert, remove}
 use Rattle.causal_name.specs.declared.Det.{Det}
 use Rattle.causal_trace.specs.declared.entry.Entry.{Entry}
-use Rattle.causal_trace.specs.declared.entry.Entry.TheVariants.{Deliver, Stable, Crash, Restart, Forget}
+use Rattle.causal_trace.specs.declared.entry.Entry.TheVariants as Recorded
 use Rattle.causal_trace.specs.Past.{instant, is_down, has, det_at, deliveries_in}
 use Rattle.causal_trace.specs.Rows.{Recording}
 use Rattle.causal_trace.specs.Dependence.{Reaches, Depends}
+use Rattle.causal_audit.specs.declared.kind.Kind.{Kind}
+use Rattle.causal_audit.specs.declared.kind.Kind.TheVariants.{Deliver, Stable, Crash, Restart, Forget}
 use Rattle.causal_audit.specs.declared.room.Room.{Room}
 use Rattle.causal_audit.specs.declared.sight.Sight.{Sight}
 use Rattle.causal_audit.specs.Inside.Filed.{list_at}
@@ -30,28 +32,28 @@ abbrev pub changed : {A : Type 0} → (A → A) → A → ℕ → List A → Lis
 changed change none from xs [] = xs
 changed change none from xs (i ∷ is) = changed change none from (changed_at change none from xs i) is
 
--- the holders of each determinant after an entry that mentions these
-abbrev pub holders_after : Entry → List ℕ → List (FinSet nat_cmp) → List (FinSet nat_cmp)
-holders_after (Deliver to send rsn listed) marks sets = changed (λ s. insert s to.0) empty 0 sets marks
-holders_after (Restart who listed) marks sets = changed (λ s. insert s who.0) empty 0 sets marks
-holders_after (Forget who listed) marks sets = changed (λ s. remove s who.0) empty 0 sets marks
+-- the holders of each determinant after an entry of a kind that mentions these
+abbrev pub holders_after : Kind → List ℕ → List (FinSet nat_cmp) → List (FinSet nat_cmp)
+holders_after (Deliver to) marks sets = changed (λ s. insert s to.0) empty 0 sets marks
+holders_after (Restart who) marks sets = changed (λ s. insert s who.0) empty 0 sets marks
+holders_after (Forget who) marks sets = changed (λ s. remove s who.0) empty 0 sets marks
 holders_after (Crash who) marks sets = map (λ s. remove s who.0) sets
 holders_after _ marks sets = sets
 
 -- which of them are stable then
-abbrev pub stable_after : Entry → List ℕ → List Bool → List Bool
-stable_after (Stable det) marks flags = changed (λ _. true) false 0 flags marks
+abbrev pub stable_after : Kind → List ℕ → List Bool → List Bool
+stable_after Stable marks flags = changed (λ _. true) false 0 flags marks
 stable_after _ marks flags = flags
 
 -- the dependents of each delivery from `from` on, where these newly reach the receiver
-abbrev pub dependents_after : ℕ → Entry → List ℕ → List (FinSet nat_cmp) → List (FinSet nat_cmp)
-dependents_after from (Deliver to send rsn listed) risen sets = changed (λ s. insert s to.0) empty from sets risen
+abbrev pub dependents_after : ℕ → Kind → List ℕ → List (FinSet nat_cmp) → List (FinSet nat_cmp)
+dependents_after from (Deliver to) risen sets = changed (λ s. insert s to.0) empty from sets risen
 dependents_after from (Crash who) risen sets = map (λ s. remove s who.0) sets
 dependents_after from _ risen sets = sets
 
 -- the entry is a delivery to p
 abbrev pub IsReceiver : Entry → ℕ → Type 0
-IsReceiver (Deliver to send rsn listed) p = p ≡ to.0
+IsReceiver (Recorded.Deliver to send rsn listed) p = p ≡ to.0
 IsReceiver _ p = ⊥
 
 -- For each delivery the first with its determinant; for that one all that share it; for each entry the first deliveries of

@@ -13,5 +13,5 @@ invariant-loop-t l = record {
   seen : IsRoom (run_read l.reading) l.reading.effects.now.first.items l.t l.down l.room;
   from : l.room.from ≡ l.fn.room.from;
   count : length l.room.dependents.items ≡ length l.fn.room.dependents.items;
-  before : (i k u : ℕ) → l.fn.room.from ≤ i → i < end_of l.fn.room → IsNumbered (run_read l.reading).past i k → u ≤ l.t → HasOrphan l.reading.processes l.f (instant (run_read l.reading).past u) k → ⊥;
+  before : (i k u : ℕ) → l.fn.room.from ≤ i → i < end_of l.fn.room → IsNumbered (run_read l.reading).past i k → u ≤ l.t → HasOrphan (run_read l.reading).processes l.f (instant (run_read l.reading).past u) k → ⊥;
 }
