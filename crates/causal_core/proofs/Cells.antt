@@ -7,7 +7,7 @@ use Rattle.std.proofs.lemmas.Bool.{false≢true}
 use Rattle.causal_core.specs.declared.cell.Cell.{Cell}
 use Rattle.causal_protocol.specs.Memory.{Memory, Memories, at}
 use Rattle.causal_core.specs.View.{memory_of, memories_in, memory_at, bodies_of, bodies_in, with_bodies, no_room, room_of, rooms_in, room_at}
-use Rattle.causal_core.proofs.Sending.{set_same, set_twice}
+use Rattle.causal_core.proofs.Sending.{set_same}
 
 pub get-map : {X Y : Type 0} (f : X → Y) (xs : List X) (p : ℕ) → slice_get (map f xs) p ≡ option_map f (slice_get xs p)
 get-map f [] p = refl
@@ -65,29 +65,26 @@ module _ (cells : List (Option Cell)) (p : ℕ) (cell : Cell) (found : slice_get
   pub bodies_there : slice_get (bodies_in cells) p ≡ Some (bodies_of cell)
   bodies_there = get-map (λ c. option_map_or bodies_of c []) cells p ∙ ap (option_map (λ c. option_map_or bodies_of c [])) found
 
-  module _ (x : Option Cell) (new : Cell) where
-    put : slice_set (slice_set cells p x) p (Some new) ≡ slice_set cells p (Some new)
-    put = set_twice cells p x (Some new)
+  -- another cell is put there
+  module _ (new : Cell) where
+    pub memories_put : memories_in (slice_set cells p (Some new)) ≡ slice_set (memories_in cells) p (Some (memory_of new))
+    memories_put = map-set (option_map memory_of) cells p (Some new)
 
-    pub memories_put : memories_in (slice_set (slice_set cells p x) p (Some new)) ≡ slice_set (memories_in cells) p (Some (memory_of new))
-    memories_put = ap memories_in put ∙ map-set (option_map memory_of) cells p (Some new)
-
-    pub memories_kept : memory_of new ≡ memory_of cell → memories_in (slice_set (slice_set cells p x) p (Some new)) ≡ memories_in cells
+    pub memories_kept : memory_of new ≡ memory_of cell → memories_in (slice_set cells p (Some new)) ≡ memories_in cells
     memories_kept same = memories_put ∙ ap (λ m. slice_set (memories_in cells) p (Some m)) same ∙ set_same (memories_in cells) p (memory_of cell) there
 
-    pub bodies_put : bodies_in (slice_set (slice_set cells p x) p (Some new)) ≡ slice_set (bodies_in cells) p (bodies_of new)
-    bodies_put = ap bodies_in put ∙ map-set (λ c. option_map_or bodies_of c []) cells p (Some new)
+    pub bodies_put : bodies_in (slice_set cells p (Some new)) ≡ slice_set (bodies_in cells) p (bodies_of new)
+    bodies_put = map-set (λ c. option_map_or bodies_of c []) cells p (Some new)
 
-    pub bodies_kept : bodies_of new ≡ bodies_of cell → bodies_in (slice_set (slice_set cells p x) p (Some new)) ≡ bodies_in cells
+    pub bodies_kept : bodies_of new ≡ bodies_of cell → bodies_in (slice_set cells p (Some new)) ≡ bodies_in cells
     bodies_kept same = bodies_put ∙ ap (slice_set (bodies_in cells) p) same ∙ set_read (bodies_in cells) p (bodies_of cell) bodies_there
 
-    pub bodies_more : (more : List (List ℕ)) → bodies_of new ≡ bodies_of cell ++ more → bodies_in (slice_set (slice_set cells p x) p (Some new)) ≡ with_bodies (bodies_in cells) p more
+    pub bodies_more : (more : List (List ℕ)) → bodies_of new ≡ bodies_of cell ++ more → bodies_in (slice_set cells p (Some new)) ≡ with_bodies (bodies_in cells) p more
     bodies_more more is =
         bodies_put ∙ ap (slice_set (bodies_in cells) p) is
         ∙ ap (λ o. slice_set (bodies_in cells) p (unwrap_or o [] ++ more)) (sym bodies_there)
 
-    pub room_put : room_at (rooms_in (slice_set (slice_set cells p x) p (Some new))) p ≡ room_of new
+    pub room_put : room_at (rooms_in (slice_set cells p (Some new))) p ≡ room_of new
     room_put =
-        ap (λ cs. room_at (rooms_in cs) p) put
-        ∙ ap (λ o. unwrap_or o no_room) (get-map (λ c. option_map_or room_of c no_room) (slice_set cells p (Some new)) p
+        ap (λ o. unwrap_or o no_room) (get-map (λ c. option_map_or room_of c no_room) (slice_set cells p (Some new)) p
         ∙ ap (option_map (λ c. option_map_or room_of c no_room)) (get-set_same cells p (Some new) (get_within cells p (Some cell) found)))

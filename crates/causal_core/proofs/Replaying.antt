@@ -121,8 +121,13 @@ module _ {B : Type 0} (answers : B → List Input → List (List Outgoing)) (p :
       nothing [] h made = made
       nothing (x ∷ xs) h made = absurd (omega (arith, h))
 
-  pub ends_unnamed : (limit count : ℕ) (mid new : CoreState B) → naming mid.run p ≡ Ok None → IsUnchanged answers mid new → Ends p limit count new.run
-  ends_unnamed limit count mid new none u = unnamed (ap (λ r. naming r p) u.run ∙ none)
-
   pub ends_refused : (limit count : ℕ) (fault : CoreFault) (mid new : CoreState B) → 0 < count → RefusesNamed mid.run p fault → IsUnchanged answers mid new → Ends p limit count new.run
   ends_refused limit count fault mid new some why u = refused fault some (subst (λ r. RefusesNamed r p fault) (sym u.run) why)
+
+  -- where no message was named, the run is as it was
+  pub ends_unnamed : (limit count : ℕ) (told : Option Delivered) (mid new : CoreState B) → told ≡ None → Redelivered answers p told mid new → Ends p limit count new.run
+  ends_unnamed limit count told mid new none r = let u = subst (λ o. Redelivered answers p o mid new) none r in unnamed (ap (λ x. naming x p) u.1.run ∙ u.0)
+
+  -- and so where none was delivered, the refusal is one of the first run
+  pub refuses_still : (count : ℕ) (fault : CoreFault) (old mid : CoreState B) → Replayed answers p count old mid → count ≡ 0 → RefusesNamed mid.run p fault → RefusesNamed old.run p fault
+  refuses_still count fault old mid r none why = subst (λ x. RefusesNamed x p fault) (replayed_nothing count old mid r none).run why

@@ -1,16 +1,14 @@
 -- What contracts see of a core.
-use Rattle.std.specs.Prelude.{◌≡◌, ℕ, List, [], ◌∷◌, Option, None, slice_set}
+use Rattle.std.specs.Prelude.{◌≡◌, ℕ, List, [], Option, slice_set}
 use Rattle.causal_name.specs.declared.Pid.{Pid}
 use Rattle.causal_process.specs.declared.message.Input.{Input}
 use Rattle.causal_process.specs.declared.message.Input.TheVariants.{Message as Given}
 use Rattle.causal_process.specs.declared.message.Outgoing.{Outgoing}
 use Rattle.causal_core.specs.declared.runtime.Core.{Core}
-use Rattle.causal_protocol.specs.declared.request.Request.TheVariants as Ask
-use Rattle.causal_protocol.specs.Run.{Run, memories_of}
-use Rattle.causal_protocol.specs.Naming.{name, next_ssn}
-use Rattle.causal_protocol.specs.Steps.{extended, delivery_of, sends_of}
-use Rattle.causal_core.specs.Boxes.{answers_at, after, SameAnswers, SameElsewhere}
-use Rattle.causal_core.specs.View.{DataState, body_at, with_bodies, receivers, sent_bodies}
+use Rattle.causal_protocol.specs.Run.{Run}
+use Rattle.causal_protocol.specs.Naming.{name}
+use Rattle.causal_core.specs.Boxes.{SameAnswers, SameElsewhere, StepsAt, HoldsNone}
+use Rattle.causal_core.specs.View.{DataState, body_at, sent_in, with_bodies, with_delivery}
 
 -- the run, the bodies of the kept messages, and the boxes
 pub record CoreState (B : Type 0) : Type 0 where
@@ -41,13 +39,13 @@ module _ {B : Type 0} (answers : B → List Input → List (List Outgoing)) wher
   -- their bodies kept; then it answers as it would have after that, and the others as before
   pub record Delivers (q source : Pid) (ssn : ℕ) (old new : CoreState B) : Type 0 where
     pub sends : List Outgoing
-    pub box : (inputs : List Input) → answers_at answers old.slots q.0 (Given source (body_at old.bodies (name source ssn)) ∷ inputs) ≡ after sends (answers_at answers new.slots q.0 inputs)
+    pub box : StepsAt answers q.0 (Given source (body_at old.bodies (name source ssn))) sends old.slots new.slots
     pub others : SameElsewhere answers q.0 old.slots new.slots
-    pub run : new.run ≡ extended old.run (Ask.Deliver q source ssn) (delivery_of old.run q (name source ssn) ∷ sends_of q (next_ssn (memories_of old.run) q) (receivers old.run.recording.processes sends))
-    pub bodies : new.bodies ≡ with_bodies old.bodies q.0 (sent_bodies old.run.recording.processes sends)
+    pub run : new.run ≡ with_delivery old.run q (name source ssn) sends
+    pub bodies : new.bodies ≡ with_bodies old.bodies q.0 (sent_in old.run sends)
 
   -- the box of p is gone, with the bodies of p's messages, and the others answer as before
   pub record Crashes (p : Pid) (old new : CoreState B) : Type 0 where
-    pub box : (inputs : List Input) → answers_at answers new.slots p.0 inputs ≡ None
+    pub box : HoldsNone answers p.0 new.slots
     pub others : SameElsewhere answers p.0 old.slots new.slots
     pub bodies : new.bodies ≡ slice_set old.bodies p.0 []

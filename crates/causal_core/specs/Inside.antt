@@ -3,3 +3,8 @@ pub mod Facts
 pub mod Gathers
 pub mod Begins
 pub mod Commits
+pub mod Limits
+pub mod Listings
+pub mod Namings
+pub mod Slots
+pub mod Stables

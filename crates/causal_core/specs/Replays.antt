@@ -11,10 +11,9 @@ use Rattle.causal_protocol.specs.declared.request.Reply.TheVariants as Told
 use Rattle.causal_protocol.specs.declared.request.CoreFault.{CoreFault}
 use Rattle.causal_protocol.specs.declared.request.Delivered.{Delivered}
 use Rattle.causal_protocol.specs.Run.{Run}
-use Rattle.causal_protocol.specs.Refusals.{first_fault}
-use Rattle.causal_protocol.specs.Steps.{Steps, reason_of}
+use Rattle.causal_protocol.specs.Steps.{Steps}
 use Rattle.causal_core.specs.Boxes.{answers_at, after_all, SameElsewhere}
-use Rattle.causal_core.specs.View.{body_at, naming}
+use Rattle.causal_core.specs.View.{body_at, naming, IsReason}
 use Rattle.causal_core.specs.CoreView.{CoreState, IsUnchanged, Delivers}
 
 -- a delivery of a replay: what is told of it, what the box was given, and what it sent
@@ -36,7 +35,7 @@ sends_in (x ∷ xs) = sends_in xs ++ x.sends ∷ []
 abbrev pub IsRefused : Run → Pid → CoreFault → Result (Option MsgName) CoreFault → Type 0
 IsRefused r p fault (Err told) = fault ≡ told
 IsRefused r p fault (Ok None) = ⊥
-IsRefused r p fault (Ok (Some m)) = first_fault r (Ask.Deliver p m.source m.ssn) ≡ reason_of fault
+IsRefused r p fault (Ok (Some m)) = IsReason r (Ask.Deliver p m.source m.ssn) fault
 
 -- the delivery of the message that is named for p's next one is refused for this
 abbrev pub RefusesNamed : Run → Pid → CoreFault → Type 0

@@ -4,14 +4,10 @@ use Rattle.causal_name.specs.declared.Pid.{Pid}
 use Rattle.causal_process.specs.declared.message.Input.{Input}
 use Rattle.causal_process.specs.declared.message.Input.TheVariants.{Begin}
 use Rattle.causal_process.specs.declared.message.Outgoing.{Outgoing}
-use Rattle.causal_trace.specs.declared.entry.Entry.TheVariants.{Restart}
 use Rattle.causal_protocol.specs.declared.request.CoreFault.{CoreFault}
-use Rattle.causal_protocol.specs.declared.request.Request.TheVariants as Ask
-use Rattle.causal_protocol.specs.Refusals.{gathered}
-use Rattle.causal_protocol.specs.Steps.{extended, sends_of}
 use Rattle.causal_core.specs.declared.restart.Refused.{Refused}
 use Rattle.causal_core.specs.Boxes.{answers_at, after, SameElsewhere}
-use Rattle.causal_core.specs.View.{receivers, sent_bodies}
+use Rattle.causal_core.specs.View.{sent_in, with_restart}
 use Rattle.causal_core.specs.CoreView.{CoreState}
 
 abbrev pub fault_of : {B : Type 0} → Refused B → CoreFault
@@ -24,5 +20,5 @@ module _ {B : Type 0} (answers : B → List Input → List (List Outgoing)) wher
     pub sends : List Outgoing
     pub box : (inputs : List Input) → Some (answers spare (Begin ∷ inputs)) ≡ after sends (answers_at answers new.slots p.0 inputs)
     pub others : SameElsewhere answers p.0 old.slots new.slots
-    pub run : new.run ≡ extended old.run (Ask.Restart p) (Restart p (gathered old.run p) ∷ sends_of p 0 (receivers old.run.recording.processes sends))
-    pub bodies : new.bodies ≡ slice_set old.bodies p.0 (sent_bodies old.run.recording.processes sends)
+    pub run : new.run ≡ with_restart old.run p sends
+    pub bodies : new.bodies ≡ slice_set old.bodies p.0 (sent_in old.run sends)

@@ -6,6 +6,7 @@ use Rattle.causal_log.specs.Stores.{DetSet, count_in}
 use Rattle.causal_trace.specs.declared.entry.Entry.{Entry}
 use Rattle.causal_trace.specs.Limits.{is_process_count}
 use Rattle.causal_protocol.specs.Run.{Run}
+use Rattle.causal_protocol.specs.Runs.{Opens}
 use Rattle.causal_protocol.specs.Steps.{pushed, sends_of}
 use Rattle.causal_core.specs.declared.start.StartFault.{StartFault}
 use Rattle.causal_core.specs.declared.start.StartFault.TheVariants as Why
@@ -21,6 +22,14 @@ start_fault n stored = if not (is_process_count n) then Some Why.Processes else 
 abbrev pub start_reason_of : StartFault → Option StartFault
 start_reason_of Why.NoMemory = None
 start_reason_of fault = Some fault
+
+-- a refusal of a start for this tells the first reason against it, or want of memory where there is none
+abbrev pub IsStartReason : ℕ → DetSet → StartFault → Type 0
+IsStartReason n stored fault = start_fault n stored ≡ start_reason_of fault
+
+-- each of n processes has begun, in order, and nothing else is recorded
+abbrev pub IsOpening : ℕ → List Entry → Type 0
+IsOpening n past = Opens n n past
 
 -- what is recorded once the process p begins and sends these, in a run of n processes
 abbrev pub with_beginning : ℕ → ℕ → List Outgoing → List Entry → List Entry

@@ -22,8 +22,12 @@ use Rattle.causal_log.specs.Stores.{dets_in}
 use Rattle.causal_name.specs.Names.{message_of}
 use Rattle.causal_protocol.specs.declared.request.CoreFault.{CoreFault}
 use Rattle.causal_protocol.specs.declared.request.CoreFault.TheVariants as Why
-use Rattle.causal_protocol.specs.Refusals.{when, first_of}
-use Rattle.causal_protocol.specs.Naming.{next_det, next_rsn, own_det, send_of, with_own, listed_for}
+use Rattle.causal_protocol.specs.declared.request.Request.{Request}
+use Rattle.causal_protocol.specs.declared.request.Request.TheVariants as Ask
+use Rattle.causal_trace.specs.declared.entry.Entry.TheVariants as Entries
+use Rattle.causal_protocol.specs.Refusals.{when, first_of, first_fault, gathered}
+use Rattle.causal_protocol.specs.Naming.{next_det, next_rsn, next_ssn, own_det, send_of, with_own, listed_for}
+use Rattle.causal_protocol.specs.Steps.{delivery_of, extended, reason_of, sends_of}
 use Rattle.causal_name.specs.declared.Det.{Det}
 
 abbrev pub kept_of : Message → Kept
@@ -89,6 +93,18 @@ receivers n sends = map (λ s. s.to) (addressed n sends)
 
 abbrev pub sent_bodies : ℕ → List Outgoing → List (List ℕ)
 sent_bodies n sends = map (λ s. s.body) (addressed n sends)
+
+-- the bodies of those that are to processes of the run
+abbrev pub sent_in : Run → List Outgoing → List (List ℕ)
+sent_in r sends = sent_bodies r.recording.processes sends
+
+-- the run goes on with a delivery to q of the message of that name, or with a restart of p, and with the sends of that step
+abbrev pub with_delivery : Run → Pid → MsgName → List Outgoing → Run
+with_delivery r q m sends =
+    extended r (Ask.Deliver q m.source m.ssn) (delivery_of r q m ∷ sends_of q (next_ssn (memories_of r) q) (receivers r.recording.processes sends))
+
+abbrev pub with_restart : Run → Pid → List Outgoing → Run
+with_restart r p sends = extended r (Ask.Restart p) (Entries.Restart p (gathered r p) ∷ sends_of p 0 (receivers r.recording.processes sends))
 
 -- messages to these are kept, sent from a position on with one batch
 unfoldable pub keep_all : ℕ → List Item → List Pid → Memory → Memory
@@ -160,6 +176,10 @@ naming_up r q (Some m) = Ok (option_map message_of (next_det (stable_of r) q m))
 
 abbrev pub naming : Run → Pid → Result (Option MsgName) CoreFault
 naming r q = if nat_lt q.0 r.recording.processes then naming_up r q (at (memories_of r) q.0) else Err Why.NoProcess
+
+-- a refusal of the request for this tells the first reason against it, or want of memory where there is none
+abbrev pub IsReason : Run → Request → CoreFault → Type 0
+IsReason r request fault = first_fault r request ≡ reason_of fault
 
 -- what stands against gathering for p
 abbrev pub gathering_fault : Run → Pid → Option CoreFault

@@ -1,8 +1,9 @@
 //! Boxes in slots.
-ghost use Rattle.std.specs.Prelude.{◌≡◌, ◌∷◌, ◌≤◌, ◌<◌, List, length, map, is_some, slice_set, true, false, None, Some, IfOk, OnErr, vec_len};
-ghost use Rattle.causal_process.specs.declared.message.Input.{Input};
+ghost use Rattle.std.specs.Prelude.{◌≡◌, ◌≤◌, ◌<◌, length, map, is_some, slice_set, true, false, IfOk, OnErr, vec_len};
 ghost use Rattle.causal_process.specs.declared.message.Input.TheVariants.{Begin};
-ghost use Rattle.causal_core.specs.Boxes.{box_answers, answers_at, after, HasBox, SameAnswers, SameElsewhere};
+ghost use Rattle.causal_core.specs.Boxes.{box_answers, AnswersAlike, HasBox, HoldsBox, HoldsNone};
+ghost use Rattle.causal_core.specs.Boxes.{SameAnswers, SameElsewhere, StepsAt};
+ghost use Rattle.causal_core.specs.Inside.Slots.{BoxSteps, SlotSteps};
 
 use causal_name::NoMemory;
 use causal_process::{Input, Outgoing, Process};
@@ -15,10 +16,9 @@ fn step_slot(
     input: &Input,
 ) -> Result<Vec<Outgoing>, NoMemory>
     requires { is_some slot.old ≡ true }
-    ensures ok { IfOk result (λ sends. (inputs : List Input) →
-        box_answers answers slot.old (input.now ∷ inputs) ≡ after sends.items (box_answers answers slot.new inputs)) }
+    ensures ok { IfOk result (λ sends. SlotSteps answers input.now sends.items slot.old slot.new) }
     ensures few { IfOk result (λ sends. length sends.items ≤ 8) }
-    ensures err { OnErr result ((inputs : List Input) → box_answers answers slot.new inputs ≡ box_answers answers slot.old inputs) }
+    ensures err { OnErr result (AnswersAlike (box_answers answers) slot.old slot.new) }
     ensures kept { is_some slot.new ≡ is_some slot.old }
 {
     let Some(mut process) = slot.take() else {
@@ -34,9 +34,9 @@ pub(crate) fn begin_box(
     process: &mut Box<dyn Process + Send>,
     alloc: Global,
 ) -> Result<Vec<Outgoing>, NoMemory>
-    ensures ok { IfOk result (λ sends. (inputs : List Input) → answers process.old (Begin ∷ inputs) ≡ sends.items ∷ answers process.new inputs) }
+    ensures ok { IfOk result (λ sends. BoxSteps answers Begin sends.items process.old process.new) }
     ensures few { IfOk result (λ sends. length sends.items ≤ 8) }
-    ensures err { OnErr result ((inputs : List Input) → answers process.new inputs ≡ answers process.old inputs) }
+    ensures err { OnErr result (AnswersAlike answers process.old process.new) }
 {
     process.step(alloc, &Input::Begin)
 }
@@ -49,8 +49,7 @@ pub(crate) fn step_at(
     input: &Input,
 ) -> Result<Vec<Outgoing>, NoMemory>
     requires { HasBox slots.old.items q }
-    ensures ok { IfOk result (λ sends. (inputs : List Input) →
-        answers_at answers slots.old.items q (input.now ∷ inputs) ≡ after sends.items (answers_at answers slots.new.items q inputs)) }
+    ensures ok { IfOk result (λ sends. StepsAt answers q input.now sends.items slots.old.items slots.new.items) }
     ensures few { IfOk result (λ sends. length sends.items ≤ 8) }
     ensures others { SameElsewhere answers q slots.old.items slots.new.items }
     ensures err { OnErr result (SameAnswers answers slots.old.items slots.new.items) }
@@ -62,7 +61,7 @@ pub(crate) fn step_at(
 /// Takes the box of slot p out, and drops it.
 pub(crate) fn empty_at(slots: &mut Vec<Option<Box<dyn Process + Send>>>, p: usize)
     requires { p < vec_len slots.old }
-    ensures empty { (inputs : List Input) → answers_at answers slots.new.items p inputs ≡ None }
+    ensures empty { HoldsNone answers p slots.new.items }
     ensures others { SameElsewhere answers p slots.old.items slots.new.items }
     ensures filled { map is_some slots.new.items ≡ slice_set (map is_some slots.old.items) p false }
 {
@@ -76,7 +75,7 @@ pub(crate) fn fill_at(
     process: Box<dyn Process + Send>,
 )
     requires { p < vec_len slots.old }
-    ensures there { (inputs : List Input) → answers_at answers slots.new.items p inputs ≡ Some (answers process inputs) }
+    ensures there { HoldsBox answers p process slots.new.items }
     ensures others { SameElsewhere answers p slots.old.items slots.new.items }
     ensures filled { map is_some slots.new.items ≡ slice_set (map is_some slots.old.items) p true }
 {

@@ -94,12 +94,10 @@ pub(crate) fn commit_at(
     ensures bodies { bodies_in cells.new.items
         ≡ with_bodies (bodies_in cells.old.items) q.0 (sent_bodies trace.old.recording.processes sends.items) }
 {
-    let Some(mut cell) = cells[usize::from(q.0)].take() else {
+    let Some(cell) = &mut cells[usize::from(q.0)] else {
         unreachable!()
     };
-    let number = commit(trace, &mut cell, q, grown, sends);
-    cells[usize::from(q.0)] = Some(cell);
-    number
+    commit(trace, cell, q, grown, sends)
 }
 
 /// Room for a delivery that logs so many determinants, and for its sends.
@@ -129,10 +127,8 @@ pub(crate) fn make_room_at(
     ensures received { OnOk result (1 ≤ (room_at (rooms_in cells.new.items) q.0).received) }
     ensures log { OnOk result (logged ≤ (room_at (rooms_in cells.new.items) q.0).log) }
 {
-    let Some(mut cell) = cells[usize::from(q.0)].take() else {
+    let Some(cell) = &mut cells[usize::from(q.0)] else {
         unreachable!()
     };
-    let made = make_room(&mut cell, logged);
-    cells[usize::from(q.0)] = Some(cell);
-    made
+    make_room(cell, logged)
 }

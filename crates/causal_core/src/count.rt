@@ -1,12 +1,10 @@
 //! How many determinants a restart lists, counted without memory.
-ghost use Rattle.std.specs.Prelude.{◌≡◌, ◌≤◌, ◌<◌, ◌^◌, not, ◌||◌, length, is_some, count_by, false};
+ghost use Rattle.std.specs.Prelude.{◌≡◌, ◌≤◌, ◌<◌, ◌^◌, length, is_some, false};
 ghost use Rattle.std.specs.Option.{option_map, option_map_or};
 ghost use Rattle.std.specs.FinMap as fin;
-ghost use Rattle.causal_name.specs.declared.Pid.{Pid as Process};
-ghost use Rattle.causal_log.specs.Stores.{has, count_in};
-ghost use Rattle.causal_protocol.specs.Gathering.{gathered_log};
+ghost use Rattle.causal_log.specs.Stores.{count_in};
 ghost use Rattle.causal_core.specs.View.{memory_of, memories_in};
-ghost use Rattle.causal_core.specs.Inside.Gathers.{is_logged};
+ghost use Rattle.causal_core.specs.Inside.Gathers.{count_new, is_logged, is_new, IsGatheredCount};
 
 use crate::cell::Cell;
 use causal_log::{Log, Stable};
@@ -36,14 +34,14 @@ fn is_logged(cells: &[Option<Cell>], det: Det) -> bool
 
 /// Whether neither the store nor one of these processes has it.
 fn is_new<S: Stable>(cells: &[Option<Cell>], store: &S, det: Det) -> bool
-    ensures { result ≡ not (has (S.contents store.now) det || is_logged (memories_in cells.now) det) }
+    ensures { result ≡ is_new (S.contents store.now) (memories_in cells.now) det }
 {
     !store.contains(det) && !is_logged(cells, det)
 }
 
 /// How many determinants of a log neither the store nor one of these processes has.
 fn count_new<S: Stable>(cells: &[Option<Cell>], store: &S, log: &Log) -> usize
-    ensures value { result ≡ count_by (λ d. not (has (S.contents store.now) d || is_logged (memories_in cells.now) d)) (fin.keys log.now.map) }
+    ensures value { result ≡ count_new (S.contents store.now) (memories_in cells.now) log.now.map }
     ensures few { result < 2 ^ 32 }
 {
     let dets = log.unordered();
@@ -60,7 +58,7 @@ fn count_new<S: Stable>(cells: &[Option<Cell>], store: &S, log: &Log) -> usize
 pub(crate) fn count_gathered<S: Stable>(cells: &[Option<Cell>], store: &S) -> usize
     requires processes { length cells.now ≤ 256 }
     requires few { count_in (S.contents store.now) ≤ 65536 }
-    ensures { (p : Process) → result ≡ length (fin.keys (gathered_log (memories_in cells.now) (S.contents store.now) p)) }
+    ensures { IsGatheredCount result (memories_in cells.now) (S.contents store.now) }
 {
     let mut count = store.len() as usize;
     for (i, cell) in cells.iter().enumerate() {

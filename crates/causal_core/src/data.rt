@@ -1,20 +1,23 @@
 //! The plain data of a core.
-ghost use Rattle.std.specs.Prelude.{◌≡◌, ◌<◌, ◌≤◌, ◌+◌, [], ◌∷◌, length, OnOk, OnErr, IfOk, IfErr, is_none, is_some, nat_lt, ◌&&◌, ◌||◌, true, None, Some, slice_set, vec_len};
+ghost use Rattle.std.specs.Prelude.{◌≡◌, ◌<◌, ◌≤◌, ◌+◌, [], ◌∷◌, length, OnOk, OnErr, IfOk, IfErr, is_none, is_some, nat_lt, ◌&&◌, true, None, Some, slice_set, vec_len};
 ghost use Rattle.causal_name.specs.Names.{message_of};
-ghost use Rattle.causal_trace.specs.declared.entry.Entry.TheVariants as Entries;
-ghost use Rattle.causal_trace.specs.Past.{listed_in, det_at};
+ghost use Rattle.causal_trace.specs.Past.{det_at};
 ghost use Rattle.causal_protocol.specs.declared.request.Request.TheVariants as Ask;
 ghost use Rattle.causal_protocol.specs.declared.request.Reply.TheVariants as Told;
 ghost use Rattle.std.specs.FinMap as fin;
-ghost use Rattle.causal_log.specs.Logs.{marked};
-ghost use Rattle.causal_protocol.specs.Memory.{at, changed, with_log};
-ghost use Rattle.causal_log.specs.Stores.{dets_in};
+ghost use Rattle.causal_protocol.specs.Memory.{at, changed};
 ghost use Rattle.causal_protocol.specs.Gathering.{gathered_log};
 ghost use Rattle.causal_protocol.specs.Run.{memories_of, stable_of};
-ghost use Rattle.causal_protocol.specs.Naming.{name, next_rsn, next_ssn};
+ghost use Rattle.causal_protocol.specs.Naming.{name, next_rsn};
 ghost use Rattle.causal_protocol.specs.Refusals.{first_fault};
-ghost use Rattle.causal_protocol.specs.Steps.{reason_of, extended, delivery_of, sends_of, Steps, told_crash};
-ghost use Rattle.causal_core.specs.View.{memory_of, bodies_of, log_at, memories_in, bodies_in, naming, gathering_fault, stored_for, IsGrown, HasRoom, carried_by, receivers, sent_bodies, with_bodies};
+ghost use Rattle.causal_protocol.specs.Steps.{Steps, told_crash};
+ghost use Rattle.causal_core.specs.Flushes.{IsStored};
+ghost use Rattle.causal_core.specs.Inside.Commits.{asked_by};
+ghost use Rattle.causal_core.specs.Inside.Limits.{is_full_with, is_long_with};
+ghost use Rattle.causal_core.specs.Inside.Stables.{flushed, with_stable};
+ghost use Rattle.causal_core.specs.View.{memory_of, bodies_of, log_at, memories_in, bodies_in, carried_by, sent_in};
+ghost use Rattle.causal_core.specs.View.{gathering_fault, naming, stored_for, with_bodies, with_delivery};
+ghost use Rattle.causal_core.specs.View.{HasRoom, IsGrown, IsReason};
 
 use crate::cell::Cell;
 use crate::commit::{commit_at, make_room_at};
@@ -24,7 +27,7 @@ use crate::grown::Grown;
 use crate::insertion::listed_len;
 use crate::named::{named, other_named};
 use crate::search::{cell_at, count_down, message};
-use causal_log::Log;
+use causal_log::{Log, Stable};
 use causal_name::{Det, MsgName, NoMemory, Pid};
 use causal_process::Outgoing;
 use causal_protocol::request::{CoreFault, Delivered};
@@ -71,14 +74,14 @@ fn are_processes(q: Pid, source: Pid, n: u16) -> bool
 
 /// Whether so many more entries would pass the limit.
 pub(crate) fn is_long(trace: &Trace, entries: u32) -> bool
-    ensures { result ≡ nat_lt 65536 (length trace.now.recording.past + entries) }
+    ensures { result ≡ is_long_with trace.now.recording.past entries }
 {
     entries > MAX_ENTRIES as u32 - trace.len()
 }
 
 /// Whether so many more entries, or such a list, would pass a limit.
 pub(crate) fn is_full(trace: &Trace, entries: u32, listed: usize) -> bool
-    ensures { result ≡ (nat_lt 65536 (length trace.now.recording.past + entries) || nat_lt 1048576 (listed_in trace.now.recording.past + listed)) }
+    ensures { result ≡ is_full_with trace.now.recording.past entries listed }
 {
     is_long(trace, entries) || listed > MAX_LISTED - trace.listed() as usize
 }
@@ -95,18 +98,17 @@ fn empty(cells: &mut Vec<Option<Cell>>, p: usize)
 /// That a determinant is stable becomes known to p.
 fn mark_at(cells: &mut Vec<Option<Cell>>, p: Pid, det: Det)
     requires { is_some (at (memories_in cells.old.items) p.0) ≡ true }
-    ensures memories { memories_in cells.new.items ≡ changed (with_log (λ log. marked log det)) (memories_in cells.old.items) p.0 }
+    ensures memories { memories_in cells.new.items ≡ changed (with_stable det) (memories_in cells.old.items) p.0 }
     ensures bodies { bodies_in cells.new.items ≡ bodies_in cells.old.items }
 {
-    let Some(mut cell) = cells[usize::from(p.0)].take() else {
+    let Some(cell) = &mut cells[usize::from(p.0)] else {
         unreachable!()
     };
-    mark(&mut cell, det);
-    cells[usize::from(p.0)] = Some(cell);
+    mark(cell, det);
 }
 
 fn mark(cell: &mut Cell, det: Det)
-    ensures memory { memory_of cell.new ≡ with_log (λ log. marked log det) (memory_of cell.old) }
+    ensures memory { memory_of cell.new ≡ with_stable det (memory_of cell.old) }
     ensures bodies { bodies_of cell.new ≡ bodies_of cell.old }
 {
     cell.log.mark_stable(det);
@@ -265,7 +267,7 @@ impl Data {
         ensures run { self.new.run ≡ self.old.run }
         ensures bodies { self.new.bodies ≡ self.old.bodies }
         ensures legal { OnOk result (first_fault self.old.run (Ask.Deliver q source ssn) ≡ None) }
-        ensures refused { IfErr result (λ fault. first_fault self.old.run (Ask.Deliver q source ssn) ≡ reason_of fault) }
+        ensures refused { IfErr result (IsReason self.old.run (Ask.Deliver q source ssn)) }
         ensures grown { IfOk result (λ g. IsGrown self.new q (name source ssn) g) }
         ensures room { IfOk result (λ g. HasRoom q.0 (length (carried_by g) + 1) self.new) }
     {
@@ -285,14 +287,14 @@ impl Data {
 
     /// Records a delivery to q and its sends, once the box has stepped.
     pub(crate) fn finish(&mut self, q: Pid, grown: Grown, sends: Vec<Outgoing>) -> Delivered
-        requires legal { first_fault self.old.run (Ask.Deliver q grown.own.source grown.own.ssn) ≡ None }
+        requires legal { first_fault self.old.run (asked_by q grown) ≡ None }
         requires grown { IsGrown self.old q (message_of grown.own) grown }
         requires few { length sends.items ≤ 8 }
         requires room { HasRoom q.0 (length (carried_by grown) + 1) self.old }
-        ensures run { self.new.run ≡ extended self.old.run (Ask.Deliver q grown.own.source grown.own.ssn) (delivery_of self.old.run q (message_of grown.own) ∷ sends_of q (next_ssn (memories_of self.old.run) q) (receivers self.old.run.recording.processes sends.items)) }
-        ensures step { Steps self.old.run (Ask.Deliver q grown.own.source grown.own.ssn) (Told.Delivered result) self.new.run }
+        ensures run { self.new.run ≡ with_delivery self.old.run q (message_of grown.own) sends.items }
+        ensures step { Steps self.old.run (asked_by q grown) (Told.Delivered result) self.new.run }
         ensures det { det_at self.new.run.recording.past result.first ≡ Some result.det }
-        ensures bodies { self.new.bodies ≡ with_bodies self.old.bodies q.0 (sent_bodies self.old.run.recording.processes sends.items) }
+        ensures bodies { self.new.bodies ≡ with_bodies self.old.bodies q.0 (sent_in self.old.run sends.items) }
     {
         let first = self.trace.len();
         let det = grown.own;
@@ -328,12 +330,18 @@ impl Data {
         None
     }
 
-    /// The log that p would have after a restart, where this is stored.
-    pub(crate) fn gather(&self, alloc: Global, stored: &[Det], p: Pid) -> Result<Log, NoMemory>
-        requires { stored.now ≡ dets_in (stable_of self.now.run) }
+    /// The log that p would have after a restart, where the store has what is stable.
+    pub(crate) fn gather<S: Stable>(
+        &self,
+        alloc: Global,
+        p: Pid,
+        store: &S,
+    ) -> Result<Log, NoMemory>
+        requires { IsStored (S.contents store.now) self.now.run.recording.past }
         ensures { IfOk result (λ log. log.map ≡ gathered_log (memories_of self.now.run) (stable_of self.now.run) p) }
     {
-        gather(alloc, self.cells.as_slice(), stored, p)
+        let stored = store.all(alloc)?;
+        gather(alloc, self.cells.as_slice(), stored.as_slice(), p)
     }
 
     /// Records that a flush of p wrote a determinant.
@@ -344,7 +352,7 @@ impl Data {
         requires short { length self.old.run.recording.past < 65536 }
         requires spare { 1 ≤ self.old.spare }
         requires room { 1 ≤ self.old.writers_room }
-        ensures run { self.new.run ≡ extended self.old.run (Ask.Flush p) (Entries.Stable det ∷ []) }
+        ensures run { self.new.run ≡ flushed self.old.run p (det ∷ []) }
         ensures bodies { self.new.bodies ≡ self.old.bodies }
         ensures spare { self.old.spare ≤ self.new.spare + 1 }
         ensures room { self.old.writers_room ≤ self.new.writers_room + 1 }

@@ -5,8 +5,9 @@ ghost use Rattle.causal_trace.specs.declared.entry.Entry.TheVariants as Entries;
 ghost use Rattle.causal_protocol.specs.declared.request.Request.TheVariants as Ask;
 ghost use Rattle.causal_protocol.specs.Memory.{at, changed, with_log};
 ghost use Rattle.causal_protocol.specs.Refusals.{first_fault, unwritten, forgettable};
-ghost use Rattle.causal_protocol.specs.Steps.{reason_of, extended, Steps, told_forget};
-ghost use Rattle.causal_core.specs.View.{memory_of, bodies_of, memories_in, bodies_in};
+ghost use Rattle.causal_protocol.specs.Steps.{extended, Steps, told_forget};
+ghost use Rattle.causal_core.specs.Inside.Stables.{HasRoomForStable};
+ghost use Rattle.causal_core.specs.View.{memory_of, bodies_of, memories_in, bodies_in, IsReason};
 
 use crate::cell::Cell;
 use crate::data::{Data, is_full, is_long, is_process};
@@ -22,11 +23,10 @@ fn drop_stable_at(cells: &mut Vec<Option<Cell>>, p: Pid)
     ensures memories { memories_in cells.new.items ≡ changed (with_log unmarked) (memories_in cells.old.items) p.0 }
     ensures bodies { bodies_in cells.new.items ≡ bodies_in cells.old.items }
 {
-    let Some(mut cell) = cells[usize::from(p.0)].take() else {
+    let Some(cell) = &mut cells[usize::from(p.0)] else {
         unreachable!()
     };
-    drop_stable(&mut cell);
-    cells[usize::from(p.0)] = Some(cell);
+    drop_stable(cell);
 }
 
 fn drop_stable(cell: &mut Cell)
@@ -69,7 +69,7 @@ impl Data {
         requires { count ≤ 65536 }
         ensures run { self.new.run ≡ self.old.run }
         ensures bodies { self.new.bodies ≡ self.old.bodies }
-        ensures room { OnOk result ((count ≤ self.new.spare) × (count ≤ self.new.writers_room)) }
+        ensures room { OnOk result (HasRoomForStable count self.new) }
     {
         self.trace.reserve(count as u32)?;
         self.writers.reserve(count)?;
@@ -81,9 +81,9 @@ impl Data {
         ensures run { self.new.run ≡ self.old.run }
         ensures bodies { self.new.bodies ≡ self.old.bodies }
         ensures legal { OnOk result (first_fault self.old.run (Ask.Flush p) ≡ None) }
-        ensures refused { IfErr result (λ fault. first_fault self.old.run (Ask.Flush p) ≡ reason_of fault) }
+        ensures refused { IfErr result (IsReason self.old.run (Ask.Flush p)) }
         ensures dets { IfOk result (λ dets. dets.items ≡ unwritten self.old.run p) }
-        ensures room { IfOk result (λ dets. (length dets.items ≤ self.new.spare) × (length dets.items ≤ self.new.writers_room)) }
+        ensures room { IfOk result (λ dets. HasRoomForStable (length dets.items) self.new) }
     {
         if let Some(fault) = self.flush_fault(p) {
             return Err(fault);

@@ -1,17 +1,14 @@
 //! A restart, as far as plain data goes.
-ghost use Rattle.std.specs.Prelude.{◌≡◌, ◌≤◌, ◌<◌, ◌∷◌, [], length, reverse, OnOk, IfOk, IfErr, None, Some, slice_set, vec_len, nat_lt, nat_le, ◌||◌};
-ghost use Rattle.causal_name.specs.declared.Det.{Det as Determinant};
-ghost use Rattle.causal_log.specs.Stores.{has};
-ghost use Rattle.causal_trace.specs.declared.entry.Entry.TheVariants as Entries;
-ghost use Rattle.causal_trace.specs.Past.{restarts, is_stable};
+ghost use Rattle.std.specs.Prelude.{◌≡◌, ◌≤◌, ◌<◌, ◌∷◌, [], length, replicate, reverse, OnOk, IfOk, IfErr, None, Some, slice_set, vec_len, nat_lt, nat_le, ◌||◌};
+ghost use Rattle.causal_log.specs.Logs.{chosen};
+ghost use Rattle.causal_trace.specs.Past.{restarts};
 ghost use Rattle.causal_protocol.specs.declared.request.Request.TheVariants as Ask;
 ghost use Rattle.causal_protocol.specs.declared.request.Reply.TheVariants as Told;
-ghost use Rattle.causal_protocol.specs.Gathering.{gathered_log};
-ghost use Rattle.causal_protocol.specs.Run.{memories_of, stable_of};
-ghost use Rattle.causal_protocol.specs.Refusals.{first_fault, is_full, gathered as gathered_by};
-ghost use Rattle.causal_protocol.specs.Steps.{reason_of, extended, sends_of, Steps};
-ghost use Rattle.causal_core.specs.Inside.Gathers.{IsGathered};
-ghost use Rattle.causal_core.specs.View.{memory_of, bodies_of, memories_in, bodies_in, receivers, sent_bodies};
+ghost use Rattle.causal_protocol.specs.Refusals.{first_fault, is_full};
+ghost use Rattle.causal_protocol.specs.Steps.{Steps};
+ghost use Rattle.causal_core.specs.Flushes.{IsStored};
+ghost use Rattle.causal_core.specs.Inside.Gathers.{IsGathered, IsGatheredFor};
+ghost use Rattle.causal_core.specs.View.{memory_of, bodies_of, memories_in, bodies_in, batches_of, sent_in, with_restart, IsReason};
 
 use crate::cell::Cell;
 use crate::count::count_gathered;
@@ -20,13 +17,14 @@ use crate::fresh::fresh_cell;
 use crate::gathered::Gathered;
 use crate::grow::shares;
 use crate::sends::append_sends;
-use causal_log::{Log, Stable};
+use causal_log::{Batch, Log, Stable};
 use causal_name::{NoMemory, Pid};
 use causal_process::Outgoing;
 use causal_protocol::request::{CoreFault, Restarted};
 use causal_trace::entry::{Dets, Entry};
 use causal_trace::limits::MAX_RESTARTS;
 use std::alloc::Global;
+use std::sync::Arc;
 
 /// How many restarts these entries record.
 fn count_restarts(entries: &[Entry]) -> usize
@@ -57,13 +55,20 @@ pub(crate) fn put(cells: &mut Vec<Option<Cell>>, p: usize, cell: Cell)
     cells[p] = Some(cell);
 }
 
+/// Eight shares of what a log chooses for f failures.
+fn chosen_shares(alloc: Global, f: u16, log: &Log) -> Result<Vec<Arc<Batch>>, NoMemory>
+    ensures { IfOk result (λ shares. batches_of shares.items ≡ replicate 8 (chosen f log.now.map)) }
+{
+    let batch = log.choose(alloc, f)?;
+    shares(alloc, batch)
+}
+
 /// What a process has that comes up with this log, and what its sends carry.
 pub(crate) fn gathered(alloc: Global, f: u16, log: Log) -> Result<Gathered, NoMemory>
     ensures { IfOk result (λ g. IsGathered f log.map g) }
 {
     let listed = log.dets(alloc)?;
-    let batch = log.choose(alloc, f)?;
-    let shares = shares(alloc, batch)?;
+    let shares = chosen_shares(alloc, f, &log)?;
     let cell = fresh_cell(alloc, log)?;
     Ok(Gathered {
         listed,
@@ -84,7 +89,7 @@ impl Data {
     /// What stands against a restart of p, where the store has what is stable.
     #[tactic(auto, unfolding(causal_protocol::specs::Refusals::rows))]
     fn restart_fault<S: Stable>(&self, p: Pid, store: &S) -> Option<CoreFault>
-        requires { (d : Determinant) → has (S.contents store.now) d ≡ is_stable self.now.run.recording.past d }
+        requires { IsStored (S.contents store.now) self.now.run.recording.past }
         ensures { result ≡ first_fault self.now.run (Ask.Restart p) }
     {
         if let Some(fault) = self.gathering_fault(p) {
@@ -104,17 +109,15 @@ impl Data {
         p: Pid,
         store: &S,
     ) -> Result<Gathered, NoMemory>
-        requires { (d : Determinant) → has (S.contents store.now) d ≡ is_stable self.old.run.recording.past d }
+        requires { IsStored (S.contents store.now) self.old.run.recording.past }
         ensures run { self.new.run ≡ self.old.run }
         ensures bodies { self.new.bodies ≡ self.old.bodies }
-        ensures gathered { IfOk result (λ g. IsGathered self.old.run.faults (gathered_log (memories_of self.old.run) (stable_of self.old.run) p) g) }
+        ensures gathered { IfOk result (IsGatheredFor self.old.run p) }
         ensures room { OnOk result (9 ≤ self.new.spare) }
     {
-        let stored = store.all(alloc)?;
-        let log = self.gather(alloc, stored.as_slice(), p)?;
-        let made = gathered(alloc, self.faults, log)?;
         self.trace.reserve(9)?;
-        Ok(made)
+        let log = self.gather(alloc, p, store)?;
+        gathered(alloc, self.faults, log)
     }
 
     /// Makes all that a restart of p needs memory for, where nothing stands against it and the store has what is stable.
@@ -124,12 +127,12 @@ impl Data {
         p: Pid,
         store: &S,
     ) -> Result<Gathered, CoreFault>
-        requires { (d : Determinant) → has (S.contents store.now) d ≡ is_stable self.old.run.recording.past d }
+        requires { IsStored (S.contents store.now) self.old.run.recording.past }
         ensures run { self.new.run ≡ self.old.run }
         ensures bodies { self.new.bodies ≡ self.old.bodies }
         ensures legal { OnOk result (first_fault self.old.run (Ask.Restart p) ≡ None) }
-        ensures refused { IfErr result (λ fault. first_fault self.old.run (Ask.Restart p) ≡ reason_of fault) }
-        ensures gathered { IfOk result (λ g. IsGathered self.old.run.faults (gathered_log (memories_of self.old.run) (stable_of self.old.run) p) g) }
+        ensures refused { IfErr result (IsReason self.old.run (Ask.Restart p)) }
+        ensures gathered { IfOk result (IsGatheredFor self.old.run p) }
         ensures room { OnOk result (9 ≤ self.new.spare) }
     {
         if let Some(fault) = self.restart_fault(p, store) {
@@ -149,12 +152,12 @@ impl Data {
         sends: Vec<Outgoing>,
     ) -> Restarted
         requires legal { first_fault self.old.run (Ask.Restart p) ≡ None }
-        requires gathered { IsGathered self.old.run.faults (gathered_log (memories_of self.old.run) (stable_of self.old.run) p) gathered }
+        requires gathered { IsGatheredFor self.old.run p gathered }
         requires few { length sends.items ≤ 8 }
         requires room { 9 ≤ self.old.spare }
-        ensures run { self.new.run ≡ extended self.old.run (Ask.Restart p) (Entries.Restart p (gathered_by self.old.run p) ∷ sends_of p 0 (receivers self.old.run.recording.processes sends.items)) }
+        ensures run { self.new.run ≡ with_restart self.old.run p sends.items }
         ensures step { Steps self.old.run (Ask.Restart p) (Told.Restarted result) self.new.run }
-        ensures bodies { self.new.bodies ≡ slice_set self.old.bodies p.0 (sent_bodies self.old.run.recording.processes sends.items) }
+        ensures bodies { self.new.bodies ≡ slice_set self.old.bodies p.0 (sent_in self.old.run sends.items) }
     {
         let first = self.trace.len();
         let _listed = self.trace.listed();

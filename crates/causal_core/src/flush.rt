@@ -2,14 +2,14 @@
 ghost use Rattle.std.specs.Prelude.{◌≡◌, ◌<◌, ◌≤◌, ◌+◌, ◌∷◌, [], length, map, take, is_some, true, None, Err, OnOk, OnErr, IfOk, IfErr};
 ghost use Rattle.std.specs.FinMap as fin;
 ghost use Rattle.std.specs.List.{list_all};
-ghost use Rattle.causal_trace.specs.declared.entry.Entry.TheVariants as Entries;
 ghost use Rattle.causal_protocol.specs.declared.request.Request.TheVariants as Ask;
 ghost use Rattle.causal_protocol.specs.Memory.{at};
 ghost use Rattle.causal_protocol.specs.Run.{memories_of};
-ghost use Rattle.causal_protocol.specs.Steps.{extended, flush_reason_of, Steps, told_flush};
+ghost use Rattle.causal_protocol.specs.Steps.{flush_reason_of, Steps, told_flush};
 ghost use Rattle.causal_core.specs.Boxes.{SameAnswers};
 ghost use Rattle.causal_core.specs.View.{log_at};
-ghost use Rattle.causal_core.specs.Flushes.{HasFailed, IsStored, written};
+ghost use Rattle.causal_core.specs.Flushes.{written, HasFailed, IsStored, TellsFailure};
+ghost use Rattle.causal_core.specs.Inside.Stables.{flushed};
 ghost use Rattle.causal_core.specs.CoreView.{run_of, state_of, store_of};
 
 use crate::data::Data;
@@ -27,7 +27,7 @@ fn write_one<S: Stable>(held: &mut Data, store: &mut S, p: Pid, det: Det) -> Res
     requires spare { 1 ≤ held.old.spare }
     requires room { 1 ≤ held.old.writers_room }
     requires stored { IsStored (S.contents store.old) held.old.run.recording.past }
-    ensures ok { OnOk result (held.new.run ≡ extended held.old.run (Ask.Flush p) (Entries.Stable det ∷ [])) }
+    ensures ok { OnOk result (held.new.run ≡ flushed held.old.run p (det ∷ [])) }
     ensures err { OnErr result (held.new.run ≡ held.old.run) }
     ensures stored { IsStored (S.contents store.new) held.new.run.recording.past }
     ensures filled { map is_some (memories_of held.new.run) ≡ map is_some (memories_of held.old.run) }
@@ -65,11 +65,11 @@ fn write_all<S: Stable>(
     requires spare { length dets.now ≤ held.old.spare }
     requires room { length dets.now ≤ held.old.writers_room }
     requires stored { IsStored (S.contents store.old) held.old.run.recording.past }
-    ensures run { held.new.run ≡ extended held.old.run (Ask.Flush p) (map Entries.Stable (take (written result) dets.now)) }
+    ensures run { held.new.run ≡ flushed held.old.run p (take (written result) dets.now) }
     ensures ok { IfOk result (λ count. count ≡ length dets.now) }
     ensures part { IfErr result (λ f. f.done ≤ length dets.now) }
     ensures why { IfErr result (λ f. flush_reason_of f.fault ≡ None) }
-    ensures fault { IfErr result (λ f. f.fault ≡ CoreFault.StoreFault → HasFailed (S.faults store.old) (S.faults store.new)) }
+    ensures fault { IfErr result (TellsFailure (S.faults store.old) (S.faults store.new)) }
     ensures stored { IsStored (S.contents store.new) held.new.run.recording.past }
     ensures filled { map is_some (memories_of held.new.run) ≡ map is_some (memories_of held.old.run) }
     ensures bodies { held.new.bodies ≡ held.old.bodies }
@@ -96,7 +96,7 @@ impl<S: Stable> Core<S> {
     pub fn flush(&mut self, p: Pid) -> Result<u32, FlushFault>
         requires { p.0 < 256 }
         ensures step { Steps (run_of self.old) (Ask.Flush p) (told_flush result) (run_of self.new) }
-        ensures fault { IfErr result (λ f. f.fault ≡ CoreFault.StoreFault → HasFailed (S.faults (store_of self.old)) (S.faults (store_of self.new))) }
+        ensures fault { IfErr result (TellsFailure (S.faults (store_of self.old)) (S.faults (store_of self.new))) }
         ensures bodies { (state_of self.new).bodies ≡ (state_of self.old).bodies }
         ensures boxes { SameAnswers answers (state_of self.old).slots (state_of self.new).slots }
     {

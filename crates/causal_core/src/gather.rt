@@ -2,6 +2,7 @@
 ghost use Rattle.std.specs.Prelude.{◌≡◌, IfOk, OnOk};
 ghost use Rattle.std.specs.FinMap as fin;
 ghost use Rattle.causal_protocol.specs.Gathering.{known_together, held_all, stable_all};
+ghost use Rattle.causal_core.specs.Inside.Gathers.{gathered_with};
 ghost use Rattle.causal_core.specs.View.{memories_in};
 
 use crate::cell::Cell;
@@ -42,6 +43,14 @@ fn store_all(log: &mut Log, dets: &[Det], p: Pid) -> Result<(), NoMemory>
     Ok(())
 }
 
+/// That p holds all that the log has becomes known.
+fn hold_known(alloc: Global, log: &mut Log, p: Pid) -> Result<(), NoMemory>
+    ensures { OnOk result (log.new.map ≡ held_all (fin.keys log.old.map) p log.old.map) }
+{
+    let dets = log.dets(alloc)?;
+    hold_all(log, dets.as_slice(), p)
+}
+
 /// The log that p has once it has gathered what up processes log and what is stored.
 pub(crate) fn gather(
     alloc: Global,
@@ -49,11 +58,10 @@ pub(crate) fn gather(
     stored: &[Det],
     p: Pid,
 ) -> Result<Log, NoMemory>
-    ensures { IfOk result (λ log. log.map ≡ stable_all stored.now p (held_all (fin.keys (known_together (memories_in cells.now))) p (known_together (memories_in cells.now)))) }
+    ensures { IfOk result (λ log. log.map ≡ gathered_with (memories_in cells.now) stored.now p) }
 {
     let mut log = known_by_all(alloc, cells)?;
-    let dets = log.dets(alloc)?;
-    hold_all(&mut log, dets.as_slice(), p)?;
+    hold_known(alloc, &mut log, p)?;
     store_all(&mut log, stored, p)?;
     Ok(log)
 }

@@ -1,9 +1,8 @@
 //! What a delivery lists.
-ghost use Rattle.std.specs.Prelude.{◌≡◌, ◌++◌, ◌∷◌, List, length, IfOk};
-ghost use Rattle.causal_name.specs.declared.Det.{Det as Determinant};
+ghost use Rattle.std.specs.Prelude.{◌≡◌, length, IfOk};
 ghost use Rattle.causal_log.specs.Logs.{dets_of};
 ghost use Rattle.causal_protocol.specs.Naming.{with_own};
-ghost use Rattle.causal_core.specs.View.{rest_of};
+ghost use Rattle.causal_core.specs.Inside.Listings.{ListsNext};
 
 use causal_log::Item;
 use causal_name::{Det, NoMemory};
@@ -43,7 +42,7 @@ pub(crate) fn listed(alloc: Global, own: Det, items: &[Item]) -> Result<Vec<Det>
 
 /// Lists the next determinant, after the one more where that comes first; says whether that one has its place.
 fn place(listed: &mut Vec<Det>, own: Det, placed: bool, det: Det) -> Result<bool, NoMemory>
-    ensures { IfOk result (λ now_placed. (rest : List Determinant) → listed.new.items ++ rest_of now_placed own rest ≡ listed.old.items ++ rest_of placed own (det ∷ rest)) }
+    ensures { IfOk result (λ now_placed. ListsNext own det placed now_placed listed.old.items listed.new.items) }
 {
     if placed {
         listed.push(det)?;

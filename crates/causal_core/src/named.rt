@@ -1,11 +1,8 @@
 //! What is named for a process's next delivery.
-ghost use Rattle.std.specs.Prelude.{◌≡◌, ◌<◌, ◌^◌, length, vec_len};
-ghost use Rattle.std.specs.Option.{option_map};
-ghost use Rattle.std.specs.FinMap as fin;
-ghost use Rattle.causal_name.specs.Names.{message_of};
-ghost use Rattle.causal_log.specs.Slots.{first_of_slot};
-ghost use Rattle.causal_protocol.specs.Naming.{lesser};
+ghost use Rattle.std.specs.Prelude.{◌≡◌, ◌<◌, ◌^◌, vec_len};
 ghost use Rattle.causal_protocol.specs.Refusals.{unless};
+ghost use Rattle.causal_core.specs.Inside.Namings.{named_by};
+ghost use Rattle.causal_core.specs.View.{memory_of};
 
 use crate::cell::Cell;
 use causal_name::{Det, MsgName, Pid};
@@ -14,7 +11,7 @@ use causal_protocol::request::CoreFault;
 /// The message that is named for q's next delivery, by q's log or by what stable storage has for it.
 pub(crate) fn named(cell: &Cell, q: Pid, stored: Option<Det>) -> Option<MsgName>
     requires { vec_len cell.now.received < 2 ^ 32 }
-    ensures { result ≡ option_map message_of (lesser (first_of_slot q (length cell.now.received.items) (fin.keys cell.now.log.map)) stored) }
+    ensures { result ≡ named_by q (memory_of cell.now) stored }
 {
     let rsn = cell.received.len() as u32;
     let Some(logged) = cell.log.for_slot(q, rsn) else {
@@ -43,7 +40,7 @@ pub(crate) fn other_named(
     asked: MsgName,
 ) -> Option<CoreFault>
     requires { vec_len cell.now.received < 2 ^ 32 }
-    ensures { result ≡ unless asked (option_map message_of (lesser (first_of_slot q (length cell.now.received.items) (fin.keys cell.now.log.map)) stored)) }
+    ensures { result ≡ unless asked (named_by q (memory_of cell.now) stored) }
 {
     match named(cell, q, stored) {
         Some(other) if other != asked => Some(CoreFault::MustReplay(other)),

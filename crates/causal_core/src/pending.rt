@@ -1,13 +1,12 @@
 //! The messages that a process may deliver.
-ghost use Rattle.std.specs.Prelude.{◌≡◌, ◌<◌, ◌≤◌, ◌∷◌, ◌++◌, [], ℕ, Some, filter, map, length, IfOk, IfErr, OnOk, if◌then◌else◌};
-ghost use Rattle.std.specs.List.{range_with_len};
+ghost use Rattle.std.specs.Prelude.{◌≡◌, ◌<◌, ◌≤◌, ◌∷◌, ◌++◌, [], ℕ, length, IfOk, IfErr, OnOk, if◌then◌else◌};
 ghost use Rattle.std.specs.Option.{option_map, option_map_or};
-ghost use Rattle.causal_protocol.specs.Memory.{Memory, at};
+ghost use Rattle.causal_protocol.specs.Memory.{at};
 ghost use Rattle.causal_protocol.specs.Run.{memories_of};
-ghost use Rattle.causal_protocol.specs.Naming.{name};
 ghost use Rattle.causal_protocol.specs.Steps.{reason_of};
 ghost use Rattle.causal_core.specs.View.{memory_of, memories_in};
 ghost use Rattle.causal_core.specs.Inside.Facts.{SameReceived};
+ghost use Rattle.causal_core.specs.Inside.Listings.{pending_of};
 ghost use Rattle.causal_core.specs.Pendings.{is_pending, pending_in, pending_fault};
 ghost use Rattle.causal_core.specs.CoreView.{run_of};
 
@@ -60,7 +59,7 @@ fn list_pending(
     count: u32,
 ) -> Result<(), NoMemory>
     requires { SameReceived trace.now.recording.past (memories_in cells.now) q }
-    ensures { OnOk result (names.new.items ≡ names.old.items ++ filter (is_pending (memories_in cells.now) q) (map (name source) (range_with_len 0 count))) }
+    ensures { OnOk result (names.new.items ≡ names.old.items ++ pending_of (memories_in cells.now) q source count) }
 {
     for ssn in 0..count {
         let name = MsgName { source, ssn };

@@ -1,8 +1,8 @@
 //! A process that is down comes up again.
-ghost use Rattle.std.specs.Prelude.{◌≡◌, ◌<◌, List, OnOk, OnErr, IfErr};
-ghost use Rattle.causal_process.specs.declared.message.Input.{Input as Given};
+ghost use Rattle.std.specs.Prelude.{◌<◌, OnOk, OnErr, IfErr};
 ghost use Rattle.causal_protocol.specs.declared.request.Request.TheVariants as Ask;
 ghost use Rattle.causal_protocol.specs.Steps.{Steps, told_restart};
+ghost use Rattle.causal_core.specs.Boxes.{AnswersAlike};
 ghost use Rattle.causal_core.specs.CoreView.{run_of, state_of, IsUnchanged};
 ghost use Rattle.causal_core.specs.Restarts.{Restarts, fault_of};
 
@@ -40,7 +40,7 @@ impl<S: Stable> Core<S> {
         ensures step { Steps (run_of self.old) (Ask.Restart p) (told_restart fault_of result) (run_of self.new) }
         ensures ok { OnOk result (Restarts answers p spare (state_of self.old) (state_of self.new)) }
         ensures refused { OnErr result (IsUnchanged answers (state_of self.old) (state_of self.new)) }
-        ensures spare { IfErr result (λ refused. (inputs : List Given) → answers refused.spare inputs ≡ answers spare inputs) }
+        ensures spare { IfErr result (λ refused. AnswersAlike answers spare refused.spare) }
     {
         let gathered = match self.held.prepare_restart(self.alloc, p, &self.store) {
             Ok(gathered) => gathered,

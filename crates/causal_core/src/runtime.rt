@@ -124,10 +124,7 @@ impl<S: Stable> Core<S> {
         if let Some(fault) = self.held.gathering_fault(p) {
             return Err(fault);
         }
-        let Ok(stored) = self.store.all(self.alloc) else {
-            return Err(CoreFault::NoMemory);
-        };
-        let Ok(log) = self.held.gather(self.alloc, stored.as_slice(), p) else {
+        let Ok(log) = self.held.gather(self.alloc, p, &self.store) else {
             return Err(CoreFault::NoMemory);
         };
         match log.dets(self.alloc) {

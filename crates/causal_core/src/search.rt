@@ -1,8 +1,6 @@
 //! What stands in the cells.
-ghost use Rattle.std.specs.Prelude.{◌≡◌, ◌<◌, ◌^◌, length, vec_len, is_none, count_by, Option, IfSome};
+ghost use Rattle.std.specs.Prelude.{◌≡◌, is_none, count_by, IfSome};
 ghost use Rattle.std.specs.Option.{option_map, option_copied};
-ghost use Rattle.causal_name.specs.declared.Det.{Det as Determinant};
-ghost use Rattle.causal_log.specs.Slots.{first_of_slot};
 ghost use Rattle.causal_protocol.specs.Memory.{at};
 ghost use Rattle.causal_protocol.specs.Naming.{kept_for, name};
 ghost use Rattle.causal_core.specs.View.{kept_of, memory_of, memories_in, bodies_in, body_at};
@@ -35,10 +33,11 @@ pub(crate) fn message(cells: &[Option<Cell>], q: Pid, source: Pid, ssn: u32) -> 
     ensures kept { option_map kept_of (option_copied result) ≡ kept_for (memories_in cells.now) q (name source ssn) }
     ensures body { IfSome result (λ message. message.now.body ≡ body_at (bodies_in cells.now) (name source ssn)) }
 {
-    let message = cells
-        .get(usize::from(source.0))?
-        .as_ref()?
-        .sent
-        .get(ssn as usize)?;
+    let Some(Some(sender)) = cells.get(usize::from(source.0)) else {
+        return None;
+    };
+    let Some(message) = sender.sent.get(ssn as usize) else {
+        return None;
+    };
     if message.to == q { Some(message) } else { None }
 }

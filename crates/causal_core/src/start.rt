@@ -1,10 +1,9 @@
 //! How a core begins.
 ghost use Rattle.std.specs.Prelude.{◌≡◌, ◌<◌, ◌≤◌, [], length, replicate, IfOk, IfErr, OnOk, None};
 ghost use Rattle.std.specs.FinMap as fin;
-ghost use Rattle.causal_protocol.specs.Runs.{Opens};
 ghost use Rattle.causal_core.specs.CoreView.{run_of, state_of};
-ghost use Rattle.causal_core.specs.Inside.Begins.{MayBegin, Begins, HaveBegun};
-ghost use Rattle.causal_core.specs.Starts.{Starts, opening, start_fault, start_reason_of};
+ghost use Rattle.causal_core.specs.Inside.Begins.{MayBegin, Begins, HaveAllBegun};
+ghost use Rattle.causal_core.specs.Starts.{opening, start_fault, IsOpening, IsStartReason, Starts};
 
 use crate::boxes::begin_box;
 use crate::data::Data;
@@ -56,7 +55,7 @@ fn begin_all(
     requires run { held.old.run ≡ opening (length boxes.items) held.old.run.faults [] }
     requires bodies { held.old.bodies ≡ replicate (length boxes.items) [] }
     requires few { length boxes.items ≤ 256 }
-    ensures { IfOk result (λ slots. HaveBegun answers (length boxes.items) held.old.run.faults boxes.items slots.items held.new) }
+    ensures { IfOk result (λ slots. HaveAllBegun answers held.old.run.faults boxes.items slots.items held.new) }
 {
     let mut slots = Vec::new(alloc);
     for process in boxes {
@@ -80,10 +79,10 @@ impl<S: Stable> Core<S> {
     ) -> Result<Core<S>, StartFault>
         requires { f < 65536 }
         ensures ok { IfOk result (λ core. Starts answers f boxes.items (state_of core)) }
-        ensures opens { IfOk result (λ core. Opens (length boxes.items) (length boxes.items) (run_of core).recording.past) }
+        ensures opens { IfOk result (λ core. IsOpening (length boxes.items) (run_of core).recording.past) }
         ensures stored { IfOk result (λ core. S.contents core.store ≡ fin.empty) }
         ensures legal { OnOk result (start_fault (length boxes.items) (S.contents store) ≡ None) }
-        ensures refused { IfErr result (λ fault. start_fault (length boxes.items) (S.contents store) ≡ start_reason_of fault) }
+        ensures refused { IfErr result (IsStartReason (length boxes.items) (S.contents store)) }
     {
         let n = boxes.len();
         if n == 0 || n > 256 {

@@ -47,3 +47,7 @@ module _ {B : Type 0} (answers : B → List Input → List (List Outgoing)) wher
     pub fresh_yet : (q : ℕ) → length boxes ≤ q → q < n → at (memories_of d.run) q ≡ Some (fresh fin.empty)
     pub short : length d.run.recording.past ≤ length boxes * 8
     pub opens : Opens n (length boxes) d.run.recording.past
+
+  -- these have, and they are all
+  abbrev pub HaveAllBegun : ℕ → List B → List (Option B) → DataState → Type 0
+  HaveAllBegun f boxes slots d = HaveBegun (length boxes) f boxes slots d

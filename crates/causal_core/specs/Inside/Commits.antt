@@ -13,6 +13,8 @@ use Rattle.causal_trace.specs.declared.entry.Entry.{Entry}
 use Rattle.causal_trace.specs.declared.entry.Entry.TheVariants.{Send, Deliver}
 use Rattle.causal_trace.specs.Rows.{Recording, first_fault, are_delivered}
 use Rattle.causal_trace.specs.State.{with_entry}
+use Rattle.causal_protocol.specs.declared.request.Request.{Request}
+use Rattle.causal_protocol.specs.declared.request.Request.TheVariants as Ask
 use Rattle.causal_protocol.specs.Memory.{Memory, Memories, keeping, with_received}
 use Rattle.causal_protocol.specs.Steps.{sends_of, pushed}
 use Rattle.causal_core.specs.declared.grown.Grown.{Grown}
@@ -56,6 +58,10 @@ with_sends r q sends m = record { processes = r.processes; past = pushed (sends_
 
 abbrev pub keep_sends : Recording → List (Arc (List Item) Global) → List Outgoing → Memory → Memory
 keep_sends r shares sends m = keep_all (length r.past) (shared_batch shares) (receivers r.processes sends) m
+
+-- the request of a delivery to q of the message that this was made for
+abbrev pub asked_by : Pid → Grown → Request
+asked_by q g = Ask.Deliver q g.own.source g.own.ssn
 
 -- the entry of a delivery to q; with it all that the sends carry was delivered
 abbrev pub entry_of : Pid → Grown → Entry

@@ -1,17 +1,36 @@
 -- What a restart puts in place, and how what it lists is counted.
-use Rattle.std.specs.Prelude.{◌≡◌, ℕ, ◌≤◌, Bool, false, [], replicate, is_some}
+use Rattle.std.specs.Prelude.{◌≡◌, ℕ, ◌≤◌, Bool, false, not, ◌||◌, List, [], length, count_by, replicate, is_some}
 use Rattle.std.specs.List.{list_any}
 use Rattle.std.specs.Option.{option_map_or}
 use Rattle.std.specs.FinMap as fin
+use Rattle.causal_name.specs.declared.Pid.{Pid}
 use Rattle.causal_name.specs.declared.Det.{Det}
 use Rattle.causal_log.specs.Logs.{LogMap, chosen}
+use Rattle.causal_log.specs.Stores.{DetSet, has}
 use Rattle.causal_protocol.specs.Memory.{Memories, fresh}
+use Rattle.causal_protocol.specs.Gathering.{gathered_log, known_together, held_all, stable_all}
+use Rattle.causal_protocol.specs.Run.{Run, memories_of, stable_of}
 use Rattle.causal_core.specs.declared.gathered.Gathered.{Gathered}
 use Rattle.causal_core.specs.View.{memory_of, bodies_of, room_of, batches_of}
 
 -- whether the log of one of these processes has it
 abbrev pub is_logged : Memories → Det → Bool
 is_logged ms d = list_any (λ o. option_map_or (λ m. is_some (fin.get m.log d)) o false) ms
+
+-- whether neither the store nor one of these logs has it, and how many of a log are so
+abbrev pub is_new : DetSet → Memories → Det → Bool
+is_new stored ms d = not (has stored d || is_logged ms d)
+
+abbrev pub count_new : DetSet → Memories → LogMap → ℕ
+count_new stored ms log = count_by (is_new stored ms) (fin.keys log)
+
+-- the log that p has once it has gathered what these processes log, and this, which is stored
+abbrev pub gathered_with : Memories → List Det → Pid → LogMap
+gathered_with ms stored p = stable_all stored p (held_all (fin.keys (known_together ms)) p (known_together ms))
+
+-- so many determinants are gathered, whoever gathers them
+abbrev pub IsGatheredCount : ℕ → Memories → DetSet → Type 0
+IsGatheredCount count ms stored = (p : Pid) → count ≡ length (fin.keys (gathered_log ms stored p))
 
 -- what a process puts in place that comes up with this log, for f failures
 pub record IsGathered (f : ℕ) (log : LogMap) (g : Gathered) : Type 0 where
@@ -20,3 +39,7 @@ pub record IsGathered (f : ℕ) (log : LogMap) (g : Gathered) : Type 0 where
   pub memory : memory_of g.cell ≡ fresh log
   pub bodies : bodies_of g.cell ≡ []
   pub room : 8 ≤ (room_of g.cell).sent
+
+-- what p puts in place when it comes up again
+abbrev pub IsGatheredFor : Run → Pid → Gathered → Type 0
+IsGatheredFor r p g = IsGathered r.faults (gathered_log (memories_of r) (stable_of r) p) g

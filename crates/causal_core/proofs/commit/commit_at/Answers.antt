@@ -1,4 +1,4 @@
-use Rattle.std.proofs.Common.{◌≡◌, ◌∙◌, ap, sym, subst, Some, slice_get, slice_set, arith}
+use Rattle.std.proofs.Common.{◌≡◌, ◌∙◌, ap, subst, Some, slice_get, slice_set, arith}
 use Rattle.causal_core.specs.Inside.Facts.{FitsAt}
 use Rattle.causal_core.specs.View.{memory_of, memories_in}
 use Rattle.causal_core.proofs.Fitting.{all_fit_set}
@@ -7,34 +7,34 @@ use Rattle.causal_core.proofs.commit.commit_at.Goals as goal
 use Rattle.causal_core.proofs.commit.commit_at.Goals.{In-Some}
 
 found : (c : In-Some) → slice_get c.args.cells.now.items c.args.q.0 ≡ Some (Some c.in-Some.cell)
-found c = rw c.from.ensures at (read_at c.args.cells.now.items c.from.result c.index_mut.result.now (Some c.in-Some.cell) (let h = up_within c.args.cells.now.items c.args.q.0 c.requires.up in omega (arith, h, c.from.ensures)) c.index_mut.ensures.value (sym c.take.ensures.value ∙ c.in-Some.is))
+found c = rw c.from.ensures at (read_at c.args.cells.now.items c.from.result c.index_mut.result.now (Some c.in-Some.cell) (let h = up_within c.args.cells.now.items c.args.q.0 c.requires.up in omega (arith, h, c.from.ensures)) c.index_mut.ensures.value c.in-Some.is)
 
-pub commit-number-requires-clause-fit : goal.commit-number-requires-clause-fit
-commit-number-requires-clause-fit c =
-    let f = found (goal.at.commit-number-requires-clause-fit c).In-Some in
+pub commit-requires-clause-fit : goal.commit-requires-clause-fit
+commit-requires-clause-fit c =
+    let f = found (goal.at.commit-requires-clause-fit c).In-Some in
     subst (FitsAt c.args.trace.now.recording.past c.args.q.0) (there c.args.cells.now.items c.args.q.0 c.in-Some.cell f) (c.requires.fit.each c.args.q.0 c.requires.process)
 
-pub commit-number-requires-clause-room : goal.commit-number-requires-clause-room
-commit-number-requires-clause-room c =
-    let f = found (goal.at.commit-number-requires-clause-room c).In-Some in
+pub commit-requires-clause-room : goal.commit-requires-clause-room
+commit-requires-clause-room c =
+    let f = found (goal.at.commit-requires-clause-room c).In-Some in
     let r = ap (λ x. x.sent) (room_there c.args.cells.now.items c.args.q.0 c.in-Some.cell f) in
     omega (arith, r, c.requires.room)
 
-pub commit-number-requires-clause-received : goal.commit-number-requires-clause-received
-commit-number-requires-clause-received c =
-    let f = found (goal.at.commit-number-requires-clause-received c).In-Some in
+pub commit-requires-clause-received : goal.commit-requires-clause-received
+commit-requires-clause-received c =
+    let f = found (goal.at.commit-requires-clause-received c).In-Some in
     let r = ap (λ x. x.received) (room_there c.args.cells.now.items c.args.q.0 c.in-Some.cell f) in
     omega (arith, r, c.requires.received)
 
-pub commit-number-requires-clause-insertions : goal.commit-number-requires-clause-insertions
-commit-number-requires-clause-insertions c =
-    let f = found (goal.at.commit-number-requires-clause-insertions c).In-Some in
+pub commit-requires-clause-insertions : goal.commit-requires-clause-insertions
+commit-requires-clause-insertions c =
+    let f = found (goal.at.commit-requires-clause-insertions c).In-Some in
     let r = ap (λ x. x.log) (room_there c.args.cells.now.items c.args.q.0 c.in-Some.cell f) in
     omega (arith, r, c.requires.insertions)
 
-pub commit-number-requires-clause-logged : goal.commit-number-requires-clause-logged
-commit-number-requires-clause-logged c =
-    let f = found (goal.at.commit-number-requires-clause-logged c).In-Some in
+pub commit-requires-clause-logged : goal.commit-requires-clause-logged
+commit-requires-clause-logged c =
+    let f = found (goal.at.commit-requires-clause-logged c).In-Some in
     let m = memory_there c.args.cells.now.items c.args.q.0 c.in-Some.cell f in
     rw m at c.requires.logged
 
@@ -42,22 +42,52 @@ pub returns-clause-recording : goal.returns-clause-recording
 returns-clause-recording c =
     let f = found (goal.at.returns-clause-recording c).In-Some in
     let m = memory_there c.args.cells.now.items c.args.q.0 c.in-Some.cell f in
-    rw m c.commit-number.ensures.recording
+    rw m c.commit.ensures.recording
 
 pub returns-clause-memories : goal.returns-clause-memories
 returns-clause-memories c =
     let f = found (goal.at.returns-clause-memories c).In-Some in
     let m = memory_there c.args.cells.now.items c.args.q.0 c.in-Some.cell f in
-    rw (c.from.ensures, c.from-2.ensures, m)
-    (memories_put c.args.cells.now.items c.args.q.0 c.in-Some.cell f c.take.new.self c.commit-number.new.cell ∙ ap (λ x. slice_set (memories_in c.args.cells.now.items) c.args.q.0 (Some x)) c.commit-number.ensures.memory)
+    rw (c.from.ensures, m)
+    (memories_put c.args.cells.now.items c.args.q.0 c.in-Some.cell f c.commit.new.cell ∙ ap (λ x. slice_set (memories_in c.args.cells.now.items) c.args.q.0 (Some x)) c.commit.ensures.memory)
 
 pub returns-clause-fit : goal.returns-clause-fit
 returns-clause-fit c =
     let f = found (goal.at.returns-clause-fit c).In-Some in
-    rw (c.from.ensures, c.from-2.ensures, memories_put c.args.cells.now.items c.args.q.0 c.in-Some.cell f c.take.new.self c.commit-number.new.cell)
-    (all_fit_set c.args.trace.now.recording.processes c.args.trace.now.recording.past c.commit-number.new.trace.recording.past (memories_in c.args.cells.now.items) c.args.q.0 (Some (memory_of c.commit-number.new.cell)) c.requires.process c.requires.fit c.commit-number.ensures.others c.commit-number.ensures.fit)
+    rw (c.from.ensures, memories_put c.args.cells.now.items c.args.q.0 c.in-Some.cell f c.commit.new.cell)
+    (all_fit_set c.args.trace.now.recording.processes c.args.trace.now.recording.past c.commit.new.trace.recording.past (memories_in c.args.cells.now.items) c.args.q.0 (Some (memory_of c.commit.new.cell)) c.requires.process c.requires.fit c.commit.ensures.others c.commit.ensures.fit)
 
 pub returns-clause-bodies : goal.returns-clause-bodies
 returns-clause-bodies c =
     let f = found (goal.at.returns-clause-bodies c).In-Some in
-    rw (c.from.ensures, c.from-2.ensures) (bodies_more c.args.cells.now.items c.args.q.0 c.in-Some.cell f c.take.new.self c.commit-number.new.cell _ c.commit-number.ensures.bodies)
+    rw c.from.ensures (bodies_more c.args.cells.now.items c.args.q.0 c.in-Some.cell f c.commit.new.cell _ c.commit.ensures.bodies)
+
+pub commit-requires-clause-process : goal.commit-requires-clause-process
+commit-requires-clause-process c = c.requires.process
+
+pub commit-requires-clause-legal : goal.commit-requires-clause-legal
+commit-requires-clause-legal c = c.requires.legal
+
+pub commit-requires-clause-sent : goal.commit-requires-clause-sent
+commit-requires-clause-sent c = c.requires.sent
+
+pub commit-requires-clause-ascending : goal.commit-requires-clause-ascending
+commit-requires-clause-ascending c = c.requires.ascending
+
+pub commit-requires-clause-delivered : goal.commit-requires-clause-delivered
+commit-requires-clause-delivered c = c.requires.delivered
+
+pub commit-requires-clause-shares : goal.commit-requires-clause-shares
+commit-requires-clause-shares c = c.requires.shares
+
+pub commit-requires-clause-few : goal.commit-requires-clause-few
+commit-requires-clause-few c = c.requires.few
+
+pub commit-requires-clause-spare : goal.commit-requires-clause-spare
+commit-requires-clause-spare c = c.requires.spare
+
+pub commit-requires-clause-short : goal.commit-requires-clause-short
+commit-requires-clause-short c = c.requires.short
+
+pub returns-clause-number : goal.returns-clause-number
+returns-clause-number c = c.commit.ensures.number

@@ -1,35 +1,35 @@
-use Rattle.std.proofs.Common.{◌≡◌, ◌∙◌, sym, Some, slice_get, arith}
+use Rattle.std.proofs.Common.{◌≡◌, Some, slice_get, arith}
 use Rattle.causal_core.proofs.Cells.{read_at, up_within, memories_kept, bodies_kept, room_put}
 use Rattle.causal_core.proofs.commit.make_room_at.Goals as goal
-use Rattle.causal_core.proofs.commit.make_room_at.Goals.{After-make_room-made}
+use Rattle.causal_core.proofs.commit.make_room_at.Goals.{In-Some}
 
-found : (c : After-make_room-made) → slice_get c.args.cells.now.items c.args.q.0 ≡ Some (Some c.in-Some.cell)
-found c = rw c.from.ensures at (read_at c.args.cells.now.items c.from.result c.index_mut.result.now (Some c.in-Some.cell) (let h = up_within c.args.cells.now.items c.args.q.0 c.requires in omega (arith, h, c.from.ensures)) c.index_mut.ensures.value (sym c.take.ensures.value ∙ c.in-Some.is))
+found : (c : In-Some) → slice_get c.args.cells.now.items c.args.q.0 ≡ Some (Some c.in-Some.cell)
+found c = rw c.from.ensures at (read_at c.args.cells.now.items c.from.result c.index_mut.result.now (Some c.in-Some.cell) (let h = up_within c.args.cells.now.items c.args.q.0 c.requires in omega (arith, h, c.from.ensures)) c.index_mut.ensures.value c.in-Some.is)
 
 pub returns-clause-memories : goal.returns-clause-memories
 returns-clause-memories c =
-    let f = found (goal.at.returns-clause-memories c).After-make_room-made in
-    rw (c.from.ensures, c.from-2.ensures) (memories_kept c.args.cells.now.items c.args.q.0 c.in-Some.cell f c.take.new.self c.make_room-made.new.cell c.make_room-made.ensures.memory)
+    let f = found (goal.at.returns-clause-memories c).In-Some in
+    rw c.from.ensures (memories_kept c.args.cells.now.items c.args.q.0 c.in-Some.cell f c.make_room.new.cell c.make_room.ensures.memory)
 
 pub returns-clause-bodies : goal.returns-clause-bodies
 returns-clause-bodies c =
-    let f = found (goal.at.returns-clause-bodies c).After-make_room-made in
-    rw (c.from.ensures, c.from-2.ensures) (bodies_kept c.args.cells.now.items c.args.q.0 c.in-Some.cell f c.take.new.self c.make_room-made.new.cell c.make_room-made.ensures.bodies)
+    let f = found (goal.at.returns-clause-bodies c).In-Some in
+    rw c.from.ensures (bodies_kept c.args.cells.now.items c.args.q.0 c.in-Some.cell f c.make_room.new.cell c.make_room.ensures.bodies)
 
 pub returns-clause-sent : goal.returns-clause-sent
 returns-clause-sent c =
-    let f = found (goal.at.returns-clause-sent c).After-make_room-made in
-    let r = room_put c.args.cells.now.items c.args.q.0 c.in-Some.cell f c.take.new.self c.make_room-made.new.cell in
-    rw (c.from.ensures, c.from-2.ensures, r) c.make_room-made.ensures.sent
+    let f = found (goal.at.returns-clause-sent c).In-Some in
+    let r = room_put c.args.cells.now.items c.args.q.0 c.in-Some.cell f c.make_room.new.cell in
+    rw (c.from.ensures, r) c.make_room.ensures.sent
 
 pub returns-clause-received : goal.returns-clause-received
 returns-clause-received c =
-    let f = found (goal.at.returns-clause-received c).After-make_room-made in
-    let r = room_put c.args.cells.now.items c.args.q.0 c.in-Some.cell f c.take.new.self c.make_room-made.new.cell in
-    rw (c.from.ensures, c.from-2.ensures, r) c.make_room-made.ensures.received
+    let f = found (goal.at.returns-clause-received c).In-Some in
+    let r = room_put c.args.cells.now.items c.args.q.0 c.in-Some.cell f c.make_room.new.cell in
+    rw (c.from.ensures, r) c.make_room.ensures.received
 
 pub returns-clause-log : goal.returns-clause-log
 returns-clause-log c =
-    let f = found (goal.at.returns-clause-log c).After-make_room-made in
-    let r = room_put c.args.cells.now.items c.args.q.0 c.in-Some.cell f c.take.new.self c.make_room-made.new.cell in
-    rw (c.from.ensures, c.from-2.ensures, r) c.make_room-made.ensures.log
+    let f = found (goal.at.returns-clause-log c).In-Some in
+    let r = room_put c.args.cells.now.items c.args.q.0 c.in-Some.cell f c.make_room.new.cell in
+    rw (c.from.ensures, r) c.make_room.ensures.log

@@ -1,4 +1,5 @@
-use Rattle.std.proofs.Common.{◌∙◌, ap, refl, arith, length}
+use Rattle.std.proofs.Common.{◌∙◌, ap, sym, refl, arith, length, take}
+use Rattle.causal_core.specs.Inside.Stables.{flushed}
 use Rattle.causal_core.proofs.Flushing.{flushed_one, still_up, still_logged}
 use Rattle.causal_core.proofs.flush.write_all.Goals as goal
 
@@ -23,3 +24,66 @@ loop-det-preserved g c =
       faults = omega (arith, c.write_one.ensures.faults, inv.faults);
       bodies = c.write_one.ensures.bodies ∙ inv.bodies;
     }
+
+pub loop-det-init : goal.loop-det-init
+loop-det-init g c = record {
+  run = refl;
+  done = refl;
+  up = c.requires.up;
+  logged = c.requires.logged;
+  filled = refl;
+  long = omega arith;
+  spare = omega (arith, c.requires.spare);
+  room = omega (arith, c.requires.room);
+  stored = c.requires.stored;
+  faults = omega arith;
+  bodies = refl;
+}
+
+pub write_one-requires-clause-process : goal.write_one-requires-clause-process
+write_one-requires-clause-process g c = let same = ap (λ r. r.recording.processes) c.loop-det.invariant.run in omega (arith, same, c.requires.process)
+
+pub write_one-requires-clause-up : goal.write_one-requires-clause-up
+write_one-requires-clause-up g c = c.loop-det.invariant.up
+
+pub write_one-requires-clause-short : goal.write_one-requires-clause-short
+write_one-requires-clause-short g c = omega (arith, c.loop-det.invariant.long, c.loop-det-test.true, c.requires.short)
+
+pub write_one-requires-clause-spare : goal.write_one-requires-clause-spare
+write_one-requires-clause-spare g c = omega (arith, c.loop-det.invariant.spare, c.loop-det-test.true)
+
+pub write_one-requires-clause-room : goal.write_one-requires-clause-room
+write_one-requires-clause-room g c = omega (arith, c.loop-det.invariant.room, c.loop-det-test.true)
+
+pub write_one-requires-clause-stored : goal.write_one-requires-clause-stored
+write_one-requires-clause-stored g c = c.loop-det.invariant.stored
+
+pub returns-in-Err-clause-run : goal.returns-in-Err-clause-run
+returns-in-Err-clause-run g c = c.in-Err.ensures.err ∙ c.loop-det.invariant.run ∙ ap (λ k. flushed c.args.held.now.run c.args.p (take k c.args.dets.now)) (sym c.loop-det.invariant.done)
+
+pub returns-in-Err-clause-why : goal.returns-in-Err-clause-why
+returns-in-Err-clause-why g c = c.in-Err.ensures.why
+
+pub returns-in-Err-clause-stored : goal.returns-in-Err-clause-stored
+returns-in-Err-clause-stored g c = c.write_one.ensures.stored
+
+pub returns-in-Err-clause-filled : goal.returns-in-Err-clause-filled
+returns-in-Err-clause-filled g c = c.write_one.ensures.filled ∙ c.loop-det.invariant.filled
+
+pub returns-in-Err-clause-bodies : goal.returns-in-Err-clause-bodies
+returns-in-Err-clause-bodies g c = c.write_one.ensures.bodies ∙ c.loop-det.invariant.bodies
+
+pub returns-clause-run : goal.returns-clause-run
+returns-clause-run g c = c.loop-det.invariant.run ∙ ap (λ k. flushed c.args.held.now.run c.args.p (take k c.args.dets.now)) (sym c.loop-det.invariant.done)
+
+pub returns-clause-ok : goal.returns-clause-ok
+returns-clause-ok g c = omega (arith, c.loop-det.invariant.done, c.loop-det-test.false, c.loop-det.auto.det-index-end)
+
+pub returns-clause-stored : goal.returns-clause-stored
+returns-clause-stored g c = c.loop-det.invariant.stored
+
+pub returns-clause-filled : goal.returns-clause-filled
+returns-clause-filled g c = c.loop-det.invariant.filled
+
+pub returns-clause-bodies : goal.returns-clause-bodies
+returns-clause-bodies g c = c.loop-det.invariant.bodies

@@ -1,18 +1,16 @@
 use Rattle.std.proofs.Common.{◌≡◌, ◌+◌, ◌≤◌, length, map, take, is_some, true}
 use Rattle.std.specs.FinMap as fin
 use Rattle.std.specs.List.{list_all}
-use Rattle.causal_trace.specs.declared.entry.Entry.TheVariants as Entries
-use Rattle.causal_protocol.specs.declared.request.Request.TheVariants as Ask
 use Rattle.causal_protocol.specs.Memory.{at}
 use Rattle.causal_protocol.specs.Run.{memories_of}
-use Rattle.causal_protocol.specs.Steps.{extended}
 use Rattle.causal_core.specs.View.{log_at}
 use Rattle.causal_core.specs.Flushes.{IsStored}
+use Rattle.causal_core.specs.Inside.Stables.{flushed}
 use Rattle.causal_core.proofs.flush.write_all.Given as goal
 
 abbrev pub invariant-loop-det : goal.invariant-loop-det
 invariant-loop-det g l = record {
-  run : l.held.run ≡ extended l.fn.held.run (Ask.Flush l.p) (map Entries.Stable (take l.det-index l.dets));
+  run : l.held.run ≡ flushed l.fn.held.run l.p (take l.det-index l.dets);
   done : l.done ≡ l.det-index;
   up : is_some (at (memories_of l.held.run) l.p.0) ≡ true;
   logged : list_all (λ d. is_some (fin.get (log_at (memories_of l.held.run) l.p.0) d)) l.dets ≡ true;

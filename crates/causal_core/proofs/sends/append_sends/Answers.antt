@@ -1,8 +1,15 @@
-use Rattle.std.proofs.Common.{◌≡◌, ◌∙◌, ◌+◌, ◌-◌, ◌++◌, ◌∷◌, [], ℕ, List, true, false, cond, ap, sym, refl, arith, length, map, replicate, suc, append-nil, length-append}
+use Rattle.std.proofs.Common.{◌≡◌, ◌∙◌, ◌+◌, ◌-◌, ◌<◌, ◌++◌, ◌∷◌, [], ℕ, List, true, false, cond, ap, sym, refl, arith, length, map, replicate, suc, append-nil, length-append, Vec, vec_len, Global}
 use Rattle.std.specs.Prelude.{nat_lt}
 use Rattle.std.specs.Arc.{arc_value}
 use Rattle.std.proofs.lemmas.Bool.Decides.{nat_tests}
-use Rattle.std.proofs.lemmas.List.{map-append, append_assoc}
+use Rattle.std.specs.Vec.Iter.{into_iter_items, into_iter_len, into_iter_steps}
+use Rattle.std.specs.declared.vec.IntoIter.{IntoIter}
+use Rattle.std.proofs.lemmas.Grind.{common_steps}
+use Rattle.std.proofs.lemmas.Iterator.{YieldsList}
+use Rattle.std.proofs.lemmas.Iterator.Adapters.{YieldsList-from_vec}
+use Rattle.std.proofs.lemmas.Iterator.Consumers.{YieldsList-end, YieldsList-turn}
+use Rattle.std.proofs.lemmas.List.{map-append, map-id, append_assoc}
+use Rattle.causal_name.specs.Names.{is_ascending}
 use Rattle.causal_name.specs.declared.Pid.{Pid}
 use Rattle.causal_process.specs.declared.message.Outgoing.{Outgoing}
 use Rattle.causal_log.specs.declared.batch.Item.{Item}
@@ -11,6 +18,7 @@ use Rattle.causal_trace.specs.declared.entry.Entry.TheVariants.{Send}
 use Rattle.causal_trace.specs.State.{with_entry}
 use Rattle.causal_protocol.specs.Memory.{keeping}
 use Rattle.causal_protocol.specs.Steps.{sends_of, pushed}
+use Rattle.causal_core.specs.Inside.Commits.{keep_sends, with_sends}
 use Rattle.causal_core.specs.View.{memory_of, bodies_of, addressed, receivers, sent_bodies, first_batch, batches_of, keep_all}
 use Rattle.causal_core.proofs.Sending.{addressed_more, replicate_last, keep_more, sends_more, kept_length, sends_length, pushed_last, pushed_length}
 use Rattle.causal_core.proofs.sends.append_sends.Goals as goal
@@ -130,3 +138,59 @@ loop-outgoing-preserved c =
       room = omega (arith, inv.room, longer);
       short = omega (arith, inv.short, longer);
     }
+
+-- the loop goes over all of them
+all : (sends : Vec Outgoing Global) (s : IntoIter Outgoing Global) → into_iter_items s ≡ sends.items → into_iter_len s ≡ vec_len sends → YieldsList (into_iter_steps {X = Outgoing} {Z = Global}) (λ y. y) s sends.items
+all sends s items count = YieldsList-from_vec sends.items items (grind (arith, common_steps))
+
+from : (c : After-send-arg-then-from-n-1) → c.loop-outgoing.trace.recording.processes ≡ c.args.trace.now.recording.processes
+from c = ap (λ r. r.processes) c.loop-outgoing.invariant.recording
+
+-- not all have been sent
+left : (c : After-send-arg-then-from-n-1) → length c.loop-outgoing.yielded < length c.args.sends.items
+left c = (YieldsList-turn (all c.args.sends c.into_iter-outgoing-iterator.result c.into_iter-outgoing-iterator.ensures.into_iter_gives.0 c.into_iter-outgoing-iterator.ensures.into_iter_gives.1) c.loop-outgoing.yielded c.loop-outgoing.outgoing-iterator c.loop-outgoing.yielded_by c.next.result c.next.new.self c.in-Some.outgoing c.in-Some.is c.next.ensures.steps).0
+
+pub send-requires-clause-from : goal.send-requires-clause-from
+send-requires-clause-from c = omega (arith, from c, c.requires.process)
+
+pub send-requires-clause-to : goal.send-requires-clause-to
+send-requires-clause-to c = omega (arith, from c, c.if-from-n.true, c.from.ensures, c.processes-n.ensures)
+
+pub send-requires-clause-fit : goal.send-requires-clause-fit
+send-requires-clause-fit c = c.loop-outgoing.invariant.fit
+
+pub send-requires-clause-spare : goal.send-requires-clause-spare
+send-requires-clause-spare c = omega (arith, left c, c.loop-outgoing.invariant.spare, c.requires.few)
+
+pub send-requires-clause-room : goal.send-requires-clause-room
+send-requires-clause-room c = omega (arith, left c, c.loop-outgoing.invariant.room, c.requires.few)
+
+pub send-requires-clause-short : goal.send-requires-clause-short
+send-requires-clause-short c = omega (arith, left c, c.loop-outgoing.invariant.short, c.requires.few, c.requires.short)
+
+pub send-requires-clause-ascending : goal.send-requires-clause-ascending
+send-requires-clause-ascending c = ap (λ b. is_ascending (dets_of b)) (popped c).3 ∙ c.requires.ascending
+
+-- all have been sent
+done : (c : goal.After-drop-shares) → c.loop-outgoing.yielded ≡ c.args.sends.items
+done c =
+    sym (map-id c.loop-outgoing.yielded)
+    ∙ (YieldsList-end (all c.args.sends c.into_iter-outgoing-iterator.result c.into_iter-outgoing-iterator.ensures.into_iter_gives.0 c.into_iter-outgoing-iterator.ensures.into_iter_gives.1) c.loop-outgoing.yielded c.loop-outgoing.outgoing-iterator c.loop-outgoing.yielded_by c.next.result c.next.new.self c.in-None.is c.next.ensures.steps).0
+
+pub returns-clause-number : goal.returns-clause-number
+returns-clause-number c = c.loop-outgoing.invariant.number ∙ ap (λ xs. length (receivers c.args.trace.now.recording.processes xs)) (done c)
+
+pub returns-clause-recording : goal.returns-clause-recording
+returns-clause-recording c = c.loop-outgoing.invariant.recording ∙ ap (λ xs. with_sends c.args.trace.now.recording c.args.q xs (memory_of c.args.cell.now)) (done c)
+
+pub returns-clause-memory : goal.returns-clause-memory
+returns-clause-memory c = c.loop-outgoing.invariant.memory ∙ ap (λ xs. keep_sends c.args.trace.now.recording c.args.shares.items xs (memory_of c.args.cell.now)) (done c)
+
+pub returns-clause-fit : goal.returns-clause-fit
+returns-clause-fit c = c.loop-outgoing.invariant.fit
+
+pub returns-clause-others : goal.returns-clause-others
+returns-clause-others c = c.loop-outgoing.invariant.others
+
+pub returns-clause-bodies : goal.returns-clause-bodies
+returns-clause-bodies c = c.loop-outgoing.invariant.bodies ∙ ap (λ xs. bodies_of c.args.cell.now ++ sent_bodies c.args.trace.now.recording.processes xs) (done c)

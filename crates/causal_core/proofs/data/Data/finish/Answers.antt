@@ -1,4 +1,4 @@
-use Rattle.std.proofs.Common.{◌≡◌, ◌∙◌, ◌∷◌, Some, None, refl, ap, sym, subst, arith, length, vec_len}
+use Rattle.std.proofs.Common.{◌≡◌, ◌∙◌, ◌+◌, ◌∷◌, Some, None, refl, ap, sym, subst, arith, length, replicate, vec_len}
 use Rattle.std.specs.Prelude.{is_some, ◌-◌, vec_capacity}
 use Rattle.std.specs.FinMap as fin
 use Rattle.std.proofs.lemmas.Bool.Decides.{nat_tests}
@@ -17,9 +17,9 @@ use Rattle.causal_protocol.specs.Memory.{at, gained}
 use Rattle.causal_protocol.specs.Run.{memories_of}
 use Rattle.causal_protocol.specs.Naming.{name, next_ssn}
 use Rattle.causal_protocol.specs.Refusals.{first_fault}
-use Rattle.causal_protocol.specs.Steps.{LegalStep, Steps, extended, delivery_of, pushed, sends_of}
+use Rattle.causal_protocol.specs.Steps.{LegalStep, Steps, delivery_of, pushed, sends_of}
 use Rattle.causal_core.specs.Inside.Facts.{AllFit}
-use Rattle.causal_core.specs.View.{DataState, IsGrown, run_from, memories_in, memory_at, log_at, bodies_in, rooms_in, receivers, carried_by, first_batch, batches_of}
+use Rattle.causal_core.specs.View.{DataState, HasRoom, IsGrown, sent_in, with_bodies, with_delivery, run_from, memories_in, memory_at, log_at, bodies_in, rooms_in, receivers, carried_by, first_batch, batches_of}
 use Rattle.causal_core.proofs.Sending.{are_sends, receivers_below, receivers_long, addressed_few}
 use Rattle.causal_core.proofs.Legal.{held_fit}
 use Rattle.causal_core.proofs.Delivering.{MayDeliver, may_deliver, legal, sent_name, ssn_is}
@@ -100,6 +100,23 @@ invariant_of-self c =
       fit = fit_new;
     })
 
+-- what is recorded then
+new_run : (c : goal.After-commit_at-sends) → run_from c.commit_at-sends.new.trace.recording c.self.inside.faults c.self.inside.writers.items ≡ with_delivery (run_from c.self.inside.trace.recording c.self.inside.faults c.self.inside.writers.items) c.args.q (message_of c.args.grown.own) c.args.sends.items
+new_run c =
+    let at0 = (goal.at.returns-clause-run c).After-len-first in
+    let g = grown at0 in
+    let r = (state at0).run in
+    let n = c.self.inside.trace.recording.processes in
+    let source = c.args.grown.own.source in
+    let ssn = c.args.grown.own.ssn in
+    let tos = receivers n c.args.sends.items in
+    let d = may at0 in
+    let count = sym (ap length c.self.invariant.same) ∙ c.self.invariant.fit.count in
+    let num : length (memory_at (memories_in c.self.inside.cells.items) c.args.q.0).sent ≡ next_ssn (memories_of r) c.args.q =
+    ap (λ xs. length (memory_at xs c.args.q.0).sent) c.self.invariant.same ∙ ap (λ m. length m.sent) (memory_here r c.args.q source ssn d count) ∙ sym (ssn_is r c.args.q source ssn d) in
+    ap (λ x. run_from x c.self.inside.faults c.self.inside.writers.items) c.commit_at-sends.ensures.recording
+    ∙ (λ i. run_from (record { processes = n; past = pushed (sends_of c.args.q (num i) tos) (Deliver c.args.q (g.send i) (g.own i).rsn (g.listed i) ∷ c.self.inside.trace.recording.past) }) c.self.inside.faults c.self.inside.writers.items)
+
 pub returns-clause-step : goal.returns-clause-step
 unfolding LegalStep
 returns-clause-step c =
@@ -112,18 +129,11 @@ returns-clause-step c =
     let tos = receivers n c.args.sends.items in
     let number = next_ssn (memories_of r) c.args.q in
     let few = addressed_few n c.args.sends.items in
-    let d = may at0 in
-    let count = sym (ap length c.self.invariant.same) ∙ c.self.invariant.fit.count in
-    let num : length (memory_at (memories_in c.self.inside.cells.items) c.args.q.0).sent ≡ number =
-    ap (λ xs. length (memory_at xs c.args.q.0).sent) c.self.invariant.same ∙ ap (λ m. length m.sent) (memory_here r c.args.q source ssn d count) ∙ sym (ssn_is r c.args.q source ssn d) in
-    let new : run_from c.commit_at-sends.new.trace.recording c.self.inside.faults c.self.inside.writers.items ≡ extended r (Ask.Deliver c.args.q source ssn) (delivery_of r c.args.q (name source ssn) ∷ sends_of c.args.q number tos) =
-    ap (λ x. run_from x c.self.inside.faults c.self.inside.writers.items) c.commit_at-sends.ensures.recording
-    ∙ (λ i. run_from (record { processes = n; past = pushed (sends_of c.args.q (num i) tos) (Deliver c.args.q (g.send i) (g.own i).rsn (g.listed i) ∷ c.self.inside.trace.recording.past) }) c.self.inside.faults c.self.inside.writers.items) in
     let told = Told.Delivered (record { first = c.len-first.result; det = c.args.grown.own; sends = c.commit_at-sends.result }) in
     let step : Steps r (Ask.Deliver c.args.q source ssn) told (run_from c.commit_at-sends.new.trace.recording c.self.inside.faults c.self.inside.writers.items) =
     record {
       appended = delivery_of r c.args.q (name source ssn) ∷ sends_of c.args.q number tos;
-      grown = new;
+      grown = new_run c;
       legal = (
         none at0,
         c.len-first.ensures.length,
@@ -152,3 +162,40 @@ returns-clause-det c =
     ∙ det_at-newest entry past
     ∙ ap (option_map (det_from q c.args.grown.own.rsn)) sent
     ∙ ap Some (λ i. record { source = c.args.grown.own.source; ssn = c.args.grown.own.ssn; dest = (sym g.own i).dest; rsn = c.args.grown.own.rsn })
+
+pub commit_at-sends-requires-clause-process : goal.commit_at-sends-requires-clause-process
+commit_at-sends-requires-clause-process c = (may (goal.at.commit_at-sends-requires-clause-process c).After-len-first).process
+
+pub commit_at-sends-requires-clause-fit : goal.commit_at-sends-requires-clause-fit
+commit_at-sends-requires-clause-fit c = c.self.invariant.fit
+
+pub commit_at-sends-requires-clause-shares : goal.commit_at-sends-requires-clause-shares
+commit_at-sends-requires-clause-shares c =
+    let shares = (grown (goal.at.commit_at-sends-requires-clause-shares c).After-len-first).shares in
+    shares ∙ ap (λ cs. replicate 8 (first_batch cs)) (sym shares)
+
+pub commit_at-sends-requires-clause-few : goal.commit_at-sends-requires-clause-few
+commit_at-sends-requires-clause-few c = c.requires.few
+
+room : (c : After-len-first) → HasRoom c.args.q.0 (length (carried_by c.args.grown) + 1) (state c)
+room c = subst (HasRoom c.args.q.0 (length (carried_by c.args.grown) + 1)) (sym c.self.view_is) c.requires.room
+
+pub commit_at-sends-requires-clause-spare : goal.commit_at-sends-requires-clause-spare
+commit_at-sends-requires-clause-spare c = (room (goal.at.commit_at-sends-requires-clause-spare c).After-len-first).entries
+
+pub commit_at-sends-requires-clause-room : goal.commit_at-sends-requires-clause-room
+commit_at-sends-requires-clause-room c = (room (goal.at.commit_at-sends-requires-clause-room c).After-len-first).sent
+
+pub commit_at-sends-requires-clause-received : goal.commit_at-sends-requires-clause-received
+commit_at-sends-requires-clause-received c = (room (goal.at.commit_at-sends-requires-clause-received c).After-len-first).received
+
+pub commit_at-sends-requires-clause-insertions : goal.commit_at-sends-requires-clause-insertions
+commit_at-sends-requires-clause-insertions c = (room (goal.at.commit_at-sends-requires-clause-insertions c).After-len-first).log
+
+pub returns-clause-run : goal.returns-clause-run
+returns-clause-run c =
+    new_run c
+    ∙ ap (λ s. with_delivery s.run c.args.q (message_of c.args.grown.own) c.args.sends.items) c.self.view_is
+
+pub returns-clause-bodies : goal.returns-clause-bodies
+returns-clause-bodies c = c.commit_at-sends.ensures.bodies ∙ ap (λ s. with_bodies s.bodies c.args.q.0 (sent_in s.run c.args.sends.items)) c.self.view_is

@@ -1,0 +1,33 @@
+use Rattle.std.proofs.Common.{◌∙◌, ◌++◌, ◌∷◌, [], Some, ap, arith, map, replicate}
+use Rattle.std.specs.FinMap as fin
+use Rattle.std.specs.Option.{option_map, option_map_or}
+use Rattle.std.proofs.lemmas.List.{map-append, replicate-append-replicate}
+use Rattle.causal_protocol.specs.Memory.{fresh}
+use Rattle.causal_core.specs.View.{memory_of, memories_in, bodies_of, bodies_in, kept_of}
+use Rattle.causal_core.proofs.data_start.fresh_cells.Goals as goal
+
+pub loop-i-init : goal.loop-i-init
+loop-i-init c = record { memories = ap memories_in c.new-cells.ensures.items; bodies = ap bodies_in c.new-cells.ensures.items }
+
+pub loop-i-preserved : goal.loop-i-preserved
+loop-i-preserved c =
+    let pushed = c.in_ok-push.ensures.items in
+    let inv = c.loop-i.invariant in
+    record {
+      memories =
+          ap memories_in pushed
+          ∙ map-append (option_map memory_of) c.loop-i.cells.items _
+          ∙ (λ j. inv.memories j ++ Some (record { log = c.new.ensures j; sent = map kept_of (c.new-in-loop-i.ensures.items j); received = c.new-in-loop-i-2.ensures.items j }) ∷ [])
+          ∙ replicate-append-replicate c.loop-i.i 1 (Some (fresh fin.empty));
+      bodies =
+          ap bodies_in pushed
+          ∙ map-append (λ cell. option_map_or bodies_of cell []) c.loop-i.cells.items _
+          ∙ (λ j. inv.bodies j ++ map (λ m. m.body) (c.new-in-loop-i.ensures.items j) ∷ [])
+          ∙ replicate-append-replicate c.loop-i.i 1 [];
+    }
+
+pub returns-clause-memories : goal.returns-clause-memories
+returns-clause-memories c = c.loop-i.invariant.memories ∙ ap (λ k. replicate k (Some (fresh fin.empty))) (omega (arith, c.loop-i-test.false, c.loop-i.auto.i-end))
+
+pub returns-clause-bodies : goal.returns-clause-bodies
+returns-clause-bodies c = c.loop-i.invariant.bodies ∙ ap (λ k. replicate k []) (omega (arith, c.loop-i-test.false, c.loop-i.auto.i-end))

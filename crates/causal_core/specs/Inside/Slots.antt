@@ -1,0 +1,14 @@
+-- A box that is given an input.
+use Rattle.std.specs.Prelude.{◌≡◌, List, ◌∷◌, Option}
+use Rattle.causal_process.specs.declared.message.Input.{Input}
+use Rattle.causal_process.specs.declared.message.Outgoing.{Outgoing}
+use Rattle.causal_core.specs.Boxes.{after, box_answers}
+
+module _ {B : Type 0} (answers : B → List Input → List (List Outgoing)) where
+  -- these sends are its first answer, and then it answers as it would have after that
+  abbrev pub BoxSteps : Input → List Outgoing → B → B → Type 0
+  BoxSteps input sends old new = (inputs : List Input) → answers old (input ∷ inputs) ≡ sends ∷ answers new inputs
+
+  -- the same of the box of a slot
+  abbrev pub SlotSteps : Input → List Outgoing → Option B → Option B → Type 0
+  SlotSteps input sends old new = (inputs : List Input) → box_answers answers old (input ∷ inputs) ≡ after sends (box_answers answers new inputs)

@@ -1,0 +1,23 @@
+-- What a flush makes of a memory and of a run, and the room that it takes.
+use Rattle.std.specs.Prelude.{ℕ, ◌≤◌, List, map}
+use Rattle.causal_name.specs.declared.Pid.{Pid}
+use Rattle.causal_name.specs.declared.Det.{Det}
+use Rattle.causal_log.specs.Logs.{marked}
+use Rattle.causal_trace.specs.declared.entry.Entry.TheVariants.{Stable}
+use Rattle.causal_protocol.specs.declared.request.Request.TheVariants as Ask
+use Rattle.causal_protocol.specs.Memory.{Memory, with_log}
+use Rattle.causal_protocol.specs.Run.{Run}
+use Rattle.causal_protocol.specs.Steps.{extended}
+use Rattle.causal_core.specs.View.{DataState}
+
+-- the log knows the determinant to be stable
+abbrev pub with_stable : Det → Memory → Memory
+with_stable det = with_log (λ log. marked log det)
+
+-- a flush of p wrote these
+abbrev pub flushed : Run → Pid → List Det → Run
+flushed r p dets = extended r (Ask.Flush p) (map Stable dets)
+
+-- so many stable entries take no memory
+abbrev pub HasRoomForStable : ℕ → DataState → Type 0
+HasRoomForStable count d = (count ≤ d.spare) × (count ≤ d.writers_room)
