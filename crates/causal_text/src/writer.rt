@@ -88,6 +88,7 @@ fn push_listed(
     out.push_str("]")
 }
 
+// an entry of one determinant
 fn push_stable(out: &mut String, det: &Det) -> Result<(), AllocError>
     ensures { OnOk result (string_bytes out.new ≡ string_bytes out.old ++ entry_text (Entry.Stable det.now)) }
 {

@@ -98,6 +98,7 @@ fn end_of(value: &Value) -> Result<Shape, TextKind>
     })
 }
 
+// an array of n items, the first of which is the name
 fn begins(value: &Value, name: &str, n: usize) -> bool
     ensures { result ≡ begins (view value.now) name.now n }
 {
