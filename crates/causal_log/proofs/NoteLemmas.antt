@@ -1,5 +1,5 @@
 -- That notes go on saying what is true of a log.
-use Rattle.std.proofs.Common.{ℕ, ◌≡◌, ◌∙◌, ◌≤◌, ◌<◌, ◌+◌, ◌&&◌, ◌||◌, ◌==◌, Bool, true, false, cond, not, nat_le, List, [], ◌∷◌, map, filter, Option, Some, None, is_some, unwrap_or, get_or, length, drop, add-one, ◌⊎◌, inl, inr, true≢false, refl, sym, ap, subst, arith}
+use Rattle.std.proofs.Common.{ℕ, ◌≡◌, ◌∙◌, ◌≤◌, ◌<◌, ◌+◌, ◌&&◌, ◌||◌, ◌==◌, Bool, true, false, cond, not, nat_le, List, [], ◌∷◌, map, filter, Option, Some, None, is_some, unwrap_or, ◌++◌, get_or, length, drop, add-one, ◌⊎◌, inl, inr, true≢false, refl, sym, ap, subst, arith}
 use Rattle.std.proofs.lemmas.Bool.Decides.{nat_tests}
 use Rattle.std.proofs.Math.Seq.{drop-cons}
 use Rattle.std.specs.List.{list_any}
@@ -19,7 +19,11 @@ use Rattle.causal_log.specs.declared.notes.Notes.{Notes}
 use Rattle.causal_log.specs.Knowledge.{nothing_known, joined, as_stable, is_carried}
 use Rattle.causal_log.specs.Logs.{LogMap, log_of, known_of, learned, marked, unmarked, is_chosen, named}
 use Rattle.causal_log.specs.Slots.{is_of_slot, first_of_slot}
-use Rattle.causal_log.specs.Inside.Noted.{IsAmong, IsLast, IsNoted, GoOn, Learn}
+use Rattle.causal_log.specs.Inside.Noted.{IsNoted, GoOn, Learn}
+use Rattle.causal_log.specs.Inside.Ranks.{IsAmong, AreSlots}
+use Rattle.causal_log.proofs.PlaceLemmas.{same_members}
+use Rattle.causal_log.proofs.RankLemmas.{slots_like}
+use Rattle.std.proofs.lemmas.List.Folds.{list_any-append}
 use Rattle.causal_log.proofs.EntryLemmas.{get_log}
 use Rattle.causal_log.proofs.Lemmas.Learning.{get_learned}
 use Rattle.causal_log.proofs.Lemmas.Marking.{get_marked, get_unmarked}
@@ -31,7 +35,7 @@ use Rattle.causal_log.proofs.Lemmas.Searches.{both, any_kept, passes}
 pub nothing_noted : (notes : Notes) (log : LogMap) → notes.limit ≡ 0 → IsNoted notes log
 nothing_noted notes log h = record {
   carried = λ f low. absurd (omega (arith, low, h));
-  last = λ low. absurd (omega (arith, low, h));
+  slots = λ low. absurd (omega (arith, low, h));
 }
 
 or_both : (a b : Bool) → b ≡ true → (a || b) ≡ true
@@ -81,51 +85,46 @@ module _ (before after : Notes) (log : LogMap) (e : Det × Known) (is : IsNoted 
       subst (λ d. IsAmong d after.few.items) (sym (same_is q e.0 same)) (go.few (omega (arith, count, most, low, go.limit)))
   learned_carried go f low q false same chosen = go.kept q (is.carried f (omega (arith, low, go.limit)) q chosen)
 
-  learned_last : GoOn e before after → 0 < before.limit → (q : Det) → (b : Bool) → same_det q e.0 ≡ b
-      → is_some (cond b (Some (joined (known_of log e.0) e.1)) (fin.get log q)) ≡ true → same_pid q.dest before.dest ≡ true → q.rsn ≤ after.last
-  learned_last go some q true same logged dest =
-      let one = same_is q e.0 same in
-      subst (λ d. d.rsn ≤ after.last) (sym one) (go.last (ap (λ d. same_pid d.dest before.dest) (sym one) ∙ dest))
-  learned_last go some q false same logged dest = let low = is.last some q logged dest in omega (arith, low, go.later)
+  any_more : (b c : Bool) (o : Option Known) (known : Known) → c ≡ is_some o → is_some (cond b (Some known) o) ≡ (c || (b || false))
+  any_more true true o known h = refl
+  any_more true false o known h = refl
+  any_more false true o known h = sym h
+  any_more false false o known h = sym h
+
+  -- the determinants are those before, and the learned one
+  learned_members : (q : Det) → list_any (same_det q) (fin.keys (learned log e.0 e.1)) ≡ list_any (same_det q) (fin.keys log ++ e.0 ∷ [])
+  learned_members q =
+      keys_logged (learned log e.0 e.1) q
+      ∙ ap is_some (get_learned log e.0 e.1 q)
+      ∙ any_more (same_det q e.0) (list_any (same_det q) (fin.keys log)) (fin.get log q) (joined (known_of log e.0) e.1) (keys_logged log q)
+      ∙ sym (list_any-append (same_det q) (fin.keys log) (e.0 ∷ []))
 
   -- notes that go on are true of what is learned
   pub noted_learned : Learn e before after → IsNoted after (learned log e.0 e.1)
   noted_learned goes = record {
     carried = λ f low q chosen.
         learned_carried (goes (omega (arith, low))) f low q (same_det q e.0) refl (ap (is_chosen f) (sym (get_learned log e.0 e.1 q)) ∙ chosen);
-    last = λ some q logged dest.
+    slots = λ some.
         let go = goes some in
-        learned_last go (omega (arith, some, go.limit)) q (same_det q e.0) refl (ap is_some (sym (get_learned log e.0 e.1 q)) ∙ logged) (ap (same_pid q.dest) (sym go.dest) ∙ dest);
+        slots_like (fin.keys log ++ e.0 ∷ []) (fin.keys (learned log e.0 e.1)) after.slots.entries learned_members
+        (go.slots (fin.keys log) (is.slots (omega (arith, some, go.limit))));
   }
 
 -- notes that say the same
-pub noted_like : (before after : Notes) (log : LogMap) → after.limit ≡ before.limit → after.few.items ≡ before.few.items → after.dest ≡ before.dest → after.last ≡ before.last
+pub noted_like : (before after : Notes) (log : LogMap) → after.limit ≡ before.limit → after.few.items ≡ before.few.items → after.slots.entries ≡ before.slots.entries
     → IsNoted before log → IsNoted after log
-noted_like before after log limit few dest last is = record {
+noted_like before after log limit few slots is = record {
   carried = λ f low q h. subst (IsAmong q) (sym few) (is.carried f (omega (arith, low, limit)) q h);
-  last = λ some q logged at.
-      let low = is.last (omega (arith, some, limit)) q logged (ap (same_pid q.dest) (sym dest) ∙ at) in
-      omega (arith, low, last);
+  slots = λ some. subst (AreSlots (fin.keys log)) (sym slots) (is.slots (omega (arith, some, limit)));
 }
 
--- notes that stay as they are, or say nothing
-pub noted_same : (before after : Notes) (log : LogMap) → (0 < after.limit → after ≡ before) → IsNoted before log → IsNoted after log
-noted_same before after log same is = record {
-  carried = λ f low q h.
-      let one = same (omega (arith, low)) in
-      subst (λ n. IsAmong q n.few.items) (sym one) (is.carried f (subst (λ n. f < n.limit) one low) q h);
-  last = λ some q logged dest.
-      let one = same some in
-      subst (λ n. q.rsn ≤ n.last) (sym one) (is.last (subst (λ n. 0 < n.limit) one some) q logged (ap (λ n. same_pid q.dest n.dest) (sym one) ∙ dest));
-}
-
-module _ (notes : Notes) (log less : LogMap) (is : IsNoted notes log) where
-  -- and they are true of a log that knows less, and of which less is carried
-  noted_less : ((q : Det) → is_some (fin.get less q) ≡ true → is_some (fin.get log q) ≡ true)
-      → ((f : ℕ) (q : Det) → is_chosen f (fin.get less q) ≡ true → is_chosen f (fin.get log q) ≡ true) → IsNoted notes less
-  noted_less logged carried = record {
+module _ (notes : Notes) (log other : LogMap) (is : IsNoted notes log) where
+  -- and they are true of a log of the same determinants, of which no others are carried
+  noted_alike : ((q : Det) → is_some (fin.get other q) ≡ is_some (fin.get log q))
+      → ((f : ℕ) (q : Det) → is_chosen f (fin.get other q) ≡ true → is_chosen f (fin.get log q) ≡ true) → IsNoted notes other
+  noted_alike logged carried = record {
     carried = λ f low q h. is.carried f low q (carried f q h);
-    last = λ some q h. is.last some q (logged q h);
+    slots = λ some. slots_like (fin.keys log) (fin.keys other) notes.slots.entries (λ q. keys_logged other q ∙ logged q ∙ sym (keys_logged log q)) (is.slots some);
   }
 
 unmarked_both : (a b : Bool) → not (a || b) ≡ true → not a ≡ true
@@ -143,16 +142,16 @@ less_carried f known heard h =
 -- notes stay true where more is learned of a determinant that is logged
 pub noted_more : (notes : Notes) (log : LogMap) (det : Det) (known heard : Known) → fin.get log det ≡ Some known → IsNoted notes log → IsNoted notes (learned log det heard)
 noted_more notes log det known heard was is =
-    noted_less notes log (learned log det heard) is
-    (λ q h. logged q (same_det q det) refl (ap is_some (sym (get_learned log det heard q)) ∙ h))
+    noted_alike notes log (learned log det heard) is
+    (λ q. ap is_some (get_learned log det heard q) ∙ logged q (same_det q det) refl)
     (λ f q h. carried f q (same_det q det) refl (ap (is_chosen f) (sym (get_learned log det heard q)) ∙ h))
   where
     here : (q : Det) → same_det q det ≡ true → fin.get log q ≡ Some known
     here q same = ap (fin.get log) (same_is q det same) ∙ was
 
-    logged : (q : Det) (b : Bool) → same_det q det ≡ b → is_some (cond b (Some (joined (known_of log det) heard)) (fin.get log q)) ≡ true → is_some (fin.get log q) ≡ true
-    logged q true same h = ap is_some (here q same)
-    logged q false same h = h
+    logged : (q : Det) (b : Bool) → same_det q det ≡ b → is_some (cond b (Some (joined (known_of log det) heard)) (fin.get log q)) ≡ is_some (fin.get log q)
+    logged q true same = sym (ap is_some (here q same))
+    logged q false same = refl
 
     carried : (f : ℕ) (q : Det) (b : Bool) → same_det q det ≡ b → is_chosen f (cond b (Some (joined (known_of log det) heard)) (fin.get log q)) ≡ true → is_chosen f (fin.get log q) ≡ true
     carried f q true same h = ap (is_chosen f) (here q same) ∙ less_carried f known heard (ap (λ o. is_carried f (joined (unwrap_or o nothing_known) heard)) (sym was) ∙ h)
@@ -177,22 +176,20 @@ chosen_more f g low (Some known) h =
     and_both (not known.stable) (nat_le (set.len known.holders) g) two.0 (few_enough (set.len known.holders) f g low two.1)
 
 -- notes without what messages carry no more
-pub noted_cut : (before after : Notes) (log : LogMap) (g : ℕ) → before.limit ≤ g + 1 → after.limit ≡ before.limit → after.dest ≡ before.dest → after.last ≡ before.last
+pub noted_cut : (before after : Notes) (log : LogMap) (g : ℕ) → before.limit ≤ g + 1 → after.limit ≡ before.limit → after.slots.entries ≡ before.slots.entries
     → after.few.items ≡ filter (λ d. is_chosen g (fin.get log d)) before.few.items → IsNoted before log → IsNoted after log
-noted_cut before after log g high limit dest last few is = record {
+noted_cut before after log g high limit slots few is = record {
   carried = λ f low q h.
       subst (IsAmong q) (sym few)
       (kept_among (λ d. is_chosen g (fin.get log d)) q before.few.items (chosen_more f g (omega (arith, low, limit, high)) (fin.get log q) h)
       (is.carried f (omega (arith, low, limit)) q h));
-  last = λ some q logged at.
-      let low = is.last (omega (arith, some, limit)) q logged (ap (same_pid q.dest) (sym dest) ∙ at) in
-      omega (arith, low, last);
+  slots = λ some. subst (AreSlots (fin.keys log)) (sym slots) (is.slots (omega (arith, some, limit)));
 }
 
-marked_logged : (b : Bool) (o : Option Known) → is_some (cond b (option_map as_stable o) o) ≡ true → is_some o ≡ true
-marked_logged true None h = h
-marked_logged true (Some known) h = refl
-marked_logged false o h = h
+marked_logged : (b : Bool) (o : Option Known) → is_some (cond b (option_map as_stable o) o) ≡ is_some o
+marked_logged true None = refl
+marked_logged true (Some known) = refl
+marked_logged false o = refl
 
 marked_carried : (f : ℕ) (b : Bool) (o : Option Known) → is_chosen f (cond b (option_map as_stable o) o) ≡ true → is_chosen f o ≡ true
 marked_carried f true None h = h
@@ -201,36 +198,9 @@ marked_carried f false o h = h
 
 pub noted_marked : (notes : Notes) (log : LogMap) (det : Det) → IsNoted notes log → IsNoted notes (marked log det)
 noted_marked notes log det is =
-    noted_less notes log (marked log det) is
-    (λ q h. marked_logged (same_det q det) (fin.get log q) (ap is_some (sym (get_marked log det q)) ∙ h))
+    noted_alike notes log (marked log det) is
+    (λ q. ap is_some (get_marked log det q) ∙ marked_logged (same_det q det) (fin.get log q))
     (λ f q h. marked_carried f (same_det q det) (fin.get log q) (ap (is_chosen f) (sym (get_marked log det q)) ∙ h))
-
-unmarked_logged : (b : Bool) (o : Option Known) → is_some (cond b None o) ≡ true → is_some o ≡ true
-unmarked_logged true o h = absurd (true≢false (sym h))
-unmarked_logged false o h = h
-
-unmarked_carried : (f : ℕ) (b : Bool) (o : Option Known) → is_chosen f (cond b None o) ≡ true → is_chosen f o ≡ true
-unmarked_carried f true o h = absurd (true≢false (sym h))
-unmarked_carried f false o h = h
-
-pub noted_unmarked : (notes : Notes) (log : LogMap) → IsNoted notes log → IsNoted notes (unmarked log)
-noted_unmarked notes log is =
-    noted_less notes log (unmarked log) is
-    (λ q h. unmarked_logged (known_of log q).stable (fin.get log q) (ap is_some (sym (get_unmarked log q)) ∙ h))
-    (λ f q h. unmarked_carried f (known_of log q).stable (fin.get log q) (ap (is_chosen f) (sym (get_unmarked log q)) ∙ h))
-
--- no message is named for a slot beyond the last delivery
-pub none_beyond : (notes : Notes) (log : LogMap) (dest : Pid) (rsn : ℕ) → IsNoted notes log → 0 < notes.limit → dest ≡ notes.dest → notes.last < rsn → named dest rsn log ≡ None
-none_beyond notes log dest rsn is some same beyond = by (first_of_slot dest rsn (fin.keys log)) refl
-  where
-    by : (o : Option Det) → first_of_slot dest rsn (fin.keys log) ≡ o → named dest rsn log ≡ None
-    by None e = ap (option_map message_of) e
-    by (Some d) e =
-        let fits = first_fits (is_of_slot dest rsn) (fin.keys log) d e in
-        let two = both (same_pid d.dest dest) (d.rsn == rsn) fits.0 in
-        let low = is.last some d (sym (keys_logged log d) ∙ fits.1) (ap (same_pid d.dest) (sym same) ∙ two.0) in
-        let at = two.1 in
-        absurd (grind (arith, nat_tests, low, at, beyond))
 
 swap : (a b : Bool) → (a && b) ≡ (b && a)
 swap true true = refl
@@ -259,32 +229,8 @@ carried_among es f g low q h =
 
 -- notes made of entries are true of them
 pub noted_made : (notes : Notes) (es : List (Det × Known)) (g : ℕ) → notes.limit ≤ g + 1
-    → notes.few.items ≡ map (λ e. e.0) (filter (λ e. is_carried g e.1) es) → IsLast notes.dest (keys_of es) notes.last → IsNoted notes (log_of es)
-noted_made notes es g limit few last = record {
+    → notes.few.items ≡ map (λ e. e.0) (filter (λ e. is_carried g e.1) es) → AreSlots (keys_of es) notes.slots.entries → IsNoted notes (log_of es)
+noted_made notes es g limit few slots = record {
   carried = λ f low q h. ap (list_any (same_det q)) few ∙ carried_among es f g (omega (arith, low, limit)) q h;
-  last = λ some q h. last q (sym (is_some-lookup (same_det q) es) ∙ ap is_some (sym (get_log es q)) ∙ h);
+  slots = λ some. slots_like (keys_of es) (fin.keys (log_of es)) notes.slots.entries (λ q. sym (same_members es q)) slots;
 }
-
--- what is left of a list, one after the other
-drop_one : {X : Type 0} (xs : List X) (i : ℕ) (x : X) → i < length xs → drop i xs ≡ get_or xs i x ∷ drop (i + 1) xs
-drop_one xs i x low = rw add-one (drop-cons xs i x low)
-
-among_or : (a b : Bool) → (a || b) ≡ true → (a ≡ true) ⊎ (b ≡ true)
-among_or true b h = inl refl
-among_or false b h = inr h
-
--- one more determinant changes the last delivery where it is a later one
-last_step : (dest : Pid) (d : Det) (ds : List Det) (end : ℕ) → (same_pid d.dest dest ≡ true → d.rsn ≤ end) → IsLast dest ds end → IsLast dest (d ∷ ds) end
-last_step dest d ds end own rest q among at = by (among_or (same_det q d) (list_any (same_det q) ds) among)
-  where
-    by : (same_det q d ≡ true) ⊎ (list_any (same_det q) ds ≡ true) → q.rsn ≤ end
-    by (inl same) =
-        let one = same_is q d same in
-        subst (λ x. x.rsn ≤ end) (sym one) (own (ap (λ x. same_pid x.dest dest) (sym one) ∙ at))
-    by (inr later) = rest q later at
-
-pub last_next : (dest : Pid) (dets : List Det) (i : ℕ) (d : Det) (last end : ℕ) → i < length dets
-    → (same_pid (get_or dets i d).dest dest ≡ true → (get_or dets i d).rsn ≤ last) → last ≤ end → IsLast dest (drop (i + 1) dets) end → IsLast dest (drop i dets) end
-last_next dest dets i d last end low own up rest =
-    subst (λ ds. IsLast dest ds end) (sym (drop_one dets i d low))
-    (last_step dest (get_or dets i d) (drop (i + 1) dets) end (λ at. let near = own at in omega (arith, near, up)) rest)

@@ -12,8 +12,7 @@ use Rattle.causal_name.specs.declared.Slot.{Slot}
 use Rattle.causal_name.specs.Names.{same_det, same_pid, same_slot, slot_of, is_before, is_ascending}
 use Rattle.causal_name.proofs.Lemmas.DetOrder.{same_is, same_itself}
 use Rattle.causal_log.specs.Slots.{is_of_slot, first_of_slot}
-use Rattle.causal_log.specs.Inside.Noted.{IsAmong}
-use Rattle.causal_log.specs.Inside.Ranks.{IsLeastOfSlot, AreSlots}
+use Rattle.causal_log.specs.Inside.Ranks.{IsAmong, IsLeastOfSlot, AreSlots}
 use Rattle.causal_log.proofs.EntryLemmas.{below}
 use Rattle.causal_log.proofs.PlaceLemmas.{not_after}
 use Rattle.causal_log.proofs.Lemmas.Ascents.{before_trans}

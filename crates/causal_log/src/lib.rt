@@ -42,6 +42,7 @@ mod log;
 mod memory;
 mod notes;
 mod ranks;
+mod slots;
 mod stable;
 
 pub use batch::{Batch, Item};

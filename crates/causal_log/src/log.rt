@@ -16,7 +16,7 @@ use crate::known::Known;
 use crate::learning::{learn, learn_entries, learn_items};
 use crate::notes::Notes;
 use crate::ranks::least_of_slot;
-use causal_name::{Det, MsgName, NoMemory, Pid};
+use causal_name::{Det, MsgName, NoMemory, Pid, Slot};
 use indexmap::IndexMap;
 use std::alloc::Global;
 use std::marker::Model;
@@ -238,9 +238,6 @@ impl Log {
     pub fn for_slot(&self, dest: Pid, rsn: u32) -> Option<MsgName>
         ensures { result ≡ named dest rsn self.now.map }
     {
-        if self.notes.is_beyond(dest, rsn) {
-            return None;
-        }
         self.least_of(dest, rsn).map(|det| det.message())
     }
 
@@ -248,6 +245,9 @@ impl Log {
     fn least_of(&self, dest: Pid, rsn: u32) -> Option<Det>
         ensures { result ≡ first_of_slot dest rsn (fin.keys self.now.map) }
     {
+        if self.notes.are_made() {
+            return self.notes.least_of(Slot { dest, rsn });
+        }
         least_of_slot(self.entries.keys().as_slice(), dest, rsn)
     }
 
@@ -371,7 +371,6 @@ impl Log {
     {
         let items = carried.as_slice();
         let held = Known::held(me);
-        self.notes.follow(own.dest);
         self.notes.see(items);
         learn_items(&mut self.entries, &mut self.notes, items, from, me);
         learn(&mut self.entries, &mut self.notes, own, held);
@@ -411,6 +410,7 @@ impl Log {
         ensures count { result ≡ length (stable_in self.old.map) }
         ensures spare { self.new.spare ≡ self.old.spare }
     {
+        self.notes.forget();
         entries::drop_stable(&mut self.entries)
     }
 }

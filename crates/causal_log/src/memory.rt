@@ -1,10 +1,8 @@
 //! Stable storage in memory, for programs that need no device.
-ghost use Rattle.std.specs.Prelude.{◌≡◌, ◌≤◌, IfOk};
+ghost use Rattle.std.specs.Prelude.{◌≡◌, IfOk};
 ghost use Rattle.std.specs.FinMap as fin;
-ghost use Rattle.indexmap.specs.IndexMap.{spare};
-ghost use Rattle.causal_log.specs.Inside.Ranks.{FillsSlot};
 
-use crate::ranks::is_below;
+use crate::slots::fill_slot;
 use crate::stable::{PutFault, Stable};
 use causal_name::{Det, NoMemory, Slot};
 use indexmap::IndexMap;
@@ -92,19 +90,4 @@ fn members(alloc: Global, dets: &BTreeSet<Det>) -> Result<Vec<Det>, NoMemory>
     ensures { IfOk result (λ members. members.items ≡ dets.now.keys) }
 {
     Ok(dets.iter().copied().collect(alloc)?)
-}
-
-/// Fills a determinant's slot, in room made before, unless a lesser one does.
-fn fill_slot(slots: &mut IndexMap<Slot, Det>, det: Det)
-    requires { 1 ≤ spare slots.old }
-    ensures { FillsSlot det slots.old.entries slots.new.entries }
-{
-    let slot = det.slot();
-    let found = slots.get(&slot).copied();
-    if is_below(&det, found) {
-        match slots.insert(slot, det) {
-            Ok(_) => {}
-            Err(_) => unreachable!(),
-        }
-    }
 }

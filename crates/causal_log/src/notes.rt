@@ -1,18 +1,20 @@
-//! What a log notes of its entries, so that it need not read them all: which of them messages carry, and which delivery to
-//! its process is the last.
+//! What a log notes of its entries, so that it need not read them all: which of them messages carry, and which is the
+//! least of each slot.
 ghost use Rattle.std.specs.Prelude.{◌≡◌, true, ◌<◌, ◌≤◌, ◌+◌, IsTrue};
 ghost use Rattle.std.specs.FinMap as fin;
 ghost use Rattle.std.specs.FinSet as set;
-ghost use Rattle.causal_name.specs.Names.{same_pid};
+ghost use Rattle.std.specs.Map.{lookup};
+ghost use Rattle.causal_name.specs.Names.{same_slot};
 ghost use Rattle.causal_log.specs.declared.known.Known.{Known};
 ghost use Rattle.causal_log.specs.Knowledge.{joined};
 ghost use Rattle.causal_log.specs.Logs.{LogMap, log_of, is_chosen};
-ghost use Rattle.causal_log.specs.Inside.Noted.{IsLast, IsNoted, Learn};
+ghost use Rattle.causal_log.specs.Inside.Noted.{IsNoted, Learn};
 
 use crate::batch::Item;
 use crate::entries::{carried_dets, is_chosen};
 use crate::known::Known;
-use causal_name::{Det, Pid};
+use crate::slots::{fill_slot, slots_of};
+use causal_name::{Det, Slot};
 use indexmap::IndexMap;
 use std::alloc::Global;
 
@@ -27,9 +29,8 @@ pub(crate) struct Notes {
     few: Vec<Det>,
     /// At 0 the notes say nothing.
     limit: u32,
-    /// No delivery to this process that is logged has a number above `last`.
-    dest: Pid,
-    last: u32,
+    /// The least determinant that is logged for each slot.
+    slots: IndexMap<Slot, Det>,
     /// The most holders that an item of a message had: so many failures, or more, are borne.
     seen: u32,
     /// The notes are cut once more than these are noted.
@@ -44,8 +45,7 @@ impl Notes {
         Notes {
             few: Vec::new(alloc),
             limit: 0,
-            dest: Pid(0),
-            last: 0,
+            slots: IndexMap::new(alloc),
             seen: 0,
             most: 0,
         }
@@ -72,21 +72,18 @@ impl Notes {
         self.few.as_slice()
     }
 
-    /// Whether a delivery to a process comes after all that are logged.
-    pub(crate) fn is_beyond(&self, dest: Pid, rsn: u32) -> bool
-        ensures { IsTrue result → (0 < self.now.limit) × (dest ≡ self.now.dest) × (self.now.last < rsn) }
+    /// Whether the notes say anything.
+    pub(crate) fn are_made(&self) -> bool
+        ensures { IsTrue result → 0 < self.now.limit }
     {
-        self.limit > 0 && dest == self.dest && rsn > self.last
+        self.limit > 0
     }
 
-    /// Notes the last delivery to this process from now on.
-    pub(crate) fn follow(&mut self, dest: Pid)
-        ensures { 0 < self.new.limit → self.new ≡ self.old }
+    /// The least determinant that is noted for a slot.
+    pub(crate) fn least_of(&self, slot: Slot) -> Option<Det>
+        ensures { result ≡ lookup (same_slot slot) self.now.slots.entries }
     {
-        if self.dest != dest {
-            self.dest = dest;
-            self.limit = 0;
-        }
+        self.slots.get(&slot).copied()
     }
 
     /// Notes that messages carry one determinant less. It stays noted, and the notes are cut the sooner.
@@ -122,14 +119,13 @@ impl Notes {
         if self.limit == 0 {
             return;
         }
-        self.last = later(self.last, &det, self.dest);
-        if count >= self.limit {
+        if self.few.len() == self.few.capacity() || self.slots.len() == self.slots.capacity() {
+            self.limit = 0;
             return;
         }
-        if self.few.len() < self.few.capacity() {
+        fill_slot(&mut self.slots, det);
+        if count < self.limit {
             self.few.push_reserved(det);
-        } else {
-            self.limit = 0;
         }
     }
 
@@ -143,15 +139,14 @@ impl Notes {
     }
 
     /// Notes what is to be noted of entries.
-    fn make(&mut self, few: Vec<Det>, last: u32)
+    fn make(&mut self, few: Vec<Det>, slots: IndexMap<Slot, Det>)
         ensures few { self.new.few.items ≡ few.items }
         ensures limit { self.new.limit ≤ self.old.seen + 1 }
-        ensures dest { self.new.dest ≡ self.old.dest }
-        ensures last { self.new.last ≡ last }
+        ensures slots { self.new.slots.entries ≡ slots.entries }
     {
         self.most = most_noted(few.len());
         self.limit = self.seen.saturating_add(1);
-        self.last = last;
+        self.slots = slots;
         self.few = few;
     }
 
@@ -177,8 +172,11 @@ impl Notes {
             self.limit = 0;
             return;
         };
-        let last = last_of(entries.keys().as_slice(), self.dest);
-        self.make(few, last);
+        let Ok(slots) = slots_of(alloc, entries.keys().as_slice()) else {
+            self.limit = 0;
+            return;
+        };
+        self.make(few, slots);
     }
 
     /// Leaves out of the notes what messages carry no more.
@@ -198,7 +196,9 @@ impl Notes {
     fn make_room(&mut self, more: usize)
         ensures { (log : LogMap) → IsNoted self.old log → IsNoted self.new log }
     {
-        if self.few.reserve(more).is_err() {
+        let few = self.few.reserve(more).is_ok();
+        let slots = self.slots.reserve(more).is_ok();
+        if !few || !slots {
             self.limit = 0;
         }
     }
@@ -207,26 +207,4 @@ impl Notes {
 /// The most determinants to be noted before the notes are cut, where so many are noted now.
 fn most_noted(few: usize) -> usize {
     few.saturating_mul(2).saturating_add(FEW)
-}
-
-/// The later of a number and that of a delivery, where it is one to this process.
-fn later(last: u32, det: &Det, dest: Pid) -> u32
-    ensures kept { last ≤ result }
-    ensures own { same_pid det.now.dest dest ≡ true → det.now.rsn ≤ result }
-{
-    if det.dest == dest && det.rsn > last {
-        return det.rsn;
-    }
-    last
-}
-
-/// The last delivery to a process of those that determinants name.
-fn last_of(dets: &[Det], dest: Pid) -> u32
-    ensures { IsLast dest dets.now result }
-{
-    let mut last = 0;
-    for det in dets {
-        last = later(last, det, dest);
-    }
-    last
 }

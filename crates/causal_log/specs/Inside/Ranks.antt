@@ -1,12 +1,16 @@
 -- What is asked of determinants in no order.
 use Rattle.std.specs.Prelude.{◌≡◌, ◌⊎◌, ◌==◌, ℕ, Bool, true, false, List, [], ◌∷◌, ◌++◌, Option, Some, None, filter, length}
+use Rattle.std.specs.List.{list_any}
 use Rattle.std.specs.Map.{lookup}
 use Rattle.causal_name.specs.declared.Det.{Det}
 use Rattle.causal_name.specs.declared.Pid.{Pid}
 use Rattle.causal_name.specs.declared.Slot.{Slot}
-use Rattle.causal_name.specs.Names.{is_before, same_slot}
+use Rattle.causal_name.specs.Names.{same_det, is_before, same_slot}
 use Rattle.causal_log.specs.Slots.{is_of_slot}
-use Rattle.causal_log.specs.Inside.Noted.{IsAmong}
+
+-- whether a determinant is one of some
+abbrev pub IsAmong : Det → List Det → Type 0
+IsAmong q dets = list_any (same_det q) dets ≡ true
 
 -- of some determinants this is the least that fills the slot, if one does
 abbrev pub IsLeastOfSlot : Pid → ℕ → List Det → Option Det → Type 0

@@ -7,9 +7,8 @@ use Rattle.causal_log.specs.declared.known.Known.{Known}
 use Rattle.causal_name.specs.Names.{is_ascending}
 use Rattle.causal_log.specs.Logs.{log_of, unmarked, stable_in}
 use Rattle.causal_log.proofs.Lemmas.Ascents.{filter_ascends}
-use Rattle.causal_log.specs.Inside.Noted.{IsNoted}
 use Rattle.causal_log.proofs.EntryLemmas.{own_entries}
-use Rattle.causal_log.proofs.NoteLemmas.{noted_unmarked}
+use Rattle.causal_log.proofs.NoteLemmas.{nothing_noted}
 use Rattle.causal_log.proofs.PlaceLemmas.{in_order, same_kept, same_count}
 use Rattle.causal_log.proofs.log.Log.drop_stable.Goals as goal
 use Rattle.causal_log.proofs.log.Log.drop_stable.Goals.{After-drop_stable}
@@ -36,7 +35,7 @@ invariant_of-self c = record {
   ascending = λ h. ascend c h;
   few = omega (arith, c.drop_stable.ensures.count, c.self.invariant.few, length-map c.drop_stable.new.entries.entries (λ e. e.0), length-map c.self.inside.entries.entries (λ e. e.0));
   sure = omega (arith, c.self.invariant.sure, c.drop_stable.ensures.spare);
-  noted = subst (IsNoted c.self.inside.notes) (sym (left c)) (noted_unmarked c.self.inside.notes (log_of c.self.inside.entries.entries) c.self.invariant.noted);
+  noted = nothing_noted c.forget.new.self (log_of c.drop_stable.new.entries.entries) c.forget.ensures;
 }
 
 pub returns-clause-left : goal.returns-clause-left

@@ -1,7 +1,7 @@
 use Rattle.std.proofs.Common.{◌∙◌, ap, sym, subst, arith}
 use Rattle.std.proofs.lemmas.Result.{IfOk-weaker}
 use Rattle.causal_log.specs.Logs.{log_of}
-use Rattle.causal_log.specs.Inside.Noted.{IsAmong}
+use Rattle.causal_log.specs.Inside.Ranks.{IsAmong}
 use Rattle.causal_log.specs.Inside.Parts.{carried_in}
 use Rattle.causal_log.proofs.NoteLemmas.{carried_among}
 use Rattle.causal_log.proofs.PartLemmas.{few_carried}

@@ -3,4 +3,4 @@ use Rattle.causal_log.proofs.NoteLemmas.{noted_like}
 use Rattle.causal_log.proofs.notes.Notes.expire.Goals as goal
 
 pub returns : goal.returns
-returns c = λ log is. noted_like c.args.self.now _ log refl refl refl refl is
+returns c = λ log is. noted_like c.args.self.now _ log refl refl refl is

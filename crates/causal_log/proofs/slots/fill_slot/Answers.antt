@@ -3,8 +3,8 @@ use Rattle.std.specs.Option.{option_map_or}
 use Rattle.std.specs.Map.{lookup}
 use Rattle.causal_name.specs.Names.{is_before, same_slot, slot_of}
 use Rattle.causal_log.proofs.RankLemmas.{slots_put, slots_kept}
-use Rattle.causal_log.proofs.memory.fill_slot.Goals as goal
-use Rattle.causal_log.proofs.memory.fill_slot.Goals.{After-is_below}
+use Rattle.causal_log.proofs.slots.fill_slot.Goals as goal
+use Rattle.causal_log.proofs.slots.fill_slot.Goals.{After-is_below}
 
 -- whether the determinant comes before the least of its slot
 below : (c : After-is_below) → option_map_or (λ f. is_before c.args.det f) (lookup (same_slot (slot_of c.args.det)) c.args.slots.now.entries) true ≡ c.is_below.result
