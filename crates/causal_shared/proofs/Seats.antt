@@ -1,6 +1,6 @@
 -- One item call as its seat sees it.
-use Rattle.std.proofs.Common.{subst, None, ◌≡◌, ◌≤◌, ◌<◌, ◌+◌, ◌∙◌, sym, ap, ℕ, List, [], ◌∷◌, ◌++◌, length, map, zero, suc, arith, Some, option_map, unwrap_or}
-use Rattle.std.specs.Prelude.{Option, slice_get, ◌==◌}
+use Rattle.std.proofs.Common.{subst, None, ◌≡◌, ◌≤◌, ◌<◌, ◌+◌, ◌∙◌, sym, refl, ap, ℕ, List, [], ◌∷◌, ◌++◌, length, map, zero, suc, arith, Some, option_map, unwrap_or}
+use Rattle.std.specs.Prelude.{Option, Result, Ok, Err, slice_get, ◌==◌, ◌↔◌}
 use Rattle.std.proofs.lemmas.Option.{slice_get_cases}
 use Rattle.std.proofs.lemmas.List.Sums.{length-filter, count_by-le-length}
 use Rattle.causal_protocol.specs.declared.request.Request.{Request}
@@ -11,10 +11,14 @@ use Rattle.causal_shared.specs.Limits.{max_items}
 use Rattle.causal_trace.specs.declared.entry.Entry.{Entry}
 use Rattle.causal_shared.specs.History.{instant, item_at, Shows, Held, Keeps, Holds, count_at}
 use Rattle.causal_protocol.specs.Telling.{told_entries}
-use Rattle.causal_shared.specs.Locked.{ItemCall, IsSnapshot}
+use Rattle.causal_shared.specs.Locked.{told, ItemCall, IsSnapshot}
+use Rattle.causal_shared.specs.declared.fault.LockedFault.{LockedFault}
+use Rattle.causal_shared.specs.declared.fault.LockedFault.TheVariants as Refusal
+use Rattle.causal_shared.specs.declared.fault.SharedFault.{SharedFault}
+use Rattle.causal_shared.specs.declared.fault.SharedFault.TheVariants as Fault
 use Rattle.causal_trace.specs.Rows.{Recording}
 use Rattle.causal_shared.specs.declared.item.Snapshot.{Snapshot}
-use Rattle.causal_shared.specs.Seat.{Sitting, SeatState, MayCall, IsSeated, with_item, ItemSection, SeesEntries}
+use Rattle.causal_shared.specs.Seat.{heard, shared_of, Sitting, SeatState, MayCall, IsSeated, with_item, ItemSection, SeesEntries}
 use Rattle.causal_protocol.proofs.Lemmas.Telling.{replies_tell_entries}
 
 -- a seat has seen no more than there is
@@ -90,3 +94,27 @@ seats_snoc [] seat f k len each is (suc n) lt = absurd (omega (arith, len, lt))
 seats_snoc (s ∷ seats) seat f zero len each is n lt = absurd (omega (arith, len))
 seats_snoc (s ∷ seats) seat f (suc k) len each is zero lt = each 0 (omega arith)
 seats_snoc (s ∷ seats) seat f (suc k) len each is (suc n) lt = seats_snoc seats seat (λ n. f (suc n)) k (omega (arith, len)) (λ n lt. each (suc n) (omega (arith, lt))) is n (omega (arith, lt))
+
+-- what the seat hears of an answer is what the item tells of it
+pub heard_told : {A : Type 0} (answer : A → Reply) (a : Result A LockedFault) → heard answer (shared_of a) ≡ told answer a
+heard_told answer (Ok x) = refl
+heard_told answer (Err (Refusal.Core fault)) = refl
+heard_told answer (Err (Refusal.Flush fault)) = refl
+heard_told answer (Err Refusal.NoRecord) = refl
+
+-- no answer of the locked value says that the seat is wrong, or that the history is full
+never_wrong : {A : Type 0} (a : Result A LockedFault) → shared_of a ≡ Err Fault.WrongSeat → ⊥
+never_wrong (Ok x) e = cc e
+never_wrong (Err (Refusal.Core fault)) e = cc e
+never_wrong (Err (Refusal.Flush fault)) e = cc e
+never_wrong (Err Refusal.NoRecord) e = cc e
+
+pub never_full : {A : Type 0} (a : Result A LockedFault) → shared_of a ≡ Err Fault.HistoryFull → ⊥
+never_full (Ok x) e = cc e
+never_full (Err (Refusal.Core fault)) e = cc e
+never_full (Err (Refusal.Flush fault)) e = cc e
+never_full (Err Refusal.NoRecord) e = cc e
+
+-- where the seat may call, it is not wrong
+pub not_wrong : {A : Type 0} (a : Result A LockedFault) (told : Result A SharedFault) (r : Result ℕ SharedFault) (first : ℕ) (P : Type 0) → told ≡ shared_of a → r ≡ Ok first → (r ≡ Err Fault.WrongSeat ↔ ¬ P) → (told ≡ Err Fault.WrongSeat ↔ ¬ P)
+not_wrong a told r first P is ok wrong = (λ e. absurd (never_wrong a (sym is ∙ e)), λ no. absurd (let e : ◌≡◌ {A = Result ℕ SharedFault} (Ok first) (Err Fault.WrongSeat) = sym ok ∙ wrong.1 no in cc))
