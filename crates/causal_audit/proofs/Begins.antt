@@ -5,9 +5,10 @@ use Rattle.std.specs.Ordering.{nat_cmp}
 use Rattle.std.specs.FinSet.{contains, empty, contains-empty}
 use Rattle.std.proofs.Math.ListN.{replicate}
 use Rattle.std.proofs.lemmas.Bool.{false≢true}
-use Rattle.causal_trace.specs.Past.{deliveries_in}
 use Rattle.causal_trace.specs.Rows.{Recording}
-use Rattle.causal_audit.specs.Courses.{IsUnused}
+use Rattle.causal_audit.specs.Courses.{IsUnused, end_of}
+use Rattle.causal_audit.specs.declared.effects.Effects.{Effects}
+use Rattle.causal_audit.specs.Inside.Newly.{HasEffects}
 use Rattle.causal_audit.specs.Inside.Rooms.{IsRoom, sight_of}
 use Rattle.causal_audit.specs.Inside.Sights.{IsSight}
 use Rattle.causal_audit.specs.declared.room.Room.{Room}
@@ -26,16 +27,19 @@ replicate_count (suc n) x = ap suc (replicate_count n x)
 read_same : {A : Type 0} → (xs : List A) (n m : ℕ) (x : A) → xs ≡ replicate n x → get_or xs m x ≡ x
 read_same xs n m x is = ap (λ ys. get_or ys m x) is ∙ replicated n m x
 
-pub room_begins : (r : Recording) (room : Room) → IsUnused r room → (first : List ℕ) → IsRoom r first 0 empty room
-room_begins r room unused first = record {
+pub room_begins : (r : Recording) (room : Room) → IsUnused r room → (effects : Effects) → HasEffects r.past effects → IsRoom r effects.first.items 0 empty room
+room_begins r room unused effects are = record {
   shows_down = nobody_down r.past;
-  holders_count = ap length unused.holders ∙ replicate_count (deliveries_in r.past) empty;
-  stable_count = ap length unused.stable ∙ replicate_count (deliveries_in r.past) false;
+  holders_count = ap length unused.holders ∙ replicate_count (end_of room - room.lowest) empty;
+  stable_count = ap length unused.stable ∙ replicate_count (end_of room - room.lowest) false;
   part = unused.part;
-  sights = λ i k d followed numbered at. subst (λ past. IsSight past k d (sight_of first empty room i)) (sym (no_entry r.past)) (record {
+  lowest = λ i k d followed numbered at.
+      let first = are.first_is i k d numbered at in
+      unused.lowest i (slice_index effects.first.items i) k first.0 d followed.0 followed.1 numbered at first.1 first.2;
+  sights = λ i k d followed numbered at. subst (λ past. IsSight past k d (sight_of effects.first.items empty room i)) (sym (no_entry r.past)) (record {
     down = λ p. contains-empty nat_cmp p;
-    holders = λ p. ap (λ s. contains s p) (read_same room.holders.items (deliveries_in r.past) (slice_index first i) empty unused.holders) ∙ contains-empty nat_cmp p;
-    stable = read_same room.stable.items (deliveries_in r.past) (slice_index first i) false unused.stable;
+    holders = λ p. ap (λ s. contains s p) (read_same room.holders.items (end_of room - room.lowest) (slice_index effects.first.items i - room.lowest) empty unused.holders) ∙ contains-empty nat_cmp p;
+    stable = read_same room.stable.items (end_of room - room.lowest) (slice_index effects.first.items i - room.lowest) false unused.stable;
     dependents = λ p. (
       λ has. absurd (false≢true (sym (contains-empty nat_cmp p) ∙ sym (ap (λ s. contains s p) (read_same room.dependents.items (length room.dependents.items) (i - room.from) empty unused.dependents)) ∙ has)),
       λ depends. absurd depends.present,

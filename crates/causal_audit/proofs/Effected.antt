@@ -155,6 +155,34 @@ module _ (r : Recording) (formed : IsWellFormed r) (positions : List ℕ) (are :
               λ k d low. absurd (omega (arith, low, ap length empty))
         ]
 
+    -- the determinant of a delivery
+    det_of_number : (i k : ℕ) (d : Det) → IsNumbered past i k → det_at past k ≡ Some d → (i < length dets) × (slice_get dets i ≡ Some d)
+    det_of_number i k d numbered at =
+        let below = numbered_low past positions are i k numbered in
+        (omega (arith, below, count), sym (dets_are i below) ∙ ap (det_at past) (position_is past positions are i k numbered) ∙ at)
+
+    pub first_shares : (i k : ℕ) (d : Det) → IsNumbered past i k → det_at past k ≡ Some d → (h : ℕ) × IsNumbered past (slice_index first i) h × (det_at past h ≡ Some d)
+    first_shares i k d numbered at =
+        let mine = det_of_number i k d numbered at in
+        let m = slice_index first i in
+        let low : m < length positions = omega (arith, firsts.least i mine.0, mine.0, count) in
+        let h = slice_index positions m in
+        let own = firsts.own i d mine.0 mine.1 in
+        elim (slice_get_cases dets m).1 [
+          | inl some ↦
+              let same : d ≡ some.0 = firsts.named d some.0 m own some.2 in
+              (h, are.each m low, dets_are m low ∙ some.2 ∙ ap (λ x. Some x) (sym same))
+          | inr none ↦ absurd (omega (arith, none.0, low, count))
+        ]
+
+    pub first_before : (i m k h : ℕ) (d : Det) → IsNumbered past i k → det_at past k ≡ Some d → IsNumbered past m h → det_at past h ≡ Some d → slice_index first i ≤ m
+    first_before i m k h d numbered at other there =
+        let mine = det_of_number i k d numbered at in
+        let theirs = det_of_number m h d other there in
+        let two : Some (slice_index first i) ≡ Some (slice_index first m) = sym (firsts.own i d mine.0 mine.1) ∙ firsts.own m d theirs.0 theirs.1 in
+        let same : slice_index first i ≡ slice_index first m = cc two in
+        omega (arith, same, firsts.least m theirs.0)
+
     pub marks_tell : (i k v : ℕ) (d : Det) (e : Entry) → IsNumbered past i k → det_at past k ≡ Some d → instant past (v + 1) ≡ e ∷ instant past v → is_among (list_at marks v) (slice_index first i) ≡ has (mentioned_by e) d
     marks_tell i k v d e numbered at next =
         let low = entry_low past v e next in
@@ -261,7 +289,9 @@ module _ (r : Recording) (formed : IsWellFormed r) (positions : List ℕ) (are :
         same_count = shares.counted ∙ all;
         marks_count = length-map (entries_of r) (λ e. numbers_in of (mentioned_by e)) ∙ length-reverse past;
         risen_count = rises.counted ∙ stands.count;
-        within = λ i low. omega (arith, low, firsts.least i (omega (arith, low, all, firsts.counted)));
+        within = λ i low. firsts.least i (omega (arith, low, all, firsts.counted));
+        first_is = first_shares dets of first firsts count dets_are;
+        first_least = first_before dets of first firsts count dets_are;
         marks_within = marks_low dets of first firsts count dets_are;
         shared = λ i low. among_contains (list_at same (slice_index first i)) i (shares.shared i (omega (arith, low, all)));
         marked = marks_tell dets of first firsts count dets_are;

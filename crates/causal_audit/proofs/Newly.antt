@@ -1,6 +1,6 @@
 -- The least delivery of a part with an orphan at one instant.
-use Rattle.std.proofs.Common.{ℕ, suc, Vec, Global, ◌≡◌, ◌+◌, ◌<◌, ◌≤◌, inl, inr, Bool, true, false, List, [], ◌∷◌, length, map, get_or, take, Option, Some, None, refl, sym, ap, subst, ◌∙◌, arith}
-use Rattle.std.specs.Prelude.{if◌then◌else◌, nat_le, nat_lt, ◌==◌, ◌&&◌, ◌||◌}
+use Rattle.std.proofs.Common.{ℕ, suc, Vec, Global, ◌≡◌, ◌+◌, ◌-◌, ◌<◌, ◌≤◌, inl, inr, Bool, true, false, List, [], ◌∷◌, length, map, get_or, take, Option, Some, None, refl, sym, ap, subst, ◌∙◌, arith}
+use Rattle.std.specs.Prelude.{if◌then◌else◌, slice_index, nat_le, nat_lt, ◌==◌, ◌&&◌, ◌||◌}
 use Rattle.std.specs.Ordering.{nat_cmp}
 use Rattle.std.specs.FinSet.{FinSet, contains}
 use Rattle.std.proofs.lemmas.List.{get_or_default, get_or-map}
@@ -18,7 +18,12 @@ use Rattle.causal_audit.specs.Earlier.{comes_before, earlier}
 use Rattle.causal_audit.specs.Inside.Newly.{is_between, is_sharing, IsLeastAt, LeastAt}
 use Rattle.causal_audit.specs.Inside.Filed.{list_at}
 use Rattle.causal_audit.proofs.Lasting.{or_more}
-use Rattle.causal_audit.specs.Inside.Rooms.{is_among}
+use Rattle.causal_audit.specs.Courses.{end_of}
+use Rattle.causal_audit.specs.declared.room.Room.{Room}
+use Rattle.causal_audit.specs.declared.sweep.Moment.{Moment}
+use Rattle.causal_audit.specs.Inside.Courses.{run_read}
+use Rattle.causal_audit.specs.Inside.Moments.{IsMoment}
+use Rattle.causal_audit.specs.Inside.Rooms.{IsFollowed, is_among}
 use Rattle.causal_audit.specs.Numbers.{IsNumbered}
 use Rattle.causal_audit.specs.Verdicts.{IsLeastOrphan}
 use Rattle.std.proofs.lemmas.Bool.Decides.{nat_tests, eqb_tells}
@@ -233,3 +238,18 @@ module _ (r : Recording) (f t from to : ℕ) where
 -- a row that is read
 pub row_read : (lists : List (Vec ℕ Global)) (t : ℕ) (v : Vec ℕ Global) (row : List ℕ) → v ≡ get_or lists t v → row ≡ v.items → t < length lists → row ≡ list_at (map (λ list. list.items) lists) t
 row_read lists t v row is row_is below = row_is ∙ ap (λ x. x.items) is ∙ sym (get_or-map (λ x. x.items) lists t v [] below)
+
+-- ---- where a room has the determinant of a delivery that it follows
+
+pub place_at : (moment : Moment) (room : Room) → IsMoment moment room → (i : ℕ) → IsFollowed room i → (x : ℕ) → x ≡ get_or moment.reading.effects.now.first.items i x
+    → (room.lowest ≤ x) × (x - room.lowest < end_of room - room.lowest) × (x ≡ slice_index moment.reading.effects.now.first.items i)
+place_at moment room is i followed x read =
+    let r = run_read moment.reading in
+    let first = moment.reading.effects.now.first.items in
+    let inside : i < deliveries_in r.past = omega (arith, followed.1, is.seen.part) in
+    let place = position_of r.past i inside in
+    let some = numbered_some r.processes r.past i place.0 is.reading.formed.accepted place.1 in
+    let low : room.lowest ≤ slice_index first i = is.seen.lowest i place.0 some.0 followed place.1 some.1 in
+    let same : x ≡ slice_index first i = sym (placed first i i x 0 read refl (omega (arith, inside, is.reading.has_effects.first_count))) in
+    let high : slice_index first i ≤ i = is.reading.has_effects.within i inside in
+    (omega (arith, low, same), omega (arith, low, same, high, followed.1), same)

@@ -95,11 +95,11 @@ module _ {A : Type 0} (change : A → A) (none : A) (from : ℕ) where
       ]
 
 -- no entry changes how many there are
-pub after_counts : (kind : Kind) (from : ℕ) (marks risen : List ℕ) (holders : List (FinSet nat_cmp)) (stable : List Bool) (dependents : List (FinSet nat_cmp))
-    → (length (holders_after kind marks holders) ≡ length holders) × (length (stable_after kind marks stable) ≡ length stable) × (length (dependents_after from kind risen dependents) ≡ length dependents)
-after_counts Send from marks risen holders stable dependents = (refl, refl, refl)
-after_counts (Deliver to) from marks risen holders stable dependents = (all_changed_count (λ s. insert s to.0) empty 0 holders marks, refl, all_changed_count (λ s. insert s to.0) empty from dependents risen)
-after_counts Stable from marks risen holders stable dependents = (refl, all_changed_count (λ _. true) false 0 stable marks, refl)
-after_counts (Crash who) from marks risen holders stable dependents = (length-map holders (λ s. remove s who.0), refl, length-map dependents (λ s. remove s who.0))
-after_counts (Restart who) from marks risen holders stable dependents = (all_changed_count (λ s. insert s who.0) empty 0 holders marks, refl, refl)
-after_counts (Forget who) from marks risen holders stable dependents = (all_changed_count (λ s. remove s who.0) empty 0 holders marks, refl, refl)
+pub after_counts : (kind : Kind) (lowest from : ℕ) (marks risen : List ℕ) (holders : List (FinSet nat_cmp)) (stable : List Bool) (dependents : List (FinSet nat_cmp))
+    → (length (holders_after lowest kind marks holders) ≡ length holders) × (length (stable_after lowest kind marks stable) ≡ length stable) × (length (dependents_after from kind risen dependents) ≡ length dependents)
+after_counts Send lowest from marks risen holders stable dependents = (refl, refl, refl)
+after_counts (Deliver to) lowest from marks risen holders stable dependents = (all_changed_count (λ s. insert s to.0) empty lowest holders marks, refl, all_changed_count (λ s. insert s to.0) empty from dependents risen)
+after_counts Stable lowest from marks risen holders stable dependents = (refl, all_changed_count (λ _. true) false lowest stable marks, refl)
+after_counts (Crash who) lowest from marks risen holders stable dependents = (length-map holders (λ s. remove s who.0), refl, length-map dependents (λ s. remove s who.0))
+after_counts (Restart who) lowest from marks risen holders stable dependents = (all_changed_count (λ s. insert s who.0) empty lowest holders marks, refl, refl)
+after_counts (Forget who) lowest from marks risen holders stable dependents = (all_changed_count (λ s. remove s who.0) empty lowest holders marks, refl, refl)

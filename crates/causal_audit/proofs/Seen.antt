@@ -66,36 +66,22 @@ module _ (from p j : ℕ) (low : from ≤ j) (numbers : List ℕ) (sets : List (
 
 -- ---- the holders of a determinant, and whether it is stable
 
-module _ (past : List Entry) (d : Det) (marks : List ℕ) (m : ℕ) where
-  module _ (sets : List (FinSet nat_cmp)) (high : m < length sets) (shown : Shows (get_or sets m empty) (λ p. logs past p d)) where
-    whole : m - 0 ≡ m
-    whole = omega arith
-
-    at_whole : (test : ℕ → Bool) (xs : List (FinSet nat_cmp)) → Shows (get_or xs (m - 0) empty) test → Shows (get_or xs m empty) test
-    at_whole test xs h = subst (λ i. Shows (get_or xs i empty) test) whole h
-
-    shown_whole : Shows (get_or sets (m - 0) empty) (λ p. logs past p d)
-    shown_whole = subst (λ i. Shows (get_or sets i empty) (λ p. logs past p d)) (sym whole) shown
-
-    pub holders_seen : (e : Entry) → is_among marks m ≡ has (mentioned_by e) d → Shows (get_or (holders_after (kind_of e) marks sets) m empty) (λ p. logs (e ∷ past) p d)
+module _ (past : List Entry) (d : Det) (marks : List ℕ) (lowest m : ℕ) (low : lowest ≤ m) where
+  module _ (sets : List (FinSet nat_cmp)) (high : m - lowest < length sets) (shown : Shows (get_or sets (m - lowest) empty) (λ p. logs past p d)) where
+    pub holders_seen : (e : Entry) → is_among marks m ≡ has (mentioned_by e) d → Shows (get_or (holders_after lowest (kind_of e) marks sets) (m - lowest) empty) (λ p. logs (e ∷ past) p d)
     holders_seen (Send from to ssn) told = shown
-    holders_seen (Deliver to send rsn listed) told = at_whole _ _ (inserted_shows 0 to.0 m (omega arith) marks sets (omega (arith, whole, high)) (λ p. logs past p d) shown_whole (has listed d) told)
+    holders_seen (Deliver to send rsn listed) told = inserted_shows lowest to.0 m low marks sets high (λ p. logs past p d) shown (has listed d) told
     holders_seen (Stable det) told = shown
-    holders_seen (Crash who) told = at_whole _ _ (all_removed 0 who.0 m (omega arith) marks sets (omega (arith, whole, high)) (λ p. logs past p d) shown_whole)
-    holders_seen (Restart who listed) told = at_whole _ _ (inserted_shows 0 who.0 m (omega arith) marks sets (omega (arith, whole, high)) (λ p. logs past p d) shown_whole (has listed d) told)
-    holders_seen (Forget who listed) told = at_whole _ _ (removed_shows 0 who.0 m (omega arith) marks sets (omega (arith, whole, high)) (λ p. logs past p d) shown_whole (has listed d) told)
+    holders_seen (Crash who) told = all_removed lowest who.0 m low marks sets high (λ p. logs past p d) shown
+    holders_seen (Restart who listed) told = inserted_shows lowest who.0 m low marks sets high (λ p. logs past p d) shown (has listed d) told
+    holders_seen (Forget who listed) told = removed_shows lowest who.0 m low marks sets high (λ p. logs past p d) shown (has listed d) told
 
-  module _ (flags : List Bool) (high : m < length flags) (is : get_or flags m false ≡ is_stable past d) where
-    marked : (det : Det) (more : Bool) → same_det d det ≡ more → is_among marks m ≡ (more || false) → get_or (changed (λ _. true) false 0 flags marks) m false ≡ (more || is_stable past d)
-    marked det true same among =
-        let whole : m - 0 ≡ m = omega arith in
-        subst (λ i. get_or (changed (λ _. true) false 0 flags marks) i false ≡ true) whole
-        (changed_listed (λ _. true) false 0 (λ _. Unit {0}) (λ b. b ≡ true) (λ _ _. refl) (λ _ _. refl) m (omega arith) marks flags (omega (arith, high)) among tt)
-    marked det false same among =
-        let whole : m - 0 ≡ m = omega arith in
-        subst (λ i. get_or (changed (λ _. true) false 0 flags marks) i false ≡ get_or flags i false) whole (changed_unlisted (λ _. true) false 0 m (omega arith) marks flags among) ∙ is
+  module _ (flags : List Bool) (high : m - lowest < length flags) (is : get_or flags (m - lowest) false ≡ is_stable past d) where
+    marked : (det : Det) (more : Bool) → same_det d det ≡ more → is_among marks m ≡ (more || false) → get_or (changed (λ _. true) false lowest flags marks) (m - lowest) false ≡ (more || is_stable past d)
+    marked det true same among = changed_listed (λ _. true) false lowest (λ _. Unit {0}) (λ b. b ≡ true) (λ _ _. refl) (λ _ _. refl) m low marks flags high among tt
+    marked det false same among = changed_unlisted (λ _. true) false lowest m low marks flags among ∙ is
 
-    pub stable_seen : (e : Entry) → is_among marks m ≡ has (mentioned_by e) d → get_or (stable_after (kind_of e) marks flags) m false ≡ is_stable (e ∷ past) d
+    pub stable_seen : (e : Entry) → is_among marks m ≡ has (mentioned_by e) d → get_or (stable_after lowest (kind_of e) marks flags) (m - lowest) false ≡ is_stable (e ∷ past) d
     stable_seen (Send from to ssn) told = is
     stable_seen (Deliver to send rsn listed) told = is
     stable_seen (Stable det) told = marked det (same_det d det) refl told

@@ -60,11 +60,12 @@ module _ (r : Recording) (formed : IsWellFormed r) (t : ℕ) (e : Entry) (below 
   module _ (down down' : FinSet nat_cmp) (room room' : Room) (is : IsRoom r effects.first.items t down room)
       (shown : Shows down' (λ p. is_down (e ∷ instant r.past t) p))
       (from_is : room'.from ≡ room.from)
-      (holders_is : room'.holders.items ≡ holders_after (kind_of e) (list_at (marks_of effects) t) room.holders.items)
-      (stable_is : room'.stable.items ≡ stable_after (kind_of e) (list_at (marks_of effects) t) room.stable.items)
+      (lowest_is : room'.lowest ≡ room.lowest)
+      (holders_is : room'.holders.items ≡ holders_after room.lowest (kind_of e) (list_at (marks_of effects) t) room.holders.items)
+      (stable_is : room'.stable.items ≡ stable_after room.lowest (kind_of e) (list_at (marks_of effects) t) room.stable.items)
       (dependents_is : room'.dependents.items ≡ dependents_after room.from (kind_of e) (list_at (risen_of effects) t) room.dependents.items) where
     pub same_count : length room'.dependents.items ≡ length room.dependents.items
-    same_count = ap length dependents_is ∙ (after_counts (kind_of e) room.from (list_at (marks_of effects) t) (list_at (risen_of effects) t) room.holders.items room.stable.items room.dependents.items).2
+    same_count = ap length dependents_is ∙ (after_counts (kind_of e) room.lowest room.from (list_at (marks_of effects) t) (list_at (risen_of effects) t) room.holders.items room.stable.items room.dependents.items).2
 
     sight_next : (i k : ℕ) (d : Det) → IsFollowed room i → IsNumbered r.past i k → det_at r.past k ≡ Some d → IsSight (e ∷ instant r.past t) k d (sight_of effects.first.items down' room' i)
     sight_next i k d followed numbered at =
@@ -72,13 +73,18 @@ module _ (r : Recording) (formed : IsWellFormed r) (t : ℕ) (e : Entry) (below 
         let m = slice_index effects.first.items i in
         let marks = list_at (marks_of effects) t in
         let risen = list_at (risen_of effects) t in
-        let inside : m < deliveries_in r.past = are_effects.within i (omega (arith, numbered_below r.past i k numbered)) in
+        let low : room.lowest ≤ m = is.lowest i k d followed numbered at in
+        let inside : m ≤ i = are_effects.within i (numbered_below r.past i k numbered) in
+        let place : m - room'.lowest ≡ m - room.lowest = omega (arith, lowest_is) in
         let told : is_among marks m ≡ has (mentioned_by e) d = are_effects.marked i k t d e numbered at next in
         let formed_next = accepted_next r formed t e below next in
         record {
           down = shown;
-          holders = subst (λ xs. Shows (get_or xs m empty) (λ p. logs (e ∷ instant r.past t) p d)) (sym holders_is) (holders_seen (instant r.past t) d marks m room.holders.items (omega (arith, inside, is.holders_count)) s.holders e told);
-          stable = ap (λ xs. get_or xs m false) stable_is ∙ stable_seen (instant r.past t) d marks m room.stable.items (omega (arith, inside, is.stable_count)) s.stable e told;
+          holders = subst (λ j. Shows (get_or room'.holders.items j empty) (λ p. logs (e ∷ instant r.past t) p d)) (sym place)
+              (subst (λ xs. Shows (get_or xs (m - room.lowest) empty) (λ p. logs (e ∷ instant r.past t) p d)) (sym holders_is)
+              (holders_seen (instant r.past t) d marks room.lowest m low room.holders.items (omega (arith, low, inside, followed.1, is.holders_count)) s.holders e told));
+          stable = ap (λ j. get_or room'.stable.items j false) place ∙ ap (λ xs. get_or xs (m - room.lowest) false) stable_is
+              ∙ stable_seen (instant r.past t) d marks room.lowest m low room.stable.items (omega (arith, low, inside, followed.1, is.stable_count)) s.stable e told;
           dependents = subst (AreDependents (e ∷ instant r.past t) k) (sym ((λ j. get_or (dependents_is j) (i - from_is j) empty)))
               (dependents_seen r.processes (instant r.past t) k d (get_or room.dependents.items (i - room.from) empty) s.dependents room.from i followed.0 risen room.dependents.items (omega (arith, followed.0, followed.1)) refl e formed_next
               (λ newest. det_here k d at (omega (arith, newest, here)))
@@ -88,12 +94,13 @@ module _ (r : Recording) (formed : IsWellFormed r) (t : ℕ) (e : Entry) (below 
 
     pub room_next : IsRoom r effects.first.items (t + 1) down' room'
     room_next =
-        let counts = after_counts (kind_of e) room.from (list_at (marks_of effects) t) (list_at (risen_of effects) t) room.holders.items room.stable.items room.dependents.items in
+        let counts = after_counts (kind_of e) room.lowest room.from (list_at (marks_of effects) t) (list_at (risen_of effects) t) room.holders.items room.stable.items room.dependents.items in
         record {
           shows_down = subst (λ past. Shows down' (λ p. is_down past p)) (sym next) shown;
-          holders_count = ap length holders_is ∙ counts.0 ∙ is.holders_count;
-          stable_count = ap length stable_is ∙ counts.1 ∙ is.stable_count;
+          holders_count = omega (arith, ap length holders_is, counts.0, is.holders_count, same_count, from_is, lowest_is);
+          stable_count = omega (arith, ap length stable_is, counts.1, is.stable_count, same_count, from_is, lowest_is);
           part = omega (arith, is.part, same_count, from_is);
+          lowest = λ i k d followed numbered at. omega (arith, lowest_is, is.lowest i k d (omega (arith, followed.0, from_is), omega (arith, followed.1, from_is, same_count)) numbered at);
           sights = λ i k d followed numbered at.
               subst (λ past. IsSight past k d (sight_of effects.first.items down' room' i)) (sym next)
               (sight_next i k d (omega (arith, followed.0, from_is), omega (arith, followed.1, from_is, same_count)) numbered at);
@@ -195,7 +202,7 @@ at_first r f k u first has =
     omega (arith, made, empty)
 
 pub kept_count : (kind : Kind) (from : ℕ) (risen : List ℕ) (sets sets' : List (FinSet nat_cmp)) → sets' ≡ dependents_after from kind risen sets → length sets' ≡ length sets
-kept_count kind from risen sets sets' is = ap length is ∙ (after_counts kind from risen risen sets [] sets).2
+kept_count kind from risen sets sets' is = ap length is ∙ (after_counts kind 0 from risen risen sets [] sets).2
 
 -- the same of lists that are the same
 pub moved : (r : Recording) (f t from' from count' count : ℕ) (kind : Kind) (same : List (List ℕ)) (marks' marks risen' risen : List ℕ) (found : Option Breach)

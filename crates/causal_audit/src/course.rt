@@ -3,11 +3,12 @@ ghost use Rattle.std.specs.Prelude.{◌≡◌, ◌≤◌, IfOk, length};
 ghost use Rattle.causal_trace.specs.Limits.{max_entries};
 ghost use Rattle.causal_trace.specs.Past.{deliveries_in};
 ghost use Rattle.causal_trace.specs.Rows.{IsWellFormed};
-ghost use Rattle.causal_audit.specs.Courses.{up_to};
+ghost use Rattle.causal_audit.specs.Courses.{IsLowest, up_to};
 ghost use Rattle.causal_audit.specs.Inside.Courses.{IsPrepared, run_read};
 
 use crate::effects::{Effects, Reading, effects_of};
 use crate::kind::{Kind, kinds_of};
+use crate::lists::least_in;
 use crate::tables::positions_of;
 use causal_name::NoMemory;
 use causal_trace::trace::Trace;
@@ -79,6 +80,16 @@ impl Course {
         ensures { result ≡ deliveries_in self.now.past }
     {
         self.positions.len() as u32
+    }
+
+    /// A number that no delivery is below which has the determinant of one that is numbered from `from` on and below `to`: the
+    /// least of such numbers, or `to`.
+    pub(crate) fn lowest(&self, from: u32, to: u32) -> u32
+        requires { (from ≤ to) × (to ≤ deliveries_in self.now.past) }
+        ensures within { result ≤ to }
+        ensures lowest { IsLowest self.now from to result }
+    {
+        least_in(&self.effects.first[from as usize..to as usize], to)
     }
 
     /// What a sweep reads of it.

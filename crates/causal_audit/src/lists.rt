@@ -1,5 +1,5 @@
 //! Numbered lists of positions.
-ghost use Rattle.std.specs.Prelude.{◌≡◌, ◌<◌, [], IfOk, OnOk, vec_len};
+ghost use Rattle.std.specs.Prelude.{◌≡◌, ◌<◌, ◌≤◌, ℕ, [], IfOk, OnOk, length, slice_index, vec_len};
 ghost use Rattle.std.specs.List.{All};
 ghost use Rattle.causal_audit.specs.Inside.Filed.{lists_in, with_added};
 
@@ -16,6 +16,18 @@ pub fn empty_lists(alloc: Global, count: u32) -> Result<Vec<Vec<u32>>, NoMemory>
         lists.push(Vec::new(alloc))?;
     }
     Ok(lists)
+}
+
+/// The least of these numbers, or a bound where that is less.
+pub fn least_in(numbers: &[u32], bound: u32) -> u32
+    ensures bound { result ≤ bound }
+    ensures least { (i : ℕ) → i < length numbers.now → result ≤ slice_index numbers.now i }
+{
+    let mut least = bound;
+    for number in numbers {
+        least = least.min(*number);
+    }
+    least
 }
 
 /// Puts a position at the end of one of the lists.

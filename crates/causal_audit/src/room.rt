@@ -12,11 +12,12 @@ use causal_holders::Holders;
 use causal_name::NoMemory;
 use std::alloc::Global;
 
-/// What is known at an instant: for each determinant, by the number of its first delivery, who holds it and whether it is
-/// stable, and for each delivery numbered from `from` on who depends on it.
+/// What is known at an instant: for each determinant whose first delivery is numbered from `lowest` on who holds it and
+/// whether it is stable, and for each delivery numbered from `from` on who depends on it.
 #[derive(Drop)]
 pub struct Room {
     pub from: u32,
+    pub lowest: u32,
     pub holders: Vec<Holders>,
     pub stable: Vec<bool>,
     pub dependents: Vec<Holders>,
@@ -36,14 +37,16 @@ fn insert_each(sets: &mut [Holders], from: u32, numbers: &[u32], p: u8)
     }
 }
 
-/// Takes p out of the sets of these numbers.
-fn remove_each(sets: &mut [Holders], numbers: &[u32], p: u8)
-    ensures { sets.new ≡ changed (λ s. set.remove s p) set.empty 0 sets.old numbers.now }
+/// Takes p out of the sets of these numbers, which count from `from` on.
+fn remove_each(sets: &mut [Holders], from: u32, numbers: &[u32], p: u8)
+    ensures { sets.new ≡ changed (λ s. set.remove s p) set.empty from sets.old numbers.now }
 {
     for number in numbers {
-        let place = *number as usize;
-        if place < sets.len() {
-            sets[place].remove(p);
+        if from <= *number {
+            let place = (*number - from) as usize;
+            if place < sets.len() {
+                sets[place].remove(p);
+            }
         }
     }
 }
@@ -57,14 +60,16 @@ fn remove_all(sets: &mut [Holders], p: u8)
     }
 }
 
-/// Marks these numbers.
-fn mark_each(flags: &mut [bool], numbers: &[u32])
-    ensures { flags.new ≡ changed (λ _. true) false 0 flags.old numbers.now }
+/// Marks these numbers, which count from `from` on.
+fn mark_each(flags: &mut [bool], from: u32, numbers: &[u32])
+    ensures { flags.new ≡ changed (λ _. true) false from flags.old numbers.now }
 {
     for number in numbers {
-        let place = *number as usize;
-        if place < flags.len() {
-            flags[place] = true;
+        if from <= *number {
+            let place = (*number - from) as usize;
+            if place < flags.len() {
+                flags[place] = true;
+            }
         }
     }
 }
@@ -80,12 +85,14 @@ impl Room {
         ensures begins { IfOk result (λ room. room.from ≡ from) }
         ensures ends { IfOk result (λ room. end_of room ≡ to) }
     {
-        let all = course.deliveries() as usize;
-        let holders = vec![in alloc; Holders::none(); all]?;
-        let stable = vec![in alloc; false; all]?;
+        let lowest = course.lowest(from, to);
+        let count = (to - lowest) as usize;
+        let holders = vec![in alloc; Holders::none(); count]?;
+        let stable = vec![in alloc; false; count]?;
         let dependents = vec![in alloc; Holders::none(); (to - from) as usize]?;
         Ok(Room {
             from,
+            lowest,
             holders,
             stable,
             dependents,
@@ -96,23 +103,24 @@ impl Room {
     /// deliveries newly reach.
     pub(crate) fn see(&mut self, kind: Kind, marks: &[u32], risen: &[u32])
         ensures from { self.new.from ≡ self.old.from }
-        ensures holders { self.new.holders.items ≡ holders_after kind marks.now self.old.holders.items }
-        ensures stable { self.new.stable.items ≡ stable_after kind marks.now self.old.stable.items }
+        ensures lowest { self.new.lowest ≡ self.old.lowest }
+        ensures holders { self.new.holders.items ≡ holders_after self.old.lowest kind marks.now self.old.holders.items }
+        ensures stable { self.new.stable.items ≡ stable_after self.old.lowest kind marks.now self.old.stable.items }
         ensures dependents { self.new.dependents.items ≡ dependents_after self.old.from kind risen.now self.old.dependents.items }
     {
         match kind {
             Kind::Send => {}
             Kind::Deliver { to } => {
-                insert_each(&mut self.holders, 0, marks, to.0);
+                insert_each(&mut self.holders, self.lowest, marks, to.0);
                 insert_each(&mut self.dependents, self.from, risen, to.0);
             }
-            Kind::Stable => mark_each(&mut self.stable, marks),
+            Kind::Stable => mark_each(&mut self.stable, self.lowest, marks),
             Kind::Crash { who } => {
                 remove_all(&mut self.holders, who.0);
                 remove_all(&mut self.dependents, who.0);
             }
-            Kind::Restart { who } => insert_each(&mut self.holders, 0, marks, who.0),
-            Kind::Forget { who } => remove_each(&mut self.holders, marks, who.0),
+            Kind::Restart { who } => insert_each(&mut self.holders, self.lowest, marks, who.0),
+            Kind::Forget { who } => remove_each(&mut self.holders, self.lowest, marks, who.0),
         }
     }
 

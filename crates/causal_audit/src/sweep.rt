@@ -38,11 +38,11 @@ impl Moment<'_> {
             BreachAt (run_read self.now.reading).processes self.now.f (instant (run_read self.now.reading).past self.now.t) k self.now.t result }
     {
         let position = self.reading.positions[i as usize];
-        let number = self.reading.effects.first[i as usize] as usize;
+        let place = (self.reading.effects.first[i as usize] - room.lowest) as usize;
         let sight = Sight {
             down: self.down,
-            holders: room.holders[number],
-            stable: room.stable[number],
+            holders: room.holders[place],
+            stable: room.stable[place],
             dependents: room.dependents[(i - room.from) as usize],
         };
         breach_at(&sight, self.f, position, self.t)

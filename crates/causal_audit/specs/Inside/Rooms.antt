@@ -13,6 +13,7 @@ use Rattle.causal_audit.specs.declared.kind.Kind.{Kind}
 use Rattle.causal_audit.specs.declared.kind.Kind.TheVariants.{Deliver, Stable, Crash, Restart, Forget}
 use Rattle.causal_audit.specs.declared.room.Room.{Room}
 use Rattle.causal_audit.specs.declared.sight.Sight.{Sight}
+use Rattle.causal_audit.specs.Courses.{end_of}
 use Rattle.causal_audit.specs.Inside.Filed.{list_at}
 use Rattle.causal_audit.specs.Numbers.{IsNumbered}
 use Rattle.causal_audit.specs.Quiet.{mentioned_by}
@@ -32,18 +33,18 @@ abbrev pub changed : {A : Type 0} → (A → A) → A → ℕ → List A → Lis
 changed change none from xs [] = xs
 changed change none from xs (i ∷ is) = changed change none from (changed_at change none from xs i) is
 
--- the holders of each determinant after an entry of a kind that mentions these
-abbrev pub holders_after : Kind → List ℕ → List (FinSet nat_cmp) → List (FinSet nat_cmp)
-holders_after (Deliver to) marks sets = changed (λ s. insert s to.0) empty 0 sets marks
-holders_after (Restart who) marks sets = changed (λ s. insert s who.0) empty 0 sets marks
-holders_after (Forget who) marks sets = changed (λ s. remove s who.0) empty 0 sets marks
-holders_after (Crash who) marks sets = map (λ s. remove s who.0) sets
-holders_after _ marks sets = sets
+-- the holders of each determinant from `lowest` on after an entry of a kind that mentions these
+abbrev pub holders_after : ℕ → Kind → List ℕ → List (FinSet nat_cmp) → List (FinSet nat_cmp)
+holders_after lowest (Deliver to) marks sets = changed (λ s. insert s to.0) empty lowest sets marks
+holders_after lowest (Restart who) marks sets = changed (λ s. insert s who.0) empty lowest sets marks
+holders_after lowest (Forget who) marks sets = changed (λ s. remove s who.0) empty lowest sets marks
+holders_after lowest (Crash who) marks sets = map (λ s. remove s who.0) sets
+holders_after lowest _ marks sets = sets
 
 -- which of them are stable then
-abbrev pub stable_after : Kind → List ℕ → List Bool → List Bool
-stable_after Stable marks flags = changed (λ _. true) false 0 flags marks
-stable_after _ marks flags = flags
+abbrev pub stable_after : ℕ → Kind → List ℕ → List Bool → List Bool
+stable_after lowest Stable marks flags = changed (λ _. true) false lowest flags marks
+stable_after lowest _ marks flags = flags
 
 -- the dependents of each delivery from `from` on, where these newly reach the receiver
 abbrev pub dependents_after : ℕ → Kind → List ℕ → List (FinSet nat_cmp) → List (FinSet nat_cmp)
@@ -63,7 +64,9 @@ pub record AreEffects (past : List Entry) (first : List ℕ) (same marks risen :
   pub same_count : length same ≡ deliveries_in past
   pub marks_count : length marks ≡ length past
   pub risen_count : length risen ≡ length past
-  pub within : (i : ℕ) → i < deliveries_in past → slice_index first i < deliveries_in past
+  pub within : (i : ℕ) → i < deliveries_in past → slice_index first i ≤ i
+  pub first_is : (i k : ℕ) (d : Det) → IsNumbered past i k → det_at past k ≡ Some d → (h : ℕ) × IsNumbered past (slice_index first i) h × (det_at past h ≡ Some d)
+  pub first_least : (i m k h : ℕ) (d : Det) → IsNumbered past i k → det_at past k ≡ Some d → IsNumbered past m h → det_at past h ≡ Some d → slice_index first i ≤ m
   pub marks_within : (v : ℕ) → All (λ m. m < deliveries_in past) (list_at marks v)
   pub shared : (i : ℕ) → i < deliveries_in past → is_among (list_at same (slice_index first i)) i ≡ true
   pub marked : (i k v : ℕ) (d : Det) (e : Entry) → IsNumbered past i k → det_at past k ≡ Some d → instant past (v + 1) ≡ e ∷ instant past v → is_among (list_at marks v) (slice_index first i) ≡ has (mentioned_by e) d
@@ -74,8 +77,8 @@ pub record AreEffects (past : List Entry) (first : List ℕ) (same marks risen :
 abbrev pub sight_of : List ℕ → FinSet nat_cmp → Room → ℕ → Sight
 sight_of first down room i = record {
   down = down;
-  holders = slice_index_or room.holders.items (slice_index first i) empty;
-  stable = slice_index_or room.stable.items (slice_index first i) false;
+  holders = slice_index_or room.holders.items (slice_index first i - room.lowest) empty;
+  stable = slice_index_or room.stable.items (slice_index first i - room.lowest) false;
   dependents = slice_index_or room.dependents.items (i - room.from) empty;
 }
 
@@ -86,7 +89,8 @@ IsFollowed room i = (room.from ≤ i) × (i < room.from + length room.dependents
 -- at the instant t the room has what is known of each delivery that it follows
 pub record IsRoom (r : Recording) (first : List ℕ) (t : ℕ) (down : FinSet nat_cmp) (room : Room) : Type 0 where
   pub shows_down : Shows down (λ p. is_down (instant r.past t) p)
-  pub holders_count : length room.holders.items ≡ deliveries_in r.past
-  pub stable_count : length room.stable.items ≡ deliveries_in r.past
-  pub part : room.from + length room.dependents.items ≤ deliveries_in r.past
+  pub holders_count : length room.holders.items ≡ end_of room - room.lowest
+  pub stable_count : length room.stable.items ≡ end_of room - room.lowest
+  pub part : end_of room ≤ deliveries_in r.past
+  pub lowest : (i k : ℕ) (d : Det) → IsFollowed room i → IsNumbered r.past i k → det_at r.past k ≡ Some d → room.lowest ≤ slice_index first i
   pub sights : (i k : ℕ) (d : Det) → IsFollowed room i → IsNumbered r.past i k → det_at r.past k ≡ Some d → IsSight (instant r.past t) k d (sight_of first down room i)

@@ -4,4 +4,4 @@ use Rattle.causal_audit.proofs.room.mark_each.Given as goal
 
 -- the changes so far and those to come are all
 abbrev pub invariant-loop-number : goal.invariant-loop-number
-invariant-loop-number l = changed (λ _. true) false 0 l.flags (drop l.number-index l.numbers) ≡ changed (λ _. true) false 0 l.fn.flags l.numbers
+invariant-loop-number l = changed (λ _. true) false l.from l.flags (drop l.number-index l.numbers) ≡ changed (λ _. true) false l.from l.fn.flags l.numbers

@@ -5,4 +5,4 @@ use Rattle.causal_audit.proofs.room.remove_each.Given as goal
 
 -- the changes so far and those to come are all
 abbrev pub invariant-loop-number : goal.invariant-loop-number
-invariant-loop-number l = changed (λ s. remove s l.p) empty 0 l.sets (drop l.number-index l.numbers) ≡ changed (λ s. remove s l.p) empty 0 l.fn.sets l.numbers
+invariant-loop-number l = changed (λ s. remove s l.p) empty l.from l.sets (drop l.number-index l.numbers) ≡ changed (λ s. remove s l.p) empty l.from l.fn.sets l.numbers

@@ -75,9 +75,9 @@ seen_next : (c : After-see) → IsRoom (run c) c.reading-reading.result.effects.
 seen_next c =
     room_next (run c) (prepared c).formed c.loop-t.t (entry c) (below c) (next c) c.reading-reading.result.effects.now (prepared c).has_effects
     c.loop-t.down c.down_after-down.result c.loop-t.room c.see.new.self c.loop-t.invariant.seen
-    (c.down_after-down.ensures (instant (run c).past c.loop-t.t) (entry c) (kind_is c) c.loop-t.invariant.seen.shows_down) c.see.ensures.from
-    (c.see.ensures.holders ∙ (λ i. holders_after (kind_is c i) (marks_read c i) c.loop-t.room.holders.items))
-    (c.see.ensures.stable ∙ (λ i. stable_after (kind_is c i) (marks_read c i) c.loop-t.room.stable.items))
+    (c.down_after-down.ensures (instant (run c).past c.loop-t.t) (entry c) (kind_is c) c.loop-t.invariant.seen.shows_down) c.see.ensures.from c.see.ensures.lowest
+    (c.see.ensures.holders ∙ (λ i. holders_after c.loop-t.room.lowest (kind_is c i) (marks_read c i) c.loop-t.room.holders.items))
+    (c.see.ensures.stable ∙ (λ i. stable_after c.loop-t.room.lowest (kind_is c i) (marks_read c i) c.loop-t.room.stable.items))
     (dependents_next c)
 
 from_kept : (c : After-see) → c.see.new.self.from ≡ c.args.room.now.from
@@ -110,7 +110,8 @@ pub loop-t-init : goal.loop-t-init
 loop-t-init c =
     let reading = c.reading-reading.result in
     record {
-      seen = rw c.none-down.ensures (room_begins (run_read reading) c.args.room.now (subst (λ r. IsUnused r c.args.room.now) (sym c.reading-reading.ensures.run) c.requires) reading.effects.now.first.items);
+      seen = rw c.none-down.ensures (room_begins (run_read reading) c.args.room.now (subst (λ r. IsUnused r c.args.room.now) (sym c.reading-reading.ensures.run) c.requires) reading.effects.now
+          (reading_of reading c.args.course.now c.reading-reading.ensures.run c.reading-reading.ensures.prepared).has_effects);
       from = refl;
       count = refl;
       before = λ i k u low high numbered in_time has. at_first (run_read reading) c.args.f k u in_time has;
