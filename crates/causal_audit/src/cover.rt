@@ -65,7 +65,8 @@ impl Cover {
     /// Takes in one more entry, which mentions the determinant or does not.
     fn see(&mut self, entry: &Entry, det: Det, mentioned: bool)
         ensures down { ShowsDownAfter entry.now self.old.down self.new.down }
-        ensures holders { ShowsHoldersAfter (mentioned ≡ has (mentioned_by entry.now) det) entry.now det self.old.holders self.new.holders }
+        ensures holders { ShowsHoldersAfter (mentioned ≡ has (mentioned_by entry.now) det)
+            entry.now det self.old.holders self.new.holders }
     {
         self.down = down_after(self.down, entry);
         self.holders = holders_after(self.holders, entry, det, mentioned);

@@ -4,7 +4,8 @@ ghost use Rattle.std.specs.List.{All};
 ghost use Rattle.std.specs.List.Sorted.{IsNonDecreasing};
 ghost use Rattle.causal_clock.specs.Timeline.{send_of};
 ghost use Rattle.causal_trace.specs.Limits.{max_entries};
-ghost use Rattle.causal_audit.specs.Inside.Rises.{AreDeliveryLanes, AreEventLanes, AreKept, AreRisen, AreSound, AreSoundFor, HasRisen, HasRisenFor, IsLaid, lists_of, place_for};
+ghost use Rattle.causal_audit.specs.Inside.Filed.{lists_in};
+ghost use Rattle.causal_audit.specs.Inside.Rises.{AreDeliveryLanes, AreEventLanes, AreKept, AreRisen, AreSound, AreSoundFor, HasRisen, HasRisenFor, IsLaid, place_for};
 
 use crate::lists::{add_to, empty_lists};
 use causal_clock::Clocks;
@@ -23,7 +24,8 @@ pub struct Laid<'a> {
 
 /// The numbers of the events of each lane of the clock, in order.
 fn event_lanes(alloc: Global, clocks: &Clocks) -> Result<Vec<Vec<u32>>, NoMemory>
-    ensures lanes { IfOk result (λ lanes. AreEventLanes clocks.now.events (length clocks.now.events) (lists_of lanes.items)) }
+    ensures lanes { IfOk result (λ lanes.
+        AreEventLanes clocks.now.events (length clocks.now.events) (lists_in lanes.items)) }
     ensures count { IfOk result (λ lanes. vec_len lanes ≡ clocks.now.lanes) }
 {
     let mut lanes = empty_lists(alloc, clocks.lanes())?;
@@ -41,7 +43,8 @@ fn delivery_lanes(
 ) -> Result<Vec<Vec<u32>>, NoMemory>
     requires few { length positions.now ≤ max_entries }
     requires events { All (λ k. k < length clocks.now.events) positions.now }
-    ensures lanes { IfOk result (λ lanes. AreDeliveryLanes positions.now clocks.now.events (length positions.now) (lists_of lanes.items)) }
+    ensures lanes { IfOk result (λ lanes.
+        AreDeliveryLanes positions.now clocks.now.events (length positions.now) (lists_in lanes.items)) }
     ensures count { IfOk result (λ lanes. vec_len lanes ≡ clocks.now.lanes) }
 {
     let mut lanes = empty_lists(alloc, clocks.lanes())?;
@@ -56,8 +59,9 @@ fn own_risen(alloc: Global, clocks: &Clocks, positions: &[u32]) -> Result<Vec<Ve
     requires few { length positions.now ≤ max_entries }
     requires events { All (λ k. k < length clocks.now.events) positions.now }
     requires ascend { IsNonDecreasing positions.now }
-    ensures sound { IfOk result (λ risen. AreSound positions.now clocks.now.events (lists_of risen.items)) }
-    ensures own { IfOk result (λ risen. (lane : ℕ) → HasRisen positions.now clocks.now.events lane lane (lists_of risen.items)) }
+    ensures sound { IfOk result (λ risen. AreSound positions.now clocks.now.events (lists_in risen.items)) }
+    ensures own { IfOk result (λ risen.
+        (lane : ℕ) → HasRisen positions.now clocks.now.events lane lane (lists_in risen.items)) }
 {
     let mut risen = empty_lists(alloc, clocks.len())?;
     for (i, position) in positions.iter().enumerate() {
@@ -105,7 +109,7 @@ impl Laid<'_> {
         requires apart { source ≢ lane }
         requires sound { AreSoundFor self.now risen.old }
         ensures sound { OnOk result (AreSoundFor self.now risen.new) }
-        ensures kept { OnOk result (AreKept (lists_of risen.old) (lists_of risen.new)) }
+        ensures kept { OnOk result (AreKept (lists_in risen.old) (lists_in risen.new)) }
         ensures risen { OnOk result (HasRisenFor self.now lane source risen.new) }
     {
         let own = self.events[lane as usize].as_slice();
@@ -124,7 +128,7 @@ impl Laid<'_> {
         requires lane { lane < self.now.clocks.now.lanes }
         requires sound { AreSoundFor self.now risen.old }
         ensures sound { OnOk result (AreSoundFor self.now risen.new) }
-        ensures kept { OnOk result (AreKept (lists_of risen.old) (lists_of risen.new)) }
+        ensures kept { OnOk result (AreKept (lists_in risen.old) (lists_in risen.new)) }
         ensures risen { OnOk result ((source : ℕ) → source < self.now.clocks.now.lanes → source ≢ lane →
             HasRisenFor self.now lane source risen.new) }
     {
@@ -149,8 +153,10 @@ pub fn risen_of(
     requires few { length positions.now ≤ max_entries }
     requires events { All (λ k. k < length clocks.now.events) positions.now }
     requires ascend { IsNonDecreasing positions.now }
-    requires received { (j : ℕ) → j < length clocks.now.events → send_of clocks.now.events j ≢ None → Contains positions.now j }
-    ensures { IfOk result (λ risen. AreRisen positions.now clocks.now.events (length positions.now) (lists_of risen.items)) }
+    requires received { (j : ℕ) → j < length clocks.now.events →
+        send_of clocks.now.events j ≢ None → Contains positions.now j }
+    ensures { IfOk result (λ risen.
+        AreRisen positions.now clocks.now.events (length positions.now) (lists_in risen.items)) }
 {
     let events = event_lanes(alloc, clocks)?;
     let deliveries = delivery_lanes(alloc, clocks, positions)?;

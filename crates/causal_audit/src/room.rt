@@ -106,7 +106,8 @@ impl Room {
         ensures lowest { self.new.lowest ≡ self.old.lowest }
         ensures holders { self.new.holders.items ≡ holders_after self.old.lowest kind marks.now self.old.holders.items }
         ensures stable { self.new.stable.items ≡ stable_after self.old.lowest kind marks.now self.old.stable.items }
-        ensures dependents { self.new.dependents.items ≡ dependents_after self.old.from kind risen.now self.old.dependents.items }
+        ensures dependents { self.new.dependents.items
+            ≡ dependents_after self.old.from kind risen.now self.old.dependents.items }
     {
         match kind {
             Kind::Send => {}

@@ -35,7 +35,8 @@ impl Moment<'_> {
         requires moment { IsMoment self.now room.now }
         requires followed { IsFollowed room.now i }
         ensures { (k : ℕ) → IsNumbered (run_read self.now.reading).past i k →
-            BreachAt (run_read self.now.reading).processes self.now.f (instant (run_read self.now.reading).past self.now.t) k self.now.t result }
+            BreachAt (run_read self.now.reading).processes self.now.f
+            (instant (run_read self.now.reading).past self.now.t) k self.now.t result }
     {
         let position = self.reading.positions[i as usize];
         let place = (self.reading.effects.first[i as usize] - room.lowest) as usize;
@@ -84,7 +85,8 @@ impl Moment<'_> {
     fn least_sharing(&self, room: &Room, marks: &[u32]) -> Option<Breach>
         requires moment { IsMoment self.now room.now }
         requires marks { All (λ m. m < deliveries_in (run_read self.now.reading).past) marks.now }
-        ensures { LeastOf self.now room.now (λ i. is_sharing (same_of self.now.reading.effects.now) marks.now i && is_followed room.now i) result }
+        ensures { LeastOf self.now room.now (λ i.
+            is_sharing (same_of self.now.reading.effects.now) marks.now i && is_followed room.now i) result }
     {
         let mut least = None;
         for mark in marks {
@@ -98,7 +100,8 @@ impl Moment<'_> {
     fn newly(&self, room: &Room, kind: Kind, marks: &[u32], risen: &[u32]) -> Option<Breach>
         requires moment { IsMoment self.now room.now }
         requires marks { All (λ m. m < deliveries_in (run_read self.now.reading).past) marks.now }
-        ensures { LeastOf self.now room.now (λ i. is_candidate kind (same_of self.now.reading.effects.now) marks.now risen.now i && is_followed room.now i) result }
+        ensures { LeastOf self.now room.now (λ i.
+            is_candidate kind (same_of self.now.reading.effects.now) marks.now risen.now i && is_followed room.now i) result }
     {
         match kind {
             Kind::Deliver { .. } => self.least_of(room, risen, None),

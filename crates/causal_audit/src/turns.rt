@@ -27,7 +27,8 @@ impl Turns {
     pub fn down_at(&self, t: u32) -> Holders
         requires ascending { IsNonDecreasing self.now.positions.items }
         requires counted { length self.now.downs.items ≡ length self.now.positions.items }
-        ensures { (past : List Entry) → t ≤ length past → AreTurnsKept past self.now → Shows result (λ p. is_down (instant past t) p) }
+        ensures { (past : List Entry) → t ≤ length past → AreTurnsKept past self.now →
+            Shows result (λ p. is_down (instant past t) p) }
     {
         let passed = self.positions.partition_point(|position| *position < t);
         if passed == 0 {

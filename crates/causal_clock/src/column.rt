@@ -39,7 +39,8 @@ pub fn count_at(column: &[Rise], place: u16) -> u16
 pub fn reserve_rise(column: &mut Vec<Rise>, place: u16, count: u16) -> Result<(), AllocError>
     requires strictly { RisesStrictly column.old.items }
     ensures items { column.new.items ≡ column.old.items }
-    ensures room { OnOk result (count_at column.old.items place < count → 0 < vec_capacity column.new - vec_len column.new) }
+    ensures room { OnOk result (count_at column.old.items place < count →
+        0 < vec_capacity column.new - vec_len column.new) }
 {
     if count_at(column, place) < count {
         column.reserve(1)?;

@@ -1,7 +1,7 @@
 -- Which deliveries newly reach the receiver of each delivery, by the clock of a run. Deliveries go by their numbers, and
 -- `positions` has where they stand.
-use Rattle.std.specs.Prelude.{◌≡◌, ◌≢◌, ℕ, ◌<◌, ◌≤◌, ◌⊎◌, None, List, length, map, take, slice_index, Contains}
-use Rattle.std.proofs.Common.{Vec, Global}
+use Rattle.std.specs.Prelude.{◌≡◌, ◌≢◌, ℕ, ◌<◌, ◌≤◌, ◌⊎◌, None, List, length, take, slice_index, Contains}
+use Rattle.std.specs.Global.{Vec}
 use Rattle.std.specs.List.{All}
 use Rattle.std.specs.List.Sorted.{IsNonDecreasing}
 use Rattle.causal_clock.specs.declared.Event.{Event}
@@ -10,7 +10,7 @@ use Rattle.causal_clock.specs.Timeline.{Timeline, lane_of, lane_length, place_of
 use Rattle.causal_clock.specs.Precedence.{Reaches}
 use Rattle.causal_clock.specs.Rises.{rise_at}
 use Rattle.causal_audit.specs.declared.rising.Laid.{Laid}
-use Rattle.causal_audit.specs.Inside.Filed.{Ascends, list_at}
+use Rattle.causal_audit.specs.Inside.Filed.{Ascends, list_at, lists_in}
 
 -- for each lane of the clock those of the first `count` deliveries that are its own, in order
 pub record AreDeliveryLanes (positions : List ℕ) (events : List Event) (count : ℕ) (lanes : List (List ℕ)) : Type 0 where
@@ -90,21 +90,16 @@ pub record IsWalked (positions : List ℕ) (events : List Event) (own from : Lis
   pub risen_at : (m : ℕ) → m < known → (k : ℕ) × (k < passed) × IsRisenAt positions events own rises risen (slice_index from m) k
   pub left : (m k : ℕ) → known ≤ m → m < length from → k < passed → (rise_at rises k).count ≤ place_in positions events (slice_index from m)
 
--- ---- over vectors
-
-abbrev pub lists_of : List (Vec ℕ Global) → List (List ℕ)
-lists_of lists = map (λ list. list.items) lists
-
 -- what a walk over the rises of a clock reads
 abbrev pub IsLaid : Laid → Type 0
-IsLaid laid = AreLaid laid.positions.now laid.clocks.now (lists_of laid.events.now) (lists_of laid.deliveries.now)
+IsLaid laid = AreLaid laid.positions.now laid.clocks.now (lists_in laid.events.now) (lists_in laid.deliveries.now)
 
 -- so many events of its lane stand before a delivery
 abbrev pub place_for : Laid → ℕ → ℕ
 place_for laid i = place_in laid.positions.now laid.clocks.now.events i
 
-abbrev pub AreSoundFor : Laid → List (Vec ℕ Global) → Type 0
-AreSoundFor laid risen = AreSound laid.positions.now laid.clocks.now.events (lists_of risen)
+abbrev pub AreSoundFor : Laid → List (Vec ℕ) → Type 0
+AreSoundFor laid risen = AreSound laid.positions.now laid.clocks.now.events (lists_in risen)
 
-abbrev pub HasRisenFor : Laid → ℕ → ℕ → List (Vec ℕ Global) → Type 0
-HasRisenFor laid lane source risen = HasRisen laid.positions.now laid.clocks.now.events lane source (lists_of risen)
+abbrev pub HasRisenFor : Laid → ℕ → ℕ → List (Vec ℕ) → Type 0
+HasRisenFor laid lane source risen = HasRisen laid.positions.now laid.clocks.now.events lane source (lists_in risen)

@@ -3,7 +3,8 @@ use Rattle.std.proofs.lemmas.Bool.{cases_lt}
 use Rattle.std.proofs.lemmas.Bool.Decides.{eqb_tells}
 use Rattle.std.proofs.lemmas.Grind.{common_steps}
 use Rattle.std.proofs.lemmas.List.{length-map}
-use Rattle.causal_audit.specs.Inside.Rises.{AreKept, AreSound, HasRisen, lists_of}
+use Rattle.causal_audit.specs.Inside.Filed.{lists_in}
+use Rattle.causal_audit.specs.Inside.Rises.{AreKept, AreSound, HasRisen}
 use Rattle.causal_audit.proofs.Risen.{kept_risen, risen_all}
 use Rattle.causal_audit.proofs.rising.risen_of.Goals as goal
 
@@ -24,17 +25,17 @@ loop-lane-preserved c =
     let before = c.loop-lane.invariant in
     let was : c.as_mut_slice.result.now ≡ old.items = c.as_mut_slice.ensures.value in
     let now : rows ≡ take old.len (rows ++ drop (length rows) old.items) = sym (written old rows (omega (arith, c.add_sources.auto.risen, ap length was))) in
-    let kept : AreKept (lists_of old.items) (lists_of rows) = subst (λ lists. AreKept (lists_of lists) (lists_of rows)) was told.kept in
+    let kept : AreKept (lists_in old.items) (lists_in rows) = subst (λ lists. AreKept (lists_in lists) (lists_in rows)) was told.kept in
     record {
-      sound = subst (λ lists. AreSound positions events (lists_of lists)) now told.sound;
-      own = λ lane. subst (λ lists. HasRisen positions events lane lane (lists_of lists)) now
-          (kept_risen positions events lane lane (lists_of old.items) (lists_of rows) kept (before.own lane));
-      risen = λ lane source below there apart. subst (λ lists. HasRisen positions events lane source (lists_of lists)) now
+      sound = subst (λ lists. AreSound positions events (lists_in lists)) now told.sound;
+      own = λ lane. subst (λ lists. HasRisen positions events lane lane (lists_in lists)) now
+          (kept_risen positions events lane lane (lists_in old.items) (lists_in rows) kept (before.own lane));
+      risen = λ lane source below there apart. subst (λ lists. HasRisen positions events lane source (lists_in lists)) now
           (elim (cases_lt lane c.loop-lane.lane) [
-            | inl early ↦ kept_risen positions events lane source (lists_of old.items) (lists_of rows) kept (before.risen lane source early there apart)
+            | inl early ↦ kept_risen positions events lane source (lists_in old.items) (lists_in rows) kept (before.risen lane source early there apart)
             | inr late ↦
                 let same : c.loop-lane.lane ≡ lane = omega (arith, late, below) in
-                subst (λ l. HasRisen positions events l source (lists_of rows)) same (told.risen source there (λ is. apart (is ∙ same)))
+                subst (λ l. HasRisen positions events l source (lists_in rows)) same (told.risen source there (λ is. apart (is ∙ same)))
           ]);
     }
 
@@ -43,12 +44,12 @@ returns c =
     let positions = c.args.positions.now in
     let events = c.args.clocks.now.events in
     let lanes = c.args.clocks.now.lanes in
-    let risen = lists_of c.loop-lane.risen.items in
+    let risen = lists_in c.loop-lane.risen.items in
     let deliveries = c.in_ok-deliveries.deliveries in
     let told = c.in_ok-deliveries.ensures in
     let last = c.loop-lane.invariant in
     let all : lanes ≤ c.loop-lane.lane = omega (arith, c.loop-lane-test.false, c.lanes-lane-end.ensures.counted) in
-    risen_all positions events (lists_of deliveries.items) told.lanes lanes (omega (arith, length-map deliveries.items items, told.count, deliveries.ok.0)) risen last.sound
+    risen_all positions events (lists_in deliveries.items) told.lanes lanes (omega (arith, length-map deliveries.items items, told.count, deliveries.ok.0)) risen last.sound
     (λ lane source low there. elim (eqb_tells source lane) [
       | inl is ↦ subst (λ l. HasRisen positions events lane l risen) (sym is.1) (last.own lane)
       | inr other ↦ last.risen lane source (omega (arith, low, all)) there other.1

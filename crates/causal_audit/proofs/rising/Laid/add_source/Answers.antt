@@ -3,8 +3,8 @@ use Rattle.std.specs.Prelude.{slice_index, slice_set, Contains}
 use Rattle.std.specs.List.{All}
 use Rattle.std.proofs.lemmas.List.{get_or-map, length-map, map-set}
 use Rattle.causal_clock.specs.Rises.{rise_at}
-use Rattle.causal_audit.specs.Inside.Filed.{list_at}
-use Rattle.causal_audit.specs.Inside.Rises.{AreSound, IsWalked, lists_of, place_in, risen_event}
+use Rattle.causal_audit.specs.Inside.Filed.{list_at, lists_in}
+use Rattle.causal_audit.specs.Inside.Rises.{AreSound, IsWalked, place_in, risen_event}
 use Rattle.causal_audit.proofs.Risen.{from_below, row_kept, row_sound, spot_of, walked_all, walked_more, walked_none}
 use Rattle.causal_audit.proofs.rising.Laid.add_source.Goals as goal
 
@@ -12,7 +12,7 @@ abbrev items : Vec ℕ Global → List ℕ
 items list = list.items
 
 -- the list of a vector among several
-list_is : (lists : List (Vec ℕ Global)) (m : ℕ) (x : Vec ℕ Global) (list : List ℕ) → m < length lists → list ≡ (get_or lists m x).items → list ≡ list_at (lists_of lists) m
+list_is : (lists : List (Vec ℕ Global)) (m : ℕ) (x : Vec ℕ Global) (list : List ℕ) → m < length lists → list ≡ (get_or lists m x).items → list ≡ list_at (lists_in lists) m
 list_is lists m x list there value = value ∙ sym (get_or-map items lists m x [] there)
 
 pub loop-rise-init : goal.loop-rise-init
@@ -21,57 +21,57 @@ loop-rise-init c =
     record {
       sound = c.requires.sound;
       kept = λ v i has. has;
-      walked = walked_none laid.positions.now laid.clocks.now (lists_of laid.events.now) (lists_of laid.deliveries.now) c.requires.laid c.args.lane c.args.source c.requires.source c.rises-rise-items.result.now c.rises-rise-items.ensures (lists_of c.args.risen.now);
+      walked = walked_none laid.positions.now laid.clocks.now (lists_in laid.events.now) (lists_in laid.deliveries.now) c.requires.laid c.args.lane c.args.source c.requires.source c.rises-rise-items.result.now c.rises-rise-items.ensures (lists_in c.args.risen.now);
     }
 
 pub bounds-own-rise : goal.bounds-own-rise
 bounds-own-rise c =
     let laid = c.args.self.now in
-    let own_is : c.as_slice-own.result.now ≡ list_at (lists_of laid.events.now) c.args.lane =
+    let own_is : c.as_slice-own.result.now ≡ list_at (lists_in laid.events.now) c.args.lane =
     list_is laid.events.now c.args.lane c.index-self-lane.result c.as_slice-own.result.now (omega (arith, c.requires.lane, c.requires.laid.event_lanes, length-map laid.events.now items)) c.as_slice-own.ensures.value in
-    omega (arith, (spot_of laid.positions.now laid.clocks.now (lists_of laid.events.now) (lists_of laid.deliveries.now) c.requires.laid c.args.lane c.args.source c.requires.source c.rises-rise-items.result.now c.rises-rise-items.ensures c.loop-rise.rise-index c.loop-rise-test.true).inside, ap length own_is)
+    omega (arith, (spot_of laid.positions.now laid.clocks.now (lists_in laid.events.now) (lists_in laid.deliveries.now) c.requires.laid c.args.lane c.args.source c.requires.source c.rises-rise-items.result.now c.rises-rise-items.ensures c.loop-rise.rise-index c.loop-rise-test.true).inside, ap length own_is)
 
 pub bounds-risen-event : goal.bounds-risen-event
 bounds-risen-event c =
     let laid = c.args.self.now in
-    let own_is : c.as_slice-own.result.now ≡ list_at (lists_of laid.events.now) c.args.lane =
+    let own_is : c.as_slice-own.result.now ≡ list_at (lists_in laid.events.now) c.args.lane =
     list_is laid.events.now c.args.lane c.index-self-lane.result c.as_slice-own.result.now (omega (arith, c.requires.lane, c.requires.laid.event_lanes, length-map laid.events.now items)) c.as_slice-own.ensures.value in
     let rises = c.rises-rise-items.result.now in
     let x = c.loop-rise.rise-index in
-    let spot = spot_of laid.positions.now laid.clocks.now (lists_of laid.events.now) (lists_of laid.deliveries.now) c.requires.laid c.args.lane c.args.source c.requires.source c.rises-rise-items.result.now c.rises-rise-items.ensures x c.loop-rise-test.true in
+    let spot = spot_of laid.positions.now laid.clocks.now (lists_in laid.events.now) (lists_in laid.deliveries.now) c.requires.laid c.args.lane c.args.source c.requires.source c.rises-rise-items.result.now c.rises-rise-items.ensures x c.loop-rise-test.true in
     omega (arith, spot.within, ap (λ own. risen_event own rises x) own_is, c.loop-rise.invariant.sound.counted, length-map c.loop-rise.risen items)
 
 pub add_counted-requires-clause-lane : goal.add_counted-requires-clause-lane
 add_counted-requires-clause-lane c =
     let laid = c.args.self.now in
-    let from_is : c.as_slice-from.result.now ≡ list_at (lists_of laid.deliveries.now) c.args.source =
+    let from_is : c.as_slice-from.result.now ≡ list_at (lists_in laid.deliveries.now) c.args.source =
     list_is laid.deliveries.now c.args.source c.index-self-source.result c.as_slice-from.result.now (omega (arith, c.requires.source, c.requires.laid.lanes, length-map laid.deliveries.now items)) c.as_slice-from.ensures.value in
-    subst (All (λ i. i < length laid.positions.now)) (sym from_is) (from_below laid.positions.now laid.clocks.now (lists_of laid.events.now) (lists_of laid.deliveries.now) c.requires.laid c.args.lane c.args.source c.requires.source c.rises-rise-items.result.now c.rises-rise-items.ensures)
+    subst (All (λ i. i < length laid.positions.now)) (sym from_is) (from_below laid.positions.now laid.clocks.now (lists_in laid.events.now) (lists_in laid.deliveries.now) c.requires.laid c.args.lane c.args.source c.requires.source c.rises-rise-items.result.now c.rises-rise-items.ensures)
 
 pub loop-rise-preserved : goal.loop-rise-preserved
 loop-rise-preserved c =
     let laid = c.args.self.now in
     let positions = laid.positions.now in
     let events = laid.clocks.now.events in
-    let own = list_at (lists_of laid.events.now) c.args.lane in
-    let from = list_at (lists_of laid.deliveries.now) c.args.source in
+    let own = list_at (lists_in laid.events.now) c.args.lane in
+    let from = list_at (lists_in laid.deliveries.now) c.args.source in
     let rises = c.rises-rise-items.result.now in
     let x = c.loop-rise.rise-index in
     let known = c.loop-rise.known in
     let all = c.in_ok-known.known in
     let risen = c.loop-rise.risen in
     let row = c.add_counted.new.row in
-    let own_is : c.as_slice-own.result.now ≡ list_at (lists_of laid.events.now) c.args.lane =
+    let own_is : c.as_slice-own.result.now ≡ list_at (lists_in laid.events.now) c.args.lane =
     list_is laid.events.now c.args.lane c.index-self-lane.result c.as_slice-own.result.now (omega (arith, c.requires.lane, c.requires.laid.event_lanes, length-map laid.events.now items)) c.as_slice-own.ensures.value in
-    let from_is : c.as_slice-from.result.now ≡ list_at (lists_of laid.deliveries.now) c.args.source =
+    let from_is : c.as_slice-from.result.now ≡ list_at (lists_in laid.deliveries.now) c.args.source =
     list_is laid.deliveries.now c.args.source c.index-self-source.result c.as_slice-from.result.now (omega (arith, c.requires.source, c.requires.laid.lanes, length-map laid.deliveries.now items)) c.as_slice-from.ensures.value in
     let spot_is : risen_event c.as_slice-own.result.now rises x ≡ risen_event own rises x = ap (λ (o : List ℕ). risen_event o rises x) own_is in
     let there : risen_event c.as_slice-own.result.now rises x < length risen =
-    omega (arith, (spot_of laid.positions.now laid.clocks.now (lists_of laid.events.now) (lists_of laid.deliveries.now) c.requires.laid c.args.lane c.args.source c.requires.source c.rises-rise-items.result.now c.rises-rise-items.ensures x c.loop-rise-test.true).within, spot_is, c.loop-rise.invariant.sound.counted, length-map risen items) in
-    let old_is : (get_or risen (risen_event c.as_slice-own.result.now rises x) c.index-risen-event.result).items ≡ list_at (lists_of risen) (risen_event own rises x) =
-    sym (get_or-map items risen (risen_event c.as_slice-own.result.now rises x) c.index-risen-event.result [] there) ∙ ap (list_at (lists_of risen)) spot_is in
+    omega (arith, (spot_of laid.positions.now laid.clocks.now (lists_in laid.events.now) (lists_in laid.deliveries.now) c.requires.laid c.args.lane c.args.source c.requires.source c.rises-rise-items.result.now c.rises-rise-items.ensures x c.loop-rise-test.true).within, spot_is, c.loop-rise.invariant.sound.counted, length-map risen items) in
+    let old_is : (get_or risen (risen_event c.as_slice-own.result.now rises x) c.index-risen-event.result).items ≡ list_at (lists_in risen) (risen_event own rises x) =
+    sym (get_or-map items risen (risen_event c.as_slice-own.result.now rises x) c.index-risen-event.result [] there) ∙ ap (list_at (lists_in risen)) spot_is in
     let told = c.in_ok-known.ensures in
-    let added : row.items ≡ list_at (lists_of risen) (risen_event own rises x) ++ take (all - known) (drop known from) =
+    let added : row.items ≡ list_at (lists_in risen) (risen_event own rises x) ++ take (all - known) (drop known from) =
     told.added ∙ (λ i. old_is i ++ take (all - known) (drop known (from_is i))) in
     let high : all ≤ length from = omega (arith, told.bounds.1, ap length from_is) in
     let count = (rise_at rises x).count in
@@ -79,25 +79,25 @@ loop-rise-preserved c =
     subst (λ f. (m : ℕ) → known ≤ m → m < all → place_in positions events (slice_index f m) < count) from_is told.counted in
     let stopped : all < length from → count ≤ place_in positions events (slice_index from all) =
     subst (λ (f : List ℕ). all < length f → count ≤ place_in positions events (slice_index f all)) from_is told.stopped in
-    let now : slice_set (lists_of risen) (risen_event own rises x) row.items ≡ lists_of (slice_set risen (risen_event c.as_slice-own.result.now rises x) row) =
-    ap (λ v. slice_set (lists_of risen) v row.items) (sym spot_is) ∙ sym (map-set items risen (risen_event c.as_slice-own.result.now rises x) row) in
+    let now : slice_set (lists_in risen) (risen_event own rises x) row.items ≡ lists_in (slice_set risen (risen_event c.as_slice-own.result.now rises x) row) =
+    ap (λ v. slice_set (lists_in risen) v row.items) (sym spot_is) ∙ sym (map-set items risen (risen_event c.as_slice-own.result.now rises x) row) in
     let sound = c.loop-rise.invariant.sound in
     let walked = c.loop-rise.invariant.walked in
     record {
       sound = subst (AreSound positions events) now
-          (row_sound laid.positions.now laid.clocks.now (lists_of laid.events.now) (lists_of laid.deliveries.now) c.requires.laid c.args.lane c.args.source c.requires.source c.rises-rise-items.result.now c.rises-rise-items.ensures
-          x known all c.loop-rise-test.true told.bounds.0 high (lists_of risen) sound walked row.items added counted stopped);
+          (row_sound laid.positions.now laid.clocks.now (lists_in laid.events.now) (lists_in laid.deliveries.now) c.requires.laid c.args.lane c.args.source c.requires.source c.rises-rise-items.result.now c.rises-rise-items.ensures
+          x known all c.loop-rise-test.true told.bounds.0 high (lists_in risen) sound walked row.items added counted stopped);
       kept = λ v i has. subst (λ lists. Contains (list_at lists v) i) now
-          (row_kept laid.positions.now laid.clocks.now (lists_of laid.events.now) (lists_of laid.deliveries.now) c.requires.laid c.args.lane c.args.source c.requires.source c.rises-rise-items.result.now c.rises-rise-items.ensures
-          x known all c.loop-rise-test.true told.bounds.0 high (lists_of risen) sound walked row.items added counted stopped v i (c.loop-rise.invariant.kept v i has));
+          (row_kept laid.positions.now laid.clocks.now (lists_in laid.events.now) (lists_in laid.deliveries.now) c.requires.laid c.args.lane c.args.source c.requires.source c.rises-rise-items.result.now c.rises-rise-items.ensures
+          x known all c.loop-rise-test.true told.bounds.0 high (lists_in risen) sound walked row.items added counted stopped v i (c.loop-rise.invariant.kept v i has));
       walked = subst (λ lists. IsWalked positions events own from rises lists (x + 1) all) now
-          (walked_more laid.positions.now laid.clocks.now (lists_of laid.events.now) (lists_of laid.deliveries.now) c.requires.laid c.args.lane c.args.source c.requires.source c.rises-rise-items.result.now c.rises-rise-items.ensures
-          x known all c.loop-rise-test.true told.bounds.0 high (lists_of risen) sound walked row.items added counted stopped);
+          (walked_more laid.positions.now laid.clocks.now (lists_in laid.events.now) (lists_in laid.deliveries.now) c.requires.laid c.args.lane c.args.source c.requires.source c.rises-rise-items.result.now c.rises-rise-items.ensures
+          x known all c.loop-rise-test.true told.bounds.0 high (lists_in risen) sound walked row.items added counted stopped);
     }
 
 pub returns-clause-risen : goal.returns-clause-risen
 returns-clause-risen c =
     let laid = c.args.self.now in
     let whole : c.loop-rise.rise-index ≡ length c.rises-rise-items.result.now = omega (arith, c.loop-rise-test.false, c.loop-rise.auto.rise-index-end) in
-    walked_all laid.positions.now laid.clocks.now (lists_of laid.events.now) (lists_of laid.deliveries.now) c.requires.laid c.args.lane c.args.source c.requires.source c.rises-rise-items.result.now c.rises-rise-items.ensures c.loop-rise.known (lists_of c.loop-rise.risen) c.loop-rise.invariant.sound
-    (subst (λ n. IsWalked laid.positions.now laid.clocks.now.events (list_at (lists_of laid.events.now) c.args.lane) (list_at (lists_of laid.deliveries.now) c.args.source) c.rises-rise-items.result.now (lists_of c.loop-rise.risen) n c.loop-rise.known) whole c.loop-rise.invariant.walked)
+    walked_all laid.positions.now laid.clocks.now (lists_in laid.events.now) (lists_in laid.deliveries.now) c.requires.laid c.args.lane c.args.source c.requires.source c.rises-rise-items.result.now c.rises-rise-items.ensures c.loop-rise.known (lists_in c.loop-rise.risen) c.loop-rise.invariant.sound
+    (subst (λ n. IsWalked laid.positions.now laid.clocks.now.events (list_at (lists_in laid.events.now) c.args.lane) (list_at (lists_in laid.deliveries.now) c.args.source) c.rises-rise-items.result.now (lists_in c.loop-rise.risen) n c.loop-rise.known) whole c.loop-rise.invariant.walked)
