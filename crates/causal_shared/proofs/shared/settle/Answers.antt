@@ -1,3 +1,4 @@
+use Rattle.std.proofs.Common.{refl}
 use Rattle.causal_core.specs.CoreView.{run_of}
 use Rattle.causal_protocol.proofs.Lemmas.Carried.{safe_carried, single_carried}
 use Rattle.causal_shared.specs.Finish.{IsComplete}
@@ -16,3 +17,48 @@ returns-clause-safe g c = safe_carried (run_of c.into_parts-core.result.0) c.int
 
 pub returns-clause-single : goal.returns-clause-single
 returns-clause-single g c = single_carried (run_of c.into_parts-core.result.0) c.into_parts-core.result.0.kept
+
+pub returns-then-not-is_complete-clause-missing : goal.returns-then-not-is_complete-clause-missing
+returns-then-not-is_complete-clause-missing g c = (λ e complete. let yes = c.is_complete.ensures.1 complete in cc (yes, c.if-not-is_complete.true), λ no. refl)
+
+pub returns-then-not-is_complete-clause-mismatch : goal.returns-then-not-is_complete-clause-mismatch
+returns-then-not-is_complete-clause-mismatch g c = λ n e. absurd (cc e)
+
+pub returns-then-not-is_complete-clause-opened : goal.returns-then-not-is_complete-clause-opened
+returns-then-not-is_complete-clause-opened g c = λ e. absurd (cc e)
+
+pub returns-in-Some-clause-missing : goal.returns-in-Some-clause-missing
+returns-in-Some-clause-missing g c = (λ e. absurd (cc e), λ no. absurd (no (c.is_complete.ensures.0 c.if-not-is_complete.false)))
+
+pub returns-then-not-all_seated-clause-missing : goal.returns-then-not-all_seated-clause-missing
+returns-then-not-all_seated-clause-missing g c = (λ e. absurd (cc e), λ no. absurd (no (c.is_complete.ensures.0 c.if-not-is_complete.false)))
+
+pub returns-then-not-is_opening-clause-missing : goal.returns-then-not-is_opening-clause-missing
+returns-then-not-is_opening-clause-missing g c = (λ e. absurd (cc e), λ no. absurd (no (c.is_complete.ensures.0 c.if-not-is_complete.false)))
+
+pub returns-clause-missing : goal.returns-clause-missing
+returns-clause-missing g c = (λ e. absurd (cc e), λ no. absurd (no (c.is_complete.ensures.0 c.if-not-is_complete.false)))
+
+pub returns-in-Some-clause-opened : goal.returns-in-Some-clause-opened
+returns-in-Some-clause-opened g c = λ e. absurd (cc e)
+
+pub returns-then-not-all_seated-clause-opened : goal.returns-then-not-all_seated-clause-opened
+returns-then-not-all_seated-clause-opened g c = λ e. absurd (cc e)
+
+pub returns-clause-opened : goal.returns-clause-opened
+returns-clause-opened g c = λ e. absurd (cc e)
+
+pub returns-then-not-is_opening-clause-mismatch : goal.returns-then-not-is_opening-clause-mismatch
+returns-then-not-is_opening-clause-mismatch g c = λ n e. absurd (cc e)
+
+pub returns-clause-mismatch : goal.returns-clause-mismatch
+returns-clause-mismatch g c = λ n e. absurd (cc e)
+
+pub returns-clause-run : goal.returns-clause-run
+returns-clause-run g c = c.into_parts-core.ensures.run
+
+pub returns-clause-history : goal.returns-clause-history
+returns-clause-history g c = c.into_parts-core.ensures.history
+
+pub returns-clause-legal : goal.returns-clause-legal
+returns-clause-legal g c = c.into_parts-core.ensures.legal
