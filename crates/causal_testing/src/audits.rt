@@ -14,6 +14,12 @@ fn tables_of(alloc: Global, text: &str) -> Result<Tables, Fail> {
     Ok(Tables::of(alloc, &trace)?)
 }
 
+/// The verdict on the trace that a text spells.
+fn judged(alloc: Global, text: &str, f: u16) -> Result<Verdict, Fail> {
+    let tables = tables_of(alloc, text)?;
+    Ok(judge(&tables, f))
+}
+
 /// The set of these processes.
 fn those(processes: &[u8]) -> Holders {
     let mut set = Holders::none();
@@ -66,26 +72,30 @@ const UNLOGGED: &str = r#"["trace",1,4]
 ["end",6]
 "#;
 
-fn has_the_unlogged(tables: &Tables) -> bool {
-    let found = Some(breach(5, 4, &[], 3));
+fn has_the_deliveries(tables: &Tables) -> bool {
     tables.entries() == 6
         && tables.deliveries() == 3
         && tables.position(0) == 1
         && tables.position(1) == 4
         && tables.position(2) == 5
+}
+
+fn has_the_unlogged(tables: &Tables) -> bool {
+    let found = Some(breach(5, 4, &[], 3));
+    tables.deliveries() == 3
         && first_breach(tables, 0, 0).is_none()
         && first_breach(tables, 0, 1) == found
         && first_breach(tables, 0, 2).is_none()
         && least_between(tables, 0, 0, 3) == found
         && least_between(tables, 0, 2, 3).is_none()
         && first_excess(tables, 0).is_none()
+        && judge(tables, 0) == orphan(5, 4, &[], 3)
 }
 
 #[test]
 fn each_delivery_is_judged_by_itself(rt: HostRuntime) -> Result<(), Fail> {
     let tables = tables_of(rt.alloc(), UNLOGGED)?;
-    assert!(rt; has_the_unlogged(&tables));
-    assert_eq!(rt; judge(&tables, 0), orphan(5, 4, &[], 3));
+    assert!(rt; has_the_deliveries(&tables) && has_the_unlogged(&tables));
     Ok(())
 }
 
@@ -97,14 +107,14 @@ fn has_the_chain(tables: &Tables) -> bool {
         && first_breach(tables, 2, 2).is_none()
         && least_between(tables, 2, 0, 3) == found
         && least_between(tables, 2, 1, 3).is_none()
+        && judge(tables, 1) == Verdict::Accept
+        && judge(tables, 2) == orphan(6, 1, &[1, 2], 0)
 }
 
 #[test]
 fn a_chain_of_messages_orphans(rt: HostRuntime) -> Result<(), Fail> {
     let tables = tables_of(rt.alloc(), RING)?;
     assert!(rt; has_the_chain(&tables));
-    assert_eq!(rt; judge(&tables, 1), Verdict::Accept);
-    assert_eq!(rt; judge(&tables, 2), orphan(6, 1, &[1, 2], 0));
     Ok(())
 }
 
@@ -121,12 +131,16 @@ const CRASHED: &str = r#"["trace",1,3]
 ["end",8]
 "#;
 
+fn has_the_excess(tables: &Tables) -> bool {
+    first_excess(tables, 1) == Some(excess(8, &[1, 2]))
+        && first_excess(tables, 2).is_none()
+        && judge(tables, 1) == exceeded(8, &[1, 2])
+}
+
 #[test]
 fn too_many_are_down(rt: HostRuntime) -> Result<(), Fail> {
     let tables = tables_of(rt.alloc(), CRASHED)?;
-    assert_eq!(rt; first_excess(&tables, 1), Some(excess(8, &[1, 2])));
-    assert_eq!(rt; first_excess(&tables, 2), None);
-    assert_eq!(rt; judge(&tables, 1), exceeded(8, &[1, 2]));
+    assert!(rt; has_the_excess(&tables));
     Ok(())
 }
 
@@ -159,30 +173,30 @@ const STORED: &str = r#"["trace",2,3]
 
 #[test]
 fn what_is_forgotten_by_all_orphans(rt: HostRuntime) -> Result<(), Fail> {
-    let forgotten = tables_of(rt.alloc(), FORGOTTEN)?;
     // Process 2 alone holds it from instant 7 on, and nobody from instant 8 on; 0 depends on it through 1 and 2.
-    assert_eq!(rt; judge(&forgotten, 0), orphan(8, 1, &[], 0));
-    let stored = tables_of(rt.alloc(), STORED)?;
-    assert_eq!(rt; judge(&stored, 0), Verdict::Accept);
+    assert_eq!(rt; judged(rt.alloc(), FORGOTTEN, 0)?, orphan(8, 1, &[], 0));
+    assert_eq!(rt; judged(rt.alloc(), STORED, 0)?, Verdict::Accept);
     Ok(())
 }
 
 #[test]
 fn every_process_may_be_down(rt: HostRuntime) -> Result<(), Fail> {
     let text = "[\"trace\",2,256]\n[\"crash\",255]\n[\"end\",1]";
-    let tables = tables_of(rt.alloc(), text)?;
-    assert_eq!(rt; judge(&tables, 0), exceeded(1, &[255]));
-    assert_eq!(rt; judge(&tables, 65_535), Verdict::Accept);
+    assert_eq!(rt; judged(rt.alloc(), text, 0)?, exceeded(1, &[255]));
+    assert_eq!(rt; judged(rt.alloc(), text, 65_535)?, Verdict::Accept);
     Ok(())
 }
 
 #[test]
+fn the_earlier_breach_counts(rt: HostRuntime) {
+    let (late, early) = (breach(5, 1, &[], 0), breach(4, 2, &[], 1));
+    assert!(rt; early.comes_before(&late));
+    assert_eq!(rt; earlier(Some(late), Some(early)), Some(early));
+    assert_eq!(rt; earlier(None, Some(late)), Some(late));
+}
+
+#[test]
 fn the_earlier_failure_decides(rt: HostRuntime) {
-    assert!(rt; breach(4, 2, &[], 1).comes_before(&breach(5, 1, &[], 0)));
-    let joined = earlier(Some(breach(5, 1, &[], 0)), Some(breach(4, 2, &[], 1)));
-    assert_eq!(rt; joined, Some(breach(4, 2, &[], 1)));
-    let one = earlier(None, Some(breach(5, 1, &[], 0)));
-    assert_eq!(rt; one, Some(breach(5, 1, &[], 0)));
     let before = decided(Some(excess(5, &[2])), Some(breach(4, 2, &[], 1)));
     assert_eq!(rt; before, orphan(4, 2, &[], 1));
     let at_once = decided(Some(excess(5, &[2])), Some(breach(5, 1, &[], 0)));

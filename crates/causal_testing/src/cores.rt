@@ -1,7 +1,8 @@
 //! Scripts with the traces that they have to record, faults of memory and of stores, the limit on entries, and random
 //! calls, on cores of the kinds of process that come with the runtime.
+use crate::entries::{Fields, det};
 use crate::runtime::*;
-use causal_core::{Core, CoreFault, Delivered, FlushFault, Reply, Request, Restarted, StartFault};
+use causal_core::{Core, CoreFault, Delivered, FlushFault, Reply, Restarted, StartFault};
 use causal_log::Stable;
 use causal_name::{MsgName, NoMemory, Pid};
 use causal_process::Ring;
@@ -12,7 +13,7 @@ mod faults;
 mod limits;
 mod random;
 mod recovery;
-mod scripts;
+pub(crate) mod scripts;
 
 fn named<S: Stable>(core: &Core<S>, q: u8) -> Result<Option<MsgName>, CoreFault> {
     core.named(Pid(q))
@@ -46,26 +47,25 @@ fn restarted_after<S: Stable>(
     match core.restart(Pid(p), spare) {
         Ok(restarted) => (Reply::Restarted(restarted), None),
         Err(refused) => {
-            let second = restarted(core, Pid(then), refused.spare);
+            let second = restarted(core, then, refused.spare);
             (Reply::Refused(refused.fault), Some(second))
         }
     }
 }
 
-/// Makes calls one after the other up to the first whose answer is another: its number and that answer.
-fn first_unlike<S: Stable>(
+/// Whether calls that are made one after the other are answered so.
+fn are_answered<S: Stable>(
     alloc: Global,
     core: &mut Core<S>,
     kind: Kind,
-    calls: &[(Request, Reply)],
-) -> Result<Option<(usize, Reply)>, NoMemory> {
-    for (k, call) in calls.iter().enumerate() {
-        let reply = asked(alloc, core, kind, call.0)?;
-        if reply != call.1 {
-            return Ok(Some((k, reply)));
+    calls: &[(Call, Reply)],
+) -> Result<bool, NoMemory> {
+    for (call, reply) in calls {
+        if asked(alloc, core, kind, *call)? != *reply {
+            return Ok(false);
         }
     }
-    Ok(None)
+    Ok(true)
 }
 
 fn delivered(first: u32, fields: Fields, sends: u32) -> Reply {

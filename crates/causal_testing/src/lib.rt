@@ -7,6 +7,8 @@ mod audits;
 #[cfg(test)]
 mod cores;
 #[cfg(test)]
+mod entries;
+#[cfg(test)]
 mod logs;
 pub mod numbers;
 #[cfg(test)]

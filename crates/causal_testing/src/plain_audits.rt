@@ -1,94 +1,21 @@
-//! Traces of a few entries, with verdicts that were worked out by hand.
+//! The plain judgement of traces of a few entries, with verdicts that were worked out by hand.
+use crate::entries::{Line, RING, push_all, traced};
 use causal_audit::Verdict;
 use causal_holders::Holders;
-use causal_name::{Det, Pid};
 use causal_plain::judge;
-use causal_trace::entry::{Dets, Entry};
-use causal_trace::fault::TraceFault;
-use causal_trace::trace::Trace;
 use std::alloc::Global;
+use std::process::Abort;
 
-/// Sender, send sequence number, receiver and receive sequence number.
-type Fields = (u8, u32, u8, u32);
-
-/// An entry, written short.
+/// A verdict, written short.
 #[derive(Clone, Copy)]
-enum Step<'a> {
-    Send(u8, u8, u32),
-    Deliver(u8, u32, u32, &'a [Fields]),
-    Stable(Fields),
-    Crash(u8),
-    Restart(u8, &'a [Fields]),
-    Forget(u8, &'a [Fields]),
+enum Said<'a> {
+    Accept,
+    Exceeded(u32, &'a [u8]),
+    Orphan(u32, u32, &'a [u8], u8),
 }
 
-fn det(fields: Fields) -> Det {
-    Det {
-        source: Pid(fields.0),
-        ssn: fields.1,
-        dest: Pid(fields.2),
-        rsn: fields.3,
-    }
-}
-
-fn dets(alloc: Global, list: &[Fields]) -> Result<Dets, TraceFault> {
-    let mut listed = Vec::new(alloc);
-    for fields in list {
-        if listed.push(det(*fields)).is_err() {
-            return Err(TraceFault::NoMemory);
-        }
-    }
-    Ok(Dets::new(listed))
-}
-
-fn entry(alloc: Global, step: Step<'_>) -> Result<Entry, TraceFault> {
-    Ok(match step {
-        Step::Send(from, to, ssn) => Entry::Send {
-            from: Pid(from),
-            to: Pid(to),
-            ssn,
-        },
-        Step::Deliver(to, send, rsn, list) => Entry::Deliver {
-            to: Pid(to),
-            send,
-            rsn,
-            listed: dets(alloc, list)?,
-        },
-        Step::Stable(fields) => Entry::Stable { det: det(fields) },
-        Step::Crash(who) => Entry::Crash { who: Pid(who) },
-        Step::Restart(who, list) => Entry::Restart {
-            who: Pid(who),
-            listed: dets(alloc, list)?,
-        },
-        Step::Forget(who, list) => Entry::Forget {
-            who: Pid(who),
-            listed: dets(alloc, list)?,
-        },
-    })
-}
-
-/// The trace of n processes with these entries, those of `first` before those of `then`.
-fn traced(
-    alloc: Global,
-    n: u16,
-    first: &[Step<'_>],
-    then: &[Step<'_>],
-) -> Result<Trace, TraceFault> {
-    let mut trace = Trace::new(alloc, n)?;
-    for step in first {
-        trace.push(entry(alloc, *step)?)?;
-    }
-    for step in then {
-        trace.push(entry(alloc, *step)?)?;
-    }
-    Ok(trace)
-}
-
-/// What the plain judgement says of that trace, or `None` where it is no trace.
-fn judged(alloc: Global, n: u16, first: &[Step<'_>], then: &[Step<'_>], f: u16) -> Option<Verdict> {
-    let trace = traced(alloc, n, first, then).ok()?;
-    judge(alloc, &trace, f).ok()
-}
+/// The entries of a trace, first those that several traces begin with, how many may fail, and the verdict.
+type Case<'a> = (&'a [Line<'a>], &'a [Line<'a>], u16, Said<'a>);
 
 fn set(members: &[u8]) -> Holders {
     let mut set = Holders::none();
@@ -98,167 +25,223 @@ fn set(members: &[u8]) -> Holders {
     set
 }
 
-fn orphan(instant: u32, delivery: u32, crash: &[u8], orphan: u8) -> Option<Verdict> {
-    Some(Verdict::Orphan {
-        instant,
-        delivery,
-        crash: set(crash),
-        orphan,
-    })
+fn verdict(said: Said<'_>) -> Verdict {
+    match said {
+        Said::Accept => Verdict::Accept,
+        Said::Exceeded(instant, down) => Verdict::Exceeded {
+            instant,
+            down: set(down),
+        },
+        Said::Orphan(instant, delivery, crash, orphan) => Verdict::Orphan {
+            instant,
+            delivery,
+            crash: set(crash),
+            orphan,
+        },
+    }
 }
 
-fn exceeded(instant: u32, down: &[u8]) -> Option<Verdict> {
-    Some(Verdict::Exceeded {
-        instant,
-        down: set(down),
-    })
+/// What the plain judgement says of the trace of n processes of a case, or `None` where it is no trace.
+fn judged(alloc: Global, n: u16, case: Case<'_>) -> Option<Verdict> {
+    let mut trace = traced(alloc, n, case.0).ok()?;
+    push_all(alloc, &mut trace, case.1).ok()?;
+    judge(alloc, &trace, case.2).ok()
 }
 
-const ACCEPT: Option<Verdict> = Some(Verdict::Accept);
+fn check_all(rt: &impl Abort, alloc: Global, n: u16, cases: &[Case<'_>]) {
+    for (k, case) in cases.iter().enumerate() {
+        let said = judged(alloc, n, *case);
+        assert_eq!(rt; said, Some(verdict(case.3)), "of {n} processes, case {k}");
+    }
+}
 
-/// 1 delivers what 0 sent, logs it, and sends to 2.
-const CHAIN: [Step<'static>; 3] = [
-    Step::Send(0, 1, 0),
-    Step::Deliver(1, 0, 0, &[(0, 0, 1, 0)]),
-    Step::Send(1, 2, 0),
+/// 0 sends to 1, which delivers the message and logs it, or does not.
+const LOGGED: [Line<'static>; 2] = [Line::Send(0, 1, 0), Line::Deliver(1, 0, 0, &[(0, 0, 1, 0)])];
+
+const UNLOGGED: [Line<'static>; 2] = [Line::Send(0, 1, 0), Line::Deliver(1, 0, 0, &[])];
+
+/// The same of a message to itself.
+const ALONE: [Line<'static>; 2] = [Line::Send(0, 0, 0), Line::Deliver(0, 0, 0, &[(0, 0, 0, 0)])];
+
+const OF_ONE: [Case<'static>; 3] = [
+    (&[], &[], 0, Said::Accept),
+    (&ALONE, &[], 0, Said::Accept),
+    (&ALONE, &[], 1, Said::Accept),
 ];
 
-/// The message goes round 0, 1, 2 and back to 0; each logs its own delivery and the one before it.
-const RING: [Step<'static>; 6] = [
-    Step::Send(0, 1, 0),
-    Step::Deliver(1, 0, 0, &[(0, 0, 1, 0)]),
-    Step::Send(1, 2, 0),
-    Step::Deliver(2, 2, 0, &[(0, 0, 1, 0), (1, 0, 2, 0)]),
-    Step::Send(2, 0, 0),
-    Step::Deliver(0, 4, 0, &[(1, 0, 2, 0), (2, 0, 0, 0)]),
+const OF_TWO: [Case<'static>; 2] = [
+    (&LOGGED, &[], 1, Said::Accept),
+    (&UNLOGGED, &[], 0, Said::Orphan(2, 1, &[], 1)),
 ];
 
 #[test]
 fn a_delivery_and_its_log(rt: HostRuntime) {
-    let a = rt.alloc();
-    let logged = [Step::Send(0, 1, 0), Step::Deliver(1, 0, 0, &[(0, 0, 1, 0)])];
-    let unlogged = [Step::Send(0, 1, 0), Step::Deliver(1, 0, 0, &[])];
-    let alone = [Step::Send(0, 0, 0), Step::Deliver(0, 0, 0, &[(0, 0, 0, 0)])];
-    assert_eq!(rt; judged(a, 1, &[], &[], 0), ACCEPT);
-    assert_eq!(rt; judged(a, 2, &logged, &[], 1), ACCEPT);
-    assert_eq!(rt; judged(a, 2, &unlogged, &[], 0), orphan(2, 1, &[], 1));
-    assert_eq!(rt; judged(a, 1, &alone, &[], 0), ACCEPT);
-    assert_eq!(rt; judged(a, 1, &alone, &[], 1), ACCEPT);
+    check_all(&rt, rt.alloc(), 1, &OF_ONE);
+    check_all(&rt, rt.alloc(), 2, &OF_TWO);
 }
+
+/// 1 delivers what 0 sent, logs it, and sends to 2.
+const CHAIN: [Line<'static>; 3] = [
+    Line::Send(0, 1, 0),
+    Line::Deliver(1, 0, 0, &[(0, 0, 1, 0)]),
+    Line::Send(1, 2, 0),
+];
+
+/// 2 delivers that, and logs its own delivery or both.
+const ONE: [Line<'static>; 1] = [Line::Deliver(2, 2, 0, &[(1, 0, 2, 0)])];
+
+const BOTH: [Line<'static>; 1] = [Line::Deliver(2, 2, 0, &[(0, 0, 1, 0), (1, 0, 2, 0)])];
+
+const HOLDERS: [Case<'static>; 8] = [
+    (&CHAIN, &ONE, 0, Said::Accept),
+    (&CHAIN, &ONE, 1, Said::Orphan(4, 1, &[1], 2)),
+    (&CHAIN, &BOTH, 1, Said::Accept),
+    (&CHAIN, &BOTH, 2, Said::Accept),
+    (&CHAIN, &BOTH, 3, Said::Accept),
+    (&RING, &[], 0, Said::Accept),
+    (&RING, &[], 1, Said::Accept),
+    (&RING, &[], 2, Said::Orphan(6, 1, &[1, 2], 0)),
+];
 
 #[test]
 fn holders_along_a_chain(rt: HostRuntime) {
-    let a = rt.alloc();
-    let one = [Step::Deliver(2, 2, 0, &[(1, 0, 2, 0)])];
-    let both = [Step::Deliver(2, 2, 0, &[(0, 0, 1, 0), (1, 0, 2, 0)])];
-    assert_eq!(rt; judged(a, 3, &CHAIN, &one, 0), ACCEPT);
-    assert_eq!(rt; judged(a, 3, &CHAIN, &one, 1), orphan(4, 1, &[1], 2));
-    for f in 1..4 {
-        assert_eq!(rt; judged(a, 3, &CHAIN, &both, f), ACCEPT);
-    }
-    for f in 0..2 {
-        assert_eq!(rt; judged(a, 3, &RING, &[], f), ACCEPT);
-    }
-    assert_eq!(rt; judged(a, 3, &RING, &[], 2), orphan(6, 1, &[1, 2], 0));
+    check_all(&rt, rt.alloc(), 3, &HOLDERS);
 }
+
+/// The log of the first delivery comes with a later message than the one that depends on it.
+const LATE: [Line<'static>; 3] = [
+    Line::Send(1, 2, 1),
+    Line::Deliver(2, 2, 0, &[(1, 0, 2, 0)]),
+    Line::Deliver(2, 3, 1, &[(0, 0, 1, 0), (1, 1, 2, 1)]),
+];
+
+/// The same, where the first delivery is stable before.
+const STABLE: [Line<'static>; 4] = [
+    Line::Send(1, 2, 1),
+    Line::Stable((0, 0, 1, 0)),
+    Line::Deliver(2, 2, 0, &[(1, 0, 2, 0)]),
+    Line::Deliver(2, 3, 1, &[(0, 0, 1, 0), (1, 1, 2, 1)]),
+];
+
+const BETWEEN: [Case<'static>; 2] = [
+    (&CHAIN, &LATE, 1, Said::Orphan(5, 1, &[1], 2)),
+    (&CHAIN, &STABLE, 1, Said::Accept),
+];
 
 #[test]
 fn an_instant_between(rt: HostRuntime) {
-    let a = rt.alloc();
-    let late = [
-        Step::Send(1, 2, 1),
-        Step::Deliver(2, 2, 0, &[(1, 0, 2, 0)]),
-        Step::Deliver(2, 3, 1, &[(0, 0, 1, 0), (1, 1, 2, 1)]),
-    ];
-    let stable = [
-        Step::Send(1, 2, 1),
-        Step::Stable((0, 0, 1, 0)),
-        Step::Deliver(2, 2, 0, &[(1, 0, 2, 0)]),
-        Step::Deliver(2, 3, 1, &[(0, 0, 1, 0), (1, 1, 2, 1)]),
-    ];
-    assert_eq!(rt; judged(a, 3, &CHAIN, &late, 1), orphan(5, 1, &[1], 2));
-    assert_eq!(rt; judged(a, 3, &CHAIN, &stable, 1), ACCEPT);
+    check_all(&rt, rt.alloc(), 3, &BETWEEN);
 }
+
+/// The sender is down as 2 delivers.
+const DEAD_SENDER: [Line<'static>; 2] = [Line::Crash(1), Line::Deliver(2, 2, 0, &[(1, 0, 2, 0)])];
+
+const TWO_DOWN: [Line<'static>; 2] = [Line::Crash(1), Line::Crash(2)];
+
+/// 1 comes up again and has gathered nothing, or its delivery.
+const BARE: [Line<'static>; 2] = [Line::Crash(1), Line::Restart(1, &[])];
+
+const GATHERED: [Line<'static>; 2] = [Line::Crash(1), Line::Restart(1, &[(0, 0, 1, 0)])];
+
+const DOWN: [Case<'static>; 5] = [
+    (&RING, &[Line::Crash(1)], 1, Said::Accept),
+    (&CHAIN, &DEAD_SENDER, 1, Said::Orphan(5, 1, &[1], 2)),
+    (&RING, &TWO_DOWN, 1, Said::Exceeded(8, &[1, 2])),
+    (&RING, &BARE, 1, Said::Orphan(8, 1, &[2], 0)),
+    (&RING, &GATHERED, 1, Said::Accept),
+];
 
 #[test]
 fn crashes_and_restarts(rt: HostRuntime) {
-    let a = rt.alloc();
-    let dead_sender = [Step::Crash(1), Step::Deliver(2, 2, 0, &[(1, 0, 2, 0)])];
-    let two_down = [Step::Crash(1), Step::Crash(2)];
-    let bare = [Step::Crash(1), Step::Restart(1, &[])];
-    let gathered = [Step::Crash(1), Step::Restart(1, &[(0, 0, 1, 0)])];
-    assert_eq!(rt; judged(a, 3, &RING, &[Step::Crash(1)], 1), ACCEPT);
-    assert_eq!(rt;
-        judged(a, 3, &CHAIN, &dead_sender, 1),
-        orphan(5, 1, &[1], 2)
-    );
-    assert_eq!(rt; judged(a, 3, &RING, &two_down, 1), exceeded(8, &[1, 2]));
-    assert_eq!(rt; judged(a, 3, &RING, &bare, 1), orphan(8, 1, &[2], 0));
-    assert_eq!(rt; judged(a, 3, &RING, &gathered, 1), ACCEPT);
+    check_all(&rt, rt.alloc(), 3, &DOWN);
 }
+
+/// 1 goes down, comes up and delivers the same again.
+const AGAIN: [Line<'static>; 3] = [
+    Line::Crash(1),
+    Line::Restart(1, &[]),
+    Line::Deliver(1, 0, 0, &[(0, 0, 1, 0)]),
+];
+
+const SHARED: [Case<'static>; 2] = [
+    (&LOGGED, &AGAIN, 1, Said::Accept),
+    (&LOGGED, &AGAIN, 0, Said::Exceeded(3, &[1])),
+];
 
 #[test]
 fn two_lanes_share_a_determinant(rt: HostRuntime) {
-    let a = rt.alloc();
-    let again = [
-        Step::Send(0, 1, 0),
-        Step::Deliver(1, 0, 0, &[(0, 0, 1, 0)]),
-        Step::Crash(1),
-        Step::Restart(1, &[]),
-        Step::Deliver(1, 0, 0, &[(0, 0, 1, 0)]),
-    ];
-    assert_eq!(rt; judged(a, 2, &again, &[], 1), ACCEPT);
-    assert_eq!(rt; judged(a, 2, &again, &[], 0), exceeded(3, &[1]));
+    check_all(&rt, rt.alloc(), 2, &SHARED);
 }
+
+/// 3 is orphaned by its own delivery before 2 is by that of 1.
+const TWO_RECEIVERS: [Line<'static>; 3] = [
+    Line::Send(0, 3, 1),
+    Line::Deliver(3, 3, 0, &[]),
+    Line::Deliver(2, 2, 0, &[(1, 0, 2, 0)]),
+];
+
+/// 2 is orphaned by two deliveries of 1 at once.
+const TIE: [Line<'static>; 6] = [
+    Line::Send(0, 1, 0),
+    Line::Send(0, 1, 1),
+    Line::Deliver(1, 0, 0, &[(0, 0, 1, 0)]),
+    Line::Deliver(1, 1, 1, &[(0, 1, 1, 1)]),
+    Line::Send(1, 2, 0),
+    Line::Deliver(2, 4, 0, &[(1, 0, 2, 0)]),
+];
+
+/// 0 and 3 are orphaned at once.
+const TWO_ORPHANS: [Line<'static>; 4] = [
+    Line::Send(2, 3, 1),
+    Line::Deliver(3, 6, 0, &[(1, 0, 2, 0), (2, 1, 3, 0)]),
+    Line::Crash(1),
+    Line::Restart(1, &[]),
+];
+
+const OF_FOUR: [Case<'static>; 2] = [
+    (&CHAIN, &TWO_RECEIVERS, 1, Said::Orphan(5, 4, &[], 3)),
+    (&RING, &TWO_ORPHANS, 1, Said::Orphan(10, 1, &[2], 0)),
+];
 
 #[test]
 fn the_first_of_several(rt: HostRuntime) {
-    let a = rt.alloc();
-    let two_receivers = [
-        Step::Send(0, 3, 1),
-        Step::Deliver(3, 3, 0, &[]),
-        Step::Deliver(2, 2, 0, &[(1, 0, 2, 0)]),
-    ];
-    let tie = [
-        Step::Send(0, 1, 0),
-        Step::Send(0, 1, 1),
-        Step::Deliver(1, 0, 0, &[(0, 0, 1, 0)]),
-        Step::Deliver(1, 1, 1, &[(0, 1, 1, 1)]),
-        Step::Send(1, 2, 0),
-        Step::Deliver(2, 4, 0, &[(1, 0, 2, 0)]),
-    ];
-    let two_orphans = [
-        Step::Send(2, 3, 1),
-        Step::Deliver(3, 6, 0, &[(1, 0, 2, 0), (2, 1, 3, 0)]),
-        Step::Crash(1),
-        Step::Restart(1, &[]),
-    ];
-    assert_eq!(rt;
-        judged(a, 4, &CHAIN, &two_receivers, 1),
-        orphan(5, 4, &[], 3)
+    check_all(&rt, rt.alloc(), 4, &OF_FOUR);
+    let tied = (
+        TIE.as_slice(),
+        [].as_slice(),
+        1,
+        Said::Orphan(6, 2, &[1], 2),
     );
-    assert_eq!(rt; judged(a, 3, &tie, &[], 1), orphan(6, 2, &[1], 2));
-    assert_eq!(rt;
-        judged(a, 4, &RING, &two_orphans, 1),
-        orphan(10, 1, &[2], 0)
-    );
+    check_all(&rt, rt.alloc(), 3, &[tied]);
 }
+
+/// 1 forgets its delivery.
+const FORGET: [Line<'static>; 1] = [Line::Forget(1, &[(0, 0, 1, 0)])];
+
+/// The same, once it is stable.
+const FORGET_STABLE: [Line<'static>; 2] = [
+    Line::Stable((0, 0, 1, 0)),
+    Line::Forget(1, &[(0, 0, 1, 0)]),
+];
+
+const FORGOTTEN: [Case<'static>; 3] = [
+    (&RING, &FORGET, 0, Said::Accept),
+    (&RING, &FORGET, 1, Said::Orphan(7, 1, &[2], 0)),
+    (&RING, &FORGET_STABLE, 1, Said::Accept),
+];
 
 #[test]
 fn forgetting(rt: HostRuntime) {
-    let a = rt.alloc();
-    let unsafely = [Step::Forget(1, &[(0, 0, 1, 0)])];
-    let stably = [Step::Stable((0, 0, 1, 0)), Step::Forget(1, &[(0, 0, 1, 0)])];
-    assert_eq!(rt; judged(a, 3, &RING, &unsafely, 0), ACCEPT);
-    assert_eq!(rt; judged(a, 3, &RING, &unsafely, 1), orphan(7, 1, &[2], 0));
-    assert_eq!(rt; judged(a, 3, &RING, &stably, 1), ACCEPT);
+    check_all(&rt, rt.alloc(), 3, &FORGOTTEN);
 }
 
 #[test]
 fn the_last_of_256_processes(rt: HostRuntime) {
-    let a = rt.alloc();
-    assert_eq!(rt;
-        judged(a, 256, &[Step::Crash(255)], &[], 0),
-        exceeded(1, &[255])
+    let down = (
+        [].as_slice(),
+        [Line::Crash(255)].as_slice(),
+        0,
+        Said::Exceeded(1, &[255]),
     );
+    check_all(&rt, rt.alloc(), 256, &[down]);
 }

@@ -1,4 +1,5 @@
 //! The audit and the plain program beside it give the same verdict on small random traces, for each f.
+use crate::entries::{ascending, of_own};
 use crate::numbers::Numbers;
 use causal_audit::{Course, Room, Tables, Verdict, judge, least_between, least_swept};
 use causal_name::{Det, MsgName, NoMemory, Pid};
@@ -6,6 +7,7 @@ use causal_trace::entry::{Dets, Entry};
 use causal_trace::fault::TraceFault;
 use causal_trace::trace::Trace;
 use std::alloc::Global;
+use std::test::Fail;
 
 /// A seeded walk: the same numbers each time, and the next sequence numbers of each process.
 #[derive(Clone, Copy)]
@@ -37,27 +39,16 @@ fn listed(
     trace: &Trace,
     own: Option<Det>,
 ) -> Result<Dets, NoMemory> {
-    let mut dets = Vec::new(alloc);
-    if let Some(det) = own {
-        if dets.push(det).is_err() {
-            return Err(NoMemory);
-        }
-    }
+    let mut dets = of_own(alloc, own)?;
     for k in 0..trace.len() {
         if walk.numbers.below(3) > 0 {
             continue;
         }
         if let Some(det) = trace.det_at(k) {
-            if dets.push(det).is_err() {
-                return Err(NoMemory);
-            }
+            dets.push(det)?;
         }
     }
-    if dets.sort().is_err() {
-        return Err(NoMemory);
-    }
-    dets.dedup();
-    Ok(Dets::new(dets))
+    ascending(dets)
 }
 
 /// The receiver of the send at a position, and its message.
@@ -74,21 +65,31 @@ fn sent_at(trace: &Trace, send: u32) -> Option<(Pid, MsgName)> {
     }
 }
 
+/// The determinant of a delivery, but now and then none.
+fn own(walk: &mut Walk, message: MsgName, dest: Pid, rsn: u32) -> Option<Det> {
+    if walk.numbers.below(8) == 0 {
+        return None;
+    }
+    Some(Det {
+        source: message.source,
+        ssn: message.ssn,
+        dest,
+        rsn,
+    })
+}
+
+/// An entry that no trace takes.
+fn refused() -> Entry {
+    Entry::Crash { who: Pid(255) }
+}
+
 fn delivery(alloc: Global, walk: &mut Walk, trace: &Trace) -> Result<Entry, NoMemory> {
-    let send = walk.numbers.below(64) % trace.len().saturating_add(1);
+    let send = some_place(walk, trace);
     let Some((to, message)) = sent_at(trace, send) else {
-        return Ok(Entry::Crash { who: Pid(255) });
+        return Ok(refused());
     };
     let rsn = right(&walk.deliveries, to);
-    let mut own = None;
-    if walk.numbers.below(8) > 0 {
-        own = Some(Det {
-            source: message.source,
-            ssn: message.ssn,
-            dest: to,
-            rsn,
-        });
-    }
+    let own = own(walk, message, to, rsn);
     let listed = listed(alloc, walk, trace, own)?;
     Ok(Entry::Deliver {
         to,
@@ -98,34 +99,46 @@ fn delivery(alloc: Global, walk: &mut Walk, trace: &Trace) -> Result<Entry, NoMe
     })
 }
 
+/// The place of an entry, or the one after the last.
+fn some_place(walk: &mut Walk, trace: &Trace) -> u32 {
+    walk.numbers.below(64) % trace.len().saturating_add(1)
+}
+
+/// The next send of some process.
+fn sending(walk: &mut Walk, n: u16) -> Entry {
+    let from = process(walk, n);
+    Entry::Send {
+        from,
+        to: process(walk, n),
+        ssn: right(&walk.sends, from),
+    }
+}
+
+fn stable(walk: &mut Walk, trace: &Trace) -> Entry {
+    match trace.det_at(some_place(walk, trace)) {
+        Some(det) => Entry::Stable { det },
+        None => refused(),
+    }
+}
+
 fn entry(alloc: Global, walk: &mut Walk, trace: &Trace) -> Result<Entry, NoMemory> {
     let n = trace.processes();
-    match walk.numbers.below(16) {
-        0..=4 => {
-            let from = process(walk, n);
-            Ok(Entry::Send {
-                from,
-                to: process(walk, n),
-                ssn: right(&walk.sends, from),
-            })
-        }
-        5..=10 => delivery(alloc, walk, trace),
-        11 => match trace.det_at(walk.numbers.below(64) % trace.len().saturating_add(1)) {
-            Some(det) => Ok(Entry::Stable { det }),
-            None => Ok(Entry::Crash { who: Pid(255) }),
+    Ok(match walk.numbers.below(16) {
+        0..=4 => sending(walk, n),
+        5..=10 => delivery(alloc, walk, trace)?,
+        11 => stable(walk, trace),
+        12 => Entry::Crash {
+            who: process(walk, n),
         },
-        12 => Ok(Entry::Crash {
-            who: process(walk, n),
-        }),
-        13 | 14 => Ok(Entry::Restart {
+        13 | 14 => Entry::Restart {
             who: process(walk, n),
             listed: listed(alloc, walk, trace, None)?,
-        }),
-        _ => Ok(Entry::Forget {
+        },
+        _ => Entry::Forget {
             who: process(walk, n),
             listed: listed(alloc, walk, trace, None)?,
-        }),
-    }
+        },
+    })
 }
 
 /// Counts an entry that was taken.
@@ -207,20 +220,33 @@ fn sweeps_agree(alloc: Global, tables: &Tables, course: &Course, f: u16) -> Resu
     Ok(same)
 }
 
+/// The verdict for so many failures, and whether all programs say the same.
+fn verdict(
+    alloc: Global,
+    trace: &Trace,
+    tables: &Tables,
+    course: &Course,
+    f: u16,
+) -> Result<(Verdict, bool), NoMemory> {
+    let fast = judge(tables, f);
+    let plain = causal_plain::judge(alloc, trace, f)?;
+    let same = fast == plain && sweeps_agree(alloc, tables, course, f)?;
+    Ok((fast, same))
+}
+
 /// Of how many of these numbers of failures all programs say the same of a trace, and of how many it is accepted.
-fn agreed(alloc: Global, trace: &Trace, most: u16) -> Result<(u32, u32), NoMemory> {
-    let tables = Tables::of(alloc, trace)?;
-    let course = Course::of(alloc, trace, trace.len())?;
+fn agreed(
+    alloc: Global,
+    trace: &Trace,
+    tables: &Tables,
+    course: &Course,
+    most: u16,
+) -> Result<(u32, u32), NoMemory> {
     let (mut same, mut accepted) = (0u32, 0u32);
     for f in 0..=most {
-        let fast = judge(&tables, f);
-        let plain = causal_plain::judge(alloc, trace, f)?;
-        if fast == plain && sweeps_agree(alloc, &tables, &course, f)? {
-            same = same.saturating_add(1);
-        }
-        if fast == Verdict::Accept {
-            accepted = accepted.saturating_add(1);
-        }
+        let (said, agree) = verdict(alloc, trace, tables, course, f)?;
+        same = same.saturating_add(u32::from(agree));
+        accepted = accepted.saturating_add(u32::from(said == Verdict::Accept));
     }
     Ok((same, accepted))
 }
@@ -262,7 +288,23 @@ struct Comparison {
     releases: u32,
 }
 
-/// Judges so many random traces, each after so many tries, for each f up to one more than there are processes.
+/// Judges a trace for each f up to one more than there are processes.
+fn compare(alloc: Global, trace: &Trace, found: &mut Comparison) -> Result<(), NoMemory> {
+    let most = trace.processes().saturating_add(1);
+    let tables = Tables::of(alloc, trace)?;
+    let course = Course::of(alloc, trace, trace.len())?;
+    let (same, accepted) = agreed(alloc, trace, &tables, &course, most)?;
+    let differ = (u32::from(most) + 1).saturating_sub(same);
+    found.differ = found.differ.saturating_add(differ);
+    found.accepted = found.accepted.saturating_add(accepted);
+    found.replays = found.replays.saturating_add(u32::from(has_replay(trace)));
+    found.releases = found
+        .releases
+        .saturating_add(u32::from(ends_in_release(trace)));
+    Ok(())
+}
+
+/// Judges so many random traces, each after so many tries.
 fn compared(
     alloc: Global,
     seed: u64,
@@ -283,62 +325,35 @@ fn compared(
     };
     for _ in 0..traces {
         let trace = trace_of(alloc, &mut walk, n, tries)?;
-        if has_replay(&trace) {
-            found.replays = found.replays.saturating_add(1);
-        }
-        if ends_in_release(&trace) {
-            found.releases = found.releases.saturating_add(1);
-        }
-        let most = n.saturating_add(1);
-        let Ok((same, accepted)) = agreed(alloc, &trace, most) else {
+        if compare(alloc, &trace, &mut found).is_err() {
             return Err(TraceFault::NoMemory);
-        };
-        let differ = (u32::from(most) + 1).saturating_sub(same);
-        found.differ = found.differ.saturating_add(differ);
-        found.accepted = found.accepted.saturating_add(accepted);
+        }
     }
     Ok(found)
 }
 
-#[test]
-fn both_programs_give_the_same_verdict(rt: HostRuntime) {
-    for (n, seed) in [(1, 11), (2, 2026), (3, 77_777), (4, 5)] {
-        let Ok(found) = compared(rt.alloc(), seed, n, 600, 24) else {
-            assert!(rt; false);
-            return;
-        };
-        let judged = 600 * (u32::from(n) + 2);
-        assert_eq!(rt; found.differ, 0, "with {n} processes");
-        assert!(rt;
-            found.accepted > judged / 20,
-            "{} of {judged} with {n} processes",
-            found.accepted
-        );
-        assert!(rt;
-            found.accepted < judged / 20 * 19,
-            "{} of {judged} with {n} processes",
-            found.accepted
-        );
-        assert!(rt;
-            found.releases > 100,
-            "{} releases with {n} processes",
-            found.releases
-        );
-    }
+/// Whether some traces of n processes, but not all, are accepted, and enough of them end in a release.
+fn are_varied(found: Comparison, n: u16) -> bool {
+    let judged = 600 * (u32::from(n) + 2);
+    found.accepted > judged / 20 && found.accepted < judged / 20 * 19 && found.releases > 100
 }
 
 #[test]
-fn both_say_the_same_of_longer_traces(rt: HostRuntime) {
-    for (n, seed) in [(2, 9), (3, 4242)] {
-        let Ok(found) = compared(rt.alloc(), seed, n, 40, 120) else {
-            assert!(rt; false);
-            return;
-        };
+fn both_programs_give_the_same_verdict(rt: HostRuntime) -> Result<(), Fail> {
+    for (n, seed) in [(1, 11), (2, 2026), (3, 77_777), (4, 5)] {
+        let found = compared(rt.alloc(), seed, n, 600, 24)?;
         assert_eq!(rt; found.differ, 0, "with {n} processes");
-        assert!(rt;
-            found.replays > 4,
-            "{} replays with {n} processes",
-            found.replays
-        );
+        assert!(rt; are_varied(found, n), "with {n} processes");
     }
+    Ok(())
+}
+
+#[test]
+fn both_say_the_same_of_longer_traces(rt: HostRuntime) -> Result<(), Fail> {
+    for (n, seed) in [(2, 9), (3, 4242)] {
+        let found = compared(rt.alloc(), seed, n, 40, 120)?;
+        assert_eq!(rt; found.differ, 0, "with {n} processes");
+        assert!(rt; found.replays > 4, "with {n} processes");
+    }
+    Ok(())
 }

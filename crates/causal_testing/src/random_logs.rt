@@ -58,14 +58,70 @@ fn learn_item(plain: &mut Plain, item: &Item, from: Pid, me: Pid) -> Result<(), 
     learn(plain, item.det, &[from, me], false)
 }
 
-/// The batch of a process that has delivered a few messages.
-fn sent(alloc: Global, numbers: &mut Numbers, from: Pid) -> Result<Batch, NoMemory> {
+/// The log of a process that has delivered a few messages.
+fn delivering(alloc: Global, numbers: &mut Numbers, from: Pid) -> Result<Log, NoMemory> {
     let mut log = Log::new(alloc);
     for _ in 0..numbers.below(4) {
         log.add_own(drawn(numbers), from)?;
         log.add_own(drawn(numbers), process(numbers))?;
     }
+    Ok(log)
+}
+
+/// The batch of such a process.
+fn sent(alloc: Global, numbers: &mut Numbers, from: Pid) -> Result<Batch, NoMemory> {
+    let log = delivering(alloc, numbers, from)?;
     log.choose(alloc, 256)
+}
+
+/// A delivery to draw: its determinant, its sender and receiver, and how many may fail.
+#[derive(Clone, Copy)]
+struct Arrival {
+    own: Det,
+    from: Pid,
+    me: Pid,
+    f: u16,
+}
+
+fn drawn_arrival(numbers: &mut Numbers) -> Arrival {
+    let (from, me) = (process(numbers), process(numbers));
+    let own = drawn(numbers);
+    let f = numbers.below(4) as u16;
+    Arrival { own, from, me, f }
+}
+
+/// Reserves room for a delivery, and takes it into a log.
+fn grow(log: &mut Log, batch: &Batch, it: Arrival) -> Result<(), NoMemory> {
+    let Ok(carried) = u32::try_from(batch.as_slice().len()) else {
+        return Err(NoMemory);
+    };
+    let Some(more) = carried.checked_add(1) else {
+        return Err(NoMemory);
+    };
+    log.reserve(more)?;
+    log.grow(batch, it.own, it.from, it.me);
+    Ok(())
+}
+
+/// A delivery to a log, which says whether what the log then chooses was foretold.
+fn foretells(alloc: Global, log: &mut Log, batch: &Batch, it: Arrival) -> Result<bool, NoMemory> {
+    let foretold = log.choose_grown(alloc, batch, it.own, it.from, it.me, it.f)?;
+    grow(log, batch, it)?;
+    Ok(chooses(alloc, log, it.f, foretold.as_slice())?)
+}
+
+/// Whether a log chooses just these items where so many may fail.
+fn chooses(alloc: Global, log: &Log, f: u16, items: &[Item]) -> Result<bool, NoMemory> {
+    let batch = log.choose(alloc, f)?;
+    Ok(batch.as_slice() == items)
+}
+
+/// A plain log learns of a delivery.
+fn learn_delivery(plain: &mut Plain, batch: &Batch, it: Arrival) -> Result<(), NoMemory> {
+    for item in batch.as_slice() {
+        learn_item(plain, item, it.from, it.me)?;
+    }
+    learn(plain, it.own, &[it.me], false)
 }
 
 /// A delivery to both, which says whether the batch was foretold.
@@ -75,24 +131,10 @@ fn deliver(
     log: &mut Log,
     plain: &mut Plain,
 ) -> Result<bool, NoMemory> {
-    let (from, me) = (process(numbers), process(numbers));
-    let own = drawn(numbers);
-    let f = numbers.below(4) as u16;
-    let batch = sent(alloc, numbers, from)?;
-    let foretold = log.choose_grown(alloc, &batch, own, from, me, f)?;
-    let Ok(carried) = u32::try_from(batch.as_slice().len()) else {
-        return Err(NoMemory);
-    };
-    let Some(more) = carried.checked_add(1) else {
-        return Err(NoMemory);
-    };
-    log.reserve(more)?;
-    log.grow(&batch, own, from, me);
-    for item in batch.as_slice() {
-        learn_item(plain, item, from, me)?;
-    }
-    learn(plain, own, &[me], false)?;
-    Ok(foretold.as_slice() == log.choose(alloc, f)?.as_slice())
+    let it = drawn_arrival(numbers);
+    let batch = sent(alloc, numbers, it.from)?;
+    learn_delivery(plain, &batch, it)?;
+    foretells(alloc, log, &batch, it)
 }
 
 /// A call of both that is no delivery.
@@ -116,8 +158,8 @@ fn call(numbers: &mut Numbers, log: &mut Log, plain: &mut Plain) -> Result<(), N
     }
 }
 
-/// Whether both give the same batch where so many may fail.
-fn choose_alike(alloc: Global, log: &Log, plain: &Plain, f: u16) -> Result<bool, NoMemory> {
+/// What a plain log chooses where so many may fail.
+fn chosen(alloc: Global, plain: &Plain, f: u16) -> Result<Vec<Item>, NoMemory> {
     let mut carried = Vec::new(alloc);
     for (det, known) in plain.iter() {
         if !known.stable && known.holders.len() <= u32::from(f) {
@@ -128,7 +170,13 @@ fn choose_alike(alloc: Global, log: &Log, plain: &Plain, f: u16) -> Result<bool,
             carried.push(item)?;
         }
     }
-    Ok(log.choose(alloc, f)?.as_slice() == carried.as_slice())
+    Ok(carried)
+}
+
+/// Whether both give the same batch where so many may fail.
+fn choose_alike(alloc: Global, log: &Log, plain: &Plain, f: u16) -> Result<bool, NoMemory> {
+    let carried = chosen(alloc, plain, f)?;
+    chooses(alloc, log, f, carried.as_slice())
 }
 
 /// Whether both name the same message for a slot.
@@ -153,45 +201,115 @@ fn show_alike(log: &Log, plain: &Plain) -> bool {
     log.len() == place && log.at(place).is_none()
 }
 
-/// Whether both list the same: all determinants, those that are stable, and the others.
-fn list_alike(alloc: Global, log: &Log, plain: &Plain) -> Result<bool, NoMemory> {
-    let (mut all, mut stable, mut others) = (Vec::new(alloc), Vec::new(alloc), Vec::new(alloc));
+/// Which determinants of a plain log are wanted: all of them, those that are stable, or the others.
+#[derive(Clone, Copy)]
+enum Which {
+    All,
+    Stable,
+    Others,
+}
+
+fn is_wanted(which: Which, known: &Known) -> bool {
+    match which {
+        Which::All => true,
+        Which::Stable => known.stable,
+        Which::Others => !known.stable,
+    }
+}
+
+/// Those determinants of a plain log.
+fn listed(alloc: Global, plain: &Plain, which: Which) -> Result<Vec<Det>, NoMemory> {
+    let mut dets = Vec::new(alloc);
     for (det, known) in plain.iter() {
-        all.push(*det)?;
-        if known.stable {
-            stable.push(*det)?;
-        } else {
-            others.push(*det)?;
+        if is_wanted(which, known) {
+            dets.push(*det)?;
         }
     }
-    let counts = (log.stable_len() as usize, log.unstable_len() as usize);
+    Ok(dets)
+}
+
+/// Those determinants of a log, and how many it says that there are.
+fn shown(alloc: Global, log: &Log, which: Which) -> Result<(Vec<Det>, u32), NoMemory> {
+    Ok(match which {
+        Which::All => (log.dets(alloc)?, log.len()),
+        Which::Stable => (log.stable_dets(alloc)?, log.stable_len()),
+        Which::Others => (log.unstable_dets(alloc)?, log.unstable_len()),
+    })
+}
+
+/// Whether both list the same of these determinants.
+fn list_alike(alloc: Global, log: &Log, plain: &Plain, which: Which) -> Result<bool, NoMemory> {
+    let wanted = listed(alloc, plain, which)?;
+    let (dets, count) = shown(alloc, log, which)?;
+    Ok(dets.as_slice() == wanted.as_slice() && count as usize == wanted.len())
+}
+
+/// Whether both list the same: all determinants, those that are stable, and the others.
+fn all_alike(alloc: Global, log: &Log, plain: &Plain) -> Result<bool, NoMemory> {
     Ok(
-        log.dets(alloc)?.as_slice() == all.as_slice()
-            && log.stable_dets(alloc)?.as_slice() == stable.as_slice()
-            && log.unstable_dets(alloc)?.as_slice() == others.as_slice()
-            && log.unordered().len() == all.len()
-            && counts == (stable.len(), others.len()),
+        list_alike(alloc, log, plain, Which::All)?
+            && list_alike(alloc, log, plain, Which::Stable)?
+            && list_alike(alloc, log, plain, Which::Others)?
+            && log.unordered().len() == plain.len(),
     )
+}
+
+/// Makes the calls that are drawn; whether each delivery and each name was alike.
+fn go_alike(
+    alloc: Global,
+    numbers: &mut Numbers,
+    log: &mut Log,
+    plain: &mut Plain,
+) -> Result<bool, NoMemory> {
+    let mut alike = true;
+    for _ in 0..CALLS {
+        alike = deliver(alloc, numbers, log, plain)? && alike;
+        call(numbers, log, plain)?;
+        alike = name_alike(log, plain, drawn(numbers).slot()) && alike;
+    }
+    Ok(alike)
+}
+
+/// Whether both choose the same, however many may fail.
+fn choices_alike(alloc: Global, log: &Log, plain: &Plain) -> Result<bool, NoMemory> {
+    let mut alike = true;
+    for f in [0, 1, 2, 3, 255, 256] {
+        alike = choose_alike(alloc, log, plain, f)? && alike;
+    }
+    Ok(alike)
+}
+
+/// Whether a log drops just what is stable.
+fn drops_what_is_stable(log: &mut Log) -> bool {
+    let marked = log.stable_len();
+    log.drop_stable() == marked && log.stable_len() == 0
+}
+
+/// Whether both show the same after these calls, also once the log is sorted.
+fn show_alike_sorted(alloc: Global, log: &mut Log, plain: &Plain) -> Result<bool, NoMemory> {
+    let before = show_alike(log, plain) && all_alike(alloc, log, plain)?;
+    log.sort()?;
+    Ok(before && show_alike(log, plain))
+}
+
+/// Whether both are alike at each call, as they show their entries, in what they choose, and in what they drop.
+fn are_alike(
+    alloc: Global,
+    log: &mut Log,
+    plain: &mut Plain,
+) -> Result<(bool, bool, bool, bool), NoMemory> {
+    let mut numbers = Numbers { state: 17 };
+    let called = go_alike(alloc, &mut numbers, log, plain)?;
+    let shown = show_alike_sorted(alloc, log, plain)?;
+    let chosen = choices_alike(alloc, log, plain)?;
+    Ok((called, shown, chosen, drops_what_is_stable(log)))
 }
 
 #[test]
 fn of_256_processes_like_a_plain_one(rt: HostRuntime) -> Result<(), Fail> {
-    let mut numbers = Numbers { state: 17 };
     let mut log = Log::new(rt.alloc());
     let mut plain = BTreeMap::new(rt.alloc());
-    for _ in 0..CALLS {
-        assert!(rt; deliver(rt.alloc(), &mut numbers, &mut log, &mut plain)?);
-        call(&mut numbers, &mut log, &mut plain)?;
-        assert!(rt; name_alike(&log, &plain, drawn(&mut numbers).slot()));
-    }
-    assert!(rt; show_alike(&log, &plain) && list_alike(rt.alloc(), &log, &plain)?);
-    log.sort()?;
-    assert!(rt; show_alike(&log, &plain));
-    for f in [0, 1, 2, 3, 255, 256] {
-        assert!(rt; choose_alike(rt.alloc(), &log, &plain, f)?);
-    }
-    let marked = log.stable_len();
-    assert_eq!(rt; log.drop_stable(), marked);
-    assert_eq!(rt; log.stable_len(), 0);
+    let alike = are_alike(rt.alloc(), &mut log, &mut plain)?;
+    assert_eq!(rt; alike, (true, true, true, true));
     Ok(())
 }

@@ -1,11 +1,13 @@
 //! The trace and the plain program beside it answer the same to the same entries, half of them bad.
+use crate::entries::{ascending, of_own};
 use crate::numbers::Numbers;
-use causal_name::{Det, MsgName, Pid};
+use causal_name::{Det, MsgName, NoMemory, Pid};
 use causal_plain::PlainTrace;
 use causal_trace::entry::{Dets, Entry};
 use causal_trace::fault::TraceFault;
 use causal_trace::trace::Trace;
 use std::alloc::Global;
+use std::test::Fail;
 
 /// A seeded walk: the same numbers each time, and the next sequence numbers of each process.
 #[derive(Clone, Copy)]
@@ -42,28 +44,30 @@ fn some_det(walk: &mut Walk, trace: &Trace) -> Det {
     }
 }
 
+/// A few determinants, with this one where there is one.
+fn some_dets(
+    alloc: Global,
+    walk: &mut Walk,
+    trace: &Trace,
+    own: Option<Det>,
+) -> Result<Vec<Det>, NoMemory> {
+    let mut dets = of_own(alloc, own)?;
+    for _ in 0..walk.numbers.below(3) {
+        dets.push(some_det(walk, trace))?;
+    }
+    Ok(dets)
+}
+
+/// The list of them, which now and then does not ascend.
 fn listed(
     alloc: Global,
     walk: &mut Walk,
     trace: &Trace,
     own: Option<Det>,
-) -> Result<Dets, TraceFault> {
-    let mut dets = Vec::new(alloc);
-    if let Some(det) = own {
-        if dets.push(det).is_err() {
-            return Err(TraceFault::NoMemory);
-        }
-    }
-    for _ in 0..walk.numbers.below(3) {
-        if dets.push(some_det(walk, trace)).is_err() {
-            return Err(TraceFault::NoMemory);
-        }
-    }
+) -> Result<Dets, NoMemory> {
+    let dets = some_dets(alloc, walk, trace, own)?;
     if walk.numbers.below(8) > 0 {
-        if dets.sort().is_err() {
-            return Err(TraceFault::NoMemory);
-        }
-        dets.dedup();
+        return ascending(dets);
     }
     Ok(Dets::new(dets))
 }
@@ -87,7 +91,7 @@ fn sent_at(walk: &mut Walk, trace: &Trace, send: u32) -> (Pid, Option<MsgName>) 
     }
 }
 
-fn delivery(alloc: Global, walk: &mut Walk, trace: &Trace) -> Result<Entry, TraceFault> {
+fn delivery(alloc: Global, walk: &mut Walk, trace: &Trace) -> Result<Entry, NoMemory> {
     let back = walk.numbers.below(24);
     let send = trace.len().saturating_sub(back);
     let (to, message) = sent_at(walk, trace, send);
@@ -108,7 +112,7 @@ fn delivery(alloc: Global, walk: &mut Walk, trace: &Trace) -> Result<Entry, Trac
     })
 }
 
-fn entry(alloc: Global, walk: &mut Walk, trace: &Trace) -> Result<Entry, TraceFault> {
+fn entry(alloc: Global, walk: &mut Walk, trace: &Trace) -> Result<Entry, NoMemory> {
     match walk.numbers.below(16) {
         0..=5 => {
             let from = process(walk);
@@ -158,51 +162,87 @@ fn count(walk: &mut Walk, entry: &Entry) {
     }
 }
 
-/// Pushes so many entries into both; how many were taken, and how many answers differ.
-fn compared(alloc: Global, seed: u64, entries: u32) -> Result<(u32, u32), TraceFault> {
+/// How many entries were taken, and how many answers differ.
+#[derive(Clone, Copy)]
+struct Counts {
+    taken: u32,
+    differ: u32,
+}
+
+/// Whether both answer the same to an entry, and whether it was taken.
+fn answered(
+    fast: &mut Trace,
+    plain: &mut PlainTrace,
+    entry: &Entry,
+) -> Result<(bool, bool), NoMemory> {
+    let answer = fast.push(entry.clone()?);
+    let same = answer == plain.push(entry.clone()?);
+    Ok((same, answer.is_ok()))
+}
+
+/// Pushes one random entry into both.
+fn step(
+    alloc: Global,
+    walk: &mut Walk,
+    fast: &mut Trace,
+    plain: &mut PlainTrace,
+    counts: &mut Counts,
+) -> Result<(), NoMemory> {
+    let entry = entry(alloc, walk, fast)?;
+    let (same, taken) = answered(fast, plain, &entry)?;
+    if !same {
+        counts.differ = counts.differ.saturating_add(1);
+    }
+    if taken {
+        count(walk, &entry);
+        counts.taken = counts.taken.saturating_add(1);
+    }
+    Ok(())
+}
+
+/// Pushes so many entries into both, and compares what they then have.
+fn pushed(
+    alloc: Global,
+    seed: u64,
+    entries: u32,
+    fast: &mut Trace,
+    plain: &mut PlainTrace,
+) -> Result<Counts, NoMemory> {
     let mut walk = Walk {
         numbers: Numbers { state: seed },
         sends: [0; 3],
         deliveries: [0; 3],
     };
-    let mut fast = Trace::new(alloc, 3)?;
-    let mut plain = PlainTrace::new(alloc, 3)?;
-    let mut taken: u32 = 0;
-    let mut differ: u32 = 0;
+    let mut counts = Counts {
+        taken: 0,
+        differ: 0,
+    };
     for _ in 0..entries {
-        let entry = entry(alloc, &mut walk, &fast)?;
-        let Ok(copy) = entry.clone() else {
-            return Err(TraceFault::NoMemory);
-        };
-        let Ok(other) = entry.clone() else {
-            return Err(TraceFault::NoMemory);
-        };
-        let answer = fast.push(copy);
-        if answer != plain.push(other) {
-            differ = differ.saturating_add(1);
-        }
-        if answer.is_ok() {
-            count(&mut walk, &entry);
-            taken = taken.saturating_add(1);
-        }
+        step(alloc, &mut walk, fast, plain, &mut counts)?;
     }
     if fast.entries() != plain.entries() {
-        differ = differ.saturating_add(1);
+        counts.differ = counts.differ.saturating_add(1);
     }
-    Ok((taken, differ))
+    Ok(counts)
+}
+
+/// The same of two new traces of three processes.
+fn compared(alloc: Global, seed: u64, entries: u32) -> Result<Counts, TraceFault> {
+    let mut fast = Trace::new(alloc, 3)?;
+    let mut plain = PlainTrace::new(alloc, 3)?;
+    match pushed(alloc, seed, entries, &mut fast, &mut plain) {
+        Ok(counts) => Ok(counts),
+        Err(NoMemory) => Err(TraceFault::NoMemory),
+    }
 }
 
 #[test]
-fn both_traces_answer_the_same(rt: HostRuntime) {
+fn both_traces_answer_the_same(rt: HostRuntime) -> Result<(), Fail> {
     for seed in [1, 2026, 77_777] {
-        let Ok((taken, differ)) = compared(rt.alloc(), seed, 6_000) else {
-            assert!(rt; false);
-            return;
-        };
+        let Counts { taken, differ } = compared(rt.alloc(), seed, 6_000)?;
         assert_eq!(rt; differ, 0, "with the seed {seed}");
-        assert!(rt;
-            taken > 1_500 && taken < 4_500,
-            "with the seed {seed} {taken} were taken"
-        );
+        let few = taken > 1_500 && taken < 4_500;
+        assert!(rt; few, "with the seed {seed} {taken} were taken");
     }
+    Ok(())
 }

@@ -1,5 +1,6 @@
 //! Cores for tests, and calls of them that carry no contract of their own, so that the tests above are proved at little cost.
-use causal_core::{Core, CoreFault, Reply, Request, StartFault};
+use crate::entries::{Fields, det};
+use causal_core::{Core, CoreFault, Reply, StartFault};
 use causal_log::Stable;
 use causal_name::{Det, MsgName, NoMemory, Pid};
 use causal_process::{Echo, Process, Ring, Tally};
@@ -7,24 +8,12 @@ use std::alloc::Global;
 
 pub(crate) type Boxed = Box<dyn Process + Send>;
 
-/// The fields of a determinant, in their order.
-pub(crate) type Fields = (u8, u32, u8, u32);
-
 /// Which kind of process runs, with its first count.
-#[derive(Clone, Copy, Debug)]
+#[derive(Clone, Copy)]
 pub(crate) enum Kind {
     Ring(u8),
     Echo(u8),
     Tally,
-}
-
-pub(crate) fn det(fields: Fields) -> Det {
-    Det {
-        source: Pid(fields.0),
-        ssn: fields.1,
-        dest: Pid(fields.2),
-        rsn: fields.3,
-    }
 }
 
 pub(crate) fn name(source: u8, ssn: u32) -> MsgName {
@@ -39,28 +28,14 @@ pub(crate) fn are(dets: &[Det], fields: &[Fields]) -> bool {
     dets.len() == fields.len() && dets.iter().zip(fields).all(|(d, it)| *d == det(*it))
 }
 
-pub(crate) fn deliver(q: u8, source: u8, ssn: u32) -> Request {
-    Request::Deliver {
-        q: Pid(q),
-        source: Pid(source),
-        ssn,
-    }
-}
-
-pub(crate) fn crash(p: u8) -> Request {
-    Request::Crash { p: Pid(p) }
-}
-
-pub(crate) fn restart(p: u8) -> Request {
-    Request::Restart { p: Pid(p) }
-}
-
-pub(crate) fn flush(p: u8) -> Request {
-    Request::Flush { p: Pid(p) }
-}
-
-pub(crate) fn forget(p: u8) -> Request {
-    Request::Forget { p: Pid(p) }
+/// A call of a core, with its numbers in their order.
+#[derive(Clone, Copy)]
+pub(crate) enum Call {
+    Deliver(u8, u8, u32),
+    Crash(u8),
+    Restart(u8),
+    Flush(u8),
+    Forget(u8),
 }
 
 /// Process `me` of n, which are taken to be enough to have it.
@@ -115,29 +90,39 @@ pub(crate) fn processes_of<S: Stable>(core: &Core<S>) -> u16 {
     core.trace().processes()
 }
 
-pub(crate) fn restarted<S: Stable>(core: &mut Core<S>, p: Pid, spare: Boxed) -> Reply {
-    match core.restart(p, spare) {
+pub(crate) fn restarted<S: Stable>(core: &mut Core<S>, p: u8, spare: Boxed) -> Reply {
+    match core.restart(Pid(p), spare) {
         Ok(restarted) => Reply::Restarted(restarted),
         Err(refused) => Reply::Refused(refused.fault),
     }
 }
 
-/// Makes one call, a restart with a new process of that kind as the spare, and tells the answer.
+/// A restart of p with a new process of that kind as the spare.
+fn restarted_by<S: Stable>(
+    alloc: Global,
+    core: &mut Core<S>,
+    kind: Kind,
+    p: u8,
+) -> Result<Reply, NoMemory> {
+    let spare = process(alloc, kind, processes_of(core), p)?;
+    Ok(restarted(core, p, spare))
+}
+
+/// Makes one call, and tells the answer.
 pub(crate) fn asked<S: Stable>(
     alloc: Global,
     core: &mut Core<S>,
     kind: Kind,
-    request: Request,
+    call: Call,
 ) -> Result<Reply, NoMemory> {
-    Ok(match request {
-        Request::Deliver { q, source, ssn } => Reply::of_delivery(core.deliver(q, source, ssn)),
-        Request::Crash { p } => Reply::of_crash(core.crash(p)),
-        Request::Restart { p } => {
-            let spare = process(alloc, kind, processes_of(core), p.0)?;
-            restarted(core, p, spare)
+    Ok(match call {
+        Call::Deliver(q, source, ssn) => {
+            Reply::of_delivery(core.deliver(Pid(q), Pid(source), ssn))
         }
-        Request::Flush { p } => Reply::of_flush(core.flush(p)),
-        Request::Forget { p } => Reply::of_forget(core.forget(p)),
+        Call::Crash(p) => Reply::of_crash(core.crash(Pid(p))),
+        Call::Restart(p) => restarted_by(alloc, core, kind, p)?,
+        Call::Flush(p) => Reply::of_flush(core.flush(Pid(p))),
+        Call::Forget(p) => Reply::of_forget(core.forget(Pid(p))),
     })
 }
 
@@ -155,10 +140,10 @@ pub(crate) fn run<S: Stable>(
     alloc: Global,
     core: &mut Core<S>,
     kind: Kind,
-    requests: &[Request],
+    calls: &[Call],
 ) -> Result<Option<(usize, CoreFault)>, NoMemory> {
-    for (k, request) in requests.iter().enumerate() {
-        if let Some(fault) = fault_of(asked(alloc, core, kind, *request)?) {
+    for (k, call) in calls.iter().enumerate() {
+        if let Some(fault) = fault_of(asked(alloc, core, kind, *call)?) {
             return Ok(Some((k, fault)));
         }
     }

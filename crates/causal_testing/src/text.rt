@@ -1,8 +1,12 @@
 //! Texts whose reading was worked out by hand.
+use crate::entries;
+use causal_trace::fault::TraceFault;
+use causal_trace::trace::Trace;
+use std::alloc::Global;
+use std::test::Fail;
+
 mod streams;
 mod texts;
-
-use causal_name::{Det, Pid};
 
 pub(crate) const RING: &str = r#"["trace",1,3]
 ["send",0,1,0]
@@ -14,11 +18,12 @@ pub(crate) const RING: &str = r#"["trace",1,3]
 ["end",6]
 "#;
 
-fn det(source: u8, ssn: u32, dest: u8, rsn: u32) -> Det {
-    Det {
-        source: Pid(source),
-        ssn,
-        dest: Pid(dest),
-        rsn,
-    }
+/// The trace that it spells, pushed entry by entry.
+fn ring(alloc: Global) -> Result<Trace, TraceFault> {
+    entries::traced(alloc, 3, &entries::RING)
+}
+
+fn is_the_ring(alloc: Global, trace: &Trace) -> Result<bool, Fail> {
+    let pushed = ring(alloc)?;
+    Ok(*trace == pushed)
 }

@@ -1,149 +1,69 @@
-use causal_name::{Det, MsgName, Pid};
-use causal_trace::entry::{Dets, Entry};
+//! Traces pushed by hand.
+use crate::entries::{Line, RING, det, push, push_all, traced};
+use causal_name::{MsgName, Pid};
+use causal_trace::entry::Entry;
 use causal_trace::fault::TraceFault;
 use causal_trace::trace::Trace;
 use std::alloc::Global;
 
-type Fields = (u8, u32, u8, u32);
-
-fn det(fields: Fields) -> Det {
-    Det {
-        source: Pid(fields.0),
-        ssn: fields.1,
-        dest: Pid(fields.2),
-        rsn: fields.3,
-    }
-}
-
-fn dets(alloc: Global, list: &[Fields]) -> Result<Dets, TraceFault> {
-    let mut listed = Vec::new(alloc);
-    for fields in list {
-        if listed.push(det(*fields)).is_err() {
-            return Err(TraceFault::NoMemory);
-        }
-    }
-    Ok(Dets::new(listed))
-}
-
-fn send(from: u8, to: u8, ssn: u32) -> Entry {
-    Entry::Send {
-        from: Pid(from),
-        to: Pid(to),
-        ssn,
-    }
-}
-
-fn deliver(
-    alloc: Global,
-    to: u8,
-    send: u32,
-    rsn: u32,
-    list: &[Fields],
-) -> Result<Entry, TraceFault> {
-    Ok(Entry::Deliver {
-        to: Pid(to),
-        send,
-        rsn,
-        listed: dets(alloc, list)?,
-    })
-}
-
-fn restart(alloc: Global, who: u8, list: &[Fields]) -> Result<Entry, TraceFault> {
-    Ok(Entry::Restart {
-        who: Pid(who),
-        listed: dets(alloc, list)?,
-    })
-}
-
-fn forget(alloc: Global, who: u8, list: &[Fields]) -> Result<Entry, TraceFault> {
-    Ok(Entry::Forget {
-        who: Pid(who),
-        listed: dets(alloc, list)?,
-    })
-}
-
-fn crash(who: u8) -> Entry {
-    Entry::Crash { who: Pid(who) }
-}
-
 /// One message from 0 to 1, delivered and logged.
-fn one_delivery(alloc: Global) -> Result<Trace, TraceFault> {
-    let mut trace = Trace::new(alloc, 2)?;
-    trace.push(send(0, 1, 0))?;
-    trace.push(deliver(alloc, 1, 0, 0, &[(0, 0, 1, 0)])?)?;
-    Ok(trace)
-}
+const ONE_DELIVERY: [Line<'static>; 2] = [
+    Line::Send(0, 1, 0),
+    Line::Deliver(1, 0, 0, &[(0, 0, 1, 0)]),
+];
 
-/// A message that goes round three processes: six entries.
-pub(crate) fn ring(alloc: Global) -> Result<Trace, TraceFault> {
-    let mut trace = Trace::new(alloc, 3)?;
-    trace.push(send(0, 1, 0))?;
-    trace.push(deliver(alloc, 1, 0, 0, &[(0, 0, 1, 0)])?)?;
-    trace.push(send(1, 2, 0))?;
-    trace.push(deliver(alloc, 2, 2, 0, &[(0, 0, 1, 0), (1, 0, 2, 0)])?)?;
-    trace.push(send(2, 0, 0))?;
-    trace.push(deliver(alloc, 0, 4, 0, &[(1, 0, 2, 0), (2, 0, 0, 0)])?)?;
-    Ok(trace)
-}
-
+/// Whether a trace shows that a message went round.
 fn shows_the_ring(trace: &Trace) -> bool {
-    let counts = trace.len() == 6 && trace.processes() == 3 && trace.listed() == 5;
-    let deliveries = trace.deliveries() == 3
+    (trace.len(), trace.processes(), trace.listed()) == (6, 3, 5)
+        && trace.deliveries() == 3
         && trace.det_at(3) == Some(det((1, 0, 2, 0)))
         && trace.det_at(4).is_none()
-        && trace.det_at(6).is_none();
-    let entries = trace.entries().len() == 6
-        && trace.entry(4) == Some(&send(2, 0, 0))
-        && trace.entry(6).is_none();
-    counts && deliveries && entries
+        && trace.det_at(6).is_none()
+        && trace.entries().len() == 6
+        && trace.entry(6).is_none()
+        && has_the_third_send(trace)
+}
+
+fn has_the_third_send(trace: &Trace) -> bool {
+    let third = Entry::Send {
+        from: Pid(2),
+        to: Pid(0),
+        ssn: 0,
+    };
+    trace.entry(4) == Some(&third)
+}
+
+fn ring_is_shown(alloc: Global) -> Result<bool, TraceFault> {
+    let trace = traced(alloc, 3, &RING)?;
+    Ok(shows_the_ring(&trace))
 }
 
 #[test]
 fn the_ring_is_read(rt: HostRuntime) {
-    let shown = ring(rt.alloc()).map(|trace| shows_the_ring(&trace));
-    assert!(rt; shown == Ok(true));
+    assert!(rt; ring_is_shown(rt.alloc()) == Ok(true));
 }
 
-fn refused(trace: &mut Trace, entry: Entry) -> Option<TraceFault> {
-    trace.push(entry).err()
-}
-
-/// A new lane numbers its deliveries anew, and may deliver what the old one did.
-fn delivered_again(alloc: Global) -> Result<bool, TraceFault> {
-    let mut trace = one_delivery(alloc)?;
-    trace.push(crash(1))?;
-    trace.push(restart(alloc, 1, &[])?)?;
-    trace.push(deliver(alloc, 1, 0, 0, &[(0, 0, 1, 0)])?)?;
+/// Whether a trace shows that 1 went down and came up again in a second lane, and that there is no process 2.
+fn is_up_again(trace: &Trace) -> bool {
     if trace.len() != 5 {
-        return Ok(false);
+        return false;
     }
     let up = trace.up(2, Pid(1)) && !trace.up(3, Pid(1)) && trace.up(4, Pid(1));
     let none = !trace.up(0, Pid(2)) && trace.lane(5, Pid(2)).is_none();
     let lanes = trace.lane(3, Pid(1)) == Some(0) && trace.lane(4, Pid(1)) == Some(1);
-    Ok(up && none && lanes && trace.deliveries() == 2)
+    up && none && lanes && trace.deliveries() == 2
 }
 
-/// Whether each of two processes, and one that is not there, has delivered the first message of process 0.
-fn have_delivered(trace: &Trace) -> [bool; 3] {
-    let message = MsgName {
-        source: Pid(0),
-        ssn: 0,
-    };
-    [0, 1, 2].map(|p| trace.has_delivered(Pid(p), message))
-}
-
-/// A restart opens a lane that has delivered nothing; a crash does not.
-fn delivered_by_lane(alloc: Global) -> Result<bool, TraceFault> {
-    let mut trace = one_delivery(alloc)?;
-    trace.push(crash(1))?;
-    let before = have_delivered(&trace) == [false, true, false];
-    trace.push(restart(alloc, 1, &[])?)?;
-    Ok(before && have_delivered(&trace) == [false; 3])
-}
-
-#[test]
-fn a_new_lane_has_delivered_nothing(rt: HostRuntime) {
-    assert!(rt; delivered_by_lane(rt.alloc()) == Ok(true));
+/// A new lane numbers its deliveries anew, and may deliver what the old one did.
+fn delivered_again(alloc: Global) -> Result<bool, TraceFault> {
+    let mut trace = traced(alloc, 2, &ONE_DELIVERY)?;
+    let again = [
+        Line::Crash(1),
+        Line::Restart(1, &[]),
+        Line::Deliver(1, 0, 0, &[(0, 0, 1, 0)]),
+    ];
+    push_all(alloc, &mut trace, &again)?;
+    Ok(is_up_again(&trace))
 }
 
 #[test]
@@ -151,15 +71,46 @@ fn a_new_lane_delivers_again(rt: HostRuntime) {
     assert!(rt; delivered_again(rt.alloc()) == Ok(true));
 }
 
+/// Which of two processes, and of one that is not there, have delivered the first message of process 0.
+fn have_delivered(trace: &Trace) -> (bool, bool, bool) {
+    let message = MsgName {
+        source: Pid(0),
+        ssn: 0,
+    };
+    (
+        trace.has_delivered(Pid(0), message),
+        trace.has_delivered(Pid(1), message),
+        trace.has_delivered(Pid(2), message),
+    )
+}
+
+/// A restart opens a lane that has delivered nothing; a crash does not.
+fn delivered_by_lane(alloc: Global) -> Result<bool, TraceFault> {
+    let mut trace = traced(alloc, 2, &ONE_DELIVERY)?;
+    push(alloc, &mut trace, Line::Crash(1))?;
+    let before = have_delivered(&trace);
+    push(alloc, &mut trace, Line::Restart(1, &[]))?;
+    Ok(before == (false, true, false) && have_delivered(&trace) == (false, false, false))
+}
+
+#[test]
+fn a_new_lane_has_delivered_nothing(rt: HostRuntime) {
+    assert!(rt; delivered_by_lane(rt.alloc()) == Ok(true));
+}
+
+/// Restarts process 0 so often, and crashes it once more.
+fn restart_often(alloc: Global, trace: &mut Trace, times: u32) -> Result<(), TraceFault> {
+    for _ in 0..times {
+        push_all(alloc, trace, &[Line::Crash(0), Line::Restart(0, &[])])?;
+    }
+    push(alloc, trace, Line::Crash(0))
+}
+
 /// After 192 restarts there is no further lane.
 fn restarted(alloc: Global) -> Result<bool, TraceFault> {
     let mut trace = Trace::new(alloc, 1)?;
-    for _ in 0..192 {
-        trace.push(crash(0))?;
-        trace.push(restart(alloc, 0, &[])?)?;
-    }
-    trace.push(crash(0))?;
-    Ok(refused(&mut trace, restart(alloc, 0, &[])?) == Some(TraceFault::Lanes))
+    restart_often(alloc, &mut trace, 192)?;
+    Ok(push(alloc, &mut trace, Line::Restart(0, &[])) == Err(TraceFault::Lanes))
 }
 
 #[test]
@@ -167,19 +118,32 @@ fn lanes_run_out(rt: HostRuntime) {
     assert!(rt; restarted(rt.alloc()) == Ok(true));
 }
 
-/// A copy is equal, until the trace grows; reserved pushes succeed.
-fn copied(alloc: Global) -> Result<bool, TraceFault> {
-    let mut trace = ring(alloc)?;
-    let Ok(copy) = trace.try_clone() else {
-        return Err(TraceFault::NoMemory);
-    };
-    let same = copy == trace;
+/// Reserves room for two entries and pushes them.
+fn grow(alloc: Global, trace: &mut Trace) -> Result<(), TraceFault> {
     if trace.reserve(2).is_err() {
         return Err(TraceFault::NoMemory);
     }
-    trace.push(forget(alloc, 0, &[(1, 0, 2, 0)])?)?;
-    trace.push(crash(0))?;
-    Ok(same && copy != trace && trace.len() == 8)
+    push_all(
+        alloc,
+        trace,
+        &[Line::Forget(0, &[(1, 0, 2, 0)]), Line::Crash(0)],
+    )
+}
+
+/// Whether a copy is equal until the trace grows.
+fn is_a_copy(alloc: Global, trace: &mut Trace, copy: &Trace) -> Result<bool, TraceFault> {
+    let same = *copy == *trace;
+    grow(alloc, trace)?;
+    Ok(same && *copy != *trace && trace.len() == 8)
+}
+
+/// A copy is equal, until the trace grows; reserved pushes succeed.
+fn copied(alloc: Global) -> Result<bool, TraceFault> {
+    let mut trace = traced(alloc, 3, &RING)?;
+    match trace.try_clone() {
+        Ok(copy) => is_a_copy(alloc, &mut trace, &copy),
+        Err(_) => Err(TraceFault::NoMemory),
+    }
 }
 
 #[test]
@@ -187,10 +151,15 @@ fn copies_are_equal(rt: HostRuntime) {
     assert!(rt; copied(rt.alloc()) == Ok(true));
 }
 
+/// Why a trace of n processes does not begin.
+fn refusal(alloc: Global, n: u16) -> Option<TraceFault> {
+    Trace::new(alloc, n).err()
+}
+
 #[test]
 fn processes_are_limited(rt: HostRuntime) {
-    assert!(rt; Trace::new(rt.alloc(), 0).err() == Some(TraceFault::Processes));
-    assert!(rt; Trace::new(rt.alloc(), 257).err() == Some(TraceFault::Processes));
-    assert!(rt; Trace::new(rt.alloc(), 1).is_ok());
-    assert!(rt; Trace::new(rt.alloc(), 256).is_ok());
+    let a = rt.alloc();
+    let refused = Some(TraceFault::Processes);
+    assert!(rt; refusal(a, 0) == refused && refusal(a, 257) == refused);
+    assert!(rt; refusal(a, 1).is_none() && refusal(a, 256).is_none());
 }

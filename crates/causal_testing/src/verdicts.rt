@@ -1,7 +1,9 @@
 //! Cores of the kinds of process that come with the runtime, audited after crashes, flushes and forgetting.
+use crate::cores::scripts::{SCRIPTS, Script};
+use crate::entries::RING;
 use crate::runtime::*;
 use causal_audit::{Tables, Verdict, judge};
-use causal_core::{Core, Request};
+use causal_core::Core;
 use causal_holders::Holders;
 use causal_log::MemStable;
 use causal_name::{NoMemory, Pid};
@@ -9,89 +11,23 @@ use causal_verdict::audited;
 use std::alloc::Global;
 use std::test::Fail;
 
-/// Three processes after calls of which none was refused.
-fn after(
-    alloc: Global,
-    kind: Kind,
-    f: u16,
-    requests: &[Request],
-) -> Result<Option<Core<MemStable>>, NoMemory> {
-    let Ok(mut core) = begun(alloc, kind, 3, f, MemStable::new(alloc)) else {
-        return Ok(None);
-    };
-    match run(alloc, &mut core, kind, requests)? {
-        None => Ok(Some(core)),
-        Some(_) => Ok(None),
-    }
-}
-
-/// How many entries are recorded, and for how many failures.
-fn extent(core: &Core<MemStable>) -> (u32, u16) {
-    (core.trace().len(), core.faults())
-}
-
 fn is_accepted(alloc: Global, core: &Core<MemStable>) -> Result<bool, NoMemory> {
     Ok(audited(alloc, core)? == Verdict::Accept)
 }
 
+/// Whether a script's entries are recorded for its number of failures, and what is recorded is accepted.
+fn is_played(alloc: Global, script: &Script<'_>) -> Result<bool, NoMemory> {
+    let Some(core) = script.played(alloc)? else {
+        return Ok(false);
+    };
+    let extent = (recorded(&core) as usize, core.faults());
+    Ok(extent == (script.lines.len(), script.f) && is_accepted(alloc, &core)?)
+}
+
 #[test]
 fn scripts_are_accepted(rt: HostRuntime) -> Result<(), Fail> {
-    let round = [
-        deliver(1, 0, 0),
-        deliver(2, 1, 0),
-        deliver(0, 2, 0),
-        crash(1),
-        restart(1),
-        deliver(1, 0, 0),
-    ];
-    let two_down = [
-        deliver(1, 0, 0),
-        deliver(2, 1, 0),
-        deliver(0, 2, 0),
-        crash(0),
-        crash(1),
-        restart(0),
-        restart(1),
-        deliver(1, 0, 0),
-        deliver(0, 2, 0),
-    ];
-    let replayed = [
-        deliver(0, 2, 0),
-        deliver(2, 0, 0),
-        crash(0),
-        restart(0),
-        deliver(0, 2, 0),
-    ];
-    let flushed = [
-        deliver(0, 2, 0),
-        deliver(2, 0, 0),
-        flush(2),
-        flush(2),
-        flush(0),
-    ];
-    let forgotten = [
-        deliver(0, 2, 0),
-        deliver(2, 0, 0),
-        flush(0),
-        forget(0),
-        crash(0),
-        restart(0),
-        forget(0),
-        deliver(0, 2, 0),
-    ];
-    for (kind, f, requests, entries) in [
-        (Kind::Ring(2), 1, round.as_slice(), 10),
-        (Kind::Ring(2), 2, two_down.as_slice(), 14),
-        (Kind::Tally, 1, replayed.as_slice(), 9),
-        (Kind::Tally, 1, flushed.as_slice(), 8),
-        (Kind::Tally, 1, forgotten.as_slice(), 12),
-    ] {
-        let Some(core) = after(rt.alloc(), kind, f, requests)? else {
-            assert!(rt; false, "{kind:?} {entries}");
-            return Ok(());
-        };
-        assert_eq!(rt; extent(&core), (entries, f));
-        assert!(rt; is_accepted(rt.alloc(), &core)?, "{kind:?} {entries}");
+    for (k, script) in SCRIPTS.iter().enumerate() {
+        assert!(rt; is_played(rt.alloc(), script)?, "script {k}");
     }
     Ok(())
 }
@@ -102,25 +38,42 @@ fn verdict_for(alloc: Global, core: &Core<MemStable>, f: u16) -> Result<Verdict,
     Ok(judge(&tables, f))
 }
 
+/// A message goes round.
+const ROUND: Script<'static> = Script {
+    kind: Kind::Ring(2),
+    f: 1,
+    calls: &[
+        Call::Deliver(1, 0, 0),
+        Call::Deliver(2, 1, 0),
+        Call::Deliver(0, 2, 0),
+    ],
+    lines: &RING,
+};
+
+/// Whether a core is accepted, and what the auditor says of it where two may fail.
+fn said_of_two(alloc: Global, core: &Core<MemStable>) -> Result<(bool, Verdict), NoMemory> {
+    Ok((is_accepted(alloc, core)?, verdict_for(alloc, core, 2)?))
+}
+
+fn those(processes: &[u8]) -> Holders {
+    let mut set = Holders::none();
+    for process in processes {
+        set.insert(*process);
+    }
+    set
+}
+
 // 1 and 2 alone know what 1 delivered, so the crash of both leaves 0, which has heard of it, an orphan.
 #[test]
 fn more_failures_than_the_core_runs_for(rt: HostRuntime) -> Result<(), Fail> {
-    let round = [deliver(1, 0, 0), deliver(2, 1, 0), deliver(0, 2, 0)];
-    let Some(core) = after(rt.alloc(), Kind::Ring(2), 1, &round)? else {
-        assert!(rt; false);
-        return Ok(());
-    };
-    assert!(rt; is_accepted(rt.alloc(), &core)?);
-    let mut crash = Holders::none();
-    crash.insert(1);
-    crash.insert(2);
+    let core = ROUND.played(rt.alloc())?.ok_or("refused")?;
     let orphan = Verdict::Orphan {
         instant: 6,
         delivery: 1,
-        crash,
+        crash: those(&[1, 2]),
         orphan: 0,
     };
-    assert_eq!(rt; verdict_for(rt.alloc(), &core, 2)?, orphan);
+    assert_eq!(rt; said_of_two(rt.alloc(), &core)?, (true, orphan));
     Ok(())
 }
 
@@ -136,16 +89,20 @@ fn deliver_first(core: &mut Core<MemStable>, q: u8) -> bool {
     }
 }
 
+/// Makes eight deliveries to two processes in turn: how many were made and accepted.
+fn echoed(alloc: Global, core: &mut Core<MemStable>) -> Result<u32, NoMemory> {
+    let mut made = 0_u32;
+    for turn in 0..8_u8 {
+        let delivered = deliver_first(core, turn % 2);
+        made = made.saturating_add(u32::from(delivered && is_accepted(alloc, core)?));
+    }
+    Ok(made)
+}
+
 #[test]
 fn echoes_are_accepted(rt: HostRuntime) -> Result<(), Fail> {
-    let Ok(mut core) = begun(rt.alloc(), Kind::Echo(3), 2, 1, MemStable::new(rt.alloc())) else {
-        assert!(rt; false);
-        return Ok(());
-    };
-    for turn in 0..8 {
-        assert!(rt; deliver_first(&mut core, turn % 2), "{turn}");
-        assert!(rt; is_accepted(rt.alloc(), &core)?, "{turn}");
-    }
-    assert_eq!(rt; extent(&core), (16, 1));
+    let mut core = begun(rt.alloc(), Kind::Echo(3), 2, 1, MemStable::new(rt.alloc()))?;
+    assert_eq!(rt; echoed(rt.alloc(), &mut core)?, 8);
+    assert_eq!(rt; (recorded(&core), core.faults()), (16, 1));
     Ok(())
 }

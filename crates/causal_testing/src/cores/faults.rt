@@ -6,14 +6,11 @@ use std::test::Fail;
 
 /// Process `me` of a ring of three, whose memory is refused once, after so many steps.
 fn refusing(alloc: Global, me: u8, before_refusal: Option<u64>) -> Result<Boxed, NoMemory> {
-    let inner = Ring::new(3, me.min(2), 2);
-    let boxed: Boxed = Box::new(
-        alloc,
-        Refusing {
-            inner,
-            before_refusal,
-        },
-    )?;
+    let process = Refusing {
+        inner: Ring::new(3, me.min(2), 2),
+        before_refusal,
+    };
+    let boxed: Boxed = Box::new(alloc, process)?;
     Ok(boxed)
 }
 
@@ -26,28 +23,42 @@ fn refusing_ring(alloc: Global, steps: u64) -> Result<Vec<Boxed>, NoMemory> {
     Ok(boxes)
 }
 
-/// Why a tally of n does not begin, over a store with a member or with none.
-fn refusal(alloc: Global, n: u8, member: Option<Fields>) -> Result<Option<StartFault>, NoMemory> {
+/// A store with a member or with none.
+fn store_of(alloc: Global, member: Option<Fields>) -> Result<MemStable, NoMemory> {
     let mut store = MemStable::new(alloc);
-    if let Some(fields) = member {
-        if store.put(det(fields)).is_err() {
-            return Err(NoMemory);
-        }
+    let Some(fields) = member else {
+        return Ok(store);
+    };
+    match store.put(det(fields)) {
+        Ok(()) => Ok(store),
+        Err(_) => Err(NoMemory),
     }
+}
+
+/// Why a tally of n does not begin, over such a store.
+fn refusal(alloc: Global, n: u8, member: Option<Fields>) -> Result<Option<StartFault>, NoMemory> {
+    let store = store_of(alloc, member)?;
     Ok(begun(alloc, Kind::Tally, n, 1, store).err())
 }
 
+/// How many processes there are, a member of the store, and why they do not begin.
+const BEGINNINGS: [(u8, Option<Fields>, Option<StartFault>); 4] = [
+    (0, None, Some(StartFault::Processes)),
+    (0, Some((0, 0, 0, 0)), Some(StartFault::Processes)),
+    (3, Some((0, 0, 0, 0)), Some(StartFault::StoreNotEmpty)),
+    (3, None, None),
+];
+
 #[test]
 fn refused_beginnings(rt: HostRuntime) -> Result<(), Fail> {
-    let member = Some((0, 0, 0, 0));
-    for (n, member, fault) in [
-        (0, None, Some(StartFault::Processes)),
-        (0, member, Some(StartFault::Processes)),
-        (3, member, Some(StartFault::StoreNotEmpty)),
-        (3, None, None),
-    ] {
-        assert_eq!(rt; refusal(rt.alloc(), n, member)?, fault);
+    for (n, member, fault) in &BEGINNINGS {
+        assert_eq!(rt; refusal(rt.alloc(), *n, *member)?, *fault);
     }
+    Ok(())
+}
+
+#[test]
+fn a_beginning_without_memory(rt: HostRuntime) -> Result<(), Fail> {
     let boxes = refusing_ring(rt.alloc(), 0)?;
     let refused = started(rt.alloc(), 1, boxes, MemStable::new(rt.alloc())).err();
     assert_eq!(rt; refused, Some(StartFault::NoMemory));
@@ -59,27 +70,27 @@ fn a_delivery_without_memory_is_made_again(rt: HostRuntime) -> Result<(), Fail> 
     let boxes = refusing_ring(rt.alloc(), 1)?;
     let mut core = started(rt.alloc(), 1, boxes, MemStable::new(rt.alloc()))?;
     let calls = [
-        (deliver(1, 0, 0), Reply::Refused(CoreFault::NoMemory)),
-        (deliver(1, 0, 0), delivered(1, (0, 0, 1, 0), 1)),
+        (Call::Deliver(1, 0, 0), Reply::Refused(CoreFault::NoMemory)),
+        (Call::Deliver(1, 0, 0), delivered(1, (0, 0, 1, 0), 1)),
     ];
-    let unlike = first_unlike(rt.alloc(), &mut core, Kind::Ring(2), &calls)?;
-    assert_eq!(rt; unlike, None);
+    assert!(rt; are_answered(rt.alloc(), &mut core, Kind::Ring(2), &calls)?);
     assert_eq!(rt; recorded(&core), 3);
     Ok(())
+}
+
+/// Whether a spare that is refused memory as process 0 restarts by it comes back, and then serves.
+fn comes_back(alloc: Global, core: &mut Core<MemStable>) -> Result<bool, NoMemory> {
+    let spare = refusing(alloc, 0, Some(0))?;
+    let refused = Reply::Refused(CoreFault::NoMemory);
+    Ok(restarted_after(core, 0, 0, spare) == (refused, Some(restarted_at(2, 0, 1))))
 }
 
 #[test]
 fn a_spare_without_memory_comes_back(rt: HostRuntime) -> Result<(), Fail> {
     let store = MemStable::new(rt.alloc());
     let mut core = begun(rt.alloc(), Kind::Ring(2), 3, 1, store)?;
-    assert_eq!(rt;
-        run(rt.alloc(), &mut core, Kind::Ring(2), &[crash(0)])?,
-        None
-    );
-    let spare = refusing(rt.alloc(), 0, Some(0))?;
-    let told = restarted_after(&mut core, 0, 0, spare);
-    let refused = Reply::Refused(CoreFault::NoMemory);
-    assert_eq!(rt; told, (refused, Some(restarted_at(2, 0, 1))));
+    assert!(rt; run(rt.alloc(), &mut core, Kind::Ring(2), &[Call::Crash(0)])?.is_none());
+    assert!(rt; comes_back(rt.alloc(), &mut core)?);
     assert_eq!(rt; recorded(&core), 4);
     Ok(())
 }
@@ -89,37 +100,39 @@ fn a_flush_that_stops_is_made_again(rt: HostRuntime) -> Result<(), Fail> {
     let store = FailingStore::new(rt.alloc(), 1);
     let mut core = begun(rt.alloc(), Kind::Tally, 3, 1, store)?;
     let calls = [
-        (deliver(0, 2, 0), delivered(2, (2, 0, 0, 0), 1)),
-        (deliver(2, 0, 0), delivered(4, (0, 0, 2, 0), 0)),
-        (flush(2), flush_stopped(CoreFault::StoreFault, 1)),
-        (forget(2), Reply::Forgotten { count: 1 }),
-        (flush(2), Reply::Flushed { count: 1 }),
-        (flush(2), Reply::Flushed { count: 0 }),
-        (forget(2), Reply::Forgotten { count: 1 }),
-        (forget(2), Reply::Forgotten { count: 0 }),
+        (Call::Deliver(0, 2, 0), delivered(2, (2, 0, 0, 0), 1)),
+        (Call::Deliver(2, 0, 0), delivered(4, (0, 0, 2, 0), 0)),
+        (Call::Flush(2), flush_stopped(CoreFault::StoreFault, 1)),
+        (Call::Forget(2), Reply::Forgotten { count: 1 }),
+        (Call::Flush(2), Reply::Flushed { count: 1 }),
+        (Call::Flush(2), Reply::Flushed { count: 0 }),
+        (Call::Forget(2), Reply::Forgotten { count: 1 }),
+        (Call::Forget(2), Reply::Forgotten { count: 0 }),
     ];
-    let unlike = first_unlike(rt.alloc(), &mut core, Kind::Tally, &calls)?;
-    assert_eq!(rt; unlike, None);
+    assert!(rt; are_answered(rt.alloc(), &mut core, Kind::Tally, &calls)?);
     assert_eq!(rt; recorded(&core), 9);
     Ok(())
+}
+
+/// A store without faults, which can count no further one.
+fn weary(alloc: Global) -> FailingStore {
+    FailingStore {
+        store: MemStable::new(alloc),
+        before_fault: None,
+        failures: u64::MAX,
+    }
 }
 
 // With nothing to write the store is not asked.
 #[test]
 fn a_store_that_counts_no_more_faults(rt: HostRuntime) -> Result<(), Fail> {
-    let store = FailingStore {
-        store: MemStable::new(rt.alloc()),
-        before_fault: None,
-        failures: u64::MAX,
-    };
-    let mut core = begun(rt.alloc(), Kind::Tally, 3, 1, store)?;
+    let mut core = begun(rt.alloc(), Kind::Tally, 3, 1, weary(rt.alloc()))?;
     let calls = [
-        (flush(0), Reply::Flushed { count: 0 }),
-        (deliver(0, 2, 0), delivered(2, (2, 0, 0, 0), 1)),
-        (flush(0), flush_stopped(CoreFault::StoreFault, 0)),
+        (Call::Flush(0), Reply::Flushed { count: 0 }),
+        (Call::Deliver(0, 2, 0), delivered(2, (2, 0, 0, 0), 1)),
+        (Call::Flush(0), flush_stopped(CoreFault::StoreFault, 0)),
     ];
-    let unlike = first_unlike(rt.alloc(), &mut core, Kind::Tally, &calls)?;
-    assert_eq!(rt; unlike, None);
+    assert!(rt; are_answered(rt.alloc(), &mut core, Kind::Tally, &calls)?);
     assert_eq!(rt; recorded(&core), 4);
     Ok(())
 }

@@ -8,8 +8,8 @@ use causal_verdict::audited;
 use std::test::Fail;
 
 /// A process of n, or now and then none of it.
-fn any(walk: &mut Numbers, n: u8) -> Pid {
-    Pid(walk.below(u32::from(n).saturating_add(1)) as u8)
+fn any(walk: &mut Numbers, n: u8) -> u8 {
+    walk.below(u32::from(n).saturating_add(1)) as u8
 }
 
 fn first_pending(core: &Core<MemStable>, q: u8) -> Option<MsgName> {
@@ -28,69 +28,71 @@ fn next(core: &Core<MemStable>, q: u8) -> Option<MsgName> {
 }
 
 /// A delivery that is likely to be made: that of the first process from `from` on which has one.
-fn likely(core: &Core<MemStable>, from: u8, n: u8) -> Option<Request> {
+fn likely(core: &Core<MemStable>, from: u8, n: u8) -> Option<Call> {
     for q in (from..n).chain(0..from) {
         if let Some(name) = next(core, q) {
-            return Some(deliver(q, name.source.0, name.ssn));
+            return Some(Call::Deliver(q, name.source.0, name.ssn));
         }
     }
     None
 }
 
 /// A process that is down, or any where none is.
-fn down_or_any(walk: &mut Numbers, core: &Core<MemStable>, n: u8) -> Pid {
+fn down_or_any(walk: &mut Numbers, core: &Core<MemStable>, n: u8) -> u8 {
     match core.down().least() {
-        Some(p) => Pid(p),
+        Some(p) => p,
         None => any(walk, n),
     }
 }
 
-/// A request of any kind.
-fn request(walk: &mut Numbers, core: &Core<MemStable>, n: u8) -> Request {
+/// A call of any kind.
+fn some_call(walk: &mut Numbers, core: &Core<MemStable>, n: u8) -> Call {
     let p = any(walk, n);
     match walk.below(32) {
-        0..=2 => Request::Crash { p },
-        3..=5 => Request::Restart {
-            p: down_or_any(walk, core, n),
-        },
-        6 | 7 => Request::Flush { p },
-        8 | 9 => Request::Forget { p },
-        10..=15 => deliver(p.0, any(walk, n).0, walk.below(64)),
-        _ => likely(core, p.0, n).unwrap_or(Request::Crash { p }),
+        0..=2 => Call::Crash(p),
+        3..=5 => Call::Restart(down_or_any(walk, core, n)),
+        6 | 7 => Call::Flush(p),
+        8 | 9 => Call::Forget(p),
+        10..=15 => Call::Deliver(p, any(walk, n), walk.below(64)),
+        _ => likely(core, p, n).unwrap_or(Call::Crash(p)),
     }
 }
 
 /// How many calls were refused, and how many deliveries a replay made.
-#[derive(Clone, Copy, Debug)]
+#[derive(Clone, Copy)]
 struct Counts {
     refused: u32,
     replayed: u32,
 }
 
+/// Now and then a replay: how many deliveries it makes.
+fn some_replay(walk: &mut Numbers, core: &mut Core<MemStable>, n: u8) -> u32 {
+    if walk.below(16) > 0 {
+        return 0;
+    }
+    let p = any(walk, n);
+    replayed(core, p, walk.below(3)).unwrap_or(0)
+}
+
 /// Makes random calls, and every few of them a replay.
 fn walked(
     alloc: Global,
-    walk: &mut Numbers,
     core: &mut Core<MemStable>,
     kind: Kind,
     n: u8,
     calls: u32,
 ) -> Result<Counts, NoMemory> {
+    let mut walk = Numbers { state: 2_026 };
     let mut counts = Counts {
         refused: 0,
         replayed: 0,
     };
     for _ in 0..calls {
-        let request = request(walk, core, n);
-        if fault_of(asked(alloc, core, kind, request)?).is_some() {
-            counts.refused = counts.refused.saturating_add(1);
-        }
-        if walk.below(16) == 0 {
-            let p = any(walk, n);
-            if let Ok(count) = replayed(core, p.0, walk.below(3)) {
-                counts.replayed = counts.replayed.saturating_add(count);
-            }
-        }
+        let call = some_call(&mut walk, core, n);
+        let fault = fault_of(asked(alloc, core, kind, call)?);
+        counts.refused = counts.refused.saturating_add(u32::from(fault.is_some()));
+        let made = some_replay(&mut walk, core, n);
+        counts.replayed = counts.replayed.saturating_add(made);
     }
     Ok(counts)
 }
@@ -116,41 +118,44 @@ fn is_sound(alloc: Global, core: &Core<MemStable>) -> Result<bool, NoMemory> {
     Ok(audited(alloc, core)? == Verdict::Accept)
 }
 
-/// Makes random calls on a new core; what they came to, and whether what they recorded is sound.
-fn random_calls(
+/// Makes random calls; what they came to, and whether what they recorded is sound.
+fn outcome(
     alloc: Global,
+    core: &mut Core<MemStable>,
     kind: Kind,
     n: u8,
-    f: u16,
-    calls: u32,
-) -> Result<(Counts, bool), StartFault> {
+) -> Result<(Counts, bool), NoMemory> {
+    let counts = walked(alloc, core, kind, n, 800)?;
+    Ok((counts, is_sound(alloc, core)?))
+}
+
+/// The same of a new core.
+fn random_calls(alloc: Global, kind: Kind, n: u8, f: u16) -> Result<(Counts, bool), StartFault> {
     let mut core = begun(alloc, kind, n, f, MemStable::new(alloc))?;
-    let mut walk = Numbers { state: 2_026 };
-    let Ok(counts) = walked(alloc, &mut walk, &mut core, kind, n, calls) else {
-        return Err(StartFault::NoMemory);
-    };
-    match is_sound(alloc, &core) {
-        Ok(sound) => Ok((counts, sound)),
+    match outcome(alloc, &mut core, kind, n) {
+        Ok(found) => Ok(found),
         Err(NoMemory) => Err(StartFault::NoMemory),
     }
 }
 
+/// Whether about half of the calls were refused, and some deliveries replayed, unless no failure is allowed.
+fn is_mixed(counts: Counts, f: u16) -> bool {
+    counts.refused > 200 && (f == 0 || counts.refused < 700 && counts.replayed > 0)
+}
+
+const KINDS: [(Kind, u8); 4] = [
+    (Kind::Ring(255), 3),
+    (Kind::Ring(200), 1),
+    (Kind::Echo(255), 4),
+    (Kind::Tally, 5),
+];
+
 #[test]
 fn what_random_calls_record_is_accepted(rt: HostRuntime) -> Result<(), Fail> {
-    for (kind, n) in [
-        (Kind::Ring(255), 3),
-        (Kind::Ring(200), 1),
-        (Kind::Echo(255), 4),
-        (Kind::Tally, 5),
-    ] {
+    for (k, (kind, n)) in KINDS.iter().enumerate() {
         for f in [1, 3, 0] {
-            let (counts, sound) = random_calls(rt.alloc(), kind, n, f, 800)?;
-            assert!(rt; sound, "{kind:?} for {f}: {counts:?}");
-            assert!(rt; counts.refused > 200, "{kind:?} for {f}: {counts:?}");
-            if f > 0 {
-                assert!(rt; counts.refused < 700, "{kind:?} for {f}: {counts:?}");
-                assert!(rt; counts.replayed > 0, "{kind:?} for {f}: {counts:?}");
-            }
+            let (counts, sound) = random_calls(rt.alloc(), *kind, *n, f)?;
+            assert!(rt; sound && is_mixed(counts, f), "kind {k} for {f}");
         }
     }
     Ok(())

@@ -6,117 +6,144 @@ use std::sync::Arc;
 use std::sync::atomic::{AtomicU64, Ordering};
 use std::test::Fail;
 
+/// Process 1 of a ring of three, which counts that it is dropped.
+fn counted(alloc: Global, drops: &Arc<AtomicU64>) -> Result<Boxed, NoMemory> {
+    let process = Counted::new(Ring::new(3, 1, 2), Arc::try_clone(drops)?);
+    let boxed: Boxed = Box::new(alloc, process)?;
+    Ok(boxed)
+}
+
 /// A ring of three whose process 1 counts that it is dropped.
 fn ring(alloc: Global, drops: &Arc<AtomicU64>) -> Result<Vec<Boxed>, NoMemory> {
-    let counted = Counted::new(Ring::new(3, 1, 2), Arc::try_clone(drops)?);
     let mut boxes: Vec<Boxed> = Vec::new(alloc);
     boxes.push(process(alloc, Kind::Ring(2), 3, 0)?)?;
-    boxes.push(Box::new(alloc, counted)?)?;
+    boxes.push(counted(alloc, drops)?)?;
     boxes.push(process(alloc, Kind::Ring(2), 3, 2)?)?;
     Ok(boxes)
 }
 
-/// That ring after one round and the crash of process 1; none where a call was refused.
-fn after_a_crash(
-    alloc: Global,
-    drops: &Arc<AtomicU64>,
-) -> Result<Option<Core<MemStable>>, NoMemory> {
-    let Ok(mut core) = started(alloc, 1, ring(alloc, drops)?, MemStable::new(alloc)) else {
-        return Ok(None);
-    };
+/// Whether a ring goes one round, and its process 1 then crashes.
+fn goes_round(alloc: Global, core: &mut Core<MemStable>) -> Result<bool, NoMemory> {
     let calls = [
-        (deliver(1, 0, 0), delivered(1, (0, 0, 1, 0), 1)),
-        (deliver(2, 1, 0), delivered(3, (1, 0, 2, 0), 1)),
-        (deliver(0, 2, 0), delivered(5, (2, 0, 0, 0), 0)),
-        (crash(1), Reply::Crashed { first: 6 }),
+        (Call::Deliver(1, 0, 0), delivered(1, (0, 0, 1, 0), 1)),
+        (Call::Deliver(2, 1, 0), delivered(3, (1, 0, 2, 0), 1)),
+        (Call::Deliver(0, 2, 0), delivered(5, (2, 0, 0, 0), 0)),
+        (Call::Crash(1), Reply::Crashed { first: 6 }),
     ];
-    let unlike = first_unlike(alloc, &mut core, Kind::Ring(2), &calls)?;
-    Ok(if unlike.is_some() { None } else { Some(core) })
+    are_answered(alloc, core, Kind::Ring(2), &calls)
 }
 
-/// What is told while 1 is down, and whether its restart by a spare that was refused elsewhere is made.
-fn is_right_while_down(alloc: Global, core: &mut Core<MemStable>) -> Result<bool, NoMemory> {
-    let gathered = [(0, 0, 1, 0), (1, 0, 2, 0), (2, 0, 0, 0)];
+/// What is answered while 1 is down.
+fn answers_while_down(alloc: Global, core: &mut Core<MemStable>) -> Result<bool, NoMemory> {
     let calls = [
-        (deliver(1, 0, 0), Reply::Refused(CoreFault::Down)),
-        (crash(1), Reply::Refused(CoreFault::Down)),
-        (forget(1), Reply::Refused(CoreFault::Down)),
-        (flush(1), flush_stopped(CoreFault::Down, 0)),
-        (restart(2), Reply::Refused(CoreFault::NotDown)),
-        (crash(2), Reply::Refused(CoreFault::OverFaults)),
-        (restart(3), Reply::Refused(CoreFault::NoProcess)),
+        (Call::Deliver(1, 0, 0), Reply::Refused(CoreFault::Down)),
+        (Call::Crash(1), Reply::Refused(CoreFault::Down)),
+        (Call::Forget(1), Reply::Refused(CoreFault::Down)),
+        (Call::Flush(1), flush_stopped(CoreFault::Down, 0)),
+        (Call::Restart(2), Reply::Refused(CoreFault::NotDown)),
+        (Call::Crash(2), Reply::Refused(CoreFault::OverFaults)),
+        (Call::Restart(3), Reply::Refused(CoreFault::NoProcess)),
     ];
+    are_answered(alloc, core, Kind::Ring(2), &calls)
+}
+
+/// What is shown while 1 is down.
+fn is_shown_down(core: &mut Core<MemStable>) -> bool {
+    let gathered = [(0, 0, 1, 0), (1, 0, 2, 0), (2, 0, 0, 0)];
+    are_gathered(core, 1, &gathered) == Ok(true)
+        && are_gathered(core, 2, &[]) == Err(CoreFault::NotDown)
+        && are_pending(core, 1, &[]) == Err(CoreFault::Down)
+        && named(core, 1) == Err(CoreFault::Down)
+        && named(core, 3) == Err(CoreFault::NoProcess)
+        && replayed(core, 1, 0) == Err(CoreFault::Down)
+}
+
+/// Whether a restart by a spare that was refused elsewhere is made.
+fn is_restarted(alloc: Global, core: &mut Core<MemStable>) -> Result<bool, NoMemory> {
     let refused = Reply::Refused(CoreFault::NotDown);
     let spare = process(alloc, Kind::Ring(2), 3, 1)?;
-    Ok(
-        are_gathered(core, 1, &gathered) == Ok(true)
-            && are_gathered(core, 2, &[]) == Err(CoreFault::NotDown)
-            && are_pending(core, 1, &[]) == Err(CoreFault::Down)
-            && named(core, 1) == Err(CoreFault::Down)
-            && named(core, 3) == Err(CoreFault::NoProcess)
-            && replayed(core, 1, 0) == Err(CoreFault::Down)
-            && first_unlike(alloc, core, Kind::Ring(2), &calls)?.is_none()
-            && restarted_after(core, 2, 1, spare) == (refused, Some(restarted_at(7, 3, 0))),
+    Ok(restarted_after(core, 2, 1, spare) == (refused, Some(restarted_at(7, 3, 0))))
+}
+
+/// Whether another message than the named one is refused, once 1 is up again.
+fn must_replay(alloc: Global, core: &mut Core<MemStable>) -> Result<bool, NoMemory> {
+    let other = Reply::Refused(CoreFault::MustReplay(name(0, 0)));
+    are_answered(
+        alloc,
+        core,
+        Kind::Ring(2),
+        &[(Call::Deliver(1, 2, 0), other)],
     )
 }
 
-/// What is told once 1 is up again. The message that 1 sends anew was received before, so it is not pending.
-fn is_right_once_up(alloc: Global, core: &mut Core<MemStable>) -> Result<bool, NoMemory> {
-    let other = Reply::Refused(CoreFault::MustReplay(name(0, 0)));
-    let calls = [(deliver(1, 2, 0), other)];
+fn is_replayed(core: &mut Core<MemStable>) -> bool {
+    replayed(core, 1, 0) == Ok(0)
+        && replayed(core, 1, 10) == Ok(1)
+        && replayed(core, 1, 10) == Ok(0)
+        && named(core, 1) == Ok(None)
+}
+
+fn is_to_be_replayed(core: &Core<MemStable>) -> bool {
+    are_pending(core, 1, &[name(0, 0)]) == Ok(true) && named(core, 1) == Ok(Some(name(0, 0)))
+}
+
+/// Whether nothing is pending at 2: the message that 1 sent anew was received before.
+fn is_received(core: &Core<MemStable>) -> bool {
+    are_pending(core, 2, &[]) == Ok(true) && recorded(core) == 10
+}
+
+/// Whether all is told and answered as it has to be, from the beginning to the end of the replay.
+fn comes_back(alloc: Global, core: &mut Core<MemStable>) -> Result<bool, NoMemory> {
     Ok(
-        are_pending(core, 1, &[name(0, 0)]) == Ok(true)
-            && named(core, 1) == Ok(Some(name(0, 0)))
-            && first_unlike(alloc, core, Kind::Ring(2), &calls)?.is_none()
-            && replayed(core, 1, 0) == Ok(0)
-            && replayed(core, 1, 10) == Ok(1)
-            && replayed(core, 1, 10) == Ok(0)
-            && named(core, 1) == Ok(None)
-            && are_pending(core, 2, &[]) == Ok(true)
-            && recorded(core) == 10,
+        is_shown_down(core)
+            && answers_while_down(alloc, core)?
+            && is_restarted(alloc, core)?
+            && is_to_be_replayed(core)
+            && must_replay(alloc, core)?
+            && is_replayed(core)
+            && is_received(core),
     )
 }
 
 #[test]
 fn a_process_comes_back(rt: HostRuntime) -> Result<(), Fail> {
     let drops = Arc::new(rt.alloc(), AtomicU64::new(0))?;
-    let Some(mut core) = after_a_crash(rt.alloc(), &drops)? else {
-        assert!(rt; false);
-        return Ok(());
-    };
+    let boxes = ring(rt.alloc(), &drops)?;
+    let mut core = started(rt.alloc(), 1, boxes, MemStable::new(rt.alloc()))?;
+    assert!(rt; goes_round(rt.alloc(), &mut core)?);
     assert_eq!(rt; drops.load(Ordering::SeqCst), 1);
-    assert!(rt; is_right_while_down(rt.alloc(), &mut core)?);
-    assert!(rt; is_right_once_up(rt.alloc(), &mut core)?);
+    assert!(rt; comes_back(rt.alloc(), &mut core)?);
     assert_eq!(rt; drops.load(Ordering::SeqCst), 1);
     Ok(())
 }
 
-/// What a replay answers after two crashes of a ring of three and one restart, while the sender of what is named is down.
-fn is_right_without_the_sender(
-    alloc: Global,
-    core: &mut Core<MemStable>,
-) -> Result<bool, NoMemory> {
-    let requests = [
-        deliver(1, 0, 0),
-        deliver(2, 1, 0),
-        deliver(0, 2, 0),
-        crash(0),
-        crash(1),
-        restart(1),
-    ];
-    Ok(
-        run(alloc, core, Kind::Ring(2), &requests)?.is_none()
-            && replayed(core, 1, 10) == Err(CoreFault::NotAvailable)
-            && replayed(core, 3, 10) == Err(CoreFault::NoProcess)
-            && replayed(core, 0, 10) == Err(CoreFault::Down)
-            && recorded(core) == 9,
-    )
+/// Two crashes of a ring of three after a round, and one restart.
+const TWO_CRASHES: [Call; 6] = [
+    Call::Deliver(1, 0, 0),
+    Call::Deliver(2, 1, 0),
+    Call::Deliver(0, 2, 0),
+    Call::Crash(0),
+    Call::Crash(1),
+    Call::Restart(1),
+];
+
+/// What a replay answers after that, while the sender of what is named is down.
+fn stops(core: &mut Core<MemStable>) -> bool {
+    replayed(core, 1, 10) == Err(CoreFault::NotAvailable)
+        && replayed(core, 3, 10) == Err(CoreFault::NoProcess)
+        && replayed(core, 0, 10) == Err(CoreFault::Down)
+        && recorded(core) == 9
 }
 
 #[test]
 fn replay_stops_where_it_is_refused(rt: HostRuntime) -> Result<(), Fail> {
-    let store = MemStable::new(rt.alloc());
-    let mut core = begun(rt.alloc(), Kind::Ring(2), 3, 2, store)?;
-    assert!(rt; is_right_without_the_sender(rt.alloc(), &mut core)?);
+    let mut core = ring_for_two(rt.alloc())?;
+    assert!(rt; run(rt.alloc(), &mut core, Kind::Ring(2), &TWO_CRASHES)?.is_none());
+    assert!(rt; stops(&mut core));
     Ok(())
+}
+
+/// A ring of three that runs for two failures.
+fn ring_for_two(alloc: Global) -> Result<Core<MemStable>, StartFault> {
+    begun(alloc, Kind::Ring(2), 3, 2, MemStable::new(alloc))
 }

@@ -1,95 +1,46 @@
 //! Scripts of three processes: what they record, entry by entry, or where they are refused.
 use super::*;
+use crate::entries::{Line, traced};
 use causal_log::MemStable;
-use causal_trace::entry::Entry;
 use causal_trace::trace::Trace;
 use std::test::Fail;
 
-/// An entry of a trace, in the order of the fields of its text.
+/// Calls of three processes of a kind, which run for f failures, and the entries that are then recorded.
 #[derive(Clone, Copy)]
-enum Line<'a> {
-    Send(u8, u8, u32),
-    Deliver(u8, u32, u32, &'a [Fields]),
-    Stable(Fields),
-    Crash(u8),
-    Restart(u8, &'a [Fields]),
-    Forget(u8, &'a [Fields]),
+pub(crate) struct Script<'a> {
+    pub kind: Kind,
+    pub f: u16,
+    pub calls: &'a [Call],
+    pub lines: &'a [Line<'a>],
 }
 
-fn is_line(entry: &Entry, line: &Line) -> bool {
-    match (entry, line) {
-        (Entry::Send { from, to, ssn }, Line::Send(p, q, s)) => {
-            from.0 == *p && to.0 == *q && ssn == s
+impl Script<'_> {
+    /// The core after the calls, if none of them was refused.
+    pub(crate) fn played(&self, alloc: Global) -> Result<Option<Core<MemStable>>, NoMemory> {
+        let Ok(mut core) = begun(alloc, self.kind, 3, self.f, MemStable::new(alloc)) else {
+            return Ok(None);
+        };
+        match run(alloc, &mut core, self.kind, self.calls)? {
+            None => Ok(Some(core)),
+            Some(_) => Ok(None),
         }
-        (
-            Entry::Deliver {
-                to,
-                send,
-                rsn,
-                listed,
-            },
-            Line::Deliver(q, k, r, fields),
-        ) => { to.0 == *q && send == k && rsn == r && are(listed.as_slice(), fields) }
-        (Entry::Stable { det: stable }, Line::Stable(fields)) => *stable == det(*fields),
-        (Entry::Crash { who }, Line::Crash(p)) => who.0 == *p,
-        (Entry::Restart { who, listed }, Line::Restart(p, fields)) => {
-            who.0 == *p && are(listed.as_slice(), fields)
-        }
-        (Entry::Forget { who, listed }, Line::Forget(p, fields)) => {
-            who.0 == *p && are(listed.as_slice(), fields)
-        }
-        _ => false,
     }
 }
 
-/// Whether a trace has just these entries.
-fn has_lines(trace: &Trace, lines: &[Line]) -> bool {
-    let entries = trace.entries();
-    entries.len() == lines.len() && entries.iter().zip(lines).all(|(e, l)| is_line(e, l))
-}
-
-/// Whether three processes are refused none of these calls, and record just these lines.
-fn records(
-    alloc: Global,
-    kind: Kind,
-    f: u16,
-    requests: &[Request],
-    lines: &[Line],
-) -> Result<bool, NoMemory> {
-    let Ok(mut core) = begun(alloc, kind, 3, f, MemStable::new(alloc)) else {
-        return Ok(false);
-    };
-    if run(alloc, &mut core, kind, requests)?.is_some() {
-        return Ok(false);
-    }
-    Ok(has_lines(core.trace(), lines))
-}
-
-/// What is told where three processes are refused a call, and how many calls came before it.
-fn refused(
-    alloc: Global,
-    kind: Kind,
-    f: u16,
-    requests: &[Request],
-) -> Result<Option<(usize, CoreFault)>, NoMemory> {
-    match begun(alloc, kind, 3, f, MemStable::new(alloc)) {
-        Ok(mut core) => run(alloc, &mut core, kind, requests),
-        Err(_) => Ok(None),
-    }
-}
-
-// The message at 4 does not carry what 1 delivered: 2 knows 1 and itself as its holders.
-#[test]
-fn a_ring_comes_back(rt: HostRuntime) -> Result<(), Fail> {
-    let requests = [
-        deliver(1, 0, 0),
-        deliver(2, 1, 0),
-        deliver(0, 2, 0),
-        crash(1),
-        restart(1),
-        deliver(1, 0, 0),
-    ];
-    let lines = [
+/// A message goes round, and 1 comes back. The message at 4 does not carry what 1 delivered: 2 knows 1 and itself as its
+/// holders.
+pub(crate) const A_RING_COMES_BACK: Script<'static> = Script {
+    kind: Kind::Ring(2),
+    f: 1,
+    calls: &[
+        Call::Deliver(1, 0, 0),
+        Call::Deliver(2, 1, 0),
+        Call::Deliver(0, 2, 0),
+        Call::Crash(1),
+        Call::Restart(1),
+        Call::Deliver(1, 0, 0),
+    ],
+    lines: &[
         Line::Send(0, 1, 0),
         Line::Deliver(1, 0, 0, &[(0, 0, 1, 0)]),
         Line::Send(1, 2, 0),
@@ -100,26 +51,25 @@ fn a_ring_comes_back(rt: HostRuntime) -> Result<(), Fail> {
         Line::Restart(1, &[(0, 0, 1, 0), (1, 0, 2, 0), (2, 0, 0, 0)]),
         Line::Deliver(1, 0, 0, &[(0, 0, 1, 0)]),
         Line::Send(1, 2, 0),
-    ];
-    assert!(rt; records(rt.alloc(), Kind::Ring(2), 1, &requests, &lines)?);
-    Ok(())
-}
+    ],
+};
 
-// What 0 delivered at 5 was known to 0 alone, so after both crashes no message is named for 0.
-#[test]
-fn two_of_a_ring_come_back(rt: HostRuntime) -> Result<(), Fail> {
-    let requests = [
-        deliver(1, 0, 0),
-        deliver(2, 1, 0),
-        deliver(0, 2, 0),
-        crash(0),
-        crash(1),
-        restart(0),
-        restart(1),
-        deliver(1, 0, 0),
-        deliver(0, 2, 0),
-    ];
-    let lines = [
+/// Two of the ring come back. What 0 delivered at 5 was known to 0 alone, so after both crashes no message is named for 0.
+const TWO_COME_BACK: Script<'static> = Script {
+    kind: Kind::Ring(2),
+    f: 2,
+    calls: &[
+        Call::Deliver(1, 0, 0),
+        Call::Deliver(2, 1, 0),
+        Call::Deliver(0, 2, 0),
+        Call::Crash(0),
+        Call::Crash(1),
+        Call::Restart(0),
+        Call::Restart(1),
+        Call::Deliver(1, 0, 0),
+        Call::Deliver(0, 2, 0),
+    ],
+    lines: &[
         Line::Send(0, 1, 0),
         Line::Deliver(1, 0, 0, &[(0, 0, 1, 0)]),
         Line::Send(1, 2, 0),
@@ -134,21 +84,21 @@ fn two_of_a_ring_come_back(rt: HostRuntime) -> Result<(), Fail> {
         Line::Deliver(1, 9, 0, &[(0, 0, 1, 0), (1, 0, 2, 0)]),
         Line::Send(1, 2, 0),
         Line::Deliver(0, 4, 0, &[(0, 0, 1, 0), (1, 0, 2, 0), (2, 0, 0, 0)]),
-    ];
-    assert!(rt; records(rt.alloc(), Kind::Ring(2), 2, &requests, &lines)?);
-    Ok(())
-}
+    ],
+};
 
-#[test]
-fn a_tally_delivers_in_the_old_order(rt: HostRuntime) -> Result<(), Fail> {
-    let requests = [
-        deliver(0, 2, 0),
-        deliver(2, 0, 0),
-        crash(0),
-        restart(0),
-        deliver(0, 2, 0),
-    ];
-    let lines = [
+/// A tally delivers in the old order.
+const THE_OLD_ORDER: Script<'static> = Script {
+    kind: Kind::Tally,
+    f: 1,
+    calls: &[
+        Call::Deliver(0, 2, 0),
+        Call::Deliver(2, 0, 0),
+        Call::Crash(0),
+        Call::Restart(0),
+        Call::Deliver(0, 2, 0),
+    ],
+    lines: &[
         Line::Send(1, 0, 0),
         Line::Send(2, 0, 0),
         Line::Deliver(0, 1, 0, &[(2, 0, 0, 0)]),
@@ -158,22 +108,21 @@ fn a_tally_delivers_in_the_old_order(rt: HostRuntime) -> Result<(), Fail> {
         Line::Restart(0, &[(0, 0, 2, 0), (2, 0, 0, 0)]),
         Line::Deliver(0, 1, 0, &[(2, 0, 0, 0)]),
         Line::Send(0, 2, 0),
-    ];
-    assert!(rt; records(rt.alloc(), Kind::Tally, 1, &requests, &lines)?);
-    Ok(())
-}
+    ],
+};
 
-// The second flush writes nothing; the third writes what 0 did not know to be stable, once more.
-#[test]
-fn a_tally_is_flushed(rt: HostRuntime) -> Result<(), Fail> {
-    let requests = [
-        deliver(0, 2, 0),
-        deliver(2, 0, 0),
-        flush(2),
-        flush(2),
-        flush(0),
-    ];
-    let lines = [
+/// A tally is flushed. The second flush writes nothing; the third writes what 0 did not know to be stable, once more.
+const FLUSHED: Script<'static> = Script {
+    kind: Kind::Tally,
+    f: 1,
+    calls: &[
+        Call::Deliver(0, 2, 0),
+        Call::Deliver(2, 0, 0),
+        Call::Flush(2),
+        Call::Flush(2),
+        Call::Flush(0),
+    ],
+    lines: &[
         Line::Send(1, 0, 0),
         Line::Send(2, 0, 0),
         Line::Deliver(0, 1, 0, &[(2, 0, 0, 0)]),
@@ -182,24 +131,24 @@ fn a_tally_is_flushed(rt: HostRuntime) -> Result<(), Fail> {
         Line::Stable((0, 0, 2, 0)),
         Line::Stable((2, 0, 0, 0)),
         Line::Stable((2, 0, 0, 0)),
-    ];
-    assert!(rt; records(rt.alloc(), Kind::Tally, 1, &requests, &lines)?);
-    Ok(())
-}
+    ],
+};
 
-#[test]
-fn a_tally_forgets(rt: HostRuntime) -> Result<(), Fail> {
-    let requests = [
-        deliver(0, 2, 0),
-        deliver(2, 0, 0),
-        flush(0),
-        forget(0),
-        crash(0),
-        restart(0),
-        forget(0),
-        deliver(0, 2, 0),
-    ];
-    let lines = [
+/// A tally forgets.
+const FORGOTTEN: Script<'static> = Script {
+    kind: Kind::Tally,
+    f: 1,
+    calls: &[
+        Call::Deliver(0, 2, 0),
+        Call::Deliver(2, 0, 0),
+        Call::Flush(0),
+        Call::Forget(0),
+        Call::Crash(0),
+        Call::Restart(0),
+        Call::Forget(0),
+        Call::Deliver(0, 2, 0),
+    ],
+    lines: &[
         Line::Send(1, 0, 0),
         Line::Send(2, 0, 0),
         Line::Deliver(0, 1, 0, &[(2, 0, 0, 0)]),
@@ -212,64 +161,107 @@ fn a_tally_forgets(rt: HostRuntime) -> Result<(), Fail> {
         Line::Forget(0, &[(2, 0, 0, 0)]),
         Line::Deliver(0, 1, 0, &[(2, 0, 0, 0)]),
         Line::Send(0, 2, 0),
-    ];
-    assert!(rt; records(rt.alloc(), Kind::Tally, 1, &requests, &lines)?);
+    ],
+};
+
+pub(crate) const SCRIPTS: [Script<'static>; 5] = [
+    A_RING_COMES_BACK,
+    TWO_COME_BACK,
+    THE_OLD_ORDER,
+    FLUSHED,
+    FORGOTTEN,
+];
+
+/// Whether a trace has just these entries.
+pub(crate) fn has_lines(alloc: Global, trace: &Trace, lines: &[Line<'_>]) -> bool {
+    match traced(alloc, trace.processes(), lines) {
+        Ok(wanted) => wanted == *trace,
+        Err(_) => false,
+    }
+}
+
+/// Whether none of a script's calls is refused, and just its entries are recorded.
+fn is_recorded(alloc: Global, script: &Script<'_>) -> Result<bool, NoMemory> {
+    Ok(match script.played(alloc)? {
+        Some(core) => has_lines(alloc, core.trace(), script.lines),
+        None => false,
+    })
+}
+
+#[test]
+fn scripts_are_recorded(rt: HostRuntime) -> Result<(), Fail> {
+    for (k, script) in SCRIPTS.iter().enumerate() {
+        assert!(rt; is_recorded(rt.alloc(), script)?, "script {k}");
+    }
     Ok(())
 }
+
+/// What is told where three processes are refused a call, and how many calls came before it.
+fn refused(
+    alloc: Global,
+    kind: Kind,
+    f: u16,
+    calls: &[Call],
+) -> Result<Option<(usize, CoreFault)>, NoMemory> {
+    match begun(alloc, kind, 3, f, MemStable::new(alloc)) {
+        Ok(mut core) => run(alloc, &mut core, kind, calls),
+        Err(_) => Ok(None),
+    }
+}
+
+/// Another message than the one that is named is delivered after a restart, without a flush and with one.
+const LOGGED: [Call; 5] = [
+    Call::Deliver(0, 2, 0),
+    Call::Deliver(2, 0, 0),
+    Call::Crash(0),
+    Call::Restart(0),
+    Call::Deliver(0, 1, 0),
+];
+
+const DROPPED: [Call; 8] = [
+    Call::Deliver(0, 2, 0),
+    Call::Deliver(2, 0, 0),
+    Call::Flush(0),
+    Call::Forget(0),
+    Call::Crash(0),
+    Call::Restart(0),
+    Call::Forget(0),
+    Call::Deliver(0, 1, 0),
+];
 
 #[test]
 fn another_message_is_named(rt: HostRuntime) -> Result<(), Fail> {
     let named = CoreFault::MustReplay(name(2, 0));
-    let logged = [
-        deliver(0, 2, 0),
-        deliver(2, 0, 0),
-        crash(0),
-        restart(0),
-        deliver(0, 1, 0),
-    ];
-    assert_eq!(rt;
-        refused(rt.alloc(), Kind::Tally, 1, &logged)?,
-        Some((4, named))
-    );
-    let forgotten = [
-        deliver(0, 2, 0),
-        deliver(2, 0, 0),
-        flush(0),
-        forget(0),
-        crash(0),
-        restart(0),
-        forget(0),
-        deliver(0, 1, 0),
-    ];
-    assert_eq!(rt;
-        refused(rt.alloc(), Kind::Tally, 1, &forgotten)?,
-        Some((7, named))
-    );
+    let logged = refused(rt.alloc(), Kind::Tally, 1, &LOGGED)?;
+    let forgotten = refused(rt.alloc(), Kind::Tally, 1, &DROPPED)?;
+    assert_eq!(rt; (logged, forgotten), (Some((4, named)), Some((7, named))));
     Ok(())
 }
 
+const CRASHES: [Call; 7] = [
+    Call::Deliver(1, 0, 0),
+    Call::Deliver(2, 1, 0),
+    Call::Deliver(0, 2, 0),
+    Call::Crash(0),
+    Call::Crash(1),
+    Call::Restart(1),
+    Call::Deliver(1, 0, 0),
+];
+
+const TWICE: [Call; 2] = [Call::Deliver(1, 0, 0), Call::Deliver(1, 0, 0)];
+
+/// For how many failures a ring runs, what it is asked, how many calls come before the refused one, and its fault.
+const REFUSED: [(u16, &[Call], usize, CoreFault); 3] = [
+    (2, &CRASHES, 6, CoreFault::NotAvailable),
+    (1, &CRASHES, 4, CoreFault::OverFaults),
+    (1, &TWICE, 1, CoreFault::AlreadyDelivered),
+];
+
 #[test]
 fn a_ring_is_refused(rt: HostRuntime) -> Result<(), Fail> {
-    let crashes = [
-        deliver(1, 0, 0),
-        deliver(2, 1, 0),
-        deliver(0, 2, 0),
-        crash(0),
-        crash(1),
-        restart(1),
-        deliver(1, 0, 0),
-    ];
-    let twice = [deliver(1, 0, 0), deliver(1, 0, 0)];
-    for (f, requests, before, fault) in [
-        (2, crashes.as_slice(), 6, CoreFault::NotAvailable),
-        (1, crashes.as_slice(), 4, CoreFault::OverFaults),
-        (1, twice.as_slice(), 1, CoreFault::AlreadyDelivered),
-    ] {
-        assert_eq!(rt;
-            refused(rt.alloc(), Kind::Ring(2), f, requests)?,
-            Some((before, fault)),
-            "{fault:?}"
-        );
+    for (f, calls, before, fault) in &REFUSED {
+        let told = refused(rt.alloc(), Kind::Ring(2), *f, calls)?;
+        assert_eq!(rt; told, Some((*before, *fault)));
     }
     Ok(())
 }

@@ -3,57 +3,77 @@ use super::*;
 use causal_shared::locked::Locked;
 use std::test::Fail;
 
+/// Whether a value holds the seat that a seat on a new value has to fit, and no other.
+fn holds_its_seat(locked: &Locked<MemStable>) -> bool {
+    locked.holds(0, 0, 1, None)
+        && !locked.holds(1, 0, 1, None)
+        && !locked.holds(0, 1, 1, None)
+        && !locked.full()
+}
+
 // A ring of one process begins with a message to itself, one entry.
 #[test]
 fn a_new_value_holds_its_seat(rt: HostRuntime) -> Result<(), Fail> {
     let core = begun(rt.alloc(), Kind::Ring(0), 1, 0).ok_or("not begun")?;
-    let locked = Locked::new(rt.alloc(), core, 1).map_err(|_| "no memory")?;
-    assert!(rt; locked.holds(0, 0, 1, None));
-    assert!(rt; !locked.holds(1, 0, 1, None));
-    assert!(rt; !locked.holds(0, 1, 1, None));
-    assert!(rt; !locked.full());
+    let locked = Locked::new(rt.alloc(), core, 1).ok().ok_or("no memory")?;
+    assert!(rt; holds_its_seat(&locked));
     Ok(())
+}
+
+fn last_reply(seat: &Seat) -> Option<Reply> {
+    Some(seat.last()?.reply)
+}
+
+/// Whether the crash of a process that is not there is refused, recorded as that, and moves the seat nowhere.
+fn is_refused<R: Wait>(rt: &R, shared: &Shared<MemStable>, seat: &mut Seat) -> bool {
+    let seen = seat.seen();
+    let fault = crash(rt, shared, seat, 9);
+    fault == Some(SharedFault::Core(CoreFault::NoProcess))
+        && last_reply(seat) == Some(Reply::Refused(CoreFault::NoProcess))
+        && seat.count() == 1
+        && seat.seen() == seen
 }
 
 #[test]
 fn a_refusal_is_an_item(rt: HostRuntime) -> Result<(), Fail> {
-    let core = begun(rt.alloc(), Kind::Ring(0), 1, 0).ok_or("not begun")?;
-    let (shared, mut seats) = opened(rt.alloc(), core, 1, 7).ok_or("not opened")?;
-    let mut seat = seats.pop().ok_or("no seat")?;
-    let seen = seat.seen();
-    let answer = shared.crash(&rt, &mut seat, Pid(9));
-    assert_eq!(rt; answer, Err(SharedFault::Core(CoreFault::NoProcess)));
-    assert_eq!(rt; seat.count(), 1);
-    let told = seat.last().map(|item| item.reply);
-    assert_eq!(rt; told, Some(Reply::Refused(CoreFault::NoProcess)));
-    assert_eq!(rt; seat.seen(), seen);
+    let (shared, mut seat) = begun_alone(rt.alloc(), Kind::Ring(0), 1, 0).ok_or("not begun")?;
+    assert!(rt; is_refused(&rt, &shared, &mut seat));
     Ok(())
+}
+
+/// The seat of another runtime.
+fn stranger(alloc: Global) -> Option<Seat> {
+    let core = begun(alloc, Kind::Echo(3), 2, 1)?;
+    let (_other, mut seats) = opened(alloc, core, 1, 8)?;
+    seats.pop()
+}
+
+/// Whether a call with that seat is refused and recorded nowhere.
+fn is_wrong<R: Wait>(rt: &R, alloc: Global, shared: &Shared<MemStable>) -> Option<bool> {
+    let mut stranger = stranger(alloc)?;
+    let fault = crash(rt, shared, &mut stranger, 0);
+    Some(fault == Some(SharedFault::WrongSeat) && stranger.count() == 0)
 }
 
 #[test]
 fn wrong_seat(rt: HostRuntime) -> Result<(), Fail> {
-    let core = begun(rt.alloc(), Kind::Echo(3), 2, 1).ok_or("not begun")?;
-    let other = begun(rt.alloc(), Kind::Echo(3), 2, 1).ok_or("not begun")?;
-    let (shared, mut seats) = opened(rt.alloc(), core, 1, 7).ok_or("not opened")?;
-    let (_other, mut strangers) = opened(rt.alloc(), other, 1, 8).ok_or("not opened")?;
-    let seat = seats.pop().ok_or("no seat")?;
-    let mut stranger = strangers.pop().ok_or("no seat")?;
-    let answer = shared.crash(&rt, &mut stranger, Pid(0));
-    assert_eq!(rt; answer, Err(SharedFault::WrongSeat));
-    assert_eq!(rt; stranger.count(), 0);
+    let (shared, seat) = begun_alone(rt.alloc(), Kind::Echo(3), 2, 1).ok_or("not begun")?;
+    assert_eq!(rt; is_wrong(&rt, rt.alloc(), &shared), Some(true));
     assert_eq!(rt; seat.count(), 0);
-    let end = finished(rt.alloc(), shared, seat).ok_or("no memory")?;
-    let end = end.map_err(|_| "not finished")?;
-    assert!(rt; end.history.as_slice().is_empty());
+    let (items, _entries) = extent(rt.alloc(), shared, seat).ok_or("not finished")?;
+    assert_eq!(rt; items, 0);
     Ok(())
 }
 
+/// How a runtime of two seats ends that is given one.
+fn of_one_of_two(alloc: Global) -> Option<FinishFault> {
+    let core = begun(alloc, Kind::Echo(3), 2, 1)?;
+    let (shared, mut seats) = opened(alloc, core, 2, 7)?;
+    let seat = seats.pop()?;
+    finished(alloc, shared, seat)?.err()
+}
+
 #[test]
-fn finish_missing(rt: HostRuntime) -> Result<(), Fail> {
-    let core = begun(rt.alloc(), Kind::Echo(3), 2, 1).ok_or("not begun")?;
-    let (shared, mut seats) = opened(rt.alloc(), core, 2, 7).ok_or("not opened")?;
-    let seat = seats.pop().ok_or("no seat")?;
-    let end = finished(rt.alloc(), shared, seat).ok_or("no memory")?;
-    assert_eq!(rt; end.err(), Some(FinishFault::Missing));
-    Ok(())
+fn finish_missing(rt: HostRuntime) {
+    assert_eq!(rt; of_one_of_two(rt.alloc()), Some(FinishFault::Missing));
 }

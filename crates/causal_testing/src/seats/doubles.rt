@@ -3,34 +3,47 @@ use super::*;
 use crate::cores::doubles::Refusing;
 use std::test::Fail;
 
-/// A ring of one process, whose first delivery is refused memory.
-fn begun_scarce(alloc: Global) -> Option<Core<MemStable>> {
+/// A process that goes round with itself, whose first delivery is refused memory.
+fn scarce(alloc: Global) -> Option<Boxed> {
     let process = Refusing {
         inner: Ring::new(1, 0, 1),
         before_refusal: Some(1),
     };
     let boxed: Boxed = Box::new(alloc, process).ok()?;
+    Some(boxed)
+}
+
+/// A ring of that process alone.
+fn begun_scarce(alloc: Global) -> Option<Core<MemStable>> {
     let mut boxes = Vec::new(alloc);
-    boxes.push(boxed).ok()?;
+    boxes.push(scarce(alloc)?).ok()?;
     Core::start(alloc, 0, boxes, MemStable::new(alloc)).ok()
+}
+
+/// Whether a delivery is refused memory, and the refusal is an item and changes nothing else.
+fn is_refused<R: Wait>(rt: &R, shared: &Shared<MemStable>, seat: &mut Seat) -> bool {
+    let fault = shared.deliver(rt, seat, Pid(0), Pid(0), 0).err();
+    fault == Some(SharedFault::Core(CoreFault::NoMemory))
+        && (seat.count(), seat.seen()) == (1, 1)
+        && snapshot_extent(rt, shared, seat) == Some((1, 1))
+}
+
+/// How many entries a snapshot has, and how many calls were made before it.
+fn snapshot_extent<R: Wait>(
+    rt: &R,
+    shared: &Shared<MemStable>,
+    seat: &mut Seat,
+) -> Option<(u32, u32)> {
+    let shown = shared.snapshot(rt, seat).ok()?;
+    Some((shown.trace.len(), shown.calls))
 }
 
 #[test]
 fn a_step_is_refused_and_then_made(rt: HostRuntime) -> Result<(), Fail> {
     let core = begun_scarce(rt.alloc()).ok_or("not begun")?;
-    let (shared, mut seats) = opened(rt.alloc(), core, 1, 7).ok_or("not opened")?;
-    let mut seat = seats.pop().ok_or("no seat")?;
-    let answer = shared.deliver(&rt, &mut seat, Pid(0), Pid(0), 0);
-    assert_eq!(rt; answer.err(), Some(SharedFault::Core(CoreFault::NoMemory)));
-    assert_eq!(rt; seat.count(), 1);
-    assert_eq!(rt; seat.seen(), 1);
-    let unchanged = shared.snapshot(&rt, &mut seat).map_err(|_| "no snapshot")?;
-    assert_eq!(rt; unchanged.trace.len(), 1);
-    assert_eq!(rt; unchanged.calls, 1);
-    assert!(rt; shared.deliver(&rt, &mut seat, Pid(0), Pid(0), 0).is_ok());
-    let end = finished(rt.alloc(), shared, seat).ok_or("no memory")?;
-    let end = end.map_err(|_| "not finished")?;
-    assert_eq!(rt; end.history.as_slice().len(), 2);
-    assert_eq!(rt; end.core.trace().len(), 3);
+    let (shared, mut seat) = alone(rt.alloc(), core).ok_or("not opened")?;
+    assert!(rt; is_refused(&rt, &shared, &mut seat));
+    assert!(rt; deliver_first(&rt, &shared, &mut seat, Pid(0)));
+    assert_eq!(rt; extent(rt.alloc(), shared, seat), Some((2, 3)));
     Ok(())
 }

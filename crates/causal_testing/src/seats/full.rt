@@ -7,24 +7,25 @@ use std::test::Fail;
 fn refused<R: Wait>(rt: &R, shared: &Shared<MemStable>, seat: &mut Seat, calls: usize) -> usize {
     let mut refused = 0_usize;
     for _ in 0..calls {
-        if shared.crash(rt, seat, Pid(9)) == Err(SharedFault::Core(CoreFault::NoProcess)) {
+        if crash(rt, shared, seat, 9) == Some(SharedFault::Core(CoreFault::NoProcess)) {
             refused = refused.saturating_add(1);
         }
     }
     refused
 }
 
+/// Whether as many items as there may be are refusals, and a further call is refused for want of room.
+fn fills_up<R: Wait>(rt: &R, shared: &Shared<MemStable>, seat: &mut Seat) -> bool {
+    refused(rt, shared, seat, MAX_ITEMS) == 1_048_576
+        && crash(rt, shared, seat, 9) == Some(SharedFault::HistoryFull)
+        && seat.count() == 1_048_576
+}
+
 #[test]
 fn a_history_fills_up(rt: HostRuntime) -> Result<(), Fail> {
-    let core = begun(rt.alloc(), Kind::Ring(0), 1, 0).ok_or("not begun")?;
-    let (shared, mut seats) = opened(rt.alloc(), core, 1, 7).ok_or("not opened")?;
-    let mut seat = seats.pop().ok_or("no seat")?;
-    assert_eq!(rt; refused(&rt, &shared, &mut seat, MAX_ITEMS), 1_048_576);
-    let answer = shared.crash(&rt, &mut seat, Pid(9));
-    assert_eq!(rt; answer, Err(SharedFault::HistoryFull));
-    assert_eq!(rt; seat.count(), 1_048_576);
-    let end = finished(rt.alloc(), shared, seat).ok_or("no memory")?;
-    let end = end.map_err(|_| "not finished")?;
-    assert_eq!(rt; end.history.as_slice().len(), 1_048_576);
+    let (shared, mut seat) = begun_alone(rt.alloc(), Kind::Ring(0), 1, 0).ok_or("not begun")?;
+    assert!(rt; fills_up(&rt, &shared, &mut seat));
+    let (items, _entries) = extent(rt.alloc(), shared, seat).ok_or("not finished")?;
+    assert_eq!(rt; items, 1_048_576);
     Ok(())
 }

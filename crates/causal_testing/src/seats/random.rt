@@ -73,7 +73,7 @@ fn calls<R: Wait>(rt: &R, alloc: Global, shared: &Shared<MemStable>, seat: Seat)
         if done.recorded == CALLS {
             return done;
         }
-        let number = (numbers.below(256) as u8);
+        let number = numbers.below(256) as u8;
         let p = Pid((numbers.below(256) as u8) % SEATS);
         if call(rt, alloc, shared, &mut done.seat, number, p) {
             done.recorded = done.recorded.saturating_add(1);
@@ -82,23 +82,35 @@ fn calls<R: Wait>(rt: &R, alloc: Global, shared: &Shared<MemStable>, seat: Seat)
     done
 }
 
+/// What eight threads have done, each with a seat of its own.
+fn called<R: Threads + Wait + Sync>(
+    rt: &R,
+    alloc: Global,
+    shared: &Shared<MemStable>,
+    seats: Vec<Seat>,
+) -> Option<Vec<Done>> {
+    thread::map_vec(rt, seats, &|seat| calls(rt, alloc, shared, seat)).ok()
+}
+
+/// The seats of threads that all have made their calls.
+fn seats_of(alloc: Global, all: Vec<Done>) -> Option<Vec<Seat>> {
+    let mut seats = Vec::new(alloc);
+    for done in all {
+        if done.recorded != CALLS {
+            return None;
+        }
+        seats.push(done.seat).ok()?;
+    }
+    Some(seats)
+}
+
 #[test]
 fn seats_call_at_random(rt: HostRuntime) -> Result<(), Fail> {
     let core = begun(rt.alloc(), Kind::Echo(200), SEATS, 2).ok_or("not begun")?;
     let (shared, seats) = opened(rt.alloc(), core, u32::from(SEATS), 7).ok_or("not opened")?;
-    let alloc = rt.alloc();
-    let all = {
-        let (host, one) = (&rt, &shared);
-        thread::map_vec(host, seats, &|seat| calls(host, alloc, one, seat)).map_err(
-            |_| "no memory",
-        )?
-    };
-    let mut own = Vec::new(rt.alloc());
-    for done in all {
-        assert_eq!(rt; done.recorded, 300);
-        own.push(done.seat).map_err(|_| "no memory")?;
-    }
-    let end = finish(shared, own).map_err(|_| "not finished")?;
+    let done = called(&rt, rt.alloc(), &shared, seats).ok_or("no memory")?;
+    let seats = seats_of(rt.alloc(), done).ok_or("too few calls")?;
+    let end = finish(shared, seats).ok().ok_or("not finished")?;
     assert!(rt; end.history.as_slice().len() >= 2_400);
     Ok(())
 }

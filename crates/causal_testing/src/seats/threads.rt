@@ -86,58 +86,89 @@ fn overlapped<R: Threads + Wait + Sync>(
     Some((shared, done))
 }
 
-/// The seats, and the last item of each.
-fn ended(alloc: Global, done: Vec<Done>) -> Option<(Vec<Seat>, Vec<Item>)> {
+/// Ends a runtime with the seats of all threads.
+fn ended_with(
+    alloc: Global,
+    shared: Shared<MemStable>,
+    done: Vec<Done>,
+) -> Option<Finished<MemStable>> {
     let mut seats = Vec::new(alloc);
+    for one in done {
+        seats.push(one.seat).ok()?;
+    }
+    finish(shared, seats).ok()
+}
+
+/// Whether all seats have made their deliveries, and each of these is an item.
+fn have_met(done: &[Done]) -> bool {
+    for one in done {
+        if one.delivered != 4 || one.seat.count() != 4 || !one.is_shown() {
+            return false;
+        }
+    }
+    true
+}
+
+/// The last item of each seat.
+fn last_items(alloc: Global, done: &[Done]) -> Option<Vec<Item>> {
     let mut last = Vec::new(alloc);
     for one in done {
         last.push(*one.seat.last()?).ok()?;
-        seats.push(one.seat).ok()?;
     }
-    Some((seats, last))
+    Some(last)
+}
+
+fn contain_all(items: &[Item], last: &[Item]) -> bool {
+    for item in last {
+        if !items.contains(item) {
+            return false;
+        }
+    }
+    true
+}
+
+/// Whether the history and the trace of both have all, these items too.
+fn has_all(end: &Finished<MemStable>, last: &[Item]) -> bool {
+    let items = end.history.as_slice();
+    (items.len(), end.core.trace().len()) == (8, 16) && contain_all(items, last)
 }
 
 #[test]
 fn seats_overlap(rt: HostRuntime) -> Result<(), Fail> {
     let (shared, done) = overlapped(&rt, rt.alloc()).ok_or("not opened")?;
-    for one in &done {
-        assert_eq!(rt; one.delivered, 4, "the seats did not meet");
-        assert_eq!(rt; one.seat.count(), 4);
-        assert!(rt; one.is_shown());
-    }
-    let (seats, last) = ended(rt.alloc(), done).ok_or("no item")?;
-    let end = finish(shared, seats).map_err(|_| "not finished")?;
-    assert_eq!(rt; end.history.as_slice().len(), 8);
-    assert_eq!(rt; end.core.trace().len(), 16);
-    for item in &last {
-        assert!(rt; end.history.as_slice().iter().any(|other| other == item));
-    }
+    assert!(rt; have_met(done.as_slice()), "the seats did not meet");
+    let last = last_items(rt.alloc(), done.as_slice()).ok_or("no item")?;
+    let end = ended_with(rt.alloc(), shared, done).ok_or("not finished")?;
+    assert!(rt; has_all(&end, last.as_slice()));
     Ok(())
+}
+
+/// Takes the snapshot of each seat.
+fn snapshots_of(alloc: Global, done: &mut [Done]) -> Option<Vec<Snapshot>> {
+    let mut snapshots = Vec::new(alloc);
+    for one in done {
+        snapshots.push(one.snapshot.take()?).ok()?;
+    }
+    Some(snapshots)
+}
+
+/// Whether these snapshots each have a part of a trace, from its beginning.
+fn are_parts(snapshots: &[Snapshot], trace: &Trace) -> bool {
+    let entries = trace.entries();
+    for snapshot in snapshots {
+        let part = snapshot.trace.entries();
+        if snapshot.faults != 1 || part.len() >= entries.len() || !entries.starts_with(part) {
+            return false;
+        }
+    }
+    true
 }
 
 #[test]
 fn snapshot_beside(rt: HostRuntime) -> Result<(), Fail> {
-    let (shared, done) = overlapped(&rt, rt.alloc()).ok_or("not opened")?;
-    let mut seen = Vec::new(rt.alloc());
-    let mut seats = Vec::new(rt.alloc());
-    for one in done {
-        seen.push(one.snapshot.ok_or("no snapshot")?)
-            .map_err(|_| "no memory")?;
-        seats.push(one.seat).map_err(|_| "no memory")?;
-    }
-    let end = finish(shared, seats).map_err(|_| "not finished")?;
-    let entries = end.core.trace().entries();
-    for snapshot in &seen {
-        assert_eq!(rt; snapshot.faults, 1);
-        assert!(rt; snapshot.trace.len() < end.core.trace().len());
-        assert!(rt;
-            snapshot
-                .trace
-                .entries()
-                .iter()
-                .zip(entries)
-                .all(|(a, b)| a == b)
-        );
-    }
+    let (shared, mut done) = overlapped(&rt, rt.alloc()).ok_or("not opened")?;
+    let seen = snapshots_of(rt.alloc(), done.as_mut_slice()).ok_or("no snapshot")?;
+    let end = ended_with(rt.alloc(), shared, done).ok_or("not finished")?;
+    assert!(rt; are_parts(seen.as_slice(), end.core.trace()));
     Ok(())
 }

@@ -1,6 +1,5 @@
 //! Texts that come from a reader, and go to a writer.
-use super::RING;
-use crate::traces::ring;
+use super::{RING, is_the_ring, ring};
 use causal_text::{
     Progress, ReaderFault, TextFault, TextKind, TraceReader, WriteCause, WriteFault, read_from,
     write_trace,
@@ -74,12 +73,16 @@ fn up_to(alloc: Global, limit: usize, fails: bool) -> Narrow {
     }
 }
 
+// whether the ring that comes in steps is read
+fn reads_in_steps(alloc: Global, step: usize) -> Result<bool, Fail> {
+    let trace = read_from(alloc, in_steps(RING, step, false))?;
+    is_the_ring(alloc, &trace)
+}
+
 #[test]
 fn pieces_of_any_size(rt: HostRuntime) -> Result<(), Fail> {
-    let pushed = ring(rt.alloc())?;
     for step in [1, 7, 4096] {
-        let trace = read_from(rt.alloc(), in_steps(RING, step, false))?;
-        assert!(rt; trace == pushed, "in pieces of {step}");
+        assert!(rt; reads_in_steps(rt.alloc(), step)?, "in pieces of {step}");
     }
     Ok(())
 }
@@ -97,81 +100,121 @@ const AFTER_DELIVERED: [(&str, u32, TextKind); 3] = [
     ("[\"end\",2]\n ", 5, TextKind::After),
 ];
 
-fn told(alloc: Global, text: &str) -> Option<ReaderFault> {
-    read_from(alloc, in_steps(text, 1, false)).err()
+fn told(alloc: Global, text: &str, step: usize, fails: bool) -> Option<ReaderFault> {
+    read_from(alloc, in_steps(text, step, fails)).err()
+}
+
+fn of_text(line: u32, kind: TextKind) -> Option<ReaderFault> {
+    Some(ReaderFault::Text(TextFault { line, kind }))
+}
+
+// whether that is told of such a text that comes a byte at a time
+fn is_told_after_delivered(alloc: Global, case: &(&str, u32, TextKind)) -> Result<bool, Fail> {
+    let text = format!(in alloc; "{DELIVERED}{}", case.0)?;
+    Ok(told(alloc, text.as_str(), 1, false) == of_text(case.1, case.2))
 }
 
 #[test]
 fn faults_a_byte_at_a_time(rt: HostRuntime) -> Result<(), Fail> {
-    for (rest, line, kind) in AFTER_DELIVERED {
-        let text = format!(in rt.alloc(); "{DELIVERED}{rest}")?;
-        let fault = told(rt.alloc(), text.as_str());
-        assert_eq!(rt;
-            fault,
-            Some(ReaderFault::Text(TextFault { line, kind })),
-            "of {rest}"
-        );
+    for (k, case) in AFTER_DELIVERED.iter().enumerate() {
+        assert!(rt; is_told_after_delivered(rt.alloc(), case)?, "case {k}");
     }
     let cut = "[\"trace\",1,2]\n[\"send\",0,1,0]\n[\"deliver\",1,0";
-    let syntax = TextFault {
-        line: 3,
-        kind: TextKind::Syntax,
-    };
-    assert_eq!(rt; told(rt.alloc(), cut), Some(ReaderFault::Text(syntax)));
+    assert_eq!(rt;
+        told(rt.alloc(), cut, 1, false),
+        of_text(3, TextKind::Syntax)
+    );
     Ok(())
 }
 
 #[test]
-fn a_complete_line_is_judged_before_the_next_piece(rt: HostRuntime) -> Result<(), Fail> {
-    let wrong = "[\"trace\",1,2]\n[\"send\",0,1,1]\n";
-    let fault = read_from(rt.alloc(), in_steps(wrong, 4096, true)).err();
-    let wrong_ssn = TextFault {
-        line: 2,
-        kind: TextKind::WrongSsn,
-    };
-    assert_eq!(rt; fault, Some(ReaderFault::Text(wrong_ssn)));
-    let failed = read_from(rt.alloc(), in_steps("", 4096, true)).err();
-    assert_eq!(rt; failed, Some(ReaderFault::Read));
-    Ok(())
+fn a_complete_line_is_judged_before_the_next_piece(rt: HostRuntime) {
+    let wrong = told(
+        rt.alloc(),
+        "[\"trace\",1,2]\n[\"send\",0,1,1]\n",
+        4096,
+        true,
+    );
+    assert_eq!(rt; wrong, of_text(2, TextKind::WrongSsn));
+    assert_eq!(rt; told(rt.alloc(), "", 4096, true), Some(ReaderFault::Read));
+}
+
+type Piece = Result<Progress, ReaderFault>;
+
+fn three_pieces(reader: &mut TraceReader<Slow<'_>>) -> (Piece, Piece, Piece) {
+    (
+        reader.next_piece(),
+        reader.next_piece(),
+        reader.next_piece(),
+    )
+}
+
+// the ring, read in one step
+fn reader(alloc: Global, fails: bool) -> TraceReader<Slow<'static>> {
+    TraceReader::new(alloc, in_steps(RING, 4096, fails))
 }
 
 #[test]
-fn a_reader_that_has_failed(rt: HostRuntime) -> Result<(), Fail> {
-    let mut reader = TraceReader::new(rt.alloc(), in_steps(RING, 4096, true));
-    assert_eq!(rt; reader.next_piece(), Ok(Progress::More));
-    assert_eq!(rt; reader.next_piece(), Err(ReaderFault::Read));
-    assert_eq!(rt; reader.next_piece(), Err(ReaderFault::Failed));
+fn a_reader_that_has_failed(rt: HostRuntime) {
+    let mut reader = reader(rt.alloc(), true);
+    let pieces = three_pieces(&mut reader);
+    assert_eq!(rt;
+        pieces,
+        (
+            Ok(Progress::More),
+            Err(ReaderFault::Read),
+            Err(ReaderFault::Failed)
+        )
+    );
     assert_eq!(rt; reader.into_trace().err(), Some(ReaderFault::Failed));
-    Ok(())
+}
+
+#[test]
+fn a_reader_that_is_not_read(rt: HostRuntime) {
+    let unread = reader(rt.alloc(), false);
+    assert_eq!(rt; unread.into_trace().err(), Some(ReaderFault::Unfinished));
+}
+
+// whether a reader gives the ring at its end
+fn gives_the_ring(alloc: Global, reader: TraceReader<Slow<'_>>) -> Result<bool, Fail> {
+    let trace = reader.into_trace()?;
+    is_the_ring(alloc, &trace)
 }
 
 #[test]
 fn a_reader_at_its_end(rt: HostRuntime) -> Result<(), Fail> {
-    let unread = TraceReader::new(rt.alloc(), in_steps(RING, 4096, false));
-    assert_eq!(rt; unread.into_trace().err(), Some(ReaderFault::Unfinished));
-    let mut reader = TraceReader::new(rt.alloc(), in_steps(RING, 4096, false));
-    assert_eq!(rt; reader.next_piece(), Ok(Progress::More));
-    assert_eq!(rt; reader.next_piece(), Ok(Progress::Ended));
-    assert_eq!(rt; reader.next_piece(), Ok(Progress::Ended));
-    let pushed = ring(rt.alloc())?;
-    assert!(rt; reader.into_trace()? == pushed);
+    let mut reader = reader(rt.alloc(), false);
+    let pieces = three_pieces(&mut reader);
+    let ended = Ok(Progress::Ended);
+    assert_eq!(rt; pieces, (Ok(Progress::More), ended, ended));
+    assert!(rt; gives_the_ring(rt.alloc(), reader)?);
     Ok(())
+}
+
+// whether the writing to so narrow a writer is answered so, and it has then taken just these bytes
+fn takes(alloc: Global, limit: usize, fails: bool, taken: &[u8]) -> Result<bool, Fail> {
+    let trace = ring(alloc)?;
+    let mut writer = up_to(alloc, limit, fails);
+    let answer = write_trace(alloc, &trace, &mut writer);
+    Ok(answer == answer_at(limit) && writer.taken.as_slice() == taken)
+}
+
+// what is answered to the writing of the ring where so many bytes are taken
+fn answer_at(limit: usize) -> Result<(), WriteFault> {
+    if limit >= RING.len() {
+        return Ok(());
+    }
+    Err(WriteFault {
+        written: limit as u64,
+        cause: WriteCause::Device,
+    })
 }
 
 #[test]
 fn a_writer_of_single_bytes(rt: HostRuntime) -> Result<(), Fail> {
-    let trace = ring(rt.alloc())?;
-    let mut whole = up_to(rt.alloc(), RING.len(), false);
-    assert_eq!(rt; write_trace(rt.alloc(), &trace, &mut whole), Ok(()));
-    assert_eq!(rt; whole.taken.as_slice(), RING.as_bytes());
+    assert!(rt; takes(rt.alloc(), RING.len(), false, RING.as_bytes())?);
     for fails in [false, true] {
-        let mut short = up_to(rt.alloc(), 3, fails);
-        let fault = WriteFault {
-            written: 3,
-            cause: WriteCause::Device,
-        };
-        assert_eq!(rt; write_trace(rt.alloc(), &trace, &mut short), Err(fault));
-        assert_eq!(rt; short.taken.as_slice(), b"[\"t".as_slice());
+        assert!(rt; takes(rt.alloc(), 3, fails, b"[\"t")?, "{fails}");
     }
     Ok(())
 }

@@ -1,9 +1,7 @@
 //! Whole texts.
-use super::{RING, det};
-use crate::traces::ring;
-use causal_name::Pid;
+use super::{RING, is_the_ring, ring};
+use crate::entries::{Line, det, push};
 use causal_text::{fault_line, read_trace, text_of};
-use causal_trace::entry::{Dets, Entry};
 use causal_trace::trace::Trace;
 use std::alloc::Global;
 use std::process::Abort;
@@ -17,20 +15,50 @@ fn told(alloc: Global, text: &[u8]) -> Result<Vec<u8>, Fail> {
     }
 }
 
+fn is_told(alloc: Global, text: &[u8], want: &[u8]) -> Result<bool, Fail> {
+    let line = told(alloc, text)?;
+    Ok(line.as_slice() == want)
+}
+
 fn check_told(rt: &impl Abort, alloc: Global, text: &str, want: &str) -> Result<(), Fail> {
     let line = told(alloc, text.as_bytes())?;
     assert_eq!(rt; line.as_slice(), want.as_bytes(), "of {text}");
     Ok(())
 }
 
+// the same of texts that begin alike
+fn check_after(
+    rt: &impl Abort,
+    alloc: Global,
+    head: &str,
+    cases: &[(&str, &str)],
+) -> Result<(), Fail> {
+    for (rest, want) in cases {
+        let text = format!(in alloc; "{head}{rest}")?;
+        check_told(rt, alloc, text.as_str(), want)?;
+    }
+    Ok(())
+}
+
+// whether a text spells just that trace
+fn spells(alloc: Global, text: &[u8], pushed: &Trace) -> Result<bool, Fail> {
+    let trace = read_trace(alloc, text)?;
+    Ok(trace == *pushed)
+}
+
+fn shows_the_ring(trace: &Trace) -> bool {
+    (trace.len(), trace.deliveries()) == (6, 3) && trace.det_at(3) == Some(det((1, 0, 2, 0)))
+}
+
+// whether a text spells the ring
+fn spells_the_ring(alloc: Global, text: &[u8]) -> Result<bool, Fail> {
+    let trace = read_trace(alloc, text)?;
+    Ok(shows_the_ring(&trace) && is_the_ring(alloc, &trace)?)
+}
+
 #[test]
 fn the_ring_is_read(rt: HostRuntime) -> Result<(), Fail> {
-    let trace = read_trace(rt.alloc(), RING.as_bytes())?;
-    let pushed = ring(rt.alloc())?;
-    assert!(rt; trace == pushed);
-    assert_eq!(rt; trace.len(), 6);
-    assert_eq!(rt; trace.deliveries(), 3);
-    assert_eq!(rt; trace.det_at(3), Some(det(1, 0, 2, 0)));
+    assert!(rt; spells_the_ring(rt.alloc(), RING.as_bytes())?);
     Ok(())
 }
 
@@ -101,11 +129,7 @@ const AFTER_SENT: [(&str, &str); 38] = [
 
 #[test]
 fn lines_after_a_send(rt: HostRuntime) -> Result<(), Fail> {
-    for (rest, want) in AFTER_SENT {
-        let text = format!(in rt.alloc(); "{SENT}{rest}")?;
-        check_told(&rt, rt.alloc(), text.as_str(), want)?;
-    }
-    Ok(())
+    check_after(&rt, rt.alloc(), SENT, &AFTER_SENT)
 }
 
 // whole texts, and the fault that is told; nothing where they spell a trace
@@ -153,10 +177,7 @@ const WHOLE: [(&str, &str); 24] = [
 
 #[test]
 fn whole_texts(rt: HostRuntime) -> Result<(), Fail> {
-    for (text, want) in WHOLE {
-        check_told(&rt, rt.alloc(), text, want)?;
-    }
-    Ok(())
+    check_after(&rt, rt.alloc(), "", &WHOLE)
 }
 
 // a message that is sent and delivered
@@ -181,20 +202,19 @@ const AFTER_DELIVERED: [(&str, &str); 7] = [
 
 #[test]
 fn lines_after_a_delivery(rt: HostRuntime) -> Result<(), Fail> {
-    for (rest, want) in AFTER_DELIVERED {
-        let text = format!(in rt.alloc(); "{DELIVERED}{rest}")?;
-        check_told(&rt, rt.alloc(), text.as_str(), want)?;
-    }
-    Ok(())
+    check_after(&rt, rt.alloc(), DELIVERED, &AFTER_DELIVERED)
+}
+
+// the ring with a space after each comma, and with other ends of lines
+fn another_layout(alloc: Global) -> Result<String, Fail> {
+    let commas = RING.replace(alloc, ",", ", ")?;
+    Ok(commas.replace(alloc, "\n", "\r\n")?)
 }
 
 #[test]
 fn another_layout_is_the_same_trace(rt: HostRuntime) -> Result<(), Fail> {
-    let commas = RING.replace(rt.alloc(), ",", ", ")?;
-    let lines = commas.replace(rt.alloc(), "\n", "\r\n")?;
-    let trace = read_trace(rt.alloc(), lines.as_bytes())?;
-    let pushed = ring(rt.alloc())?;
-    assert!(rt; trace == pushed);
+    let text = another_layout(rt.alloc())?;
+    assert!(rt; spells_the_ring(rt.alloc(), text.as_bytes())?);
     Ok(())
 }
 
@@ -210,21 +230,15 @@ const FORGETS: &str = r#"["trace",2,3]
 ["end",7]
 "#;
 
-fn ring_forgotten(alloc: Global) -> Result<Trace, Fail> {
-    let mut trace = ring(alloc)?;
-    let forgotten = Dets::new(vec![in alloc; det(0, 0, 1, 0)]?);
-    trace.push(Entry::Forget {
-        who: Pid(1),
-        listed: forgotten,
-    })?;
-    Ok(trace)
+fn spells_forgetting(alloc: Global, text: &[u8]) -> Result<bool, Fail> {
+    let mut pushed = ring(alloc)?;
+    push(alloc, &mut pushed, Line::Forget(1, &[(0, 0, 1, 0)]))?;
+    spells(alloc, text, &pushed)
 }
 
 #[test]
 fn the_second_version_forgets(rt: HostRuntime) -> Result<(), Fail> {
-    let trace = read_trace(rt.alloc(), FORGETS.as_bytes())?;
-    let pushed = ring_forgotten(rt.alloc())?;
-    assert!(rt; trace == pushed);
+    assert!(rt; spells_forgetting(rt.alloc(), FORGETS.as_bytes())?);
     Ok(())
 }
 
@@ -234,13 +248,17 @@ fn the_first_version_forgets_nothing(rt: HostRuntime) -> Result<(), Fail> {
     check_told(&rt, rt.alloc(), first.as_str(), "fault line=8 Form\n")
 }
 
+// so many bytes, all the same
+fn repeated(alloc: Global, byte: u8, times: usize) -> Result<Vec<u8>, Fail> {
+    Ok(vec![in alloc; byte; times]?)
+}
+
 #[test]
 fn bytes_that_are_no_value(rt: HostRuntime) -> Result<(), Fail> {
-    let no_text = told(rt.alloc(), b"[\"trace\",1,2]\n[\"\xff\",0]\n")?;
-    assert_eq!(rt; no_text.as_slice(), b"fault line=2 Syntax\n".as_slice());
-    let deep = vec![in rt.alloc(); b'['; 200]?;
-    let nested = told(rt.alloc(), deep.as_slice())?;
-    assert_eq!(rt; nested.as_slice(), b"fault line=1 Syntax\n".as_slice());
+    let no_text = b"[\"trace\",1,2]\n[\"\xff\",0]\n";
+    assert!(rt; is_told(rt.alloc(), no_text, b"fault line=2 Syntax\n")?);
+    let deep = repeated(rt.alloc(), b'[', 200)?;
+    assert!(rt; is_told(rt.alloc(), deep.as_slice(), b"fault line=1 Syntax\n")?);
     Ok(())
 }
 
@@ -255,14 +273,16 @@ fn padded(alloc: Global, length: usize) -> Result<Vec<u8>, Fail> {
 #[test]
 fn the_longest_text(rt: HostRuntime) -> Result<(), Fail> {
     let mut text = padded(rt.alloc(), 33_554_432)?;
-    let whole = told(rt.alloc(), text.as_slice())?;
-    assert_eq!(rt; whole.as_slice(), b"".as_slice());
+    assert!(rt; is_told(rt.alloc(), text.as_slice(), b"")?);
     text.push(b'\n')?;
-    let longer = told(rt.alloc(), text.as_slice())?;
-    assert_eq!(rt; longer.as_slice(), b"fault line=2 Big\n".as_slice());
-    let spaces = vec![in rt.alloc(); b' '; 33_554_433]?;
-    let big = told(rt.alloc(), spaces.as_slice())?;
-    assert_eq!(rt; big.as_slice(), b"fault line=1 Big\n".as_slice());
+    assert!(rt; is_told(rt.alloc(), text.as_slice(), b"fault line=2 Big\n")?);
+    Ok(())
+}
+
+#[test]
+fn one_line_too_long(rt: HostRuntime) -> Result<(), Fail> {
+    let spaces = repeated(rt.alloc(), b' ', 33_554_433)?;
+    assert!(rt; is_told(rt.alloc(), spaces.as_slice(), b"fault line=1 Big\n")?);
     Ok(())
 }
 
@@ -273,19 +293,37 @@ fn one_restart_too_many(rt: HostRuntime) -> Result<(), Fail> {
     check_told(&rt, rt.alloc(), text.as_str(), "fault line=387 Lanes\n")
 }
 
-#[test]
-fn one_entry_too_many(rt: HostRuntime) -> Result<(), Fail> {
-    let mut text = format!(in rt.alloc(); "[\"trace\",1,1]\n")?;
-    for ssn in 0..=65_536u32 {
+// so many sends of one process to itself
+fn sends(alloc: Global, count: u32) -> Result<String, Fail> {
+    let mut text = format!(in alloc; "[\"trace\",1,1]\n")?;
+    for ssn in 0..count {
         write!(text, "[\"send\",0,0,{ssn}]\n")?;
     }
+    Ok(text)
+}
+
+#[test]
+fn one_entry_too_many(rt: HostRuntime) -> Result<(), Fail> {
+    let text = sends(rt.alloc(), 65_537)?;
     check_told(&rt, rt.alloc(), text.as_str(), "fault line=65538 TooLong\n")
+}
+
+// whether a trace is written just so
+fn is_written(alloc: Global, trace: &Trace, text: &[u8]) -> Result<bool, Fail> {
+    let written = text_of(alloc, trace)?;
+    Ok(written.as_slice() == text)
+}
+
+// whether what a text spells is written just so
+fn is_rewritten(alloc: Global, text: &[u8], canonical: &[u8]) -> Result<bool, Fail> {
+    let trace = read_trace(alloc, text)?;
+    is_written(alloc, &trace, canonical)
 }
 
 #[test]
 fn the_ring_is_written(rt: HostRuntime) -> Result<(), Fail> {
-    let text = text_of(rt.alloc(), &ring(rt.alloc())?)?;
-    assert_eq!(rt; text.as_slice(), RING.as_bytes());
+    let pushed = ring(rt.alloc())?;
+    assert!(rt; is_written(rt.alloc(), &pushed, RING.as_bytes())?);
     Ok(())
 }
 
@@ -313,22 +351,18 @@ const CANONICAL: [&str; 4] = [
 
 #[test]
 fn canonical_texts_come_back(rt: HostRuntime) -> Result<(), Fail> {
-    for text in CANONICAL {
-        let trace = read_trace(rt.alloc(), text.as_bytes())?;
-        let written = text_of(rt.alloc(), &trace)?;
-        assert_eq!(rt; written.as_slice(), text.as_bytes());
+    for text in &CANONICAL {
+        let canonical = text.as_bytes();
+        assert!(rt; is_rewritten(rt.alloc(), canonical, canonical)?, "{text}");
     }
     Ok(())
 }
 
 #[test]
 fn the_first_version_where_it_serves(rt: HostRuntime) -> Result<(), Fail> {
-    let trace = read_trace(rt.alloc(), b"[\"trace\",2,64]\n[\"end\",0]")?;
-    let written = text_of(rt.alloc(), &trace)?;
-    assert_eq!(rt;
-        written.as_slice(),
-        b"[\"trace\",1,64]\n[\"end\",0]\n".as_slice()
-    );
+    let second = b"[\"trace\",2,64]\n[\"end\",0]";
+    let first = b"[\"trace\",1,64]\n[\"end\",0]\n";
+    assert!(rt; is_rewritten(rt.alloc(), second, first)?);
     Ok(())
 }
 
@@ -366,22 +400,27 @@ const LONG: [(&str, &str, &str, &str); 14] = [
     ),
 ];
 
+// a text whose third line repeats a part so often that it is long
+fn long_line(alloc: Global, begin: &str, unit: &str, end: &str) -> Result<String, Fail> {
+    let mut text = String::new(alloc);
+    text.push_str(SENT)?;
+    text.push_str(begin)?;
+    for _i in 0..70_000 {
+        text.push_str(unit)?;
+    }
+    text.push_str(end)?;
+    Ok(text)
+}
+
+fn is_long_line_told(alloc: Global, line: &(&str, &str, &str, &str)) -> Result<bool, Fail> {
+    let text = long_line(alloc, line.0, line.1, line.2)?;
+    is_told(alloc, text.as_bytes(), line.3.as_bytes())
+}
+
 #[test]
 fn long_lines(rt: HostRuntime) -> Result<(), Fail> {
-    for (begin, unit, end, want) in LONG {
-        let mut text = String::new(rt.alloc());
-        text.push_str(SENT)?;
-        text.push_str(begin)?;
-        for _i in 0..70_000 {
-            text.push_str(unit)?;
-        }
-        text.push_str(end)?;
-        let line = told(rt.alloc(), text.as_bytes())?;
-        assert_eq!(rt;
-            line.as_slice(),
-            want.as_bytes(),
-            "of {begin}{unit} .. {end}"
-        );
+    for (k, line) in LONG.iter().enumerate() {
+        assert!(rt; is_long_line_told(rt.alloc(), line)?, "line {k}");
     }
     Ok(())
 }
