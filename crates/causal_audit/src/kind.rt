@@ -39,7 +39,8 @@ impl Kind {
 
     /// Who is down after one more entry, which is of this kind.
     pub fn down_after(self, down: Holders) -> Holders
-        ensures { (past : List Entry) (e : Entry) → self ≡ kind_of e → Shows down (λ p. is_down past p) → Shows result (λ p. is_down (e ∷ past) p) }
+        ensures { (past : List Entry) (e : Entry) → self ≡ kind_of e →
+            Shows down (λ p. is_down past p) → Shows result (λ p. is_down (e ∷ past) p) }
     {
         match self {
             Kind::Crash { who } => with(down, who.0),

@@ -23,7 +23,8 @@ pub struct Laid<'a> {
 
 /// The numbers of the events of each lane of the clock, in order.
 fn event_lanes(alloc: Global, clocks: &Clocks) -> Result<Vec<Vec<u32>>, NoMemory>
-    ensures lanes { IfOk result (λ lanes. AreEventLanes clocks.now.events (length clocks.now.events) (lists_of lanes.items)) }
+    ensures lanes { IfOk result (λ lanes.
+        AreEventLanes clocks.now.events (length clocks.now.events) (lists_of lanes.items)) }
     ensures count { IfOk result (λ lanes. vec_len lanes ≡ clocks.now.lanes) }
 {
     let mut lanes = empty_lists(alloc, clocks.lanes())?;
@@ -41,7 +42,8 @@ fn delivery_lanes(
 ) -> Result<Vec<Vec<u32>>, NoMemory>
     requires few { length positions.now ≤ max_entries }
     requires events { All (λ k. k < length clocks.now.events) positions.now }
-    ensures lanes { IfOk result (λ lanes. AreDeliveryLanes positions.now clocks.now.events (length positions.now) (lists_of lanes.items)) }
+    ensures lanes { IfOk result (λ lanes.
+        AreDeliveryLanes positions.now clocks.now.events (length positions.now) (lists_of lanes.items)) }
     ensures count { IfOk result (λ lanes. vec_len lanes ≡ clocks.now.lanes) }
 {
     let mut lanes = empty_lists(alloc, clocks.lanes())?;
@@ -57,7 +59,8 @@ fn own_risen(alloc: Global, clocks: &Clocks, positions: &[u32]) -> Result<Vec<Ve
     requires events { All (λ k. k < length clocks.now.events) positions.now }
     requires ascend { IsNonDecreasing positions.now }
     ensures sound { IfOk result (λ risen. AreSound positions.now clocks.now.events (lists_of risen.items)) }
-    ensures own { IfOk result (λ risen. (lane : ℕ) → HasRisen positions.now clocks.now.events lane lane (lists_of risen.items)) }
+    ensures own { IfOk result (λ risen. (lane : ℕ) →
+        HasRisen positions.now clocks.now.events lane lane (lists_of risen.items)) }
 {
     let mut risen = empty_lists(alloc, clocks.len())?;
     for (i, position) in positions.iter().enumerate() {
@@ -149,8 +152,10 @@ pub fn risen_of(
     requires few { length positions.now ≤ max_entries }
     requires events { All (λ k. k < length clocks.now.events) positions.now }
     requires ascend { IsNonDecreasing positions.now }
-    requires received { (j : ℕ) → j < length clocks.now.events → send_of clocks.now.events j ≢ None → Contains positions.now j }
-    ensures { IfOk result (λ risen. AreRisen positions.now clocks.now.events (length positions.now) (lists_of risen.items)) }
+    requires received { (j : ℕ) → j < length clocks.now.events → send_of clocks.now.events j ≢ None →
+        Contains positions.now j }
+    ensures { IfOk result (λ risen.
+        AreRisen positions.now clocks.now.events (length positions.now) (lists_of risen.items)) }
 {
     let events = event_lanes(alloc, clocks)?;
     let deliveries = delivery_lanes(alloc, clocks, positions)?;

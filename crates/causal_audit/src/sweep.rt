@@ -35,7 +35,8 @@ impl Moment<'_> {
         requires moment { IsMoment self.now room.now }
         requires followed { IsFollowed room.now i }
         ensures { (k : ℕ) → IsNumbered (run_read self.now.reading).past i k →
-            BreachAt (run_read self.now.reading).processes self.now.f (instant (run_read self.now.reading).past self.now.t) k self.now.t result }
+            BreachAt (run_read self.now.reading).processes self.now.f
+            (instant (run_read self.now.reading).past self.now.t) k self.now.t result }
     {
         let position = self.reading.positions[i as usize];
         let place = (self.reading.effects.first[i as usize] - room.lowest) as usize;
