@@ -8,7 +8,7 @@ use Rattle.causal_audit.proofs.Lasting.{or_more}
 use Rattle.causal_name.specs.declared.Det.{Det}
 use Rattle.causal_trace.specs.declared.entry.Entry.{Entry}
 use Rattle.causal_trace.specs.declared.entry.Entry.TheVariants.{Send, Deliver, Stable, Crash, Restart, Forget}
-use Rattle.causal_trace.specs.Past.{instant, is_down, logs, has, det_at, deliveries_in}
+use Rattle.causal_trace.specs.Past.{instant, is_down, logs, has, det_at}
 use Rattle.causal_trace.specs.Rows.{Recording, IsWellFormed, AreAccepted}
 use Rattle.causal_trace.specs.Dependence.{Reaches}
 use Rattle.causal_trace.specs.Judgement.{HasOrphan}

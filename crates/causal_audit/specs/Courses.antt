@@ -24,7 +24,7 @@ LeastUpTo =
 abbrev pub end_of : Room → ℕ
 end_of room = room.from + length room.dependents.items
 
--- no delivery of a lower number has the determinant of one that is numbered from `from` on and below `to`
+-- no delivery with the determinant of one that is numbered from `from` on and below `to` has a number below `lowest`
 abbrev pub IsLowest : Recording → ℕ → ℕ → ℕ → Type 0
 IsLowest r from to lowest =
     (i m k h : ℕ) (d : Det) → from ≤ i → i < to → IsNumbered r.past i k → det_at r.past k ≡ Some d

@@ -5,7 +5,8 @@
 //! System", CACM 21(7), 1978), here with each event also before itself.
 //!
 //! Begin at [`Clocks`]: [`Clocks::new`], then [`Clocks::local`] and [`Clocks::receive`] for each event as it comes, and
-//! [`Clocks::precedes`] and [`Clocks::reach`] for the questions. [`laws`] says what the relation is like.
+//! [`Clocks::precedes`] and [`Clocks::reach`] for the questions; [`Clocks::rises`] answers for a whole lane. [`laws`] says what
+//! the relation is like.
 //!
 //! A clock keeps no row of counters for an event, but for each lane and each source lane a column: where in the lane the
 //! count of the source's events rose. What it costs stands at [`Clocks`].
@@ -44,8 +45,8 @@ pub struct Event {
     pub send: Option<u32>,
 }
 
-/// Where in a lane the count of another lane's events rose: from that place of the lane on, so many of them are reached. An
-/// event's place is how many events of its lane stand before it ([`Clocks::place`]).
+/// Where in a lane the count of another lane's events rose: so many of them are reached from that place of the lane on.
+/// An event's place is how many events of its lane stand before it ([`Clocks::place`]).
 #[derive(Clone, Copy, Debug, PartialEq, Eq)]
 pub struct Rise {
     pub place: u16,
