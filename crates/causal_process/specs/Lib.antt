@@ -1,5 +1,5 @@
 pub mod Bodies
-pub mod Example
+pub mod Inside
 pub mod Kinds
 pub mod Laws
 pub mod LawsKept

@@ -1,5 +1,5 @@
 //! The process of the crate's documentation, compiled and proved.
-ghost use Rattle.causal_process.specs.Example.{count_after, numbering_reaction};
+ghost use Rattle.causal_process.specs.Inside.Example.{count_after, numbering_reaction};
 ghost use Rattle.causal_process.specs.LawsKept.{from_each, from_in_order};
 ghost use Rattle.causal_process.specs.Reactions.{answers_from};
 

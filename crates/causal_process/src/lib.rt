@@ -69,7 +69,7 @@
 //! }
 //! ```
 //!
-//! Both stand, with their imports, in `specs/Example.antt` and `src/example.rt`, where they are compiled and proved.
+//! Both stand, with their imports, in `specs/Inside/Example.antt` and `src/example.rt`, compiled and proved.
 #![tactic(auto)]
 
 mod body;
