@@ -2,7 +2,7 @@
 use Rattle.std.specs.Prelude.{List, [], ◌∷◌, length, slice_index, ◌≡◌, ◌≢◌, ℕ, ◌+◌, ◌-◌, ◌*◌, ◌/◌, ◌%◌, ◌^◌, ◌<◌, ◌≤◌, min, max, Bool, true, false, cond, not, ◌&&◌, ◌||◌, if◌then◌else◌, nat_lt, nat_eq, bit_or, bit_and}
 use Rattle.std.proofs.Common.{get_or, get_or-set_same, get_or-set_other, zero, suc, refl, arith, ap, sym, ◌∙◌, subst, inl, inr, w64}
 use Rattle.std.specs.Ordering.{nat_cmp, eq_by_cmp}
-use Rattle.std.specs.Cmp.{nat_cmp_total, unsigned_tied}
+use Rattle.std.specs.Cmp.{nat_cmp_total, unsigned_tied, both_ways}
 use Rattle.std.specs.FinSet.{FinSet, empty, insert, remove, union, difference, is_subset, len, contains, contains-empty, contains-insert, contains-remove, contains-union, contains-difference, same_set, nat_cmp-IsAntisymmetric, len-insert, len-empty, is_subset-contains, contains-is_subset}
 use Rattle.std.specs.Cmp.Lexicographic.{pointwise, same_text}
 use Rattle.std.proofs.lemmas.Cmp.{nat_list_eq_equiv}
@@ -10,7 +10,7 @@ use Rattle.std.specs.Int.{bit_at, bit_not, trailing_zeros}
 use Rattle.std.specs.Int.Count.{ones, ones_cat, ones-ones}
 use Rattle.std.proofs.Math.Nat.{mod-eq_of_lt, mod-lt, add_comm}
 use Rattle.std.proofs.Math.Pow.{pow_pos}
-use Rattle.std.proofs.lemmas.Nat.{and_le_l, or_lt}
+use Rattle.std.proofs.lemmas.Nat.{or_lt}
 use Rattle.causal_holders.specs.Members.{IsLeast, numbers_below}
 use Rattle.std.proofs.lemmas.Bool.Decides.{nat_tests, eqb_tells, leb_tells}
 use Rattle.std.proofs.lemmas.Nat.Bits.{bit_at-zero, bit_at-lt, bit_at_or, bit_at_and, bit_at_not, bit_at_set_same, bit_at_set_other, bit_at_clear_same, bit_at_clear_other, shr_and_one, bit_at-trailing_zeros}
@@ -31,10 +31,6 @@ shown_is ws s h = same_set nat_cmp_total nat_cmp-IsAntisymmetric _ _ (λ q. cont
 
 at_tie : (q p : ℕ) (b : Bool) → (eq_by_cmp nat_cmp q p || b) ≡ (nat_eq q p || b)
 at_tie q p b = ap (λ t. t || b) (unsigned_tied q p)
-
--- a word with one more bit
-abbrev pub with_bit : List ℕ → ℕ → ℕ → List ℕ
-with_bit ws p w = set ws (p / 64) w
 
 same_member : (ws : List ℕ) (q w : ℕ) → q / 64 < length ws → has_member (set ws (q / 64) w) q ≡ has_bit w (q % 64)
 same_member ws q w h = ap (λ (x : ℕ). has_bit x (q % 64)) (get_or-set_same ws (q / 64) w 0 h)
@@ -259,9 +255,6 @@ bit_is ws p h =
 pub one_bit_fits : (b p : ℕ) → b < 2 ^ 64 → bit_or b (1 * 2 ^ p % 2 ^ 64) < 2 ^ 64
 one_bit_fits b p h = or_lt 64 b _ h (mod-lt (1 * 2 ^ p) (omega arith))
 
-pub cleared_fits : (ws : List ℕ) (p : ℕ) → AreWords ws → cleared ws p < 2 ^ 64
-cleared_fits ws p a = omega (arith, a.small (p / 64), and_le_l (slice_index ws (p / 64)) (bit_not w64 (1 * 2 ^ (p % 64) % 2 ^ 64)))
-
 -- each member is below the number of processes
 is_below : (q n : ℕ) (b : Bool) → (nat_lt q n && b) ≡ true → (q < n) × (b ≡ true)
 is_below q n b h = (grind (arith, nat_tests), grind (arith, nat_tests))
@@ -312,19 +305,10 @@ lowest ws i a there pos none =
               not_set (bit_at (slice_index ws (q / 64)) (q % 64)) (ap (λ (k : ℕ). bit_at (slice_index ws k) (q % 64)) same ∙ at.2 (q % 64) (omega (arith, same))) h
         ]
 
-pub lowest_inside : (ws : List ℕ) (i : ℕ) → AreWords ws → 0 < slice_index ws i → trailing_zeros w64 (slice_index ws i) < 64
-lowest_inside ws i a pos = (bit_at-trailing_zeros w64 (slice_index ws i) pos (a.small i)).0
-
--- ---- equality
-
-same_bools : (b c : Bool) → (b ≡ true → c ≡ true) → (c ≡ true → b ≡ true) → b ≡ c
-same_bools true c f g = sym (f refl)
-same_bools false true f g = g refl
-same_bools false false f g = refl
-
+-- words are equal where their sets have the same members
 pub same_words : (ws vs : List ℕ) → AreWords ws → AreWords vs → pointwise nat_eq ws vs ≡ have_same_members (shown ws) (shown vs)
 same_words ws vs a b =
-    same_bools _ _
+    both_ways _ _
     (λ e. subst (λ xs. have_same_members (shown ws) (shown xs) ≡ true) (same_text ws vs (sym e)) (have_same_members-itself (shown ws)))
     (λ e. subst (λ xs. pointwise nat_eq ws xs ≡ true) (same_shown e) (nat_list_eq_equiv.refl ws))
   where
@@ -344,9 +328,10 @@ in_both true true h = refl
 in_both true false h = sym (h refl)
 in_both false c h = refl
 
+-- a set less another is empty where it is a part of the other
 pub nothing_left : (s t : FinSet nat_cmp) → have_same_members (difference s t) empty ≡ is_subset s t
 nothing_left s t =
-    same_bools _ _
+    both_ways _ _
     (λ e. contains-is_subset nat_cmp_total s t (λ q in_s.
     in_other (contains s q) (contains t q) in_s
     (sym (contains-difference nat_cmp_total s t q) ∙ ap (λ u. contains u q) (same_members_equal (difference s t) empty e) ∙ contains-empty nat_cmp q)))

@@ -3,8 +3,8 @@ use Rattle.std.proofs.Common.{ℕ, zero, suc, ◌≡◌, ◌+◌, ◌-◌, ◌<�
 use Rattle.std.specs.Prelude.{◌&&◌, ◌||◌, ◌↔◌, not, nat_lt}
 use Rattle.std.specs.Ordering.{nat_cmp}
 use Rattle.std.specs.Cmp.{nat_cmp_total, unsigned_tied}
-use Rattle.std.specs.FinSet.{FinSet, contains, empty, remove, union, difference, is_subset, len, same_set, contains-empty, contains-remove, contains-union, contains-difference, is_subset-contains, contains-is_subset, len-empty, len-remove, nat_cmp-IsAntisymmetric}
-use Rattle.std.proofs.lemmas.Bool.{false≢true, or_cases, or_left, or_right, cases_Bool}
+use Rattle.std.specs.FinSet.{FinSet, contains, empty, remove, union, is_subset, len, same_set, contains-empty, contains-remove, contains-union, is_subset-contains, contains-is_subset, len-empty, len-remove, nat_cmp-IsAntisymmetric}
+use Rattle.std.proofs.lemmas.Bool.{false≢true, or_cases, or_left, or_right}
 use Rattle.std.proofs.lemmas.Bool.Decides.{nat_tests, eqb_tells}
 use Rattle.causal_name.specs.Sets.{count_below, any_below, either, IsWithin}
 use Rattle.causal_holders.specs.Members.{HasMembers, numbers_below}
@@ -27,18 +27,6 @@ pub count_below-within : (n : ℕ) (a b : ℕ → Bool) → IsWithin n a b → c
 count_below-within zero a b h = omega arith
 count_below-within (suc n) a b h = omega (arith, count_below-within n a b (λ p below. h p (omega (arith, below))), one_le (a n) (b n) (h n (omega arith)))
 
-more_one : (a b : Bool) → a ≡ false → b ≡ true → cond a 1 0 < cond b 1 0
-more_one a b e h = rw (e, h) (omega arith)
-
--- with one more member it has more
-pub count_below-more : (n : ℕ) (a b : ℕ → Bool) (p : ℕ) → p < n → IsWithin n a b → a p ≡ false → b p ≡ true → count_below n a < count_below n b
-count_below-more zero a b p below h e g = absurd (omega (arith, below))
-count_below-more (suc n) a b p below h e g =
-    elim (eqb_tells p n) [
-      | inl k ↦ omega (arith, count_below-within n a b (λ q small. h q (omega (arith, small))), more_one (a n) (b n) (ap a (sym k.1) ∙ e) (ap b (sym k.1) ∙ g))
-      | inr k ↦ omega (arith, count_below-more n a b p (let ne : p ≡ n → ⊥ = k.1 in omega (arith, below)) (λ q small. h q (omega (arith, small))) e g, one_le (a n) (b n) (h n (omega arith)))
-    ]
-
 at_most_one : (x : Bool) → cond x 1 0 ≤ 1
 at_most_one true = omega arith
 at_most_one false = omega arith
@@ -48,28 +36,9 @@ pub count_below-le : (n : ℕ) (a : ℕ → Bool) → count_below n a ≤ n
 count_below-le zero a = omega arith
 count_below-le (suc n) a = omega (arith, count_below-le n a, at_most_one (a n))
 
-sum_le : (x y : Bool) → cond (x || y) 1 0 ≤ cond x 1 0 + cond y 1 0
-sum_le true y = omega arith
-sum_le false y = omega arith
-
--- a union has at most the members of both
-pub count_below-either : (n : ℕ) (a b : ℕ → Bool) → count_below n (either a b) ≤ count_below n a + count_below n b
-count_below-either zero a b = omega arith
-count_below-either (suc n) a b = omega (arith, count_below-either n a b, sum_le (a n) (b n))
-
 none_false : (b : Bool) → (b ≡ true → ⊥) → b ≡ false
 none_false true h = absurd (h refl)
 none_false false h = refl
-
-and_not_parts : (b c : Bool) → (b && not c) ≡ true → (b ≡ true) × (c ≡ false)
-and_not_parts true true h = absurd (false≢true h)
-and_not_parts true false h = (refl, refl)
-and_not_parts false c h = absurd (false≢true h)
-
-in_other : (b c : Bool) → b ≡ true → (b && not c) ≡ false → c ≡ true
-in_other true true h e = refl
-in_other true false h e = sym e
-in_other false c h e = absurd (false≢true h)
 
 -- where some pass, here is one
 pub any_below-found : (n : ℕ) (test : ℕ → Bool) → any_below n test ≡ true → (p : ℕ) × (p < n) × (test p ≡ true)
@@ -89,32 +58,10 @@ any_below-from (suc n) test p below h =
       | inr k ↦ or_right _ _ (any_below-from n test p (let ne : p ≡ n → ⊥ = k.1 in omega (arith, below)) h)
     ]
 
--- tests that agree below n find the same
-pub any_below-same : (n : ℕ) (a b : ℕ → Bool) → ((q : ℕ) → q < n → a q ≡ b q) → any_below n a ≡ any_below n b
-any_below-same zero a b h = refl
-any_below-same (suc n) a b h = λ i. h n (omega arith) i || any_below-same n a b (λ q below. h q (omega (arith, below))) i
-
--- where none is found, none passes
-pub any_below-none : (n : ℕ) (test : ℕ → Bool) (p : ℕ) → p < n → any_below n test ≡ false → test p ≡ false
-any_below-none n test p below h = none_false (test p) (λ passes. false≢true (sym h ∙ any_below-from n test p below passes))
-
 -- where none passes, the count is 0
 pub count_below-none : (n : ℕ) (test : ℕ → Bool) → ((q : ℕ) → q < n → test q ≡ false) → count_below n test ≡ 0
 count_below-none zero test h = refl
 count_below-none (suc n) test h = omega (arith, count_below-none n test (λ q below. h q (omega (arith, below))), ap {B = ℕ} (λ b. cond b 1 0) (h n (omega arith)))
-
--- a set that has more members than another has one outside it
-pub count_below-outside : (n : ℕ) (a b : ℕ → Bool) → count_below n a < count_below n b → (p : ℕ) × (p < n) × (a p ≡ false) × (b p ≡ true)
-count_below-outside n a b more =
-    elim (cases_Bool (any_below n (λ p. b p && not (a p)))) [
-      | inl some ↦
-          let found : (p : ℕ) × (p < n) × ((b p && not (a p)) ≡ true) = any_below-found n (λ p. b p && not (a p)) some in
-          let parts = and_not_parts (b found.0) (a found.0) found.2 in
-          (found.0, found.1, parts.1, parts.0)
-      | inr none ↦ absurd (omega (arith, more, count_below-within n b a (λ p below h. in_other (b p) (a p) h (any_below-none n (λ q. b q && not (a q)) p below none))))
-    ]
-
--- ---- finite sets
 
 removed_other : (s : FinSet nat_cmp) (n q : ℕ) → q ≢ n → contains (remove s n) q ≡ contains s q
 removed_other s n q apart =
@@ -165,13 +112,6 @@ pub union_members : (n : ℕ) (s t : FinSet nat_cmp) (a b : ℕ → Bool) → Ha
 union_members n s t a b m k = record {
   process = λ p h. either_below (contains s p) (contains t p) p n (m.process p) (k.process p) (sym (contains-union nat_cmp_total s t p) ∙ h);
   member = λ p h. contains-union nat_cmp_total s t p ∙ (λ i. m.member p h i || k.member p h i);
-}
-
--- a difference shows what passes the one test and not the other
-pub difference_members : (n : ℕ) (s t : FinSet nat_cmp) (a b : ℕ → Bool) → HasMembers n s a → HasMembers n t b → HasMembers n (difference s t) (λ p. a p && not (b p))
-difference_members n s t a b m k = record {
-  process = λ p h. m.process p (and_not_parts (contains s p) (contains t p) (sym (contains-difference nat_cmp_total s t p) ∙ h)).0;
-  member = λ p h. contains-difference nat_cmp_total s t p ∙ (λ i. m.member p h i && not (k.member p h i));
 }
 
 -- of two sets that show tests, one is a part of the other where its test is within the other's

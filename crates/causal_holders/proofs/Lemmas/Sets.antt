@@ -1,13 +1,14 @@
--- Finite sets of numbers: parts, unions, members, and how many.
+-- Finite sets of numbers: parts, differences, members, and how many.
 use Rattle.std.specs.Prelude.{◌≡◌, ℕ, ◌-◌, ◌<◌, ◌≤◌, ◌⊎◌, Bool, true, false, cond, not, ◌&&◌, ◌||◌, List, [], ◌∷◌, nat_eq}
 use Rattle.std.proofs.Common.{zero, suc, refl, arith, ap, sym, ◌∙◌, inl, inr}
 use mathlib.Core.Bool.{true≢false}
 use Rattle.std.specs.Ordering.{nat_cmp, eq_by_cmp}
 use Rattle.std.specs.List.{list_any}
 use Rattle.std.specs.Cmp.{nat_cmp_total, unsigned_tied}
-use Rattle.std.specs.FinSet.{FinSet, empty, empty_of_len, remove, union, difference, items, is_subset, len, contains, contains-empty, contains-items, contains-remove, contains-union, contains-difference, same_set, nat_cmp-IsAntisymmetric, len-remove, len-empty, is_subset-contains, contains-is_subset}
+use Rattle.std.specs.FinSet.{FinSet, empty, empty_of_len, remove, difference, items, is_subset, len, contains, contains-empty, contains-items, contains-remove, contains-difference, same_set, nat_cmp-IsAntisymmetric, len-remove, len-empty, is_subset-contains, contains-is_subset}
 use Rattle.std.proofs.lemmas.Bool.Decides.{nat_tests, leb_tells}
 
+-- a number is equal to itself
 itself : (x : ℕ) → nat_eq x x ≡ true
 itself x = grind (arith, nat_tests)
 
@@ -19,10 +20,12 @@ empty_or_member s = go (items s) refl
     go [] e = inl (same_set nat_cmp_total nat_cmp-IsAntisymmetric s empty (λ q. contains-items s q ∙ ap (list_any (eq_by_cmp nat_cmp q)) e ∙ sym (contains-empty nat_cmp q)))
     go (x ∷ xs) e = inr (x, contains-items s x ∙ ap (list_any (eq_by_cmp nat_cmp x)) e ∙ ap (λ b. b || list_any (eq_by_cmp nat_cmp x) xs) (unsigned_tied x x ∙ itself x))
 
+-- what is not taken out of the one is not taken out of the other
 kept : (a b c : Bool) → (not a && b) ≡ true → (b ≡ true → c ≡ true) → (not a && c) ≡ true
 kept true b c h f = h
 kept false b c h f = f h
 
+-- a part of a set is still one when both lose a number
 subset_remove : (s t : FinSet nat_cmp) (x : ℕ) → is_subset s t ≡ true → is_subset (remove s x) (remove t x) ≡ true
 subset_remove s t x h =
     contains-is_subset nat_cmp_total _ _ (λ q in_s.
@@ -37,6 +40,7 @@ some_member t x h =
       | inr none ↦ absurd (true≢false (sym h ∙ ap (λ u. contains u x) (empty_of_len t (omega (arith, none.1))) ∙ contains-empty nat_cmp x))
     ]
 
+-- a part has no more members, by the number of its members
 len_le : (n : ℕ) (s t : FinSet nat_cmp) → len s ≡ n → is_subset s t ≡ true → len s ≤ len t
 len_le zero s t e h = omega arith
 len_le (suc n) s t e h =
@@ -54,35 +58,7 @@ len_le (suc n) s t e h =
 pub len-is_subset : (s t : FinSet nat_cmp) → is_subset s t ≡ true → len s ≤ len t
 len-is_subset s t h = len_le (len s) s t refl h
 
-left : (a b : Bool) → a ≡ true → (a || b) ≡ true
-left a b h = ap (λ x. x || b) h
-
-right : (a b : Bool) → b ≡ true → (a || b) ≡ true
-right true b h = refl
-right false b h = h
-
-either_true : (a b c : Bool) → (a || b) ≡ true → (a ≡ true → c ≡ true) → (b ≡ true → c ≡ true) → c ≡ true
-either_true true b c h f g = f refl
-either_true false b c h f g = g h
-
--- each of two sets is in their union
-pub subset_left : (s t : FinSet nat_cmp) → is_subset s (union s t) ≡ true
-subset_left s t = contains-is_subset nat_cmp_total _ _ (λ q h. contains-union nat_cmp_total s t q ∙ left _ _ h)
-
-pub subset_right : (s t : FinSet nat_cmp) → is_subset t (union s t) ≡ true
-subset_right s t = contains-is_subset nat_cmp_total _ _ (λ q h. contains-union nat_cmp_total s t q ∙ right _ _ h)
-
--- a set that covers two covers both together
-pub union_within : (s t u : FinSet nat_cmp) → is_subset s u ≡ true → is_subset t u ≡ true → is_subset (union s t) u ≡ true
-union_within s t u h k =
-    contains-is_subset nat_cmp_total _ _ (λ q both.
-    either_true (contains s q) (contains t q) (contains u q) (sym (contains-union nat_cmp_total s t q) ∙ both) (is_subset-contains nat_cmp_total s u h q) (is_subset-contains nat_cmp_total t u k q))
-
-in_other : (b c : Bool) → b ≡ true → (b && not c) ≡ false → c ≡ true
-in_other true true h e = refl
-in_other true false h e = sym e
-in_other false c h e = absurd (true≢false (sym h))
-
+-- of two tests the one holds and the other does not
 both_parts : (b c : Bool) → (b && not c) ≡ true → (b ≡ true) × (c ≡ false)
 both_parts true true h = absurd (true≢false (sym h))
 both_parts true false h = (refl, refl)
@@ -91,19 +67,3 @@ both_parts false c h = absurd (true≢false (sym h))
 -- a member of a difference is in the one and not in the other
 pub difference_member : (s t : FinSet nat_cmp) (p : ℕ) → contains (difference s t) p ≡ true → (contains s p ≡ true) × (contains t p ≡ false)
 difference_member s t p h = both_parts (contains s p) (contains t p) (sym (contains-difference nat_cmp_total s t p) ∙ h)
-
--- a set that is not in the other has a member outside it
-pub member_outside : (s t : FinSet nat_cmp) → is_subset s t ≡ false → (p : ℕ) × (contains s p ≡ true) × (contains t p ≡ false)
-member_outside s t h =
-    elim (empty_or_member (difference s t)) [
-      | inl none ↦ absurd (true≢false (sym (contains-is_subset nat_cmp_total s t (λ q in_s. in_other (contains s q) (contains t q) in_s (sym (contains-difference nat_cmp_total s t q) ∙ ap (λ u. contains u q) none ∙ contains-empty nat_cmp q))) ∙ h))
-      | inr some ↦ let parts = difference_member s t some.0 some.1 in (some.0, parts.0, parts.1)
-    ]
-
--- a set with a member that another lacks is not in it, nor in a part of it
-pub not_subset : (s t u : FinSet nat_cmp) (p : ℕ) → contains s p ≡ true → contains u p ≡ false → is_subset t u ≡ true → is_subset s t ≡ false
-not_subset s t u p here out within = go (is_subset s t) refl
-  where
-    go : (b : Bool) → is_subset s t ≡ b → is_subset s t ≡ false
-    go true e = absurd (true≢false (sym (is_subset-contains nat_cmp_total t u within p (is_subset-contains nat_cmp_total s t e p here)) ∙ out))
-    go false e = e

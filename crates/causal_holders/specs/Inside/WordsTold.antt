@@ -10,6 +10,7 @@ use Rattle.std.proofs.lemmas.Nat.Bits.{bit_at-lt}
 use Rattle.std.proofs.Math.Pow.{pow_pos}
 use Rattle.std.proofs.Math.Nat.{div-add-mod, mod-eq_of_lt, mod-lt, mul-le-mul_left}
 use Rattle.std.proofs.lemmas.Nat.{mod-mul-add}
+use Rattle.causal_holders.specs.declared.TheConstants.{PROCESSES}
 use Rattle.causal_holders.specs.Members.{numbers_below}
 use Rattle.causal_holders.specs.Inside.Words.{has_bit, has_member, AreWords, word_below, part, words_of}
 
@@ -82,18 +83,12 @@ word_below-has_bit (suc n) w =
 inside : (q n : ℕ) (b : Bool) → q < n → (nat_lt q n && b) ≡ b
 inside q n b h = grind (arith, nat_tests)
 
-pub word_below_shown : (n w : ℕ) → w < 2 ^ n → word_below n (contains (numbers_below n (has_bit w))) ≡ w
-word_below_shown n w h =
-    word_below-same n _ (has_bit w) (λ k below. contains-numbers_below n (has_bit w) k ∙ inside k n (has_bit w k) below)
-    ∙ word_below-has_bit n w
-    ∙ mod-eq_of_lt h
-
-part_shown : (words : List ℕ) (i : ℕ) → AreWords words → i < 4 → part (contains (numbers_below 256 (has_member words))) i ≡ slice_index words i
+part_shown : (words : List ℕ) (i : ℕ) → AreWords words → i < 4 → part (contains (numbers_below PROCESSES (has_member words))) i ≡ slice_index words i
 part_shown words i a h =
     word_below-same 64 _ (has_bit (slice_index words i)) (λ k below.
     let q : (64 * i + k) / 64 ≡ i = omega arith in
     let r : (64 * i + k) % 64 ≡ k = omega arith in
-    contains-numbers_below 256 (has_member words) (64 * i + k) ∙ inside (64 * i + k) 256 _ (omega arith)
+    contains-numbers_below PROCESSES (has_member words) (64 * i + k) ∙ inside (64 * i + k) 256 _ (omega arith)
     ∙ (λ j. has_bit (slice_index words (q j)) (r j)))
     ∙ word_below-has_bit 64 (slice_index words i)
     ∙ mod-eq_of_lt (a.small i)
@@ -106,6 +101,6 @@ four_words (x ∷ y ∷ z ∷ []) a b c d e p q r s = absurd (omega arith)
 four_words (x ∷ y ∷ z ∷ u ∷ []) a b c d e p q r s = λ i. p i ∷ q i ∷ r i ∷ s i ∷ []
 four_words (x ∷ y ∷ z ∷ u ∷ v ∷ more) a b c d e p q r s = absurd (omega arith)
 
-pub words_shown : (words : List ℕ) → AreWords words → words_of (contains (numbers_below 256 (has_member words))) ≡ words
+pub words_shown : (words : List ℕ) → AreWords words → words_of (contains (numbers_below PROCESSES (has_member words))) ≡ words
 unfolding words_of
 words_shown words a = four_words words _ _ _ _ a.count (part_shown words 0 a (omega arith)) (part_shown words 1 a (omega arith)) (part_shown words 2 a (omega arith)) (part_shown words 3 a (omega arith))
