@@ -3,6 +3,9 @@
 //! The determinant of a delivery is what a replay needs to repeat it: the message's sender and send sequence number,
 //! its receiver and receive sequence number (Alvisi and Marzullo, "Message Logging: Pessimistic, Optimistic, Causal,
 //! and Optimal", IEEE TSE 24(2), 1998). Sequence numbers count from 0 in each incarnation of a process.
+//!
+//! Begin at [`Det`]: its `message` and `slot` say what was delivered and where it stands, and `comes_before` is the order in which
+//! lists of determinants ascend.
 #![tactic(auto)]
 
 pub mod order;

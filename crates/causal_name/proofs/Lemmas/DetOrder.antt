@@ -1,17 +1,15 @@
--- That determinants are totally ordered, that `==` holds of those alone that the order does not tell apart, and that an
--- ascending list is sorted. For the crates above.
-use Rattle.std.proofs.Common.{◌≡◌, ◌∙◌, ℕ, zero, suc, Bool, true, false, ◌&&◌, nat_eq, List, [], ◌∷◌, refl, sym, ap, arith, add-one}
+-- That determinants are totally ordered, and that `==` holds of those alone that the order does not tell apart. For the
+-- crates above.
+use Rattle.std.proofs.Common.{◌≡◌, ◌∙◌, ℕ, Bool, true, ◌&&◌, nat_eq, sym, ap, arith}
 use Rattle.std.specs.declared.cmp.Ordering.{Ordering}
 use Rattle.std.specs.declared.cmp.Ordering.TheVariants.{Less, Equal, Greater}
-use Rattle.std.specs.Ordering.{nat_cmp, ordering_then, ordering_reverse, is_eq, is_lt, eq_by_cmp}
+use Rattle.std.specs.Ordering.{nat_cmp, ordering_then, is_eq, eq_by_cmp}
 use Rattle.std.specs.Cmp.{Equal-is, tied_itself, IsTotalOrder, nat_cmp_total}
-use Rattle.std.specs.List.Sorted.{IsSorted}
-use Rattle.std.proofs.lemmas.Bool.{false≢true, and_parts}
 use Rattle.std.proofs.lemmas.Bool.Decides.{nat_tests}
 use Rattle.std.proofs.lemmas.Cmp.{on_total, then_total}
 use Rattle.std.proofs.lemmas.Map.Lookups.{CmpEqualImpliesEq, exact_pairs, exact_unsigned}
 use Rattle.causal_name.specs.declared.Det.{Det}
-use Rattle.causal_name.specs.Names.{det_cmp, same_det, is_before, is_ascending}
+use Rattle.causal_name.specs.Names.{det_cmp, same_det}
 
 -- the order of determinants is total
 pub dets_total : IsTotalOrder det_cmp
@@ -53,17 +51,3 @@ same_is x y h = exact_dets x y ((Equal-is (det_cmp x y)).0 (sym (det_ties x y) �
 -- `==` holds of a determinant and itself
 pub same_itself : (x : Det) → same_det x x ≡ true
 same_itself x = det_ties x x ∙ ap is_eq (tied_itself dets_total x)
-
--- what comes before another does not come after it
-not_after : (r : Ordering) → is_lt r ≡ true → is_lt (ordering_reverse r) ≡ false
-not_after Less h = refl
-not_after Equal h = refl
-not_after Greater h = absurd (false≢true h)
-
--- an ascending list is sorted
-pub ascending_sorted : (ds : List Det) → is_ascending ds ≡ true → IsSorted det_cmp ds
-ascending_sorted [] h k x low high = absurd (omega (arith, high))
-ascending_sorted (d ∷ []) h k x low high = absurd (omega (arith, high))
-ascending_sorted (d ∷ e ∷ ds) h zero x low high = ap is_lt (dets_total.antisymm e d) ∙ not_after (det_cmp d e) (and_parts (is_before d e) (is_ascending (e ∷ ds)) h).0
-ascending_sorted (d ∷ e ∷ ds) h (suc k) x low high =
-    rw add-one (rw add-one at (ascending_sorted (e ∷ ds) (and_parts (is_before d e) (is_ascending (e ∷ ds)) h).1 k x (omega arith) (omega arith)))
