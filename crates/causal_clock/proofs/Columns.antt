@@ -10,7 +10,7 @@ use Rattle.std.proofs.lemmas.List.Sorted.{IsPartitionedBy-leb, IsNonDecreasingBy
 use Rattle.std.proofs.lemmas.List.{get_or-drop, length-drop, take_all}
 use Rattle.causal_clock.specs.declared.Rise.{Rise}
 use Rattle.causal_clock.specs.Rises.{rise_at, count_at, RisesStrictly}
-use Rattle.causal_clock.specs.Inside.Columns.{IsColumn, raised}
+use Rattle.causal_clock.specs.Inside.Columns.{IsColumn, TellsAlike, raised}
 use Rattle.causal_clock.proofs.Lemmas.Counted.{IsCountOf, rise_counts, count_risen}
 
 -- ---- the count at a place
@@ -125,6 +125,35 @@ raised_cases rises place count =
       | inl less ↦ inl (ap (λ b. if b then rises ++ record { place = place; count = count } ∷ [] else rises) (lt-ltb _ _ less.1), less.1)
       | inr more ↦ inr (ap (λ b. if b then rises ++ record { place = place; count = count } ∷ [] else rises) (le-ltb _ _ (omega (arith, more.1))), omega (arith, more.1))
     ]
+
+-- a count that is greater than the one there makes one more rise
+pub raised_more : (rises : List Rise) (place count : ℕ) → count_at rises place < count → raised rises place count ≡ rises ++ record { place = place; count = count } ∷ []
+raised_more rises place count less = ap (λ b. if b then rises ++ record { place = place; count = count } ∷ [] else rises) (lt-ltb _ _ less)
+
+-- and no other does
+pub raised_same : (rises : List Rise) (place count : ℕ) → count ≤ count_at rises place → raised rises place count ≡ rises
+raised_same rises place count more = ap (λ b. if b then rises ++ record { place = place; count = count } ∷ [] else rises) (le-ltb _ _ more)
+
+-- counts that tell alike raise alike
+pub raised_alike : (rises : List Rise) (place known count other : ℕ) → count_at rises place ≡ known → TellsAlike known count other → raised rises place count ≡ raised rises place other
+raised_alike rises place known count other is alike =
+    elim (leb_tells (suc known) count) [
+      | inl news ↦ ap (raised rises place) (omega (arith, news.1, alike))
+      | inr none ↦ raised_same rises place count (omega (arith, is, none.1)) ∙ sym (raised_same rises place other (omega (arith, is, none.1, alike)))
+    ]
+
+-- later the count is no less
+pub count_at-later : (rises : List Rise) (p q : ℕ) → p ≤ q → count_at rises p ≤ count_at rises q
+count_at-later [] p q le = omega arith
+count_at-later (r ∷ rises) p q le =
+    elim (leb_tells r.place p) [
+      | inl here ↦ omega (arith, ap (λ b. if b then r.count else 0) here.0, ap (λ b. if b then r.count else 0) (le-leb r.place q (omega (arith, here.1, le))), count_at-later rises p q le)
+      | inr past ↦ omega (arith, ap (λ b. if b then r.count else 0) past.0, count_at-later rises p q le)
+    ]
+
+-- from one more rise on
+pub count_at-risen : (rises : List Rise) (place count q : ℕ) → place ≤ q → count_at (rises ++ record { place = place; count = count } ∷ []) q ≡ max (count_at rises q) count
+count_at-risen rises place count q le = count_at-append rises _ q ∙ omega (arith, ap (λ b. if b then count else 0) (le-leb place q le))
 
 -- nothing rises to 0
 pub raised_none : (rises : List Rise) (place : ℕ) → raised rises place 0 ≡ rises

@@ -1,23 +1,22 @@
 -- What a clock keeps goes on through its calls, over its fields.
-use Rattle.std.specs.Prelude.{◌≡◌, ◌≢◌, ℕ, ◌+◌, ◌<◌, ◌≤◌, ◌↔◌, nat_lt, ◌==◌, IsTrue, Some, List, [], ◌∷◌, ◌++◌, length, map}
-use Rattle.std.proofs.Common.{suc, arith, ap, sym, ◌∙◌, inl, inr, get_or}
+use Rattle.std.specs.Prelude.{◌≡◌, ◌≢◌, ℕ, ◌+◌, ◌<◌, ◌≤◌, ◌↔◌, nat_lt, ◌==◌, max, if◌then◌else◌, IsTrue, Some, List, [], ◌∷◌, ◌++◌, length, map}
+use Rattle.std.proofs.Common.{suc, refl, arith, ap, sym, ◌∙◌, inl, inr, get_or, eq-eqb, ne_eqb}
 use Rattle.std.proofs.Math.ListN.{set, get_or-eq_default}
-use Rattle.std.proofs.lemmas.Bool.Decides.{nat_tests, leb_tells}
+use Rattle.std.proofs.lemmas.Bool.Decides.{nat_tests, leb_tells, eqb_tells}
 use Rattle.std.proofs.lemmas.List.{map-append, map-set}
 use Rattle.std.proofs.lemmas.List.Sums.{count_by-le-length}
 use Rattle.causal_clock.specs.declared.Event.{Event}
 use Rattle.causal_clock.specs.declared.Entry.{Entry}
 use Rattle.causal_clock.specs.declared.Rise.{Rise}
 use Rattle.causal_clock.specs.declared.lane.Lane.{Lane}
-use Rattle.causal_clock.specs.Timeline.{lane_length}
-use Rattle.causal_clock.specs.Precedence.{FirstReach}
-use Rattle.causal_clock.specs.Inside.Columns.{column_in, column_of, raised}
+use Rattle.causal_clock.specs.Timeline.{lane_of, lane_length, place_of}
+use Rattle.causal_clock.specs.Rises.{count_at}
+use Rattle.causal_clock.specs.Inside.Columns.{column_in, column_of, raised, TellsAlike}
 use Rattle.causal_clock.specs.Inside.Kept.{count_or_none}
 use Rattle.causal_clock.specs.Inside.Lanes.{rises_in, SameColumns}
-use Rattle.causal_clock.specs.Inside.Fields.{counts_in, KeepsColumns}
+use Rattle.causal_clock.specs.Inside.Fields.{count_told, counts_in, KeepsColumns}
 use Rattle.causal_clock.proofs.Fields.{events_in, places_in, as_many_events, as_many_places, keeps_same, keeps_open, no_events}
 use Rattle.causal_clock.proofs.Lanes.{as_many, told_was, told_same, column_here, column_elsewhere, column_was, columns_same, column_more}
-use Rattle.causal_clock.proofs.Places.{reach_unique}
 use Rattle.causal_clock.proofs.Rising.{keeps_next}
 
 abbrev pub lengths_in : List Lane → List ℕ
@@ -48,16 +47,35 @@ keeps_unchanged es places xs l x y lt is events same k =
     let lengths : lengths_in (set xs l y) ≡ lengths_in xs = told_same (λ (z : Lane). z.events) xs l x y lt is events in
     rw lengths (keeps_same es places (lengths_in xs) (columns_in xs) (columns_in (set xs l y)) (columns_same xs l x y lt is same) k)
 
--- the counts that a receive is told are those of its send's event
-pub received : (es : List Event) (places lengths : List ℕ) (column : ℕ → ℕ → List Rise) → KeepsColumns es places lengths column → (send own : ℕ) → send < length es → (counts : List ℕ) → length counts ≡ length lengths → ((k : ℕ) → k < length lengths → k ≢ own → FirstReach es send k (get_or counts k 0)) → (source : ℕ) → source ≢ own → get_or counts source 0 ≡ counts_in es column send source
-received es places lengths column k send own lt counts long each source other =
-    elim (leb_tells (suc source) (length lengths)) [
-      | inl there ↦ reach_unique es send source _ _ (each source there.1 other) (k.keeps.reach send lt source)
-      | inr past ↦
-          let beyond : length lengths ≤ source = omega (arith, past.1) in
-          let none = no_events es (counts_in es column) (length lengths) source k.keeps beyond (k.keeps.last source).0 (k.keeps.last source).1 in
-          let here : get_or counts source 0 ≡ 0 = get_or-eq_default counts 0 (omega (arith, long, beyond)) in
-          omega (arith, here, (k.keeps.reach send lt source).no_more, none)
+-- what an entry tells is what is counted
+pub told_in : (es : List Event) (column : ℕ → ℕ → List Rise) (send source : ℕ) (entry : Entry) (columns : List (List Rise)) → lane_of es send ≡ entry.event.lane → place_of es send ≡ entry.place → column entry.event.lane source ≡ column_in columns source → count_told columns entry source ≡ counts_in es column send source
+told_in es column send source entry columns lane place is =
+    let at = ap (λ l. column l source) lane ∙ is in
+    λ i. if sym lane i == source then sym place i + 1 else count_at (sym at i) (sym place i)
+
+-- what a receive is told of each lane, and of its own nothing
+abbrev pub told_of : List Event → (ℕ → ℕ → List Rise) → ℕ → ℕ → ℕ → ℕ
+told_of es column send own source = if own == source then 0 else counts_in es column send source
+
+pub told_of-own : (es : List Event) (column : ℕ → ℕ → List Rise) (send own : ℕ) → told_of es column send own own ≡ 0
+told_of-own es column send own = ap (λ b. if b then 0 else counts_in es column send own) (eq-eqb own own refl)
+
+pub told_of-other : (es : List Event) (column : ℕ → ℕ → List Rise) (send own source : ℕ) → source ≢ own → told_of es column send own source ≡ counts_in es column send source
+told_of-other es column send own source other = ap (λ b. if b then 0 else counts_in es column send source) (ne_eqb own source (λ is. other (sym is)))
+
+-- counts that tell alike of each lane raise the columns alike
+pub alike : (es : List Event) (places lengths : List ℕ) (column : ℕ → ℕ → List Rise) → KeepsColumns es places lengths column → (send own : ℕ) → send < length es → (known counts : List ℕ) → length counts ≡ length lengths → get_or counts own 0 ≡ 0 → ((k : ℕ) → k < length lengths → k ≢ own → TellsAlike (get_or known k 0) (get_or counts k 0) (counts_in es column send k)) → (source : ℕ) → TellsAlike (get_or known source 0) (get_or counts source 0) (told_of es column send own source)
+alike es places lengths column k send own lt known counts long none each source =
+    elim (eqb_tells source own) [
+      | inl same ↦ ap (max (get_or known source 0)) (ap (λ (n : ℕ). get_or counts n 0) same.1 ∙ none ∙ sym (told_of-own es column send own) ∙ ap (told_of es column send own) (sym same.1))
+      | inr other ↦ elim (leb_tells (suc source) (length lengths)) [
+        | inl there ↦ each source there.1 other.1 ∙ ap (max (get_or known source 0)) (sym (told_of-other es column send own source other.1))
+        | inr past ↦
+            let beyond : length lengths ≤ source = omega (arith, past.1) in
+            let none = no_events es (counts_in es column) (length lengths) source k.keeps beyond (k.keeps.last source).0 (k.keeps.last source).1 in
+            let here : get_or counts source 0 ≡ 0 = get_or-eq_default counts 0 (omega (arith, long, beyond)) in
+            ap (max (get_or known source 0)) (omega (arith, here, (k.keeps.reach send lt source).no_more, none, told_of-other es column send own source other.1))
+      ]
     ]
 
 -- no lane has more events than there are

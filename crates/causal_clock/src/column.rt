@@ -1,7 +1,6 @@
 //! Columns: for a lane and a source lane, where in the lane the count of the source's events rose.
 ghost use Rattle.std.specs.Prelude.{◌≡◌, ℕ, ◌-◌, ◌<◌, ◌≤◌, length, OnOk, vec_len, vec_capacity};
 ghost use Rattle.causal_clock.specs.Rises.{rise_at, count_at, RisesStrictly};
-ghost use Rattle.causal_clock.specs.Inside.Columns.{raised};
 
 use crate::Rise;
 use std::alloc::AllocError;
@@ -35,26 +34,13 @@ pub fn count_at(column: &[Rise], place: u16) -> u16
     }
 }
 
-/// Makes room for one more rise, if the count is to rise at the place. Nothing else changes.
-pub fn reserve_rise(column: &mut Vec<Rise>, place: u16, count: u16) -> Result<(), AllocError>
-    requires strictly { RisesStrictly column.old.items }
+/// Makes room for one more rise, if the count is to rise from what is known. Nothing else changes.
+pub fn reserve_rise(column: &mut Vec<Rise>, known: u16, count: u16) -> Result<(), AllocError>
     ensures items { column.new.items ≡ column.old.items }
-    ensures room { OnOk result (count_at column.old.items place < count →
-        0 < vec_capacity column.new - vec_len column.new) }
+    ensures room { OnOk result (known < count → 0 < vec_capacity column.new - vec_len column.new) }
 {
-    if count_at(column, place) < count {
+    if known < count {
         column.reserve(1)?;
     }
     Ok(())
-}
-
-/// Raises the count from that place on, if it is to rise there: there is room for it.
-pub fn raise(column: &mut Vec<Rise>, place: u16, count: u16)
-    requires strictly { RisesStrictly column.old.items }
-    requires room { count_at column.old.items place < count → 0 < vec_capacity column.old - vec_len column.old }
-    ensures { column.new.items ≡ raised column.old.items place count }
-{
-    if count_at(column, place) < count {
-        column.push_reserved(Rise { place, count });
-    }
 }

@@ -20,8 +20,10 @@ ghost use Rattle.std.specs.Prelude.{◌≡◌, ◌≢◌, ℕ, ◌+◌, ◌<◌,
 ghost use Rattle.std.specs.Option.{ForSome};
 ghost use Rattle.causal_clock.specs.Timeline.{lane_of, place_of, receiving, with_event, with_lane};
 ghost use Rattle.causal_clock.specs.Precedence.{Reaches, FirstReach};
-ghost use Rattle.causal_clock.specs.Rises.{AreRises};
-ghost use Rattle.causal_clock.specs.Inside.Lanes.{AreEmpty};
+ghost use Rattle.causal_clock.specs.Rises.{AreRises, RisesStrictly};
+ghost use Rattle.causal_clock.specs.Inside.Columns.{column_in, TellsAlike};
+ghost use Rattle.causal_clock.specs.Inside.Fields.{count_told};
+ghost use Rattle.causal_clock.specs.Inside.Lanes.{AreEmpty, AllStrict, KeepsRow, rises_in};
 ghost use Rattle.causal_clock.specs.declared.ClockFault.TheVariants.{NoMemory};
 
 use crate::lane::Lane;
@@ -94,8 +96,10 @@ struct Entry {
 ///
 /// What it costs: an event 16 bytes, and nothing for each lane. A receive adds 4 bytes for each lane of which it brings
 /// news, at most twice that with what growing leaves spare, so a column has no more items than its source lane has
-/// events. A lane that receives has a column of 24 bytes for each lane, 4.8 MB in all where 448 lanes receive. A receive
-/// takes time for each lane, and a question the logarithm of how many rises of one column stand after what is asked.
+/// events. A lane that receives has a column of 24 bytes and a last count of 2 for each lane, 5.2 MB in all where 448
+/// lanes receive. A receive compares a count for each lane. Only where the sender's lane came to reach more after the send,
+/// of lanes of which it can bring news, it searches their columns. A search, and a question, takes the logarithm of how
+/// many rises of one column stand after what is asked, and no more than a comparison where none does in any column.
 #[derive(Drop)]
 pub struct Clocks {
     alloc: Global,
@@ -216,7 +220,11 @@ impl Clocks {
         ensures unchanged { OnErr result (self.new ≡ self.old) }
         ensures refusal { IfErr result (λ fault. fault ≡ ClockFault.NoMemory) }
     {
-        let counts = self.counts_of(send_event, lane)?;
+        let sent = self.entries[send_event as usize];
+        let count = self.lanes();
+        let from = &self.lanes[sent.event.lane as usize];
+        let to = &self.lanes[lane as usize];
+        let counts = counts_for(self.alloc, from, sent, to, lane, count)?;
         self.entries.reserve(1)?;
         let own = &mut self.lanes[lane as usize];
         own.make_room(self.alloc, counts.as_slice())?;
@@ -226,26 +234,6 @@ impl Clocks {
             send: Some(send_event),
         };
         Ok(append(&mut self.entries, own, event))
-    }
-
-    // How many events of each lane reach an event; of the lane `own` none, since no column has them.
-    fn counts_of(&self, event: u32, own: u32) -> Result<Vec<u16>, AllocError>
-        requires event { event < length self.now.events }
-        requires room { length self.now.events < EVENTS }
-        ensures count { IfOk result (λ counts. length counts.items ≡ self.now.lanes) }
-        ensures own { IfOk result (λ counts. slice_index counts.items own ≡ 0) }
-        ensures each { IfOk result (λ counts. (lane : ℕ) → lane < self.now.lanes → lane ≢ own →
-            FirstReach self.now.events event lane (slice_index counts.items lane)) }
-    {
-        let mut counts = Vec::with_capacity(self.alloc, self.lanes.len())?;
-        for lane in 0..self.lanes() {
-            counts.push(if lane == own {
-                0
-            } else {
-                self.reach(event, lane) as u16
-            })?;
-        }
-        Ok(counts)
     }
 
     /// Whether event i is event j, or happened before it. Both exist.
@@ -294,6 +282,51 @@ fn first_lanes(alloc: Global, count: usize) -> Result<Vec<Lane>, AllocError>
         lanes.push(Lane::new(alloc))?;
     }
     Ok(lanes)
+}
+
+// What a receive by the lane `to`, whose number is `own`, is told of so many lanes by the event of an entry of the lane
+// `from`: how many of their events reach that one. Of a lane of which it brings no news it may be fewer, and of `own` it
+// is none, since no column has them.
+fn counts_for(
+    alloc: Global,
+    from: &Lane,
+    sent: Entry,
+    to: &Lane,
+    own: u32,
+    lanes: u32,
+) -> Result<Vec<u16>, AllocError>
+    requires place { sent.place + 1 < EVENTS }
+    requires strictly { AllStrict from.now }
+    requires row { KeepsRow from.now }
+    ensures count { IfOk result (λ counts. length counts.items ≡ lanes) }
+    ensures own { IfOk result (λ counts. slice_index counts.items own ≡ 0) }
+    ensures each { IfOk result (λ counts. (source : ℕ) → source < lanes → source ≢ own →
+        TellsAlike (slice_index to.now.row.items source) (slice_index counts.items source)
+        (count_told (rises_in from.now) sent source)) }
+{
+    let mut counts = Vec::with_capacity(alloc, lanes as usize)?;
+    for source in 0..lanes {
+        counts.push(if source == own {
+            0
+        } else {
+            count_for(from, sent, source, to.last_count(source))
+        })?;
+    }
+    Ok(counts)
+}
+
+// The same of one lane, for one who knows of so many of its events.
+fn count_for(from: &Lane, sent: Entry, source: u32, known: u16) -> u16
+    requires place { sent.place + 1 < EVENTS }
+    requires strictly { RisesStrictly (column_in (rises_in from.now) source) }
+    requires row { KeepsRow from.now }
+    ensures { TellsAlike known result (count_told (rises_in from.now) sent source) }
+{
+    if sent.event.lane == source {
+        sent.place + 1
+    } else {
+        from.news_at(source, sent.place, known)
+    }
 }
 
 // Appends an event of the lane, for which there is room, and answers its number.

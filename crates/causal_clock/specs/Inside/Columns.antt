@@ -1,5 +1,5 @@
 -- A column: where in a lane the count of another lane's events rose.
-use Rattle.std.specs.Prelude.{ℕ, ◌<◌, ◌≤◌, ltb, if◌then◌else◌, List, [], ◌∷◌, ◌++◌, length, slice_index_or}
+use Rattle.std.specs.Prelude.{◌≡◌, ℕ, ◌<◌, ◌≤◌, max, ltb, if◌then◌else◌, List, [], ◌∷◌, ◌++◌, length, slice_index_or}
 use Rattle.causal_clock.specs.declared.Rise.{Rise}
 use Rattle.causal_clock.specs.Rises.{rise_at, count_at, RisesStrictly}
 
@@ -14,6 +14,10 @@ pub record IsColumn (rises : List Rise) (events from_events : ℕ) : Type 0 wher
 -- the column with that count from that place on: one more rise, if the count is greater than before
 abbrev pub raised : List Rise → ℕ → ℕ → List Rise
 raised rises place count = if ltb (count_at rises place) count then rises ++ record { place = place; count = count } ∷ [] else rises
+
+-- both counts are the same, or neither is news to one who knows of so many
+abbrev pub TellsAlike : ℕ → ℕ → ℕ → Type 0
+TellsAlike known count other = max known count ≡ max known other
 
 -- the column of a source lane, among those of one lane, and among those of all; a lane has none until it receives
 abbrev pub column_in : List (List Rise) → ℕ → List Rise

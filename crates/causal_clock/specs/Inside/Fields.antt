@@ -1,19 +1,25 @@
 -- What the fields of a clock stand for.
 use Rattle.std.specs.Prelude.{◌≡◌, ℕ, ◌+◌, ◌<◌, ◌≤◌, ◌==◌, if◌then◌else◌, List, length, map, slice_index}
+use Rattle.std.specs.List.{All}
 use Rattle.causal_clock.specs.declared.Event.{Event}
+use Rattle.causal_clock.specs.declared.Entry.{Entry}
 use Rattle.causal_clock.specs.declared.TheConstants.{FIRST_LANES, OPENED_LANES}
 use Rattle.causal_clock.specs.declared.Clocks.TheInside.{Inside}
 use Rattle.causal_clock.specs.declared.Rise.{Rise}
 use Rattle.causal_clock.specs.Timeline.{Timeline, lane_of, lane_length, place_of}
 use Rattle.causal_clock.specs.Rises.{count_at}
-use Rattle.causal_clock.specs.Inside.Columns.{column_of, IsColumn}
+use Rattle.causal_clock.specs.Inside.Columns.{column_in, column_of, IsColumn}
 use Rattle.causal_clock.specs.Inside.Kept.{Keeps}
-use Rattle.causal_clock.specs.Inside.Lanes.{rises_in}
+use Rattle.causal_clock.specs.Inside.Lanes.{rises_in, KeepsRow}
 
 -- event j's count of a lane: of its own lane its place and one more, of another what the column tells at its place
 abbrev pub counts_in : List Event → (ℕ → ℕ → List Rise) → ℕ → ℕ → ℕ
 counts_in events column j source =
     if lane_of events j == source then place_of events j + 1 else count_at (column (lane_of events j) source) (place_of events j)
+
+-- what a lane's event tells of each source: how many of its events reach it, which counts the event itself
+abbrev pub count_told : List (List Rise) → Entry → ℕ → ℕ
+count_told columns entry source = if entry.event.lane == source then entry.place + 1 else count_at (column_in columns source) entry.place
 
 -- the place of each event, how many events each lane has, and each lane's columns
 pub record KeepsColumns (events : List Event) (at in_lanes : List ℕ) (column : ℕ → ℕ → List Rise) : Type 0 where
@@ -39,5 +45,6 @@ timeline_of a = record { lanes = length a.lanes.items; opened = a.opened; events
 
 pub record IsClock (a : Inside) : Type 0 where
   pub keeps : KeepsColumns (events_of a) (places_of a) (lengths_of a) (column_of (columns_of a))
+  pub rows : All KeepsRow a.lanes.items
   pub lanes : length a.lanes.items ≤ FIRST_LANES + a.opened
   pub opened : a.opened ≤ OPENED_LANES

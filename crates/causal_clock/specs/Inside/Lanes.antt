@@ -1,5 +1,6 @@
 -- What a lane keeps.
-use Rattle.std.specs.Prelude.{◌≡◌, ℕ, ◌-◌, ◌<◌, ◌≤◌, List, [], length, map, slice_index, vec_len, vec_capacity}
+use Rattle.std.specs.Prelude.{◌≡◌, ◌≢◌, ℕ, ◌-◌, ◌<◌, ◌≤◌, List, [], length, map, slice_index, vec_len, vec_capacity}
+use Rattle.std.specs.List.{All}
 use Rattle.causal_clock.specs.declared.Rise.{Rise}
 use Rattle.causal_clock.specs.declared.lane.Lane.{Lane}
 use Rattle.causal_clock.specs.Rises.{count_at, RisesStrictly}
@@ -16,17 +17,33 @@ spares_in x = map (λ c. vec_capacity c - vec_len c) x.columns.items
 abbrev pub AllStrict : Lane → Type 0
 AllStrict x = (source : ℕ) → RisesStrictly (column_in (rises_in x) source)
 
+-- the row has what each column tells from the place of the last rise on, which is no later than the next event's
+pub record KeepsRow (x : Lane) : Type 0 where
+  pub within : x.last ≤ x.events
+  pub told : (source place : ℕ) → x.last ≤ place → count_at (column_in (rises_in x) source) place ≡ slice_index x.row.items source
+
 -- both tell the same of each source lane
 abbrev pub SameColumns : Lane → Lane → Type 0
 SameColumns x y = (source : ℕ) → column_in (rises_in y) source ≡ column_in (rises_in x) source
 
--- there is a column for each count, and room in it where the count is to rise at the next place
+-- there is a column for each count, and room in it where the count is greater than its last one
 pub record HasRoom (x : Lane) (counts : List ℕ) : Type 0 where
   pub wide : length counts ≤ length (rises_in x)
-  pub spare : (k : ℕ) → k < length counts → count_at (column_in (rises_in x) k) x.events < slice_index counts k → 0 < slice_index (spares_in x) k
+  pub counted : length counts ≤ length x.row.items
+  pub spare : (k : ℕ) → k < length counts → slice_index x.row.items k < slice_index counts k → 0 < slice_index (spares_in x) k
+
+-- they differ in one column at most, and in its last count
+pub record SameButFor (source : ℕ) (x y : Lane) : Type 0 where
+  pub events : y.events ≡ x.events
+  pub long : length (rises_in y) ≡ length (rises_in x)
+  pub counted : length y.row.items ≡ length x.row.items
+  pub columns : (k : ℕ) → k ≢ source → column_in (rises_in y) k ≡ column_in (rises_in x) k
+  pub spares : (k : ℕ) → k ≢ source → slice_index (spares_in y) k ≡ slice_index (spares_in x) k
+  pub counts : (k : ℕ) → k ≢ source → slice_index y.row.items k ≡ slice_index x.row.items k
 
 -- that many lanes without events
 pub record AreEmpty (lanes : List Lane) (count : ℕ) : Type 0 where
   pub many : length lanes ≡ count
   pub lengths : (lane : ℕ) → slice_index (map (λ x. x.events) lanes) lane ≡ 0
   pub columns : (lane source : ℕ) → column_of (map rises_in lanes) lane source ≡ []
+  pub rows : All KeepsRow lanes

@@ -1,10 +1,12 @@
 use Rattle.std.proofs.Common.{◌≡◌, ◌<◌, [], ◌∷◌, ◌++◌, None, length, ap, sym, ◌∙◌, refl, arith}
 use Rattle.std.proofs.Math.ListN.{length-set}
+use Rattle.std.proofs.lemmas.List.Elements.{All-set}
 use Rattle.causal_clock.specs.Inside.Columns.{column_in}
-use Rattle.causal_clock.specs.Inside.Lanes.{rises_in}
+use Rattle.causal_clock.specs.Inside.Lanes.{rises_in, KeepsRow}
 use Rattle.causal_clock.specs.Inside.Fields.{events_of, places_of}
 use Rattle.causal_clock.proofs.Columns.{raised_none}
 use Rattle.causal_clock.proofs.Moves.{small_lane, keeps_more}
+use Rattle.causal_clock.proofs.Rows.{row_at, row_longer}
 use Rattle.causal_clock.proofs.Clocks.local.Goals as goal
 
 pub append-requires-clause-place : goal.append-requires-clause-place
@@ -25,6 +27,7 @@ invariant_of-self-2 c =
     record {
       keeps = rw appended (keeps_more c.self.inside.entries.items c.self.inside.lanes.items c.self.invariant.keeps (record { lane = c.args.lane; send = None }) lt x z c.index_mut.ensures.value (λ s is. cc) room
           (λ source. 0) refl (λ source other. refl) (ap (λ l. l.events) counted) (λ source. ap (λ l. column_in (rises_in l) source) counted ∙ sym (raised_none (column_in (rises_in c.index_mut.result.now) source) c.index_mut.result.now.events)));
+      rows = All-set KeepsRow c.self.inside.lanes.items c.args.lane z (row_longer x z counted (row_at c.self.inside.lanes.items c.args.lane x lt c.index_mut.ensures.value c.self.invariant.rows)) c.self.invariant.rows;
       lanes = omega (arith, c.self.invariant.lanes, length-set c.self.inside.lanes.items c.args.lane c.append.new.lane);
       opened = c.self.invariant.opened;
     }

@@ -1,12 +1,12 @@
 use Rattle.std.proofs.Common.{◌≡◌, ℕ, ◌<◌, get_or}
-use Rattle.causal_clock.specs.Rises.{count_at}
-use Rattle.causal_clock.specs.Inside.Columns.{column_in}
 use Rattle.causal_clock.specs.Inside.Lanes.{rises_in, spares_in}
 use Rattle.causal_clock.proofs.lane.Lane.reserve_rises.Given as goal
 
 abbrev pub invariant-loop-source : goal.invariant-loop-source
 invariant-loop-source l = record {
   events : l.self.events ≡ l.initial.self.events;
+  last : l.self.last ≡ l.initial.self.last;
+  row : l.self.row ≡ l.initial.self.row;
   same : rises_in l.self ≡ rises_in l.initial.self;
-  spare : (k : ℕ) → k < l.source → count_at (column_in (rises_in l.self) k) l.self.events < get_or l.counts k 0 → 0 < get_or (spares_in l.self) k 0;
+  spare : (k : ℕ) → k < l.source → get_or l.self.row.items k 0 < get_or l.counts k 0 → 0 < get_or (spares_in l.self) k 0;
 }
