@@ -31,16 +31,14 @@ pub record Leads (nodes : List Node) (node : Node) (k : ℕ) : Type 0 where
   pub onward : chain nodes (Some k) ≡ node.receipt ∷ chain nodes node.next
   pub down : IsBelow node.next k
 
--- the node at a place
-node_at : List Node → ℕ → Node → Node
-node_at nodes k d = get_or (reverse nodes) k d
-
+-- the newest node stands at the end
 node_newest : (node : Node) (older : List Node) (k : ℕ) (d : Node) → k ≡ length older → get_or (reverse (node ∷ older)) k d ≡ node
 node_newest node older k d is =
     ap (λ xs. get_or xs k d) (reverse-append (node ∷ []) older)
     ∙ ap (λ i. get_or (reverse older ++ node ∷ []) i d) (is ∙ sym (length-reverse older))
     ∙ get_or-append_seam (reverse older) node [] d
 
+-- older nodes stay where they are
 node_older : (node : Node) (older : List Node) (k : ℕ) (d : Node) → k < length older → get_or (reverse (node ∷ older)) k d ≡ get_or (reverse older) k d
 node_older node older k d h =
     ap (λ xs. get_or xs k d) (reverse-append (node ∷ []) older)

@@ -17,7 +17,7 @@ use Rattle.causal_trace.specs.Limits.{IsProcessCount}
 use Rattle.causal_trace.specs.Past.{listed_by, lane, sends, restarts, deliveries_in, entry_at, is_send_to, message_sent, message_at, det_from, det_of, is_message}
 use Rattle.causal_trace.specs.Rows.{Recording, rows, first_fault}
 use Rattle.causal_trace.specs.State.{with_entry}
-use Rattle.causal_trace.specs.Inside.Index.{AreLanes, AreChains, HasHeads, fresh, lanes_after, IsIndexed, is_restart}
+use Rattle.causal_trace.specs.Inside.Index.{ArePresentLanes, AreChains, HasHeads, fresh, lanes_after, IsIndexed, is_restart}
 use Rattle.causal_trace.specs.Inside.Chains.{Heads, HasHead, ChainsState, IsBelow, chain, head_of, heads_of, heads_after, nodes_after, opened, receipts, with_head, with_message}
 use Rattle.causal_trace.proofs.Chained.{head_keeps, head_lengths, linked_message, linked_receipt, message_keeps, message_leads, message_longer, message_there, receipt_leads}
 use Rattle.causal_trace.proofs.Lemmas.Accepted.{delivers_sent, not_false, row_fails}
@@ -167,7 +167,7 @@ pub indexed_none : (n : ℕ) (lanes : List Lane) (c : ChainsState) → IsProcess
 indexed_none n lanes c count all_fresh no_chains no_nodes = record {
   kept = record { formed = record { count = count; accepted = tt }; short = omega arith; counted = refl; within = omega arith };
   restarted = refl;
-  lanes = subst (λ ls. AreLanes n [] ls) (sym all_fresh) (no_lanes n);
+  lanes = subst (λ ls. ArePresentLanes n [] ls) (sym all_fresh) (no_lanes n);
   chains = subst (λ heads. AreChains n [] heads c.nodes) (sym no_chains) (subst (λ nodes. AreChains n [] (replicate n []) nodes) (sym no_nodes) (record {
     count = length-replicate n [];
     linked = record { heads_lead = λ m. subst (λ list. IsBelow (get_or list m.ssn None) 0) (sym (no_heads n m.source.0)) tt; nodes_lead = tt };

@@ -11,7 +11,7 @@ use Rattle.causal_trace.specs.declared.fault.TraceFault.TheVariants.{NoProcess}
 use Rattle.causal_trace.specs.declared.lanes.Lane.{Lane}
 use Rattle.causal_trace.specs.Past.{is_down, lane, sends, deliveries}
 use Rattle.causal_trace.specs.Rows.{rows, first_fault}
-use Rattle.causal_trace.specs.Inside.Index.{lane_of, fresh, lane_after, subject, lanes_after, lanes_after_of, AreLanes, HasRoom}
+use Rattle.causal_trace.specs.Inside.Index.{lane_of, fresh, lane_after, subject, lanes_after, lanes_after_of, ArePresentLanes, HasRoom}
 use Rattle.causal_trace.proofs.Lemmas.Accepted.{row_fails}
 use Rattle.causal_trace.proofs.Lemmas.Counted.{sends_few, deliveries_few}
 
@@ -27,7 +27,7 @@ lane_of_next (Crash who) past p = elim (who.0 == p) as (λ b. record { down = b 
 lane_of_next (Restart who listed) past p = elim (who.0 == p) as (λ b. record { down = not b && is_down past p; restarts = cond b (lane past p + 1) (lane past p); sends = cond b 0 (sends past p); deliveries = cond b 0 (deliveries past p) } ≡ cond b (lane_after (Restart who listed) (lane_of past p)) (lane_of past p)) [ true ↦ refl | false ↦ refl ]
 lane_of_next (Forget who listed) past p = elim (who.0 == p) as (λ b. lane_of past p ≡ cond b (lane_of past p) (lane_of past p)) [ true ↦ refl | false ↦ refl ]
 
-lanes_at : (subj : Option Pid) (n : ℕ) (e : Entry) (past : List Entry) (lanes : List Lane) → AreLanes n past lanes → (p : ℕ) (d : Lane) → p < n → get_or (lanes_after_of subj e lanes) p d ≡ cond (option_map_or (λ q. q.0 == p) subj false) (lane_after e (lane_of past p)) (lane_of past p)
+lanes_at : (subj : Option Pid) (n : ℕ) (e : Entry) (past : List Entry) (lanes : List Lane) → ArePresentLanes n past lanes → (p : ℕ) (d : Lane) → p < n → get_or (lanes_after_of subj e lanes) p d ≡ cond (option_map_or (λ q. q.0 == p) subj false) (lane_after e (lane_of past p)) (lane_of past p)
 lanes_at None n e past lanes are p d h = are.each p d h
 lanes_at (Some q) n e past lanes are p d h =
     elim (eqb_tells q.0 p) [
@@ -48,7 +48,7 @@ lanes_length None e lanes = refl
 lanes_length (Some q) e lanes = length-set lanes q.0 _
 
 -- the lanes after an entry are those of the past with it
-pub lanes_push : (n : ℕ) (e : Entry) (past : List Entry) (lanes : List Lane) → AreLanes n past lanes → AreLanes n (e ∷ past) (lanes_after e lanes)
+pub lanes_push : (n : ℕ) (e : Entry) (past : List Entry) (lanes : List Lane) → ArePresentLanes n past lanes → ArePresentLanes n (e ∷ past) (lanes_after e lanes)
 lanes_push n e past lanes are = record {
   count = lanes_length (subject e) e lanes ∙ are.count;
   each = λ p d h. lanes_at (subject e) n e past lanes are p d h ∙ sym (lane_of_next e past p);
@@ -71,7 +71,7 @@ lane_has_room past p h = record {
   deliveries = omega (arith, h, deliveries_few past p);
 }
 
-pub lanes_have_room : (n : ℕ) (past : List Entry) (lanes : List Lane) → AreLanes n past lanes → length past < 65536 → All HasRoom lanes
+pub lanes_have_room : (n : ℕ) (past : List Entry) (lanes : List Lane) → ArePresentLanes n past lanes → length past < 65536 → All HasRoom lanes
 lanes_have_room n past lanes are short k d below = subst HasRoom (sym (are.each k d (omega (arith, are.count, below)))) (lane_has_room past k short)
 
 below_count : (a n : ℕ) → not (nat_lt a n) ≡ false → a < n
@@ -90,5 +90,5 @@ subject_there n past (Crash who) h = below_count who.0 n (row_fails (rows n past
 subject_there n past (Restart who listed) h = below_count who.0 n (row_fails (rows n past (Restart who listed)) h 1 (not (nat_lt who.0 n), NoProcess) refl)
 subject_there n past (Forget who listed) h = below_count who.0 n (row_fails (rows n past (Forget who listed)) h 1 (not (nat_lt who.0 n), NoProcess) refl)
 
-pub no_lanes : (n : ℕ) → AreLanes n [] (replicate n fresh)
+pub no_lanes : (n : ℕ) → ArePresentLanes n [] (replicate n fresh)
 no_lanes n = record { count = length-replicate n fresh; each = λ p d h. get_or-replicate n p fresh d h }

@@ -1,6 +1,7 @@
 pub mod Lemmas
 mod Agreed
 mod Ascending
+mod Asked
 mod Chained
 mod Indexed
 mod Laned

@@ -1,9 +1,8 @@
 -- What a contract sees of a `Trace`.
-use Rattle.std.specs.Prelude.{◌≡◌, ℕ, ◌≤◌, Bool, not, nat_lt, ◌&&◌, if◌then◌else◌, List, ◌∷◌, length, reverse, take, Option, Some, None}
+use Rattle.std.specs.Prelude.{ℕ, Bool, not, nat_lt, ◌&&◌, if◌then◌else◌, List, ◌∷◌, reverse, take, Option, Some, None}
 use Rattle.causal_trace.specs.declared.entry.Entry.{Entry}
-use Rattle.causal_trace.specs.Limits.{max_entries, max_listed}
-use Rattle.causal_trace.specs.Past.{instant, is_down, lane, listed_in}
-use Rattle.causal_trace.specs.Rows.{Recording, IsWellFormed}
+use Rattle.causal_trace.specs.Past.{instant, is_down, lane}
+use Rattle.causal_trace.specs.Rows.{Recording}
 
 -- a recording, and how many pushes are sure of their memory
 pub record TraceState : Type 0 where
@@ -25,13 +24,6 @@ is_up_at r t p = nat_lt p r.processes && not (is_down (instant r.past t) p)
 -- the lane of the process p at the instant t
 abbrev pub lane_at : Recording → ℕ → ℕ → Option ℕ
 lane_at r t p = if nat_lt p r.processes then Some (lane (instant r.past t) p) else None
-
--- what a trace keeps: a well-formed recording within the limits, and the count of its listed determinants
-pub record IsKept (r : Recording) (listed : ℕ) : Type 0 where
-  pub formed : IsWellFormed r
-  pub short : length r.past ≤ max_entries
-  pub counted : listed ≡ listed_in r.past
-  pub within : listed ≤ max_listed
 
 -- the state after the first t of these entries, which have the oldest first
 abbrev pub past_at : List Entry → ℕ → List Entry

@@ -26,7 +26,7 @@ impl PartialEq for Dets {
     ghost use Rattle.causal_name.specs.Names.{same_det};
     ghost use Rattle.std.specs.Cmp.{partial_equiv_from_equiv};
     ghost use Rattle.std.specs.Cmp.Lexicographic.{lists_per};
-    ghost use Rattle.causal_trace.specs.Inside.SameDets.{same_det_equiv};
+    ghost use Rattle.causal_name.specs.SameDets.{same_det_equiv};
 
     ghost eq = { λ a b. pointwise same_det a b };
 
@@ -39,7 +39,7 @@ impl PartialEq for Dets {
 
 impl Eq for Dets {
     ghost use Rattle.std.specs.Cmp.Lexicographic.{lists_equiv};
-    ghost use Rattle.causal_trace.specs.Inside.SameDets.{same_det_equiv};
+    ghost use Rattle.causal_name.specs.SameDets.{same_det_equiv};
 
     ghost laws = { lists_equiv same_det_equiv };
 }

@@ -65,9 +65,9 @@ impl PartialEq for Trace {
 }
 
 impl Trace {
-    ghost use Rattle.causal_trace.specs.Limits.{max_listed, IsProcessCount};
+    ghost use Rattle.causal_trace.specs.Limits.{max_listed, max_restarts, IsProcessCount};
     ghost use Rattle.causal_name.specs.declared.Det.{Det};
-    ghost use Rattle.causal_trace.specs.Past.{lane, entry_at, listed_in, deliveries_in, det_at, is_delivered, has_delivered};
+    ghost use Rattle.causal_trace.specs.Past.{lane, entry_at, listed_in, restarts, deliveries_in, det_at, is_delivered, has_delivered};
     ghost use Rattle.causal_trace.specs.Rows.{fault_next, refusal_next, IsRefusedBeginning, passes_limit, are_delivered, are_delivered_with, IsWellFormed};
     ghost use Rattle.causal_trace.specs.Inside.Index.{lane_of};
     ghost use Rattle.causal_trace.specs.State.{entries_of, with_entry, is_up_at, lane_at};
@@ -197,6 +197,14 @@ impl Trace {
         ensures few { result ≤ max_listed }
     {
         self.listed
+    }
+
+    /// How many restarts there are, 0 to 192.
+    pub fn restarts(&self) -> u32
+        ensures value { result ≡ restarts self.now.recording.past }
+        ensures few { result ≤ max_restarts }
+    {
+        self.restarts
     }
 
     /// The entries in the order in which they came.

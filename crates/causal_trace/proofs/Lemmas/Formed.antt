@@ -10,7 +10,8 @@ use Rattle.causal_trace.specs.declared.fault.TraceFault.{TraceFault}
 use Rattle.causal_trace.specs.declared.fault.TraceFault.TheVariants.{NoMemory}
 use Rattle.causal_trace.specs.Past.{listed_in, listed_by}
 use Rattle.causal_trace.specs.Rows.{Recording, rows, first_holding, first_fault, passes_limit, IsWellFormed}
-use Rattle.causal_trace.specs.State.{with_entry, IsKept}
+use Rattle.causal_trace.specs.State.{with_entry}
+use Rattle.causal_trace.specs.Inside.Bounded.{IsBounded}
 
 -- where a chain of rows tells nothing, its first row doesn't hold, and the rest tells nothing
 pub nothing_told : (b : Bool) (f : TraceFault) (rest : Option TraceFault) → cond b (Some f) rest ≡ None → (b ≡ false) × (rest ≡ None)
@@ -64,7 +65,7 @@ pub formed_push : (r : Recording) (e : Entry) → IsWellFormed r → first_fault
 formed_push r e formed next = record { count = formed.count; accepted = (formed.accepted, next) }
 
 -- what a trace keeps, with one more entry
-pub kept_push : (r : Recording) (e : Entry) (listed : ℕ) → IsKept r listed → first_fault r.processes r.past e ≡ None → IsKept (with_entry r e) (listed + length (listed_by e))
+pub kept_push : (r : Recording) (e : Entry) (listed : ℕ) → IsBounded r listed → first_fault r.processes r.past e ≡ None → IsBounded (with_entry r e) (listed + length (listed_by e))
 kept_push r e listed kept next =
     let fit : (length r.past + 1 ≤ 65536) × (listed_in r.past + length (listed_by e) ≤ 1048576) = limits _ _ _ (within_limits r.processes r.past e next) in
     record {

@@ -6,9 +6,10 @@ use Rattle.causal_name.specs.declared.MsgName.{MsgName}
 use Rattle.causal_trace.specs.declared.entry.Entry.{Entry}
 use Rattle.causal_trace.specs.declared.entry.Entry.TheVariants.{Send, Deliver, Stable, Crash, Restart, Forget}
 use Rattle.causal_trace.specs.declared.lanes.Lane.{Lane}
+use Rattle.causal_trace.specs.Limits.{max_entries}
 use Rattle.causal_trace.specs.Past.{is_down, lane, sends, deliveries, restarts, deliveries_in, message_at}
 use Rattle.causal_trace.specs.Rows.{Recording}
-use Rattle.causal_trace.specs.State.{IsKept}
+use Rattle.causal_trace.specs.Inside.Bounded.{IsBounded}
 use Rattle.causal_trace.specs.Inside.Chains.{Heads, AreLinked, HasHead, ChainsState, chain, head_of, heads_of, receipts}
 use Rattle.causal_trace.specs.declared.chains.Node.{Node}
 
@@ -46,15 +47,15 @@ abbrev pub lanes_after : Entry → List Lane → List Lane
 lanes_after e lanes = lanes_after_of (subject e) e lanes
 
 -- the present lanes of n processes
-pub record AreLanes (n : ℕ) (past : List Entry) (lanes : List Lane) : Type 0 where
+pub record ArePresentLanes (n : ℕ) (past : List Entry) (lanes : List Lane) : Type 0 where
   pub count : length lanes ≡ n
   pub each : (p : ℕ) (d : Lane) → p < n → slice_index_or lanes p d ≡ lane_of past p
 
 -- the counters have room for one more
 pub record HasRoom (l : Lane) : Type 0 where
-  pub restarts : l.restarts < 65536
-  pub sends : l.sends < 65536
-  pub deliveries : l.deliveries < 65536
+  pub restarts : l.restarts < max_entries
+  pub sends : l.sends < max_entries
+  pub deliveries : l.deliveries < max_entries
 
 -- a message of the run has a head
 abbrev pub HasHeads : List Entry → Heads → Type 0
@@ -71,9 +72,9 @@ pub record AreChains (n : ℕ) (past : List Entry) (heads : Heads) (nodes : List
 
 -- a recording with what is remembered of it
 pub record IsIndexed (r : Recording) (n_listed n_restarts : ℕ) (by_process : List Lane) (by_message : ChainsState) : Type 0 where
-  pub kept : IsKept r n_listed
+  pub kept : IsBounded r n_listed
   pub restarted : n_restarts ≡ restarts r.past
-  pub lanes : AreLanes r.processes r.past by_process
+  pub lanes : ArePresentLanes r.processes r.past by_process
   pub chains : AreChains r.processes r.past by_message.heads by_message.nodes
 
 -- one for a restart

@@ -3,7 +3,8 @@ use Rattle.std.specs.Prelude.{All, IfSome}
 use Rattle.std.proofs.lemmas.List.{take_at, reverse-append}
 use Rattle.causal_trace.specs.Past.{listed_by, message_sent, det_of, lane}
 use Rattle.causal_trace.specs.Rows.{first_fault}
-use Rattle.causal_trace.specs.State.{past_at, with_entry, IsKept}
+use Rattle.causal_trace.specs.State.{past_at, with_entry}
+use Rattle.causal_trace.specs.Inside.Bounded.{IsBounded}
 use Rattle.causal_trace.specs.Inside.Index.{lanes_after, subject, HasRoom, is_restart}
 use Rattle.causal_trace.specs.Inside.Chains.{heads_after, nodes_after, HasHead}
 use Rattle.causal_name.specs.Names.{message_of}
@@ -21,7 +22,7 @@ own_is c = c.det_of_next-own.ensures ∙ ap (λ es. det_of (past_at es (length e
 next : (c : After-det_of_next-own) → first_fault c.self.inside.processes (reverse c.self.inside.entries.items) c.args.entry ≡ None
 next c = ap (λ s. first_fault s.recording.processes s.recording.past c.args.entry) c.self.view_is ∙ c.requires
 
-kept : (c : After-det_of_next-own) → IsKept (with_entry (record { processes = c.self.inside.processes; past = reverse c.self.inside.entries.items }) c.args.entry) (c.self.inside.listed + length (listed_by c.args.entry))
+kept : (c : After-det_of_next-own) → IsBounded (with_entry (record { processes = c.self.inside.processes; past = reverse c.self.inside.entries.items }) c.args.entry) (c.self.inside.listed + length (listed_by c.args.entry))
 kept c = kept_push _ c.args.entry _ c.self.invariant.kept (next c)
 
 pub receipt_lane-lane-requires : goal.receipt_lane-lane-requires

@@ -1,22 +1,14 @@
-use Rattle.std.proofs.Common.{ℕ, ◌≡◌, ◌<◌, ◌≤◌, true, Some, None, length, sym, ap, ◌∙◌, arith}
+use Rattle.std.proofs.Common.{◌≡◌, true, Some, None, sym, ap, ◌∙◌}
 use Rattle.std.specs.Prelude.{nat_lt, if◌then◌else◌}
-use Rattle.std.proofs.lemmas.Bool.Decides.{nat_tests}
-use Rattle.std.proofs.lemmas.List.{length-reverse}
 use Rattle.causal_trace.specs.Past.{instant, lane}
 use Rattle.causal_trace.specs.State.{past_at}
-use Rattle.causal_trace.proofs.Lemmas.Instants.{instant_past}
+use Rattle.causal_trace.proofs.Asked.{is_process, asked_instant}
 use Rattle.causal_trace.proofs.trace.Trace.lane.Goals as goal
-
-below : (p n : ℕ) → p < n → nat_lt p n ≡ true
-below p n h = grind (arith, nat_tests)
 
 pub returns-then-p-self : goal.returns-then-p-self
 returns-then-p-self c =
-    let es = c.self.inside.entries.items in
-    let within : c.args.t ≤ length es = omega (arith, c.requires, ap (λ s. length s.recording.past) c.self.view_is, length-reverse es) in
-    let same : past_at c.as_slice.result.now c.args.t ≡ instant c.args.self.now.recording.past c.args.t =
-    ap (λ xs. past_at xs c.args.t) c.as_slice.ensures.value ∙ sym (instant_past es c.args.t within) ∙ ap (λ s. instant s.recording.past c.args.t) c.self.view_is in
-    let low : nat_lt c.args.p.0 c.args.self.now.recording.processes ≡ true =
-    sym (ap (λ s. nat_lt c.args.p.0 s.recording.processes) c.self.view_is) ∙ below c.args.p.0 c.self.inside.processes c.if-p-self.true in
+    let past = c.args.self.now.recording.past in
+    let same : past_at c.as_slice.result.now c.args.t ≡ instant past c.args.t = asked_instant c.as_slice.result.now c.self.inside.entries.items past c.args.t c.as_slice.ensures.value (ap (λ s. s.recording.past) c.self.view_is) c.requires in
+    let low : nat_lt c.args.p.0 c.args.self.now.recording.processes ≡ true = is_process c.args.p.0 _ _ (ap (λ s. s.recording.processes) c.self.view_is) c.if-p-self.true in
     ap Some (c.lane_at.ensures.value ∙ ap (λ past. lane past c.args.p.0) same)
     ∙ ap (λ b. if b then Some (lane (instant c.args.self.now.recording.past c.args.t) c.args.p.0) else None) (sym low)
