@@ -15,10 +15,11 @@ use Rattle.causal_text.specs.declared.stage.Stage.TheVariants.{Opening, Within, 
 use Rattle.causal_text.specs.declared.version.Version.{Version}
 use Rattle.causal_text.specs.declared.version.Version.TheVariants.{One, Two}
 use Rattle.causal_text.specs.Lines.{lines}
-use Rattle.causal_text.specs.Place.{Place, IsPlaceAfter, start, and_then, next, after_lines, ended, reading}
+use Rattle.causal_text.specs.Place.{Place, IsPlaceAfter}
+use Rattle.causal_text.specs.Inside.LineByLine.{start, and_then, next, after_lines, ended, reading}
 use Rattle.causal_text.specs.Stages.{opened, max_text, line_shape, within_limit, after_line}
 use Rattle.causal_text.specs.Versions.{number_of, most_processes, HasLines}
-use Rattle.causal_text.specs.Spelling.{said, Reaches, Spells}
+use Rattle.causal_text.specs.Spelling.{said, LeadsTo, Spells}
 use Rattle.causal_text.proofs.Joined.{sum_by-lines}
 use Rattle.causal_text.proofs.Steps.{said_entries}
 use Rattle.causal_text.proofs.Spellings.{IsPlaceAfter-lines, IsPlaceAfter-start}
@@ -116,7 +117,7 @@ Leads-within version n (e ∷ past) ls some few lined ok h size =
     (λ front is small. Leads-within version n past front some few lined.0 ok.0 is small)
     (λ end l small is. in_limit end _ small ∙ rw (is, lined.1, ok.1) refl)
 
-pub Leads-reached : (ls : List (List ℕ)) (s : Stage) → Reaches ls s → Leads ls s
+pub Leads-reached : (ls : List (List ℕ)) (s : Stage) → LeadsTo ls s → Leads ls s
 Leads-reached ls Opening r = Leads-opening ls r.said
 Leads-reached ls (Within version q) r = Leads-within version q.processes q.past ls r.sound.0.count.0 r.sound.1.few r.sound.1.entries r.sound.0.accepted r.said r.within
 Leads-reached ls (Ended version q) r =
@@ -139,6 +140,6 @@ ended_at p s version r is = rw is refl
 
 pub reading-spelled : (text : List ℕ) (r : Recording) → Spells text r → reading text ≡ Ok r
 reading-spelled text r s =
-    let reached : Reaches (lines text) (Ended s.version r) = record { said = s.said; sound = (s.well_formed, s.fits); within = rw (sum_by-lines text) s.within } in
+    let reached : LeadsTo (lines text) (Ended s.version r) = record { said = s.said; sound = (s.well_formed, s.fits); within = rw (sum_by-lines text) s.within } in
     let led = Leads-reached (lines text) (Ended s.version r) reached in
     ap (λ (q : Result Place TextFault). and_then q (λ p. ended p p.stage)) led.1 ∙ ended_at led.0 led.0.stage s.version r led.2

@@ -7,8 +7,10 @@ use Rattle.causal_text.specs.declared.kind.TextKind.TheVariants as kind
 use Rattle.causal_text.specs.declared.kind.TextFault.{TextFault}
 use Rattle.causal_text.specs.Lines.{lines, before_first_line}
 use Rattle.causal_text.specs.Spelling.{IsReadUpTo, IsReadAt}
-use Rattle.causal_text.specs.Place.{Place, start, IsTextFaultOf, and_then, next, after_lines, ended, reading}
-use Rattle.causal_text.specs.Pieces.{no_feed, IsComplete, AreComplete, joined, Held, StandsFor, IsFaultOfAll, with_line, IsPast, last_place, ending}
+use Rattle.causal_text.specs.Place.{Place}
+use Rattle.causal_text.specs.Inside.LineByLine.{start, IsTextFaultOf, and_then, next, after_lines, ended, reading}
+use Rattle.causal_text.specs.Pieces.{no_feed, IsComplete, AreComplete, joined, Held, StandsFor}
+use Rattle.causal_text.specs.Inside.Unfinished.{IsFaultOfAll, with_line, IsPast, last_place, ending}
 use Rattle.causal_text.proofs.Spellings.{IsPlaceAfter-next}
 use Rattle.causal_text.proofs.Complete.{after_lines-append, after_lines-place}
 

@@ -113,10 +113,6 @@ det_bad left (array (item a (item b (item c (item e no_items))))) m h =
     chain (pid_at 2 d) _ (IsPlainly-pid 2 d) (or_else (fits (left - 1) c) _ h3 (pid_bad (left - 1) 2 d c refl) (λ h4 dest.
     stops (u32_at 3 d) _ (number_at_bad (2 ^ 32) (left - 1) 3 d e refl (last_false (fits (left - 1) e) _ m h4))))))))
 
-IsPlainly-dets : (ds : Items) → IsPlainly (dets_of ds)
-IsPlainly-dets no_items = IsPlainly-ok []
-IsPlainly-dets (item d ds) = IsPlainly-after (det_of d) _ (IsPlainly-det d) (λ det. IsPlainly-after (dets_of ds) _ (IsPlainly-dets ds) (λ dets. IsPlainly-ok _))
-
 list_bad : (n : ℕ) (ds : Items) → items_fit 2 n ds ≡ false → dets_of ds ≡ Err Form
 list_bad n no_items h = absurd (let no : true ≡ false = h in cc)
 list_bad n (item d ds) h =

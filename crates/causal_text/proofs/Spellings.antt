@@ -11,9 +11,10 @@ use Rattle.causal_text.specs.declared.stage.Stage.{Stage}
 use Rattle.causal_text.specs.declared.stage.Stage.TheVariants.{Opening, Within, Ended}
 use Rattle.causal_text.specs.Lines.{lines}
 use Rattle.causal_text.specs.declared.version.Version.{Version}
-use Rattle.causal_text.specs.Place.{Place, IsPlaceAfter, start, ◌at◌, and_then, next, after_lines, ended, reading}
+use Rattle.causal_text.specs.Place.{Place, IsPlaceAfter}
+use Rattle.causal_text.specs.Inside.LineByLine.{start, ◌at◌, and_then, next, after_lines, ended, reading}
 use Rattle.causal_text.specs.Stages.{line_shape, after_line}
-use Rattle.causal_text.specs.Spelling.{said, Spells, Reaches, IsOpen, IsFirstFault}
+use Rattle.causal_text.specs.Spelling.{said, Spells, LeadsTo, IsOpen, IsFirstFault}
 use Rattle.causal_text.proofs.Joined.{sum_by-lines}
 use Rattle.causal_text.proofs.Steps.{Accepted-line}
 
@@ -38,8 +39,8 @@ at_err (Err k) line e h =
 pub IsPlaceAfter-start : IsPlaceAfter [] start
 IsPlaceAfter-start = record { reaches = record { said = refl; sound = tt; within = omega arith }; count = refl; size = refl }
 
-Reaches-line : (before : List (List ℕ)) (s : Stage) (line : List ℕ) (t : Stage) → Reaches before s → after_line s (sum_by length before + length line) line ≡ Ok t → Reaches (before ++ line ∷ []) t
-Reaches-line before s line t r h =
+LeadsTo-line : (before : List (List ℕ)) (s : Stage) (line : List ℕ) (t : Stage) → LeadsTo before s → after_line s (sum_by length before + length line) line ≡ Ok t → LeadsTo (before ++ line ∷ []) t
+LeadsTo-line before s line t r h =
     let a = Accepted-line s _ line t r.sound h in
     record {
       said = map-append line_shape before (line ∷ []) ∙ rw (r.said, a.reads) (rw (a.adds.more) (sym (map-append Ok (said s) (a.spoken ∷ []))));
@@ -53,7 +54,7 @@ IsPlaceAfter-next before p q line st h =
     let taken = at_ok (after_line p.stage (p.size + length line) line) (p.count + 1) step.0 step.1 in
     let there : record { stage = step.0; count = p.count + 1; size = p.size + length line } ≡ q = cc in
     subst (λ (u : Place). IsPlaceAfter (before ++ line ∷ []) u) there (record {
-      reaches = Reaches-line before p.stage line step.0 st.reaches (rw (← st.size) taken);
+      reaches = LeadsTo-line before p.stage line step.0 st.reaches (rw (← st.size) taken);
       count = rw (st.count, length-append before (line ∷ [])) refl;
       size = rw (st.size, sum_by_push length before line) refl;
     })
@@ -72,7 +73,7 @@ pub record Breaks (before ls : List (List ℕ)) (fault : TextFault) : Type 0 whe
   pub after : List (List ℕ)
   pub stage : Stage
   pub split : before ++ ls ≡ front ++ line ∷ after
-  pub reaches : Reaches front stage
+  pub reaches : LeadsTo front stage
   pub faulty : after_line stage (sum_by length front + length line) line ≡ Err fault.kind
   pub number : fault.line ≡ length front + 1
 
@@ -116,7 +117,7 @@ ended_ok p Opening r h = absurd (let no : Err (record { line = p.count + 1; kind
 ended_ok p (Within version q) r h = absurd (let no : Err (record { line = p.count + 1; kind = kind.Cut }) ≡ Ok r = h in cc)
 ended_ok p (Ended version q) r h = let same : q ≡ r = cc in (version, ap (Ended version) same)
 
-Spells-reached : (text : List ℕ) (version : Version) (r : Recording) → Reaches (lines text) (Ended version r) → Spells text r
+Spells-reached : (text : List ℕ) (version : Version) (r : Recording) → LeadsTo (lines text) (Ended version r) → Spells text r
 Spells-reached text version r reached = record {
   version = version;
   fits = reached.sound.1;
@@ -130,7 +131,7 @@ Spells-reading text r h =
     let step = and_then_ok (after_lines start (lines text)) _ r h in
     let stands = IsPlaceAfter-lines [] (lines text) start step.0 IsPlaceAfter-start step.1 in
     let last = ended_ok step.0 step.0.stage r step.2 in
-    Spells-reached text last.0 r (subst (λ (s : Stage). Reaches (lines text) s) last.1 stands.reaches)
+    Spells-reached text last.0 r (subst (λ (s : Stage). LeadsTo (lines text) s) last.1 stands.reaches)
 
 -- ---- a fault that reading gives is the first
 

@@ -10,8 +10,10 @@ use Rattle.causal_text.specs.declared.stream.State.TheVariants as state
 use Rattle.causal_text.specs.declared.stream.Progress.TheVariants as progress
 use Rattle.causal_text.specs.declared.stream.ReaderFault.{ReaderFault}
 use Rattle.causal_text.specs.declared.stream.ReaderFault.TheVariants as fault
+use Rattle.causal_text.specs.Stages.{max_text}
 use Rattle.causal_text.specs.Spelling.{Spells, IsFirstFault, IsReadUpTo, IsReadAt}
-use Rattle.causal_text.specs.Pieces.{joined, Held, taken, StandsFor}
+use Rattle.causal_text.specs.Pieces.{joined, Held, StandsFor}
+use Rattle.causal_text.specs.Inside.Unfinished.{taken}
 use Rattle.causal_text.specs.Streams.{HasRead, IsReading, Follows, PieceEndsAt, TellsFault, TellsOf, TellsLine, TellsLineOf, IsFaultAfter}
 
 pub Consumes-then : (a m n : Option (List ℕ)) (xs ys : List ℕ) → Consumes a m xs → Consumes m n ys → Consumes a n (xs ++ ys)
@@ -35,10 +37,10 @@ length-taken h bytes st =
     let all = length-joined st.complete in
     ap length st.whole ∙ length-append (joined st.complete) h.rest ∙ omega (arith, st.place_is.size)
 
-pub read_more : (k : Held) (bytes : List ℕ) → StandsFor k bytes → taken k ≤ 33554432 → HasRead (state.Reading k) bytes
+pub read_more : (k : Held) (bytes : List ℕ) → StandsFor k bytes → taken k ≤ max_text → HasRead (state.Reading k) bytes
 read_more k bytes st few = (st, omega (arith, length-taken k bytes st))
 
-pub length-read : (s : State) (read : List ℕ) → HasRead s read → length read ≤ 33554432
+pub length-read : (s : State) (read : List ℕ) → HasRead s read → length read ≤ max_text
 length-read (state.Reading h) read st = st.1
 length-read (state.Ended r) read st = st.within
 length-read state.Failed read st = absurd st

@@ -1,14 +1,7 @@
--- Where a reader of lines stands, and where each line takes it.
-use Rattle.std.specs.Prelude.{◌≡◌, ℕ, ◌+◌, ◌≤◌, List, [], ◌∷◌, length, sum_by, Result, Ok, Err}
-use Rattle.causal_trace.specs.Rows.{Recording}
-use Rattle.causal_text.specs.declared.kind.TextKind.{TextKind}
-use Rattle.causal_text.specs.declared.kind.TextKind.TheVariants as kind
-use Rattle.causal_text.specs.declared.kind.TextFault.{TextFault}
+-- Where a reader of lines stands.
+use Rattle.std.specs.Prelude.{◌≡◌, ℕ, List, length, sum_by}
 use Rattle.causal_text.specs.declared.stage.Stage.{Stage}
-use Rattle.causal_text.specs.declared.stage.Stage.TheVariants.{Opening, Within, Ended}
-use Rattle.causal_text.specs.Lines.{lines}
-use Rattle.causal_text.specs.Spelling.{Reaches}
-use Rattle.causal_text.specs.Stages.{after_line}
+use Rattle.causal_text.specs.Spelling.{LeadsTo}
 
 -- what the lines so far have said, how many they are, and how many bytes they have
 pub record Place : Type 0 where
@@ -18,53 +11,6 @@ pub record Place : Type 0 where
 
 -- the place is that after these lines, none of which has a fault
 pub record IsPlaceAfter (before : List (List ℕ)) (p : Place) : Type 0 where
-  pub reaches : Reaches before p.stage
+  pub reaches : LeadsTo before p.stage
   pub count : p.count ≡ length before
   pub size : p.size ≡ sum_by length before
-
--- before the first line
-abbrev pub start : Place
-start = record { stage = Opening; count = 0; size = 0 }
-
--- what stands against a line, with the line's number
-infixl 10 ◌at◌
-abbrev pub ◌at◌ : {A : Type 0} → Result A TextKind → ℕ → Result A TextFault
-(Ok x) at line = Ok x
-(Err kind) at line = Err (record { line = line; kind = kind })
-
-abbrev pub and_then : {A B : Type 0} → Result A TextFault → (A → Result B TextFault) → Result B TextFault
-and_then (Ok x) f = f x
-and_then (Err e) f = Err e
-
--- the place after one more line
-abbrev pub next : Place → List ℕ → Result Place TextFault
-next p line = and_then (after_line p.stage (p.size + length line) line at (p.count + 1)) (λ s. Ok (record { stage = s; count = p.count + 1; size = p.size + length line }))
-
--- each line of at least so many bytes has the fault, whatever it holds
-abbrev pub IsFaultFrom : Place → ℕ → TextFault → Type 0
-IsFaultFrom p n fault = (line : List ℕ) → n ≤ length line → next p line ≡ Err fault
-
--- the place after these lines, or the fault of the first of them that has one
-abbrev pub after_lines : Place → List (List ℕ) → Result Place TextFault
-after_lines p [] = Ok p
-after_lines p (l ∷ ls) = and_then (next p l) (λ q. after_lines q ls)
-
--- a text ends with its end line
-abbrev pub ended : Place → Stage → Result Recording TextFault
-ended p Opening = Err (record { line = p.count + 1; kind = kind.Cut })
-ended p (Within version r) = Err (record { line = p.count + 1; kind = kind.Cut })
-ended p (Ended version r) = Ok r
-
--- the recording that a text spells, or its first fault
-abbrev pub reading : List ℕ → Result Recording TextFault
-reading text = and_then (after_lines start (lines text)) (λ p. ended p p.stage)
-
--- a fault other than want of memory is the one that reading gives
-abbrev pub IsTextFaultOf : {A : Type 0} → TextKind → TextFault → Result A TextFault → Type 0
-IsTextFaultOf kind.NoMemory e read = Unit {0}
-IsTextFaultOf k e read = read ≡ Err e
-
--- what reading gives, or want of memory
-abbrev pub GivesText : {A : Type 0} → Result A TextFault → Result A TextFault → Type 0
-GivesText (Ok x) read = read ≡ Ok x
-GivesText (Err e) read = IsTextFaultOf e.kind e read

@@ -41,7 +41,7 @@ IsOpen (Ended version r) = ⊥
 IsOpen _ = Unit {0}
 
 -- these lines have no fault, and lead up to the stage
-pub record Reaches (before : List (List ℕ)) (stage : Stage) : Type 0 where
+pub record LeadsTo (before : List (List ℕ)) (stage : Stage) : Type 0 where
   pub said : map line_shape before ≡ map Ok (said stage)
   pub sound : IsSound stage
   pub within : sum_by length before ≤ max_text
@@ -53,14 +53,14 @@ pub record IsFaultOfLine (text : List ℕ) (fault : TextFault) : Type 0 where
   pub after : List (List ℕ)
   pub stage : Stage
   pub split : lines text ≡ before ++ line ∷ after
-  pub reaches : Reaches before stage
+  pub reaches : LeadsTo before stage
   pub faulty : after_line stage (sum_by length before + length line) line ≡ Err fault.kind
   pub number : fault.line ≡ length before + 1
 
 -- no line has a fault, and none is the end line
 pub record IsCut (text : List ℕ) (fault : TextFault) : Type 0 where
   pub stage : Stage
-  pub reaches : Reaches (lines text) stage
+  pub reaches : LeadsTo (lines text) stage
   pub unended : IsOpen stage
   pub number : fault.line ≡ length (lines text) + 1
   pub kind_is : fault.kind ≡ Cut
@@ -77,7 +77,7 @@ pub record IsReadUpTo (text : List ℕ) (line : ℕ) : Type 0 where
   pub after : List (List ℕ)
   pub stage : Stage
   pub split : lines text ≡ before ++ after
-  pub reaches : Reaches before stage
+  pub reaches : LeadsTo before stage
   pub number : line ≡ length before + 1
 
 -- the same of each text that begins so

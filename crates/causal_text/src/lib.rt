@@ -2,6 +2,9 @@
 //!
 //! A text is read line by line. Either it spells one trace, or it has one first fault: that of the least line that has
 //! one, and within a line the first in the order of [`TextKind`].
+//!
+//! Begin at [`read_trace`] for a text that is there as a whole, or [`read_from`] for one that a reader gives; [`TraceReader`] reads
+//! a piece at a time. [`text_of`] and [`write_trace`] give the canonical text. [`laws`] says that a text has one reading.
 #![tactic(auto)]
 
 pub mod kind;

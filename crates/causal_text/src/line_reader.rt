@@ -1,6 +1,7 @@
 //! A text line by line.
 ghost use Rattle.std.specs.Prelude.{◌≡◌, ◌≢◌, ◌+◌, ◌<◌, ◌≤◌, length, IfSome, IfNone, IfErr};
-ghost use Rattle.causal_text.specs.Place.{start, next, ended, GivesText, IsFaultFrom};
+ghost use Rattle.causal_text.specs.Stages.{max_text};
+ghost use Rattle.causal_text.specs.Inside.LineByLine.{start, next, ended, GivesText, IsFaultFrom};
 
 use crate::kind::{TextFault, TextKind};
 use crate::recorded::Recorded;
@@ -19,12 +20,13 @@ pub(crate) struct LineReader {
 impl Model for LineReader {
     ghost use Rattle.std.specs.Prelude.{◌≤◌};
     ghost use Rattle.causal_text.specs.Place.{Place};
+    ghost use Rattle.causal_text.specs.Stages.{max_text};
 
     ghost Value = { Place };
 
     ghost view = { λ r. record { stage = r.stage; count = r.count; size = r.size } };
 
-    ghost invariant = { λ r. (r.count ≤ r.size) × (r.size ≤ 33554432) };
+    ghost invariant = { λ r. (r.count ≤ r.size) × (r.size ≤ max_text) };
 }
 
 impl LineReader {
@@ -76,7 +78,7 @@ impl LineReader {
     pub(crate) fn past(&self, len: usize) -> Option<TextFault>
         ensures past { IfSome result (λ fault. (0 < len) × IsFaultFrom self.now len fault) }
         ensures line { IfSome result (λ fault. fault.line ≡ self.now.count + 1) }
-        ensures room { IfNone result (self.now.size + len ≤ 33554432) }
+        ensures room { IfNone result (self.now.size + len ≤ max_text) }
     {
         let end = self.size.saturating_add(len);
         if len == 0 {

@@ -1,7 +1,9 @@
 //! From a text, whole or in pieces, to the trace that it spells, or to its first fault.
 ghost use Rattle.std.specs.Prelude.{◌≡◌, ◌≢◌, ◌++◌, ◌+◌, ◌<◌, ◌≤◌, List, [], ℕ, length, IfOk, IfErr};
-ghost use Rattle.causal_text.specs.Place.{GivesText, reading};
-ghost use Rattle.causal_text.specs.Pieces.{StandsFor, IsFaultOfAll, with_line, IsPast, ending, taken};
+ghost use Rattle.causal_text.specs.Inside.LineByLine.{GivesText, reading};
+ghost use Rattle.causal_text.specs.Pieces.{StandsFor};
+ghost use Rattle.causal_text.specs.Inside.Unfinished.{IsFaultOfAll, with_line, IsPast, ending, taken};
+ghost use Rattle.causal_text.specs.Stages.{max_text};
 ghost use Rattle.causal_text.specs.Spelling.{Spells, IsFirstFault, IsReadUpTo, IsReadAt};
 
 use crate::kind::{TextFault, TextKind};
@@ -31,7 +33,7 @@ impl PieceReader {
     /// Before the first piece.
     pub(crate) fn new(alloc: Global) -> PieceReader
         ensures stands { StandsFor result [] }
-        ensures room { taken result ≤ 33554432 }
+        ensures room { taken result ≤ max_text }
     {
         PieceReader {
             lines: LineReader::new(),
@@ -59,7 +61,7 @@ impl PieceReader {
     /// Holds more of a line, unless no line may stand there or the text is too long by it.
     fn hold(self, part: &[u8]) -> Result<PieceReader, TextFault>
         ensures ok { IfOk result (λ r. r ≡ record { place = self.place; rest = self.rest ++ part.now }) }
-        ensures room { IfOk result (λ r. taken r ≤ 33554432) }
+        ensures room { IfOk result (λ r. taken r ≤ max_text) }
         ensures err { IfErr result (λ f. f.kind ≢ TextKind.NoMemory
             → (0 < length (self.rest ++ part.now))
             × IsPast (record { place = self.place; rest = self.rest ++ part.now }) f) }
@@ -78,7 +80,7 @@ impl PieceReader {
     /// Takes the next piece of the text.
     pub(crate) fn feed(self, alloc: Global, piece: &[u8]) -> Result<PieceReader, TextFault>
         ensures ok { IfOk result (λ r. (b : List ℕ) → StandsFor self b → StandsFor r (b ++ piece.now)) }
-        ensures room { IfOk result (λ r. taken r ≤ 33554432) }
+        ensures room { IfOk result (λ r. taken r ≤ max_text) }
         ensures err { IfErr result (λ f. f.kind ≢ TextKind.NoMemory
             → (b : List ℕ) → StandsFor self b → IsFaultOfAll (b ++ piece.now) f) }
         ensures line { IfErr result (λ f. (b : List ℕ) → StandsFor self b → IsReadAt (b ++ piece.now) f.line) }

@@ -1,8 +1,8 @@
 //! What the lines so far have said, and what one more line adds.
 ghost use Rattle.std.specs.Prelude.{◌≡◌, ◌≤◌, OnOk};
 ghost use Rattle.serde_json.specs.View.{view};
-ghost use Rattle.causal_text.specs.Reading.{Gives, GivesBy};
-ghost use Rattle.causal_text.specs.Stages.{content, json_of, line_shape, begun, follow, after_line};
+ghost use Rattle.causal_text.specs.Inside.Given.{Gives, GivesBy};
+ghost use Rattle.causal_text.specs.Stages.{max_text, content, json_of, line_shape, begun, follow, after_line};
 ghost use Rattle.causal_text.specs.Versions.{version_of};
 
 use crate::kind::TextKind;
@@ -148,7 +148,7 @@ pub(crate) fn after_line(
     line: &[u8],
 ) -> Result<Stage, TextKind>
     ensures value { Gives result (after_line stage end line.now) }
-    ensures within { OnOk result (end ≤ 33554432) }
+    ensures within { OnOk result (end ≤ max_text) }
 {
     if let Stage::Ended { .. } = &stage {
         return Err(TextKind::After);

@@ -6,15 +6,18 @@ use Rattle.causal_text.specs.declared.kind.TextFault.{TextFault}
 use Rattle.causal_text.specs.declared.stage.Stage.{Stage}
 use Rattle.causal_text.specs.declared.stage.Stage.TheVariants.{Opening, Within, Ended}
 use Rattle.causal_text.specs.Lines.{lines}
-use Rattle.causal_text.specs.Place.{Place, start, and_then, next, after_lines, ended, reading}
+use Rattle.causal_text.specs.Place.{Place}
+use Rattle.causal_text.specs.Inside.LineByLine.{start, and_then, next, after_lines, ended, reading}
 use Rattle.causal_text.specs.Stages.{after_line}
 use Rattle.causal_text.specs.Spelling.{Spells, IsOpen, IsFaultOfLine, IsCut, IsFirstFault}
 use Rattle.causal_text.proofs.Spellings.{IsPlaceAfter-lines, IsPlaceAfter-start}
 use Rattle.causal_text.proofs.Complete.{after_lines-append, Leads-reached, reading-spelled}
 
+-- a line with a fault is refused for it
 faulty_next : (q : Place) (line : List ℕ) (f : TextFault) → after_line q.stage (q.size + length line) line ≡ Err f.kind → f.line ≡ q.count + 1 → next q line ≡ Err f
 faulty_next q line f h n = rw h (ap (λ k. Err (record { line = k; kind = f.kind })) (sym n))
 
+-- the fault of the least line that has one is what reading gives
 fault_of_line : (text : List ℕ) (f : TextFault) → IsFaultOfLine text f → reading text ≡ Err f
 fault_of_line text f e =
     let q = Leads-reached e.before e.stage e.reaches in
@@ -23,11 +26,13 @@ fault_of_line text f e =
     let all : after_lines start (lines text) ≡ Err f = ap (after_lines start) e.split ∙ after_lines-append start q.0 e.before (e.line ∷ e.after) q.1 ∙ rw here refl in
     ap (λ (r : Result Place TextFault). and_then r (λ p. ended p p.stage)) all
 
+-- with no end line so far the text is cut here
 cut_here : (q : Place) (s : Stage) (f : TextFault) → IsOpen s → f.line ≡ q.count + 1 → f.kind ≡ kind.Cut → ended q s ≡ Err f
 cut_here q Opening f h n k = ap₂ (λ l c. Err (record { line = l; kind = c })) (sym n) (sym k)
 cut_here q (Within version r) f h n k = ap₂ (λ l c. Err (record { line = l; kind = c })) (sym n) (sym k)
 cut_here q (Ended version r) f h n k = absurd h
 
+-- that a text is cut is what reading gives
 cut_of : (text : List ℕ) (f : TextFault) → IsCut text f → reading text ≡ Err f
 cut_of text f e =
     let q = Leads-reached (lines text) e.stage e.reaches in
@@ -35,14 +40,18 @@ cut_of text f e =
     ap (λ (r : Result Place TextFault). and_then r (λ p. ended p p.stage)) q.1
     ∙ cut_here q.0 q.0.stage f (subst (λ (s : Stage). IsOpen s) (sym q.2) e.unended) (rw st.count e.number) e.kind_is
 
+-- the first fault of a text is what reading gives
 pub reading-first : (text : List ℕ) (f : TextFault) → IsFirstFault text f → reading text ≡ Err f
 reading-first text f e = elim e [ inl l ↦ fault_of_line text f l | inr c ↦ cut_of text f c ]
 
+-- a text has one first fault at most
 pub one_fault : (text : List ℕ) (f g : TextFault) → IsFirstFault text f → IsFirstFault text g → f ≡ g
 one_fault text f g a b = let e = sym (reading-first text f a) ∙ reading-first text g b in cc
 
+-- it spells one recording at most
 pub one_recording : (text : List ℕ) (r s : Recording) → Spells text r → Spells text s → r ≡ s
 one_recording text r s a b = let e = sym (reading-spelled text r a) ∙ reading-spelled text s b in cc
 
+-- it does not spell a recording and have a fault
 pub not_both : (text : List ℕ) (r : Recording) (f : TextFault) → Spells text r → IsFirstFault text f → ⊥
 not_both text r f a b = let e = sym (reading-spelled text r a) ∙ reading-first text f b in cc

@@ -1,7 +1,7 @@
 //! The shapes of a line.
 ghost use Rattle.std.specs.Prelude.{◌≡◌};
 ghost use Rattle.serde_json.specs.View.{view};
-ghost use Rattle.causal_text.specs.Reading.{Gives};
+ghost use Rattle.causal_text.specs.Inside.Given.{Gives};
 ghost use Rattle.causal_text.specs.Shapes.{header_of, send_of, deliver_of, stable_of, crash_of, restart_of, forget_of, end_of, begins, shape_of};
 
 use crate::kind::TextKind;
