@@ -1,24 +1,20 @@
 -- That notes go on saying what is true of a log.
-use Rattle.std.proofs.Common.{ℕ, ◌≡◌, ◌∙◌, ◌≤◌, ◌<◌, ◌+◌, ◌&&◌, ◌||◌, ◌==◌, Bool, true, false, cond, not, nat_le, List, [], ◌∷◌, map, filter, Option, Some, None, is_some, unwrap_or, ◌++◌, get_or, length, drop, add-one, ◌⊎◌, inl, inr, true≢false, refl, sym, ap, subst, arith}
+use Rattle.std.proofs.Common.{ℕ, ◌≡◌, ◌∙◌, ◌≤◌, ◌<◌, ◌+◌, ◌&&◌, ◌||◌, Bool, true, false, cond, not, nat_le, List, [], ◌∷◌, map, filter, Option, Some, None, is_some, unwrap_or, ◌++◌, true≢false, refl, sym, ap, subst, arith}
 use Rattle.std.proofs.lemmas.Bool.Decides.{nat_tests}
-use Rattle.std.proofs.Math.Seq.{drop-cons}
 use Rattle.std.specs.List.{list_any}
 use Rattle.std.specs.Option.{option_map}
-use Rattle.std.proofs.lemmas.Map.Made.{is_some-lookup}
 use Rattle.std.specs.Map.{lookup, keys_of}
 use Rattle.std.specs.Cmp.{nat_cmp_total}
 use Rattle.std.specs.FinMap as fin
 use Rattle.std.specs.FinSet as set
 use Rattle.causal_name.specs.declared.Det.{Det}
-use Rattle.causal_name.specs.declared.Pid.{Pid}
-use Rattle.causal_name.specs.Names.{same_det, same_pid, message_of}
+use Rattle.causal_name.specs.Names.{same_det}
 use Rattle.causal_name.proofs.Lemmas.DetOrder.{same_is}
 use Rattle.causal_holders.proofs.Lemmas.Sets.{len-is_subset}
 use Rattle.causal_log.specs.declared.known.Known.{Known}
 use Rattle.causal_log.specs.declared.notes.Notes.{Notes}
 use Rattle.causal_log.specs.Knowledge.{nothing_known, joined, as_stable, is_carried}
-use Rattle.causal_log.specs.Logs.{LogMap, log_of, known_of, learned, marked, unmarked, is_chosen, named}
-use Rattle.causal_log.specs.Slots.{is_of_slot, first_of_slot}
+use Rattle.causal_log.specs.Logs.{LogMap, log_of, known_of, learned, marked, unmarked, is_chosen}
 use Rattle.causal_log.specs.Inside.Noted.{IsNoted, GoOn, Learn}
 use Rattle.causal_log.specs.Inside.Ranks.{IsAmong, AreSlots}
 use Rattle.causal_log.proofs.PlaceLemmas.{same_members}
@@ -28,7 +24,6 @@ use Rattle.causal_log.proofs.EntryLemmas.{get_log}
 use Rattle.causal_log.proofs.Lemmas.Learning.{get_learned}
 use Rattle.causal_log.proofs.Lemmas.Marking.{get_marked, get_unmarked}
 use Rattle.causal_log.proofs.Lemmas.Listing.{keys_logged}
-use Rattle.causal_log.proofs.Lemmas.Slots.{first_fits}
 use Rattle.causal_log.proofs.Lemmas.Searches.{both, any_kept, passes}
 
 -- notes that say nothing are true of every log
@@ -233,4 +228,19 @@ pub noted_made : (notes : Notes) (es : List (Det × Known)) (g : ℕ) → notes.
 noted_made notes es g limit few slots = record {
   carried = λ f low q h. ap (list_any (same_det q)) few ∙ carried_among es f g (omega (arith, low, limit)) q h;
   slots = λ some. slots_like (keys_of es) (fin.keys (log_of es)) notes.slots.entries (λ q. sym (same_members es q)) slots;
+}
+
+unmarked_carried : (f : ℕ) (b : Bool) (o : Option Known) → is_chosen f (cond b None o) ≡ true → is_chosen f o ≡ true
+unmarked_carried f true o h = absurd (true≢false (sym h))
+unmarked_carried f false o h = h
+
+-- notes go on where what is marked is taken out, and the slots are filled by what is left
+pub noted_left : (before after : Notes) (log : LogMap) (es : List (Det × Known)) → log_of es ≡ unmarked log → after.limit ≤ before.limit
+    → after.few.items ≡ before.few.items → (0 < after.limit → AreSlots (keys_of es) after.slots.entries) → IsNoted before log → IsNoted after (log_of es)
+noted_left before after log es left limit few slots is = record {
+  carried = λ f low q h.
+      subst (IsAmong q) (sym few)
+      (is.carried f (omega (arith, low, limit)) q
+      (unmarked_carried f (known_of log q).stable (fin.get log q) (ap (is_chosen f) (sym (get_unmarked log q)) ∙ ap (λ l. is_chosen f (fin.get l q)) (sym left) ∙ h)));
+  slots = λ some. slots_like (keys_of es) (fin.keys (log_of es)) after.slots.entries (λ q. sym (same_members es q)) (slots some);
 }

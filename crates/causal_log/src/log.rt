@@ -404,13 +404,15 @@ impl Log {
         entries::mark(&mut self.entries, det)
     }
 
-    /// Takes out the determinants that are known to be stable, and says how many these were. Takes no memory.
+    /// Takes out the determinants that are known to be stable, and says how many these were. Takes no memory. It reads the
+    /// whole log.
     pub fn drop_stable(&mut self) -> u32
         ensures left { self.new.map ≡ unmarked self.old.map }
         ensures count { result ≡ length (stable_in self.old.map) }
         ensures spare { self.new.spare ≡ self.old.spare }
     {
-        self.notes.forget();
-        entries::drop_stable(&mut self.entries)
+        let count = entries::drop_stable(&mut self.entries);
+        self.notes.leave(self.entries.keys().as_slice());
+        count
     }
 }

@@ -9,11 +9,12 @@ ghost use Rattle.causal_log.specs.declared.known.Known.{Known};
 ghost use Rattle.causal_log.specs.Knowledge.{joined};
 ghost use Rattle.causal_log.specs.Logs.{LogMap, log_of, is_chosen};
 ghost use Rattle.causal_log.specs.Inside.Noted.{IsNoted, Learn};
+ghost use Rattle.causal_log.specs.Inside.Ranks.{AreSlots};
 
 use crate::batch::Item;
 use crate::entries::{carried_dets, is_chosen};
 use crate::known::Known;
-use crate::slots::{fill_slot, slots_of};
+use crate::slots::{fill_slot, refill, slots_of};
 use causal_name::{Det, Slot};
 use indexmap::IndexMap;
 use std::alloc::Global;
@@ -177,6 +178,18 @@ impl Notes {
             return;
         };
         self.make(few, slots);
+    }
+
+    /// Goes on where entries were taken out that messages carry no more, and these determinants are left: the slots are
+    /// filled anew. Takes no memory; where there is no room for it the notes say nothing.
+    pub(crate) fn leave(&mut self, left: &[Det])
+        ensures limit { self.new.limit ≤ self.old.limit }
+        ensures few { self.new.few.items ≡ self.old.few.items }
+        ensures slots { 0 < self.new.limit → AreSlots left.now self.new.slots.entries }
+    {
+        if self.limit > 0 && !refill(&mut self.slots, left) {
+            self.limit = 0;
+        }
     }
 
     /// Leaves out of the notes what messages carry no more.

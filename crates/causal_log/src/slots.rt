@@ -1,5 +1,5 @@
 //! The least of some determinants that fills each slot.
-ghost use Rattle.std.specs.Prelude.{◌≤◌, IfOk};
+ghost use Rattle.std.specs.Prelude.{◌≤◌, IfOk, IsTrue};
 ghost use Rattle.indexmap.specs.IndexMap.{spare};
 ghost use Rattle.causal_log.specs.Inside.Ranks.{AreSlots, FillsSlot};
 
@@ -33,4 +33,19 @@ pub(crate) fn slots_of(alloc: Global, dets: &[Det]) -> Result<IndexMap<Slot, Det
         fill_slot(&mut slots, *det);
     }
     Ok(slots)
+}
+
+/// Fills the slots anew with the least of these determinants, in the room that there is, and says whether it sufficed. It
+/// takes no memory.
+pub(crate) fn refill(slots: &mut IndexMap<Slot, Det>, dets: &[Det]) -> bool
+    ensures { IsTrue result → AreSlots dets.now slots.new.entries }
+{
+    slots.clear();
+    for det in dets {
+        if slots.len() == slots.capacity() {
+            return false;
+        }
+        fill_slot(slots, *det);
+    }
+    true
 }
