@@ -18,11 +18,11 @@ use Rattle.causal_trace.specs.Past.{has, is_stable}
 use Rattle.causal_log.specs.declared.known.Known.{Known}
 use Rattle.causal_log.specs.declared.batch.Item.{Item}
 use Rattle.causal_log.specs.Knowledge.{nothing_known, is_carried, as_stable}
-use Rattle.causal_log.specs.Logs.{LogMap, known_of, item_of, is_chosen, chosen, stable_in, marked, mark, dets_of}
+use Rattle.causal_log.specs.Logs.{LogMap, known_of, item_of, is_chosen, chosen, stable_in, marked, mark, dets_of, unstable_in}
 use Rattle.causal_log.specs.Stores.{DetSet, with_det}
 use Rattle.causal_log.specs.Stores as store
 use Rattle.causal_log.proofs.Lemmas.Searches.{any_map, any_kept, any_logged, passes}
-use Rattle.causal_protocol.specs.Gathering.{stable_set, without, unstable_in}
+use Rattle.causal_protocol.specs.Gathering.{stable_set, without}
 use Rattle.causal_protocol.specs.Naming.{with_own, by_order}
 use Rattle.causal_protocol.specs.Sight.{has_entry, tells_holder, tells_stable, has_item, item_holder}
 

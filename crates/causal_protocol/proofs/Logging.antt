@@ -42,13 +42,6 @@ entry_of_holder log d q h = by (fin.get log d) h
     by None h = absurd (both_ways _ (set.contains-empty nat_cmp q) h)
     by (Some k) h = refl
 
-pub entry_of_mark : (log : LogMap) (d : Det) → tells_stable d log ≡ true → has_entry d log ≡ true
-entry_of_mark log d h = by (fin.get log d) h
-  where
-    by : (o : Option Known) → (unwrap_or o nothing_known).stable ≡ true → is_some o ≡ true
-    by None h = absurd (false≢true h)
-    by (Some k) h = refl
-
 -- an item that names a holder is an item
 pub item_of_holder : (d : Det) (q : ℕ) (items : List Item) → item_holder d q items ≡ true → has_item d items ≡ true
 item_of_holder d q [] h = absurd (false≢true h)

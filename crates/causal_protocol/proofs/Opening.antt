@@ -27,11 +27,6 @@ at_first zero p low = absurd (omega (arith, low))
 at_first (suc n) zero low = refl
 at_first (suc n) (suc p) low = at_first n p (omega (arith, low))
 
-at_beyond : (n p : ℕ) → n ≤ p → at (beginners n) p ≡ None
-at_beyond zero p low = refl
-at_beyond (suc n) zero low = absurd (omega (arith, low))
-at_beyond (suc n) (suc p) low = at_beyond n p (omega (arith, low))
-
 either : (n p : ℕ) → (at (beginners n) p ≡ Some (fresh fin.empty)) ⊎ (at (beginners n) p ≡ None)
 either zero p = inr refl
 either (suc n) zero = inl refl

@@ -77,10 +77,6 @@ pub messages_here : (ms : Memories) (p : ℕ) (m : Memory) → at ms p ≡ Some 
 unfolding messages
 messages_here ms p m here = ap (λ o. option_map_or (λ m. m.sent) o []) here
 
-pub messages_none : (ms : Memories) (p : ℕ) → at ms p ≡ None → messages ms p ≡ []
-unfolding messages
-messages_none ms p none = ap (λ o. option_map_or (λ m. m.sent) o []) none
-
 -- what the log at a place tells after it grew, and after it shrank
 pub grown : (ms : Memories) (w p : ℕ) (tells : LogMap → Bool) (new : LogMap) (more : Bool) → tells new ≡ (tells (log_at ms w) || more) → tells (cond (w == p) new (log_at ms p)) ≡ ((w == p && more) || tells (log_at ms p))
 grown ms w p tells new more is =

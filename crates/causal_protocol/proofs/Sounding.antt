@@ -1,6 +1,7 @@
 -- One more entry, with what it does to the memories, leaves a sound state.
 use Rattle.std.proofs.Common.{ℕ, ◌≡◌, ◌<◌, inl, inr, Bool, true, false, cond, not, ◌&&◌, ◌||◌, List, ◌∷◌, length, slice_get, slice_set, Some, None, is_none, refl, sym, ap, subst, ◌∙◌, arith}
 use Rattle.std.specs.Prelude.{◌==◌, ◌⊎◌}
+use Rattle.std.specs.Cmp.{both_ways as same_answer}
 use Rattle.std.specs.Option.{option_map, option_and_then}
 use Rattle.std.specs.FinMap as fin
 use Rattle.std.specs.FinSet as set
@@ -319,13 +320,8 @@ module _ (n f : ℕ) (past : List Entry) (ms : Memories) (who : Pid) (listed : L
   under r h = omega (arith, h, s.fit.count)
 
   lists_survivors : (d : Det) → has listed d ≡ survives n past d
-  lists_survivors d = lists d ∙ same_truth _ _ forth back
+  lists_survivors d = lists d ∙ same_answer _ _ forth back
     where
-      same_truth : (a b : Bool) → (a ≡ true → b ≡ true) → (b ≡ true → a ≡ true) → a ≡ b
-      same_truth true b f g = sym (f refl)
-      same_truth false true f g = g refl
-      same_truth false false f g = refl
-
       forth : has_entry d gathered ≡ true → survives n past d ≡ true
       forth h =
           elim (Logging.gathered_found ms (stable_set past) who d h) [

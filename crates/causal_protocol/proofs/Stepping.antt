@@ -14,7 +14,7 @@ use Rattle.causal_name.proofs.Lemmas.DetOrder.{same_itself}
 use Rattle.causal_trace.specs.declared.entry.Entry.{Entry}
 use Rattle.causal_trace.specs.declared.entry.Entry.TheVariants.{Send, Deliver, Stable, Crash, Restart}
 use Rattle.causal_trace.specs.Past.{has, message_at}
-use Rattle.causal_log.specs.Logs.{stable_in, marked, dets_of}
+use Rattle.causal_log.specs.Logs.{stable_in, marked, dets_of, unstable_in}
 use Rattle.causal_protocol.specs.declared.request.CoreFault.{CoreFault}
 use Rattle.causal_protocol.specs.declared.request.CoreFault.TheVariants as Why
 use Rattle.causal_protocol.specs.declared.request.Request.{Request}
@@ -22,7 +22,7 @@ use Rattle.causal_protocol.specs.declared.request.Request.TheVariants as Ask
 use Rattle.causal_protocol.specs.declared.request.Reply.{Reply}
 use Rattle.causal_protocol.specs.declared.request.Reply.TheVariants as Told
 use Rattle.causal_protocol.specs.Memory.{Kept, Memory, Memories, at, changed, fresh, with_sent, with_received, with_log, kept_by, batch_of}
-use Rattle.causal_protocol.specs.Gathering.{stable_set, gathered_log, unstable_in}
+use Rattle.causal_protocol.specs.Gathering.{stable_set, gathered_log}
 use Rattle.causal_protocol.specs.Run.{Run, receive, memories, memories_of, stable_of}
 use Rattle.causal_protocol.specs.Naming.{name, named_for, kept_for, send_of, next_rsn, next_ssn, own_det, listed_for}
 use Rattle.causal_protocol.specs.Refusals.{when, unless, rows, first_fault, gathered, unwritten, forgettable, count_down}

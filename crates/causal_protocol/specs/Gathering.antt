@@ -1,6 +1,6 @@
--- What a restart gathers, which is what crashes have left: what up processes log, and what stable storage has. And what a
--- flush and a forgetting read off a log.
-use Rattle.std.specs.Prelude.{not, List, [], ◌∷◌, None, Some, map, filter}
+-- What a restart gathers, which is what crashes have left: what up processes log, and what stable storage has. And
+-- what a forgetting leaves of a log.
+use Rattle.std.specs.Prelude.{not, List, [], ◌∷◌, None, Some}
 use Rattle.std.specs.FinMap as fin
 use Rattle.causal_name.specs.declared.Pid.{Pid}
 use Rattle.causal_name.specs.declared.Det.{Det}
@@ -46,7 +46,3 @@ gathered_log ms stored p = stable_all (dets_in stored) p (held_all (fin.keys (kn
 -- a log without these determinants
 abbrev pub without : List Det → LogMap → LogMap
 without listed log = fin.retain_keys log (λ d. not (has listed d))
-
--- the determinants of a log that are not known to be stable, ascending
-abbrev pub unstable_in : LogMap → List Det
-unstable_in log = map (λ e. e.0) (filter (λ e. not e.1.stable) (fin.entries log))

@@ -8,13 +8,13 @@ use Rattle.causal_name.specs.declared.Det.{Det}
 use Rattle.causal_name.specs.Names.{same_message}
 use Rattle.causal_trace.specs.Limits.{max_entries, max_listed, max_restarts}
 use Rattle.causal_trace.specs.Past.{listed_in, restarts}
-use Rattle.causal_log.specs.Logs.{stable_in}
+use Rattle.causal_log.specs.Logs.{stable_in, unstable_in}
 use Rattle.causal_protocol.specs.declared.request.Request.{Request}
 use Rattle.causal_protocol.specs.declared.request.Request.TheVariants as Ask
 use Rattle.causal_protocol.specs.declared.request.CoreFault.{CoreFault}
 use Rattle.causal_protocol.specs.declared.request.CoreFault.TheVariants as Why
 use Rattle.causal_protocol.specs.Memory.{at}
-use Rattle.causal_protocol.specs.Gathering.{gathered_log, unstable_in}
+use Rattle.causal_protocol.specs.Gathering.{gathered_log}
 use Rattle.causal_protocol.specs.Run.{Run, memories_of, stable_of}
 use Rattle.causal_protocol.specs.Naming.{name, named_for, kept_for, has_received, listed_for}
 

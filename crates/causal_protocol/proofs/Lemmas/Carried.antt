@@ -9,11 +9,12 @@ use Rattle.causal_protocol.specs.declared.request.Request.{Request}
 use Rattle.causal_protocol.specs.declared.request.Reply.{Reply}
 use Rattle.causal_protocol.specs.Run.{Run}
 use Rattle.causal_protocol.specs.Steps.{Steps}
-use Rattle.causal_protocol.specs.Kept.{SlotsAreSingle, SurvivorsAreDelivered}
+use Rattle.causal_protocol.specs.Kept.{SlotsAreSingle}
 use Rattle.causal_protocol.specs.Runs.{Opens, IsRun}
 use Rattle.causal_protocol.proofs.Opening.{openings_are_runs}
 use Rattle.causal_protocol.proofs.Stepping.{steps_keep_runs}
 
+-- safety and single slots have one proof at most
 IsSafe-prop : (n f : ℕ) (past : List Entry) → IsProp (IsSafe n f past)
 IsSafe-prop n f past = Prim.hlevel props
 
@@ -22,9 +23,6 @@ IsSafeTrace-prop r f = Prim.hlevel (props, IsSafe-prop)
 
 SlotsAreSingle-prop : (n : ℕ) (past : List Entry) → IsProp (SlotsAreSingle n past)
 SlotsAreSingle-prop n past = Prim.hlevel props
-
-SurvivorsAreDelivered-prop : (n : ℕ) (past : List Entry) → IsProp (SurvivorsAreDelivered n past)
-SurvivorsAreDelivered-prop n past = Prim.hlevel props
 
 -- a beginning has it
 pub opening_carried : (r : Run) → Opens r.recording.processes r.recording.processes r.recording.past → r.writers ≡ [] → ∥ IsRun r ∥₁
@@ -38,8 +36,6 @@ step_carried old new request reply step kept = ∥∥₁_map kept (steps_keep_ru
 pub safe_carried : (r : Run) → ∥ IsRun r ∥₁ → IsSafeTrace r.recording r.faults
 safe_carried r kept = ∥∥₁_elim kept (IsSafeTrace-prop r.recording r.faults) (λ s. s.safe)
 
+-- and no two survivors share a slot
 pub single_carried : (r : Run) → ∥ IsRun r ∥₁ → SlotsAreSingle r.recording.processes r.recording.past
 single_carried r kept = ∥∥₁_elim kept (SlotsAreSingle-prop r.recording.processes r.recording.past) (λ s. s.facts.single_slots)
-
-pub delivered_carried : (r : Run) → ∥ IsRun r ∥₁ → SurvivorsAreDelivered r.recording.processes r.recording.past
-delivered_carried r kept = ∥∥₁_elim kept (SurvivorsAreDelivered-prop r.recording.processes r.recording.past) (λ s. s.facts.survivors_delivered)

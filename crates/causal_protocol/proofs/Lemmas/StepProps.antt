@@ -10,10 +10,12 @@ use Rattle.causal_protocol.specs.declared.request.CoreFault.{CoreFault}
 use Rattle.causal_protocol.specs.Run.{Run}
 use Rattle.causal_protocol.specs.Steps.{LegalStep, IsPart}
 
+-- that a count is a part has one proof at most
 pub IsPart-prop : (reason : Option CoreFault) (done all : ℕ) → IsProp (IsPart reason done all)
 IsPart-prop None done all = Prim.hlevel props
 IsPart-prop (Some fault) done all = Prim.hlevel props
 
+-- so has that a step is legal
 pub LegalStep-prop : (r : Run) (request : Request) (reply : Reply) (appended : List Entry) → IsProp (LegalStep r request reply appended)
 unfolding LegalStep
 LegalStep-prop r (Ask.Deliver q source ssn) (Told.Delivered d) appended = Prim.hlevel props

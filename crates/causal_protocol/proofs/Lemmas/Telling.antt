@@ -89,10 +89,12 @@ told_entries-is r (Ask.Forget p) (Told.Forgotten count) es legal = ap length leg
 told_entries-is r (Ask.Forget p) (Told.Refused fault) es legal = ap length legal.1
 told_entries-is r request reply es legal = absurd legal
 
+-- a past grows by as many entries as are pushed
 pub length-pushed : (es past : List Entry) → length (pushed es past) ≡ length es + length past
 length-pushed [] past = omega arith
 length-pushed (e ∷ es) past = let rest = length-pushed es (e ∷ past) in omega (arith, rest)
 
+-- each reply tells by how many entries the run grew
 pub replies_tell_entries : RepliesTellEntries
 replies_tell_entries old new request reply step =
     let more = told_entries-is old request reply step.appended step.legal in
