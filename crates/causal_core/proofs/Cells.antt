@@ -84,6 +84,12 @@ module _ (cells : List (Option Cell)) (p : ℕ) (cell : Cell) (found : slice_get
         bodies_put ∙ ap (slice_set (bodies_in cells) p) is
         ∙ ap (λ o. slice_set (bodies_in cells) p (unwrap_or o [] ++ more)) (sym bodies_there)
 
+    pub rooms_kept : room_of new ≡ room_of cell → rooms_in (slice_set cells p (Some new)) ≡ rooms_in cells
+    rooms_kept same =
+        map-set (λ c. option_map_or room_of c no_room) cells p (Some new) ∙ ap (slice_set (rooms_in cells) p) same
+        ∙ set_read (rooms_in cells) p (room_of cell)
+        (get-map (λ c. option_map_or room_of c no_room) cells p ∙ ap (option_map (λ c. option_map_or room_of c no_room)) found)
+
     pub room_put : room_at (rooms_in (slice_set cells p (Some new))) p ≡ room_of new
     room_put =
         ap (λ o. unwrap_or o no_room) (get-map (λ c. option_map_or room_of c no_room) (slice_set cells p (Some new)) p

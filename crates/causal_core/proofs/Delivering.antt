@@ -19,14 +19,14 @@ use Rattle.causal_trace.specs.Rows.{are_delivered, are_delivered_with}
 use Rattle.causal_protocol.specs.declared.request.Request.TheVariants as Ask
 use Rattle.causal_protocol.specs.Memory.{Kept, Memory, Memories, at, kept_by, batch_of, gained}
 use Rattle.causal_protocol.specs.Run.{Run, memories_of}
-use Rattle.causal_protocol.specs.Naming.{name, kept_for, send_of, has_received, next_rsn, next_ssn, own_det, with_own, listed_for}
+use Rattle.causal_protocol.specs.Naming.{name, if_to, kept_for, send_of, has_received, next_rsn, next_ssn, own_det, with_own, listed_for}
 use Rattle.causal_protocol.specs.Refusals.{rows, first_fault, is_full}
 use Rattle.causal_protocol.specs.Steps.{delivery_of}
 use Rattle.causal_core.specs.Inside.Facts.{IsPlaced, Fits, FitsAt, AllFit}
-use Rattle.causal_process.specs.declared.message.Input.TheVariants.{Message as Given}
 use Rattle.causal_core.specs.declared.cell.Message.{Message}
 use Rattle.causal_core.specs.declared.grown.Grown.{Grown}
-use Rattle.causal_core.specs.View.{DataState, IsMade, IsGrown, kept_of, body_at, carried_by, memory_at, log_at}
+use Rattle.causal_core.specs.View.{DataState, IsMade, IsGrown, kept_of, carried_by, memory_at, log_at}
+use Rattle.causal_core.proofs.Cells.{get_within}
 use Rattle.causal_core.proofs.Fitting.{all_more, or_left, or_right}
 use Rattle.std.proofs.lemmas.List.{length-map}
 use Rattle.causal_core.proofs.Listing.{with_all, with_ascending, with_longer}
@@ -94,6 +94,22 @@ pub message_there : (r : Run) (q source : Pid) (ssn : ℕ) → first_fault r (As
 unfolding rows
 message_there r q source ssn none = when_false _ _ (row_none (rows r (Ask.Deliver q source ssn)) none 3 _ refl)
 
+-- a message that is kept for q stands in its sender's memory
+kept_within : (q : Pid) (sent : List Kept) (ssn : ℕ) → is_none (if_to q (slice_get sent ssn)) ≡ false → ssn < length sent
+kept_within q sent ssn h = by (slice_get sent ssn) refl h
+  where
+    by : (o : Option Kept) → slice_get sent ssn ≡ o → is_none (if_to q o) ≡ false → ssn < length sent
+    by None is h = absurd (false≢true (sym h))
+    by (Some k) is h = get_within sent ssn k is
+
+pub sender_keeps : (ms : Memories) (q source : Pid) (ssn : ℕ) → is_none (kept_for ms q (name source ssn)) ≡ false
+    → (is_some (at ms source.0) ≡ true) × (ssn < length (memory_at ms source.0).sent)
+sender_keeps ms q source ssn h =
+    elim (at ms source.0) as (λ o. is_none (if_to q (option_and_then (λ (m : Memory). slice_get m.sent ssn) o)) ≡ false → (is_some o ≡ true) × (ssn < length (unwrap_or o (memory_at [] 0)).sent)) [
+      | None ↦ λ k. absurd (false≢true (sym k))
+      | Some m ↦ λ k. (refl, kept_within q m.sent ssn k)
+    ] h
+
 pub receiver_below : (r : Run) (q source : Pid) (ssn : ℕ) → first_fault r (Ask.Deliver q source ssn) ≡ None → q.0 < r.recording.processes
 unfolding rows
 receiver_below r q source ssn none =
@@ -101,9 +117,9 @@ receiver_below r q source ssn none =
     grind (arith, nat_tests, inside)
 
 -- what was made for the message at hand is what a delivery of it puts in place
-pub made_grown : (d : DataState) (ms : Memories) (q source : Pid) (ssn : ℕ) (m : Memory) (message : Message) (g : Grown) (mine : Det) → ms ≡ memories_of d.run → at ms q.0 ≡ Some m → kept_for ms q (name source ssn) ≡ Some (kept_of message) → message.body ≡ body_at d.bodies (name source ssn)
+pub made_grown : (d : DataState) (ms : Memories) (q source : Pid) (ssn : ℕ) (m : Memory) (message : Message) (g : Grown) (mine : Det) → ms ≡ memories_of d.run → at ms q.0 ≡ Some m → kept_for ms q (name source ssn) ≡ Some (kept_of message)
     → mine ≡ det_from q (length m.received) (name source ssn) → IsMade d.run.faults mine m message g → IsGrown d q (name source ssn) g
-made_grown d ms q source ssn m message g mine same up kept body is made =
+made_grown d ms q source ssn m message g mine same up kept is made =
     let by : kept_by ms (name source ssn) ≡ Some (kept_of message) = (kept_found q (kept_by ms (name source ssn)) (kept_of message) kept).0 in
     let rsn : next_rsn (memories_of d.run) q ≡ length m.received = ap (λ xs. next_rsn xs q) (sym same) ∙ ap (λ o. option_map_or (λ (x : Memory). length x.received) o 0) up in
     let here : mine ≡ own_det (memories_of d.run) q (name source ssn) = is ∙ ap (λ k. det_from q k (name source ssn)) (sym rsn) in
@@ -116,18 +132,16 @@ made_grown d ms q source ssn m message g mine same up kept body is made =
       listed = made.listed ∙ (λ i. with_own (here i) (dets_of (batch i)));
       carried = made.carried ∙ batch;
       shares = made.shares ∙ (λ i. replicate 8 (chosen d.run.faults (gained (sym made.carried i) (sym made.own_is i) (log i))));
-      input = made.input ∙ (λ i. Given (here i).source (body i));
     }
 
--- the same run and bodies
-pub grown_same : (a b : DataState) (q : Pid) (m : MsgName) (g : Grown) → b.run ≡ a.run → b.bodies ≡ a.bodies → IsGrown a q m g → IsGrown b q m g
-grown_same a b q m g run bodies h = record {
+-- the same run
+pub grown_same : (a b : DataState) (q : Pid) (m : MsgName) (g : Grown) → b.run ≡ a.run → IsGrown a q m g → IsGrown b q m g
+grown_same a b q m g run h = record {
   own = h.own ∙ ap (λ r. own_det (memories_of r) q m) (sym run);
   send = h.send ∙ ap (λ r. send_of (memories_of r) m) (sym run);
   listed = h.listed ∙ ap (λ r. listed_for (memories_of r) q m) (sym run);
   carried = h.carried ∙ ap (λ r. batch_of (memories_of r) m) (sym run);
   shares = h.shares ∙ ap (λ r. replicate 8 (chosen r.faults (gained (carried_by g) g.own (log_at (memories_of r) q.0)))) (sym run);
-  input = h.input ∙ ap (λ bs. Given m.source (body_at bs m)) (sym bodies);
 }
 
 -- what a delivery lists is within the limit, and has all that the message carries

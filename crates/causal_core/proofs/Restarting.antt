@@ -1,11 +1,10 @@
 -- A restart of the runtime.
-use Rattle.std.proofs.Common.{ℕ, suc, ◌≡◌, ◌≢◌, ◌+◌, ◌<◌, ◌≤◌, Bool, true, false, cond, List, [], ◌∷◌, length, map, reverse, take, get_or, Option, Some, None, refl, sym, ap, subst, ◌∙◌, arith, slice_set}
+use Rattle.std.proofs.Common.{ℕ, suc, ◌≡◌, ◌≢◌, ◌+◌, ◌<◌, ◌≤◌, Bool, true, false, cond, List, [], ◌∷◌, length, map, Option, Some, None, refl, sym, ap, subst, ◌∙◌, arith, slice_set}
 use Rattle.std.specs.Prelude.{◌||◌, ◌&&◌, not, nat_lt, nat_le, is_some}
 use Rattle.std.specs.List.{list_any, list_all}
 use Rattle.std.specs.FinMap as fin
 use Rattle.std.proofs.lemmas.Bool.{false≢true}
 use Rattle.std.proofs.lemmas.Bool.Decides.{nat_tests}
-use Rattle.std.proofs.lemmas.List.{take_more, reverse-append}
 use Rattle.causal_name.specs.declared.Pid.{Pid}
 use Rattle.causal_name.specs.declared.Det.{Det}
 use Rattle.causal_name.specs.Names.{det_cmp, same_det, is_ascending}
@@ -40,37 +39,6 @@ use Rattle.causal_core.proofs.Filled.{sends_up}
 use Rattle.causal_core.proofs.BoxLemmas.{map-set}
 use Rattle.causal_core.proofs.Stored.{has_stable, sends_unstable}
 use Rattle.causal_core.proofs.Counting.{keys_have, gathered_has}
-
--- how many restarts one more entry makes
-more_restarts : (e : Entry) (past : List Entry) → restarts (e ∷ past) ≡ restarts past + restarts (e ∷ [])
-more_restarts (Send from to ssn) past = omega arith
-more_restarts (Deliver to send rsn listed) past = omega arith
-more_restarts (Stable det) past = omega arith
-more_restarts (Crash who) past = omega arith
-more_restarts (Restart who listed) past = omega arith
-more_restarts (Forget who listed) past = omega arith
-
-few_restarts : (e : Entry) → restarts (e ∷ []) ≤ 1
-few_restarts (Send from to ssn) = omega arith
-few_restarts (Deliver to send rsn listed) = omega arith
-few_restarts (Stable det) = omega arith
-few_restarts (Crash who) = omega arith
-few_restarts (Restart who listed) = omega arith
-few_restarts (Forget who listed) = omega arith
-
-module _ (entries : List Entry) (i : ℕ) (e : Entry) (h : i < length entries) (is : e ≡ get_or entries i e) where
-  next_restarts : restarts (reverse (take (i + 1) entries)) ≡ restarts (reverse (take i entries)) + restarts (e ∷ [])
-  next_restarts =
-      ap (λ es. restarts (reverse es)) (take_more entries i e h)
-      ∙ ap restarts (reverse-append (take i entries) (get_or entries i e ∷ []))
-      ∙ ap (λ x. restarts (x ∷ reverse (take i entries))) (sym is)
-      ∙ more_restarts e (reverse (take i entries))
-
-  pub one_restart : true ≡ nat_lt 0 (restarts (e ∷ [])) → restarts (reverse (take (i + 1) entries)) ≡ restarts (reverse (take i entries)) + 1
-  one_restart told = let few = few_restarts e in let some : 0 < restarts (e ∷ []) = grind (arith, nat_tests, told) in omega (arith, next_restarts, few, some)
-
-  pub no_restart : false ≡ nat_lt 0 (restarts (e ∷ [])) → restarts (reverse (take (i + 1) entries)) ≡ restarts (reverse (take i entries))
-  no_restart told = let none : restarts (e ∷ []) ≡ 0 = grind (arith, nat_tests, told) in omega (arith, next_restarts, none)
 
 -- a test of all determinants of a list, and of one of them
 module _ (P : Det → Bool) where

@@ -7,7 +7,6 @@ use Rattle.std.proofs.Common.{Global}
 use Rattle.std.specs.FinMap as fin
 use Rattle.causal_name.specs.declared.Pid.{Pid}
 use Rattle.causal_name.specs.declared.MsgName.{MsgName}
-use Rattle.causal_process.specs.declared.message.Input.TheVariants.{Message as Given}
 use Rattle.causal_process.specs.declared.message.Outgoing.{Outgoing}
 use Rattle.causal_trace.specs.Rows.{Recording}
 use Rattle.causal_log.specs.declared.batch.Item.{Item}
@@ -111,9 +110,12 @@ unfoldable pub keep_all : ℕ → List Item → List Pid → Memory → Memory
 keep_all send batch [] m = m
 keep_all send batch (to ∷ tos) m = keep_all (send + 1) batch tos (keeping to send batch m)
 
--- the body of the kept message of that name
+-- the body of the message that a process keeps at a place, and of the kept message of that name
+abbrev pub body_in : List (List ℕ) → ℕ → List ℕ
+body_in bodies ssn = unwrap_or (slice_get bodies ssn) []
+
 abbrev pub body_at : List (List (List ℕ)) → MsgName → List ℕ
-body_at bodies name = unwrap_or (slice_get (unwrap_or (slice_get bodies name.source.0) []) name.ssn) []
+body_at bodies name = body_in (unwrap_or (slice_get bodies name.source.0) []) name.ssn
 
 -- q keeps these bodies too
 abbrev pub with_bodies : List (List (List ℕ)) → ℕ → List (List ℕ) → List (List (List ℕ))
@@ -151,14 +153,13 @@ carried_by g = arc_value g.carried
 abbrev pub grown_log : Grown → LogMap → LogMap
 grown_log g log = gained (carried_by g) g.own log
 
--- what a delivery to q of the message of that name puts in place, and what its box is given
+-- what a delivery to q of the message of that name puts in place
 pub record IsGrown (d : DataState) (q : Pid) (name : MsgName) (g : Grown) : Type 0 where
   pub own : g.own ≡ own_det (memories_of d.run) q name
   pub send : g.send ≡ send_of (memories_of d.run) name
   pub listed : g.listed.items ≡ listed_for (memories_of d.run) q name
   pub carried : carried_by g ≡ batch_of (memories_of d.run) name
   pub shares : batches_of g.shares.items ≡ replicate 8 (chosen d.run.faults (grown_log g (log_at (memories_of d.run) q.0)))
-  pub input : g.input ≡ Given name.source (body_at d.bodies name)
 
 -- what the delivery of a kept message as this determinant puts in place, by the receiver's memory
 pub record IsMade (f : ℕ) (own : Det) (m : Memory) (message : Message) (g : Grown) : Type 0 where
@@ -167,7 +168,6 @@ pub record IsMade (f : ℕ) (own : Det) (m : Memory) (message : Message) (g : Gr
   pub listed : g.listed.items ≡ with_own own (dets_of (arc_value message.batch))
   pub carried : carried_by g ≡ arc_value message.batch
   pub shares : batches_of g.shares.items ≡ replicate 8 (chosen f (gained (arc_value message.batch) own m.log))
-  pub input : g.input ≡ Given own.source message.body
 
 -- what is answered to the question what is named for q's next delivery
 abbrev pub naming_up : Run → Pid → Option Memory → Result (Option MsgName) CoreFault

@@ -55,7 +55,6 @@ pub(crate) fn commit(
         listed,
         carried,
         shares,
-        input: _,
     } = grown;
     receive(trace, cell, q, send, own, listed, &*carried);
     append_sends(trace, cell, q, sends, shares)

@@ -1,5 +1,5 @@
 //! A restart, as far as plain data goes.
-ghost use Rattle.std.specs.Prelude.{◌≡◌, ◌≤◌, ◌<◌, ◌∷◌, [], length, replicate, reverse, OnOk, IfOk, IfErr, None, Some, slice_set, vec_len, nat_lt, nat_le, ◌||◌};
+ghost use Rattle.std.specs.Prelude.{◌≡◌, ◌≤◌, ◌<◌, [], length, replicate, OnOk, IfOk, IfErr, None, Some, slice_set, vec_len, nat_le, ◌||◌};
 ghost use Rattle.causal_log.specs.Logs.{chosen};
 ghost use Rattle.causal_trace.specs.Past.{restarts};
 ghost use Rattle.causal_protocol.specs.declared.request.Request.TheVariants as Ask;
@@ -26,26 +26,6 @@ use causal_trace::limits::MAX_RESTARTS;
 use std::alloc::Global;
 use std::sync::Arc;
 
-/// How many restarts these entries record.
-fn count_restarts(entries: &[Entry]) -> usize
-    ensures { result ≡ restarts (reverse entries.now) }
-{
-    let mut count = 0;
-    for entry in entries {
-        if is_restart(entry) {
-            count += 1;
-        }
-    }
-    count
-}
-
-/// Whether an entry records a restart.
-fn is_restart(entry: &Entry) -> bool
-    ensures { result ≡ nat_lt 0 (restarts (entry.now ∷ [])) }
-{
-    matches!(entry, Entry::Restart { .. })
-}
-
 /// Puts what a process has into its place.
 pub(crate) fn put(cells: &mut Vec<Option<Cell>>, p: usize, cell: Cell)
     requires { p < vec_len cells.old }
@@ -64,9 +44,11 @@ fn chosen_shares(alloc: Global, f: u16, log: &Log) -> Result<Vec<Arc<Batch>>, No
 }
 
 /// What a process has that comes up with this log, and what its sends carry.
-pub(crate) fn gathered(alloc: Global, f: u16, log: Log) -> Result<Gathered, NoMemory>
+pub(crate) fn gathered(alloc: Global, f: u16, mut log: Log) -> Result<Gathered, NoMemory>
     ensures { IfOk result (λ g. IsGathered f log.map g) }
 {
+    // The log notes its entries as it makes room, else each call that is refused would read it whole.
+    log.reserve(1)?;
     let listed = log.dets(alloc)?;
     let shares = chosen_shares(alloc, f, &log)?;
     let cell = fresh_cell(alloc, log)?;
@@ -82,8 +64,7 @@ impl Data {
     fn is_full_for(&self, listed: usize) -> bool
         ensures { result ≡ (is_full self.now.run 9 listed || nat_le 192 (restarts self.now.run.recording.past)) }
     {
-        count_restarts(self.trace.entries()) >= MAX_RESTARTS as usize
-            || is_full(&self.trace, 9, listed)
+        self.trace.restarts() as usize >= MAX_RESTARTS || is_full(&self.trace, 9, listed)
     }
 
     /// What stands against a restart of p, where the store has what is stable.

@@ -87,7 +87,8 @@ fn write_all<S: Stable>(
 impl<S: Stable> Core<S> {
     /// Puts the determinants that p logs and does not know to be stable into stable storage, in ascending order, each with
     /// its entry in the trace and p's knowing it, and answers how many these were (asynchronous logging of determinants:
-    /// Elnozahy, Alvisi, Wang and Johnson 2002). It costs what p logs.
+    /// Elnozahy, Alvisi, Wang and Johnson 2002). It costs what p logs, and so does its refusal as `Full`, for which what is
+    /// not marked is counted.
     ///
     /// # Errors
     /// The first of `NoProcess`, `Down`, and `Full` where an entry for each does not fit: nothing has changed. Where none of

@@ -12,7 +12,8 @@ use causal_protocol::request::CoreFault;
 
 impl<S: Stable> Core<S> {
     /// Takes out of p's log the determinants that p knows to be stable, with one entry in the trace that lists them, and
-    /// answers how many these were; where there are none, nothing is recorded. It costs what p logs.
+    /// answers how many these were; where there are none, nothing is recorded. It costs what p logs, and so does its
+    /// refusal as `Full`, for which what is marked is counted.
     ///
     /// # Errors
     /// The first of `NoProcess`, `Down`, and `Full` where there are some and the entry or its list does not fit; where none

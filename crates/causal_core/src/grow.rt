@@ -1,14 +1,12 @@
 //! What a delivery needs memory for, made before the box steps.
 ghost use Rattle.std.specs.Prelude.{◌≡◌, replicate, unwrap_or, slice_get, IfOk};
-ghost use Rattle.causal_process.specs.declared.message.Input.TheVariants.{Message as Given};
 ghost use Rattle.causal_core.specs.View.{memory_of, kept_of, batches_of, IsMade};
 
 use crate::cell::{Cell, Message};
 use crate::grown::Grown;
 use crate::insertion::listed;
 use causal_log::Batch;
-use causal_name::{Det, NoMemory, Pid};
-use causal_process::{Body, Input};
+use causal_name::{Det, NoMemory};
 use std::alloc::Global;
 use std::sync::Arc;
 
@@ -22,17 +20,6 @@ pub(crate) fn shares(alloc: Global, batch: Batch) -> Result<Vec<Arc<Batch>>, NoM
         shares.push(Arc::try_clone(&first)?)?;
     }
     Ok(shares)
-}
-
-/// What a box is given with a message of `source`.
-fn input_of(alloc: Global, source: Pid, body: &Body) -> Result<Input, NoMemory>
-    ensures { IfOk result (λ input. input ≡ Given source body.now) }
-{
-    let bytes = body.as_slice().to_vec(alloc)?;
-    Ok(Input::Message {
-        from: source,
-        body: Body::new(bytes),
-    })
 }
 
 /// Makes what a delivery puts in place.
@@ -51,13 +38,11 @@ pub(crate) fn grow(
         .log
         .choose_grown(alloc, &*carried, own, own.source, own.dest, f)?;
     let shares = shares(alloc, batch)?;
-    let input = input_of(alloc, own.source, &message.body)?;
     Ok(Grown {
         own,
         send: message.send,
         listed,
         carried,
         shares,
-        input,
     })
 }

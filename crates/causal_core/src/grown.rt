@@ -1,7 +1,6 @@
 //! What a delivery puts in place once the box has stepped.
 use causal_log::Batch;
 use causal_name::Det;
-use causal_process::Input;
 use std::sync::Arc;
 
 /// All that a delivery needs memory for, made before the box steps.
@@ -17,6 +16,4 @@ pub struct Grown {
     pub carried: Arc<Batch>,
     /// The batch that the next sends carry, with one share for each of them.
     pub shares: Vec<Arc<Batch>>,
-    /// What the receiver's box is given.
-    pub input: Input,
 }

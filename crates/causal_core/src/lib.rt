@@ -1,4 +1,8 @@
-//! The runtime of processes that log causally.
+//! The runtime of processes that log causally: it delivers, takes processes down and brings them up again, writes determinants to
+//! stable storage, and records all of it as a trace that is safe for its number of failures.
+//!
+//! Begin at [`Core`]: `Core::start` with the processes in boxes and a store, then `deliver`, `crash`, `restart`, `replay`, `flush`
+//! and `forget`. `pending` and `named` say what may be delivered next; `trace` has what is recorded, and promises the safety.
 #![tactic(auto)]
 
 mod boxes;
@@ -15,6 +19,7 @@ pub mod forget;
 mod fresh;
 mod gather;
 pub mod gathered;
+mod give;
 mod grow;
 pub mod grown;
 mod insertion;

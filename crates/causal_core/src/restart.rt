@@ -25,7 +25,9 @@ impl<S: Stable> Core<S> {
     /// Brings process p up again, as the spare, which begins. It knows all that is in the logs of the processes that are
     /// up and in stable storage.
     ///
-    /// Its cost is that of what it lists, and of the logs of the processes that are up.
+    /// It costs what it lists and what the logs of the up processes have, and to count the former a look-up of each entry
+    /// of a log in the logs before it. p's log notes its entries then, where there is memory for it, so that no call that
+    /// is refused reads it whole.
     ///
     /// # Errors
     /// `NoProcess`; `NotDown`; `Full` where fewer than nine entries are left, what it would list does not fit, or 192

@@ -6,7 +6,7 @@ ghost use Rattle.causal_trace.specs.Past.{is_stable};
 ghost use Rattle.causal_protocol.specs.Run.{memories_of};
 ghost use Rattle.causal_protocol.specs.Runs.{IsRun};
 
-use crate::boxes::{empty_at, step_at};
+use crate::boxes::empty_at;
 use crate::data::Data;
 use causal_log::Stable;
 use causal_name::{Det, MsgName, Pid, Slot};
@@ -93,7 +93,7 @@ impl<S: Stable> Core<S> {
             Ok(grown) => grown,
             Err(fault) => return Err(fault),
         };
-        match step_at(&mut self.slots, usize::from(q.0), self.alloc, &grown.input) {
+        match self.held.give(&mut self.slots, self.alloc, q, source, ssn) {
             Ok(sends) => Ok(self.held.finish(q, grown, sends)),
             Err(_) => Err(CoreFault::NoMemory),
         }

@@ -1,9 +1,9 @@
 //! What stands in the cells.
-ghost use Rattle.std.specs.Prelude.{◌≡◌, is_none, count_by, IfSome};
+ghost use Rattle.std.specs.Prelude.{◌≡◌, is_none, count_by};
 ghost use Rattle.std.specs.Option.{option_map, option_copied};
 ghost use Rattle.causal_protocol.specs.Memory.{at};
 ghost use Rattle.causal_protocol.specs.Naming.{kept_for, name};
-ghost use Rattle.causal_core.specs.View.{kept_of, memory_of, memories_in, bodies_in, body_at};
+ghost use Rattle.causal_core.specs.View.{kept_of, memory_of, memories_in};
 
 use crate::cell::{Cell, Message};
 use causal_name::Pid;
@@ -30,8 +30,7 @@ pub(crate) fn cell_at(cells: &[Option<Cell>], p: Pid) -> Option<&Cell>
 
 /// The message of that name that its sender keeps for q.
 pub(crate) fn message(cells: &[Option<Cell>], q: Pid, source: Pid, ssn: u32) -> Option<&Message>
-    ensures kept { option_map kept_of (option_copied result) ≡ kept_for (memories_in cells.now) q (name source ssn) }
-    ensures body { IfSome result (λ message. message.now.body ≡ body_at (bodies_in cells.now) (name source ssn)) }
+    ensures { option_map kept_of (option_copied result) ≡ kept_for (memories_in cells.now) q (name source ssn) }
 {
     let Some(Some(sender)) = cells.get(usize::from(source.0)) else {
         return None;

@@ -1,4 +1,4 @@
-use Rattle.std.proofs.Common.{◌≡◌, ◌∙◌, ◌+◌, ◌||◌, not, sym, ap, arith, Bool, true, count_by}
+use Rattle.std.proofs.Common.{◌∙◌, ◌+◌, ◌||◌, not, sym, ap, arith, Bool, count_by}
 use Rattle.std.proofs.lemmas.List.{take_all}
 use Rattle.std.proofs.lemmas.List.Sums.{count_by_more_yes, count_by_more_no}
 use Rattle.causal_name.specs.declared.Det.{Det}

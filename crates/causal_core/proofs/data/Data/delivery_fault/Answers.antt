@@ -86,11 +86,11 @@ returns-in_default-message c =
     let at0 = (goal.at.returns-in_default-message c).After-are_processes in
     let at1 = (goal.at.returns-in_default-message c).In-Some in
     let at2 = (goal.at.returns-in_default-message c).After-other_named in
-    let absent : kept_for (ms at0) c.args.q (name c.args.source c.args.ssn) ≡ None = ap (λ xs. kept_for (memories_in xs) c.args.q (name c.args.source c.args.ssn)) (sym c.as_slice-cells.ensures.value) ∙ sym c.message.ensures.kept ∙ ap (λ o. option_map kept_of (option_copied o)) c.in_default-message.is in
+    let absent : kept_for (ms at0) c.args.q (name c.args.source c.args.ssn) ≡ None = ap (λ xs. kept_for (memories_in xs) c.args.q (name c.args.source c.args.ssn)) (sym c.as_slice-cells.ensures.value) ∙ sym c.message.ensures ∙ ap (λ o. option_map kept_of (option_copied o)) c.in_default-message.is in
     sym (tell_absent (run at0) (ms at0) c.args.q c.args.source c.args.ssn c.self.invariant.same (inside at1) (memory_of c.in-Some.cell.now) (up at1) (sym (other_is at2 (up at1)) ∙ c.in_default-other_named.is) absent) ∙ asked_of at0
 
 kept : (c : In-Some-message) → kept_for (memories_in c.self.inside.cells.items) c.args.q (name c.args.source c.args.ssn) ≡ Some (kept_of c.in-Some-message.message.now)
-kept c = ap (λ xs. kept_for (memories_in xs) c.args.q (name c.args.source c.args.ssn)) (sym c.as_slice-cells.ensures.value) ∙ sym c.message.ensures.kept ∙ ap (λ o. option_map kept_of (option_copied o)) c.in-Some-message.is
+kept c = ap (λ xs. kept_for (memories_in xs) c.args.q (name c.args.source c.args.ssn)) (sym c.as_slice-cells.ensures.value) ∙ sym c.message.ensures ∙ ap (λ o. option_map kept_of (option_copied o)) c.in-Some-message.is
 
 pub returns-then-has_delivered : goal.returns-then-has_delivered
 returns-then-has_delivered c =

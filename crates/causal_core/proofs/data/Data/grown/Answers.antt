@@ -9,7 +9,7 @@ use Rattle.causal_protocol.specs.declared.request.Request.TheVariants as Ask
 use Rattle.causal_protocol.specs.Memory.{at}
 use Rattle.causal_protocol.specs.Naming.{name, kept_for}
 use Rattle.causal_protocol.specs.Refusals.{first_fault}
-use Rattle.causal_core.specs.View.{DataState, IsGrown, run_from, memories_in, bodies_in, body_at, rooms_in, memory_of, kept_of}
+use Rattle.causal_core.specs.View.{DataState, IsGrown, run_from, memories_in, bodies_in, rooms_in, memory_of, kept_of}
 use Rattle.causal_core.proofs.Telling.{received_few}
 use Rattle.causal_core.proofs.Delivering.{receiver_up, receiver_below, message_there, made_grown}
 use Rattle.causal_core.proofs.data.Data.grown.Goals as goal
@@ -24,7 +24,7 @@ none c = ap (λ s. first_fault s.run (Ask.Deliver c.args.q c.args.source c.args.
 pub unreachable-requires : goal.unreachable-requires
 unreachable-requires c =
     let at0 = (goal.at.unreachable-requires c).After-as_slice-cells in
-    let nothing : kept_for (memories_in c.self.inside.cells.items) c.args.q (name c.args.source c.args.ssn) ≡ None = ap (λ xs. kept_for (memories_in xs) c.args.q (name c.args.source c.args.ssn)) (sym c.as_slice-cells.ensures.value) ∙ sym c.message.ensures.kept ∙ ap (λ o. option_map kept_of (option_copied o)) c.in_default.is in
+    let nothing : kept_for (memories_in c.self.inside.cells.items) c.args.q (name c.args.source c.args.ssn) ≡ None = ap (λ xs. kept_for (memories_in xs) c.args.q (name c.args.source c.args.ssn)) (sym c.as_slice-cells.ensures.value) ∙ sym c.message.ensures ∙ ap (λ o. option_map kept_of (option_copied o)) c.in_default.is in
     false≢true (sym (message_there (state at0).run c.args.q c.args.source c.args.ssn (none at0)) ∙ ap (λ xs. is_none (kept_for xs c.args.q (name c.args.source c.args.ssn))) (sym c.self.invariant.same) ∙ ap is_none nothing)
 
 pub unreachable-requires-in_default-cell_at : goal.unreachable-requires-in_default-cell_at
@@ -48,10 +48,9 @@ pub returns : goal.returns
 returns c =
     let at0 = (goal.at.returns c).After-as_slice-cells in
     let at1 = (goal.at.returns c).In-Some-cell_at in
-    let kept : kept_for (memories_in c.self.inside.cells.items) c.args.q (name c.args.source c.args.ssn) ≡ Some (kept_of c.in-Some.message.now) = ap (λ xs. kept_for (memories_in xs) c.args.q (name c.args.source c.args.ssn)) (sym c.as_slice-cells.ensures.value) ∙ sym c.message.ensures.kept ∙ ap (λ o. option_map kept_of (option_copied o)) c.in-Some.is in
-    let body : c.in-Some.message.now.body ≡ body_at (bodies_in c.self.inside.cells.items) (name c.args.source c.args.ssn) = c.in-Some.ensures.body ∙ ap (λ xs. body_at (bodies_in xs) (name c.args.source c.args.ssn)) c.as_slice-cells.ensures.value in
+    let kept : kept_for (memories_in c.self.inside.cells.items) c.args.q (name c.args.source c.args.ssn) ≡ Some (kept_of c.in-Some.message.now) = ap (λ xs. kept_for (memories_in xs) c.args.q (name c.args.source c.args.ssn)) (sym c.as_slice-cells.ensures.value) ∙ sym c.message.ensures ∙ ap (λ o. option_map kept_of (option_copied o)) c.in-Some.is in
     let count : c.len.result ≡ length c.in-Some-cell_at.cell.now.received.items = grind (arith, common_steps, c.len.ensures) in
     IfOk-weaker c.grow.result _ _ (λ g made.
     subst (λ d. IsGrown d c.args.q (name c.args.source c.args.ssn) g) c.self.view_is
-    (made_grown (state at0) (memories_in c.self.inside.cells.items) c.args.q c.args.source c.args.ssn (memory_of c.in-Some-cell_at.cell.now) c.in-Some.message.now g _ c.self.invariant.same (up at1) kept body (ap (λ k. det_from c.args.q k (name c.args.source c.args.ssn)) count) made))
+    (made_grown (state at0) (memories_in c.self.inside.cells.items) c.args.q c.args.source c.args.ssn (memory_of c.in-Some-cell_at.cell.now) c.in-Some.message.now g _ c.self.invariant.same (up at1) kept (ap (λ k. det_from c.args.q k (name c.args.source c.args.ssn)) count) made))
     c.grow.ensures

@@ -25,7 +25,7 @@ overflow_add-logged c =
     grind (arith, common_steps, few, count, c.len.ensures)
 
 pub returns-in-Ok-make_room-clause-grown : goal.returns-in-Ok-make_room-clause-grown
-returns-in-Ok-make_room-clause-grown c = grown_same c.args.self.now c.make_room.new.self c.args.q (name c.args.source c.args.ssn) c.in-Ok.grown c.make_room.ensures.run c.make_room.ensures.bodies c.in-Ok.ensures
+returns-in-Ok-make_room-clause-grown c = grown_same c.args.self.now c.make_room.new.self c.args.q (name c.args.source c.args.ssn) c.in-Ok.grown c.make_room.ensures.run c.in-Ok.ensures
 
 pub returns-in-Ok-make_room-clause-room : goal.returns-in-Ok-make_room-clause-room
 returns-in-Ok-make_room-clause-room c =

@@ -1,6 +1,5 @@
 use Rattle.std.proofs.Common.{◌≡◌, ◌∙◌, ◌∷◌, ap, sym, subst}
 use Rattle.causal_name.specs.Names.{message_of}
-use Rattle.causal_process.specs.declared.message.Input.TheVariants.{Message as Given}
 use Rattle.causal_log.specs.Slots.{first_of_slot}
 use Rattle.causal_log.specs.Stores.{dets_in}
 use Rattle.causal_protocol.specs.declared.request.CoreFault.TheVariants as Why
@@ -8,11 +7,10 @@ use Rattle.causal_protocol.specs.Run.{memories_of}
 use Rattle.causal_protocol.specs.Runs.{IsRun}
 use Rattle.causal_protocol.specs.declared.request.Reply.TheVariants as Told
 use Rattle.causal_protocol.proofs.Lemmas.Carried.{step_carried}
-use Rattle.causal_protocol.specs.Naming.{name, next_ssn}
+use Rattle.causal_protocol.specs.Naming.{name, next_ssn, own_det}
 use Rattle.causal_protocol.specs.declared.request.Request.TheVariants as Ask
 use Rattle.causal_protocol.specs.Steps.{extended, delivery_of, sends_of}
-use Rattle.causal_core.specs.View.{receivers, body_at, with_bodies, sent_bodies}
-use Rattle.causal_core.proofs.BoxLemmas.{step_same, elsewhere_same}
+use Rattle.causal_core.specs.View.{DataState, receivers, with_bodies, sent_bodies}
 use Rattle.causal_core.proofs.Stored.{store_is}
 use Rattle.causal_core.proofs.Filled.{box_there}
 use Rattle.causal_core.proofs.RefusedRequests.{refused_delivery}
@@ -28,40 +26,43 @@ prepare-requires g c =
 pub returns-in-Err-clause-step : goal.returns-in-Err-clause-step
 returns-in-Err-clause-step g c = refused_delivery c.args.self.now.held.run c.prepare.new.self.run c.in-Err.fault c.prepare.ensures.run c.args.q c.args.source c.args.ssn c.in-Err.ensures.refused
 
-pub step_at-requires : goal.step_at-requires
-step_at-requires g c =
+pub give-requires-clause-box_there : goal.give-requires-clause-box_there
+give-requires-clause-box_there g c =
     let r = c.args.self.now.held.run in
-    rw c.from.ensures (box_there c.args.self.now.slots.items (memories_of r) c.args.q.0 c.args.self.now.filled (receiver_up r c.args.q c.args.source c.args.ssn c.in-Ok.ensures.legal))
+    box_there c.args.self.now.slots.items (memories_of r) c.args.q.0 c.args.self.now.filled (receiver_up r c.args.q c.args.source c.args.ssn c.in-Ok.ensures.legal)
 
-pub invariant_of-self-in-Ok-step_at : goal.invariant_of-self-in-Ok-step_at
-invariant_of-self-in-Ok-step_at g c =
+pub invariant_of-self-in-Ok-give : goal.invariant_of-self-in-Ok-give
+invariant_of-self-in-Ok-give g c =
     let r = c.args.self.now.held.run in
-    let mid = c.prepare.new.self.run in
+    let mid = c.give.new.self.run in
+    let same : mid ≡ r = ap (λ (s : DataState). s.run) c.give.ensures.data ∙ c.prepare.ensures.run in
     let own = c.in-Ok.grown.own in
-    let tos = receivers mid.recording.processes c.in-Ok-step_at.sends.items in
+    let tos = receivers mid.recording.processes c.in-Ok-give.sends.items in
     record {
-      filled = c.step_at.ensures.filled ∙ c.args.self.now.filled ∙ sym (delivery_filled r mid c.finish.new.self.run c.args.q own.source own.ssn (message_of own) (next_ssn (memories_of mid) c.args.q) tos c.prepare.ensures.run c.finish.ensures.run);
-      stored = λ d. c.args.self.now.stored d ∙ sym (delivery_stable r mid c.finish.new.self.run c.args.q own.source own.ssn (message_of own) (next_ssn (memories_of mid) c.args.q) tos c.prepare.ensures.run c.finish.ensures.run d);
-      kept = step_carried mid c.finish.new.self.run (Ask.Deliver c.args.q own.source own.ssn) (Told.Delivered c.finish.result) c.finish.ensures.step (subst (λ x. ∥ IsRun x ∥₁) (sym c.prepare.ensures.run) c.args.self.now.kept);
+      filled = c.give.ensures.filled ∙ c.args.self.now.filled ∙ sym (delivery_filled r mid c.finish.new.self.run c.args.q own.source own.ssn (message_of own) (next_ssn (memories_of mid) c.args.q) tos same c.finish.ensures.run);
+      stored = λ d. c.args.self.now.stored d ∙ sym (delivery_stable r mid c.finish.new.self.run c.args.q own.source own.ssn (message_of own) (next_ssn (memories_of mid) c.args.q) tos same c.finish.ensures.run d);
+      kept = step_carried mid c.finish.new.self.run (Ask.Deliver c.args.q own.source own.ssn) (Told.Delivered c.finish.result) c.finish.ensures.step (subst (λ x. ∥ IsRun x ∥₁) (sym same) c.args.self.now.kept);
     }
 
-pub returns-in-Ok-step_at-clause-ok : goal.returns-in-Ok-step_at-clause-ok
-returns-in-Ok-step_at-clause-ok g c =
+pub returns-in-Ok-give-clause-ok : goal.returns-in-Ok-give-clause-ok
+returns-in-Ok-give-clause-ok g c =
     let q = c.args.q in
     let asked = name c.args.source c.args.ssn in
-    let same = c.prepare.ensures.run in
+    let same : c.give.new.self.run ≡ c.args.self.now.held.run = ap (λ (s : DataState). s.run) c.give.ensures.data ∙ c.prepare.ensures.run in
+    let bodies : c.give.new.self.bodies ≡ c.args.self.now.held.bodies = ap (λ (s : DataState). s.bodies) c.give.ensures.data ∙ c.prepare.ensures.bodies in
     let made = c.in-Ok.ensures.grown in
-    let sends = c.in-Ok-step_at.sends.items in
-    let input : c.in-Ok.grown.input ≡ Given c.args.source (body_at c.args.self.now.held.bodies asked) = made.input ∙ ap (λ b. Given c.args.source (body_at b asked)) c.prepare.ensures.bodies in
+    let own = made.own ∙ ap (λ r. own_det (memories_of r) q asked) c.prepare.ensures.run in
+    let sends = c.in-Ok-give.sends.items in
     record {
       sends = sends;
-      box = step_same _ _ _ _ _ _ _ _ c.from.ensures input c.in-Ok-step_at.ensures.ok;
-      others = elsewhere_same _ _ _ _ _ c.from.ensures c.step_at.ensures.others;
+      box = rw c.prepare.ensures.bodies at c.in-Ok-give.ensures.ok;
+      others = c.give.ensures.others;
       run =
           c.finish.ensures.run
-          ∙ (λ i. extended (same i) (Ask.Deliver q (made.own i).source (made.own i).ssn) (delivery_of (same i) q (message_of (made.own i)) ∷ sends_of q (next_ssn (memories_of (same i)) q) (receivers (same i).recording.processes sends)));
-      bodies = c.finish.ensures.bodies ∙ (λ i. with_bodies (c.prepare.ensures.bodies i) q.0 (sent_bodies (same i).recording.processes sends));
+          ∙ (λ i. extended (same i) (Ask.Deliver q (own i).source (own i).ssn) (delivery_of (same i) q (message_of (own i)) ∷ sends_of q (next_ssn (memories_of (same i)) q) (receivers (same i).recording.processes sends)));
+      bodies = c.finish.ensures.bodies ∙ (λ i. with_bodies (bodies i) q.0 (sent_bodies (same i).recording.processes sends));
     }
 
-pub returns-in-Err-step_at-clause-step : goal.returns-in-Err-step_at-clause-step
-returns-in-Err-step_at-clause-step g c = refused_delivery c.args.self.now.held.run c.prepare.new.self.run Why.NoMemory c.prepare.ensures.run c.args.q c.args.source c.args.ssn c.in-Ok.ensures.legal
+pub returns-in-Err-give-clause-step : goal.returns-in-Err-give-clause-step
+returns-in-Err-give-clause-step g c =
+    refused_delivery c.args.self.now.held.run c.give.new.self.run Why.NoMemory (ap (λ (s : DataState). s.run) c.give.ensures.data ∙ c.prepare.ensures.run) c.args.q c.args.source c.args.ssn c.in-Ok.ensures.legal

@@ -1,0 +1,24 @@
+use Rattle.std.proofs.Common.{◌≡◌, ◌<◌, ◌∙◌, ap, true, length}
+use Rattle.std.specs.Prelude.{is_none, is_some}
+use Rattle.causal_protocol.specs.declared.request.Request.TheVariants as Ask
+use Rattle.causal_protocol.specs.Memory.{at}
+use Rattle.causal_protocol.specs.Naming.{name, kept_for}
+use Rattle.causal_protocol.specs.Refusals.{first_fault}
+use Rattle.causal_core.specs.View.{memories_in, memory_at, run_from}
+use Rattle.causal_core.proofs.Delivering.{message_there, sender_keeps}
+use Rattle.causal_core.proofs.data.Data.give.Goals as goal
+use Rattle.causal_core.proofs.data.Data.give.Goals.{After-self}
+
+keeps : (g : _) (c : After-self g) → (is_some (at (memories_in c.self.inside.cells.items) c.args.source.0) ≡ true) × (c.args.ssn < length (memory_at (memories_in c.self.inside.cells.items) c.args.source.0).sent)
+keeps g c =
+    let r = run_from c.self.inside.trace.recording c.self.inside.faults c.self.inside.writers.items in
+    let ms = memories_in c.self.inside.cells.items in
+    sender_keeps ms c.args.q c.args.source c.args.ssn
+    (ap (λ xs. is_none (kept_for xs c.args.q (name c.args.source c.args.ssn))) c.self.invariant.same
+    ∙ message_there r c.args.q c.args.source c.args.ssn (ap (λ s. first_fault s.run (Ask.Deliver c.args.q c.args.source c.args.ssn)) c.self.view_is ∙ c.requires.legal))
+
+pub give_at-requires-clause-up : goal.give_at-requires-clause-up
+give_at-requires-clause-up g c = (keeps g (goal.at.give_at-requires-clause-up g c).After-self).0
+
+pub give_at-requires-clause-kept : goal.give_at-requires-clause-kept
+give_at-requires-clause-kept g c = (keeps g (goal.at.give_at-requires-clause-kept g c).After-self).1

@@ -1,0 +1,22 @@
+use Rattle.std.proofs.Common.{◌≡◌, Some, slice_get, arith}
+use Rattle.causal_core.proofs.Cells.{read_at, up_within, memories_kept, bodies_kept, rooms_kept}
+use Rattle.causal_core.proofs.give.give_at.Goals as goal
+use Rattle.causal_core.proofs.give.give_at.Goals.{In-Some}
+
+found : (g : _) (c : In-Some g) → slice_get c.args.cells.now.items c.args.source.0 ≡ Some (Some c.in-Some.cell)
+found g c = rw c.from.ensures at (read_at c.args.cells.now.items c.from.result c.index_mut.result.now (Some c.in-Some.cell) (let h = up_within c.args.cells.now.items c.args.source.0 c.requires.up in omega (arith, h, c.from.ensures)) c.index_mut.ensures.value c.in-Some.is)
+
+pub returns-clause-memories : goal.returns-clause-memories
+returns-clause-memories g c =
+    let f = found g (goal.at.returns-clause-memories g c).In-Some in
+    rw c.from.ensures (memories_kept c.args.cells.now.items c.args.source.0 c.in-Some.cell f c.give_kept.new.cell c.give_kept.ensures.memory)
+
+pub returns-clause-bodies : goal.returns-clause-bodies
+returns-clause-bodies g c =
+    let f = found g (goal.at.returns-clause-bodies g c).In-Some in
+    rw c.from.ensures (bodies_kept c.args.cells.now.items c.args.source.0 c.in-Some.cell f c.give_kept.new.cell c.give_kept.ensures.bodies)
+
+pub returns-clause-rooms : goal.returns-clause-rooms
+returns-clause-rooms g c =
+    let f = found g (goal.at.returns-clause-rooms g c).In-Some in
+    rw c.from.ensures (rooms_kept c.args.cells.now.items c.args.source.0 c.in-Some.cell f c.give_kept.new.cell c.give_kept.ensures.room)
