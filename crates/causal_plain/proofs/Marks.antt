@@ -1,9 +1,6 @@
 -- Marks of the positions that a delivery reaches.
-use Rattle.std.proofs.Common.{ℕ, ◌≡◌, ◌<◌, inl, inr, Bool, true, false, List, [], ◌∷◌, ◌++◌, length, refl, sym, ap, subst, ◌∙◌, arith, length-append}
-use Rattle.std.specs.Prelude.{◌↔◌, slice_index_or}
-use Rattle.std.proofs.Math.Seq.{get_or-append_seam}
-use Rattle.std.proofs.lemmas.List.{get_or_append_left}
-use Rattle.std.proofs.lemmas.Bool.Decides.{eqb_tells}
+use Rattle.std.proofs.Common.{ℕ, ◌≡◌, ◌<◌, Bool, false, List, length, refl, arith}
+use Rattle.std.specs.Prelude.{◌↔◌}
 use Rattle.causal_trace.specs.declared.entry.Entry.{Entry}
 use Rattle.causal_trace.specs.Past.{is_down, lane}
 use Rattle.causal_trace.specs.Dependence.{AreForward, IsEventOf, DirectlyPrecedes, in_order, by_message, Reaches, itself, onward, Depends}
@@ -36,22 +33,6 @@ reached_last {G} past k j marks forward long before start after r = go (reached_
 
 pub reaches_from_marked : (past : List Entry) (k j : ℕ) (marks : List Bool) → MarksReached past k marks → FollowsMarked past marks j → Reaches past k j
 reaches_from_marked past k j marks before f = onward ((before f.0 f.1).0 f.2) f.3
-
--- one more mark
-pub marks_more : (past : List Entry) (k : ℕ) (marks : List Bool) (mark : Bool) → MarksReached past k marks → ((mark ≡ true) ↔ Reaches past k (length marks)) → MarksReached past k (marks ++ mark ∷ [])
-marks_more past k marks mark before last j below =
-    elim (eqb_tells j (length marks)) [
-      | inl here ↦
-          let is : slice_index_or (marks ++ mark ∷ []) j false ≡ mark = ap (λ x. slice_index_or (marks ++ mark ∷ []) x false) here.1 ∙ get_or-append_seam marks mark [] false in
-          (λ h. subst (λ x. Reaches past k x) (sym here.1) (last.0 (sym is ∙ h)), λ r. is ∙ last.1 (subst (λ x. Reaches past k x) here.1 r))
-      | inr older ↦
-          let old : j < length marks = (let ne : j ≡ length marks → ⊥ = older.1 in omega (arith, below, length-append marks (mark ∷ []))) in
-          let is : slice_index_or (marks ++ mark ∷ []) j false ≡ slice_index_or marks j false = get_or_append_left marks (mark ∷ []) false j old in
-          (λ h. (before j old).0 (sym is ∙ h), λ r. is ∙ (before j old).1 r)
-    ]
-
-pub marks_none : (past : List Entry) (k : ℕ) → MarksReached past k []
-marks_none past k j below = absurd (omega (arith, below))
 
 -- with all positions marked, a process that is up depends on k where an event of its present lane is marked
 pub depends_marked : (past : List Entry) (k p : ℕ) (marks : List Bool) → length marks ≡ length past → MarksReached past k marks → ((is_down past p ≡ false) × HasMarkedEvent past marks p (lane past p)) ↔ Depends past k p

@@ -4,7 +4,7 @@ use Rattle.std.specs.Prelude.{◌↔◌, ◌==◌, ◌||◌, not}
 use Rattle.std.specs.Ordering.{nat_cmp}
 use Rattle.std.specs.Cmp.{nat_cmp_total, unsigned_tied}
 use Rattle.std.specs.FinSet.{FinSet, contains, insert, empty, contains-empty, contains-insert}
-use Rattle.std.proofs.lemmas.Bool.{false≢true, both_ways, false_from_ne_true, or_cases, or_right, eqb-true, eq-eqb, ne_eqb}
+use Rattle.std.proofs.lemmas.Bool.{false≢true, both_ways, false_from_ne_true, or_cases, eqb-true, eq-eqb, ne_eqb}
 use Rattle.std.proofs.lemmas.Bool.Decides.{eqb_tells}
 use Rattle.causal_holders.specs.Members.{HasMembers}
 use Rattle.causal_holders.specs.Same.{have_same_members, have_same_members-itself, same_members_equal}
@@ -19,9 +19,6 @@ insert_contains s p q = contains-insert nat_cmp_total s p q ∙ ap (λ t. t || c
 
 pub insert_itself : (s : FinSet nat_cmp) (p : ℕ) → contains (insert s p) p ≡ true
 insert_itself s p = insert_contains s p p ∙ ap (λ t. t || contains s p) (eq-eqb p p refl)
-
-pub insert_kept : (s : FinSet nat_cmp) (p q : ℕ) → contains s q ≡ true → contains (insert s p) q ≡ true
-insert_kept s p q h = insert_contains s p q ∙ or_right (q == p) (contains s q) h
 
 -- a member of a set with p put in was there, or is p
 pub insert_cases : {G : Type 0} (s : FinSet nat_cmp) (p q : ℕ) → contains (insert s p) q ≡ true → (q ≡ p → G) → (contains s q ≡ true → G) → G

@@ -47,22 +47,31 @@ pub record HasJust (n : ℕ) (P : ℕ → Type 0) (set : FinSet nat_cmp) : Type 
 abbrev pub AreDependentProcesses : ℕ → List Entry → ℕ → FinSet nat_cmp → Type 0
 AreDependentProcesses n past k set = HasJust n (Depends past k) set
 
--- all has just the sets of the list, and those with p put in
-abbrev pub AreWithAndWithout : List (FinSet nat_cmp) → ℕ → List (FinSet nat_cmp) → Type 0
-AreWithAndWithout sets p all =
-    (s : FinSet nat_cmp) → Contains all s ↔ (Contains sets s ⊎ ((t : FinSet nat_cmp) × Contains sets t × (s ≡ insert t p)))
-
 -- each member is below n
 abbrev pub IsBelow : ℕ → FinSet nat_cmp → Type 0
 IsBelow n s = (p : ℕ) → contains s p ≡ true → p < n
 
--- a list has just the sets of numbers below n
-abbrev pub AreSetsBelow : ℕ → List (FinSet nat_cmp) → Type 0
-AreSetsBelow n sets = (s : FinSet nat_cmp) → Contains sets s ↔ IsBelow n s
-
 -- the set contains the processes that are down and has at most f members
 abbrev pub MayCrash : ℕ → FinSet nat_cmp → FinSet nat_cmp → Type 0
 MayCrash f down s = (is_subset down s ≡ true) × (len s ≤ f)
+
+-- p is not in the set, which has fewer than f members
+abbrev pub MayGrow : ℕ → ℕ → FinSet nat_cmp → Type 0
+MayGrow f p s = (contains s p ≡ false) × (len s < f)
+
+-- all has just the sets of the list, and those that may grow with p put in
+abbrev pub AreWithAndWithout : ℕ → List (FinSet nat_cmp) → ℕ → List (FinSet nat_cmp) → Type 0
+AreWithAndWithout f sets p all =
+    (s : FinSet nat_cmp) → Contains all s
+    ↔ (Contains sets s ⊎ ((t : FinSet nat_cmp) × Contains sets t × MayGrow f p t × (s ≡ insert t p)))
+
+-- each member is down or below p
+abbrev pub IsDownOrBelow : ℕ → FinSet nat_cmp → FinSet nat_cmp → Type 0
+IsDownOrBelow p down s = (q : ℕ) → contains s q ≡ true → (contains down q ≡ true) ⊎ (q < p)
+
+-- a list has just the sets of those who are down and of numbers below p that may crash
+abbrev pub AreGrown : ℕ → ℕ → FinSet nat_cmp → List (FinSet nat_cmp) → Type 0
+AreGrown p f down sets = (s : FinSet nat_cmp) → Contains sets s ↔ (IsDownOrBelow p down s × MayCrash f down s)
 
 -- a list has just the sets of numbers below n that may crash
 abbrev pub AreCrashSets : ℕ → ℕ → FinSet nat_cmp → List (FinSet nat_cmp) → Type 0

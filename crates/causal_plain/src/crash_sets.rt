@@ -1,54 +1,67 @@
 //! All crash sets, listed.
 ghost use Rattle.std.specs.Prelude.{◌≡◌, ◌≤◌, ◌↔◌, true, IsTrue, IfOk};
-ghost use Rattle.causal_plain.specs.Plain.{AreSetsBelow, AreWithAndWithout, MayCrash, AreCrashSets};
+ghost use Rattle.std.specs.FinSet.{insert};
+ghost use Rattle.causal_plain.specs.Plain.{IsBelow, MayGrow, AreWithAndWithout, AreGrown, AreCrashSets};
 
 use causal_holders::Holders;
 use std::alloc::{AllocError, Global};
 
-/// Each of the sets, as it is and with the process put in.
-fn with_and_without(alloc: Global, sets: &[Holders], p: u8) -> Result<Vec<Holders>, AllocError>
-    ensures { IfOk result (λ all. AreWithAndWithout sets.now p all.items) }
+/// Whether the process may be put in: it is not in the set, which has fewer than f members.
+fn may_grow(f: u16, set: Holders, p: u8) -> bool
+    ensures { IsTrue result ↔ MayGrow f p set }
+{
+    !set.contains(p) && set.len() < u32::from(f)
+}
+
+/// The set with the process put in.
+fn with_process(set: Holders, p: u8) -> Holders
+    ensures { result ≡ insert set p }
+{
+    let mut with = set;
+    with.insert(p);
+    with
+}
+
+/// Each of the sets as it is, and where it may grow also with the process put in.
+fn with_and_without(
+    alloc: Global,
+    sets: &[Holders],
+    f: u16,
+    p: u8,
+) -> Result<Vec<Holders>, AllocError>
+    ensures { IfOk result (λ all. AreWithAndWithout f sets.now p all.items) }
 {
     let mut all = Vec::new(alloc);
     for set in sets {
         all.push(*set)?;
-        let mut with = *set;
-        with.insert(p);
-        all.push(with)?;
+        if may_grow(f, *set, p) {
+            all.push(with_process(*set, p))?;
+        }
     }
     Ok(all)
 }
 
-/// All sets of the first n processes.
-fn subsets(alloc: Global, n: u16) -> Result<Vec<Holders>, AllocError>
-    requires { n ≤ 256 }
-    ensures { IfOk result (λ sets. AreSetsBelow n sets.items) }
+/// The set of those who are down, where it has at most f members.
+fn first_sets(alloc: Global, f: u16, down: Holders) -> Result<Vec<Holders>, AllocError>
+    ensures { IfOk result (λ sets. AreGrown 0 f down sets.items) }
 {
     let mut sets = Vec::new(alloc);
-    sets.push(Holders::none())?;
-    for p in 0..n {
-        sets = with_and_without(alloc, sets.as_slice(), p as u8)?;
+    if down.len() <= u32::from(f) {
+        sets.push(down)?;
     }
     Ok(sets)
 }
 
-/// Whether the set contains the processes that are down and has at most f members.
-fn is_crash_set(f: u16, down: Holders, set: Holders) -> bool
-    ensures { IsTrue result ↔ MayCrash f down set }
-{
-    down.is_subset(set) && set.len() <= u32::from(f)
-}
-
 /// All crash sets of n processes for f: the sets that contain the processes that are down and have at most f members.
+/// No other set is built on the way.
 pub fn crash_sets(alloc: Global, n: u16, f: u16, down: Holders) -> Result<Vec<Holders>, AllocError>
-    requires { n ≤ 256 }
+    requires count { n ≤ 256 }
+    requires below { IsBelow n down }
     ensures { IfOk result (λ sets. AreCrashSets n f down sets.items) }
 {
-    let mut crash_sets = Vec::new(alloc);
-    for set in subsets(alloc, n)?.as_slice() {
-        if is_crash_set(f, down, *set) {
-            crash_sets.push(*set)?;
-        }
+    let mut sets = first_sets(alloc, f, down)?;
+    for p in 0..n {
+        sets = with_and_without(alloc, sets.as_slice(), f, p as u8)?;
     }
-    Ok(crash_sets)
+    Ok(sets)
 }

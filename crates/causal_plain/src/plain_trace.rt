@@ -22,14 +22,15 @@ pub struct PlainTrace {
 
 impl Model for PlainTrace {
     ghost use Rattle.std.specs.Prelude.{◌-◌, vec_len, vec_capacity};
-    ghost use Rattle.causal_trace.specs.State.{TraceState, IsKept};
+    ghost use Rattle.causal_trace.specs.State.{TraceState};
+    ghost use Rattle.causal_trace.specs.Inside.Bounded.{IsBounded};
     ghost use Rattle.causal_plain.specs.Plain.{recorded};
 
     ghost Value = { TraceState };
 
     ghost view = { λ a. record { recording = recorded a.processes a.entries.items; spare = vec_capacity a.entries - vec_len a.entries } };
 
-    ghost invariant = { λ a. IsKept (recorded a.processes a.entries.items) a.listed };
+    ghost invariant = { λ a. IsBounded (recorded a.processes a.entries.items) a.listed };
 }
 
 impl PlainTrace {

@@ -2,7 +2,8 @@ use Rattle.std.proofs.Common.{◌≡◌, ◌+◌, length, Some, arith, sym, ap, 
 use Rattle.causal_trace.specs.declared.fault.TraceFault.TheVariants.{NoMemory}
 use Rattle.causal_trace.specs.Past.{listed_by}
 use Rattle.causal_trace.specs.Rows.{first_fault}
-use Rattle.causal_trace.specs.State.{with_entry, IsKept}
+use Rattle.causal_trace.specs.State.{with_entry}
+use Rattle.causal_trace.specs.Inside.Bounded.{IsBounded}
 use Rattle.std.proofs.lemmas.List.{reverse-append}
 use Rattle.causal_trace.proofs.Lemmas.Formed.{no_memory_told, kept_push}
 use Rattle.causal_plain.proofs.plain_trace.PlainTrace.push.Goals as goal
@@ -14,7 +15,7 @@ returns-in-Some-clause-memory c = λ told.
     absurd (no_memory_told c.args.self.now.recording.processes c.args.self.now.recording.past c.args.entry (sym c.in-Some.ensures ∙ ap Some same))
 
 -- what is kept, with the entry
-kept : (c : After-listed-listed) → IsKept (with_entry (record { processes = c.self.inside.processes; past = reverse c.self.inside.entries.items }) c.args.entry) (c.self.inside.listed + length (listed_by c.args.entry))
+kept : (c : After-listed-listed) → IsBounded (with_entry (record { processes = c.self.inside.processes; past = reverse c.self.inside.entries.items }) c.args.entry) (c.self.inside.listed + length (listed_by c.args.entry))
 kept c = kept_push _ c.args.entry _ c.self.invariant (ap (λ s. first_fault s.recording.processes s.recording.past c.args.entry) c.self.view_is ∙ sym c.in_default.ensures)
 
 pub overflow_cast-listed : goal.overflow_cast-listed
