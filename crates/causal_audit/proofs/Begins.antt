@@ -9,7 +9,7 @@ use Rattle.causal_trace.specs.Rows.{Recording}
 use Rattle.causal_audit.specs.Courses.{IsUnused, end_of}
 use Rattle.causal_audit.specs.declared.effects.Effects.{Effects}
 use Rattle.causal_audit.specs.Inside.Newly.{HasEffects}
-use Rattle.causal_audit.specs.Inside.Rooms.{IsRoom, sight_of}
+use Rattle.causal_audit.specs.Inside.Rooms.{IsGathered, IsRoom, sight_of}
 use Rattle.causal_audit.specs.Inside.Sights.{IsSight}
 use Rattle.causal_audit.specs.declared.room.Room.{Room}
 use Rattle.causal_audit.proofs.Steps.{no_entry, nobody_down}
@@ -45,4 +45,10 @@ room_begins r room unused effects are = record {
       λ depends. absurd depends.present,
     );
   });
+}
+
+pub gathered_begins : (r : Recording) (room : Room) → IsUnused r room → (first : List ℕ) → IsGathered first room
+gathered_begins r room unused first = record {
+  count = ap length unused.gathered ∙ replicate_count (end_of room - room.lowest) empty;
+  each = λ i p followed has. absurd (false≢true (sym (contains-empty nat_cmp p) ∙ sym (ap (λ s. contains s p) (read_same room.dependents.items (length room.dependents.items) (i - room.from) empty unused.dependents)) ∙ has));
 }

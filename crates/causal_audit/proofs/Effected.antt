@@ -293,6 +293,7 @@ module _ (r : Recording) (formed : IsWellFormed r) (positions : List ℕ) (are :
         first_is = first_shares dets of first firsts count dets_are;
         first_least = first_before dets of first firsts count dets_are;
         marks_within = marks_low dets of first firsts count dets_are;
+        only = λ m i among. (shares.only m i (contains_among (list_at same m) i among)).1;
         shared = λ i low. among_contains (list_at same (slice_index first i)) i (shares.shared i (omega (arith, low, all)));
         marked = marks_tell dets of first firsts count dets_are;
         sound = risen_sound events stands risen rises;

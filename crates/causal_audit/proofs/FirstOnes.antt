@@ -10,7 +10,7 @@ use Rattle.std.proofs.lemmas.Option.{slice_get_cases}
 use Rattle.causal_name.specs.declared.Det.{Det}
 use Rattle.causal_name.specs.Names.{same_det}
 use Rattle.causal_trace.specs.Past.{has}
-use Rattle.causal_trace.specs.Inside.SameDets.{same_det_equiv}
+use Rattle.causal_name.specs.SameDets.{same_det_equiv}
 use Rattle.causal_audit.specs.Inside.Filed.{Numbers, number_of}
 use Rattle.causal_audit.specs.Inside.Rooms.{is_among}
 use Rattle.causal_audit.specs.Inside.Sharing.{AreFirstOnes, added, numbers_in}

@@ -1,4 +1,5 @@
 pub mod Lemmas
+mod Acting
 mod Begins
 mod Begun
 mod Between
@@ -11,6 +12,7 @@ mod Exposure
 mod Filings
 mod FirstOnes
 mod Firsts
+mod Gathered
 mod HeldOutside
 mod Indexed
 mod Known

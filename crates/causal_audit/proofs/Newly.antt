@@ -1,6 +1,6 @@
 -- The least delivery of a part with an orphan at one instant.
 use Rattle.std.proofs.Common.{ℕ, suc, Vec, Global, ◌≡◌, ◌+◌, ◌-◌, ◌<◌, ◌≤◌, inl, inr, Bool, true, false, List, [], ◌∷◌, length, map, get_or, take, Option, Some, None, refl, sym, ap, subst, ◌∙◌, arith}
-use Rattle.std.specs.Prelude.{if◌then◌else◌, slice_index, nat_le, nat_lt, ◌==◌, ◌&&◌, ◌||◌}
+use Rattle.std.specs.Prelude.{◌⊎◌, if◌then◌else◌, slice_index, nat_le, nat_lt, ◌==◌, ◌&&◌, ◌||◌}
 use Rattle.std.specs.Ordering.{nat_cmp}
 use Rattle.std.specs.FinSet.{FinSet, contains}
 use Rattle.std.proofs.lemmas.List.{get_or_default, get_or-map}
@@ -151,6 +151,17 @@ none_more false true b e out h = h
 none_more false false b true out h = absurd (false≢true (sym (out refl) ∙ h))
 none_more false false b false out h = h
 
+more_or_here : (c a b e : Bool) → (c || ((a || e) && b)) ≡ true → ((c || (a && b)) ≡ true) ⊎ ((e ≡ true) × (b ≡ true))
+more_or_here true a b e h = inl refl
+more_or_here false true b e h = inl h
+more_or_here false false true true h = inr (refl, refl)
+more_or_here false false true false h = absurd (false≢true h)
+more_or_here false false false true h = absurd (false≢true h)
+more_or_here false false false false h = absurd (false≢true h)
+
+between_of : (from to i : ℕ) → is_between from to i ≡ true → (from ≤ i) × (i < to)
+between_of from to i h = let parts = and_parts (nat_le from i) (nat_lt i to) h in (leb-true from i parts.0, ltb-true i to parts.1)
+
 pub among_more : (numbers : List ℕ) (j d i : ℕ) → j < length numbers → is_among (take (j + 1) numbers) i ≡ (is_among (take j numbers) i || (get_or numbers j d == i))
 among_more numbers j d i below = list_any_more (λ m. m == i) numbers j d below
 
@@ -163,6 +174,22 @@ module _ (r : Recording) (f t from to : ℕ) (C : ℕ → Bool) (numbers : List 
       (λ i k' chosen _ _. one_more (C i) (is_among (take j numbers) i) (is_between from to i) (get_or numbers j d == i) (sym (ap (λ b. C i || (b && is_between from to i)) (among_more numbers j d i below)) ∙ chosen))
       (least_both r f t from to (λ i. C i || (is_among (take j numbers) i && is_between from to i)) (λ i. get_or numbers j d == i) least found so_far
       (least_single r f t from to (get_or numbers j d) k found between numbered is))
+
+  -- it has no orphan, or is not between
+  pub without_orphan : ((k : ℕ) → (from ≤ get_or numbers j d) × (get_or numbers j d < to) → IsNumbered r.past (get_or numbers j d) k → HasOrphan r.processes f (instant r.past t) k → ⊥)
+      → LeastAt r f t from to (λ i. C i || (is_among (take j numbers) i && is_between from to i)) least
+      → LeastAt r f t from to (λ i. C i || (is_among (take (j + 1) numbers) i && is_between from to i)) least
+  without_orphan none so_far =
+      least_covers r f t from to (λ i. C i || (is_among (take j numbers) i && is_between from to i)) (λ i. C i || (is_among (take (j + 1) numbers) i && is_between from to i)) least
+      (λ i k chosen numbered has.
+      elim (more_or_here (C i) (is_among (take j numbers) i) (is_between from to i) (get_or numbers j d == i) (sym (ap (λ b. C i || (b && is_between from to i)) (among_more numbers j d i below)) ∙ chosen)) [
+        | inl before ↦ before
+        | inr here ↦
+            let same : i ≡ get_or numbers j d = sym (eqb-true (get_or numbers j d) i here.0) in
+            let between = between_of from to i here.1 in
+            absurd (none k (omega (arith, between.0, same), omega (arith, between.1, same)) (subst (λ x. IsNumbered r.past x k) same numbered) has)
+      ])
+      so_far
 
   pub without_number : is_between from to (get_or numbers j d) ≡ false
       → LeastAt r f t from to (λ i. C i || (is_among (take j numbers) i && is_between from to i)) least
@@ -207,6 +234,17 @@ module _ (r : Recording) (f t from to : ℕ) where
       least_covers r f t from to (λ x. is_between from i x || (i == x)) (λ x. is_between from (i + 1) x) (earlier least found) (λ x k' chosen _ _. between_next from i x chosen)
       (least_both r f t from to (λ x. is_between from i x) (λ x. i == x) least found so_far (least_single r f t from to i k found between numbered is))
 
+  -- one more delivery of a part that has no orphan
+  pub without_next : (i : ℕ) (least : Option Breach) → ((k : ℕ) → IsNumbered r.past i k → HasOrphan r.processes f (instant r.past t) k → ⊥)
+      → LeastAt r f t from to (λ x. is_between from i x) least → LeastAt r f t from to (λ x. is_between from (i + 1) x) least
+  without_next i least none so_far =
+      least_covers r f t from to (λ x. is_between from i x) (λ x. is_between from (i + 1) x) least
+      (λ x k chosen numbered has. elim (or_cases (is_between from i x) (i == x) (between_next from i x chosen)) [
+        | inl before ↦ before
+        | inr here ↦ absurd (none k (subst (λ y. IsNumbered r.past y k) (sym (eqb-true i x here)) numbered) has)
+      ])
+      so_far
+
   -- the deliveries that are still to come have no orphan
   pub rest_to_come : (i k : ℕ) (least : Option Breach) → IsNumbered r.past i k → t ≤ k → t ≤ length r.past
       → LeastAt r f t from to (λ x. is_between from i x) least → LeastAt r f t from to (λ x. is_between from to x) least
@@ -234,6 +272,21 @@ module _ (r : Recording) (f t from to : ℕ) where
       either_and true b true h = refl
       either_and true b false h = absurd (false≢true h)
       either_and false b c h = h
+
+  -- none of these has an orphan
+  pub without_mark : (same : List (List ℕ)) (marks : List ℕ) (j : ℕ) (found : Option Breach) → j < length marks
+      → ((i k : ℕ) → is_among (list_at same (get_or marks j 0)) i ≡ true → is_between from to i ≡ true → IsNumbered r.past i k → HasOrphan r.processes f (instant r.past t) k → ⊥)
+      → LeastAt r f t from to (λ i. is_sharing same (take j marks) i && is_between from to i) found
+      → LeastAt r f t from to (λ i. is_sharing same (take (j + 1) marks) i && is_between from to i) found
+  without_mark same marks j found below none so_far =
+      least_covers r f t from to (λ i. is_sharing same (take j marks) i && is_between from to i) (λ i. is_sharing same (take (j + 1) marks) i && is_between from to i) found
+      (λ i k chosen numbered has.
+      let parts = and_parts (is_sharing same (take (j + 1) marks) i) (is_between from to i) chosen in
+      elim (or_cases (is_sharing same (take j marks) i) (is_among (list_at same (get_or marks j 0)) i) (sym (list_any_more (λ m. is_among (list_at same m) i) marks j 0 below) ∙ parts.0)) [
+        | inl before ↦ (λ x. before x && parts.1 x)
+        | inr here ↦ absurd (none i k here parts.1 numbered has)
+      ])
+      so_far
 
 -- a row that is read
 pub row_read : (lists : List (Vec ℕ Global)) (t : ℕ) (v : Vec ℕ Global) (row : List ℕ) → v ≡ get_or lists t v → row ≡ v.items → t < length lists → row ≡ list_at (map (λ list. list.items) lists) t

@@ -38,3 +38,4 @@ pub record IsUnused (r : Recording) (room : Room) : Type 0 where
   pub holders : room.holders.items ≡ replicate (end_of room - room.lowest) empty
   pub stable : room.stable.items ≡ replicate (end_of room - room.lowest) false
   pub dependents : room.dependents.items ≡ replicate (length room.dependents.items) empty
+  pub gathered : room.gathered.items ≡ replicate (end_of room - room.lowest) empty

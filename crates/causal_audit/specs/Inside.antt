@@ -15,3 +15,4 @@ pub mod Sharing
 pub mod Sights
 pub mod Stands
 pub mod Stored
+pub mod Surveys

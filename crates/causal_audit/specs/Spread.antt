@@ -1,11 +1,11 @@
 -- How long a delivery stays with its receiver, and when it has no orphan whoever depends on it.
-use Rattle.std.specs.Prelude.{◌≡◌, ℕ, ◌<◌, ◌≤◌, ◌⊎◌, true, List, length, Some, slice_index_or, slice_set, min}
+use Rattle.std.specs.Prelude.{◌≡◌, ℕ, ◌<◌, ◌≤◌, ◌⊎◌, true, List, [], ◌∷◌, ◌++◌, length, None, Some, slice_index_or, slice_set, min}
 use Rattle.std.specs.Ordering.{nat_cmp}
 use Rattle.std.specs.FinSet.{FinSet, contains, len}
 use Rattle.causal_name.specs.declared.Det.{Det}
 use Rattle.causal_name.specs.Sets.{count_below}
 use Rattle.causal_trace.specs.declared.entry.Entry.{Entry}
-use Rattle.causal_trace.specs.declared.entry.Entry.TheVariants.{Deliver}
+use Rattle.causal_trace.specs.declared.entry.Entry.TheVariants.{Deliver, Send}
 use Rattle.causal_trace.specs.Past.{instant, det_at}
 use Rattle.causal_trace.specs.Rows.{AreAccepted}
 use Rattle.causal_trace.specs.Dependence.{IsEventOf, Delivers, Reaches, Depends}
@@ -60,3 +60,14 @@ LastsUntil f k receiver spread next set =
 -- the list with the entry at position i noted, of this lane
 abbrev pub with_spread : Entry → ℕ → ℕ → List ℕ → List ℕ → List ℕ
 with_spread e i lane spreads outs = slice_set (with_delivered e i spreads) i (spread_at e i lane spreads outs)
+
+-- the process of a send or a delivery; of another entry any
+abbrev pub acting : Entry → ℕ
+acting (Send from to ssn) = from.0
+acting (Deliver to send rsn listed) = to.0
+acting _ = 0
+
+-- an event for each entry, whose lane is the process
+abbrev pub acts_of : List Entry → List Event
+acts_of [] = []
+acts_of (e ∷ past) = acts_of past ++ record { lane = acting e; send = None } ∷ []

@@ -16,11 +16,21 @@ ghost use Rattle.causal_audit.specs.Spread.{LastsUntil, StaysUntil};
 
 use crate::cursor::Cursor;
 use crate::holding::holders_after;
-use crate::orphans::Run;
 use crate::sight::down_after;
+use crate::turns::Turns;
 use causal_holders::Holders;
 use causal_name::Det;
 use causal_trace::entry::Entry;
+use causal_trace::trace::Trace;
+
+/// What of a recorded run tells whether a delivery is covered: the trace, a position from which on no entry releases a
+/// process, and who is down after each crash and restart.
+#[derive(Clone, Copy)]
+pub struct Outline<'a> {
+    pub trace: &'a Trace,
+    pub lasting_from: u32,
+    pub turns: &'a Turns,
+}
 
 /// Who is down and who holds the determinant of a delivery at an instant.
 #[derive(Clone, Copy)]
@@ -89,7 +99,7 @@ fn first_of(list: &[u32], end: u32) -> u32
 /// determinant, or crashes or restarts a process, those who are down or hold it may be others. Where it is not covered, it
 /// may have an orphan.
 pub fn is_covered(
-    run: &Run<'_>,
+    run: &Outline<'_>,
     mentions: &[u32],
     spread: u32,
     f: u16,

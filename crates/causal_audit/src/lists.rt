@@ -18,6 +18,27 @@ pub fn empty_lists(alloc: Global, count: u32) -> Result<Vec<Vec<u32>>, NoMemory>
     Ok(lists)
 }
 
+/// An empty list for each of these numbers, with room for so many.
+pub fn lists_for(alloc: Global, room: &[usize]) -> Result<Vec<Vec<u32>>, NoMemory>
+    ensures count { IfOk result (λ lists. vec_len lists ≡ length room.now) }
+    ensures empty { IfOk result (λ lists. All (λ list. list.items ≡ []) lists.items) }
+{
+    let mut lists = Vec::with_capacity(alloc, room.len())?;
+    for count in room {
+        lists.push(Vec::with_capacity(alloc, *count)?)?;
+    }
+    Ok(lists)
+}
+
+/// Adds to one of the numbers, if it is there.
+pub fn add_at(numbers: &mut [usize], place: u32, more: usize)
+    ensures { length numbers.new ≡ length numbers.old }
+{
+    if let Some(number) = numbers.get_mut(place as usize) {
+        *number = number.saturating_add(more);
+    }
+}
+
 /// The least of these numbers, or a bound where that is less.
 pub fn least_in(numbers: &[u32], bound: u32) -> u32
     ensures bound { result ≤ bound }

@@ -5,21 +5,34 @@ ghost use Rattle.std.specs.List.Sorted.{IsNonDecreasing};
 ghost use Rattle.causal_clock.specs.Timeline.{send_of};
 ghost use Rattle.causal_trace.specs.Limits.{max_entries};
 ghost use Rattle.causal_audit.specs.Inside.Filed.{lists_in};
-ghost use Rattle.causal_audit.specs.Inside.Rises.{AreDeliveryLanes, AreEventLanes, AreKept, AreRisen, AreSound, AreSoundFor, HasRisen, HasRisenFor, IsLaid, place_for};
+ghost use Rattle.causal_audit.specs.Inside.Rises.{AreDeliveryLanes, AreEventLanes, AreKept, ArePlaces, AreRisen, AreSound, AreSoundFor, HasPlaces, HasRisen, HasRisenFor, IsLaid, place_for};
 
-use crate::lists::{add_to, empty_lists};
+use crate::lists::{add_at, add_to, empty_lists, lists_for};
 use causal_clock::Clocks;
 use causal_name::NoMemory;
 use std::alloc::Global;
 
-/// What a walk over the rises of a clock reads: the positions of the deliveries, and for each lane its events, by their places,
-/// and its deliveries, by their numbers.
+/// What a walk over the rises of a clock reads: the positions of the deliveries, how many events of their lanes stand before
+/// them, and for each lane its events, by their places, and its deliveries, by their numbers.
 #[derive(Clone, Copy)]
 pub struct Laid<'a> {
     pub clocks: &'a Clocks,
     pub positions: &'a [u32],
+    pub places: &'a [u16],
     pub events: &'a [Vec<u32>],
     pub deliveries: &'a [Vec<u32>],
+}
+
+/// How many events of its lane stand before each delivery.
+fn places_of(alloc: Global, clocks: &Clocks, positions: &[u32]) -> Result<Vec<u16>, NoMemory>
+    requires { All (λ k. k < length clocks.now.events) positions.now }
+    ensures { IfOk result (λ places. ArePlaces positions.now clocks.now.events (length positions.now) places.items) }
+{
+    let mut places = Vec::with_capacity(alloc, positions.len())?;
+    for position in positions {
+        places.push(clocks.place(*position))?;
+    }
+    Ok(places)
 }
 
 /// The numbers of the events of each lane of the clock, in order.
@@ -54,8 +67,14 @@ fn delivery_lanes(
     Ok(lanes)
 }
 
-/// For each entry that is a delivery this one, which reaches itself; for another none.
-fn own_risen(alloc: Global, clocks: &Clocks, positions: &[u32]) -> Result<Vec<Vec<u32>>, NoMemory>
+/// For each entry that is a delivery this one, which reaches itself; for another none. Each row has room for so many.
+fn own_risen(
+    alloc: Global,
+    clocks: &Clocks,
+    positions: &[u32],
+    room: &[usize],
+) -> Result<Vec<Vec<u32>>, NoMemory>
+    requires room { length room.now ≡ length clocks.now.events }
     requires few { length positions.now ≤ max_entries }
     requires events { All (λ k. k < length clocks.now.events) positions.now }
     requires ascend { IsNonDecreasing positions.now }
@@ -63,7 +82,7 @@ fn own_risen(alloc: Global, clocks: &Clocks, positions: &[u32]) -> Result<Vec<Ve
     ensures own { IfOk result (λ risen.
         (lane : ℕ) → HasRisen positions.now clocks.now.events lane lane (lists_in risen.items)) }
 {
-    let mut risen = empty_lists(alloc, clocks.len())?;
+    let mut risen = lists_for(alloc, room)?;
     for (i, position) in positions.iter().enumerate() {
         add_to(&mut risen, *position as usize, i as u32)?;
     }
@@ -71,6 +90,81 @@ fn own_risen(alloc: Global, clocks: &Clocks, positions: &[u32]) -> Result<Vec<Ve
 }
 
 impl Laid<'_> {
+    /// How many deliveries of a lane are among its first `count` events, if the first `known` ones are.
+    fn counted(&self, lane: &[u32], known: usize, count: u16) -> usize
+        requires known { known ≤ length lane.now }
+        requires places { HasPlaces self.now }
+        requires lane { All (λ i. i < length self.now.positions.now) lane.now }
+        ensures bounds { (known ≤ result) × (result ≤ length lane.now) }
+    {
+        for m in known..lane.len() {
+            if self.places[lane[m] as usize] >= count {
+                return m;
+            }
+        }
+        lane.len()
+    }
+
+    /// Adds to the room of each row of a lane how many deliveries of a source, another lane, it is to have.
+    fn count_source(&self, room: &mut [usize], lane: u32, source: u32)
+        requires laid { IsLaid self.now }
+        requires places { HasPlaces self.now }
+        requires lane { lane < self.now.clocks.now.lanes }
+        requires source { source < self.now.clocks.now.lanes }
+        requires apart { source ≢ lane }
+        ensures { length room.new ≡ length room.old }
+    {
+        let own = self.events[lane as usize].as_slice();
+        let from = self.deliveries[source as usize].as_slice();
+        let mut known = 0;
+        for rise in self.clocks.rises(lane, source) {
+            let all = self.counted(from, known, rise.count);
+            if let Some(event) = own.get(rise.place as usize) {
+                add_at(room, *event, all - known);
+            }
+            known = all;
+        }
+    }
+
+    /// Adds to the room of each row of a lane how many deliveries of the other lanes it is to have.
+    fn count_sources(&self, room: &mut [usize], lane: u32)
+        requires laid { IsLaid self.now }
+        requires places { HasPlaces self.now }
+        requires lane { lane < self.now.clocks.now.lanes }
+        ensures { length room.new ≡ length room.old }
+    {
+        for source in 0..self.clocks.lanes() {
+            if source != lane {
+                self.count_source(room, lane, source);
+            }
+        }
+    }
+
+    /// How many deliveries each row is to have, so that it can be made just so long. No answer rests on it.
+    fn room_for(&self, alloc: Global) -> Result<Vec<usize>, NoMemory>
+        requires laid { IsLaid self.now }
+        requires places { HasPlaces self.now }
+        ensures { IfOk result (λ room. length room.items ≡ length self.now.clocks.now.events) }
+    {
+        let mut room = vec![in alloc; 0; self.clocks.len() as usize]?;
+        for position in self.positions {
+            add_at(room.as_mut_slice(), *position, 1);
+        }
+        self.count_lanes(room.as_mut_slice());
+        Ok(room)
+    }
+
+    /// The same for the rows of all lanes by the other lanes.
+    fn count_lanes(&self, room: &mut [usize])
+        requires laid { IsLaid self.now }
+        requires places { HasPlaces self.now }
+        ensures { length room.new ≡ length room.old }
+    {
+        for lane in 0..self.clocks.lanes() {
+            self.count_sources(room, lane);
+        }
+    }
+
     /// Puts those deliveries of a lane into the row that are among the first `count` events of the lane, but for the first
     /// `known` deliveries, and tells how many deliveries of the lane are among them.
     fn add_counted(
@@ -81,7 +175,7 @@ impl Laid<'_> {
         count: u16,
     ) -> Result<usize, NoMemory>
         requires known { known ≤ length lane.now }
-        requires events { All (λ k. k < length self.now.clocks.now.events) self.now.positions.now }
+        requires places { HasPlaces self.now }
         requires lane { All (λ i. i < length self.now.positions.now) lane.now }
         ensures bounds { IfOk result (λ all. (known ≤ all) × (all ≤ length lane.now)) }
         ensures added { IfOk result (λ all. row.new.items ≡ row.old.items ++ take (all - known) (drop known lane.now)) }
@@ -92,7 +186,7 @@ impl Laid<'_> {
     {
         for m in known..lane.len() {
             let i = lane[m];
-            if self.clocks.place(self.positions[i as usize]) >= count {
+            if self.places[i as usize] >= count {
                 return Ok(m);
             }
             row.push(i)?;
@@ -104,6 +198,7 @@ impl Laid<'_> {
     /// rises of the lane by the source and the deliveries of the source.
     fn add_source(&self, risen: &mut [Vec<u32>], lane: u32, source: u32) -> Result<(), NoMemory>
         requires laid { IsLaid self.now }
+        requires places { HasPlaces self.now }
         requires lane { lane < self.now.clocks.now.lanes }
         requires source { source < self.now.clocks.now.lanes }
         requires apart { source ≢ lane }
@@ -125,6 +220,7 @@ impl Laid<'_> {
     /// Puts the deliveries of the other lanes that newly reach a delivery of the lane into its row.
     fn add_sources(&self, risen: &mut [Vec<u32>], lane: u32) -> Result<(), NoMemory>
         requires laid { IsLaid self.now }
+        requires places { HasPlaces self.now }
         requires lane { lane < self.now.clocks.now.lanes }
         requires sound { AreSoundFor self.now risen.old }
         ensures sound { OnOk result (AreSoundFor self.now risen.new) }
@@ -144,7 +240,8 @@ impl Laid<'_> {
 /// For each entry that is a delivery, the deliveries that newly reach its lane there; for another none.
 ///
 /// It takes time as the entries, the rises of the clock, what is listed, and for each lane that receives as the deliveries; and
-/// memory as the entries, the lanes, and what is listed, which is at most the deliveries times the lanes.
+/// memory as the entries, the lanes, and what is listed, which is at most the deliveries times the lanes. What is listed is
+/// counted first, so that no list has more room than it needs.
 pub fn risen_of(
     alloc: Global,
     clocks: &Clocks,
@@ -160,13 +257,16 @@ pub fn risen_of(
 {
     let events = event_lanes(alloc, clocks)?;
     let deliveries = delivery_lanes(alloc, clocks, positions)?;
-    let mut risen = own_risen(alloc, clocks, positions)?;
+    let places = places_of(alloc, clocks, positions)?;
     let laid = Laid {
         clocks,
         positions,
+        places: places.as_slice(),
         events: events.as_slice(),
         deliveries: deliveries.as_slice(),
     };
+    let room = laid.room_for(alloc)?;
+    let mut risen = own_risen(alloc, clocks, positions, room.as_slice())?;
     for lane in 0..clocks.lanes() {
         laid.add_sources(risen.as_mut_slice(), lane)?;
     }

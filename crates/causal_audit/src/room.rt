@@ -1,10 +1,10 @@
 //! What a sweep over the entries keeps of the deliveries of a part.
-ghost use Rattle.std.specs.Prelude.{◌≡◌, ◌≤◌, IfOk, true, false, map};
+ghost use Rattle.std.specs.Prelude.{◌≡◌, ◌≤◌, IfOk, true, false, map, slice_index};
 ghost use Rattle.std.specs.FinSet as set;
 ghost use Rattle.causal_trace.specs.Past.{deliveries_in};
 ghost use Rattle.causal_audit.specs.Courses.{IsUnused, end_of};
 ghost use Rattle.causal_audit.specs.Inside.Moments.{is_followed};
-ghost use Rattle.causal_audit.specs.Inside.Rooms.{changed, dependents_after, holders_after, stable_after};
+ghost use Rattle.causal_audit.specs.Inside.Rooms.{changed, changed_at, dependents_after, firsts_of, holders_after, stable_after};
 
 use crate::course::Course;
 use crate::kind::Kind;
@@ -13,7 +13,8 @@ use causal_name::NoMemory;
 use std::alloc::Global;
 
 /// What is known at an instant: for each determinant whose first delivery is numbered from `lowest` on who holds it and
-/// whether it is stable, and for each delivery numbered from `from` on who depends on it.
+/// whether it is stable, for each delivery numbered from `from` on who depends on it, and for each determinant who depends
+/// on any of its deliveries there, so that all of them are asked at once.
 #[derive(Drop)]
 pub struct Room {
     pub from: u32,
@@ -21,6 +22,7 @@ pub struct Room {
     pub holders: Vec<Holders>,
     pub stable: Vec<bool>,
     pub dependents: Vec<Holders>,
+    pub gathered: Vec<Holders>,
 }
 
 /// Puts p into the sets of these numbers, which count from `from` on.
@@ -34,6 +36,37 @@ fn insert_each(sets: &mut [Holders], from: u32, numbers: &[u32], p: u8)
                 sets[place].insert(p);
             }
         }
+    }
+}
+
+/// Puts p into the set of a number, which counts from `from` on.
+fn insert_at(sets: &mut [Holders], from: u32, number: u32, p: u8)
+    ensures { sets.new ≡ changed_at (λ s. set.insert s p) set.empty from sets.old number }
+{
+    if from <= number {
+        let place = (number - from) as usize;
+        if place < sets.len() {
+            sets[place].insert(p);
+        }
+    }
+}
+
+/// The number of the first delivery with the determinant of this one.
+fn first_of(first: &[u32], number: u32) -> u32
+    ensures { result ≡ slice_index first.now number }
+{
+    match first.get(number as usize) {
+        Some(first) => *first,
+        None => 0,
+    }
+}
+
+/// Puts p into the sets of the determinants of these deliveries, which count from `lowest` on.
+fn insert_firsts(sets: &mut [Holders], lowest: u32, first: &[u32], numbers: &[u32], p: u8)
+    ensures { sets.new ≡ changed (λ s. set.insert s p) set.empty lowest sets.old (firsts_of first.now numbers.now) }
+{
+    for number in numbers {
+        insert_at(sets, lowest, first_of(first, *number), p);
     }
 }
 
@@ -90,35 +123,41 @@ impl Room {
         let holders = vec![in alloc; Holders::none(); count]?;
         let stable = vec![in alloc; false; count]?;
         let dependents = vec![in alloc; Holders::none(); (to - from) as usize]?;
+        let gathered = vec![in alloc; Holders::none(); count]?;
         Ok(Room {
             from,
             lowest,
             holders,
             stable,
             dependents,
+            gathered,
         })
     }
 
     /// Takes in one more entry of a kind, which mentions the determinants of these numbers, and whose receiver these
-    /// deliveries newly reach.
-    pub(crate) fn see(&mut self, kind: Kind, marks: &[u32], risen: &[u32])
+    /// deliveries newly reach, each of which has the determinant of a first one.
+    pub(crate) fn see(&mut self, kind: Kind, first: &[u32], marks: &[u32], risen: &[u32])
         ensures from { self.new.from ≡ self.old.from }
         ensures lowest { self.new.lowest ≡ self.old.lowest }
         ensures holders { self.new.holders.items ≡ holders_after self.old.lowest kind marks.now self.old.holders.items }
         ensures stable { self.new.stable.items ≡ stable_after self.old.lowest kind marks.now self.old.stable.items }
         ensures dependents { self.new.dependents.items
             ≡ dependents_after self.old.from kind risen.now self.old.dependents.items }
+        ensures gathered { self.new.gathered.items
+            ≡ dependents_after self.old.lowest kind (firsts_of first.now risen.now) self.old.gathered.items }
     {
         match kind {
             Kind::Send => {}
             Kind::Deliver { to } => {
                 insert_each(&mut self.holders, self.lowest, marks, to.0);
                 insert_each(&mut self.dependents, self.from, risen, to.0);
+                insert_firsts(&mut self.gathered, self.lowest, first, risen, to.0);
             }
             Kind::Stable => mark_each(&mut self.stable, self.lowest, marks),
             Kind::Crash { who } => {
                 remove_all(&mut self.holders, who.0);
                 remove_all(&mut self.dependents, who.0);
+                remove_all(&mut self.gathered, who.0);
             }
             Kind::Restart { who } => insert_each(&mut self.holders, self.lowest, marks, who.0),
             Kind::Forget { who } => remove_each(&mut self.holders, self.lowest, marks, who.0),

@@ -1,11 +1,13 @@
-//! How long each event stays with its lane: until a message that the lane sends from then on is delivered.
+//! How long each event stays with its lane: until a message that the lane sends from then on is delivered. Without a clock
+//! it is told of its process, which is no longer.
 ghost use Rattle.std.specs.Prelude.{◌≡◌, ◌≤◌, ◌<◌, IfOk, length, slice_set};
 ghost use Rattle.causal_trace.specs.Limits.{max_entries};
-ghost use Rattle.causal_audit.specs.Spread.{spread_at, with_delivered, with_spread};
-ghost use Rattle.causal_audit.specs.Inside.Stands.{SpreadsOf};
+ghost use Rattle.causal_audit.specs.Spread.{acting, spread_at, with_delivered, with_spread};
+ghost use Rattle.causal_audit.specs.Inside.Stands.{SpreadsOf, StaysOf};
 
 use crate::lanes::LANES;
 use causal_clock::Clocks;
+use causal_holders::PROCESSES;
 use causal_name::NoMemory;
 use causal_trace::entry::Entry;
 use std::alloc::Global;
@@ -52,4 +54,32 @@ pub fn spreads_of(alloc: Global, entries: &[Entry], clocks: &Clocks) -> Result<V
         note_spread(&mut spreads, &mut outs, &entries[i as usize], lane, i);
     }
     Ok(spreads)
+}
+
+/// The process of a send or a delivery; of another entry it is any.
+fn acting(entry: &Entry) -> u8
+    ensures { result ≡ acting entry.now }
+{
+    match entry {
+        Entry::Send { from, .. } => from.0,
+        Entry::Deliver { to, .. } => to.0,
+        _ => 0,
+    }
+}
+
+/// For each entry the first position at which a message that its process sends from then on is delivered, or the end.
+pub fn stays_of(alloc: Global, entries: &[Entry]) -> Result<Vec<u32>, NoMemory>
+    requires few { length entries.now ≤ max_entries }
+    ensures { IfOk result (λ stays. StaysOf entries.now stays.items) }
+{
+    let end = entries.len() as u32;
+    let mut stays = vec![in alloc; end; entries.len()]?;
+    let mut outs = [end; PROCESSES as usize];
+    let mut i = end;
+    while i > 0 {
+        i -= 1;
+        let entry = &entries[i as usize];
+        note_spread(&mut stays, &mut outs, entry, acting(entry) as usize, i);
+    }
+    Ok(stays)
 }

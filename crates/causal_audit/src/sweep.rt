@@ -1,12 +1,13 @@
 //! The least breach of a part of the deliveries, by one sweep over the entries.
 ghost use Rattle.std.specs.Prelude.{◌≡◌, ◌<◌, ◌||◌, ◌&&◌, ℕ, Bool};
+ghost use Rattle.std.specs.Bool.{OnFalse, OnTrue};
 ghost use Rattle.std.specs.List.{All};
 ghost use Rattle.causal_trace.specs.Past.{deliveries_in, instant};
 ghost use Rattle.causal_audit.specs.Inside.BreachAt.{BreachAt};
 ghost use Rattle.causal_audit.specs.Breaches.{LeastBreach};
 ghost use Rattle.causal_audit.specs.Courses.{IsUnused, end_of};
 ghost use Rattle.causal_audit.specs.Inside.Courses.{run_read};
-ghost use Rattle.causal_audit.specs.Inside.Moments.{IsMoment, LeastOf, is_followed};
+ghost use Rattle.causal_audit.specs.Inside.Moments.{HasNone, IsMoment, IsSpared, LeastOf, is_followed};
 ghost use Rattle.causal_audit.specs.Inside.Newly.{is_candidate, is_sharing, same_of};
 ghost use Rattle.causal_audit.specs.Inside.Rooms.{IsFollowed, is_among};
 ghost use Rattle.causal_audit.specs.Numbers.{IsNumbered};
@@ -30,6 +31,34 @@ pub struct Moment<'a> {
 }
 
 impl Moment<'_> {
+    /// Whether a delivery that the room follows and that has the determinant of this first one may have an orphan at this
+    /// instant: the determinant is not stable, the down processes and its holders are at most f, and somebody who depends
+    /// on one of its deliveries is no holder.
+    fn may_fail(&self, room: &Room, mark: u32) -> bool
+        requires moment { IsMoment self.now room.now }
+        ensures { OnFalse result (HasNone self.now room.now mark) }
+    {
+        if mark < room.lowest {
+            return false;
+        }
+        let place = (mark - room.lowest) as usize;
+        if place >= room.stable.len() || room.stable[place] {
+            return false;
+        }
+        let holders = room.holders[place];
+        self.down.union(holders).len() <= u32::from(self.f)
+            && !room.gathered[place].is_subset(holders)
+    }
+
+    /// Whether the room follows the delivery of number i, and it may have an orphan at this instant.
+    fn is_open(&self, room: &Room, i: u32) -> bool
+        requires moment { IsMoment self.now room.now }
+        ensures open { OnTrue result (IsFollowed room.now i) }
+        ensures safe { OnFalse result (IsSpared self.now room.now i) }
+    {
+        room.follows(i) && self.may_fail(room, self.reading.effects.first[i as usize])
+    }
+
     /// How the delivery of number i has an orphan at this instant.
     fn found(&self, room: &Room, i: u32) -> Option<Breach>
         requires moment { IsMoment self.now room.now }
@@ -57,7 +86,7 @@ impl Moment<'_> {
     {
         let mut least = so_far;
         for number in numbers {
-            if room.follows(*number) {
+            if self.is_open(room, *number) {
                 least = earlier(least, self.found(room, *number));
             }
         }
@@ -76,7 +105,9 @@ impl Moment<'_> {
             if self.t <= self.reading.positions[i as usize] {
                 return least;
             }
-            least = earlier(least, self.found(room, i));
+            if self.is_open(room, i) {
+                least = earlier(least, self.found(room, i));
+            }
         }
         least
     }
@@ -90,8 +121,10 @@ impl Moment<'_> {
     {
         let mut least = None;
         for mark in marks {
-            let sharing = self.reading.effects.same[*mark as usize].as_slice();
-            least = self.least_of(room, sharing, least);
+            if self.may_fail(room, *mark) {
+                let sharing = self.reading.effects.same[*mark as usize].as_slice();
+                least = self.least_of(room, sharing, least);
+            }
         }
         least
     }
@@ -125,7 +158,7 @@ pub fn least_swept(course: &Course, f: u16, room: &mut Room) -> Option<Breach>
         let marks = reading.effects.marks[t].as_slice();
         let risen = reading.effects.risen[t].as_slice();
         down = kind.down_after(down);
-        room.see(*kind, marks, risen);
+        room.see(*kind, reading.effects.first.as_slice(), marks, risen);
         let moment = Moment {
             reading,
             f,

@@ -10,7 +10,7 @@ ghost use Rattle.causal_audit.specs.Numbers.{IsNumbered, ArePositions, ArePositi
 
 use crate::breach::Breach;
 use crate::changes::Changes;
-use crate::cover::is_covered;
+use crate::cover::{Outline, is_covered};
 use crate::events::clocks_of;
 use crate::lanes::{LANES, lanes_of, write_firsts};
 use crate::mentions::{Mentions, mentions_in};
@@ -136,8 +136,13 @@ impl Tables {
             lasting_from: self.lasting_from,
             turns: &self.turns,
         };
+        let outline = Outline {
+            trace: &self.trace,
+            lasting_from: self.lasting_from,
+            turns: &self.turns,
+        };
         let mentions = self.mentions.list(det);
-        if is_covered(&run, mentions, self.spreads[k as usize], f, end, k, det) {
+        if is_covered(&outline, mentions, self.spreads[k as usize], f, end, k, det) {
             return None;
         }
         let mut room = [0; LANES];

@@ -78,6 +78,11 @@ risen_event own rises k = slice_index own (rise_at rises k).place
 abbrev pub place_in : List ℕ → List Event → ℕ → ℕ
 place_in positions events i = place_of events (slice_index positions i)
 
+-- of each of the first `count` deliveries how many events of its lane stand before it
+pub record ArePlaces (positions : List ℕ) (events : List Event) (count : ℕ) (places : List ℕ) : Type 0 where
+  pub counted : length places ≡ count
+  pub each : (i : ℕ) → i < count → slice_index places i ≡ place_in positions events i
+
 -- the delivery i is in the list of rise k's event, and no rise before k counts it
 pub record IsRisenAt (positions : List ℕ) (events : List Event) (own : List ℕ) (rises : List Rise) (risen : List (List ℕ)) (i k : ℕ) : Type 0 where
   pub listed : Contains (list_at risen (risen_event own rises k)) i
@@ -103,3 +108,6 @@ AreSoundFor laid risen = AreSound laid.positions.now laid.clocks.now.events (lis
 
 abbrev pub HasRisenFor : Laid → ℕ → ℕ → List (Vec ℕ) → Type 0
 HasRisenFor laid lane source risen = HasRisen laid.positions.now laid.clocks.now.events lane source (lists_in risen)
+
+abbrev pub HasPlaces : Laid → Type 0
+HasPlaces laid = ArePlaces laid.positions.now laid.clocks.now.events (length laid.positions.now) laid.places.now

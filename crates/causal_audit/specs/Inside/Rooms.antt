@@ -2,7 +2,7 @@
 use Rattle.std.specs.Prelude.{◌≡◌, ℕ, ◌+◌, ◌-◌, ◌<◌, ◌≤◌, ◌⊎◌, ◌==◌, Bool, true, false, nat_le, nat_lt, if◌then◌else◌, List, [], ◌∷◌, length, map, Some, slice_index, slice_index_or, slice_set}
 use Rattle.std.specs.List.{All, list_any}
 use Rattle.std.specs.Ordering.{nat_cmp}
-use Rattle.std.specs.FinSet.{FinSet, empty, insert, remove}
+use Rattle.std.specs.FinSet.{FinSet, contains, empty, insert, remove}
 use Rattle.causal_name.specs.declared.Det.{Det}
 use Rattle.causal_trace.specs.declared.entry.Entry.{Entry}
 use Rattle.causal_trace.specs.declared.entry.Entry.TheVariants as Recorded
@@ -52,6 +52,10 @@ dependents_after from (Deliver to) risen sets = changed (λ s. insert s to.0) em
 dependents_after from (Crash who) risen sets = map (λ s. remove s who.0) sets
 dependents_after from _ risen sets = sets
 
+-- the first deliveries with the determinants of these
+abbrev pub firsts_of : List ℕ → List ℕ → List ℕ
+firsts_of first numbers = map (λ i. slice_index first i) numbers
+
 -- the entry is a delivery to p
 abbrev pub IsReceiver : Entry → ℕ → Type 0
 IsReceiver (Recorded.Deliver to send rsn listed) p = p ≡ to.0
@@ -67,6 +71,7 @@ pub record AreEffects (past : List Entry) (first : List ℕ) (same marks risen :
   pub within : (i : ℕ) → i < deliveries_in past → slice_index first i ≤ i
   pub first_is : (i k : ℕ) (d : Det) → IsNumbered past i k → det_at past k ≡ Some d → (h : ℕ) × IsNumbered past (slice_index first i) h × (det_at past h ≡ Some d)
   pub first_least : (i m k h : ℕ) (d : Det) → IsNumbered past i k → det_at past k ≡ Some d → IsNumbered past m h → det_at past h ≡ Some d → slice_index first i ≤ m
+  pub only : (m i : ℕ) → is_among (list_at same m) i ≡ true → slice_index first i ≡ m
   pub marks_within : (v : ℕ) → All (λ m. m < deliveries_in past) (list_at marks v)
   pub shared : (i : ℕ) → i < deliveries_in past → is_among (list_at same (slice_index first i)) i ≡ true
   pub marked : (i k v : ℕ) (d : Det) (e : Entry) → IsNumbered past i k → det_at past k ≡ Some d → instant past (v + 1) ≡ e ∷ instant past v → is_among (list_at marks v) (slice_index first i) ≡ has (mentioned_by e) d
@@ -94,3 +99,8 @@ pub record IsRoom (r : Recording) (first : List ℕ) (t : ℕ) (down : FinSet na
   pub part : end_of room ≤ deliveries_in r.past
   pub lowest : (i k : ℕ) (d : Det) → IsFollowed room i → IsNumbered r.past i k → det_at r.past k ≡ Some d → room.lowest ≤ slice_index first i
   pub sights : (i k : ℕ) (d : Det) → IsFollowed room i → IsNumbered r.past i k → det_at r.past k ≡ Some d → IsSight (instant r.past t) k d (sight_of first down room i)
+
+-- who depends on a delivery that the room follows is among those who are gathered for its determinant
+pub record IsGathered (first : List ℕ) (room : Room) : Type 0 where
+  pub count : length room.gathered.items ≡ end_of room - room.lowest
+  pub each : (i p : ℕ) → IsFollowed room i → contains (slice_index_or room.dependents.items (i - room.from) empty) p ≡ true → contains (slice_index_or room.gathered.items (slice_index first i - room.lowest) empty) p ≡ true

@@ -7,7 +7,7 @@ use Rattle.causal_trace.specs.State.{entries_of}
 use Rattle.causal_trace.specs.Dependence.{IsEventOf, Delivers}
 use Rattle.causal_clock.specs.declared.Event.{Event}
 use Rattle.causal_clock.specs.Timeline.{Timeline, lane_of, send_of}
-use Rattle.causal_audit.specs.Spread.{AreSpreads}
+use Rattle.causal_audit.specs.Spread.{AreSpreads, acts_of}
 
 -- the clock has an event for each entry, at its position: two sends or deliveries are of one lane of the clock exactly
 -- where they are of one lane of one process, and an event receives just what the delivery at its position delivers
@@ -39,3 +39,7 @@ pub record CanMirror (e : Entry) (clock : Timeline) (present : List ℕ) : Type 
 abbrev pub SpreadsOf : List Entry → List Event → List ℕ → Type 0
 SpreadsOf entries events spreads =
     (r : Recording) → IsWellFormed r → entries ≡ entries_of r → Stands r.past events → AreSpreads r.past events spreads
+
+-- the same by the processes of the entries
+abbrev pub StaysOf : List Entry → List ℕ → Type 0
+StaysOf entries stays = (r : Recording) → IsWellFormed r → entries ≡ entries_of r → AreSpreads r.past (acts_of r.past) stays

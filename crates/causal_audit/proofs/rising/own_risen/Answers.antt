@@ -13,7 +13,7 @@ pub loop-i-init : goal.loop-i-init
 loop-i-init c =
     let risen = c.in_ok-risen.risen in
     own_none c.args.positions.now c.args.clocks.now.events c.requires.events c.requires.ascend (lists_in risen.items)
-    (omega (arith, length-map risen.items items, c.in_ok-risen.ensures.count, risen.ok.0, c.len.ensures.counted))
+    (omega (arith, length-map risen.items items, c.in_ok-risen.ensures.count, risen.ok.0, c.requires.room))
     (All-map (λ list. list ≡ []) items risen.items c.in_ok-risen.ensures.empty)
 
 pub loop-i-preserved : goal.loop-i-preserved

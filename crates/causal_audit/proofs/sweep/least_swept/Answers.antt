@@ -1,6 +1,6 @@
-use Rattle.std.proofs.Common.{ℕ, ◌≡◌, ◌+◌, ◌<◌, ◌∷◌, Bool, Option, Some, None, length, get_or, arith, refl, sym, subst, ◌∙◌}
+use Rattle.std.proofs.Common.{ℕ, ◌≡◌, ◌+◌, ◌<◌, ◌≤◌, ◌∷◌, Bool, Option, Some, None, length, get_or, arith, refl, sym, subst, ◌∙◌}
 use Rattle.std.specs.List.{All}
-use Rattle.std.specs.Prelude.{◌&&◌}
+use Rattle.std.specs.Prelude.{◌&&◌, slice_index}
 use Rattle.std.proofs.lemmas.List.{length-map}
 use Rattle.causal_trace.specs.declared.entry.Entry.{Entry}
 use Rattle.causal_trace.specs.Past.{instant, deliveries_in}
@@ -15,9 +15,10 @@ use Rattle.causal_audit.specs.Inside.Filed.{list_at}
 use Rattle.causal_audit.specs.Inside.Kinds.{kind_of}
 use Rattle.causal_audit.specs.Inside.Courses.{IsPrepared, IsReading, run_read}
 use Rattle.causal_audit.specs.Inside.Newly.{LeastAt, is_between, is_candidate, same_of, marks_of, risen_of}
-use Rattle.causal_audit.specs.Inside.Rooms.{IsRoom, holders_after, stable_after, dependents_after}
-use Rattle.causal_audit.proofs.Begins.{room_begins}
-use Rattle.causal_audit.proofs.Newly.{row_read}
+use Rattle.causal_audit.specs.Inside.Rooms.{IsFollowed, IsGathered, IsRoom, firsts_of, holders_after, stable_after, dependents_after}
+use Rattle.causal_audit.proofs.Begins.{gathered_begins, room_begins}
+use Rattle.causal_audit.proofs.Gathered.{gathered_next}
+use Rattle.causal_audit.proofs.Newly.{numbered_some, position_of, row_read}
 use Rattle.causal_audit.proofs.Between.{next_entry}
 use Rattle.causal_audit.proofs.Prepared.{kind_then, kinds_count}
 use Rattle.causal_audit.proofs.Sweeping.{room_next, none_next, some_next, at_first, kept_count, moved}
@@ -80,6 +81,20 @@ seen_next c =
     (c.see.ensures.stable ∙ (λ i. stable_after c.loop-t.room.lowest (kind_is c i) (marks_read c i) c.loop-t.room.stable.items))
     (dependents_next c)
 
+-- the room's determinants stand in it
+placed_in : (c : After-see) (i : ℕ) → IsFollowed c.loop-t.room i → (c.loop-t.room.lowest ≤ slice_index c.reading-reading.result.effects.now.first.items i) × (slice_index c.reading-reading.result.effects.now.first.items i ≤ i)
+placed_in c i followed =
+    let inside : i < deliveries_in (run c).past = omega (arith, followed.1, c.loop-t.invariant.seen.part) in
+    let place = position_of (run c).past i inside in
+    let some = numbered_some (run c).processes (run c).past i place.0 (prepared c).formed.accepted place.1 in
+    (c.loop-t.invariant.seen.lowest i place.0 some.0 followed place.1 some.1, (prepared c).has_effects.within i inside)
+
+gathered_then : (c : After-see) → IsGathered c.reading-reading.result.effects.now.first.items c.see.new.self
+gathered_then c =
+    gathered_next c.reading-reading.result.effects.now.first.items (kind_of (entry c)) (list_at (risen_of c.reading-reading.result.effects.now) c.loop-t.t) c.loop-t.room c.see.new.self c.loop-t.invariant.gathered (placed_in c)
+    c.see.ensures.from c.see.ensures.lowest (dependents_next c)
+    (c.see.ensures.gathered ∙ (λ i. dependents_after c.loop-t.room.lowest (kind_is c i) (firsts_of (c.as_slice.ensures.value i) (risen_read c i)) c.loop-t.room.gathered.items))
+
 from_kept : (c : After-see) → c.see.new.self.from ≡ c.args.room.now.from
 from_kept c = c.see.ensures.from ∙ c.loop-t.invariant.from
 
@@ -112,6 +127,7 @@ loop-t-init c =
     record {
       seen = rw c.none-down.ensures (room_begins (run_read reading) c.args.room.now (subst (λ r. IsUnused r c.args.room.now) (sym c.reading-reading.ensures.run) c.requires) reading.effects.now
           (reading_of reading c.args.course.now c.reading-reading.ensures.run c.reading-reading.ensures.prepared).has_effects);
+      gathered = gathered_begins (run_read reading) c.args.room.now (subst (λ r. IsUnused r c.args.room.now) (sym c.reading-reading.ensures.run) c.requires) reading.effects.now.first.items;
       from = refl;
       count = refl;
       before = λ i k u low high numbered in_time has. at_first (run_read reading) c.args.f k u in_time has;
@@ -129,6 +145,7 @@ newly-requires-clause-moment c =
       reading = prepared here;
       within = omega (arith, below here);
       seen = seen_next here;
+      gathered = gathered_then here;
     }
 
 pub returns-in-Some : goal.returns-in-Some
@@ -143,6 +160,7 @@ loop-t-preserved c =
     let here = (goal.at.loop-t-preserved c).After-see in
     record {
       seen = seen_next here;
+      gathered = gathered_then here;
       from = from_kept here;
       count = count_kept here;
       before = none_next (run here) (prepared here).formed c.args.f c.loop-t.t c.args.room.now.from (end_of c.args.room.now) (entry here) (below here) (next here) c.reading-reading.result.effects.now (prepared here).has_effects c.loop-t.invariant.before

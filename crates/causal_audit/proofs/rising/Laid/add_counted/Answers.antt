@@ -25,7 +25,9 @@ loop-m-preserved c =
         | inl early ↦ c.loop-m.invariant.counted k low early
         | inr late ↦
             let same : m ≡ k = omega (arith, late, high) in
-            let here : place_for c.args.self.now (slice_index lane m) < c.args.count = omega (arith, c.if-place-count.false, c.place.ensures) in
+            let i = slice_index lane m in
+            let inside : i < length c.args.self.now.positions.now = c.requires.lane m 0 c.loop-m-test.true in
+            let here : place_for c.args.self.now (slice_index lane m) < c.args.count = omega (arith, c.if-self-i.false, c.requires.places.each i inside) in
             subst (λ x. place_for c.args.self.now (slice_index lane x) < c.args.count) same here
       ];
     }

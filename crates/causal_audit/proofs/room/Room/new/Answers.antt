@@ -11,6 +11,7 @@ returns-clause-unused c =
     let holders = c.in_ok-holders.ensures.items_if_clones_equal (λ y h. h) in
     let stable = c.in_ok-stable.ensures.items_if_clones_equal (λ y h. h) in
     let dependents = c.in_ok-dependents.ensures.items_if_clones_equal (λ y h. h) in
+    let gathered = c.in_ok-gathered.ensures.items_if_clones_equal (λ y h. h) in
     let counted = ap length dependents ∙ replicate_count (c.args.to - from) c.none-2.result in
     let ends : c.args.to ≡ from + length c.in_ok-dependents.dependents.items = omega (arith, counted, c.requires.0) in
     let count : c.args.to - lowest ≡ from + length c.in_ok-dependents.dependents.items - lowest = ap (λ n. n - lowest) ends in
@@ -20,4 +21,5 @@ returns-clause-unused c =
       holders = holders ∙ (λ j. replicate (count j) (c.none.ensures j));
       stable = stable ∙ (λ j. replicate (count j) false);
       dependents = dependents ∙ (λ j. replicate (sym counted j) (c.none-2.ensures j));
+      gathered = gathered ∙ (λ j. replicate (count j) (c.none-3.ensures j));
     }

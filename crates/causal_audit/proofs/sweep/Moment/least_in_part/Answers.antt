@@ -1,12 +1,14 @@
-use Rattle.std.proofs.Common.{◌≡◌, ◌+◌, ◌<◌, ◌≤◌, length, arith, sym, subst}
+use Rattle.std.proofs.Common.{◌≡◌, ◌+◌, ◌<◌, ◌≤◌, length, arith, sym, subst, ◌∙◌}
 use Rattle.std.specs.Prelude.{slice_index}
 use Rattle.causal_audit.specs.Courses.{end_of}
 use Rattle.causal_audit.specs.Inside.Courses.{run_read}
-use Rattle.causal_audit.specs.Inside.Moments.{LeastOf}
+use Rattle.causal_audit.specs.Inside.Moments.{IsSpared, LeastOf}
 use Rattle.causal_audit.specs.Inside.Newly.{is_between}
-use Rattle.causal_audit.proofs.Newly.{with_next, position_of, rest_to_come}
+use Rattle.causal_audit.proofs.Newly.{with_next, without_next, position_of, rest_to_come}
+use Rattle.causal_audit.proofs.Gathered.{told_none}
 use Rattle.causal_audit.proofs.Numbered.{deliveries_few}
 use Rattle.causal_audit.proofs.sweep.Moment.least_in_part.Goals as goal
+use Rattle.causal_audit.proofs.sweep.Moment.least_in_part.Goals.{then-is_open, else-is_open}
 
 pub overflow_cast-end : goal.overflow_cast-end
 overflow_cast-end c = omega (arith, c.len.ensures, c.requires.moment.seen.part, deliveries_few (run_read c.args.self.now.reading).past, c.requires.moment.reading.short)
@@ -30,9 +32,19 @@ loop-i-preserved c =
     let to = end_of c.args.room.now in
     let i = c.loop-i.i in
     let between : (from ≤ i) × (i < to) = (omega (arith, c.loop-i.auto.i), omega (arith, c.loop-i-test.true, c.len.ensures)) in
-    let place = position_of r.past i (omega (arith, between.1, c.requires.moment.seen.part)) in
-    subst (LeastOf c.args.self.now c.args.room.now (λ x. is_between from (i + 1) x)) (sym c.earlier-least.ensures)
-    (with_next r c.args.self.now.f c.args.self.now.t from to i place.0 c.loop-i.least c.found.result between place.1 (c.found.ensures place.0 place.1) c.loop-i.invariant)
+    let part = c.args.room.now in
+    let f = c.args.self.now.f in
+    let t = c.args.self.now.t in
+    elim c.if-is_open.branch [
+      | then-is_open w ↦
+          let place = position_of r.past i (omega (arith, between.1, c.requires.moment.seen.part)) in
+          subst (LeastOf c.args.self.now part (λ x. is_between from (i + 1) x)) (sym (w.least-is ∙ w.earlier-least.ensures))
+          (with_next r f t from to i place.0 c.loop-i.least w.found.result between place.1 (w.found.ensures place.0 place.1) c.loop-i.invariant)
+      | else-is_open w ↦
+          let none = told_none c.is_open.result (IsSpared c.args.self.now part i) w.if-is_open.false c.is_open.ensures.safe in
+          subst (LeastOf c.args.self.now part (λ x. is_between from (i + 1) x)) (sym w.least-is)
+          (without_next r f t from to i c.loop-i.least (λ k numbered has. none k between numbered has) c.loop-i.invariant)
+    ]
 
 pub returns : goal.returns
 returns c =
