@@ -1,3 +1,4 @@
+mod BeginningLemmas
 mod Commas
 mod JudgementLemmas
 mod PartLemmas

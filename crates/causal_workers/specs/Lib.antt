@@ -1,3 +1,4 @@
+pub mod Beginnings
 pub mod Judgements
 pub mod Lines
 pub mod Parts

@@ -2,6 +2,9 @@
 //!
 //! The deliveries of a trace are divided into consecutive parts, one for each worker. The parts' answers are joined, so
 //! the verdict is the same for every number of workers.
+//!
+//! Begin at [`audit`] for a trace, or [`audit_text`] for its text; both take a [`Gate`], of which [`OpenGate`] lets all through.
+//! [`verdict_line`] prints what they answer.
 #![tactic(auto)]
 
 pub mod divided;

@@ -1,9 +1,7 @@
 use Rattle.std.proofs.Common.{subst, length}
 use Rattle.causal_trace.specs.Past.{deliveries_in}
-use Rattle.causal_audit.specs.Breaches.{LeastBreach, LeastBreachBy, deciding}
-use Rattle.causal_audit.specs.Courses.{up_to}
+use Rattle.causal_audit.specs.Breaches.{LeastBreachBy, deciding}
 use Rattle.causal_audit.proofs.Lemmas.OneVerdict.{one_verdict}
-use Rattle.causal_audit.proofs.Lemmas.UpTo.{least_up_to}
 use Rattle.causal_workers.proofs.divided.audit.Goals as goal
 
 pub returns-clause-verdict : goal.returns-clause-verdict
@@ -13,9 +11,7 @@ returns-clause-verdict g c =
     let excess = c.first_excess_in-excess.result in
     let end = c.deciding_in-end.result in
     let least = c.in_ok-least.least in
-    let early : LeastBreach (up_to r end) f 0 (deliveries_in (up_to r end).past) least =
-    subst (λ s. LeastBreach s f 0 (deliveries_in s.past) least) c.in_ok-course.ensures c.in_ok-least.ensures.least in
-    let by : LeastBreachBy r f end 0 (deliveries_in r.past) least = least_up_to r f end least (c.deciding_in-end.ensures.within f c.first_excess_in-excess.ensures) early in
+    let by : LeastBreachBy r f end 0 (deliveries_in r.past) least = c.in_ok-course.ensures least c.in_ok-least.ensures.least in
     let bounded : LeastBreachBy r f (deciding (length r.past) excess) 0 (deliveries_in r.past) least =
     subst (λ end. LeastBreachBy r f end 0 (deliveries_in r.past) least) c.deciding_in-end.ensures.value by in
     c.decided.ensures.bounded r f c.first_excess_in-excess.ensures bounded
