@@ -1,5 +1,5 @@
 -- Cutting runs that have gone on.
-use Rattle.std.proofs.Common.{◌≡◌, ◌≤◌, ◌+◌, ◌-◌, ◌∙◌, sym, refl, ap, ℕ, List, [], ◌∷◌, ◌++◌, length, take, drop, count_by, reverse, append-nil, length-drop, append_assoc, arith}
+use Rattle.std.proofs.Common.{◌≡◌, ◌≤◌, ◌+◌, ◌-◌, ◌∙◌, sym, refl, ap, ℕ, List, [], ◌∷◌, ◌++◌, length, take, drop, count_by, reverse, append-nil, append_assoc, arith}
 use Rattle.std.proofs.lemmas.List.{reverse-reverse, length-reverse}
 use Rattle.std.proofs.Math.Seq.{take-append-add, drop-append-add}
 use Rattle.causal_trace.specs.declared.entry.Entry.{Entry}
@@ -49,10 +49,6 @@ pub cut-whole : (r : Run) (n : ℕ) → n ≡ instant r → cut r n ≡ r
 unfolding cut
 cut-whole r n is = let none : instant r - n ≡ 0 = omega (arith, is) in ap (λ k. shortened k r) none
 
-pub instant-cut : (r : Run) (n : ℕ) → n ≤ instant r → instant (cut r n) ≡ n
-unfolding cut
-instant-cut r n le = omega (arith, length-drop (instant r - n) r.recording.past, le)
-
 -- the run has gone on: it is no shorter, and it is the same up to where it was
 pub record Longer (old new : Run) : Type 0 where
   pub later : instant old ≤ instant new
@@ -83,6 +79,3 @@ IsStep-extended r request reply es legal = record {
 
 pub IsStep-step : (old new : Run) (request : Request) (reply : Reply) → Steps old request reply new → IsStep old request reply new
 IsStep-step old new request reply step = rw step.grown (IsStep-extended old request reply step.appended step.legal)
-
-pub Steps-step : (old new : Run) (request : Request) (reply : Reply) → IsStep old request reply new → Steps old request reply new
-Steps-step old new request reply step = record { appended = since (instant old) new; grown = step.grown; legal = step.legal }

@@ -11,7 +11,7 @@ use Rattle.causal_protocol.specs.Steps.{Steps}
 use Rattle.causal_shared.specs.declared.item.Item.{Item}
 use Rattle.causal_shared.specs.declared.item.KeptSeat.{KeptSeat}
 use Rattle.causal_shared.specs.Limits.{max_items}
-use Rattle.causal_shared.specs.History.{instant, cut, IsStep, next_first, AllLegal, items_of, last_of, IsHistory, item_at, IsKept, AllKept, Shows, Keeps, kept_after, count_at, fresh_seat, Held, Holds, Sees}
+use Rattle.causal_shared.specs.History.{instant, cut, IsStep, next_first, AllLegal, items_of, last_of, IsHistory, item_at, FitsHistory, AllKept, Shows, Keeps, kept_after, count_at, fresh_seat, Held, Holds, Sees}
 use Rattle.causal_shared.proofs.Lists.{slice_get-append, slice_get-append_seam, slice_get-set_same, slice_get-set_other, slice_get-snoc, slice_get-last}
 use Rattle.causal_trace.specs.Past.{det_at}
 use Rattle.causal_protocol.specs.declared.request.Request.{Request}
@@ -95,8 +95,8 @@ count_at-le run items seats seat kept inside =
     omega (arith, is, as_count, few)
 
 -- what is kept of another seat fits the longer history
-IsKept-snoc_other : (run new : Run) (items : List Item) (item : Item) (seat : ℕ) (kept : KeptSeat) → item.seat ≢ seat → instant run ≤ instant new → IsKept run items seat kept → IsKept new (items ++ item ∷ []) seat kept
-IsKept-snoc_other run new items item seat kept other longer was = record {
+FitsHistory-snoc_other : (run new : Run) (items : List Item) (item : Item) (seat : ℕ) (kept : KeptSeat) → item.seat ≢ seat → instant run ≤ instant new → FitsHistory run items seat kept → FitsHistory new (items ++ item ∷ []) seat kept
+FitsHistory-snoc_other run new items item seat kept other longer was = record {
   count = rw (items_of-snoc_other items item seat other) was.count;
   seen = omega (arith, was.seen);
   placed = by_place kept.last was.placed;
@@ -112,8 +112,8 @@ IsKept-snoc_other run new items item seat kept other longer was = record {
     by_item (Some p) h = slice_get-append items (item ∷ []) p h
 
 -- what is kept of the item's seat fits it too
-IsKept-snoc : (new : Run) (items : List Item) (item : Item) (place : ℕ) → place ≡ length items → item.call ≡ length (items_of item.seat items) → IsKept new (items ++ item ∷ []) item.seat (kept_after item (instant new) place)
-IsKept-snoc new items item place at call = record {
+FitsHistory-snoc : (new : Run) (items : List Item) (item : Item) (place : ℕ) → place ≡ length items → item.call ≡ length (items_of item.seat items) → FitsHistory new (items ++ item ∷ []) item.seat (kept_after item (instant new) place)
+FitsHistory-snoc new items item place at call = record {
   count = rw (items_of-snoc items item) (omega (arith, call, length-append (items_of item.seat items) (item ∷ [])));
   seen = omega arith;
   placed = omega (arith, at, length-append items (item ∷ []));
@@ -123,17 +123,17 @@ IsKept-snoc new items item place at call = record {
 pub AllKept-snoc : (run new : Run) (items : List Item) (seats : List KeptSeat) (item : Item) (place : ℕ) → AllKept run items seats → instant run ≤ instant new → place ≡ length items → item.seat < length seats → item.call ≡ length (items_of item.seat items) → AllKept new (items ++ item ∷ []) (slice_set seats item.seat (kept_after item (instant new) place))
 AllKept-snoc run new items seats item place kept longer at inside call seat k is = elim (either_seat item.seat seat) [
   | inl same ↦ mine seat same is
-  | inr other ↦ IsKept-snoc_other run new items item seat k other longer (kept seat k (sym (slice_get-set_other seats item.seat seat (kept_after item (instant new) place) other) ∙ is))
+  | inr other ↦ FitsHistory-snoc_other run new items item seat k other longer (kept seat k (sym (slice_get-set_other seats item.seat seat (kept_after item (instant new) place) other) ∙ is))
 ]
   where
-    mine : (seat : ℕ) → item.seat ≡ seat → slice_get (slice_set seats item.seat (kept_after item (instant new) place)) seat ≡ Some k → IsKept new (items ++ item ∷ []) seat k
+    mine : (seat : ℕ) → item.seat ≡ seat → slice_get (slice_set seats item.seat (kept_after item (instant new) place)) seat ≡ Some k → FitsHistory new (items ++ item ∷ []) seat k
     mine seat same is =
-        let P : ℕ → Type 0 = λ s. IsKept new (items ++ item ∷ []) s k in
-        let Q : KeptSeat → Type 0 = λ k. IsKept new (items ++ item ∷ []) item.seat k in
+        let P : ℕ → Type 0 = λ s. FitsHistory new (items ++ item ∷ []) s k in
+        let Q : KeptSeat → Type 0 = λ k. FitsHistory new (items ++ item ∷ []) item.seat k in
         let found = slice_get-set_same seats item.seat (kept_after item (instant new) place) inside in
         let there : slice_get (slice_set seats item.seat (kept_after item (instant new) place)) item.seat ≡ Some k = ap (λ s. slice_get (slice_set seats item.seat (kept_after item (instant new) place)) s) same ∙ is in
         let k_is : kept_after item (instant new) place ≡ k = cc in
-        subst P same (subst Q k_is (IsKept-snoc new items item place at call))
+        subst P same (subst Q k_is (FitsHistory-snoc new items item place at call))
 
 -- what a run shows it shows as it goes on
 Shows-step : (old new : Run) (request : Request) (reply : Reply) (item : Item) → Steps old request reply new → Shows old.recording.past item → Shows new.recording.past item
@@ -169,7 +169,7 @@ slice_get-replicate (suc k) (suc seat) x kept is = slice_get-replicate k seat x 
 pub Keeps-new : (r : Run) (k seen : ℕ) (items : List Item) (seats : List KeptSeat) → items ≡ [] → seats ≡ replicate k (fresh_seat seen) → seen ≡ instant r → Keeps r items seats
 Keeps-new r k seen items seats none seats_are sees = rw (none, seats_are) record {
   legal = record { legal = tt; numbered = λ seat k item is. absurd cc };
-  kept = λ seat kept is. subst (λ (kept : KeptSeat). IsKept r [] seat kept) (slice_get-replicate k seat (fresh_seat seen) kept is) record { count = refl; seen = omega (arith, sees); placed = tt; last = refl };
+  kept = λ seat kept is. subst (λ (kept : KeptSeat). FitsHistory r [] seat kept) (slice_get-replicate k seat (fresh_seat seen) kept is) record { count = refl; seen = omega (arith, sees); placed = tt; last = refl };
   shown = λ k item is. absurd cc;
 }
 
@@ -189,10 +189,10 @@ AllKept-seen run items seats at k seen inside is few kept seat k' found = elim (
   | inr other ↦ kept seat k' (sym (slice_get-set_other seats at seat (record k { seen = seen }) other) ∙ found)
 ]
   where
-    mine : (seat : ℕ) → at ≡ seat → slice_get (slice_set seats at (record k { seen = seen })) seat ≡ Some k' → IsKept run items seat k'
+    mine : (seat : ℕ) → at ≡ seat → slice_get (slice_set seats at (record k { seen = seen })) seat ≡ Some k' → FitsHistory run items seat k'
     mine seat same found =
-        let P : ℕ → Type 0 = λ s. IsKept run items s k' in
-        let Q : KeptSeat → Type 0 = λ k. IsKept run items at k in
+        let P : ℕ → Type 0 = λ s. FitsHistory run items s k' in
+        let Q : KeptSeat → Type 0 = λ k. FitsHistory run items at k in
         let was = kept at k is in
         let set = slice_get-set_same seats at (record k { seen = seen }) inside in
         let there : slice_get (slice_set seats at (record k { seen = seen })) at ≡ Some k' = ap (λ s. slice_get (slice_set seats at (record k { seen = seen })) s) same ∙ found in

@@ -8,7 +8,8 @@ use Rattle.causal_protocol.specs.Run.{Run}
 use Rattle.causal_shared.specs.declared.item.Item.{Item}
 use Rattle.causal_shared.specs.History.{instant, cut, next_first, AllLegal}
 use Rattle.causal_shared.specs.Shared.{Opening, opening_from}
-use Rattle.causal_shared.specs.Finish.{before_items, entries_before}
+use Rattle.causal_shared.specs.Finish.{before_items}
+use Rattle.causal_shared.specs.Inside.Settled.{entries_before}
 use Rattle.causal_shared.proofs.Cuts.{cut-whole}
 use Rattle.causal_shared.proofs.Histories.{next_first-le}
 

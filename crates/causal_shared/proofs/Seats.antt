@@ -18,7 +18,8 @@ use Rattle.causal_shared.specs.declared.fault.SharedFault.{SharedFault}
 use Rattle.causal_shared.specs.declared.fault.SharedFault.TheVariants as Fault
 use Rattle.causal_trace.specs.Rows.{Recording}
 use Rattle.causal_shared.specs.declared.item.Snapshot.{Snapshot}
-use Rattle.causal_shared.specs.Seat.{heard, shared_of, Sitting, SeatState, MayCall, IsSeated, with_item, ItemSection, SeesEntries}
+use Rattle.causal_shared.specs.Seat.{heard, Sitting, SeatState, with_item, SeesEntries}
+use Rattle.causal_shared.specs.Inside.Seated.{shared_of, MayCall, IsSeated, ItemSection}
 use Rattle.causal_protocol.proofs.Lemmas.Telling.{replies_tell_entries}
 
 -- a seat has seen no more than there is

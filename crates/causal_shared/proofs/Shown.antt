@@ -9,11 +9,9 @@ use Rattle.causal_name.specs.declared.Pid.{Pid}
 use Rattle.causal_protocol.specs.declared.request.Request.TheVariants as Ask
 use Rattle.causal_protocol.specs.declared.request.Reply.TheVariants as Told
 use Rattle.causal_protocol.specs.declared.request.Delivered.{Delivered}
-use Rattle.causal_protocol.specs.declared.request.Restarted.{Restarted}
 use Rattle.causal_protocol.specs.declared.request.CoreFault.{CoreFault}
-use Rattle.causal_protocol.specs.declared.request.FlushFault.{FlushFault}
 use Rattle.causal_protocol.specs.Run.{Run}
-use Rattle.causal_protocol.specs.Steps.{pushed, LegalStep, Steps, told_delivery, told_crash, told_restart, told_flush, told_forget}
+use Rattle.causal_protocol.specs.Steps.{pushed, LegalStep, Steps, told_delivery}
 use Rattle.causal_shared.specs.declared.item.Item.{Item}
 use Rattle.causal_shared.specs.History.{instant, Shows}
 
@@ -44,20 +42,3 @@ shows_delivery old new q source ssn (Ok told) item step det is first d reply =
     let place : item.first ≡ told.first = first ∙ sym step.legal.1 in
     ap (det_at new.recording.past) place ∙ det ∙ ap (λ (x : Delivered). Some x.det) same
 shows_delivery old new q source ssn (Err fault) item step det is first d reply = absurd (let x : Told.Refused fault ≡ Told.Delivered d = sym is ∙ reply in cc)
-
--- an item that tells no delivery has nothing to show
-pub shows_crash : (past : List Entry) (answer : Result ℕ CoreFault) (item : Item) → item.reply ≡ told_crash answer → Shows past item
-shows_crash past (Ok first) item is d reply = absurd (let x : Told.Crashed first ≡ Told.Delivered d = sym is ∙ reply in cc)
-shows_crash past (Err fault) item is d reply = absurd (let x : Told.Refused fault ≡ Told.Delivered d = sym is ∙ reply in cc)
-
-pub shows_restart : (past : List Entry) (answer : Result Restarted CoreFault) (item : Item) → item.reply ≡ told_restart (λ fault. fault) answer → Shows past item
-shows_restart past (Ok told) item is d reply = absurd (let x : Told.Restarted told ≡ Told.Delivered d = sym is ∙ reply in cc)
-shows_restart past (Err fault) item is d reply = absurd (let x : Told.Refused fault ≡ Told.Delivered d = sym is ∙ reply in cc)
-
-pub shows_flush : (past : List Entry) (answer : Result ℕ FlushFault) (item : Item) → item.reply ≡ told_flush answer → Shows past item
-shows_flush past (Ok count) item is d reply = absurd (let x : Told.Flushed count ≡ Told.Delivered d = sym is ∙ reply in cc)
-shows_flush past (Err fault) item is d reply = absurd (let x : Told.FlushRefused fault ≡ Told.Delivered d = sym is ∙ reply in cc)
-
-pub shows_forget : (past : List Entry) (answer : Result ℕ CoreFault) (item : Item) → item.reply ≡ told_forget answer → Shows past item
-shows_forget past (Ok count) item is d reply = absurd (let x : Told.Forgotten count ≡ Told.Delivered d = sym is ∙ reply in cc)
-shows_forget past (Err fault) item is d reply = absurd (let x : Told.Refused fault ≡ Told.Delivered d = sym is ∙ reply in cc)

@@ -1,7 +1,5 @@
 -- What holds when a shared runtime is finished.
-use Rattle.std.specs.Prelude.{◌≡◌, ◌≢◌, ◌≤◌, ◌<◌, ℕ, List, [], ◌∷◌, take, length, sum_by, All, AllPairs, Any, ◌⊎◌}
-use Rattle.causal_trace.specs.declared.entry.Entry.{Entry}
-use Rattle.causal_trace.specs.Rows.{Recording}
+use Rattle.std.specs.Prelude.{◌≡◌, ◌≢◌, ◌<◌, ℕ, List, length, sum_by, All, AllPairs, Any}
 use Rattle.causal_protocol.specs.Run.{Run}
 use Rattle.causal_shared.specs.declared.item.Item.{Item}
 use Rattle.causal_shared.specs.History.{items_of, opening_in}
@@ -23,11 +21,6 @@ AreSeatsOf shared seats = IsComplete (tag_of shared) (seats_of_shared shared) se
 abbrev pub Agrees : List Item → SeatState → Type 0
 Agrees history seat = items_of seat.sitting.number history ≡ seat.sitting.items
 
--- the least number of a seat whose own list is not the history's part of it
-pub record IsLeastMismatch (history : List Item) (seats : List SeatState) (n : ℕ) : Type 0 where
-  pub here : Any (λ (seat : SeatState). (seat.sitting.number ≡ n) × ¬ Agrees history seat) seats
-  pub least : All (λ (seat : SeatState). ¬ Agrees history seat → n ≤ seat.sitting.number) seats
-
 -- the item is of one of the seats
 pub record HasSeat (seats : List SeatState) (item : Item) : Type 0 where
   pub seat : Any (λ (seat : SeatState). seat.sitting.number ≡ item.seat) seats
@@ -36,10 +29,6 @@ pub record HasSeat (seats : List SeatState) (item : Item) : Type 0 where
 pub record AllSeated (seats : List SeatState) (history : List Item) : Type 0 where
   pub each : All (HasSeat seats) history
 
--- the least number of a seat whose own list is not the history's part of it, or 0 where there are items of no seat
-abbrev pub IsMismatch : List Item → List SeatState → ℕ → Type 0
-IsMismatch history seats n = IsLeastMismatch history seats n ⊎ ((n ≡ 0) × ¬ AllSeated seats history)
-
 -- how many items the seats have together
 abbrev pub items_together : List SeatState → ℕ
 items_together seats = sum_by (λ (seat : SeatState). length seat.sitting.items) seats
@@ -47,12 +36,3 @@ items_together seats = sum_by (λ (seat : SeatState). length seat.sitting.items)
 -- what was recorded before the first item, and for how many failures
 abbrev pub before_items : Run → List Item → Opening
 before_items r history = opening_from (opening_in r history).recording r.faults
-
--- before the first item just this was recorded, and it ran for so many failures
-abbrev pub BeginsAt : Run → List Item → Recording → ℕ → Type 0
-BeginsAt r history recording faults = before_items r history ≡ opening_from recording faults
-
--- the entries before the first item, in the order in which they came
-abbrev pub entries_before : List Entry → List Item → List Entry
-entries_before entries [] = entries
-entries_before entries (item ∷ _) = take item.first entries

@@ -74,7 +74,7 @@ item_at items None = None
 item_at items (Some place) = slice_get items place
 
 -- what is kept of a seat fits the history
-pub record IsKept (r : Run) (items : List Item) (seat : ℕ) (kept : KeptSeat) : Type 0 where
+pub record FitsHistory (r : Run) (items : List Item) (seat : ℕ) (kept : KeptSeat) : Type 0 where
   pub count : kept.count ≡ length (items_of seat items)
   pub seen : kept.seen ≤ instant r
   pub placed : IfSome kept.last (λ place. place < length items)
@@ -82,7 +82,7 @@ pub record IsKept (r : Run) (items : List Item) (seat : ℕ) (kept : KeptSeat) :
 
 -- what is kept of each seat does
 abbrev pub AllKept : Run → List Item → List KeptSeat → Type 0
-AllKept r items seats = (seat : ℕ) (kept : KeptSeat) → slice_get seats seat ≡ Some kept → IsKept r items seat kept
+AllKept r items seats = (seat : ℕ) (kept : KeptSeat) → slice_get seats seat ≡ Some kept → FitsHistory r items seat kept
 
 -- the entries have the delivery that an item tells, at the item's place
 abbrev pub Shows : List Entry → Item → Type 0

@@ -2,3 +2,5 @@
 pub mod Props
 pub mod Noting
 pub mod Sections
+pub mod Seated
+pub mod Settled

@@ -12,8 +12,7 @@ use Rattle.causal_shared.specs.declared.fault.SharedFault.{SharedFault}
 use Rattle.causal_shared.specs.declared.fault.SharedFault.TheVariants.{Core, Flush, NoRecord}
 use Rattle.causal_shared.specs.declared.fault.LockedFault.{LockedFault}
 use Rattle.causal_shared.specs.declared.fault.LockedFault.TheVariants as Refusal
-use Rattle.causal_shared.specs.History.{item_of, last_of, instant, count_at, Shows, Held, Holds, AddsItem}
-use Rattle.causal_shared.specs.Limits.{max_items}
+use Rattle.causal_shared.specs.History.{item_of, last_of, Shows}
 use Rattle.causal_protocol.specs.Telling.{told_entries}
 
 -- a seat's number, its runtime's tag, its own list, and how many entries it has seen
@@ -70,46 +69,16 @@ abbrev pub heard_restart : {B : Type 0} → Result Restarted (SharedRefused B) �
 heard_restart (Ok restarted) = Some (Again restarted)
 heard_restart (Err refused) = heard_fault refused.fault
 
--- the fault of a refused restart
-abbrev pub refusal_of : {A B : Type 0} → Result A (SharedRefused B) → Option SharedFault
-refusal_of (Ok a) = None
-refusal_of (Err refused) = Some refused.fault
-
 -- what one item call does to its seat
 abbrev pub SeatCall : Sitting → Sitting → Request → Option Reply → Type 0
 SeatCall seat seat' request None = seat' ≡ seat
 SeatCall seat seat' request (Some reply) = Calls seat seat' request reply
-
--- one section of the lock for an item call: the item stands in the history and in the seat's own list, or nothing is
--- changed
-abbrev pub ItemSection : Held → Held → Sitting → Sitting → Request → Option Reply → Type 0
-ItemSection old new seat seat' request None = (new ≡ old) × (seat' ≡ seat)
-ItemSection old new seat seat' request (Some reply) =
-    AddsItem old new seat.number (length seat.items) request reply × Calls seat seat' request reply
-
--- the seat is of this runtime and as it is kept
-abbrev pub IsSeated : ℕ → Held → Sitting → Type 0
-IsSeated tag held seat = (seat.tag ≡ tag) × Holds held seat.number (length seat.items) seat.seen (last_of seat.items)
-
--- the seat may make an item call, whose item begins here
-pub record MayCall (held : Held) (seat : SeatState) (first : ℕ) : Type 0 where
-  pub begins : first ≡ instant held.run
-  pub later : seat.sitting.seen ≤ first
-  pub inside : seat.sitting.number < length held.seats
-  pub counted : length seat.sitting.items ≡ count_at held.seats seat.sitting.number
-  pub room : length held.history < max_items
-  pub few : length seat.sitting.items < max_items
-  pub spare : 1 ≤ seat.spare
 
 -- what a seat is told of what the locked value answered
 abbrev pub fault_of : LockedFault → SharedFault
 fault_of (Refusal.Core fault) = Core fault
 fault_of (Refusal.Flush fault) = Flush fault
 fault_of Refusal.NoRecord = NoRecord
-
-abbrev pub shared_of : {A : Type 0} → Result A LockedFault → Result A SharedFault
-shared_of (Ok a) = Ok a
-shared_of (Err fault) = Err (fault_of fault)
 
 -- what a copy of the entries tells a seat: no fewer than it had seen, and its last delivery among them
 pub record SeesEntries (old new : Sitting) (past : List Entry) : Type 0 where

@@ -2,8 +2,9 @@
 ghost use Rattle.std.specs.Prelude.{◌≡◌, ◌≢◌, ◌<◌, ◌≤◌, ◌↔◌, ℕ, All, AllPairs, Any, IsTrue, IfSome, IfNone};
 ghost use Rattle.causal_shared.specs.History.{items_of, AllLegal};
 ghost use Rattle.causal_core.specs.CoreView.{run_of};
-ghost use Rattle.causal_shared.specs.Finish.{Agrees, IsComplete, IsLeastMismatch, HasSeat, AllSeated};
-ghost use Rattle.causal_shared.specs.Finish.{BeginsAt, entries_before};
+ghost use Rattle.causal_shared.specs.Finish.{Agrees, IsComplete, HasSeat, AllSeated};
+ghost use Rattle.causal_shared.specs.Inside.Settled.{IsLeastMismatch};
+ghost use Rattle.causal_shared.specs.Inside.Settled.{BeginsAt, entries_before};
 
 use crate::item::Item;
 use crate::same::{same_entry, same_item};

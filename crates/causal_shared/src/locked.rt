@@ -1,12 +1,10 @@
 //! The value behind the lock.
-ghost use Rattle.std.specs.Prelude.{◌≡◌, ℕ, ◌+◌, ◌<◌, ◌≤◌, ◌↔◌, [], ◌∷◌, ◌++◌, length, replicate, slice_set, slice_get};
+ghost use Rattle.std.specs.Prelude.{◌≡◌, ◌+◌, ◌<◌, ◌≤◌, ◌↔◌, [], ◌∷◌, ◌++◌, length, slice_get};
 ghost use Rattle.std.specs.Prelude.{vec_len, vec_capacity, IfOk, IfErr, OnOk, OnErr, IsTrue};
 ghost use Rattle.std.specs.Option.{option_copied};
 ghost use Rattle.causal_core.specs.CoreView.{run_of};
-ghost use Rattle.causal_protocol.specs.Run.{Run};
-ghost use Rattle.causal_protocol.specs.Steps.{Steps};
 ghost use Rattle.causal_shared.specs.History.{Keeps, IsHistory, Holds, Sees};
-ghost use Rattle.causal_shared.specs.History.{instant, fresh_seat, count_at, with_kept, item_at};
+ghost use Rattle.causal_shared.specs.History.{instant, count_at, with_kept, item_at};
 ghost use Rattle.causal_shared.specs.Inside.Noting.{GoesOn};
 ghost use Rattle.causal_shared.specs.Limits.{max_items, max_seats};
 ghost use Rattle.causal_protocol.specs.Steps.{told_restart as restart_says};

@@ -1,7 +1,7 @@
 //! What an item tells of an answer, if there is one.
 ghost use Rattle.std.specs.Prelude.{◌≡◌};
 ghost use Rattle.causal_shared.specs.Locked.{told, told_fault, told_restart};
-ghost use Rattle.causal_shared.specs.Seat.{shared_of};
+ghost use Rattle.causal_shared.specs.Inside.Seated.{shared_of};
 ghost use Rattle.causal_protocol.specs.declared.request.Reply.TheVariants as Told;
 
 use crate::fault::{LockedFault, SharedFault};

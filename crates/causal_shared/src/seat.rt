@@ -5,13 +5,18 @@ ghost use Rattle.std.specs.Option.{option_copied};
 ghost use Rattle.causal_protocol.specs.declared.request.Request.TheVariants as Ask;
 ghost use Rattle.causal_protocol.specs.declared.request.Reply.TheVariants as Told;
 ghost use Rattle.causal_shared.specs.Limits.{max_items};
-ghost use Rattle.causal_core.specs.Pendings.{pending_in};
+ghost use Rattle.causal_protocol.specs.Steps.{reason_of};
+ghost use Rattle.causal_core.specs.Pendings.{pending_fault, pending_in};
+ghost use Rattle.causal_protocol.specs.declared.request.CoreFault.{CoreFault};
+ghost use Rattle.causal_shared.specs.History.{Sees};
 ghost use Rattle.causal_protocol.specs.Run.{memories_of};
 ghost use Rattle.causal_shared.specs.Inside.Sections.{Hears, Sections};
 ghost use Rattle.causal_shared.specs.Locked.{held_of, AnswersAs, IsSnapshot, IsSafeSnapshot};
 ghost use Rattle.causal_shared.specs.Pending.{AreAscending};
-ghost use Rattle.causal_shared.specs.Seat.{heard, heard_fault, heard_restart, refusal_of, with_item};
-ghost use Rattle.causal_shared.specs.Seat.{IsSeated, MayCall, SeesEntries};
+ghost use Rattle.causal_shared.specs.Seat.{heard, heard_fault, heard_restart, with_item};
+ghost use Rattle.causal_shared.specs.Inside.Seated.{refusal_of};
+ghost use Rattle.causal_shared.specs.Seat.{SeesEntries};
+ghost use Rattle.causal_shared.specs.Inside.Seated.{IsSeated, MayCall};
 
 use crate::fault::SharedFault;
 use crate::item::{Item, Snapshot};
@@ -302,7 +307,10 @@ pub(crate) fn snapshot_under<S: Stable>(
     ensures copy { IfOk result (IsSnapshot (held_of locked.old)) }
     ensures safe { IfOk result IsSafeSnapshot }
     ensures seen { IfOk result (λ s. SeesEntries seat.old.sitting seat.new.sitting s.trace.recording.past) }
+    ensures sees { OnOk result (Sees (held_of locked.old) (held_of locked.new) seat.old.sitting.number) }
     ensures err { OnErr result (seat.new.sitting ≡ seat.old.sitting) }
+    ensures unchanged { OnErr result (held_of locked.new ≡ held_of locked.old) }
+    ensures wrong { result ≡ Err SharedFault.WrongSeat ↔ ¬ IsSeated tag (held_of locked.old) seat.old.sitting }
 {
     if !is_seated(locked, tag, seat) {
         return Err(SharedFault::WrongSeat);
@@ -323,6 +331,8 @@ pub(crate) fn pending_under<S: Stable>(
 ) -> Result<Vec<MsgName>, SharedFault>
     ensures ok { IfOk result (λ names. names.items ≡ pending_in (memories_of (held_of locked.now).run) q) }
     ensures ascends { IfOk result (λ names. AreAscending names.items) }
+    ensures refused { (fault : CoreFault) → result ≡ Err (SharedFault.Core fault)
+        → pending_fault (held_of locked.now).run q ≡ reason_of fault }
     ensures wrong { result ≡ Err SharedFault.WrongSeat ↔ ¬ IsSeated tag (held_of locked.now) seat.now.sitting }
 {
     if !is_seated(locked, tag, seat) {

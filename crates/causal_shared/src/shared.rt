@@ -8,8 +8,10 @@ ghost use Rattle.causal_protocol.specs.declared.request.Reply.TheVariants as Tol
 ghost use Rattle.causal_shared.specs.History.{instant, IsHistory};
 ghost use Rattle.causal_shared.specs.Limits.{max_seats};
 ghost use Rattle.causal_shared.specs.Locked.{held_of, AnswersAs, IsSafeSnapshot};
-ghost use Rattle.causal_shared.specs.Finish.{Agrees, IsComplete, IsMismatch, AllSeated, AreSeatsOf, BeginsAt};
+ghost use Rattle.causal_shared.specs.Finish.{Agrees, IsComplete, AllSeated, AreSeatsOf};
+ghost use Rattle.causal_shared.specs.Inside.Settled.{IsMismatch, BeginsAt};
 ghost use Rattle.causal_shared.specs.Finish.{items_together, before_items};
+ghost use Rattle.causal_shared.specs.Inside.Settled.{HasOtherOpening};
 ghost use Rattle.causal_shared.specs.Pending.{AreAscending};
 ghost use Rattle.causal_shared.specs.Seat.{AreFresh, SeatCall, SeesEntries, heard, heard_restart};
 ghost use Rattle.causal_shared.specs.Shared.{opening_of, tag_of, seats_of_shared};
@@ -247,7 +249,7 @@ fn settle<S: Stable>(
     ensures mismatch { (n : ℕ) → result ≡ Err (FinishFault.Mismatch n)
         → IsMismatch (held_of locked).history seats.now n }
     ensures opened { result ≡ Err FinishFault.Opening
-        → ¬ BeginsAt (held_of locked).run (held_of locked).history opening.now.recording faults }
+        → HasOtherOpening (held_of locked).run (held_of locked).history seats.now opening.now.recording faults }
 {
     if !is_complete(seats, tag, k) {
         return Err(FinishFault::Missing);

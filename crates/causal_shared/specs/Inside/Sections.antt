@@ -5,7 +5,8 @@ use Rattle.causal_protocol.specs.declared.request.Reply.{Reply}
 use Rattle.causal_shared.specs.declared.locked.Locked.{Locked}
 use Rattle.causal_shared.specs.History.{Held}
 use Rattle.causal_shared.specs.Locked.{held_of, ItemCall}
-use Rattle.causal_shared.specs.Seat.{SeatState, MayCall, ItemSection}
+use Rattle.causal_shared.specs.Seat.{SeatState}
+use Rattle.causal_shared.specs.Inside.Seated.{MayCall, ItemSection}
 
 -- where a call was made, the seat has heard of it
 abbrev pub Hears : {S B : Type 0} {Has : _}

@@ -2,7 +2,7 @@ use Rattle.std.proofs.Common.{◌≡◌, ◌∙◌, ap, sym, true, false}
 use Rattle.causal_trace.specs.Rows.{Recording}
 use Rattle.causal_trace.specs.State.{entries_of}
 use Rattle.causal_core.specs.CoreView.{run_of}
-use Rattle.causal_shared.specs.Finish.{entries_before}
+use Rattle.causal_shared.specs.Inside.Settled.{entries_before}
 use Rattle.causal_shared.proofs.Openings.{before_items-is, before_items-entries, before_items-processes}
 use Rattle.causal_shared.proofs.checks.is_opening.Goals as goal
 

@@ -2,7 +2,7 @@ use Rattle.std.proofs.Common.{◌≢◌, ◌≤◌, length, arith, rules}
 use Rattle.std.proofs.lemmas.Grind.{common_steps}
 use Rattle.causal_shared.specs.Limits.{max_items}
 use Rattle.causal_shared.specs.Locked.{held_of}
-use Rattle.causal_shared.specs.Seat.{IsSeated}
+use Rattle.causal_shared.specs.Inside.Seated.{IsSeated}
 use Rattle.causal_shared.proofs.Seats.{MayCall-is}
 use Rattle.causal_shared.proofs.seat.begin.Goals as goal
 

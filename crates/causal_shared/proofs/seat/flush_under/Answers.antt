@@ -3,7 +3,7 @@ use Rattle.causal_protocol.specs.declared.request.Request.TheVariants as Ask
 use Rattle.causal_protocol.specs.declared.request.Reply.TheVariants as Told
 use Rattle.causal_shared.specs.History.{count_at}
 use Rattle.causal_shared.specs.Locked.{held_of, ItemCall}
-use Rattle.causal_shared.specs.Seat.{IsSeated}
+use Rattle.causal_shared.specs.Inside.Seated.{IsSeated}
 use Rattle.causal_shared.proofs.Seats.{heard_told, never_full, not_wrong}
 use Rattle.causal_shared.proofs.seat.flush_under.Goals as goal
 
