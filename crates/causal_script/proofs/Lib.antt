@@ -1,5 +1,5 @@
 pub mod Lemmas
-mod Commands
+mod CommandLines
 mod Cuts
 mod Numbers
 mod Scripts

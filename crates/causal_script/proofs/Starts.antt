@@ -9,7 +9,7 @@ use Rattle.causal_script.specs.Faults.{IsStartLine}
 use Rattle.causal_script.specs.Inside.Reading.{◌>>=◌, cut, number_of, count_of, numbered_start, with_param, tally_of, start_of_kind, named_start, start_of}
 use Rattle.causal_script.proofs.Cuts.{IsCut, cut_whole, cut_front}
 use Rattle.causal_script.proofs.Numbers.{number_of-decimal, decimal-number_of, count_of-decimal, decimal-count_of, decimal_lacks}
-use Rattle.causal_script.proofs.Commands.{bind_some, chosen}
+use Rattle.causal_script.proofs.CommandLines.{bind_some, chosen}
 
 -- ---- from the line
 

@@ -20,7 +20,7 @@ pub record Plan : Type 0 where
   pub commands : List Command
 
 abbrev pub plan_of : Script → Plan
-plan_of s = record { start = record { kind = s.kind; n = s.n; f = s.f; param = s.param }; commands = s.commands.items }
+plan_of s = record { start = record { kind = s.kind; n = s.n; f = s.f; param = s.param }; commands = s.commands }
 
 -- ---- the lines
 

@@ -1,4 +1,7 @@
 //! The script of a run: its text, what it asks of the runtime, and the lines that tell its faults.
+//!
+//! Begin at [`parse_script`], which gives the [`Script`] that a text spells, or its first fault. [`script_line`] and
+//! [`refused_line`] print a fault and a refused command. [`laws`] says that a text has one reading.
 #![tactic(auto)]
 
 mod command;
@@ -11,7 +14,7 @@ mod words;
 
 pub use line::{refused_line, script_line};
 pub use parse::parse_script;
-pub use script::{Command, Kind, Script, ScriptFault, ScriptFaultKind};
+pub use script::{Command, Commands, Kind, Script, ScriptFault, ScriptFaultKind};
 
 #[cfg(test)]
 mod tests;

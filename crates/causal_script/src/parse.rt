@@ -6,7 +6,7 @@ ghost use Rattle.causal_script.specs.Faults.{IsFirstFault, IsReadUpTo};
 ghost use Rattle.causal_script.specs.Inside.Place.{IsBigLine, IsAfter, AreCommands, Reaches, judged};
 
 use crate::command::request;
-use crate::script::{Command, Script, ScriptFault, ScriptFaultKind};
+use crate::script::{Command, Commands, Script, ScriptFault, ScriptFaultKind};
 use crate::start::{Start, first_line};
 use crate::words::cut;
 use std::alloc::Global;
@@ -123,6 +123,6 @@ pub fn parse_script(alloc: Global, bytes: &[u8]) -> Result<Script, ScriptFault>
         n,
         f,
         param,
-        commands,
+        commands: Commands::new(commands),
     })
 }

@@ -1,5 +1,6 @@
 //! What a script says.
 use causal_protocol::request::Request;
+use std::marker::Model;
 use std::vec::Vec;
 use thiserror::Error;
 
@@ -18,6 +19,39 @@ pub struct Command {
     pub request: Request,
 }
 
+/// Commands in order. Contracts see their list.
+#[derive(Debug, Drop)]
+pub struct Commands {
+    commands: Vec<Command>,
+}
+
+impl Model for Commands {
+    ghost use Rattle.std.specs.Prelude.{List};
+    ghost use Rattle.causal_script.specs.declared.script.Command.{Command};
+
+    ghost Value = { List Command };
+
+    ghost view = { λ a. a.commands.items };
+}
+
+impl Commands {
+    ghost use Rattle.std.specs.Prelude.{◌≡◌};
+
+    /// The list that a vector holds.
+    pub fn new(commands: Vec<Command>) -> Commands
+        ensures { result ≡ commands.items }
+    {
+        Commands { commands }
+    }
+
+    /// The commands in their order.
+    pub fn as_slice(&self) -> &[Command]
+        ensures { result.now ≡ self.now }
+    {
+        self.commands.as_slice()
+    }
+}
+
 /// A script: n processes of one kind, of which at most f are down at once, and the commands in their order.
 #[derive(Debug, Drop)]
 pub struct Script {
@@ -27,7 +61,7 @@ pub struct Script {
     pub f: u16,
     /// The hops of a ring, the rounds of an echo; 0 for a tally.
     pub param: u8,
-    pub commands: Vec<Command>,
+    pub commands: Commands,
 }
 
 /// What is wrong with a line of a script.
@@ -45,7 +79,8 @@ pub enum ScriptFaultKind {
 }
 
 /// The first line of a text that is no script, and what is wrong with it.
-#[derive(Clone, Copy, Debug, PartialEq, Eq)]
+#[derive(Clone, Copy, Debug, PartialEq, Eq, Error)]
+#[error("line {line}: {kind}")]
 pub struct ScriptFault {
     pub line: u32,
     pub kind: ScriptFaultKind,

@@ -71,9 +71,9 @@ fn check_commands(
             (script.kind, script.n, script.f, script.param) == start,
             "of {text}"
         );
-        assert_eq!(rt; script.commands.len(), want.len(), "of {text}");
+        assert_eq!(rt; script.commands.as_slice().len(), want.len(), "of {text}");
         let mut line = 2;
-        for (command, request) in script.commands.iter().zip(want) {
+        for (command, request) in script.commands.as_slice().iter().zip(want) {
             let expected = Command {
                 line,
                 request: *request,
@@ -369,12 +369,12 @@ fn a_script_at_the_limit(rt: HostRuntime) -> Result<(), Fail> {
     let parsed = parse_script(alloc, text.as_slice());
     assert!(rt; parsed.is_ok());
     if let Ok(script) = parsed {
-        assert_eq!(rt; script.commands.len(), 131_069);
+        assert_eq!(rt; script.commands.as_slice().len(), 131_069);
         let last = Command {
             line: 131_070,
             request: crash(10),
         };
-        assert!(rt; script.commands.last().copied() == Some(last));
+        assert!(rt; script.commands.as_slice().last().copied() == Some(last));
     }
     text.extend_from_slice(b"\n")?;
     check_told(&rt, alloc, text.as_slice(), "fault line=131071 Big\n")

@@ -15,7 +15,7 @@ use Rattle.causal_script.specs.Spelling.{max_script, Plan, IsStart, IsRequest, S
 use Rattle.causal_script.specs.Faults.{IsInPlace, IsFaultAfter, AreSound, IsFirstFault}
 use Rattle.causal_script.specs.Inside.Reading.{request_of, start_of}
 use Rattle.causal_script.specs.Inside.Place.{IsBigLine, judged}
-use Rattle.causal_script.proofs.Commands.{request_back, commanded, not_commanded, says_request}
+use Rattle.causal_script.proofs.CommandLines.{request_back, commanded, not_commanded, says_request}
 use Rattle.causal_script.proofs.Starts.{start_back, started, not_started, says_start}
 use Rattle.causal_script.proofs.Texts.{line_here, line_past, judged_ok, not_big, sound_none, sound_more, first_fault, feeds_below, length_lines, no_lines, drop_all}
 use Rattle.causal_script.proofs.Scripts.{length_map, empty_fault}

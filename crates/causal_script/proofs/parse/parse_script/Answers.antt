@@ -41,7 +41,7 @@ returns-clause-ok c =
     let after = after_more text text l c.in-Some.rest.now 0 1 c.big_line-big.result c.first_line.result start refl (after_none text) c.in-Some.ensures.parts
     c.big_line-big.ensures (sym c.in_ok-kind.ensures) (λ same. started l start (sym c.first_line.ensures ∙ same)) in
     let r = c.in_ok-commands.ensures.reaches text after c.big_line-big.ensures in
-    spelled text l c.in-Some.rest.now start c.in_ok-commands.commands.items r.0 c.in-Some.ensures.parts says.0 says.1 c.in_ok-commands.ensures.ok r.1
+    rw c.new.ensures (spelled text l c.in-Some.rest.now start c.in_ok-commands.commands.items r.0 c.in-Some.ensures.parts says.0 says.1 c.in_ok-commands.ensures.ok r.1)
 
 pub returns-clause-plan : goal.returns-clause-plan
 returns-clause-plan c = (returns-clause-ok c).plan
