@@ -85,4 +85,4 @@ module _ {B : Type 0} (answers : B → List Input → List (List Outgoing)) wher
 
   -- what is recorded of a run of all the script's commands, from such a start on
   abbrev pub IsRunOf : Script → List B → Recording → Type 0
-  IsRunOf script boxes recording = IsRunFrom (IsStarted script.f boxes) script.commands.items recording
+  IsRunOf script boxes recording = IsRunFrom (IsStarted script.f boxes) script.commands recording

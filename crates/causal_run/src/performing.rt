@@ -99,10 +99,10 @@ pub fn perform<R: Wait>(
     requires some { 1 ≤ script.now.n }
     requires few { script.now.n ≤ 256 }
     requires boxes { length boxes.items ≡ script.now.n }
-    requires spares { length spares.items ≡ spares_in script.now.commands.items }
+    requires spares { length spares.items ≡ spares_in script.now.commands }
     ensures run { IfOk result (λ trace. IsRunOf answers script.now boxes.items trace.recording) }
     ensures safe { IfOk result (λ trace. IsSafeTrace trace.recording script.now.f) }
-    ensures refused { IfErr result (Tells (IsStarted answers script.now.f boxes.items) script.now.commands.items) }
+    ensures refused { IfErr result (Tells (IsStarted answers script.now.f boxes.items) script.now.commands) }
 {
     let core = Core::start(alloc, script.f, boxes, MemStable::new(alloc))?;
     let (shared, mut seats) = Shared::open(alloc, core, 1, 0)?;

@@ -3,7 +3,7 @@
 use crate::{RunFault, run_script};
 use causal_name::{NoMemory, Pid};
 use causal_protocol::request::{CoreFault, Request};
-use causal_script::{Command, Kind, Script, parse_script};
+use causal_script::{Command, Commands, Kind, Script, parse_script};
 use std::alloc::Global;
 use std::sync::Wait;
 use std::test::Fail;
@@ -69,7 +69,7 @@ fn delivery(number: u16) -> Request {
 }
 
 /// So many of these deliveries, on the lines from 2 on.
-fn deliveries(alloc: Global, count: u16) -> Result<Vec<Command>, NoMemory> {
+fn deliveries(alloc: Global, count: u16) -> Result<Commands, NoMemory> {
     let mut commands = Vec::new(alloc);
     for number in 0..count {
         commands.push(Command {
@@ -77,7 +77,7 @@ fn deliveries(alloc: Global, count: u16) -> Result<Vec<Command>, NoMemory> {
             request: delivery(number),
         })?;
     }
-    Ok(commands)
+    Ok(Commands::new(commands))
 }
 
 // A command is refused where it could pass 65,536 entries, of which a delivery may need nine. 256 sends open the run; each pair

@@ -16,11 +16,11 @@ returns-in_err-outcome-clause-refused g c =
     let fault = c.in_err-outcome.field-0.0 in
     let len : length c.in_ok-shared.seats.items ≡ 1 = search rules in
     let whole : seat.sitting.items ≡ history = one-seat history _ seat (set-one c.in_ok-shared.seats.items seat len) c.in_ok-finished.ensures.seats c.in_ok-finished.ensures.others in
-    let told = subst (λ (cs : List Command). IsStopped cs seat.sitting.items fault) c.as_slice.ensures.value c.in_err-outcome.ensures.err in
-    let stopped = subst (λ (is : List Item). IsStopped c.args.script.now.commands.items is fault) whole told in
+    let told = subst (λ (cs : List Command). IsStopped cs seat.sitting.items fault) c.as_slice.ensures c.in_err-outcome.ensures.err in
+    let stopped = subst (λ (is : List Item). IsStopped c.args.script.now.commands is fault) whole told in
     let opens = opened-as r history (opening_of c.in_ok-shared.shared) (run_of c.in_ok-core.core) c.in_ok-finished.ensures.opening c.in_ok-shared.ensures.recording c.in_ok-shared.ensures.faults in
     let p = err_from_is_err_and c.from_residual-in_err-outcome.result c.from_residual-in_err-outcome.ensures.1 in
-    rw (p.1, p.2) (refused-as _ c.args.script.now.f c.args.boxes.items c.args.script.now.commands.items (state_of c.in_ok-core.core) r history fault c.in_ok-core.ensures.ok opens c.in_ok-finished.ensures.legal.legal stopped)
+    rw (p.1, p.2) (refused-as _ c.args.script.now.f c.args.boxes.items c.args.script.now.commands (state_of c.in_ok-core.core) r history fault c.in_ok-core.ensures.ok opens c.in_ok-finished.ensures.legal.legal stopped)
 
 pub returns-clause-run : goal.returns-clause-run
 returns-clause-run g c =
@@ -29,10 +29,10 @@ returns-clause-run g c =
     let seat = c.ask_all-outcome.new.seat in
     let len : length c.in_ok-shared.seats.items ≡ 1 = search rules in
     let whole : seat.sitting.items ≡ history = one-seat history _ seat (set-one c.in_ok-shared.seats.items seat len) c.in_ok-finished.ensures.seats c.in_ok-finished.ensures.others in
-    let told = subst (λ (cs : List Command). AreDone cs seat.sitting.items) c.as_slice.ensures.value c.in_ok-outcome.ensures.ok in
-    let done = subst (λ (is : List Item). AreDone c.args.script.now.commands.items is) whole told in
+    let told = subst (λ (cs : List Command). AreDone cs seat.sitting.items) c.as_slice.ensures c.in_ok-outcome.ensures.ok in
+    let done = subst (λ (is : List Item). AreDone c.args.script.now.commands is) whole told in
     let opens = opened-as r history (opening_of c.in_ok-shared.shared) (run_of c.in_ok-core.core) c.in_ok-finished.ensures.opening c.in_ok-shared.ensures.recording c.in_ok-shared.ensures.faults in
-    run-of _ c.args.script.now.f c.args.boxes.items c.args.script.now.commands.items (state_of c.in_ok-core.core) r history c.in_ok-try_clone.field-0.recording c.in_ok-core.ensures.ok opens c.in_ok-finished.ensures.legal.legal done (c.in_ok-try_clone.ensures ∙ c.trace.ensures.recording)
+    run-of _ c.args.script.now.f c.args.boxes.items c.args.script.now.commands (state_of c.in_ok-core.core) r history c.in_ok-try_clone.field-0.recording c.in_ok-core.ensures.ok opens c.in_ok-finished.ensures.legal.legal done (c.in_ok-try_clone.ensures ∙ c.trace.ensures.recording)
 
 pub returns-clause-safe : goal.returns-clause-safe
 returns-clause-safe g c =

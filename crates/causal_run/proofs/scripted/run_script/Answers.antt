@@ -27,7 +27,7 @@ returns-clause-run g c =
     let members : map (λ b. value_of b) c.loop-me.boxes.items ≡ members_below script.kind script.n script.param script.n = c.loop-me.invariant ∙ ap (members_below script.kind script.n script.param) all in
     IfOk-weaker c.perform.result _ _ (λ trace run. run-as _ _ (λ r is.
     subst (λ (ms : List Member). IsStarted member_answers script.f ms r) members
-    (started-as _ member_answers (λ b. value_of b) (of_each _ (λ b w inputs. refl)) script.f c.loop-me.boxes.items r is)) script.commands.items trace.recording run) c.perform.ensures.run
+    (started-as _ member_answers (λ b. value_of b) (of_each _ (λ b w inputs. refl)) script.f c.loop-me.boxes.items r is)) script.commands trace.recording run) c.perform.ensures.run
 
 pub returns-clause-refused : goal.returns-clause-refused
 returns-clause-refused g c =
@@ -36,4 +36,4 @@ returns-clause-refused g c =
     let members : map (λ b. value_of b) c.loop-me.boxes.items ≡ members_below script.kind script.n script.param script.n = c.loop-me.invariant ∙ ap (members_below script.kind script.n script.param) all in
     IfErr-weaker c.perform.result _ _ (λ fault told. told-as _ _ (λ r is.
     subst (λ (ms : List Member). IsStarted member_answers script.f ms r) members
-    (started-as _ member_answers (λ b. value_of b) (of_each _ (λ b w inputs. refl)) script.f c.loop-me.boxes.items r is)) script.commands.items fault told) c.perform.ensures.refused
+    (started-as _ member_answers (λ b. value_of b) (of_each _ (λ b w inputs. refl)) script.f c.loop-me.boxes.items r is)) script.commands fault told) c.perform.ensures.refused
