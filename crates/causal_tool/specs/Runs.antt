@@ -26,9 +26,9 @@ read_of text = take (max_script + 1) text
 -- such a run refuses; or, where it is no script, the line of its first fault
 abbrev pub IsPrinted : List ℕ → Ended → List ℕ → Type 0
 IsPrinted text Ran out = (script : Script) × Spells text (plan_of script) × (recording : Recording)
-    × IsRunFrom (IsStartOf script) script.commands.items recording × IsSafeTrace recording script.f × (out ≡ canonical recording)
+    × IsRunFrom (IsStartOf script) script.commands recording × IsSafeTrace recording script.f × (out ≡ canonical recording)
 IsPrinted text Refused out = (script : Script) × Spells text (plan_of script) × (line : ℕ) × (why : CoreFault)
-    × IsRefusedFrom (IsStartOf script) script.commands.items line why × (out ≡ refused_line line why)
+    × IsRefusedFrom (IsStartOf script) script.commands line why × (out ≡ refused_line line why)
 IsPrinted text Faulted out = (first : ScriptFault) × IsFirstFault text first × (out ≡ script_line first)
 IsPrinted text _ out = ⊥
 
@@ -61,7 +61,7 @@ AnswersFault fault ended out = (text : List ℕ) → (fault.kind ≢ kind.NoMemo
 -- the answer to the text of each script of whose run the fault tells
 abbrev pub AnswersStop : RunFault → Ended → List ℕ → Type 0
 AnswersStop fault ended out = (text : List ℕ) (script : Script) → Spells text (plan_of script)
-    → Tells (IsStartOf script) script.commands.items fault → IsPrinted text ended out
+    → Tells (IsStartOf script) script.commands fault → IsPrinted text ended out
 
 -- an ending of a run that writes nothing
 abbrev pub PrintsNothing : Ended → Type 0

@@ -1,4 +1,8 @@
 //! Audits the recorded run, or runs the script, that it reads on standard input.
+//!
+//! Begin at [`audit_and_tell`] in `stream`, the work of `audit`, and at [`run_stream`] in `script`, the work of `run`: both go from
+//! any reader to any writer, and their clauses are what the program promises. `main` adds the words of the command line (`words`)
+//! and the exit status (`ended`).
 #![tactic(auto)]
 
 mod ended;
@@ -9,38 +13,18 @@ mod stream;
 mod words;
 mod written;
 
-use crate::script::run_stream;
+use crate::script::run_and_tell;
 use crate::stream::{Told, audit_and_tell};
 use crate::words::{Asked, Refused};
+use causal_text::TextFault;
 use causal_workers::OpenGate;
+use std::fmt::Display;
 use std::io;
 use std::process::ExitCode;
 use std::rt::Env;
 
-fn main(rt: HostRuntime) -> ExitCode {
-    let told = match words::read_words(&rt) {
-        Ok(
-            Asked::Audit {
-                faults,
-                workers: workers @ 1..=64,
-            },
-        ) => audit_and_tell(
-            &rt,
-            rt.alloc(),
-            &mut rt.reader(),
-            &mut io::writer(&rt),
-            faults,
-            workers,
-            &OpenGate,
-        ),
-        Ok(Asked::Audit { .. }) => return ExitCode::from(3),
-        Ok(Asked::Run) => Told {
-            ended: run_stream(&rt, rt.alloc(), &mut rt.reader(), &mut io::writer(&rt)),
-            fault: None,
-        },
-        Err(Refused::Status(status)) => return ExitCode::from(status),
-        Err(Refused::Ended(ended)) => Told { ended, fault: None },
-    };
+/// Says on standard error what is wrong, where something is, and gives the status.
+fn told<F: Display + Drop>(rt: &HostRuntime, told: Told<F>) -> ExitCode {
     match (told.ended.text(), told.fault) {
         (Some(text), _) => {
             let _ = rt.eprintln(text);
@@ -51,6 +35,35 @@ fn main(rt: HostRuntime) -> ExitCode {
         (None, None) => {}
     }
     ExitCode::from(told.ended.status())
+}
+
+fn main(rt: HostRuntime) -> ExitCode {
+    match words::read_words(&rt) {
+        Ok(
+            Asked::Audit {
+                faults,
+                workers: workers @ 1..=64,
+            },
+        ) => told(
+            &rt,
+            audit_and_tell(
+                &rt,
+                rt.alloc(),
+                &mut rt.reader(),
+                &mut io::writer(&rt),
+                faults,
+                workers,
+                &OpenGate,
+            ),
+        ),
+        Ok(Asked::Audit { .. }) => ExitCode::from(3),
+        Ok(Asked::Run) => told(
+            &rt,
+            run_and_tell(&rt, rt.alloc(), &mut rt.reader(), &mut io::writer(&rt)),
+        ),
+        Err(Refused::Status(status)) => ExitCode::from(status),
+        Err(Refused::Ended(ended)) => told::<TextFault>(&rt, Told { ended, fault: None }),
+    }
 }
 
 #[cfg(test)]

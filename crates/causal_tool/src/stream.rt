@@ -14,11 +14,11 @@ use std::io::{Read, Write};
 use std::sync::Wait;
 use std::thread::Threads;
 
-/// How a run ended, and the fault of the text, where its line was written or would have been.
-#[derive(Clone, Copy, Debug, PartialEq, Eq)]
-pub struct Told {
+/// How a run ended, and the fault of what was read, where its line was written or would have been.
+#[derive(Clone, Copy, Debug)]
+pub struct Told<F> {
     pub ended: Ended,
-    pub fault: Option<TextFault>,
+    pub fault: Option<F>,
 }
 
 /// Reads the text of a trace, audits it for f by 1 to 64 workers, and writes one line: the verdict, or the text's first
@@ -51,7 +51,7 @@ pub fn audit_and_tell<R: Threads + Wait, I: Read, O: Write, G: Gate + Sync>(
     f: u16,
     workers: u32,
     gate: &G,
-) -> Told
+) -> Told<TextFault>
     requires { (1 ≤ workers) × (workers ≤ 64) }
     ensures writes { WritesFor (I.remaining input.old) f result.ended (O.contents output.old) (O.contents output.new) }
     ensures fault { NamesFirstFault (I.remaining input.old) result.fault }

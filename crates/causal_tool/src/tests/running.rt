@@ -3,7 +3,7 @@ use super::scripts::{ACCEPTED, PRINTED, REPLAY};
 use super::traces::REPLAYED;
 use super::{Drip, Narrow, Spaces};
 use crate::ended::Ended;
-use crate::script::run_stream;
+use crate::script::{run_and_tell, run_stream};
 use crate::stream::audit_stream;
 use causal_workers::OpenGate;
 use std::process::Abort;
@@ -38,6 +38,34 @@ fn records_or_refuses(rt: HostRuntime) {
             printed.output,
         );
     }
+}
+
+// a script, and the sentence that is told beside its line
+const SENTENCES: [(&str, &str); 3] = [
+    ("start ring 3 1 2\ndeliver 1 0 0\n", ""),
+    (
+        "start ring 3 1 2\nfly 1\n",
+        "line 2: this is no line of a script here",
+    ),
+    (
+        "start ring 3 1 2\ncrash 9\n",
+        "line 2 is refused: there is no such process",
+    ),
+];
+
+#[test]
+fn a_reason_has_its_sentence(rt: HostRuntime) -> Result<(), Fail> {
+    for (script, sentence) in &SENTENCES {
+        let mut input = script.as_bytes();
+        let mut printed = Vec::new(rt.alloc());
+        let told = run_and_tell(&rt, rt.alloc(), &mut input, &mut printed);
+        let said = match told.fault {
+            Some(reason) => format!(in rt.alloc(); "{reason}")?,
+            None => String::new(rt.alloc()),
+        };
+        assert!(rt; said.as_str() == *sentence, "{script}");
+    }
+    Ok(())
 }
 
 #[test]

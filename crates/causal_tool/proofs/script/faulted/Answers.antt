@@ -1,6 +1,8 @@
 use Rattle.std.proofs.Common.{◌≡◌, subst, sym, IfOk}
 use Rattle.std.proofs.lemmas.Result.{IfOk-weaker}
 use Rattle.causal_script.specs.Printing.{script_line}
+use Rattle.std.specs.Prelude.{IfSome}
+use Rattle.causal_tool.specs.Reasons.{IsReason}
 use Rattle.causal_tool.specs.Runs.{IsPrinted}
 use Rattle.causal_tool.proofs.script.faulted.Goals as goal
 
@@ -9,5 +11,6 @@ returns-in_default c = record {
   ok = IfOk-weaker c.told.result _ _ (λ answer h. λ text first.
       subst (λ e. IsPrinted text e answer.text.items) (sym h.0)
       (c.args.fault, first c.in_default.not-NoMemory, subst (λ r. IfOk r (λ line. line.items ≡ script_line c.args.fault)) h.1 c.script_line.ensures)) c.told.ensures.ok;
+  reason = IfOk-weaker c.told.result _ _ (λ answer h. λ text first. subst (λ r. IfSome r (IsReason text)) (sym h) (first c.in_default.not-NoMemory)) c.told.ensures.reason;
   err = c.told.ensures.err;
 }

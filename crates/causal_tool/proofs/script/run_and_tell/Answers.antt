@@ -1,5 +1,5 @@
 use Rattle.causal_tool.proofs.PrintLemmas.{prints_whole, prints_first}
-use Rattle.causal_tool.proofs.script.run_stream.Goals as goal
+use Rattle.causal_tool.proofs.script.run_and_tell.Goals as goal
 
 pub returns-in-Ok-write_whole-clause-prints : goal.returns-in-Ok-write_whole-clause-prints
 returns-in-Ok-write_whole-clause-prints g c =
