@@ -20,6 +20,8 @@ mod random_logs;
 #[cfg(test)]
 mod random_traces;
 #[cfg(test)]
+mod random_workers;
+#[cfg(test)]
 mod runtime;
 #[cfg(test)]
 mod seats;

@@ -9,24 +9,46 @@ use causal_trace::trace::Trace;
 use std::alloc::Global;
 use std::test::Fail;
 
-/// A seeded walk: the same numbers each time, and the next sequence numbers of each process.
+/// A seeded walk: the same numbers each time, which process is the first of the four at most that do something, and the next
+/// sequence numbers of these.
 #[derive(Clone, Copy)]
-struct Walk {
+pub(crate) struct Walk {
     numbers: Numbers,
+    first: u8,
     sends: [u32; 4],
     deliveries: [u32; 4],
 }
 
+impl Walk {
+    /// A walk of its own for each seed, on which processes from `first` on do something.
+    pub(crate) fn new(seed: u64, first: u8) -> Walk {
+        Walk {
+            numbers: Numbers { state: seed },
+            first,
+            sends: [0; 4],
+            deliveries: [0; 4],
+        }
+    }
+
+    /// The place of a process among those that do something.
+    fn place(&self, p: Pid) -> usize {
+        usize::from(p.0.wrapping_sub(self.first))
+    }
+}
+
+/// A process of n that does something.
 fn process(walk: &mut Walk, n: u16) -> Pid {
-    if n == 0 || n > 256 {
+    let count = n.saturating_sub(u16::from(walk.first));
+    if count == 0 || count > 256 {
         return Pid(0);
     }
-    Pid(walk.numbers.below(u32::from(n)) as u8)
+    let place = walk.numbers.below(u32::from(count)) as u8;
+    Pid(walk.first.wrapping_add(place))
 }
 
 /// The next number of a process's lane.
-fn right(numbers: &[u32; 4], p: Pid) -> u32 {
-    match numbers.get(p.0 as usize) {
+fn right(walk: &Walk, numbers: &[u32; 4], p: Pid) -> u32 {
+    match numbers.get(walk.place(p)) {
         Some(number) => *number,
         None => 0,
     }
@@ -88,7 +110,7 @@ fn delivery(alloc: Global, walk: &mut Walk, trace: &Trace) -> Result<Entry, NoMe
     let Some((to, message)) = sent_at(trace, send) else {
         return Ok(refused());
     };
-    let rsn = right(&walk.deliveries, to);
+    let rsn = right(walk, &walk.deliveries, to);
     let own = own(walk, message, to, rsn);
     let listed = listed(alloc, walk, trace, own)?;
     Ok(Entry::Deliver {
@@ -110,7 +132,7 @@ fn sending(walk: &mut Walk, n: u16) -> Entry {
     Entry::Send {
         from,
         to: process(walk, n),
-        ssn: right(&walk.sends, from),
+        ssn: right(walk, &walk.sends, from),
     }
 }
 
@@ -144,19 +166,22 @@ fn entry(alloc: Global, walk: &mut Walk, trace: &Trace) -> Result<Entry, NoMemor
 /// Counts an entry that was taken.
 fn count(walk: &mut Walk, sender: Option<Pid>, receiver: Option<Pid>, restarted: Option<Pid>) {
     if let Some(p) = sender {
-        if let Some(sends) = walk.sends.get_mut(p.0 as usize) {
+        let place = walk.place(p);
+        if let Some(sends) = walk.sends.get_mut(place) {
             *sends = sends.saturating_add(1);
         }
     }
     if let Some(p) = receiver {
-        if let Some(deliveries) = walk.deliveries.get_mut(p.0 as usize) {
+        let place = walk.place(p);
+        if let Some(deliveries) = walk.deliveries.get_mut(place) {
             *deliveries = deliveries.saturating_add(1);
         }
     }
     if let Some(p) = restarted {
-        if (p.0 as usize) < 4 {
-            walk.sends[p.0 as usize] = 0;
-            walk.deliveries[p.0 as usize] = 0;
+        let place = walk.place(p);
+        if place < 4 {
+            walk.sends[place] = 0;
+            walk.deliveries[place] = 0;
         }
     }
 }
@@ -182,8 +207,13 @@ fn step(alloc: Global, walk: &mut Walk, trace: &mut Trace) -> Result<(), TraceFa
     }
 }
 
-/// A trace of n processes, 1 to 4, after so many tries.
-fn trace_of(alloc: Global, walk: &mut Walk, n: u16, tries: u32) -> Result<Trace, TraceFault> {
+/// A trace of n processes, of which at most the last four do something, after so many tries.
+pub(crate) fn trace_of(
+    alloc: Global,
+    walk: &mut Walk,
+    n: u16,
+    tries: u32,
+) -> Result<Trace, TraceFault> {
     walk.sends = [0; 4];
     walk.deliveries = [0; 4];
     let mut trace = Trace::new(alloc, n)?;
@@ -288,9 +318,13 @@ struct Comparison {
     releases: u32,
 }
 
-/// Judges a trace for each f up to one more than there are processes.
-fn compare(alloc: Global, trace: &Trace, found: &mut Comparison) -> Result<(), NoMemory> {
-    let most = trace.processes().saturating_add(1);
+/// Judges a trace for each f up to the greatest that is given.
+fn compare(
+    alloc: Global,
+    trace: &Trace,
+    most: u16,
+    found: &mut Comparison,
+) -> Result<(), NoMemory> {
     let tables = Tables::of(alloc, trace)?;
     let course = Course::of(alloc, trace, trace.len())?;
     let (same, accepted) = agreed(alloc, trace, &tables, &course, most)?;
@@ -304,19 +338,15 @@ fn compare(alloc: Global, trace: &Trace, found: &mut Comparison) -> Result<(), N
     Ok(())
 }
 
-/// Judges so many random traces, each after so many tries.
+/// Judges so many random traces of n processes for each f up to the greatest that is given, each after so many tries.
 fn compared(
     alloc: Global,
-    seed: u64,
+    mut walk: Walk,
     n: u16,
+    most: u16,
     traces: u32,
     tries: u32,
 ) -> Result<Comparison, TraceFault> {
-    let mut walk = Walk {
-        numbers: Numbers { state: seed },
-        sends: [0; 4],
-        deliveries: [0; 4],
-    };
     let mut found = Comparison {
         differ: 0,
         accepted: 0,
@@ -325,7 +355,7 @@ fn compared(
     };
     for _ in 0..traces {
         let trace = trace_of(alloc, &mut walk, n, tries)?;
-        if compare(alloc, &trace, &mut found).is_err() {
+        if compare(alloc, &trace, most, &mut found).is_err() {
             return Err(TraceFault::NoMemory);
         }
     }
@@ -341,7 +371,7 @@ fn are_varied(found: Comparison, n: u16) -> bool {
 #[test]
 fn both_programs_give_the_same_verdict(rt: HostRuntime) -> Result<(), Fail> {
     for (n, seed) in [(1, 11), (2, 2026), (3, 77_777), (4, 5)] {
-        let found = compared(rt.alloc(), seed, n, 600, 24)?;
+        let found = compared(rt.alloc(), Walk::new(seed, 0), n, n + 1, 600, 24)?;
         assert_eq!(rt; found.differ, 0, "with {n} processes");
         assert!(rt; are_varied(found, n), "with {n} processes");
     }
@@ -351,9 +381,18 @@ fn both_programs_give_the_same_verdict(rt: HostRuntime) -> Result<(), Fail> {
 #[test]
 fn both_say_the_same_of_longer_traces(rt: HostRuntime) -> Result<(), Fail> {
     for (n, seed) in [(2, 9), (3, 4242)] {
-        let found = compared(rt.alloc(), seed, n, 40, 120)?;
+        let found = compared(rt.alloc(), Walk::new(seed, 0), n, n + 1, 40, 120)?;
         assert_eq!(rt; found.differ, 0, "with {n} processes");
         assert!(rt; found.replays > 4, "with {n} processes");
     }
+    Ok(())
+}
+
+// The processes that do something have the numbers from 62 to 65.
+#[test]
+fn both_say_the_same_of_greater_processes(rt: HostRuntime) -> Result<(), Fail> {
+    let found = compared(rt.alloc(), Walk::new(31, 62), 66, 2, 12, 24)?;
+    assert_eq!(rt; found.differ, 0);
+    assert!(rt; found.accepted > 3 && found.accepted < 33);
     Ok(())
 }

@@ -33,15 +33,15 @@ fn opened(
     Shared::open(alloc, core, seats.clamp(1, 64), tag).ok()
 }
 
-/// A core behind a lock with one seat.
-fn alone(alloc: Global, core: Core<MemStable>) -> Option<(Shared<MemStable>, Seat)> {
-    let (shared, mut seats) = opened(alloc, core, 1, 7)?;
+/// A core behind a lock with one seat, which bears that tag.
+fn alone(alloc: Global, core: Core<MemStable>, tag: u64) -> Option<(Shared<MemStable>, Seat)> {
+    let (shared, mut seats) = opened(alloc, core, 1, tag)?;
     Some((shared, seats.pop()?))
 }
 
 /// A new core of n processes of a kind, for f failures, behind a lock with one seat.
 fn begun_alone(alloc: Global, kind: Kind, n: u8, f: u16) -> Option<(Shared<MemStable>, Seat)> {
-    alone(alloc, begun(alloc, kind, n, f)?)
+    alone(alloc, begun(alloc, kind, n, f)?, 7)
 }
 
 /// The message that is first pending at q.

@@ -11,7 +11,8 @@ use causal_verdict::audited;
 use std::alloc::Global;
 use std::test::Fail;
 
-fn is_accepted(alloc: Global, core: &Core<MemStable>) -> Result<bool, NoMemory> {
+/// Whether the auditor accepts what a core has recorded, for as many failures as the core runs for.
+pub(crate) fn is_accepted(alloc: Global, core: &Core<MemStable>) -> Result<bool, NoMemory> {
     Ok(audited(alloc, core)? == Verdict::Accept)
 }
 

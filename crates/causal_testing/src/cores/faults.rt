@@ -1,5 +1,6 @@
 //! How a core begins or does not, and what is left where memory or the store failed.
 use super::doubles::Refusing;
+use super::scripts::{FLUSHED, has_lines};
 use super::*;
 use causal_log::{FailingStore, MemStable};
 use std::test::Fail;
@@ -95,8 +96,42 @@ fn a_spare_without_memory_comes_back(rt: HostRuntime) -> Result<(), Fail> {
     Ok(())
 }
 
+/// Whether the second write of a tally's flush fails, with what was written before it recorded.
+fn stops(alloc: Global, core: &mut Core<FailingStore>) -> Result<bool, NoMemory> {
+    let calls = [
+        (Call::Deliver(0, 2, 0), delivered(2, (2, 0, 0, 0), 1)),
+        (Call::Deliver(2, 0, 0), delivered(4, (0, 0, 2, 0), 0)),
+        (Call::Flush(2), flush_stopped(CoreFault::StoreFault, 1)),
+    ];
+    Ok(
+        are_answered(alloc, core, Kind::Tally, &calls)?
+            && has_lines(alloc, core.trace(), &FLUSHED.lines[..6]),
+    )
+}
+
+/// Whether the flush that stopped then writes what was left, and all is recorded that is where no write fails.
+fn goes_on(alloc: Global, core: &mut Core<FailingStore>) -> Result<bool, NoMemory> {
+    let calls = [
+        (Call::Flush(2), Reply::Flushed { count: 1 }),
+        (Call::Flush(0), Reply::Flushed { count: 1 }),
+    ];
+    Ok(
+        are_answered(alloc, core, Kind::Tally, &calls)?
+            && has_lines(alloc, core.trace(), FLUSHED.lines),
+    )
+}
+
 #[test]
 fn a_flush_that_stops_is_made_again(rt: HostRuntime) -> Result<(), Fail> {
+    let store = FailingStore::new(rt.alloc(), 1);
+    let mut core = begun(rt.alloc(), Kind::Tally, 3, 1, store)?;
+    assert!(rt; stops(rt.alloc(), &mut core)?);
+    assert!(rt; goes_on(rt.alloc(), &mut core)?);
+    Ok(())
+}
+
+#[test]
+fn what_a_stopped_flush_wrote_is_forgotten(rt: HostRuntime) -> Result<(), Fail> {
     let store = FailingStore::new(rt.alloc(), 1);
     let mut core = begun(rt.alloc(), Kind::Tally, 3, 1, store)?;
     let calls = [
@@ -130,9 +165,10 @@ fn a_store_that_counts_no_more_faults(rt: HostRuntime) -> Result<(), Fail> {
     let calls = [
         (Call::Flush(0), Reply::Flushed { count: 0 }),
         (Call::Deliver(0, 2, 0), delivered(2, (2, 0, 0, 0), 1)),
-        (Call::Flush(0), flush_stopped(CoreFault::StoreFault, 0)),
+        (Call::Deliver(2, 0, 0), delivered(4, (0, 0, 2, 0), 0)),
+        (Call::Flush(2), flush_stopped(CoreFault::StoreFault, 0)),
     ];
     assert!(rt; are_answered(rt.alloc(), &mut core, Kind::Tally, &calls)?);
-    assert_eq!(rt; recorded(&core), 4);
+    assert_eq!(rt; recorded(&core), 5);
     Ok(())
 }

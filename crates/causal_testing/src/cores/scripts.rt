@@ -112,7 +112,7 @@ const THE_OLD_ORDER: Script<'static> = Script {
 };
 
 /// A tally is flushed. The second flush writes nothing; the third writes what 0 did not know to be stable, once more.
-const FLUSHED: Script<'static> = Script {
+pub(crate) const FLUSHED: Script<'static> = Script {
     kind: Kind::Tally,
     f: 1,
     calls: &[

@@ -41,18 +41,14 @@ fn a_refusal_is_an_item(rt: HostRuntime) -> Result<(), Fail> {
     Ok(())
 }
 
-/// The seat of another runtime.
-fn stranger(alloc: Global) -> Option<Seat> {
-    let core = begun(alloc, Kind::Echo(3), 2, 1)?;
-    let (_other, mut seats) = opened(alloc, core, 1, 8)?;
-    seats.pop()
-}
-
-/// Whether a call with that seat is refused and recorded nowhere.
+/// Whether a call with the seat of another runtime, which goes on, is refused and recorded nowhere.
 fn is_wrong<R: Wait>(rt: &R, alloc: Global, shared: &Shared<MemStable>) -> Option<bool> {
-    let mut stranger = stranger(alloc)?;
+    let core = begun(alloc, Kind::Echo(3), 2, 1)?;
+    let (other, mut stranger) = alone(alloc, core, 8)?;
     let fault = crash(rt, shared, &mut stranger, 0);
-    Some(fault == Some(SharedFault::WrongSeat) && stranger.count() == 0)
+    let is_wrong = fault == Some(SharedFault::WrongSeat) && stranger.count() == 0;
+    let (items, _entries) = extent(alloc, other, stranger)?;
+    Some(is_wrong && items == 0)
 }
 
 #[test]

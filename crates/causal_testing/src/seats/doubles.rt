@@ -20,9 +20,19 @@ fn begun_scarce(alloc: Global) -> Option<Core<MemStable>> {
     Core::start(alloc, 0, boxes, MemStable::new(alloc)).ok()
 }
 
-/// Whether a delivery is refused memory, and the refusal is an item and changes nothing else.
+/// Asks for the delivery of the message that the process sends itself at its beginning, the only one that there is: the fault
+/// of the answer.
+fn deliver_own<R: Wait>(
+    rt: &R,
+    shared: &Shared<MemStable>,
+    seat: &mut Seat,
+) -> Option<SharedFault> {
+    shared.deliver(rt, seat, Pid(0), Pid(0), 0).err()
+}
+
+/// Whether that delivery is refused memory, and the refusal is an item and changes nothing else.
 fn is_refused<R: Wait>(rt: &R, shared: &Shared<MemStable>, seat: &mut Seat) -> bool {
-    let fault = shared.deliver(rt, seat, Pid(0), Pid(0), 0).err();
+    let fault = deliver_own(rt, shared, seat);
     fault == Some(SharedFault::Core(CoreFault::NoMemory))
         && (seat.count(), seat.seen()) == (1, 1)
         && snapshot_extent(rt, shared, seat) == Some((1, 1))
@@ -41,9 +51,9 @@ fn snapshot_extent<R: Wait>(
 #[test]
 fn a_step_is_refused_and_then_made(rt: HostRuntime) -> Result<(), Fail> {
     let core = begun_scarce(rt.alloc()).ok_or("not begun")?;
-    let (shared, mut seat) = alone(rt.alloc(), core).ok_or("not opened")?;
+    let (shared, mut seat) = alone(rt.alloc(), core, 7).ok_or("not opened")?;
     assert!(rt; is_refused(&rt, &shared, &mut seat));
-    assert!(rt; deliver_first(&rt, &shared, &mut seat, Pid(0)));
+    assert_eq!(rt; deliver_own(&rt, &shared, &mut seat), None);
     assert_eq!(rt; extent(rt.alloc(), shared, seat), Some((2, 3)));
     Ok(())
 }

@@ -1,6 +1,7 @@
 //! Eight seats on eight threads that ask for what comes up.
 use super::*;
 use crate::numbers::Numbers;
+use crate::verdicts::is_accepted;
 use std::test::Fail;
 use std::thread;
 use std::thread::Threads;
@@ -112,5 +113,6 @@ fn seats_call_at_random(rt: HostRuntime) -> Result<(), Fail> {
     let seats = seats_of(rt.alloc(), done).ok_or("too few calls")?;
     let end = finish(shared, seats).ok().ok_or("not finished")?;
     assert!(rt; end.history.as_slice().len() >= 2_400);
+    assert!(rt; is_accepted(rt.alloc(), &end.core)?);
     Ok(())
 }

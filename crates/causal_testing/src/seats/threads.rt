@@ -1,5 +1,8 @@
 //! Two seats on two threads, neither of which gets on without the other.
 use super::*;
+use crate::verdicts::is_accepted;
+use causal_audit::{Tables, Verdict, judge};
+use causal_name::NoMemory;
 use causal_shared::item::{Item, Snapshot};
 use causal_trace::trace::Trace;
 use std::test::Fail;
@@ -17,15 +20,22 @@ const EACH: u32 = 4;
 struct Done {
     seat: Seat,
     delivered: u32,
-    /// Its first delivery, and what it saw after that.
+    /// Its first delivery, what it saw after that, and what the auditor says of this.
     first: Option<Item>,
     snapshot: Option<Snapshot>,
+    verdict: Option<Verdict>,
+}
+
+/// What the auditor says of a snapshot, for as many failures as its runtime runs for.
+fn verdict_on(alloc: Global, shown: &Snapshot) -> Result<Verdict, NoMemory> {
+    let tables = Tables::of(alloc, &shown.trace)?;
+    Ok(judge(&tables, shown.faults))
 }
 
 impl Done {
     /// Makes one delivery to the process of the seat's number, if there is a message, and after the first takes a
-    /// snapshot.
-    fn turn<R: Wait>(&mut self, rt: &R, shared: &Shared<MemStable>) {
+    /// snapshot, which it audits while the other seats go on.
+    fn turn<R: Wait>(&mut self, rt: &R, alloc: Global, shared: &Shared<MemStable>) {
         let q = Pid(self.seat.number().min(255) as u8);
         if !deliver_first(rt, shared, &mut self.seat, q) {
             thread::yield_now();
@@ -35,6 +45,14 @@ impl Done {
         if self.snapshot.is_none() {
             self.first = self.seat.last().copied();
             self.snapshot = shared.snapshot(rt, &mut self.seat).ok();
+            self.audit(alloc);
+        }
+    }
+
+    /// Audits the snapshot.
+    fn audit(&mut self, alloc: Global) {
+        if let Some(shown) = &self.snapshot {
+            self.verdict = verdict_on(alloc, shown).ok();
         }
     }
 
@@ -56,18 +74,19 @@ fn shows(trace: &Trace, item: &Item) -> bool {
 }
 
 /// Delivers until the process of the seat's number has got all its messages.
-fn delivers_all<R: Wait>(rt: &R, shared: &Shared<MemStable>, seat: Seat) -> Done {
+fn delivers_all<R: Wait>(rt: &R, alloc: Global, shared: &Shared<MemStable>, seat: Seat) -> Done {
     let mut done = Done {
         seat,
         delivered: 0,
         first: None,
         snapshot: None,
+        verdict: None,
     };
     for _ in 0..TURNS {
         if done.delivered == EACH {
             return done;
         }
-        done.turn(rt, shared);
+        done.turn(rt, alloc, shared);
     }
     done
 }
@@ -81,7 +100,7 @@ fn overlapped<R: Threads + Wait + Sync>(
     let (shared, seats) = opened(alloc, core, 2, 7)?;
     let done = {
         let one = &shared;
-        thread::map_vec(rt, seats, &|seat| delivers_all(rt, one, seat)).ok()?
+        thread::map_vec(rt, seats, &|seat| delivers_all(rt, alloc, one, seat)).ok()?
     };
     Some((shared, done))
 }
@@ -130,7 +149,8 @@ fn contain_all(items: &[Item], last: &[Item]) -> bool {
 /// Whether the history and the trace of both have all, these items too.
 fn has_all(end: &Finished<MemStable>, last: &[Item]) -> bool {
     let items = end.history.as_slice();
-    (items.len(), end.core.trace().len()) == (8, 16) && contain_all(items, last)
+    let trace = end.core.trace();
+    (items.len(), trace.len(), trace.deliveries()) == (8, 16, 8) && contain_all(items, last)
 }
 
 #[test]
@@ -140,6 +160,7 @@ fn seats_overlap(rt: HostRuntime) -> Result<(), Fail> {
     let last = last_items(rt.alloc(), done.as_slice()).ok_or("no item")?;
     let end = ended_with(rt.alloc(), shared, done).ok_or("not finished")?;
     assert!(rt; has_all(&end, last.as_slice()));
+    assert!(rt; is_accepted(rt.alloc(), &end.core)?);
     Ok(())
 }
 
@@ -150,6 +171,16 @@ fn snapshots_of(alloc: Global, done: &mut [Done]) -> Option<Vec<Snapshot>> {
         snapshots.push(one.snapshot.take()?).ok()?;
     }
     Some(snapshots)
+}
+
+/// Whether the auditor accepted each snapshot, beside a seat that went on.
+fn have_accepted(done: &[Done]) -> bool {
+    for one in done {
+        if one.verdict != Some(Verdict::Accept) {
+            return false;
+        }
+    }
+    true
 }
 
 /// Whether these snapshots each have a part of a trace, from its beginning.
@@ -167,6 +198,7 @@ fn are_parts(snapshots: &[Snapshot], trace: &Trace) -> bool {
 #[test]
 fn snapshot_beside(rt: HostRuntime) -> Result<(), Fail> {
     let (shared, mut done) = overlapped(&rt, rt.alloc()).ok_or("not opened")?;
+    assert!(rt; have_accepted(done.as_slice()));
     let seen = snapshots_of(rt.alloc(), done.as_mut_slice()).ok_or("no snapshot")?;
     let end = ended_with(rt.alloc(), shared, done).ok_or("not finished")?;
     assert!(rt; are_parts(seen.as_slice(), end.core.trace()));

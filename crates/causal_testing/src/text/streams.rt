@@ -127,6 +127,7 @@ fn faults_a_byte_at_a_time(rt: HostRuntime) -> Result<(), Fail> {
     Ok(())
 }
 
+// and what follows the end line at its first byte: no line of it is waited for
 #[test]
 fn a_complete_line_is_judged_before_the_next_piece(rt: HostRuntime) {
     let wrong = told(
@@ -137,6 +138,8 @@ fn a_complete_line_is_judged_before_the_next_piece(rt: HostRuntime) {
     );
     assert_eq!(rt; wrong, of_text(2, TextKind::WrongSsn));
     assert_eq!(rt; told(rt.alloc(), "", 4096, true), Some(ReaderFault::Read));
+    let ended = told(rt.alloc(), "[\"trace\",1,1]\n[\"end\",0]\n ", 1, true);
+    assert_eq!(rt; ended, of_text(3, TextKind::After));
 }
 
 type Piece = Result<Progress, ReaderFault>;

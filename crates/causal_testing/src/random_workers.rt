@@ -1,0 +1,57 @@
+//! Whatever the number of workers, an audit gives the verdict of `judge`.
+use crate::random_audits::{Walk, trace_of};
+use causal_audit::{Tables, judge};
+use causal_trace::trace::Trace;
+use causal_workers::{AuditFault, OpenGate, audit};
+use std::alloc::Global;
+use std::sync::Wait;
+use std::test::Fail;
+use std::thread::Threads;
+
+/// The numbers of workers that are compared.
+const WORKERS: [u32; 4] = [1, 2, 3, 5];
+
+/// How many of these numbers of workers give the verdict of `judge` on a trace for f.
+fn agreeing<R: Threads + Wait>(
+    rt: &R,
+    alloc: Global,
+    trace: &Trace,
+    tables: &Tables,
+    f: u16,
+) -> Result<u32, AuditFault> {
+    let judged = judge(tables, f);
+    let mut agreeing = 0_u32;
+    for workers in &WORKERS {
+        let said = audit(rt, alloc, trace, f, (*workers).clamp(1, 64), &OpenGate)?;
+        agreeing = agreeing.saturating_add(u32::from(said == judged));
+    }
+    Ok(agreeing)
+}
+
+/// How many of them do for each f from 0 to 4.
+fn agreeing_for_each<R: Threads + Wait>(
+    rt: &R,
+    alloc: Global,
+    trace: &Trace,
+) -> Result<u32, AuditFault> {
+    let tables = Tables::of(alloc, trace)?;
+    let mut all = 0_u32;
+    for f in 0..5 {
+        all = all.saturating_add(agreeing(rt, alloc, trace, &tables, f)?);
+    }
+    Ok(all)
+}
+
+#[test]
+fn workers_say_what_one_says(rt: HostRuntime) -> Result<(), Fail> {
+    let mut walk = Walk::new(404, 0);
+    for k in 0..100 {
+        let trace = trace_of(rt.alloc(), &mut walk, 3, 48)?;
+        assert_eq!(rt;
+            agreeing_for_each(&rt, rt.alloc(), &trace)?,
+            20,
+            "trace {k}"
+        );
+    }
+    Ok(())
+}
