@@ -6,7 +6,8 @@
    REFUSE_ERROR  for read and write: the error's number; 0 makes a write take no byte
    REFUSE_COUNT  a file into which the number of calls is written at the end
 
-   Calls are counted from the start of main. */
+   Calls are counted from the time at which the library is loaded; reads are those of standard input, writes those to standard
+   output. */
 #define _GNU_SOURCE
 #include <dlfcn.h>
 #include <errno.h>

@@ -32,7 +32,15 @@ RUNS = [
     ("help", ["--help"], ""),
     ("words that ask for nothing", ["audit"], ""),
 ]
-TROUBLE = {5: ("no memory\n", "no worker\n", "finish fault\n"), 4: ("read fault\n", "write fault\n")}
+# for each kind of refusal the status and what may stand on standard error
+TROUBLE = {
+    "memory": (5, ("no memory\n", "no worker\n")),
+    "thread": (5, ("no worker\n",)),
+    "read": (4, ("read fault\n",)),
+    "write": (4, ("write fault\n",)),
+}
+# the run and the error after which std's printing makes the call again
+MADE_AGAIN = ("help", errno.EINTR)
 
 
 class Tries:
@@ -54,27 +62,28 @@ class Tries:
         with open(self.count) as file:
             return int(file.read())
 
-    def each(self, name, words, text, kind, plain, statuses, **refuse):
+    def each(self, name, words, text, kind, plain, **refuse):
         """Every call of a kind, one alone and all from it on."""
         for every in (0, 1):
             for at in range(1, min(self.calls(words, text, kind), MOST) + 1):
                 got = self.once(words, text, kind=kind, at=at, all=every, **refuse)
                 self.tried += 1
                 self.survived += got == plain
-                if not is_refusal(got, plain, statuses):
+                is_made_again = (name, refuse.get("error")) == MADE_AGAIN and not every
+                if not is_refusal(got, plain, kind, is_made_again):
                     self.wrong.append((name, kind, at, every, refuse, got))
 
 
-def is_refusal(got, plain, statuses):
-    """A trouble's status with its line on standard error, or the answer of a run in which nothing was refused."""
+def is_refusal(got, plain, kind, is_made_again):
+    """The trouble's status with its line on standard error. What was written before a write was refused may stand on standard
+    output. Where memory was refused that the program can do without, or the call is made again, the answer may be that of an
+    undisturbed run."""
     status, out, err = got
     if got == plain:
-        return True
-    if status not in statuses:
-        return False
-    if status == 4:
-        return plain[1].startswith(out) and err in TROUBLE[4]
-    return out == "" and err in TROUBLE[5]
+        return kind == "memory" or is_made_again
+    expected, lines = TROUBLE[kind]
+    written = plain[1].startswith(out) if kind == "write" else out == ""
+    return status == expected and err in lines and written
 
 
 def main():
@@ -91,10 +100,10 @@ def main():
             plain = tries.once(said, text, kind="none")
             before = tries.tried
             for kind in ("memory", "thread"):
-                tries.each(name, said, text, kind, plain, (5,))
+                tries.each(name, said, text, kind, plain)
             for kind, errors in (("read", (errno.EIO, errno.EINTR)), ("write", (errno.EIO, errno.EINTR, 0))):
                 for error in errors:
-                    tries.each(name, said, text, kind, plain, (4,), error=error)
+                    tries.each(name, said, text, kind, plain, error=error)
             print(f"{tries.tried - before:7} tries: {name} (status {plain[0]})")
     for row in tries.wrong:
         print("WRONG", *row)
