@@ -16,7 +16,8 @@ use Rattle.causal_text.specs.declared.version.Version.{Version}
 use Rattle.causal_text.specs.declared.version.Version.TheVariants.{One, Two}
 use Rattle.causal_text.specs.Lines.{lines}
 use Rattle.causal_text.specs.Place.{Place, IsPlaceAfter}
-use Rattle.causal_text.specs.Inside.LineByLine.{start, and_then, next, after_lines, ended, reading}
+use Rattle.causal_text.specs.Reading.{◌>>=◌}
+use Rattle.causal_text.specs.Inside.LineByLine.{start, next, after_lines, ended, reading}
 use Rattle.causal_text.specs.Stages.{opened, max_text, line_shape, within_limit, after_line}
 use Rattle.causal_text.specs.Versions.{number_of, most_processes, HasLines}
 use Rattle.causal_text.specs.Spelling.{said, LeadsTo, Spells}
@@ -30,7 +31,7 @@ in_limit end r h = rw (lt-leb (max_text + 1) end (omega arith)) refl
 -- ---- lines one after another
 
 first_step : (ls ks : List (List ℕ)) (q : Place) (r : Result Place TextFault) → ((o : Place) → after_lines o ls ≡ Ok q → after_lines o (ls ++ ks) ≡ after_lines q ks) →
-    and_then r (λ o. after_lines o ls) ≡ Ok q → and_then r (λ o. after_lines o (ls ++ ks)) ≡ after_lines q ks
+    (r >>= λ o. after_lines o ls) ≡ Ok q → (r >>= λ o. after_lines o (ls ++ ks)) ≡ after_lines q ks
 first_step ls ks q (Ok o) rest g = rest o g
 first_step ls ks q (Err e) rest g = absurd (let no : Err e ≡ Ok q = g in cc)
 
@@ -142,4 +143,4 @@ pub reading-spelled : (text : List ℕ) (r : Recording) → Spells text r → re
 reading-spelled text r s =
     let reached : LeadsTo (lines text) (Ended s.version r) = record { said = s.said; sound = (s.well_formed, s.fits); within = rw (sum_by-lines text) s.within } in
     let led = Leads-reached (lines text) (Ended s.version r) reached in
-    ap (λ (q : Result Place TextFault). and_then q (λ p. ended p p.stage)) led.1 ∙ ended_at led.0 led.0.stage s.version r led.2
+    ap (λ (q : Result Place TextFault). q >>= λ p. ended p p.stage) led.1 ∙ ended_at led.0 led.0.stage s.version r led.2

@@ -8,7 +8,8 @@ use Rattle.causal_text.specs.declared.kind.TextFault.{TextFault}
 use Rattle.causal_text.specs.Lines.{lines, before_first_line}
 use Rattle.causal_text.specs.Spelling.{IsReadUpTo, IsReadAt}
 use Rattle.causal_text.specs.Place.{Place}
-use Rattle.causal_text.specs.Inside.LineByLine.{start, IsTextFaultOf, and_then, next, after_lines, ended, reading}
+use Rattle.causal_text.specs.Reading.{◌>>=◌}
+use Rattle.causal_text.specs.Inside.LineByLine.{start, IsTextFaultOf, next, after_lines, ended, reading}
 use Rattle.causal_text.specs.Pieces.{no_feed, IsComplete, AreComplete, joined, Held, StandsFor}
 use Rattle.causal_text.specs.Inside.Unfinished.{IsFaultOfAll, with_line, IsPast, last_place, ending}
 use Rattle.causal_text.proofs.Spellings.{IsPlaceAfter-next}
@@ -119,7 +120,7 @@ fault_of_complete h b line f s c e more =
     ap (λ xs. after_lines start (lines xs)) (append_assoc b line more) ∙ reading_from h b (line ++ more) s
     ∙ ap (λ xs. after_lines h.place (lines xs)) (sym (append_assoc h.rest line more))
     ∙ ap (after_lines h.place) (lines_complete (h.rest ++ line) more (IsComplete-append h.rest line s.unfinished c)) ∙ rw e refl in
-    ap (λ (r : Result Place TextFault). and_then r (λ p. ended p p.stage)) same
+    ap (λ (r : Result Place TextFault). r >>= λ p. ended p p.stage) same
 
 pub fault_of_grown : (h : Held) (b : List ℕ) (f : TextFault) → StandsFor h b → 0 < length h.rest → ((m : List ℕ) → next h.place (h.rest ++ m) ≡ Err f) → IsFaultOfAll b f
 fault_of_grown h b f s some e more = from h.rest some s.unfinished e (reading_from h b more s) where
@@ -128,7 +129,7 @@ fault_of_grown h b f s some e more = from h.rest some s.unfinished e (reading_fr
   from (x ∷ xs) some none e same =
       let g = lines_grown x xs more none in
       let all : after_lines start (lines (b ++ more)) ≡ Err f = same ∙ ap (after_lines h.place) g.2 ∙ rw (e g.0) refl in
-      ap (λ (r : Result Place TextFault). and_then r (λ p. ended p p.stage)) all
+      ap (λ (r : Result Place TextFault). r >>= λ p. ended p p.stage) all
 
 -- ---- a piece, part by part
 
@@ -141,13 +142,13 @@ regrouped h b done more s = subst (λ (xs : List ℕ). StandsFor h xs) (append_a
 
 with_line_ok : (h h1 : Held) (line : List ℕ) → with_line h line ≡ Ok h1 → (p : Place) × (next h.place (h.rest ++ line) ≡ Ok p) × (record { place = p; rest = [] } ≡ h1)
 with_line_ok h h1 line e = parts (next h.place (h.rest ++ line)) e where
-  parts : (r : Result Place TextFault) → and_then r (λ p. Ok (record { place = p; rest = [] })) ≡ Ok h1 → (p : Place) × (r ≡ Ok p) × (record { place = p; rest = [] } ≡ h1)
+  parts : (r : Result Place TextFault) → (r >>= λ p. Ok (record { place = p; rest = [] })) ≡ Ok h1 → (p : Place) × (r ≡ Ok p) × (record { place = p; rest = [] } ≡ h1)
   parts (Ok p) e = (p, refl, cc)
   parts (Err f) e = absurd (let no : Err f ≡ Ok h1 = e in cc)
 
 with_line_err : (h : Held) (line : List ℕ) (f : TextFault) → with_line h line ≡ Err f → next h.place (h.rest ++ line) ≡ Err f
 with_line_err h line f e = parts (next h.place (h.rest ++ line)) e where
-  parts : (r : Result Place TextFault) → and_then {B = Held} r (λ p. Ok (record { place = p; rest = [] })) ≡ Err f → r ≡ Err f
+  parts : (r : Result Place TextFault) → ◌>>=◌ {B = Held} r (λ p. Ok (record { place = p; rest = [] })) ≡ Err f → r ≡ Err f
   parts (Ok p) e = let k : Held = record { place = p; rest = [] } in absurd (let no : Ok k ≡ Err f = e in cc)
   parts (Err g) e = let same : g ≡ f = cc in ap Err same
 
@@ -188,7 +189,7 @@ lines_rest (x ∷ y ∷ ys) h some =
 last_lines : (p : Place) (rest : List ℕ) → no_feed rest ≡ true → after_lines p (lines rest) ≡ last_place (record { place = p; rest = rest }) rest
 last_lines p [] h = refl
 last_lines p (x ∷ xs) h = ap (after_lines p) (lines_rest (x ∷ xs) h (omega arith)) ∙ one (next p (x ∷ xs)) where
-  one : (r : Result Place TextFault) → and_then r (λ q. after_lines q []) ≡ r
+  one : (r : Result Place TextFault) → (r >>= λ q. after_lines q []) ≡ r
   one (Ok q) = refl
   one (Err f) = refl
 
@@ -197,7 +198,7 @@ reading-ending h b s =
     let all = reading_from h b [] s in
     let same : after_lines start (lines b) ≡ last_place h h.rest =
     ap (λ xs. after_lines start (lines xs)) (sym (append-nil b)) ∙ all ∙ ap (λ xs. after_lines h.place (lines xs)) (append-nil h.rest) ∙ last_lines h.place h.rest s.unfinished in
-    ap (λ (r : Result Place TextFault). and_then r (λ p. ended p p.stage)) same
+    ap (λ (r : Result Place TextFault). r >>= λ p. ended p p.stage) same
 
 -- ---- the line that is being read
 
@@ -247,4 +248,4 @@ fault_told kind.Cut f read h = h (λ e. cc)
 pub faulty_line : (h : Held) (line : List ℕ) (f : TextFault) → IsPast (record { place = h.place; rest = h.rest ++ line }) f → with_line h line ≡ Err f
 faulty_line h line f past =
     let here : next h.place (h.rest ++ line) ≡ Err f = ap (next h.place) (sym (append-nil (h.rest ++ line))) ∙ past [] in
-    ap (λ (r : Result Place TextFault). and_then r (λ p. Ok (record { place = p; rest = [] }))) here
+    ap (λ (r : Result Place TextFault). r >>= λ p. Ok (record { place = p; rest = [] })) here

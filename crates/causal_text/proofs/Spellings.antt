@@ -12,19 +12,17 @@ use Rattle.causal_text.specs.declared.stage.Stage.TheVariants.{Opening, Within, 
 use Rattle.causal_text.specs.Lines.{lines}
 use Rattle.causal_text.specs.declared.version.Version.{Version}
 use Rattle.causal_text.specs.Place.{Place, IsPlaceAfter}
-use Rattle.causal_text.specs.Inside.LineByLine.{start, ◌at◌, and_then, next, after_lines, ended, reading}
+use Rattle.causal_text.specs.Inside.LineByLine.{start, ◌at◌, next, after_lines, ended, reading}
+use Rattle.causal_text.specs.Reading.{◌>>=◌}
 use Rattle.causal_text.specs.Stages.{line_shape, after_line}
 use Rattle.causal_text.specs.Spelling.{said, Spells, LeadsTo, IsOpen, IsFirstFault}
 use Rattle.causal_text.proofs.Joined.{sum_by-lines}
-use Rattle.causal_text.proofs.Steps.{Accepted-line}
+use Rattle.causal_text.proofs.Steps.{bind_ok, Accepted-line}
 
-and_then_ok : {A B : Type 0} (r : Result A TextFault) (f : A → Result B TextFault) (y : B) → and_then r f ≡ Ok y → (x : A) × (r ≡ Ok x) × (f x ≡ Ok y)
-and_then_ok (Ok x) f y h = (x, refl, h)
-and_then_ok (Err e) f y h = absurd (let no : Err e ≡ Ok y = h in cc)
-
-and_then_err : {A B : Type 0} (r : Result A TextFault) (f : A → Result B TextFault) (e : TextFault) → and_then r f ≡ Err e → (r ≡ Err e) ⊎ ((x : A) × (r ≡ Ok x) × (f x ≡ Err e))
-and_then_err (Ok x) f e h = inr (x, refl, h)
-and_then_err (Err d) f e h = inl (let same : d ≡ e = cc in ap Err same)
+-- a fault stands in the first part, or in what follows it
+bind_err : {A B E : Type 0} (r : Result A E) (f : A → Result B E) (e : E) → (r >>= f) ≡ Err e → (r ≡ Err e) ⊎ ((x : A) × (r ≡ Ok x) × (f x ≡ Err e))
+bind_err (Ok x) f e h = inr (x, refl, h)
+bind_err (Err d) f e h = inl (let same : d ≡ e = cc in ap Err same)
 
 at_ok : {A : Type 0} (r : Result A TextKind) (line : ℕ) (y : A) → (r at line) ≡ Ok y → r ≡ Ok y
 at_ok (Ok x) line y h = let same : x ≡ y = cc in ap Ok same
@@ -50,7 +48,7 @@ LeadsTo-line before s line t r h =
 
 pub IsPlaceAfter-next : (before : List (List ℕ)) (p q : Place) (line : List ℕ) → IsPlaceAfter before p → next p line ≡ Ok q → IsPlaceAfter (before ++ line ∷ []) q
 IsPlaceAfter-next before p q line st h =
-    let step = and_then_ok (after_line p.stage (p.size + length line) line at (p.count + 1)) _ q h in
+    let step = bind_ok (after_line p.stage (p.size + length line) line at (p.count + 1)) _ q h in
     let taken = at_ok (after_line p.stage (p.size + length line) line) (p.count + 1) step.0 step.1 in
     let there : record { stage = step.0; count = p.count + 1; size = p.size + length line } ≡ q = cc in
     subst (λ (u : Place). IsPlaceAfter (before ++ line ∷ []) u) there (record {
@@ -63,7 +61,7 @@ pub IsPlaceAfter-lines : (before ls : List (List ℕ)) (p q : Place) → IsPlace
 IsPlaceAfter-lines before [] p q st h =
     let same : p ≡ q = cc in rw append-nil (subst (λ (u : Place). IsPlaceAfter before u) same st)
 IsPlaceAfter-lines before (l ∷ ls) p q st h =
-    let step = and_then_ok (next p l) (λ x. after_lines x ls) q h in
+    let step = bind_ok (next p l) (λ x. after_lines x ls) q h in
     rw (← append_assoc before (l ∷ []) ls) (IsPlaceAfter-lines (before ++ l ∷ []) ls step.0 q (IsPlaceAfter-next before p step.0 l st step.1) step.2)
 
 -- the first line that has a fault
@@ -79,7 +77,7 @@ pub record Breaks (before ls : List (List ℕ)) (fault : TextFault) : Type 0 whe
 
 Breaks-here : (before ls : List (List ℕ)) (p : Place) (line : List ℕ) (e : TextFault) → IsPlaceAfter before p → next p line ≡ Err e → Breaks before (line ∷ ls) e
 Breaks-here before ls p line e st h =
-    elim (and_then_err (after_line p.stage (p.size + length line) line at (p.count + 1)) _ e h) [
+    elim (bind_err (after_line p.stage (p.size + length line) line at (p.count + 1)) _ e h) [
       | inl is ↦ (let parts = at_err (after_line p.stage (p.size + length line) line) (p.count + 1) e is in record {
         front = before;
         line = line;
@@ -96,7 +94,7 @@ Breaks-here before ls p line e st h =
 Breaks-lines : (before ls : List (List ℕ)) (p : Place) (e : TextFault) → IsPlaceAfter before p → after_lines p ls ≡ Err e → Breaks before ls e
 Breaks-lines before [] p e st h = absurd (let no : Ok p ≡ Err e = h in cc)
 Breaks-lines before (l ∷ ls) p e st h =
-    elim (and_then_err (next p l) (λ x. after_lines x ls) e h) [
+    elim (bind_err (next p l) (λ x. after_lines x ls) e h) [
       | inl is ↦ Breaks-here before ls p l e st is
       | inr is ↦ (let later = Breaks-lines (before ++ l ∷ []) ls is.0 e (IsPlaceAfter-next before p is.0 l st is.1) is.2 in record {
         front = later.front;
@@ -128,7 +126,7 @@ Spells-reached text version r reached = record {
 
 pub Spells-reading : (text : List ℕ) (r : Recording) → reading text ≡ Ok r → Spells text r
 Spells-reading text r h =
-    let step = and_then_ok (after_lines start (lines text)) _ r h in
+    let step = bind_ok (after_lines start (lines text)) _ r h in
     let stands = IsPlaceAfter-lines [] (lines text) start step.0 IsPlaceAfter-start step.1 in
     let last = ended_ok step.0 step.0.stage r step.2 in
     Spells-reached text last.0 r (subst (λ (s : Stage). LeadsTo (lines text) s) last.1 stands.reaches)
@@ -142,7 +140,7 @@ cut_parts p (Ended version q) e h = absurd (let no : Ok q ≡ Err e = h in cc)
 
 pub IsFirstFault-reading : (text : List ℕ) (e : TextFault) → reading text ≡ Err e → IsFirstFault text e
 IsFirstFault-reading text e h =
-    elim (and_then_err (after_lines start (lines text)) _ e h) [
+    elim (bind_err (after_lines start (lines text)) _ e h) [
       | inl is ↦ (let b = Breaks-lines [] (lines text) start e IsPlaceAfter-start is in inl (record {
         before = b.front;
         line = b.line;

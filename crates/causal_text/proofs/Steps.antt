@@ -20,7 +20,8 @@ use Rattle.causal_text.specs.Stages.{opened, kind_of, max_text, line_shape, begu
 use Rattle.causal_text.specs.Versions.{number_of, most_processes, has_line}
 use Rattle.causal_text.specs.Spelling.{said, IsSound}
 
-pub bind_ok : {A B : Type 0} (r : Result A TextKind) (f : A → Result B TextKind) (y : B) → (r >>= f) ≡ Ok y → (x : A) × (r ≡ Ok x) × (f x ≡ Ok y)
+-- what was read to its end was read in both its parts
+pub bind_ok : {A B E : Type 0} (r : Result A E) (f : A → Result B E) (y : B) → (r >>= f) ≡ Ok y → (x : A) × (r ≡ Ok x) × (f x ≡ Ok y)
 bind_ok (Ok x) f y h = (x, refl, h)
 bind_ok (Err e) f y h = absurd (let no : Err e ≡ Ok y = h in cc)
 

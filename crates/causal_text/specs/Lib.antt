@@ -11,3 +11,4 @@ pub mod FaultLine
 pub mod Canonical
 pub mod Pieces
 pub mod Streams
+pub mod Written

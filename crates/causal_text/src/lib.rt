@@ -3,8 +3,9 @@
 //! A text is read line by line. Either it spells one trace, or it has one first fault: that of the least line that has
 //! one, and within a line the first in the order of [`TextKind`].
 //!
-//! Begin at [`read_trace`] for a text that is there as a whole, or [`read_from`] for one that a reader gives; [`TraceReader`] reads
-//! a piece at a time. [`text_of`] and [`write_trace`] give the canonical text. [`laws`] says that a text has one reading.
+//! Begin at [`read_trace`] for a text that is there as a whole, or [`read_from`] for one that a reader gives; [`TraceReader`]
+//! reads a piece at a time. [`text_of`] and [`write_trace`] give the canonical text, [`write_whole`] writes any bytes. [`laws`]
+//! says that a text has one reading.
 #![tactic(auto)]
 
 pub mod kind;
@@ -20,9 +21,11 @@ mod stage;
 pub mod stream;
 mod version;
 pub mod writer;
+pub mod written;
 
 pub use kind::{TextFault, TextKind};
 pub use reader::read_trace;
 pub use report::fault_line;
 pub use stream::{Progress, ReaderFault, TraceReader, read_from};
-pub use writer::{WriteCause, WriteFault, text_of, write_trace};
+pub use writer::{text_of, write_trace};
+pub use written::{WriteCause, WriteFault, write_whole};

@@ -1,16 +1,17 @@
 //! The canonical text of a trace: its tokens with no byte between them, and a line feed after each line.
-ghost use Rattle.std.specs.Prelude.{◌≡◌, ◌++◌, codes, ◌<◌, length, take, OnOk, IfOk, IfErr, string_bytes};
+ghost use Rattle.std.specs.Prelude.{◌≡◌, ◌++◌, codes, OnOk, IfOk, IfErr, string_bytes};
 ghost use Rattle.std.specs.Io.KnownBytes.{Appends};
 ghost use Rattle.causal_text.specs.Canonical.{det_text, more_dets_text, dets_text, entry_text, entries_text, canonical, canonical_version};
+ghost use Rattle.causal_text.specs.Written.{StopsIn};
 ghost use Rattle.causal_text.specs.Inside.Texts.{numbers_text, named_text, listed_text};
 
 use crate::version::Version;
+use crate::written::{WriteCause, WriteFault, write_whole};
 use causal_name::{Det, NoMemory, Pid};
 use causal_trace::entry::Entry;
 use causal_trace::trace::Trace;
 use std::alloc::{AllocError, Global};
 use std::io::Write;
-use thiserror::Error;
 
 // the first version in which the trace can be written
 fn canonical_version(trace: &Trace) -> Version
@@ -160,61 +161,19 @@ pub fn text_of(alloc: Global, trace: &Trace) -> Result<Vec<u8>, NoMemory>
     Ok(out.into_bytes())
 }
 
-/// Why a text was not written whole.
-#[derive(Clone, Copy, Debug, PartialEq, Eq, Error)]
-pub enum WriteCause {
-    /// The writer answered an error, or took no byte.
-    #[error("the writer failed")]
-    Device,
-    /// Memory was asked for and refused.
-    #[error("no memory")]
-    Memory,
-}
-
-/// Why a text was not written whole, and how many bytes of it went out.
-#[derive(Clone, Copy, Debug, PartialEq, Eq, Error)]
-#[error("{cause} after {written} bytes")]
-pub struct WriteFault {
-    pub written: u64,
-    pub cause: WriteCause,
-}
-
 /// Writes the canonical text of a trace. After a fault just the first `written` bytes of it went out. `Device` is
 /// answered only where a write answered an error, of any kind, or took no byte; `Memory` only where a growth was
 /// refused, before the first write.
 pub fn write_trace<W: Write>(alloc: Global, trace: &Trace, writer: &mut W) -> Result<(), WriteFault>
     ensures ok { OnOk result (Appends (W.contents writer.old) (W.contents writer.new) (canonical trace.now.recording)) }
-    ensures err { IfErr result (λ fault. (fault.written < length (canonical trace.now.recording))
-        × Appends (W.contents writer.old) (W.contents writer.new) (take fault.written (canonical trace.now.recording))) }
+    ensures err { IfErr result (StopsIn (canonical trace.now.recording) (W.contents writer.old) (W.contents writer.new)) }
     ensures cause { IfErr result (λ fault. fault.cause ≡ WriteCause.Memory → fault.written ≡ 0) }
 {
     match text_of(alloc, trace) {
-        Ok(text) => write_counted(text.as_slice(), writer),
+        Ok(text) => write_whole(text.as_slice(), writer),
         Err(_) => Err(WriteFault {
             written: 0,
             cause: WriteCause::Memory,
         }),
     }
-}
-
-fn write_counted<W: Write>(text: &[u8], writer: &mut W) -> Result<(), WriteFault>
-    ensures ok { OnOk result (Appends (W.contents writer.old) (W.contents writer.new) text.now) }
-    ensures err { IfErr result (λ f. (f.written < length text.now)
-        × Appends (W.contents writer.old) (W.contents writer.new) (take f.written text.now)) }
-    ensures cause { IfErr result (λ fault. fault.cause ≡ WriteCause.Device) }
-{
-    let mut written: usize = 0;
-    while written < text.len() {
-        let (_done, rest) = text.split_at(written);
-        match writer.write(rest) {
-            Ok(n) if n > 0 => written += n,
-            _ => {
-                return Err(WriteFault {
-                    written: written as u64,
-                    cause: WriteCause::Device,
-                });
-            }
-        }
-    }
-    Ok(())
 }

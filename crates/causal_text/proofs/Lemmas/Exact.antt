@@ -7,7 +7,8 @@ use Rattle.causal_text.specs.declared.stage.Stage.{Stage}
 use Rattle.causal_text.specs.declared.stage.Stage.TheVariants.{Opening, Within, Ended}
 use Rattle.causal_text.specs.Lines.{lines}
 use Rattle.causal_text.specs.Place.{Place}
-use Rattle.causal_text.specs.Inside.LineByLine.{start, and_then, next, after_lines, ended, reading}
+use Rattle.causal_text.specs.Reading.{◌>>=◌}
+use Rattle.causal_text.specs.Inside.LineByLine.{start, next, after_lines, ended, reading}
 use Rattle.causal_text.specs.Stages.{after_line}
 use Rattle.causal_text.specs.Spelling.{Spells, IsOpen, IsFaultOfLine, IsCut, IsFirstFault}
 use Rattle.causal_text.proofs.Spellings.{IsPlaceAfter-lines, IsPlaceAfter-start}
@@ -24,7 +25,7 @@ fault_of_line text f e =
     let st = IsPlaceAfter-lines [] e.before start q.0 IsPlaceAfter-start q.1 in
     let here = faulty_next q.0 e.line f (rw (q.2, st.size) e.faulty) (rw st.count e.number) in
     let all : after_lines start (lines text) ≡ Err f = ap (after_lines start) e.split ∙ after_lines-append start q.0 e.before (e.line ∷ e.after) q.1 ∙ rw here refl in
-    ap (λ (r : Result Place TextFault). and_then r (λ p. ended p p.stage)) all
+    ap (λ (r : Result Place TextFault). r >>= λ p. ended p p.stage) all
 
 -- with no end line so far the text is cut here
 cut_here : (q : Place) (s : Stage) (f : TextFault) → IsOpen s → f.line ≡ q.count + 1 → f.kind ≡ kind.Cut → ended q s ≡ Err f
@@ -37,7 +38,7 @@ cut_of : (text : List ℕ) (f : TextFault) → IsCut text f → reading text ≡
 cut_of text f e =
     let q = Leads-reached (lines text) e.stage e.reaches in
     let st = IsPlaceAfter-lines [] (lines text) start q.0 IsPlaceAfter-start q.1 in
-    ap (λ (r : Result Place TextFault). and_then r (λ p. ended p p.stage)) q.1
+    ap (λ (r : Result Place TextFault). r >>= λ p. ended p p.stage) q.1
     ∙ cut_here q.0 q.0.stage f (subst (λ (s : Stage). IsOpen s) (sym q.2) e.unended) (rw st.count e.number) e.kind_is
 
 -- the first fault of a text is what reading gives

@@ -8,6 +8,7 @@ use Rattle.causal_text.specs.declared.stage.Stage.{Stage}
 use Rattle.causal_text.specs.declared.stage.Stage.TheVariants.{Opening, Within, Ended}
 use Rattle.causal_text.specs.Lines.{lines}
 use Rattle.causal_text.specs.Place.{Place}
+use Rattle.causal_text.specs.Reading.{◌>>=◌}
 use Rattle.causal_text.specs.Stages.{after_line}
 
 -- before the first line
@@ -20,13 +21,9 @@ abbrev pub ◌at◌ : {A : Type 0} → Result A TextKind → ℕ → Result A Te
 (Ok x) at line = Ok x
 (Err kind) at line = Err (record { line = line; kind = kind })
 
-abbrev pub and_then : {A B : Type 0} → Result A TextFault → (A → Result B TextFault) → Result B TextFault
-and_then (Ok x) f = f x
-and_then (Err e) f = Err e
-
 -- the place after one more line
 abbrev pub next : Place → List ℕ → Result Place TextFault
-next p line = and_then (after_line p.stage (p.size + length line) line at (p.count + 1)) (λ s. Ok (record { stage = s; count = p.count + 1; size = p.size + length line }))
+next p line = (after_line p.stage (p.size + length line) line at (p.count + 1)) >>= λ s. Ok (record { stage = s; count = p.count + 1; size = p.size + length line })
 
 -- each line of at least so many bytes has the fault, whatever it holds
 abbrev pub IsFaultFrom : Place → ℕ → TextFault → Type 0
@@ -35,7 +32,7 @@ IsFaultFrom p n fault = (line : List ℕ) → n ≤ length line → next p line 
 -- the place after these lines, or the fault of the first of them that has one
 abbrev pub after_lines : Place → List (List ℕ) → Result Place TextFault
 after_lines p [] = Ok p
-after_lines p (l ∷ ls) = and_then (next p l) (λ q. after_lines q ls)
+after_lines p (l ∷ ls) = next p l >>= λ q. after_lines q ls
 
 -- a text ends with its end line
 abbrev pub ended : Place → Stage → Result Recording TextFault
@@ -45,7 +42,7 @@ ended p (Ended version r) = Ok r
 
 -- the recording that a text spells, or its first fault
 abbrev pub reading : List ℕ → Result Recording TextFault
-reading text = and_then (after_lines start (lines text)) (λ p. ended p p.stage)
+reading text = after_lines start (lines text) >>= λ p. ended p p.stage
 
 -- a fault other than want of memory is the one that reading gives
 abbrev pub IsTextFaultOf : {A : Type 0} → TextKind → TextFault → Result A TextFault → Type 0

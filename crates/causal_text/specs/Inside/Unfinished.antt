@@ -4,7 +4,8 @@ use Rattle.causal_trace.specs.Rows.{Recording}
 use Rattle.causal_text.specs.declared.kind.TextFault.{TextFault}
 use Rattle.causal_text.specs.Place.{Place}
 use Rattle.causal_text.specs.Pieces.{Held}
-use Rattle.causal_text.specs.Inside.LineByLine.{and_then, next, ended, reading}
+use Rattle.causal_text.specs.Reading.{◌>>=◌}
+use Rattle.causal_text.specs.Inside.LineByLine.{next, ended, reading}
 
 -- how many bytes are held
 abbrev pub taken : Held → ℕ
@@ -16,7 +17,7 @@ IsFaultOfAll bytes fault = (more : List ℕ) → reading (bytes ++ more) ≡ Err
 
 -- the rest of a line has come, with its line feed
 abbrev pub with_line : Held → List ℕ → Result Held TextFault
-with_line h line = and_then (next h.place (h.rest ++ line)) (λ p. Ok (record { place = p; rest = [] }))
+with_line h line = next h.place (h.rest ++ line) >>= λ p. Ok (record { place = p; rest = [] })
 
 -- the unfinished line has the fault, however it goes on
 abbrev pub IsPast : Held → TextFault → Type 0
@@ -28,4 +29,4 @@ last_place h [] = Ok h.place
 last_place h (x ∷ xs) = next h.place (x ∷ xs)
 
 abbrev pub ending : Held → Result Recording TextFault
-ending h = and_then (last_place h h.rest) (λ p. ended p p.stage)
+ending h = last_place h h.rest >>= λ p. ended p p.stage

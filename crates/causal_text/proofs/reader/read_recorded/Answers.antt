@@ -1,20 +1,16 @@
-use Rattle.std.proofs.Common.{◌≡◌, ◌≢◌, Result, Ok, Err, refl, List, ℕ, IfOk, IfErr}
+use Rattle.std.proofs.Common.{◌≢◌, Result, Ok, Err, List, ℕ, IfOk, IfErr}
 use Rattle.causal_trace.specs.Rows.{Recording}
-use Rattle.causal_text.specs.declared.kind.TextKind.{TextKind}
 use Rattle.causal_text.specs.declared.kind.TextKind.TheVariants as kind
 use Rattle.causal_text.specs.declared.kind.TextFault.{TextFault}
-use Rattle.causal_text.specs.Inside.LineByLine.{GivesText, IsTextFaultOf, reading}
+use Rattle.causal_text.specs.Inside.LineByLine.{GivesText, reading}
 use Rattle.causal_text.specs.Spelling.{Spells, IsFirstFault}
+use Rattle.causal_text.proofs.Feeds.{told}
 use Rattle.causal_text.proofs.Spellings.{Spells-reading, IsFirstFault-reading}
 use Rattle.causal_text.proofs.reader.read_recorded.Goals as goal
 
 spelled : (text : List ℕ) (r : Result Recording TextFault) → GivesText r (reading text) → IfOk r (λ t. Spells text t)
 spelled text (Ok t) h = Spells-reading text t h
 spelled text (Err f) h = tt
-
-told : (k : TextKind) (f : TextFault) (read : Result Recording TextFault) → IsTextFaultOf k f read → k ≢ kind.NoMemory → read ≡ Err f
-told kind.NoMemory f read h other = absurd (other refl)
-told _ f read h other = h
 
 first : (text : List ℕ) (r : Result Recording TextFault) → GivesText r (reading text) → IfErr r (λ f. f.kind ≢ kind.NoMemory → IsFirstFault text f)
 first text (Ok t) h = tt
