@@ -1,4 +1,3 @@
-mod ByteLemmas
 mod Known
 mod PrintLemmas
 mod ReadLemmas

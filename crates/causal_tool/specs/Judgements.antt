@@ -5,7 +5,7 @@ use Rattle.causal_text.specs.declared.kind.TextKind.TheVariants as kind
 use Rattle.causal_tool.specs.declared.judged.StreamFault.{StreamFault}
 use Rattle.causal_tool.specs.declared.judged.StreamFault.TheVariants.{Text}
 
--- a fault of the text is its first, and no want of memory
-abbrev pub IsFaultOf : List ℕ → StreamFault → Type 0
-IsFaultOf text (Text fault) = IsFirstFault text fault × (fault.kind ≢ kind.NoMemory)
-IsFaultOf text _ = Unit {0}
+-- where it is the text's fault that is told, it is the first, and no want of memory
+abbrev pub TellsFirstFault : List ℕ → StreamFault → Type 0
+TellsFirstFault text (Text fault) = IsFirstFault text fault × (fault.kind ≢ kind.NoMemory)
+TellsFirstFault text _ = Unit {0}

@@ -1,6 +1,6 @@
+pub mod Inside
 pub mod Endings
 pub mod Judgements
 pub mod Reasons
 pub mod Runs
 pub mod Streams
-pub mod Refusals

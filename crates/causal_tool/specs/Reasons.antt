@@ -1,11 +1,8 @@
 -- Why the program prints no trace for the text of a script.
-use Rattle.std.specs.Prelude.{◌≢◌, List, ℕ, Option, IfSome}
+use Rattle.std.specs.Prelude.{List, ℕ, Option, IfSome}
 use Rattle.causal_script.specs.declared.script.Script.{Script}
-use Rattle.causal_script.specs.declared.script.ScriptFault.{ScriptFault}
 use Rattle.causal_script.specs.Spelling.{Spells, plan_of}
 use Rattle.causal_script.specs.Faults.{IsFirstFault}
-use Rattle.causal_script.specs.declared.script.ScriptFaultKind.TheVariants as kind
-use Rattle.causal_run.specs.declared.fault.RunFault.{RunFault}
 use Rattle.causal_run.specs.Runs.{Tells}
 use Rattle.causal_run.specs.Members.{IsStartOf}
 use Rattle.causal_tool.specs.Runs.{read_of}
@@ -20,12 +17,3 @@ IsReason text (Why.Run fault) = (script : Script) × Spells text (plan_of script
 -- a reason that is told is that of what a reader gives, where its bytes are known
 abbrev pub NamesReason : Option (List ℕ) → Option Reason → Type 0
 NamesReason given told = IfSome given (λ text. IfSome told (IsReason (read_of text)))
-
--- the reason of each text of which the fault, where it is no want of memory, is the first
-abbrev pub TellsFault : ScriptFault → Option Reason → Type 0
-TellsFault fault told = (text : List ℕ) → (fault.kind ≢ kind.NoMemory → IsFirstFault text fault) → IfSome told (IsReason text)
-
--- the reason of each script of whose run the fault tells
-abbrev pub TellsStop : RunFault → Option Reason → Type 0
-TellsStop fault told = (text : List ℕ) (script : Script) → Spells text (plan_of script)
-    → Tells (IsStartOf script) script.commands fault → IfSome told (IsReason text)

@@ -1,5 +1,5 @@
 -- What the program prints for the text of a script.
-use Rattle.std.specs.Prelude.{◌≡◌, ◌≢◌, ℕ, ◌+◌, ◌<◌, ◌≤◌, List, length, take, Option, IfSome, ⊤}
+use Rattle.std.specs.Prelude.{◌≡◌, ℕ, ◌+◌, ◌<◌, ◌≤◌, List, length, take, Option, IfSome}
 use Rattle.std.specs.Io.KnownBytes.{Appends, Consumes, Keeps}
 use Rattle.causal_trace.specs.Rows.{Recording}
 use Rattle.causal_trace.specs.Judgement.{IsSafeTrace}
@@ -10,9 +10,7 @@ use Rattle.causal_script.specs.declared.script.ScriptFault.{ScriptFault}
 use Rattle.causal_script.specs.Spelling.{Spells, plan_of, max_script}
 use Rattle.causal_script.specs.Faults.{IsFirstFault}
 use Rattle.causal_script.specs.Printing.{script_line, refused_line}
-use Rattle.causal_script.specs.declared.script.ScriptFaultKind.TheVariants as kind
-use Rattle.causal_run.specs.declared.fault.RunFault.{RunFault}
-use Rattle.causal_run.specs.Runs.{IsRunFrom, IsRefusedFrom, Tells}
+use Rattle.causal_run.specs.Runs.{IsRunFrom, IsRefusedFrom}
 use Rattle.causal_run.specs.Members.{IsStartOf}
 use Rattle.causal_tool.specs.declared.ended.Ended.{Ended}
 use Rattle.causal_tool.specs.declared.ended.Ended.TheVariants.{Faulted, Ran, Refused, ReadFault, WriteFault, NoMemory, FinishFault}
@@ -46,26 +44,6 @@ Prints text ended old new = (out : List ℕ) × IsPrinted text ended out × Appe
 abbrev pub PrintsFor : Option (List ℕ) → Ended → Option (List ℕ) → Option (List ℕ) → Type 0
 PrintsFor given ended old new = IfSome given (λ text. Prints (read_of text) ended old new)
 
--- the answer to what a reader gives, where its bytes are known
-abbrev pub IsPrintedFor : Option (List ℕ) → Ended → List ℕ → Type 0
-IsPrintedFor given ended out = IfSome given (λ text. IsPrinted (read_of text) ended out)
-
 -- the reader goes on by no more bytes than are read of a text
 abbrev pub ReadsNoMore : Option (List ℕ) → Option (List ℕ) → Type 0
 ReadsNoMore old new = (given : List ℕ) × Consumes old new given × (length given ≤ max_script + 1)
-
--- the answer to each text of which the fault, where it is no want of memory, is the first
-abbrev pub AnswersFault : ScriptFault → Ended → List ℕ → Type 0
-AnswersFault fault ended out = (text : List ℕ) → (fault.kind ≢ kind.NoMemory → IsFirstFault text fault) → IsPrinted text ended out
-
--- the answer to the text of each script of whose run the fault tells
-abbrev pub AnswersStop : RunFault → Ended → List ℕ → Type 0
-AnswersStop fault ended out = (text : List ℕ) (script : Script) → Spells text (plan_of script)
-    → Tells (IsStartOf script) script.commands fault → IsPrinted text ended out
-
--- an ending of a run that writes nothing
-abbrev pub PrintsNothing : Ended → Type 0
-PrintsNothing ReadFault = ⊤
-PrintsNothing NoMemory = ⊤
-PrintsNothing FinishFault = ⊤
-PrintsNothing _ = ⊥

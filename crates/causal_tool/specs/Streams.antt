@@ -1,5 +1,5 @@
 -- What a run of the program writes.
-use Rattle.std.specs.Prelude.{◌≡◌, ◌≢◌, ℕ, ◌<◌, List, length, take, Option, IfSome, ⊤}
+use Rattle.std.specs.Prelude.{◌≡◌, ◌≢◌, ℕ, ◌<◌, List, length, take, Option, IfSome}
 use Rattle.std.specs.Io.KnownBytes.{Appends, Keeps}
 use Rattle.causal_text.specs.declared.kind.TextFault.{TextFault}
 use Rattle.causal_text.specs.Spelling.{IsFirstFault}
@@ -7,7 +7,6 @@ use Rattle.causal_text.specs.FaultLine.{fault_line}
 use Rattle.causal_audit.specs.declared.verdict.Verdict.TheVariants.{Accept}
 use Rattle.causal_tool.specs.declared.ended.Ended.{Ended}
 use Rattle.causal_tool.specs.declared.ended.Ended.TheVariants.{Accepted, Breached, Faulted, ReadFault, WriteFault, NoMemory, NoWorker}
-use Rattle.causal_tool.specs.declared.written.WriteFault.{WriteFault as Stopped}
 use Rattle.causal_workers.specs.declared.judged.Judged.{Judged}
 use Rattle.causal_workers.specs.Judgements.{IsJudgement}
 use Rattle.causal_workers.specs.Lines.{verdict_line}
@@ -34,21 +33,6 @@ Writes text f ended old new = (line : List ℕ) × IsAnswer text f ended line ×
 abbrev pub WritesFor : Option (List ℕ) → ℕ → Ended → Option (List ℕ) → Option (List ℕ) → Type 0
 WritesFor given f ended old new = IfSome given (λ text. Writes text f ended old new)
 
--- the line answers the text that a reader gives, where its bytes are known
-abbrev pub IsAnswerFor : Option (List ℕ) → ℕ → Ended → List ℕ → Type 0
-IsAnswerFor given f ended line = IfSome given (λ text. IsAnswer text f ended line)
-
 -- a fault that is told is the first of the text that a reader gives, where its bytes are known
 abbrev pub NamesFirstFault : Option (List ℕ) → Option TextFault → Type 0
 NamesFirstFault given told = IfSome given (λ text. IfSome told (λ fault. IsFirstFault text fault))
-
--- after a write fault the writer got the first of the bytes alone, as many as it tells
-abbrev pub StopsIn : List ℕ → Option (List ℕ) → Option (List ℕ) → Stopped → Type 0
-StopsIn bytes old new fault = Appends old new (take fault.written bytes)
-
--- an ending that writes nothing
-abbrev pub IsSilent : Ended → Type 0
-IsSilent ReadFault = ⊤
-IsSilent NoMemory = ⊤
-IsSilent NoWorker = ⊤
-IsSilent _ = ⊥

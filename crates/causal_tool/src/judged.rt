@@ -4,7 +4,7 @@ ghost use Rattle.causal_trace.specs.Past.{deliveries_in};
 ghost use Rattle.causal_text.specs.Streams.{TellsOf};
 ghost use Rattle.causal_audit.specs.Verdicts.{IsVerdict};
 ghost use Rattle.causal_workers.specs.Judgements.{IsJudgement};
-ghost use Rattle.causal_tool.specs.Judgements.{IsFaultOf};
+ghost use Rattle.causal_tool.specs.Judgements.{TellsFirstFault};
 
 use causal_text::{ReaderFault, TextFault, TextKind, read_from};
 use causal_trace::trace::Trace;
@@ -48,7 +48,7 @@ pub fn audit_from<I: Read, G: Gate + Sync, R: Threads + Wait>(
 ) -> Result<Judged, StreamFault>
     requires { (1 ≤ workers) × (workers ≤ 64) }
     ensures ok { IfOk result (λ judged. IfSome (I.remaining input.old) (λ text. IsJudgement text f judged)) }
-    ensures err { IfErr result (λ fault. IfSome (I.remaining input.old) (λ text. IsFaultOf text fault)) }
+    ensures err { IfErr result (λ fault. IfSome (I.remaining input.old) (λ text. TellsFirstFault text fault)) }
     ensures alone { result ≡ Err StreamFault.NoWorker → 2 ≤ workers }
 {
     let trace = match read_from(alloc, input) {
@@ -63,7 +63,7 @@ pub fn audit_from<I: Read, G: Gate + Sync, R: Threads + Wait>(
 }
 
 fn fault_of(fault: ReaderFault) -> StreamFault
-    ensures told { (text : List ℕ) → TellsOf text fault → IsFaultOf text result }
+    ensures told { (text : List ℕ) → TellsOf text fault → TellsFirstFault text result }
     ensures alone { result ≡ StreamFault.NoWorker → ⊥ }
 {
     match fault {
@@ -73,7 +73,7 @@ fn fault_of(fault: ReaderFault) -> StreamFault
 }
 
 fn text_fault(fault: TextFault) -> StreamFault
-    ensures told { (text : List ℕ) → TellsOf text (ReaderFault.Text fault) → IsFaultOf text result }
+    ensures told { (text : List ℕ) → TellsOf text (ReaderFault.Text fault) → TellsFirstFault text result }
     ensures alone { result ≡ StreamFault.NoWorker → ⊥ }
 {
     match fault.kind {

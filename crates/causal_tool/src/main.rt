@@ -1,8 +1,8 @@
 //! Audits the recorded run, or runs the script, that it reads on standard input.
 //!
-//! Begin at [`audit_and_tell`] in `stream`, the work of `audit`, and at [`run_stream`] in `script`, the work of `run`: both go from
-//! any reader to any writer, and their clauses are what the program promises. `main` adds the words of the command line (`words`)
-//! and the exit status (`ended`).
+//! Begin at [`audit_and_tell`] in `stream`, the work of `audit`, and at [`run_stream`] in `script`, the work of `run`: both go
+//! from any reader to any writer, and their clauses are what the program promises. `main` adds the words of the command line
+//! (`words`) and the exit status (`ended`).
 #![tactic(auto)]
 
 mod ended;
@@ -11,7 +11,6 @@ mod reading;
 mod script;
 mod stream;
 mod words;
-mod written;
 
 use crate::script::run_and_tell;
 use crate::stream::{Told, audit_and_tell};

@@ -1,16 +1,17 @@
 //! The run of a script, over any reader and writer.
 ghost use Rattle.std.specs.Prelude.{◌≡◌, Ok, IfOk, IfErr, IfSome};
-ghost use Rattle.causal_tool.specs.Runs.{AnswersFault, AnswersStop, IsPrinted, IsPrintedFor, PrintsFor, PrintsNothing, ReadsNoMore};
-ghost use Rattle.causal_tool.specs.Reasons.{IsReason, NamesReason, TellsFault, TellsStop};
+ghost use Rattle.causal_tool.specs.Runs.{IsPrinted, PrintsFor, ReadsNoMore};
+ghost use Rattle.causal_tool.specs.Reasons.{IsReason, NamesReason};
+ghost use Rattle.causal_tool.specs.Inside.Printed.{AnswersFault, AnswersStop, IsPrintedFor, PrintsNothing};
+ghost use Rattle.causal_tool.specs.Inside.Told.{TellsFault, TellsStop};
 
 use crate::ended::Ended;
 use crate::reading::{ReadFault, read_script};
 use crate::stream::Told;
-use crate::written::write_whole;
 use causal_name::NoMemory;
 use causal_run::{RunFault, run_script};
 use causal_script::{ScriptFault, ScriptFaultKind, parse_script, refused_line, script_line};
-use causal_text::text_of;
+use causal_text::{text_of, write_whole};
 use std::alloc::Global;
 use std::io::{Read, Write};
 use std::sync::Wait;
@@ -63,7 +64,7 @@ pub fn run_and_tell<R: Wait, I: Read, O: Write>(
         Ok(answer) => answer,
         Err(ended) => return Told { ended, fault: None },
     };
-    match write_whole(output, text.as_slice()) {
+    match write_whole(text.as_slice(), output) {
         Ok(()) => Told {
             ended,
             fault: reason,

@@ -1,13 +1,13 @@
 //! The program's work over any reader and writer.
 ghost use Rattle.std.specs.Prelude.{◌≡◌, ◌≢◌, ◌≤◌, IfOk, IfErr, Err};
-ghost use Rattle.causal_tool.specs.Streams.{IsAnswerFor, IsSilent, NamesFirstFault, WritesFor};
+ghost use Rattle.causal_tool.specs.Streams.{NamesFirstFault, WritesFor};
+ghost use Rattle.causal_tool.specs.Inside.Answers.{IsAnswerFor, IsSilent};
 
 use crate::ended::Ended;
 use crate::judged::{StreamFault, audit_from};
-use crate::written::write_whole;
 use causal_audit::verdict::Verdict;
 use causal_name::NoMemory;
-use causal_text::{TextFault, fault_line};
+use causal_text::{TextFault, fault_line, write_whole};
 use causal_workers::{Gate, verdict_line};
 use std::alloc::Global;
 use std::io::{Read, Write};
@@ -61,7 +61,7 @@ pub fn audit_and_tell<R: Threads + Wait, I: Read, O: Write, G: Gate + Sync>(
         Ok(answer) => answer,
         Err(ended) => return Told { ended, fault: None },
     };
-    let ended = match write_whole(output, answer.line.as_slice()) {
+    let ended = match write_whole(answer.line.as_slice(), output) {
         Ok(()) => answer.ended,
         Err(_) => Ended::WriteFault,
     };

@@ -1,7 +1,7 @@
 //! The command line.
 ghost use Rattle.std.specs.Prelude.{◌≡◌, Bool};
 ghost use Rattle.clap.specs.Values.{kind_of};
-ghost use Rattle.causal_tool.specs.Refusals.{refusal};
+ghost use Rattle.causal_tool.specs.Inside.Refusals.{refusal};
 
 use crate::ended::Ended;
 use clap::error::ErrorKind;
