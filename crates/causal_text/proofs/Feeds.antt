@@ -9,7 +9,8 @@ use Rattle.causal_text.specs.Lines.{lines, before_first_line}
 use Rattle.causal_text.specs.Spelling.{IsReadUpTo, IsReadAt}
 use Rattle.causal_text.specs.Place.{Place}
 use Rattle.causal_text.specs.Reading.{◌>>=◌}
-use Rattle.causal_text.specs.Inside.LineByLine.{start, IsTextFaultOf, next, after_lines, ended, reading}
+use Rattle.causal_text.specs.Inside.Given.{IsFaultGiven}
+use Rattle.causal_text.specs.Inside.LineByLine.{start, next, after_lines, ended, reading}
 use Rattle.causal_text.specs.Pieces.{no_feed, IsComplete, AreComplete, joined, Held, StandsFor}
 use Rattle.causal_text.specs.Inside.Unfinished.{IsFaultOfAll, with_line, IsPast, last_place, ending}
 use Rattle.causal_text.proofs.Spellings.{IsPlaceAfter-next}
@@ -173,7 +174,7 @@ pub fault_of_hold : (h0 h : Held) (done part : List ℕ) (f : TextFault) → Com
     → (b : List ℕ) → StandsFor h0 b → IsFaultOfAll (b ++ (done ++ part)) f
 fault_of_hold h0 h done part f c none some past b s = fault_of_grown (record { place = h.place; rest = h.rest ++ part }) (b ++ (done ++ part)) f (Comes-hold h0 h done part c none b s) some past
 
-pub told : {A : Type 0} (k : TextKind) (f : TextFault) (read : Result A TextFault) → IsTextFaultOf k f read → k ≢ kind.NoMemory → read ≡ Err f
+pub told : {A : Type 0} (k : TextKind) (f : TextFault) (read : Result A TextFault) → IsFaultGiven k f read → k ≢ kind.NoMemory → read ≡ Err f
 told kind.NoMemory f read h other = absurd (other refl)
 told _ f read h other = h
 
@@ -221,7 +222,7 @@ line_of_part h0 h done left b line c s is =
     subst (λ (bytes : List ℕ). IsReadAt bytes line) (append_assoc b done left) (IsReadAt-more (b ++ done) left line (IsReadAt-stands h (b ++ done) line (c b s) is))
 
 -- a fault is told, or it is want of memory
-pub fault_told : {A : Type 0} (k : TextKind) (f : TextFault) (read : Result A TextFault) → (k ≢ kind.NoMemory → read ≡ Err f) → IsTextFaultOf k f read
+pub fault_told : {A : Type 0} (k : TextKind) (f : TextFault) (read : Result A TextFault) → (k ≢ kind.NoMemory → read ≡ Err f) → IsFaultGiven k f read
 fault_told kind.NoMemory f read h = tt
 fault_told kind.After f read h = h (λ e. cc)
 fault_told kind.Big f read h = h (λ e. cc)

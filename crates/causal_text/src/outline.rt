@@ -5,7 +5,7 @@ ghost use Rattle.json.specs.Json.{parse_map, items, members, value};
 ghost use Rattle.json.specs.Reads.{token_of};
 ghost use Rattle.serde_json.specs.Data.{Data, Members, no_members};
 ghost use Rattle.serde_json.specs.Read.{of_json, of_items, of_members, converted, number_of, number_from, read};
-ghost use Rattle.causal_text.specs.Inside.Given.{IsKindOf};
+ghost use Rattle.causal_text.specs.Inside.Given.{IsFaultGiven};
 ghost use Rattle.causal_text.specs.Inside.Outline.{levels, one_more, may_have, is_plain, fits, items_fit, shape_in};
 
 use crate::kind::TextKind;
@@ -169,7 +169,7 @@ fn text_fits(alloc: Global, text: &str) -> Result<bool, TextKind>
 /// Whether these bytes are a JSON value that may have one of the shapes of a line.
 pub(crate) fn may_have_shape(alloc: Global, bytes: &[u8]) -> Result<bool, TextKind>
     ensures no { result ≡ Ok false → shape_in bytes.now ≡ Err TextKind.Form }
-    ensures err { IfErr result (λ kind. IsKindOf kind (shape_in bytes.now)) }
+    ensures err { IfErr result (λ kind. IsFaultGiven kind kind (shape_in bytes.now)) }
 {
     match str::from_utf8(bytes) {
         Ok(text) => text_fits(alloc, text),

@@ -43,13 +43,3 @@ ended p (Ended version r) = Ok r
 -- the recording that a text spells, or its first fault
 abbrev pub reading : List ℕ → Result Recording TextFault
 reading text = after_lines start (lines text) >>= λ p. ended p p.stage
-
--- a fault other than want of memory is the one that reading gives
-abbrev pub IsTextFaultOf : {A : Type 0} → TextKind → TextFault → Result A TextFault → Type 0
-IsTextFaultOf kind.NoMemory e read = Unit {0}
-IsTextFaultOf k e read = read ≡ Err e
-
--- what reading gives, or want of memory
-abbrev pub GivesText : {A : Type 0} → Result A TextFault → Result A TextFault → Type 0
-GivesText (Ok x) read = read ≡ Ok x
-GivesText (Err e) read = IsTextFaultOf e.kind e read

@@ -2,7 +2,8 @@ use Rattle.std.proofs.Common.{◌≢◌, Result, Ok, Err, List, ℕ, IfOk, IfErr
 use Rattle.causal_trace.specs.Rows.{Recording}
 use Rattle.causal_text.specs.declared.kind.TextKind.TheVariants as kind
 use Rattle.causal_text.specs.declared.kind.TextFault.{TextFault}
-use Rattle.causal_text.specs.Inside.LineByLine.{GivesText, reading}
+use Rattle.causal_text.specs.Inside.Given.{GivesText}
+use Rattle.causal_text.specs.Inside.LineByLine.{reading}
 use Rattle.causal_text.specs.Spelling.{Spells, IsFirstFault}
 use Rattle.causal_text.proofs.Feeds.{told}
 use Rattle.causal_text.proofs.Spellings.{Spells-reading, IsFirstFault-reading}

@@ -3,7 +3,8 @@ use Rattle.std.proofs.lemmas.Result.{err_from_is_err_and}
 use Rattle.causal_trace.specs.Rows.{Recording}
 use Rattle.causal_text.specs.declared.kind.TextKind.TheVariants as kind
 use Rattle.causal_text.specs.declared.kind.TextFault.{TextFault}
-use Rattle.causal_text.specs.Inside.LineByLine.{GivesText, reading}
+use Rattle.causal_text.specs.Inside.Given.{GivesText}
+use Rattle.causal_text.specs.Inside.LineByLine.{reading}
 use Rattle.causal_text.specs.Spelling.{IsReadUpTo, IsReadAt}
 use Rattle.causal_text.specs.Pieces.{Held, StandsFor}
 use Rattle.causal_text.proofs.Feeds.{reading-ending, IsReadAt-stands, fault_told}
