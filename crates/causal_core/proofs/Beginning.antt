@@ -12,6 +12,7 @@ use Rattle.causal_process.specs.declared.message.Outgoing.{Outgoing}
 use Rattle.causal_log.specs.Logs.{LogMap, chosen}
 use Rattle.causal_log.specs.Stores.{DetSet, has}
 use Rattle.causal_trace.specs.declared.entry.Entry.{Entry}
+use Rattle.causal_trace.specs.Limits.{IsProcessCount}
 use Rattle.causal_trace.specs.Past.{is_stable, is_delivered}
 use Rattle.causal_protocol.specs.Memory.{Memories, fresh, at}
 use Rattle.causal_protocol.specs.Run.{Run, memories, memories_of}
@@ -49,14 +50,15 @@ at_replicate (suc n) zero x h = refl
 at_replicate (suc n) (suc p) x h = at_replicate n p x (omega (arith, h))
 
 -- what processes have before they begin fits a run in which nothing has happened
-pub fresh_held : (n f : ℕ) (ms : Memories) → ms ≡ replicate n (Some (fresh fin.empty)) → IsHeld (opening n f []) ms
+pub fresh_held : (n f : ℕ) (ms : Memories) → IsProcessCount n → ms ≡ replicate n (Some (fresh fin.empty)) → IsHeld (opening n f []) ms
 unfolding memories
-fresh_held n f ms is = record {
+fresh_held n f ms count is = record {
   same = is;
   fit = record {
     count = ap length is ∙ length-replicate n (Some (fresh fin.empty));
     each = λ p h. subst (FitsAt [] p) (sym (ap (λ xs. at xs p) is ∙ at_replicate n p (Some (fresh fin.empty)) h)) (fits_first p);
   };
+  formed = record { count = count; accepted = tt };
 }
 
 -- the memories of a run in which a process begins

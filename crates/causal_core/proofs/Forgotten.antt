@@ -18,6 +18,7 @@ use Rattle.causal_trace.specs.declared.entry.Entry.TheVariants.{Forget}
 use Rattle.causal_trace.specs.Past.{has, is_down, is_delivered}
 use Rattle.causal_trace.specs.Rows as Rows
 use Rattle.causal_trace.specs.Rows.{are_delivered}
+use Rattle.causal_trace.proofs.Lemmas.Formed.{formed_push}
 use Rattle.causal_protocol.specs.declared.request.Request.TheVariants as Ask
 use Rattle.causal_protocol.specs.declared.request.Reply.TheVariants as Told
 use Rattle.causal_protocol.specs.Memory.{Memory, Memories, at, changed, with_log}
@@ -79,9 +80,9 @@ same_change (Some m) = ap (λ l. Some (record { log = l; sent = m.sent; received
 forget_apart : (q : ℕ) (p : Pid) (listed : List Det) → q ≢ p.0 → is_of q (Forget p listed) ≡ false
 forget_apart q p listed h = grind (arith, nat_tests, h)
 
-pub forgotten_held : (r : Run) (ms : Memories) (p : Pid) (listed : List Det) → IsHeld r ms → p.0 < r.recording.processes → listed ≡ forgettable r p → IsHeld (extended r (Ask.Forget p) (Forget p listed ∷ [])) (changed (with_log unmarked) ms p.0)
+pub forgotten_held : (r : Run) (ms : Memories) (p : Pid) (listed : List Det) → IsHeld r ms → p.0 < r.recording.processes → listed ≡ forgettable r p → Rows.first_fault r.recording.processes r.recording.past (Forget p listed) ≡ None → IsHeld (extended r (Ask.Forget p) (Forget p listed ∷ [])) (changed (with_log unmarked) ms p.0)
 unfolding memories
-forgotten_held r ms p listed held process is = record {
+forgotten_held r ms p listed held process is next = record {
   same =
       ap (λ xs. changed (with_log unmarked) xs p.0) held.same
       ∙ ap (λ o. slice_set (memories_of r) p.0 o) (same_change (at (memories_of r) p.0))
@@ -90,6 +91,7 @@ forgotten_held r ms p listed held process is = record {
       all_fit_set r.recording.processes r.recording.past (Forget p listed ∷ r.recording.past) ms p.0 _ process held.fit
       (λ q o apart. fits_other (Forget p listed) r.recording.past q (forget_apart q p listed apart) o)
       (forgotten_at r.recording.past p listed (at ms p.0) (held.fit.each p.0 process));
+  formed = formed_push r.recording (Forget p listed) held.formed next;
 }
 
 -- what stands against no forgetting of the runtime stands against none of the trace

@@ -1,5 +1,5 @@
 -- What is known where nothing stands against a request.
-use Rattle.std.proofs.Common.{ℕ, zero, suc, ◌≡◌, ◌≢◌, ◌<◌, ◌≤◌, Bool, true, false, cond, ◌==◌, List, [], ◌∷◌, length, Option, Some, None, refl, sym, ap, subst, ◌∙◌, arith, slice_get, slice_set}
+use Rattle.std.proofs.Common.{ℕ, zero, suc, ◌≡◌, ◌≢◌, ◌<◌, Bool, true, false, cond, ◌==◌, List, [], ◌∷◌, length, Option, Some, None, refl, sym, ap, subst, ◌∙◌, arith, slice_get, slice_set}
 use Rattle.std.specs.Prelude.{◌||◌, ◌&&◌, not, nat_lt, nat_le, is_none, is_some}
 use Rattle.std.specs.List.{list_all}
 use Rattle.std.proofs.lemmas.Bool.{false≢true}
@@ -9,8 +9,10 @@ use Rattle.causal_name.specs.declared.MsgName.{MsgName}
 use Rattle.causal_name.specs.Names.{same_message}
 use Rattle.causal_trace.specs.declared.entry.Entry.{Entry}
 use Rattle.causal_trace.specs.declared.entry.Entry.TheVariants.{Crash}
-use Rattle.causal_trace.specs.Past.{is_down, listed_in}
+use Rattle.causal_trace.specs.Past.{is_down}
 use Rattle.causal_trace.specs.Rows as Rows
+use Rattle.causal_trace.specs.Rows.{IsWellFormed}
+use Rattle.causal_trace.proofs.Lemmas.Formed.{formed_push, formed_short}
 use Rattle.causal_protocol.specs.declared.request.CoreFault.{CoreFault}
 use Rattle.causal_protocol.specs.declared.request.CoreFault.TheVariants as Why
 use Rattle.causal_protocol.specs.declared.request.Request.{Request}
@@ -124,9 +126,10 @@ fits_up past p (Some m) fits h = fits.up
 fits_up past p None fits h = absurd (false≢true (sym h))
 
 -- what stands against no crash of the runtime stands against none of the trace
-pub crash_legal : (r : Run) (p : Pid) → AllFit r.recording.processes r.recording.past (memories_of r) → listed_in r.recording.past ≤ 1048576 → first_fault r (Ask.Crash p) ≡ None → (p.0 < r.recording.processes) × (Rows.first_fault r.recording.processes r.recording.past (Crash p) ≡ None)
+pub crash_legal : (r : Run) (p : Pid) → AllFit r.recording.processes r.recording.past (memories_of r) → IsWellFormed r.recording → first_fault r (Ask.Crash p) ≡ None → (p.0 < r.recording.processes) × (Rows.first_fault r.recording.processes r.recording.past (Crash p) ≡ None)
 unfolding rows Rows.rows
-crash_legal r p fit within none =
+crash_legal r p fit formed none =
+    let within = (formed_short r.recording formed).listed in
     let told = rows r (Ask.Crash p) in
     let inside : not (nat_lt p.0 r.recording.processes) ≡ false = when_false _ _ (row_none told none 0 _ refl) in
     let process : p.0 < r.recording.processes = grind (arith, nat_tests, inside) in
@@ -141,12 +144,13 @@ same_then n b = grind (arith, nat_tests)
 crash_apart : (q : ℕ) (p : Pid) → q ≢ p.0 → is_of q (Crash p) ≡ false
 crash_apart q p h = grind (arith, nat_tests, h)
 
-pub crash_held : (r : Run) (ms : Memories) (p : Pid) → IsHeld r ms → p.0 < r.recording.processes → IsHeld (extended r (Ask.Crash p) (Crash p ∷ [])) (slice_set ms p.0 None)
+pub crash_held : (r : Run) (ms : Memories) (p : Pid) → IsHeld r ms → p.0 < r.recording.processes → Rows.first_fault r.recording.processes r.recording.past (Crash p) ≡ None → IsHeld (extended r (Ask.Crash p) (Crash p ∷ [])) (slice_set ms p.0 None)
 unfolding memories
-crash_held r ms p held process = record {
+crash_held r ms p held process next = record {
   same = ap (λ xs. slice_set xs p.0 None) held.same;
   fit =
       all_fit_set r.recording.processes r.recording.past (Crash p ∷ r.recording.past) ms p.0 None process held.fit
       (λ q o apart. fits_other (Crash p) r.recording.past q (crash_apart q p apart) o)
       (same_then p.0 (is_down r.recording.past p.0));
+  formed = formed_push r.recording (Crash p) held.formed next;
 }

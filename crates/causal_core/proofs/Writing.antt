@@ -19,7 +19,8 @@ use Rattle.causal_trace.specs.declared.entry.Entry.{Entry}
 use Rattle.causal_trace.specs.declared.entry.Entry.TheVariants.{Stable}
 use Rattle.causal_trace.specs.Past.{is_delivered, listed_in}
 use Rattle.causal_trace.specs.Rows as Rows
-use Rattle.causal_trace.specs.Rows.{are_delivered}
+use Rattle.causal_trace.specs.Rows.{are_delivered, IsWellFormed}
+use Rattle.causal_trace.proofs.Lemmas.Formed.{formed_push, formed_short}
 use Rattle.causal_protocol.specs.declared.request.Request.TheVariants as Ask
 use Rattle.causal_protocol.specs.Memory.{Memory, Memories, at, changed, with_log}
 use Rattle.causal_protocol.specs.Run.{Run, memories, memories_of}
@@ -76,19 +77,20 @@ some_there None h = absurd (false≢true h)
 some_there (Some m) h = (m, refl)
 
 -- the same of a process that is up in a run
-pub stable_may : (r : Run) (p : Pid) (det : Det) → AllFit r.recording.processes r.recording.past (memories_of r) → p.0 < r.recording.processes → is_some (at (memories_of r) p.0) ≡ true → is_some (fin.get (log_at (memories_of r) p.0) det) ≡ true → length r.recording.past < 65536 → listed_in r.recording.past ≤ 1048576
+pub stable_may : (r : Run) (p : Pid) (det : Det) → AllFit r.recording.processes r.recording.past (memories_of r) → p.0 < r.recording.processes → is_some (at (memories_of r) p.0) ≡ true → is_some (fin.get (log_at (memories_of r) p.0) det) ≡ true → length r.recording.past < 65536 → IsWellFormed r.recording
     → Rows.first_fault r.recording.processes r.recording.past (Stable det) ≡ None
-stable_may r p det fit process up logged short within =
+stable_may r p det fit process up logged short formed =
     let m = some_there (at (memories_of r) p.0) up in
     stable_legal r.recording.processes r.recording.past p.0 det m.0 (subst (FitsAt r.recording.past p.0) m.1 (fit.each p.0 process))
-    (ap (λ o. is_some (fin.get (unwrap_or o (memory_at [] 0)).log det)) (sym m.1) ∙ logged) short within
+    (ap (λ o. is_some (fin.get (unwrap_or o (memory_at [] 0)).log det)) (sym m.1) ∙ logged) short (formed_short r.recording formed).listed
 
-pub stable_held : (r : Run) (ms : Memories) (p : Pid) (det : Det) → IsHeld r ms → p.0 < r.recording.processes → IsHeld (extended r (Ask.Flush p) (Stable det ∷ [])) (changed (with_log (λ log. marked log det)) ms p.0)
+pub stable_held : (r : Run) (ms : Memories) (p : Pid) (det : Det) → IsHeld r ms → p.0 < r.recording.processes → Rows.first_fault r.recording.processes r.recording.past (Stable det) ≡ None → IsHeld (extended r (Ask.Flush p) (Stable det ∷ [])) (changed (with_log (λ log. marked log det)) ms p.0)
 unfolding memories
-stable_held r ms p det held process = record {
+stable_held r ms p det held process next = record {
   same = ap (λ xs. changed (with_log (λ log. marked log det)) xs p.0) held.same;
   fit =
       all_fit_set r.recording.processes r.recording.past (Stable det ∷ r.recording.past) ms p.0 _ process held.fit
       (λ q o apart. fits_other (Stable det) r.recording.past q refl o)
       (fits_option r.recording.past p.0 det (at ms p.0) (held.fit.each p.0 process));
+  formed = formed_push r.recording (Stable det) held.formed next;
 }

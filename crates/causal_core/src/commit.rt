@@ -3,6 +3,7 @@ ghost use Rattle.std.specs.Prelude.{◌≡◌, ◌<◌, ◌≤◌, ◌+◌, ◌+
 ghost use Rattle.causal_name.specs.Names.{message_of, is_ascending};
 ghost use Rattle.causal_log.specs.Logs.{dets_of};
 ghost use Rattle.causal_trace.specs.Past.{message_at};
+ghost use Rattle.causal_trace.specs.Rows.{IsWellFormed};
 ghost use Rattle.causal_protocol.specs.Memory.{at};
 ghost use Rattle.causal_core.specs.Inside.Facts.{Fits, AllFit};
 ghost use Rattle.causal_core.specs.Inside.Commits.{entry_of, next_batch, step_kept, step_kept_at, with_step};
@@ -44,6 +45,7 @@ pub(crate) fn commit(
     requires short { length trace.old.recording.past + 9 ≤ 65536 }
     ensures number { result ≡ length (receivers trace.old.recording.processes sends.items) }
     ensures recording { trace.new.recording ≡ with_step trace.old.recording q grown sends.items (memory_of cell.old) }
+    ensures formed { IsWellFormed trace.new.recording }
     ensures memory { memory_of cell.new ≡ step_kept trace.old.recording grown sends.items (memory_of cell.old) }
     ensures fit { Fits trace.new.recording.past q.0 (memory_of cell.new) }
     ensures others { OthersFit q.0 trace.old.recording.past trace.new.recording.past }
@@ -87,6 +89,7 @@ pub(crate) fn commit_at(
     ensures number { result ≡ length (receivers trace.old.recording.processes sends.items) }
     ensures recording { trace.new.recording
         ≡ with_step trace.old.recording q grown sends.items (memory_at (memories_in cells.old.items) q.0) }
+    ensures formed { IsWellFormed trace.new.recording }
     ensures memories { memories_in cells.new.items
         ≡ step_kept_at trace.old.recording q grown sends.items (memories_in cells.old.items) }
     ensures fit { AllFit trace.old.recording.processes trace.new.recording.past (memories_in cells.new.items) }

@@ -161,7 +161,6 @@ impl Data {
         if self.trace.reserve(1).is_err() {
             return Err(CoreFault::NoMemory);
         }
-        let _listed = self.trace.listed();
         let first = self.trace.len();
         self.trace.push_reserved(Entry::Crash { who: p });
         empty(&mut self.cells, usize::from(p.0));
@@ -179,7 +178,6 @@ impl Data {
         requires { stored ≡ stored_for self.now.run q }
         ensures { result ≡ first_fault self.now.run (Ask.Deliver q source ssn) }
     {
-        let _len = self.trace.len();
         if !are_processes(q, source, self.trace.processes()) {
             return Some(CoreFault::NoProcess);
         }
@@ -213,7 +211,6 @@ impl Data {
     pub(crate) fn next_rsn(&self, q: Pid) -> u32
         ensures { result ≡ next_rsn (memories_of self.now.run) q }
     {
-        let _len = self.trace.len();
         match cell_at(self.cells.as_slice(), q) {
             Some(cell) => cell.received.len() as u32,
             None => 0,
@@ -225,7 +222,6 @@ impl Data {
         requires { first_fault self.now.run (Ask.Deliver q source ssn) ≡ None }
         ensures { IfOk result (λ g. IsGrown self.now q (name source ssn) g) }
     {
-        let _len = self.trace.len();
         let cells = self.cells.as_slice();
         let Some(message) = message(cells, q, source, ssn) else {
             unreachable!()
@@ -307,7 +303,6 @@ impl Data {
         requires { stored ≡ stored_for self.now.run q }
         ensures { result ≡ naming self.now.run q }
     {
-        let _len = self.trace.len();
         if !is_process(q, self.trace.processes()) {
             return Err(CoreFault::NoProcess);
         }
@@ -357,7 +352,6 @@ impl Data {
         ensures spare { self.old.spare ≤ self.new.spare + 1 }
         ensures room { self.old.writers_room ≤ self.new.writers_room + 1 }
     {
-        let _listed = self.trace.listed();
         self.trace.push_reserved(Entry::Stable { det });
         self.writers.push_reserved(p);
         mark_at(&mut self.cells, p, det);

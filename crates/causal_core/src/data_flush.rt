@@ -155,7 +155,6 @@ impl Data {
         ensures run { self.new.run ≡ extended self.old.run (Ask.Forget p) (Entries.Forget p listed.items ∷ []) }
         ensures bodies { self.new.bodies ≡ self.old.bodies }
     {
-        let _listed = self.trace.listed();
         let count = listed.len() as u32;
         self.trace.push_reserved(Entry::Forget {
             who: p,

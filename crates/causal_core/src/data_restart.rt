@@ -76,7 +76,6 @@ impl Data {
         if let Some(fault) = self.gathering_fault(p) {
             return Some(fault);
         }
-        let _len = self.trace.len();
         if self.is_full_for(count_gathered(self.cells.as_slice(), store)) {
             return Some(CoreFault::Full);
         }
@@ -141,7 +140,6 @@ impl Data {
         ensures bodies { self.new.bodies ≡ slice_set self.old.bodies p.0 (sent_in self.old.run sends.items) }
     {
         let first = self.trace.len();
-        let _listed = self.trace.listed();
         let Gathered {
             listed,
             shares,

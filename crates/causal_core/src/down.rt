@@ -31,7 +31,6 @@ impl Data {
     pub(crate) fn down(&self) -> Holders
         ensures { HasMembers self.now.run.recording.processes result (is_down self.now.run.recording.past) }
     {
-        let _formed = self.trace.len();
         down_among(self.cells.as_slice())
     }
 }

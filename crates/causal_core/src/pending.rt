@@ -94,7 +94,6 @@ impl Data {
         ensures ok { IfOk result (λ names. names.items ≡ pending_in (memories_of self.now.run) q) }
         ensures refused { IfErr result (λ fault. pending_fault self.now.run q ≡ reason_of fault) }
     {
-        let _len = self.trace.len();
         if !is_process(q, self.trace.processes()) {
             return Err(CoreFault::NoProcess);
         }

@@ -3,7 +3,7 @@ ghost use Rattle.std.specs.Prelude.{◌≡◌, ◌<◌, ◌≤◌, ◌+◌, ◌+
 ghost use Rattle.std.specs.Arc.{arc_value};
 ghost use Rattle.causal_name.specs.Names.{is_ascending};
 ghost use Rattle.causal_log.specs.Logs.{dets_of};
-ghost use Rattle.causal_trace.specs.Rows.{are_delivered};
+ghost use Rattle.causal_trace.specs.Rows.{are_delivered, IsWellFormed};
 ghost use Rattle.causal_core.specs.Inside.Facts.{Fits};
 ghost use Rattle.causal_core.specs.Inside.Commits.{keep_send, keep_sends, shared_batch, with_send, with_sends};
 ghost use Rattle.causal_core.specs.Inside.Commits.{OthersFit, StayDelivered};
@@ -37,6 +37,7 @@ pub(crate) fn append_sends(
     requires short { length trace.old.recording.past + 8 ≤ 65536 }
     ensures number { result ≡ length (receivers trace.old.recording.processes sends.items) }
     ensures recording { trace.new.recording ≡ with_sends trace.old.recording q sends.items (memory_of cell.old) }
+    ensures formed { IsWellFormed trace.new.recording }
     ensures memory { memory_of cell.new ≡ keep_sends trace.old.recording shares.items sends.items (memory_of cell.old) }
     ensures fit { Fits trace.new.recording.past q.0 (memory_of cell.new) }
     ensures others { OthersFit q.0 trace.old.recording.past trace.new.recording.past }
@@ -67,6 +68,7 @@ fn send(trace: &mut Trace, cell: &mut Cell, q: Pid, outgoing: Outgoing, batch: A
     requires ascending { is_ascending (dets_of (arc_value batch)) ≡ true }
     requires delivered { are_delivered trace.old.recording.past (dets_of (arc_value batch)) ≡ true }
     ensures recording { trace.new.recording ≡ with_send trace.old.recording q outgoing.to (memory_of cell.old) }
+    ensures formed { IsWellFormed trace.new.recording }
     ensures memory { memory_of cell.new ≡ keep_send trace.old.recording outgoing.to batch (memory_of cell.old) }
     ensures fit { Fits trace.new.recording.past q.0 (memory_of cell.new) }
     ensures others { OthersFit q.0 trace.old.recording.past trace.new.recording.past }
@@ -75,7 +77,6 @@ fn send(trace: &mut Trace, cell: &mut Cell, q: Pid, outgoing: Outgoing, batch: A
     ensures room { (room_of cell.old).sent ≤ (room_of cell.new).sent + 1 }
     ensures bodies { bodies_of cell.new ≡ bodies_of cell.old ++ outgoing.body ∷ [] }
 {
-    let _listed = trace.listed();
     let send = trace.len();
     let ssn = cell.sent.len() as u32;
     let Outgoing { to, body } = outgoing;

@@ -18,6 +18,5 @@ use std::alloc::Global;
 pub fn judge(alloc: Global, trace: &Trace, f: u16) -> Result<Verdict, NoMemory>
     ensures { IfOk result (IsVerdict trace.now.recording f) }
 {
-    let _len = trace.len();
     Ok(judged(alloc, trace.entries(), trace.processes(), f)?)
 }

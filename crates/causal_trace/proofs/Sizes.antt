@@ -11,11 +11,11 @@ use Rattle.causal_name.specs.Names.{same_pid, same_det}
 use Rattle.causal_trace.specs.declared.entry.Entry.{Entry}
 use Rattle.causal_trace.specs.declared.entry.Entry.TheVariants.{Send, Deliver, Stable, Crash, Restart, Forget}
 use Rattle.causal_trace.specs.declared.fault.TraceFault.TheVariants.{NoProcess, Lanes, WrongSsn, WrongRsn, NoDelivery}
-use Rattle.causal_trace.specs.Past.{listed_in, listed_by, restarts, entry_at, message_sent, message_at, det_from, det_of, is_det, is_delivered, sends, deliveries}
+use Rattle.causal_trace.specs.Past.{restarts, entry_at, message_sent, message_at, det_from, det_of, is_det, is_delivered, sends, deliveries}
 use Rattle.causal_trace.specs.Rows.{rows, first_fault, are_delivered, are_delivered_with, AreAccepted}
 use Rattle.causal_trace.specs.Sizes.{DetIsSmall, DetsAreSmall, EntryIsSmall, EntriesAreSmall, NumbersAreSmall, LimitsAreKept}
 use Rattle.causal_trace.proofs.Lemmas.Counted.{sends_few, deliveries_few}
-use Rattle.causal_trace.proofs.Lemmas.Formed.{within_limits, limits}
+use Rattle.causal_trace.proofs.Lemmas.Formed.{short_next, formed_short}
 use Rattle.causal_trace.proofs.Lemmas.Accepted.{not_false, row_fails, delivers_sent, sent_within}
 
 both : (a b : Bool) → (a && b) ≡ true → (a ≡ true) × (b ≡ true)
@@ -132,20 +132,6 @@ module _ (limit : ℕ) where
       let p = below who.0 n (row_fails (rows n past e) next 1 (not (nat_lt who.0 n), NoProcess) refl) in
       (omega (arith, few, p), all_delivered_small past listed h (not_false _ (row_fails (rows n past e) next 4 (not (are_delivered past listed), NoDelivery) refl)))
 
--- the limits, entry by entry
-record IsShort (past : List Entry) : Type 0 where
-  entries : length past ≤ 65536
-  listed : listed_in past ≤ 1048576
-
-short_next : (n : ℕ) (past : List Entry) (e : Entry) → first_fault n past e ≡ None → IsShort (e ∷ past)
-short_next n past e next =
-    let fit = limits (length past) (listed_in past) (length (listed_by e)) (within_limits n past e next) in
-    record { entries = omega (arith, fit.0); listed = fit.1 }
-
-accepted_short : (n : ℕ) (past : List Entry) → AreAccepted n past → IsShort past
-accepted_short n [] h = record { entries = omega arith; listed = omega arith }
-accepted_short n (e ∷ past) h = short_next n past e h.1
-
 room : (n m : ℕ) → nat_le 192 n ≡ false → n + 1 ≤ 192
 room n m h = grind (arith, nat_tests)
 
@@ -178,4 +164,4 @@ pub numbers_small : NumbersAreSmall
 numbers_small r limit formed few = small_reverse limit r.past (accepted_small limit r.processes r.past few formed.accepted)
 
 pub limits_kept : LimitsAreKept
-limits_kept r formed = let s = accepted_short r.processes r.past formed.accepted in (s.entries, s.listed, restarts_few r.processes r.past formed.accepted)
+limits_kept r formed = let s = formed_short r formed in (s.entries, s.listed, restarts_few r.processes r.past formed.accepted)

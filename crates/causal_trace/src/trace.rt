@@ -122,6 +122,7 @@ impl Trace {
         requires legal { fault_next self.old.recording entry ≡ None }
         requires room { 1 ≤ self.old.spare }
         ensures recording { self.new.recording ≡ with_entry self.old.recording entry }
+        ensures formed { IsWellFormed self.new.recording }
         ensures spare { self.old.spare ≤ self.new.spare + 1 }
     {
         let _ = self.append(entry);
@@ -132,6 +133,7 @@ impl Trace {
         requires { fault_next self.old.recording entry ≡ None }
         ensures ok { OnOk result (self.new.recording ≡ with_entry self.old.recording entry) }
         ensures err { OnErr result (self.new.recording ≡ self.old.recording) }
+        ensures formed { IsWellFormed self.new.recording }
         ensures spare { self.old.spare ≤ self.new.spare + 1 }
         ensures full { OnErr result (self.old.spare ≡ 0) }
     {
@@ -180,13 +182,16 @@ impl Trace {
         ensures length { result ≡ length self.now.recording.past }
         ensures formed { IsWellFormed self.now.recording }
         ensures few { result ≤ max_entries }
+        ensures listed { listed_in self.now.recording.past ≤ max_listed }
     {
         self.entries.len() as u32
     }
 
-    /// How many processes it has, 1 to 256; they are numbered from 0.
+    /// How many processes it has, 1 to 256; they are numbered from 0. A trace is well formed.
     pub fn processes(&self) -> u16
-        ensures { result ≡ self.now.recording.processes }
+        ensures value { result ≡ self.now.recording.processes }
+        ensures formed { IsWellFormed self.now.recording }
+        ensures few { length self.now.recording.past ≤ max_entries }
     {
         self.processes
     }
@@ -207,9 +212,11 @@ impl Trace {
         self.restarts
     }
 
-    /// The entries in the order in which they came.
+    /// The entries in the order in which they came. A trace is well formed.
     pub fn entries(&self) -> &[Entry]
-        ensures { result.now ≡ entries_of self.now.recording }
+        ensures value { result.now ≡ entries_of self.now.recording }
+        ensures formed { IsWellFormed self.now.recording }
+        ensures few { length self.now.recording.past ≤ max_entries }
     {
         self.entries.as_slice()
     }

@@ -8,7 +8,7 @@ use Rattle.causal_name.specs.Names.{same_message, is_ascending}
 use Rattle.causal_trace.specs.declared.entry.Entry.{Entry}
 use Rattle.causal_trace.specs.declared.entry.Entry.TheVariants.{Send}
 use Rattle.causal_trace.specs.Past.{entry_at, is_down, sends, deliveries, has_delivered}
-use Rattle.causal_trace.specs.Rows.{are_delivered}
+use Rattle.causal_trace.specs.Rows.{are_delivered, IsWellFormed}
 use Rattle.causal_log.specs.Logs.{dets_of}
 use Rattle.causal_protocol.specs.Memory.{Kept, Memory, Memories, at}
 use Rattle.causal_protocol.specs.Naming.{has_received}
@@ -43,7 +43,8 @@ pub record AllFit (n : ℕ) (past : List Entry) (ms : Memories) : Type 0 where
   pub count : length ms ≡ n
   pub each : (p : ℕ) → p < n → FitsAt past p (at ms p)
 
--- what is held is what the run makes each process remember, and it fits the entries
+-- what is held is what the run makes each process remember, and it fits the entries, which are well formed
 pub record IsHeld (r : Run) (ms : Memories) : Type 0 where
   pub same : ms ≡ memories_of r
   pub fit : AllFit r.recording.processes r.recording.past ms
+  pub formed : IsWellFormed r.recording

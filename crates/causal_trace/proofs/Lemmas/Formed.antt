@@ -9,7 +9,7 @@ use Rattle.causal_trace.specs.declared.entry.Entry.TheVariants.{Send, Deliver, S
 use Rattle.causal_trace.specs.declared.fault.TraceFault.{TraceFault}
 use Rattle.causal_trace.specs.declared.fault.TraceFault.TheVariants.{NoMemory}
 use Rattle.causal_trace.specs.Past.{listed_in, listed_by}
-use Rattle.causal_trace.specs.Rows.{Recording, rows, first_holding, first_fault, passes_limit, IsWellFormed}
+use Rattle.causal_trace.specs.Rows.{Recording, rows, first_holding, first_fault, passes_limit, AreAccepted, IsWellFormed}
 use Rattle.causal_trace.specs.State.{with_entry}
 use Rattle.causal_trace.specs.Inside.Bounded.{IsBounded}
 
@@ -74,3 +74,23 @@ kept_push r e listed kept next =
       counted = ap (λ n. n + length (listed_by e)) kept.counted;
       within = omega (arith, fit.1, kept.counted);
     }
+
+-- the limits, entry by entry
+pub record IsShort (past : List Entry) : Type 0 where
+  pub entries : length past ≤ 65536
+  pub listed : listed_in past ≤ 1048576
+
+-- an entry that may come next leaves a past within them
+pub short_next : (n : ℕ) (past : List Entry) (e : Entry) → first_fault n past e ≡ None → IsShort (e ∷ past)
+short_next n past e next =
+    let fit = limits (length past) (listed_in past) (length (listed_by e)) (within_limits n past e next) in
+    record { entries = omega (arith, fit.0); listed = fit.1 }
+
+-- so is each past whose entries could come
+pub accepted_short : (n : ℕ) (past : List Entry) → AreAccepted n past → IsShort past
+accepted_short n [] h = record { entries = omega arith; listed = omega arith }
+accepted_short n (e ∷ past) h = short_next n past e h.1
+
+-- so is each well-formed recording
+pub formed_short : (r : Recording) → IsWellFormed r → IsShort r.past
+formed_short r formed = accepted_short r.processes r.past formed.accepted

@@ -59,7 +59,7 @@ returns-then-is_written c _ =
     let none : (u : ℕ) → u ≤ change → HasOrphan r.processes c.args.f (instant r.past u) c.args.k → ⊥ =
     none_until r.processes c.args.f r.past formed c.args.k c.args.det c.requires.delivery mentions turns c.requires.mentioned c.requires.turns.turned
     c.loop-t.t change (omega (arith, below)) mention turn c.loop-t.cover.down c.loop-t.cover.holders i.down i.holders c.args.spread c.requires.stays (c.lasts.ensures c.if-not-lasts.false) i.before in
-    let next : instant r.past (change + 1) ≡ c.index-entries-change.result ∷ instant r.past change = next_state r c.entries-entries.result.now c.entries-entries.ensures change c.index-entries-change.result below c.index-entries-change.is in
+    let next : instant r.past (change + 1) ≡ c.index-entries-change.result ∷ instant r.past change = next_state r c.entries-entries.result.now c.entries-entries.ensures.value change c.index-entries-change.result below c.index-entries-change.is in
     let stable : is_stable (instant r.past (change + 1)) c.args.det ≡ true = ap (λ x. is_stable x c.args.det) next ∙ c.is_written.ensures c.if-is_written.true (instant r.past change) in
     λ u within has. elim (cases_lt change u) [
       | inl late ↦ orphans_end r.processes c.args.f r.past c.args.k c.args.det (change + 1) u c.requires.delivery (inl stable) (omega (arith, late)) (omega (arith, within, c.requires.within)) has
@@ -80,7 +80,7 @@ returns-then-len-from c _ =
     let none : (u : ℕ) → u ≤ change → HasOrphan r.processes c.args.f (instant r.past u) c.args.k → ⊥ =
     none_until r.processes c.args.f r.past formed c.args.k c.args.det c.requires.delivery mentions turns c.requires.mentioned c.requires.turns.turned
     c.loop-t.t change (omega (arith, below)) mention turn c.loop-t.cover.down c.loop-t.cover.holders i.down i.holders c.args.spread c.requires.stays (c.lasts.ensures c.if-not-lasts.false) i.before in
-    let next : instant r.past (change + 1) ≡ c.index-entries-change.result ∷ instant r.past change = next_state r c.entries-entries.result.now c.entries-entries.ensures change c.index-entries-change.result below c.index-entries-change.is in
+    let next : instant r.past (change + 1) ≡ c.index-entries-change.result ∷ instant r.past change = next_state r c.entries-entries.result.now c.entries-entries.ensures.value change c.index-entries-change.result below c.index-entries-change.is in
     let up : c.loop-t.t ≤ change = omega (arith, c.min-change.ensures, c.next-mention.ensures.bounds, c.next-turn.ensures.bounds) in
     let fell : Shows c.loop-t.cover.down (λ p. is_down (instant r.past change) p) =
     downs_until r.processes c.args.f r.past formed c.args.k c.args.det c.requires.delivery mentions turns c.requires.mentioned c.requires.turns.turned
@@ -96,7 +96,7 @@ returns-then-len-from c _ =
     (c.see.ensures.holders (instant r.past change)
     (mentioned_next r.past c.args.det mentions c.requires.mentioned c.requires.only c.loop-t.t c.next-mention.result (c.next-mention.ensures.none mentions i.mentions) change up (omega (arith, c.min-change.ensures))
     (λ is. subst (Contains mentions) is (c.next-mention.ensures.found mentions i.mentions (omega (arith, is, c.min-change.ensures, c.next-mention.ensures.bounds, c.next-turn.ensures.bounds, c.if-change-end.false)))) c.index-entries-change.result
-    (entry_read r c.entries-entries.result.now c.entries-entries.ensures change c.index-entries-change.result below c.index-entries-change.is)) held) in
+    (entry_read r c.entries-entries.result.now c.entries-entries.ensures.value change c.index-entries-change.result below c.index-entries-change.is)) held) in
     let many : c.args.f < count_below r.processes (gone (instant r.past (change + 1)) c.args.det) =
     omega (arith, c.if-len-from.true, c.from.ensures, c.len.ensures.counted, ap len c.gone.ensures, gone_many r.processes (instant r.past (change + 1)) c.args.det legal c.see.new.self.down c.see.new.self.holders down holders) in
     let lasting = none_later r.past c.args.run.now.lasting_from (change + 1) c.if-run-t.true c.requires.lasting in
@@ -119,7 +119,7 @@ loop-t-preserved c =
     let none : (u : ℕ) → u ≤ change → HasOrphan r.processes c.args.f (instant r.past u) c.args.k → ⊥ =
     none_until r.processes c.args.f r.past formed c.args.k c.args.det c.requires.delivery mentions turns c.requires.mentioned c.requires.turns.turned
     c.loop-t.t change (omega (arith, below)) mention turn c.loop-t.cover.down c.loop-t.cover.holders i.down i.holders c.args.spread c.requires.stays (c.lasts.ensures c.if-not-lasts.false) i.before in
-    let next : instant r.past (change + 1) ≡ c.index-entries-change.result ∷ instant r.past change = next_state r c.entries-entries.result.now c.entries-entries.ensures change c.index-entries-change.result below c.index-entries-change.is in
+    let next : instant r.past (change + 1) ≡ c.index-entries-change.result ∷ instant r.past change = next_state r c.entries-entries.result.now c.entries-entries.ensures.value change c.index-entries-change.result below c.index-entries-change.is in
     let up : c.loop-t.t ≤ change = omega (arith, c.min-change.ensures, c.next-mention.ensures.bounds, c.next-turn.ensures.bounds) in
     let fell : Shows c.loop-t.cover.down (λ p. is_down (instant r.past change) p) =
     downs_until r.processes c.args.f r.past formed c.args.k c.args.det c.requires.delivery mentions turns c.requires.mentioned c.requires.turns.turned
@@ -135,7 +135,7 @@ loop-t-preserved c =
     (c.see.ensures.holders (instant r.past change)
     (mentioned_next r.past c.args.det mentions c.requires.mentioned c.requires.only c.loop-t.t c.next-mention.result (c.next-mention.ensures.none mentions i.mentions) change up (omega (arith, c.min-change.ensures))
     (λ is. subst (Contains mentions) is (c.next-mention.ensures.found mentions i.mentions (omega (arith, is, c.min-change.ensures, c.next-mention.ensures.bounds, c.next-turn.ensures.bounds, c.if-change-end.false)))) c.index-entries-change.result
-    (entry_read r c.entries-entries.result.now c.entries-entries.ensures change c.index-entries-change.result below c.index-entries-change.is)) held) in
+    (entry_read r c.entries-entries.result.now c.entries-entries.ensures.value change c.index-entries-change.result below c.index-entries-change.is)) held) in
     record {
       within = omega (arith, below);
       mentions = cursor_later mentions c.loop-t.t (change + 1) c.next-mention.new.self (omega (arith, up)) (c.next-mention.ensures.cursor mentions i.mentions);

@@ -62,7 +62,7 @@ returns c =
     let shares : AreShared first (length first) same = subst (λ xs. AreShared xs (length xs) same) c.as_slice-2.ensures.value c.in_ok-same.ensures in
     let dets_are : (i : ℕ) → i < length positions → det_at r.past (slice_index positions i) ≡ slice_get dets i =
     dets_then whole.past c.args.end c.requires.within positions c.requires.positions dets c.in_ok-dets.ensures.dets in
-    let read : take c.args.end c.entries.result.now ≡ entries_of r = ap (take c.args.end) c.entries.ensures ∙ entries_then whole c.args.end c.requires.within in
+    let read : take c.args.end c.entries.result.now ≡ entries_of r = ap (take c.args.end) c.entries.ensures.value ∙ entries_then whole c.args.end c.requires.within in
     let marks : map items c.in_ok-marks.marks.items ≡ map (λ e. numbers_in of (mentioned_by e)) (entries_of r) = c.in_ok-marks.ensures ∙ ap (map (λ e. numbers_in of (mentioned_by e))) read in
     subst (λ ms. AreEffects r.past first same ms risen) (sym marks)
     (effects_are r formed positions c.requires.positions dets of first firsts c.in_ok-dets.ensures.count dets_are same shares c.in_ok-clocks.clocks.events c.in_ok-clocks.ensures risen c.in_ok-risen.ensures)

@@ -16,11 +16,11 @@ pub loop-entry-init : goal.loop-entry-init
 loop-entry-init c =
     let r = c.args.trace.now.recording in
     record {
-      items = ap (take c.args.end) c.entries.ensures ∙ entries_then r c.args.end c.requires;
-      mirrors = rw (no_entry (instant r.past c.args.end), c.in-Ok.ensures.ok, c.processes-n.ensures)
+      items = ap (take c.args.end) c.entries.ensures.value ∙ entries_then r c.args.end c.requires;
+      mirrors = rw (no_entry (instant r.past c.args.end), c.in-Ok.ensures.ok, c.processes-n.ensures.value)
           (mirrors_none r.processes c.in_ok-present.present.items
-          (c.in_ok-present.ensures.count ∙ c.processes-n.ensures)
-          (λ p low. c.in_ok-present.ensures.each p (omega (arith, low, c.processes-n.ensures))));
+          (c.in_ok-present.ensures.count ∙ c.processes-n.ensures.value)
+          (λ p low. c.in_ok-present.ensures.each p (omega (arith, low, c.processes-n.ensures.value))));
     }
 
 pub note-requires : goal.note-requires

@@ -23,10 +23,10 @@ pub returns-then-len-from : goal.returns-then-len-from
 returns-then-len-from c =
     let r = c.args.trace.now.recording in
     let t = c.loop-t.t in
-    let next : instant r.past (t + 1) ≡ c.index-recorded-t.result ∷ instant r.past t = next_state r c.entries-recorded.result.now c.entries-recorded.ensures t c.index-recorded-t.result (below r c.entries-recorded.result.now t c.entries-recorded.ensures c.loop-t-test.true) c.index-recorded-t.is in
+    let next : instant r.past (t + 1) ≡ c.index-recorded-t.result ∷ instant r.past t = next_state r c.entries-recorded.result.now c.entries-recorded.ensures.value t c.index-recorded-t.result (below r c.entries-recorded.result.now t c.entries-recorded.ensures.value c.loop-t-test.true) c.index-recorded-t.is in
     let shown : Shows c.down_after-down.result (λ p. is_down (instant r.past (t + 1)) p) = subst (λ q. Shows c.down_after-down.result (λ p. is_down q p)) (sym next) (c.down_after-down.ensures (instant r.past t) c.loop-t.invariant.down) in
     record {
-      within = omega (arith, below r c.entries-recorded.result.now t c.entries-recorded.ensures c.loop-t-test.true);
+      within = omega (arith, below r c.entries-recorded.result.now t c.entries-recorded.ensures.value c.loop-t-test.true);
       before = λ u h. c.loop-t.invariant.before u (omega (arith, h));
       excess = record {
         many = omega (arith, c.if-len-from.true, c.len.ensures.counted, c.from.ensures, down_count r c.len-formed.ensures.formed (t + 1) c.down_after-down.result shown);
@@ -38,7 +38,7 @@ pub loop-t-preserved : goal.loop-t-preserved
 loop-t-preserved c =
     let r = c.args.trace.now.recording in
     let t = c.loop-t.t in
-    let next : instant r.past (t + 1) ≡ c.index-recorded-t.result ∷ instant r.past t = next_state r c.entries-recorded.result.now c.entries-recorded.ensures t c.index-recorded-t.result (below r c.entries-recorded.result.now t c.entries-recorded.ensures c.loop-t-test.true) c.index-recorded-t.is in
+    let next : instant r.past (t + 1) ≡ c.index-recorded-t.result ∷ instant r.past t = next_state r c.entries-recorded.result.now c.entries-recorded.ensures.value t c.index-recorded-t.result (below r c.entries-recorded.result.now t c.entries-recorded.ensures.value c.loop-t-test.true) c.index-recorded-t.is in
     let shown : Shows c.down_after-down.result (λ p. is_down (instant r.past (t + 1)) p) = subst (λ q. Shows c.down_after-down.result (λ p. is_down q p)) (sym next) (c.down_after-down.ensures (instant r.past t) c.loop-t.invariant.down) in
     record {
       down = shown;
@@ -47,4 +47,4 @@ loop-t-preserved c =
     }
 
 pub returns : goal.returns
-returns c = λ u h. c.loop-t.invariant.before u (omega (arith, h, how_many c.args.trace.now.recording c.entries-recorded.result.now c.entries-recorded.ensures, c.loop-t-test.false))
+returns c = λ u h. c.loop-t.invariant.before u (omega (arith, h, how_many c.args.trace.now.recording c.entries-recorded.result.now c.entries-recorded.ensures.value, c.loop-t-test.false))

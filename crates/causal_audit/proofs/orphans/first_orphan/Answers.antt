@@ -61,10 +61,10 @@ returns-in-Some c =
     still_none r.processes c.args.f r.past c.args.k c.args.det c.loop-t.t change formed.accepted c.requires.delivery (omega (arith, below)) c.loop-t.invariant.before quiet in
     let told : c.next-next.result.mentioned ≡ has (mentioned_by c.index-entries-change.result) c.args.det =
     mentioned_listed r.past c.args.det c.args.changes.now.mentions.now c.requires.changes.mentioned c.requires.changes.only change c.index-entries-change.result
-    (entry_read r c.entries-entries.result.now c.entries-entries.ensures change c.index-entries-change.result below c.index-entries-change.is) c.next-next.result.mentioned
+    (entry_read r c.entries-entries.result.now c.entries-entries.ensures.value change c.index-entries-change.result below c.index-entries-change.is) c.next-next.result.mentioned
     (c.next-next.ensures.mentioned c.args.changes.now c.loop-t.invariant.ahead (omega (arith, c.next-next.ensures.bounds, c.if-change-end.false))) in
     let seen : IsSight (instant r.past (change + 1)) c.args.k c.args.det c.see.new.self =
-    seen_at r formed c.entries-entries.result.now c.entries-entries.ensures c.args.run.now.clocks.now.events c.requires.clock c.args.k c.args.det c.requires.delivery c.loop-t.t change c.index-entries-change.result
+    seen_at r formed c.entries-entries.result.now c.entries-entries.ensures.value c.args.run.now.clocks.now.events c.requires.clock c.args.k c.args.det c.requires.delivery c.loop-t.t change c.index-entries-change.result
     c.next-next.ensures.bounds.0 below quiet c.index-entries-change.is c.precedes.result c.precedes.ensures c.loop-t.sight c.see.new.self (λ m part j legal. c.see.ensures m part j legal told) c.loop-t.invariant.sight in
     let accepted = accepted_then r.processes r.past (change + 1) formed.accepted in
     let made : c.args.k < change + 1 → det_at (instant r.past (change + 1)) c.args.k ≡ Some c.args.det = λ early. det_then r.past (change + 1) c.args.k early (omega (arith, below)) ∙ c.requires.delivery in
@@ -84,10 +84,10 @@ returns-then-is_over c =
     still_none r.processes c.args.f r.past c.args.k c.args.det c.loop-t.t change formed.accepted c.requires.delivery (omega (arith, below)) c.loop-t.invariant.before quiet in
     let told : c.next-next.result.mentioned ≡ has (mentioned_by c.index-entries-change.result) c.args.det =
     mentioned_listed r.past c.args.det c.args.changes.now.mentions.now c.requires.changes.mentioned c.requires.changes.only change c.index-entries-change.result
-    (entry_read r c.entries-entries.result.now c.entries-entries.ensures change c.index-entries-change.result below c.index-entries-change.is) c.next-next.result.mentioned
+    (entry_read r c.entries-entries.result.now c.entries-entries.ensures.value change c.index-entries-change.result below c.index-entries-change.is) c.next-next.result.mentioned
     (c.next-next.ensures.mentioned c.args.changes.now c.loop-t.invariant.ahead (omega (arith, c.next-next.ensures.bounds, c.if-change-end.false))) in
     let seen : IsSight (instant r.past (change + 1)) c.args.k c.args.det c.see.new.self =
-    seen_at r formed c.entries-entries.result.now c.entries-entries.ensures c.args.run.now.clocks.now.events c.requires.clock c.args.k c.args.det c.requires.delivery c.loop-t.t change c.index-entries-change.result
+    seen_at r formed c.entries-entries.result.now c.entries-entries.ensures.value c.args.run.now.clocks.now.events c.requires.clock c.args.k c.args.det c.requires.delivery c.loop-t.t change c.index-entries-change.result
     c.next-next.ensures.bounds.0 below quiet c.index-entries-change.is c.precedes.result c.precedes.ensures c.loop-t.sight c.see.new.self (λ m part j legal. c.see.ensures m part j legal told) c.loop-t.invariant.sight in
     let accepted = accepted_then r.processes r.past (change + 1) formed.accepted in
     let lasting : nat_le c.args.run.now.lasting_from (change + 1) ≡ true → c.args.run.now.lasting_from ≤ change + 1 = leb-true c.args.run.now.lasting_from (change + 1) in
@@ -111,10 +111,10 @@ loop-t-preserved c =
     still_none r.processes c.args.f r.past c.args.k c.args.det c.loop-t.t change formed.accepted c.requires.delivery (omega (arith, below)) c.loop-t.invariant.before quiet in
     let told : c.next-next.result.mentioned ≡ has (mentioned_by c.index-entries-change.result) c.args.det =
     mentioned_listed r.past c.args.det c.args.changes.now.mentions.now c.requires.changes.mentioned c.requires.changes.only change c.index-entries-change.result
-    (entry_read r c.entries-entries.result.now c.entries-entries.ensures change c.index-entries-change.result below c.index-entries-change.is) c.next-next.result.mentioned
+    (entry_read r c.entries-entries.result.now c.entries-entries.ensures.value change c.index-entries-change.result below c.index-entries-change.is) c.next-next.result.mentioned
     (c.next-next.ensures.mentioned c.args.changes.now c.loop-t.invariant.ahead (omega (arith, c.next-next.ensures.bounds, c.if-change-end.false))) in
     let seen : IsSight (instant r.past (change + 1)) c.args.k c.args.det c.see.new.self =
-    seen_at r formed c.entries-entries.result.now c.entries-entries.ensures c.args.run.now.clocks.now.events c.requires.clock c.args.k c.args.det c.requires.delivery c.loop-t.t change c.index-entries-change.result
+    seen_at r formed c.entries-entries.result.now c.entries-entries.ensures.value c.args.run.now.clocks.now.events c.requires.clock c.args.k c.args.det c.requires.delivery c.loop-t.t change c.index-entries-change.result
     c.next-next.ensures.bounds.0 below quiet c.index-entries-change.is c.precedes.result c.precedes.ensures c.loop-t.sight c.see.new.self (λ m part j legal. c.see.ensures m part j legal told) c.loop-t.invariant.sight in
     let accepted = accepted_then r.processes r.past (change + 1) formed.accepted in
     let made : c.args.k < change + 1 → det_at (instant r.past (change + 1)) c.args.k ≡ Some c.args.det = λ early. det_then r.past (change + 1) c.args.k early (omega (arith, below)) ∙ c.requires.delivery in

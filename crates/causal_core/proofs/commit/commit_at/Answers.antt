@@ -91,3 +91,6 @@ commit-requires-clause-short c = c.requires.short
 
 pub returns-clause-number : goal.returns-clause-number
 returns-clause-number c = c.commit.ensures.number
+
+pub returns-clause-formed : goal.returns-clause-formed
+returns-clause-formed c = c.commit.ensures.formed

@@ -30,6 +30,7 @@ loop-outgoing-init c = record {
   number = refl;
   recording = refl;
   memory = refl;
+  formed = c.processes-n.ensures.formed;
   fit = c.requires.fit;
   others = λ p m apart was. was;
   delivered = λ ds was. was;
@@ -57,7 +58,7 @@ send-requires-clause-delivered c = rw (popped c).3 (c.loop-outgoing.invariant.de
 
 one : (c : After-send-arg-then-from-n-1) → addressed c.args.trace.now.recording.processes (c.loop-outgoing.yielded ++ c.in-Some.outgoing ∷ []) ≡ addressed c.args.trace.now.recording.processes c.loop-outgoing.yielded ++ c.in-Some.outgoing ∷ []
 one c =
-    let to : nat_lt c.in-Some.outgoing.to.0 c.args.trace.now.recording.processes ≡ true = grind (arith, nat_tests, c.if-from-n.true, c.from.ensures, c.processes-n.ensures) in
+    let to : nat_lt c.in-Some.outgoing.to.0 c.args.trace.now.recording.processes ≡ true = grind (arith, nat_tests, c.if-from-n.true, c.from.ensures, c.processes-n.ensures.value) in
     addressed_more c.args.trace.now.recording.processes c.loop-outgoing.yielded c.in-Some.outgoing
     ∙ ap (λ b. addressed c.args.trace.now.recording.processes c.loop-outgoing.yielded ++ cond b (c.in-Some.outgoing ∷ []) []) to
 
@@ -99,6 +100,7 @@ loop-outgoing-preserved-then-from-n c =
           ∙ (λ i. keeping to (position at i) ((popped at).3 i) (inv.memory i))
           ∙ sym (keep_more (length past) (batch at) (tos at) to (memory_of c.args.cell.now))
           ∙ ap (λ xs. keep_all (length past) (batch at) xs (memory_of c.args.cell.now)) (sym (more at));
+      formed = c.send.ensures.formed;
       fit = c.send.ensures.fit;
       others = λ p m apart was. c.send.ensures.others p m apart (inv.others p m apart was);
       delivered = λ ds was. c.send.ensures.delivered ds (inv.delivered ds was);
@@ -119,7 +121,7 @@ loop-outgoing-preserved c =
     let inv = c.loop-outgoing.invariant in
     let n = c.args.trace.now.recording.processes in
     let longer = length-append c.loop-outgoing.yielded (c.in-Some.outgoing ∷ []) in
-    let not_to : nat_lt c.in-Some.outgoing.to.0 n ≡ false = grind (arith, nat_tests, c.if-from-n.false, c.from.ensures, c.processes-n.ensures) in
+    let not_to : nat_lt c.in-Some.outgoing.to.0 n ≡ false = grind (arith, nat_tests, c.if-from-n.false, c.from.ensures, c.processes-n.ensures.value) in
     let same : addressed n (c.loop-outgoing.yielded ++ c.in-Some.outgoing ∷ []) ≡ addressed n c.loop-outgoing.yielded =
     addressed_more n c.loop-outgoing.yielded c.in-Some.outgoing ∙ ap (λ b. addressed n c.loop-outgoing.yielded ++ cond b (c.in-Some.outgoing ∷ []) []) not_to ∙ append-nil _ in
     let same_to : receivers n (c.loop-outgoing.yielded ++ c.in-Some.outgoing ∷ []) ≡ receivers n c.loop-outgoing.yielded = ap (map (λ (s : Outgoing). s.to)) same in
@@ -128,6 +130,7 @@ loop-outgoing-preserved c =
       number = rw same_to inv.number;
       recording = rw same_to inv.recording;
       memory = rw same_to inv.memory;
+      formed = inv.formed;
       fit = inv.fit;
       others = inv.others;
       delivered = inv.delivered;
@@ -154,7 +157,7 @@ pub send-requires-clause-from : goal.send-requires-clause-from
 send-requires-clause-from c = omega (arith, from c, c.requires.process)
 
 pub send-requires-clause-to : goal.send-requires-clause-to
-send-requires-clause-to c = omega (arith, from c, c.if-from-n.true, c.from.ensures, c.processes-n.ensures)
+send-requires-clause-to c = omega (arith, from c, c.if-from-n.true, c.from.ensures, c.processes-n.ensures.value)
 
 pub send-requires-clause-fit : goal.send-requires-clause-fit
 send-requires-clause-fit c = c.loop-outgoing.invariant.fit
@@ -185,6 +188,9 @@ returns-clause-recording c = c.loop-outgoing.invariant.recording ∙ ap (λ xs. 
 
 pub returns-clause-memory : goal.returns-clause-memory
 returns-clause-memory c = c.loop-outgoing.invariant.memory ∙ ap (λ xs. keep_sends c.args.trace.now.recording c.args.shares.items xs (memory_of c.args.cell.now)) (done c)
+
+pub returns-clause-formed : goal.returns-clause-formed
+returns-clause-formed c = c.loop-outgoing.invariant.formed
 
 pub returns-clause-fit : goal.returns-clause-fit
 returns-clause-fit c = c.loop-outgoing.invariant.fit

@@ -1,6 +1,6 @@
 use Rattle.std.proofs.Common.{◌≡◌, ◌≢◌, ◌≤◌, ◌+◌, ◌-◌, ◌++◌, ℕ, length, replicate, Option, true, List}
 use Rattle.causal_name.specs.declared.Det.{Det}
-use Rattle.causal_trace.specs.Rows.{are_delivered}
+use Rattle.causal_trace.specs.Rows.{are_delivered, IsWellFormed}
 use Rattle.causal_protocol.specs.Memory.{Memory}
 use Rattle.causal_protocol.specs.Steps.{sends_of, pushed}
 use Rattle.causal_core.specs.Inside.Facts.{Fits, FitsAt}
@@ -12,6 +12,7 @@ invariant-loop-outgoing l = record {
   number : l.number ≡ length (receivers l.fn.trace.recording.processes l.yielded);
   recording : l.trace.recording ≡ record { processes = l.fn.trace.recording.processes; past = pushed (sends_of l.q (length (memory_of l.fn.cell).sent) (receivers l.fn.trace.recording.processes l.yielded)) l.fn.trace.recording.past };
   memory : memory_of l.cell ≡ keep_all (length l.fn.trace.recording.past) (first_batch (batches_of l.fn.shares.items)) (receivers l.fn.trace.recording.processes l.yielded) (memory_of l.fn.cell);
+  formed : IsWellFormed l.trace.recording;
   fit : Fits l.trace.recording.past l.q.0 (memory_of l.cell);
   others : (p : ℕ) (m : Option Memory) → p ≢ l.q.0 → FitsAt l.fn.trace.recording.past p m → FitsAt l.trace.recording.past p m;
   delivered : (ds : List Det) → are_delivered l.fn.trace.recording.past ds ≡ true → are_delivered l.trace.recording.past ds ≡ true;

@@ -13,5 +13,5 @@ pub returns : goal.returns
 returns c =
     let r = c.args.trace.now.recording in
     subst (λ x. IsVerdict x c.args.f c.in_ok-judged.field-0)
-    (same_run r c.processes.result (reverse c.entries.result.now) c.processes.ensures (ap reverse c.entries.ensures ∙ reverse-reverse r.past))
+    (same_run r c.processes.result (reverse c.entries.result.now) c.processes.ensures.value (ap reverse c.entries.ensures.value ∙ reverse-reverse r.past))
     c.in_ok-judged.ensures

@@ -18,7 +18,7 @@ pub effects_of-requires-clause-positions : goal.effects_of-requires-clause-posit
 effects_of-requires-clause-positions c =
     let r = c.args.trace.now.recording in
     let entries = take c.args.end c.entries.result.now in
-    let is : past_at entries (length entries) ≡ instant r.past c.args.end = past_whole entries ∙ ap (λ es. reverse (take c.args.end es)) c.entries.ensures ∙ past_then r c.args.end c.requires in
+    let is : past_at entries (length entries) ≡ instant r.past c.args.end = past_whole entries ∙ ap (λ es. reverse (take c.args.end es)) c.entries.ensures.value ∙ past_then r c.args.end c.requires in
     subst (ArePositions (instant r.past c.args.end)) (sym c.as_slice.ensures.value) (subst (λ p. ArePositions p c.in_ok-positions.positions.items) is c.in_ok-positions.ensures)
 
 module _ (r : Recording) (end : ℕ) (within : end ≤ length r.past) (entries : List Entry) (read : entries ≡ entries_of r) (kinds : List Kind) (are : kinds ≡ map kind_of (take end entries)) where
@@ -33,15 +33,15 @@ invariant_of-result c =
     let r = c.args.trace.now.recording in
     let end = c.args.end in
     let entries = take end c.entries.result.now in
-    let is : past_at entries (length entries) ≡ instant r.past end = past_whole entries ∙ ap (λ es. reverse (take end es)) c.entries.ensures ∙ past_then r end c.requires in
+    let is : past_at entries (length entries) ≡ instant r.past end = past_whole entries ∙ ap (λ es. reverse (take end es)) c.entries.ensures.value ∙ past_then r end c.requires in
     let kinds = c.in_ok-kinds.kinds.items in
     let positions = c.in_ok-positions.positions.items in
     let effects = c.in_ok-effects.effects in
-    let many = as_many r end c.requires c.entries.result.now c.entries.ensures kinds c.in_ok-kinds.ensures in
+    let many = as_many r end c.requires c.entries.result.now c.entries.ensures.value kinds c.in_ok-kinds.ensures in
     let prepared : IsPrepared (up_to r end) kinds positions effects = record {
       formed = formed_then r end c.len-len.ensures.formed;
       short = omega (arith, instant_length r.past end c.requires, c.requires, c.len-len.ensures.length, c.len-len.ensures.few);
-      kinds_are = of_run r end c.requires c.entries.result.now c.entries.ensures kinds c.in_ok-kinds.ensures;
+      kinds_are = of_run r end c.requires c.entries.result.now c.entries.ensures.value kinds c.in_ok-kinds.ensures;
       numbered = subst (λ p. ArePositions p positions) is c.in_ok-positions.ensures;
       has_effects = c.in_ok-effects.ensures;
     } in
@@ -53,5 +53,5 @@ invariant_of-result c =
 pub returns : goal.returns
 returns c =
     let r = c.args.trace.now.recording in
-    let many = as_many r c.args.end c.requires c.entries.result.now c.entries.ensures c.in_ok-kinds.kinds.items c.in_ok-kinds.ensures in
+    let many = as_many r c.args.end c.requires c.entries.result.now c.entries.ensures.value c.in_ok-kinds.kinds.items c.in_ok-kinds.ensures in
     ap (λ t. up_to t.recording (length c.in_ok-kinds.kinds.items)) c.of.ensures ∙ ap (up_to r) many

@@ -70,6 +70,7 @@ invariant_of-self c =
       fit =
           subst (λ k. AllFit k next.past (memories_in c.put.new.cells.items)) (sym (ap (λ (x : Recording). x.processes) (one c)))
           (subst (AllFit n next.past) (sym placed) fits);
+      formed = c.append_sends-number.ensures.formed;
     }
 
 pub returns : goal.returns

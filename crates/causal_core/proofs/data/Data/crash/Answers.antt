@@ -23,8 +23,7 @@ none c = ap (λ s. first_fault s.run (Ask.Crash c.args.p)) c.self.view_is ∙ sy
 
 legal : (c : After-len-first) → (c.args.p.0 < c.self.inside.trace.recording.processes) × (Rows.first_fault c.self.inside.trace.recording.processes c.self.inside.trace.recording.past (Entries.Crash c.args.p) ≡ None)
 legal c =
-    let within = rw c.reserve.ensures.recording at c.listed-listed.ensures.value in
-    crash_legal (run c) c.args.p (held_fit (run c) (memories_in c.self.inside.cells.items) c.self.invariant) (omega (arith, within, c.listed-listed.ensures.few)) (none c)
+    crash_legal (run c) c.args.p (held_fit (run c) (memories_in c.self.inside.cells.items) c.self.invariant) c.self.invariant.formed (none c)
 
 pub returns-in-Some-clause-step : goal.returns-in-Some-clause-step
 returns-in-Some-clause-step c = refused_crash c.args.self.now.run c.args.self.now.run c.in-Some.fault refl c.args.p (tells_reason c.args.self.now.run (Ask.Crash c.args.p) c.in-Some.fault (sym c.crash_fault.ensures ∙ c.in-Some.is))
@@ -44,7 +43,7 @@ pub invariant_of-self-2 : goal.invariant_of-self-2
 invariant_of-self-2 c =
     let l = legal (goal.at.invariant_of-self-2 c).After-len-first in
     rw (c.empty.ensures.memories, c.push_reserved.ensures.recording, c.reserve.ensures.recording, c.from.ensures)
-    (crash_held (run_from c.self.inside.trace.recording c.self.inside.faults c.self.inside.writers.items) (memories_in c.self.inside.cells.items) c.args.p c.self.invariant l.0)
+    (crash_held (run_from c.self.inside.trace.recording c.self.inside.faults c.self.inside.writers.items) (memories_in c.self.inside.cells.items) c.args.p c.self.invariant l.0 l.1)
 
 pub returns-clause-step : goal.returns-clause-step
 unfolding LegalStep

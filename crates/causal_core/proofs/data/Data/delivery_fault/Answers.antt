@@ -7,6 +7,7 @@ use Rattle.std.proofs.lemmas.Grind.{common_steps}
 use Rattle.std.proofs.lemmas.Bool.Decides.{nat_tests}
 use Rattle.causal_name.specs.Names.{message_of, same_message}
 use Rattle.causal_log.specs.Slots.{first_of_slot}
+use Rattle.causal_trace.proofs.Lemmas.Formed.{formed_short}
 use Rattle.causal_protocol.specs.declared.request.Request.TheVariants as Ask
 use Rattle.causal_protocol.specs.Memory.{Memories, at}
 use Rattle.causal_protocol.specs.Run.{Run, stable_of}
@@ -32,19 +33,19 @@ asked_of c = ap (λ d. first_fault d.run (Ask.Deliver c.args.q c.args.source c.a
 pub returns-then-not-are_processes : goal.returns-then-not-are_processes
 returns-then-not-are_processes c =
     let at0 = (goal.at.returns-then-not-are_processes c).After-are_processes in
-    let outside : not (nat_lt c.args.q.0 c.self.inside.trace.recording.processes && nat_lt c.args.source.0 c.self.inside.trace.recording.processes) ≡ true = grind (arith, c.are_processes.ensures, c.processes.ensures, c.if-not-are_processes.true) in
+    let outside : not (nat_lt c.args.q.0 c.self.inside.trace.recording.processes && nat_lt c.args.source.0 c.self.inside.trace.recording.processes) ≡ true = grind (arith, c.are_processes.ensures, c.processes.ensures.value, c.if-not-are_processes.true) in
     sym (tell_process (run at0) (ms at0) c.args.q c.args.source c.args.ssn c.self.invariant.same outside) ∙ asked_of at0
 
 pub returns-in_default : goal.returns-in_default
 returns-in_default c =
     let at0 = (goal.at.returns-in_default c).After-are_processes in
-    let inside : not (nat_lt c.args.q.0 c.self.inside.trace.recording.processes && nat_lt c.args.source.0 c.self.inside.trace.recording.processes) ≡ false = grind (arith, c.are_processes.ensures, c.processes.ensures, c.if-not-are_processes.false) in
+    let inside : not (nat_lt c.args.q.0 c.self.inside.trace.recording.processes && nat_lt c.args.source.0 c.self.inside.trace.recording.processes) ≡ false = grind (arith, c.are_processes.ensures, c.processes.ensures.value, c.if-not-are_processes.false) in
     let none : at (ms at0) c.args.q.0 ≡ None = ap (λ xs. at (memories_in xs) c.args.q.0) (sym c.as_slice-cells.ensures.value) ∙ sym c.cell_at.ensures ∙ ap (λ o. option_map memory_of (option_copied o)) c.in_default.is in
     sym (tell_down (run at0) (ms at0) c.args.q c.args.source c.args.ssn c.self.invariant.same inside none) ∙ asked_of at0
 
 -- the receiver is a process, and up
 inside : (c : In-Some) → not (nat_lt c.args.q.0 c.self.inside.trace.recording.processes && nat_lt c.args.source.0 c.self.inside.trace.recording.processes) ≡ false
-inside c = grind (arith, c.are_processes.ensures, c.processes.ensures, c.if-not-are_processes.false)
+inside c = grind (arith, c.are_processes.ensures, c.processes.ensures.value, c.if-not-are_processes.false)
 
 up : (c : In-Some) → at (memories_in c.self.inside.cells.items) c.args.q.0 ≡ Some (memory_of c.in-Some.cell.now)
 up c = ap (λ xs. at (memories_in xs) c.args.q.0) (sym c.as_slice-cells.ensures.value) ∙ sym c.cell_at.ensures ∙ ap (λ o. option_map memory_of (option_copied o)) c.in-Some.is
@@ -61,7 +62,7 @@ few : (c : In-Some) → length c.in-Some.cell.now.received.items ≤ 65536
 few c =
     let h = inside c in
     let process : c.args.q.0 < c.self.inside.trace.recording.processes = grind (arith, nat_tests, h) in
-    received_few c.self.inside.trace.recording.processes c.self.inside.trace.recording.past (memories_in c.self.inside.cells.items) c.args.q.0 (memory_of c.in-Some.cell.now) c.self.invariant.fit (omega (arith, c.len-len.ensures.length, c.len-len.ensures.few)) process (up c)
+    received_few c.self.inside.trace.recording.processes c.self.inside.trace.recording.past (memories_in c.self.inside.cells.items) c.args.q.0 (memory_of c.in-Some.cell.now) c.self.invariant.fit (formed_short _ c.self.invariant.formed).entries process (up c)
 
 pub other_named-requires : goal.other_named-requires
 other_named-requires c = let h = few (goal.at.other_named-requires c).In-Some in grind (arith, common_steps, h)

@@ -10,7 +10,7 @@ use Rattle.causal_trace.specs.Past.{message_at, det_at, det_from}
 use Rattle.std.specs.Option.{option_map}
 use Rattle.causal_core.proofs.Dets.{det_at-pushed, det_at-newest}
 use Rattle.causal_trace.specs.Rows as Rows
-use Rattle.causal_trace.specs.Rows.{are_delivered}
+use Rattle.causal_trace.specs.Rows.{are_delivered, IsWellFormed}
 use Rattle.causal_protocol.specs.declared.request.Request.TheVariants as Ask
 use Rattle.causal_protocol.specs.declared.request.Reply.TheVariants as Told
 use Rattle.causal_protocol.specs.Memory.{at, gained}
@@ -98,6 +98,7 @@ invariant_of-self c =
           c.commit_at-sends.ensures.memories
           ∙ same_memories (state at0).run c.args.q c.args.grown.own.source c.args.grown.own.ssn (may at0) count (memories_in c.self.inside.cells.items) (gained (carried_by c.args.grown) c.args.grown.own (memory_at (memories_in c.self.inside.cells.items) c.args.q.0).log) (first_batch (batches_of c.args.grown.shares.items)) c.args.grown.own c.args.grown.send c.args.grown.listed.items tos same (λ i. gained (g.carried i) (g.own i) (memory_at (same i) c.args.q.0).log) (ap first_batch g.shares ∙ ap (λ xs. chosen c.self.inside.faults (gained (carried_by c.args.grown) c.args.grown.own (memory_at xs c.args.q.0).log)) (sym same)) g.own g.send g.listed;
       fit = fit_new;
+      formed = subst IsWellFormed new c.commit_at-sends.ensures.formed;
     })
 
 -- what is recorded then

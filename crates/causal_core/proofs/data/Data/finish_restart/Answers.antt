@@ -51,7 +51,7 @@ may : (c : After-len-first) → MayRestart (run c) c.args.p
 may c = may_restart (run c) c.args.p (fit c) (none c)
 
 delivered : (c : After-len-first) → are_delivered c.self.inside.trace.recording.past (gathered (run c) c.args.p) ≡ true
-delivered c = gathered_delivered c.self.inside.trace.recording.processes c.self.inside.trace.recording.past (memories_of (run c)) c.args.p c.len-first.ensures.formed.accepted (fit c)
+delivered c = gathered_delivered c.self.inside.trace.recording.processes c.self.inside.trace.recording.past (memories_of (run c)) c.args.p c.self.invariant.formed.accepted (fit c)
 
 pub overflow_cast-count : goal.overflow_cast-count
 overflow_cast-count c =
@@ -150,6 +150,7 @@ invariant_of-self c =
       fit =
           subst (λ k. AllFit k next.past (memories_in c.put.new.cells.items)) (sym (ap (λ (x : Recording). x.processes) (whole c)))
           (subst (AllFit n next.past) (sym placed) fits);
+      formed = c.append_sends-sends.ensures.formed;
     }
 
 pub returns-clause-step : goal.returns-clause-step

@@ -5,6 +5,7 @@ use Rattle.std.proofs.lemmas.Grind.{common_steps}
 use Rattle.std.proofs.lemmas.Bool.{false≢true}
 use Rattle.std.proofs.lemmas.Result.{IfOk-weaker}
 use Rattle.causal_trace.specs.Past.{det_from}
+use Rattle.causal_trace.proofs.Lemmas.Formed.{formed_short}
 use Rattle.causal_protocol.specs.declared.request.Request.TheVariants as Ask
 use Rattle.causal_protocol.specs.Memory.{at}
 use Rattle.causal_protocol.specs.Naming.{name, kept_for}
@@ -41,7 +42,7 @@ overflow_cast-own c =
     let at0 = (goal.at.overflow_cast-own c).After-as_slice-cells in
     let at1 = (goal.at.overflow_cast-own c).In-Some-cell_at in
     let process = receiver_below (state at0).run c.args.q c.args.source c.args.ssn (none at0) in
-    let h = received_few c.self.inside.trace.recording.processes c.self.inside.trace.recording.past (memories_in c.self.inside.cells.items) c.args.q.0 (memory_of c.in-Some-cell_at.cell.now) c.self.invariant.fit (omega (arith, c.len-len.ensures.length, c.len-len.ensures.few)) process (up at1) in
+    let h = received_few c.self.inside.trace.recording.processes c.self.inside.trace.recording.past (memories_in c.self.inside.cells.items) c.args.q.0 (memory_of c.in-Some-cell_at.cell.now) c.self.invariant.fit (formed_short _ c.self.invariant.formed).entries process (up at1) in
     grind (arith, common_steps, h, c.len.ensures)
 
 pub returns : goal.returns

@@ -1,6 +1,7 @@
 use Rattle.std.proofs.Common.{◌≡◌, ◌∙◌, Some, ap, sym, arith}
 use Rattle.std.specs.Option.{option_map, option_copied}
 use Rattle.std.proofs.lemmas.Grind.{common_steps}
+use Rattle.causal_trace.proofs.Lemmas.Formed.{formed_short}
 use Rattle.causal_protocol.specs.Memory.{at}
 use Rattle.causal_core.specs.View.{memories_in, memory_of}
 use Rattle.causal_core.proofs.Telling.{received_few}
@@ -11,5 +12,5 @@ pub named-requires : goal.named-requires
 named-requires c =
     let up : at (memories_in c.self.inside.cells.items) c.args.q.0 ≡ Some (memory_of c.in-Some.cell.now) = ap (λ xs. at (memories_in xs) c.args.q.0) (sym c.as_slice.ensures.value) ∙ sym c.cell_at.ensures ∙ ap (λ o. option_map memory_of (option_copied o)) c.in-Some.is in
     let process = some_within (memories_in c.self.inside.cells.items) c.args.q.0 (memory_of c.in-Some.cell.now) up in
-    let h = received_few c.self.inside.trace.recording.processes c.self.inside.trace.recording.past (memories_in c.self.inside.cells.items) c.args.q.0 (memory_of c.in-Some.cell.now) c.self.invariant.fit (omega (arith, c.len-len.ensures.length, c.len-len.ensures.few)) (omega (arith, process, c.self.invariant.fit.count)) up in
+    let h = received_few c.self.inside.trace.recording.processes c.self.inside.trace.recording.past (memories_in c.self.inside.cells.items) c.args.q.0 (memory_of c.in-Some.cell.now) c.self.invariant.fit (formed_short _ c.self.invariant.formed).entries (omega (arith, process, c.self.invariant.fit.count)) up in
     grind (arith, common_steps, h)

@@ -23,6 +23,6 @@ invariant_of-self c =
     let r = run_from c.self.inside.trace.recording c.self.inside.faults c.self.inside.writers.items in
     let none : first_fault r (Ask.Forget c.args.p) ≡ None = ap (λ s. first_fault s.run (Ask.Forget c.args.p)) c.self.view_is ∙ c.requires.legal in
     let listed : c.args.listed.items ≡ forgettable r c.args.p = c.requires.listed ∙ sym (ap (λ s. forgettable s.run c.args.p) c.self.view_is) in
-    let process = (forget_legal r c.args.p c.args.listed.items (held_fit r (memories_in c.self.inside.cells.items) c.self.invariant) none listed c.requires.some).0 in
+    let legal = forget_legal r c.args.p c.args.listed.items (held_fit r (memories_in c.self.inside.cells.items) c.self.invariant) none listed c.requires.some in
     rw (c.drop_stable_at.ensures.memories, c.push_reserved.ensures.recording, c.new.ensures)
-    (forgotten_held r (memories_in c.self.inside.cells.items) c.args.p c.args.listed.items c.self.invariant process listed)
+    (forgotten_held r (memories_in c.self.inside.cells.items) c.args.p c.args.listed.items c.self.invariant legal.0 listed legal.1)

@@ -3,6 +3,7 @@ use Rattle.std.specs.FinMap as fin
 use Rattle.causal_log.specs.Stores.{count_in}
 use Rattle.causal_trace.specs.Past.{restarts}
 use Rattle.std.specs.Prelude.{◌||◌, nat_le}
+use Rattle.causal_trace.proofs.Lemmas.Formed.{formed_short}
 use Rattle.causal_protocol.specs.declared.request.CoreFault.TheVariants as Why
 use Rattle.causal_protocol.specs.Gathering.{gathered_log}
 use Rattle.causal_protocol.specs.Run.{memories_of}
@@ -17,8 +18,9 @@ count_gathered-requires-clause-few g c =
     let past = c.args.self.now.run.recording.past in
     let same = ap count_in (store_is (g.S.Stable.contents c.args.store.now) past c.requires) in
     let few = few_stable past in
-    let long : c.len-len.result ≡ length past = c.len-len.ensures.length ∙ ap (λ s. length s.run.recording.past) c.self.view_is in
-    omega (arith, same, few, long, c.len-len.ensures.few)
+    let long = ap (λ s. length s.run.recording.past) c.self.view_is in
+    let short = (formed_short _ c.self.invariant.formed).entries in
+    omega (arith, same, few, long, short)
 
 pub returns-then-is_full_for : goal.returns-then-is_full_for
 returns-then-is_full_for g c =

@@ -86,3 +86,8 @@ invariant_of-self-2 c =
     (λ e h. c.receipt_lane-lane.ensures e (own_is d ∙ h) ∙ ap (λ s. lane s.recording.past e.dest.0) (sym c.self.view_is))
     (c.in_ok-note.ensures.heads ∙ ap (λ o. heads_after (message_sent c.args.entry) o c.self.inside.chains) (own_is d))
     (c.in_ok-note.ensures.nodes ∙ ap (λ o. nodes_after (message_sent c.args.entry) o c.receipt_lane-lane.result c.self.inside.chains) (own_is d)))
+
+pub returns-clause-formed : goal.returns-clause-formed
+returns-clause-formed c =
+    let d : After-det_of_next-own = (goal.at.returns-clause-formed c).After-det_of_next-own in
+    rw (c.push_reserved.ensures.items, c.reserve.ensures.items, reverse-append) (kept d).formed
