@@ -1,5 +1,5 @@
 //! The items of an array, as numbers, processes and determinants.
-ghost use Rattle.std.specs.Prelude.{◌≡◌, ◌^◌, ◌≤◌};
+ghost use Rattle.std.specs.Prelude.{◌≡◌};
 ghost use Rattle.serde_json.specs.View.{view, items_view};
 ghost use Rattle.causal_text.specs.Inside.Given.{Gives};
 ghost use Rattle.causal_text.specs.Shapes.{size, number_at, u8_at, u32_at, pid_at, det_of, dets_of, dets_at};
