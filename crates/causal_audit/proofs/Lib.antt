@@ -37,5 +37,6 @@ mod Steps
 mod Sweeping
 mod Swept
 mod Turned
+mod Uncovered
 mod VerdictLemmas
 mod Walked

@@ -8,6 +8,8 @@ use Rattle.causal_audit.specs.Verdicts.{IsExcess, IsLeastOrphan, IsVerdict}
 use Rattle.causal_audit.specs.Numbers.{IsNumbered}
 use Rattle.causal_audit.specs.declared.breach.Breach.{Breach}
 use Rattle.causal_audit.specs.declared.breach.Excess.{Excess}
+use Rattle.causal_audit.specs.declared.breach.Surveyed.{Surveyed}
+use Rattle.causal_audit.specs.declared.breach.Surveyed.TheVariants.{Told, TooMany}
 use Rattle.causal_audit.specs.declared.verdict.Verdict.{Verdict}
 
 -- the delivery at position k first has an orphan so
@@ -85,6 +87,12 @@ Decides excess breach verdict =
 -- the delivery at position k has no orphan up to the instant `end`
 abbrev pub HasNoOrphanBy : Recording → ℕ → ℕ → ℕ → Type 0
 HasNoOrphanBy r f k end = (u : ℕ) → u ≤ end → HasOrphan r.processes f (instant r.past u) k → ⊥
+
+-- what a survey tells is the least breach of all deliveries by the instant `end`; of a run with too many deliveries to look
+-- at nothing is known
+abbrev pub IsSurveyed : Recording → ℕ → ℕ → Surveyed → Type 0
+IsSurveyed r f end (Told found) = LeastBreachBy r f end 0 (deliveries_in r.past) found
+IsSurveyed r f end TooMany = Unit {0}
 
 -- the verdict is that of every run of which these are the first excess and the least breach of all deliveries
 abbrev pub DecidesWhole : Option Excess → Option Breach → Verdict → Type 0
