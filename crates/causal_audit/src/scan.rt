@@ -1,25 +1,26 @@
 //! The first instant at which a delivery has an orphan, by following its messages: no clock is read.
-ghost use Rattle.std.specs.Prelude.{◌≡◌, ◌<◌, ◌≤◌, ◌&&◌, ◌||◌, ◌==◌, ℕ, length, nat_le, slice_index_or, Some, false, true};
+ghost use Rattle.std.specs.Prelude.{◌≡◌, ◌<◌, ◌≤◌, ◌&&◌, ◌||◌, ◌==◌, ℕ, IfOk, length, nat_le, slice_index_or, Some, false, true};
 ghost use Rattle.std.specs.FinSet as set;
 ghost use Rattle.causal_name.specs.declared.Det.{Det};
 ghost use Rattle.causal_trace.specs.Past.{det_at, instant};
 ghost use Rattle.causal_trace.specs.Dependence.{is_delivery_of};
-ghost use Rattle.causal_audit.specs.Breaches.{FirstBreachBy};
+ghost use Rattle.causal_audit.specs.Breaches.{FirstBreachBy, LeastAmongBy};
 ghost use Rattle.causal_audit.specs.Inside.Kept.{AreMentionsKept, AreTurnsKept};
 ghost use Rattle.causal_audit.specs.Inside.Scans.{AreReached, AreStill, LeavesDependents, TellsReach};
 ghost use Rattle.causal_audit.specs.Inside.Sights.{AreDependents};
 ghost use Rattle.causal_audit.specs.Lasting.{NoneReleasedFrom};
 
-use crate::breach::Breach;
+use crate::breach::{Breach, earlier};
 use crate::cursor::Cursor;
 use crate::mentions::Mentions;
 use crate::orphans::breach_at;
 use crate::sight::Sight;
 use crate::turns::Turns;
 use causal_holders::Holders;
-use causal_name::Det;
+use causal_name::{Det, NoMemory};
 use causal_trace::entry::Entry;
 use causal_trace::trace::Trace;
+use std::alloc::Global;
 
 /// What is read of a recorded run to follow the messages of a delivery: the trace, a position from which on no entry
 /// releases a process, who is down after each crash and restart, and what mentions each determinant.
@@ -164,5 +165,71 @@ impl Scan<'_> {
             }
         }
         None
+    }
+
+    /// How the delivery at position k, if there is one, first has an orphan, if it has one by the instant `end`.
+    fn first_breach_at(&self, f: u16, end: u32, k: u32, reached: &mut [bool]) -> Option<Breach>
+        requires within { end ≤ length self.now.trace.now.recording.past }
+        requires lasting { NoneReleasedFrom self.now.trace.now.recording.past self.now.lasting_from }
+        requires turns { AreTurnsKept self.now.trace.now.recording.past self.now.turns.now }
+        requires mentions { AreMentionsKept self.now.trace.now.recording.past self.now.mentions.now }
+        requires counted { length reached.old ≡ length self.now.trace.now.recording.past }
+        ensures first { FirstBreachBy self.now.trace.now.recording f end k result }
+        ensures counted { length reached.new ≡ length reached.old }
+    {
+        if end <= k {
+            return None;
+        }
+        let Some(det) = self.trace.det_at(k) else {
+            return None;
+        };
+        self.first_breach(f, end, k, det, reached)
+    }
+
+    /// The least breach of the deliveries at these positions, if it comes by the instant `end`. No instant is looked at that
+    /// is later than a breach that was found.
+    fn least_of(&self, f: u16, end: u32, positions: &[u32], reached: &mut [bool]) -> Option<Breach>
+        requires within { end ≤ length self.now.trace.now.recording.past }
+        requires lasting { NoneReleasedFrom self.now.trace.now.recording.past self.now.lasting_from }
+        requires turns { AreTurnsKept self.now.trace.now.recording.past self.now.turns.now }
+        requires mentions { AreMentionsKept self.now.trace.now.recording.past self.now.mentions.now }
+        requires counted { length reached.old ≡ length self.now.trace.now.recording.past }
+        ensures { LeastAmongBy self.now.trace.now.recording f end positions.now result }
+    {
+        let mut least = None;
+        let mut until = end;
+        for position in positions {
+            if let Some(found) = self.first_breach_at(f, until, *position, reached) {
+                until = found.instant;
+                least = earlier(least, Some(found));
+            }
+        }
+        least
+    }
+
+    /// The least breach, by instant and then by position, of the deliveries at these positions, if it comes by the instant
+    /// `end`; None where none of them has an orphan by then.
+    ///
+    /// For each position it takes at most time as the entries from there, or from the first mention of its determinant, up
+    /// to `end` or to a breach that was found; an entry that tells nothing of the delivery costs a few instructions. It
+    /// takes a byte for each entry of the run.
+    ///
+    /// # Errors
+    /// `NoMemory` where memory was refused.
+    pub fn least_among(
+        &self,
+        alloc: Global,
+        f: u16,
+        end: u32,
+        positions: &[u32],
+    ) -> Result<Option<Breach>, NoMemory>
+        requires within { end ≤ length self.now.trace.now.recording.past }
+        requires lasting { NoneReleasedFrom self.now.trace.now.recording.past self.now.lasting_from }
+        requires turns { AreTurnsKept self.now.trace.now.recording.past self.now.turns.now }
+        requires mentions { AreMentionsKept self.now.trace.now.recording.past self.now.mentions.now }
+        ensures { IfOk result (LeastAmongBy self.now.trace.now.recording f end positions.now) }
+    {
+        let mut reached = vec![in alloc; false; self.trace.len() as usize]?;
+        Ok(self.least_of(f, end, positions, reached.as_mut_slice()))
     }
 }
