@@ -29,6 +29,7 @@ mod Outward
 mod Prepared
 mod Risen
 mod Rooms
+mod Scanned
 mod Seen
 mod Sharings
 mod Shown

@@ -27,6 +27,7 @@ mod orphans;
 mod releases;
 mod rising;
 pub mod room;
+mod scan;
 mod sharing;
 mod sight;
 mod spreads;
