@@ -1,18 +1,19 @@
 -- What a survey gathers: one delivery more, and what all together tell.
-use Rattle.std.proofs.Common.{ℕ, ◌≡◌, ◌+◌, ◌<◌, ◌≤◌, inl, inr, List, [], ◌∷◌, ◌++◌, length, get_or, None, sym, subst, arith, length-append}
-use Rattle.std.specs.Prelude.{Contains}
+use Rattle.std.proofs.Common.{ℕ, ◌≡◌, ◌+◌, ◌<◌, ◌≤◌, inl, inr, List, [], ◌∷◌, ◌++◌, length, get_or, Some, sym, subst, arith, length-append}
+use Rattle.std.specs.Prelude.{◌⊎◌, Contains}
 use Rattle.std.specs.List.{All}
 use Rattle.std.specs.List.Sorted.{IsStrictlyIncreasing}
 use Rattle.std.proofs.Math.ListN.{get_or-append}
 use Rattle.std.proofs.Math.Seq.{get_or-append_seam}
 use Rattle.std.proofs.lemmas.Bool.{cases_lt}
 use Rattle.std.proofs.lemmas.List.Elements.{All-push, All-weaker, Contains-append_left, Contains-push}
-use Rattle.causal_trace.specs.Past.{deliveries_in, instant}
-use Rattle.causal_trace.specs.Rows.{Recording, IsWellFormed}
-use Rattle.causal_trace.proofs.Lemmas.AtInstants.{det_within, instant_length}
-use Rattle.causal_audit.specs.Breaches.{HasNoOrphanBy, LeastBreachBy}
+use Rattle.causal_name.specs.declared.Det.{Det}
+use Rattle.causal_trace.specs.Past.{det_at, instant}
+use Rattle.causal_trace.specs.Rows.{Recording}
+use Rattle.causal_trace.proofs.Lemmas.AtInstants.{instant_length}
+use Rattle.causal_audit.specs.Breaches.{HasNoOrphanBy}
 use Rattle.causal_audit.specs.Inside.Surveys.{AreUncovered, IsDeliveryAt}
-use Rattle.causal_audit.proofs.Newly.{numbered_some}
+use Rattle.causal_audit.proofs.Orphaned.{not_yet}
 
 -- a list ascends with one more number that is above all of its
 increasing_push : (xs : List ℕ) (k : ℕ) → IsStrictlyIncreasing xs → All (λ v. v < k) xs → IsStrictlyIncreasing (xs ++ k ∷ [])
@@ -68,12 +69,12 @@ module _ (r : Recording) (f end : ℕ) where
     ];
   }
 
-  -- where nothing is gathered there is no breach
-  pub none_uncovered : (positions : List ℕ) → length positions ≡ 0 → IsWellFormed r → end ≤ length r.past → AreUncovered r f end end positions → LeastBreachBy r f end 0 (deliveries_in r.past) None
-  none_uncovered positions empty formed within all i k t low high numbered in_time has =
-      let some = numbered_some r.processes r.past i k formed.accepted numbered in
-      let made : k < end = omega (arith, det_within (instant r.past t) k has.is_orphan.det has.is_orphan.delivered, instant_length r.past t (omega (arith, in_time, within)), in_time) in
-      elim (all.others k made some) [
-        | inl in' ↦ absurd (omega (arith, in'.1, empty))
-        | inr none ↦ none t in_time has
+  -- of all deliveries of the run those that are not gathered have no orphan by then: the later ones are still to come
+  pub any_other : (positions : List ℕ) → end ≤ length r.past → AreUncovered r f end end positions → (k : ℕ) (d : Det) → det_at r.past k ≡ Some d → Contains positions k ⊎ HasNoOrphanBy r f k end
+  any_other positions within all k d at =
+      elim (cases_lt k end) [
+        | inl h ↦ all.others k h (d, at)
+        | inr h ↦ inr (λ t in_time has.
+            let size = instant_length r.past t (omega (arith, in_time, within)) in
+            not_yet r.processes f (instant r.past t) k (omega (arith, h, in_time, size)) has)
       ]

@@ -10,6 +10,7 @@ use crate::budget::Budget;
 use crate::cover::{Outline, is_covered};
 use crate::mentions::{Mentions, mentions_in};
 use crate::releases::lasting_from;
+use crate::scan::Scan;
 use crate::spreads::stays_of;
 use crate::turns::turns_of;
 use causal_name::{Det, NoMemory};
@@ -77,13 +78,32 @@ impl Survey<'_> {
         }
         Ok(Some(gathered))
     }
+
+    /// The least breach of the deliveries, where few are left: their messages are followed one delivery at a time.
+    fn least(&self, alloc: Global) -> Result<Surveyed, NoMemory>
+        requires survey { IsSurvey self.now }
+        ensures { IfOk result (IsSurveyed self.now.outline.trace.now.recording self.now.f self.now.end) }
+    {
+        let Some(uncovered) = self.uncovered(alloc)? else {
+            return Ok(Surveyed::TooMany);
+        };
+        let scan = Scan {
+            trace: self.outline.trace,
+            lasting_from: self.outline.lasting_from,
+            turns: self.outline.turns,
+            mentions: self.mentions,
+        };
+        let least = scan.least_among(alloc, self.f, self.end, uncovered.as_slice())?;
+        Ok(Surveyed::Told(least))
+    }
 }
 
-/// The least breach of a run by the instant `end`, by instant and then by position, as far as a survey tells: where all but at
-/// most 256 deliveries before it are seen to be covered throughout.
+/// The least breach of a run by the instant `end`, by instant and then by position, as far as a survey tells: where all but
+/// at most 256 deliveries before it are seen to be covered throughout. Then those are followed one by one.
 ///
-/// It takes time and memory as the entries and the listed determinants, and at most 256 steps more for each entry. Where many
-/// deliveries share a determinant that is mentioned often, these may not suffice; those that are left then are not covered.
+/// It takes time and memory as the entries and the listed determinants; then at most 256 steps for each entry, and for each
+/// delivery that is not covered time as the entries. Where many deliveries share a determinant that is mentioned often the
+/// steps may not suffice; those that are left then are not covered.
 ///
 /// # Errors
 /// `NoMemory` where memory was refused.
@@ -107,11 +127,5 @@ pub fn least_surveyed(alloc: Global, trace: &Trace, f: u16, end: u32) -> Result<
         f,
         end,
     };
-    let Some(uncovered) = survey.uncovered(alloc)? else {
-        return Ok(Surveyed::TooMany);
-    };
-    if !uncovered.is_empty() {
-        return Ok(Surveyed::TooMany);
-    }
-    Ok(Surveyed::Told(None))
+    survey.least(alloc)
 }
