@@ -29,6 +29,7 @@ mod Outward
 mod Prepared
 mod Risen
 mod Rooms
+mod Scanned
 mod Seen
 mod Sharings
 mod Shown
@@ -37,5 +38,6 @@ mod Steps
 mod Sweeping
 mod Swept
 mod Turned
+mod Uncovered
 mod VerdictLemmas
 mod Walked

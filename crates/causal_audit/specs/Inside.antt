@@ -11,6 +11,7 @@ pub mod Moments
 pub mod Newly
 pub mod Rises
 pub mod Rooms
+pub mod Scans
 pub mod Sharing
 pub mod Sights
 pub mod Stands

@@ -2,10 +2,12 @@
 //!
 //! `Tables::of` prepares a trace, and `judge` gives its verdict for f. `first_excess`, `least_by` and `decided` are the
 //! steps of that; `first_breach` judges one delivery. For a caller that divides the deliveries, `Course::of` prepares a trace
-//! up to an instant, and `least_swept` reads its entries once for a part of them. `laws` states what the judgement rests on.
+//! up to an instant, and `least_swept` reads its entries once for a part of them; `least_surveyed` tells of most runs without
+//! either. `laws` states what the judgement rests on.
 #![tactic(auto)]
 
 pub mod breach;
+mod budget;
 mod changes;
 pub mod course;
 mod cover;
@@ -25,6 +27,7 @@ mod orphans;
 mod releases;
 mod rising;
 pub mod room;
+mod scan;
 mod sharing;
 mod sight;
 mod spreads;
@@ -34,12 +37,12 @@ pub mod tables;
 mod turns;
 pub mod verdict;
 
-pub use breach::{Breach, Excess, earlier};
+pub use breach::{Breach, Excess, Surveyed, earlier};
 pub use course::Course;
 pub use excess::{deciding_in, first_excess_in};
 pub use judging::{decided, deciding, first_breach, first_excess, judge, least_between, least_by};
 pub use room::Room;
-pub use survey::is_covered_throughout;
+pub use survey::least_surveyed;
 pub use sweep::least_swept;
 pub use tables::Tables;
 pub use verdict::Verdict;

@@ -1,97 +1,131 @@
-//! Whether all deliveries of a run are covered throughout, so that it needs no clock.
-ghost use Rattle.std.specs.Prelude.{◌≡◌, ◌≤◌, ◌<◌, ℕ, IfOk, None, Some, length, true};
-ghost use Rattle.std.specs.Bool.{OnTrue};
-ghost use Rattle.causal_name.specs.declared.Det.{Det};
-ghost use Rattle.causal_trace.specs.Past.{deliveries_in, det_at};
-ghost use Rattle.causal_audit.specs.Breaches.{HasNoOrphanBy, LeastBreachBy};
-ghost use Rattle.causal_audit.specs.Inside.Surveys.{IsSurvey};
+//! The survey of a run: which deliveries are not seen to be covered throughout, and the least breach where they are few. It
+//! needs no clock.
+ghost use Rattle.std.specs.Prelude.{◌≡◌, ◌+◌, ◌≤◌, ◌<◌, IfOk, IfSome, OnOk, Some, length, true};
+ghost use Rattle.causal_trace.specs.Past.{det_at};
+ghost use Rattle.causal_audit.specs.Breaches.{HasNoOrphanBy, IsSurveyed};
+ghost use Rattle.causal_audit.specs.Inside.Surveys.{AreGathered, IsSurvey};
 
+use crate::breach::Surveyed;
+use crate::budget::Budget;
 use crate::cover::{Outline, is_covered};
 use crate::mentions::{Mentions, mentions_in};
 use crate::releases::lasting_from;
+use crate::scan::Scan;
 use crate::spreads::stays_of;
 use crate::turns::turns_of;
-use causal_name::NoMemory;
+use causal_name::{Det, NoMemory};
 use causal_trace::trace::Trace;
 use std::alloc::Global;
 
+/// How many deliveries that are not covered a survey gathers.
+const LIMIT: usize = 256;
+
 /// What a survey of the deliveries reads: the outline of the run, what mentions each determinant, and how long each entry stays
-/// with its process.
+/// with its process; and for which f and up to which instant it asks.
 #[derive(Clone, Copy)]
 pub struct Survey<'a> {
     pub outline: Outline<'a>,
     pub mentions: &'a Mentions,
     pub stays: &'a [u32],
+    pub f: u16,
+    pub end: u32,
 }
 
 impl Survey<'_> {
-    /// Whether the delivery at k, if there is one, is covered at each instant up to `end`.
-    fn covers(&self, f: u16, end: u32, k: u32) -> bool
+    /// Whether the delivery at k, whose determinant this is, is seen to be covered at each instant up to the end. Each mention
+    /// of the determinant and each crash and restart may take a step; where fewer are left, the delivery is not looked at.
+    fn covers(&self, k: u32, det: Det, budget: &mut Budget) -> bool
         requires survey { IsSurvey self.now }
-        requires within { end ≤ length self.now.outline.trace.now.recording.past }
-        ensures { result ≡ true → (d : Det) → det_at self.now.outline.trace.now.recording.past k ≡ Some d →
-            HasNoOrphanBy self.now.outline.trace.now.recording f k end }
+        requires delivery { det_at self.now.outline.trace.now.recording.past k ≡ Some det }
+        ensures { result ≡ true → HasNoOrphanBy self.now.outline.trace.now.recording self.now.f k self.now.end }
     {
-        let Some(det) = self.outline.trace.det_at(k) else {
-            return true;
-        };
         let mentions = self.mentions.list(det);
+        let turns = self.outline.turns.positions.len();
+        if !budget.take(mentions.len().saturating_add(turns)) {
+            return false;
+        }
         let stay = self.stays[k as usize];
-        is_covered(&self.outline, mentions, stay, f, end, k, det)
+        is_covered(&self.outline, mentions, stay, self.f, self.end, k, det)
     }
 
-    /// Whether each delivery is covered at each instant up to `end`.
-    fn covers_all(&self, f: u16, end: u32) -> bool
+    /// Gathers the position k, if there is a delivery that is not seen to be covered.
+    fn gather(&self, k: u32, budget: &mut Budget, gathered: &mut Vec<u32>) -> Result<(), NoMemory>
         requires survey { IsSurvey self.now }
-        requires within { end ≤ length self.now.outline.trace.now.recording.past }
-        ensures { result ≡ true → (k : ℕ) (d : Det) → k < end →
-            det_at self.now.outline.trace.now.recording.past k ≡ Some d →
-            HasNoOrphanBy self.now.outline.trace.now.recording f k end }
+        ensures { OnOk result
+            (AreGathered self.now k gathered.old.items → AreGathered self.now (k + 1) gathered.new.items) }
     {
-        for k in 0..end {
-            if !self.covers(f, end, k) {
-                return false;
+        let Some(det) = self.outline.trace.det_at(k) else {
+            return Ok(());
+        };
+        if !self.covers(k, det, budget) {
+            gathered.push(k)?;
+        }
+        Ok(())
+    }
+
+    /// The positions of the deliveries before the end that are not seen to be covered, in order; None where they are too many.
+    fn uncovered(&self, alloc: Global) -> Result<Option<Vec<u32>>, NoMemory>
+        requires survey { IsSurvey self.now }
+        ensures { IfOk result (λ found. IfSome found (λ positions. AreGathered self.now self.now.end positions.items)) }
+    {
+        let mut budget = Budget::of(self.outline.trace);
+        let mut gathered = Vec::new(alloc);
+        for k in 0..self.end {
+            self.gather(k, &mut budget, &mut gathered)?;
+            if gathered.len() > LIMIT {
+                return Ok(None);
             }
         }
-        true
+        Ok(Some(gathered))
+    }
+
+    /// The least breach of the deliveries, where few are left: their messages are followed one delivery at a time.
+    fn least(&self, alloc: Global) -> Result<Surveyed, NoMemory>
+        requires survey { IsSurvey self.now }
+        ensures { IfOk result (IsSurveyed self.now.outline.trace.now.recording self.now.f self.now.end) }
+    {
+        let Some(uncovered) = self.uncovered(alloc)? else {
+            return Ok(Surveyed::TooMany);
+        };
+        let scan = Scan {
+            trace: self.outline.trace,
+            lasting_from: self.outline.lasting_from,
+            turns: self.outline.turns,
+            mentions: self.mentions,
+        };
+        let least = scan.least_among(alloc, self.f, self.end, uncovered.as_slice())?;
+        Ok(Surveyed::Told(least))
     }
 }
 
-/// Whether it is seen without a clock that no delivery has an orphan by the instant `end`: no entry releases a process, and
-/// each delivery is covered throughout. Where it says no nothing is known.
+/// The least breach of a run by the instant `end`, by instant and then by position, as far as a survey tells: where all but
+/// at most 256 deliveries before it are seen to be covered throughout. Then those are followed one by one.
 ///
-/// It takes time and memory as the entries and the listed determinants. The deliveries of a run that releases nobody have
-/// different determinants, so each mention is looked at once; any other run is refused at once.
+/// It takes time and memory as the entries and the listed determinants; then at most 256 steps for each entry, and for each
+/// delivery that is not covered time as the entries. Where many deliveries share a determinant that is mentioned often the
+/// steps may not suffice; those that are left then are not covered.
 ///
 /// # Errors
 /// `NoMemory` where memory was refused.
-pub fn is_covered_throughout(
-    alloc: Global,
-    trace: &Trace,
-    f: u16,
-    end: u32,
-) -> Result<bool, NoMemory>
+pub fn least_surveyed(alloc: Global, trace: &Trace, f: u16, end: u32) -> Result<Surveyed, NoMemory>
     requires { end ≤ length trace.now.recording.past }
-    ensures { IfOk result (λ covered. OnTrue covered
-        (LeastBreachBy trace.now.recording f end 0 (deliveries_in trace.now.recording.past) None)) }
+    ensures { IfOk result (IsSurveyed trace.now.recording f end) }
 {
     let _len = trace.len();
     let entries = trace.entries();
-    let lasting_from = lasting_from(entries);
-    if lasting_from > 0 {
-        return Ok(false);
-    }
     let mentions = mentions_in(alloc, entries)?;
     let turns = turns_of(alloc, entries)?;
     let stays = stays_of(alloc, entries)?;
     let survey = Survey {
         outline: Outline {
             trace,
-            lasting_from,
+            lasting_from: lasting_from(entries),
             turns: &turns,
         },
         mentions: &mentions,
         stays: stays.as_slice(),
+        f,
+        end,
     };
-    Ok(survey.covers_all(f, end))
+    survey.least(alloc)
 }

@@ -1,20 +1,17 @@
 //! The audit of a trace by workers.
-ghost use Rattle.std.specs.Prelude.{◌≡◌, ◌+◌, ◌≤◌, ℕ, [], vec_capacity, length, IfOk, IfSome, Err, true};
+ghost use Rattle.std.specs.Prelude.{◌≡◌, ◌+◌, ◌≤◌, ℕ, [], vec_capacity, length, IfOk, Err, true};
 ghost use Rattle.std.specs.Bool.{OnTrue};
 ghost use Rattle.causal_trace.specs.Past.{deliveries_in};
 ghost use Rattle.causal_trace.specs.Rows.{Recording};
 ghost use Rattle.causal_audit.specs.Breaches.{LeastBreach};
 ghost use Rattle.causal_audit.specs.Verdicts.{IsVerdict};
-ghost use Rattle.causal_workers.specs.Beginnings.{HasBreach, TellsBy};
 ghost use Rattle.causal_workers.specs.Judgements.{IsOnlyVerdict};
 ghost use Rattle.causal_workers.specs.Parts.{AreTasksAfter, Covers, FollowsAfter, HasRoom, IsFirstPart};
 
 use crate::gate::Gate;
 use crate::part::{Part, Started, Task};
-use causal_audit::{
-    Breach, Course, Room, Verdict, decided, deciding_in, earlier, first_excess_in,
-    is_covered_throughout, least_swept,
-};
+use crate::prepared::prepared_by;
+use causal_audit::{Breach, Course, Room, Verdict, decided, deciding_in, earlier, first_excess_in};
 use causal_name::NoMemory;
 use causal_trace::trace::Trace;
 use std::alloc::Global;
@@ -22,9 +19,6 @@ use std::sync::Wait;
 use std::thread;
 use std::thread::{Scope, Threads};
 use thiserror::Error;
-
-/// Which part of the entries is judged first: one of so many.
-const BEGINNING: u32 = 16;
 
 /// Why an audit gave no verdict.
 #[derive(Clone, Copy, Debug, PartialEq, Eq, Error)]
@@ -50,7 +44,8 @@ impl From<NoMemory> for AuditFault {
 /// The verdict on a trace for f, by 1 to 64 workers: the same for every number of them. Worker 0 is the calling thread,
 /// and begins when all others have been started. Each worker calls the gate's `enter` once with its number, also where
 /// no delivery is left for it. Before the others are started the calling thread judges a beginning of the run alone; where a
-/// delivery has an orphan in it the workers judge that beginning, and what comes after is not prepared.
+/// delivery has an orphan in it the workers judge that beginning, and what comes after is not prepared. Else it surveys the
+/// run; where that tells the least breach, no delivery is left for the workers.
 ///
 /// # Errors
 /// `NoMemory` where the memory for a course, for the rooms or for the list of workers was refused; then no worker was
@@ -71,46 +66,9 @@ pub fn audit<G: Gate + Sync, R: Threads + Wait>(
 {
     let excess = first_excess_in(trace, f);
     let end = deciding_in(trace, &excess);
-    let course = course_by(alloc, trace, f, end)?;
-    let least = least_of_all(rt, alloc, &course, f, workers, gate)?;
-    Ok(decided(excess, least))
-}
-
-/// The course of a run up to the instant `end`, or up to an earlier one which tells as much: what comes first by `end`. A
-/// beginning is prepared and judged alone, so that a run that fails early is not prepared whole, and any other costs little
-/// more. Of a run all of whose deliveries are seen to be covered nothing else is prepared.
-fn course_by(alloc: Global, trace: &Trace, f: u16, end: u32) -> Result<Course, NoMemory>
-    requires { end ≤ length trace.now.recording.past }
-    ensures { IfOk result (λ course. TellsBy trace.now.recording f end course) }
-{
-    if let Some(beginning) = beginning_of(alloc, trace, f, end)? {
-        return Ok(beginning);
-    }
-    if is_covered_throughout(alloc, trace, f, end)? {
-        return Course::of(alloc, trace, 0);
-    }
-    Course::of(alloc, trace, end)
-}
-
-/// The course of a beginning, if a delivery has an orphan in it.
-fn beginning_of(alloc: Global, trace: &Trace, f: u16, end: u32) -> Result<Option<Course>, NoMemory>
-    requires { end ≤ length trace.now.recording.past }
-    ensures { IfOk result (λ found. IfSome found (TellsBy trace.now.recording f end)) }
-{
-    let beginning = Course::of(alloc, trace, end / BEGINNING)?;
-    if has_breach(alloc, &beginning, f)? {
-        Ok(Some(beginning))
-    } else {
-        Ok(None)
-    }
-}
-
-/// Whether it is known that a delivery of a run has an orphan at one of its instants.
-fn has_breach(alloc: Global, course: &Course, f: u16) -> Result<bool, NoMemory>
-    ensures { IfOk result (λ known. OnTrue known (HasBreach course.now f)) }
-{
-    let mut room = Room::new(alloc, course, 0, course.deliveries())?;
-    Ok(least_swept(course, f, &mut room).is_some())
+    let prepared = prepared_by(alloc, trace, f, end)?;
+    let least = least_of_all(rt, alloc, &prepared.course, f, workers, gate)?;
+    Ok(decided(excess, earlier(prepared.known, least)))
 }
 
 /// The least breach of all deliveries of a run.

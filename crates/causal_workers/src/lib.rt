@@ -12,6 +12,7 @@ pub mod gate;
 pub mod judged;
 pub mod line;
 mod part;
+mod prepared;
 
 pub use divided::{AuditFault, audit};
 pub use gate::{Gate, OpenGate};

@@ -14,13 +14,13 @@ use Rattle.causal_trace.proofs.Lemmas.AtInstants.{det_within, instant_length}
 use Rattle.causal_audit.proofs.Numbered.{numbered_one, numbered_order}
 
 -- what is no earlier than a is no earlier than what comes before a
-before_least : (a b : Breach) (k t : ℕ) → comes_before b a ≡ true → (a.instant ≤ t) × (a.instant ≡ t → a.delivery ≤ k) → (b.instant ≤ t) × (b.instant ≡ t → b.delivery ≤ k)
+pub before_least : (a b : Breach) (k t : ℕ) → comes_before b a ≡ true → (a.instant ≤ t) × (a.instant ≡ t → a.delivery ≤ k) → (b.instant ≤ t) × (b.instant ≡ t → b.delivery ≤ k)
 before_least a b k t h later =
     let first : b.instant ≤ a.instant = grind (arith, nat_tests) in
     let second : b.instant ≡ a.instant → b.delivery ≤ a.delivery = λ e. grind (arith, nat_tests) in
     (omega (arith, first, later.0), λ e. let same : a.instant ≡ t = omega (arith, first, later.0, e) in omega (arith, later.1 same, second (omega (arith, same, e))))
 
-not_before_least : (a b : Breach) (k t : ℕ) → comes_before b a ≡ false → (b.instant ≤ t) × (b.instant ≡ t → b.delivery ≤ k) → (a.instant ≤ t) × (a.instant ≡ t → a.delivery ≤ k)
+pub not_before_least : (a b : Breach) (k t : ℕ) → comes_before b a ≡ false → (b.instant ≤ t) × (b.instant ≡ t → b.delivery ≤ k) → (a.instant ≤ t) × (a.instant ≡ t → a.delivery ≤ k)
 not_before_least a b k t h later =
     let first : a.instant ≤ b.instant = grind (arith, nat_tests) in
     let second : a.instant ≡ b.instant → a.delivery ≤ b.delivery = λ e. grind (arith, nat_tests) in

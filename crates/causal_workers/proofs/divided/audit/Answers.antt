@@ -1,4 +1,4 @@
-use Rattle.std.proofs.Common.{subst, length}
+use Rattle.std.proofs.Common.{subst, sym, length}
 use Rattle.causal_trace.specs.Past.{deliveries_in}
 use Rattle.causal_audit.specs.Breaches.{LeastBreachBy, deciding}
 use Rattle.causal_audit.proofs.Lemmas.OneVerdict.{one_verdict}
@@ -10,8 +10,9 @@ returns-clause-verdict g c =
     let f = c.args.f in
     let excess = c.first_excess_in-excess.result in
     let end = c.deciding_in-end.result in
-    let least = c.in_ok-least.least in
-    let by : LeastBreachBy r f end 0 (deliveries_in r.past) least = c.in_ok-course.ensures least c.in_ok-least.ensures.least in
+    let found = c.in_ok-least.least in
+    let least = c.earlier.result in
+    let by : LeastBreachBy r f end 0 (deliveries_in r.past) least = subst (LeastBreachBy r f end 0 (deliveries_in r.past)) (sym c.earlier.ensures) (c.in_ok-prepared.ensures found c.in_ok-least.ensures.least) in
     let bounded : LeastBreachBy r f (deciding (length r.past) excess) 0 (deliveries_in r.past) least =
     subst (λ end. LeastBreachBy r f end 0 (deliveries_in r.past) least) c.deciding_in-end.ensures.value by in
     c.decided.ensures.bounded r f c.first_excess_in-excess.ensures bounded

@@ -1,0 +1,163 @@
+-- The least breach of the deliveries at given positions.
+use Rattle.std.proofs.Common.{ℕ, ◌≡◌, ◌<◌, ◌≤◌, inl, inr, Bool, true, false, List, [], ◌∷◌, ◌++◌, Option, Some, None, length, refl, sym, subst, arith}
+use Rattle.std.specs.Prelude.{◌⊎◌, Contains, if◌then◌else◌}
+use Rattle.std.proofs.lemmas.Bool.{cases_lt}
+use Rattle.std.proofs.lemmas.Bool.Decides.{nat_tests}
+use Rattle.std.proofs.lemmas.List.Elements.{Contains-append_left, Contains-push, Contains-push_cases}
+use Rattle.causal_name.specs.declared.Det.{Det}
+use Rattle.causal_trace.specs.Past.{instant, deliveries_in, det_at}
+use Rattle.causal_trace.specs.Rows.{Recording, AreAccepted}
+use Rattle.causal_trace.specs.Judgement.{HasOrphan}
+use Rattle.causal_audit.specs.declared.breach.Breach.{Breach}
+use Rattle.causal_audit.specs.Earlier.{comes_before, earlier}
+use Rattle.causal_audit.specs.Numbers.{IsNumbered}
+use Rattle.causal_audit.specs.Breaches.{FirstBreachBy, IsFirstBreach, HasNoOrphanBy, IsLeastAmong, LeastAmongBy, LeastBreachBy, horizon}
+use Rattle.causal_audit.proofs.Lemmas.LeastLemmas.{before_least, not_before_least}
+use Rattle.causal_audit.proofs.Newly.{numbered_some}
+use Rattle.causal_audit.proofs.Numbered.{has_number, numbered_later, numbered_below}
+
+module _ (r : Recording) (f : ℕ) where
+  -- the first breach of a delivery is no later than any of its orphans
+  first_least : (k : ℕ) (b : Breach) → IsFirstBreach r f k b → (t : ℕ) → HasOrphan r.processes f (instant r.past t) k → (b.instant ≤ t) × (b.instant ≡ t → b.delivery ≤ k)
+  first_least k b first t has = (
+    elim (cases_lt t b.instant) [
+      | inl early ↦ absurd (first.before t early has)
+      | inr late ↦ late
+    ],
+    λ _. omega (arith, first.delivery),
+  )
+
+  -- what comes by a bound comes no later than what comes after it
+  by_bound : (b : Breach) (end t k : ℕ) → b.instant ≤ end → end < t → (b.instant ≤ t) × (b.instant ≡ t → b.delivery ≤ k)
+  by_bound b end t k low late = (omega (arith, low, late), λ same. absurd (omega (arith, low, late, same)))
+
+  first_listed : (positions : List ℕ) (k : ℕ) (b : Breach) → IsFirstBreach r f k b → Contains (positions ++ k ∷ []) b.delivery
+  first_listed positions k b first = subst (Contains (positions ++ k ∷ [])) (sym first.delivery) (Contains-push positions k)
+
+  chosen : (positions : List ℕ) (end k : ℕ) (a b : Breach) → a.instant ≤ end → b.instant ≤ a.instant → IsLeastAmong r f positions a → IsFirstBreach r f k b → (x : Bool) → comes_before b a ≡ x
+      → LeastAmongBy r f end (positions ++ k ∷ []) (if x then Some b else Some a)
+  chosen positions end k a b low short one first true before = (
+    omega (arith, low, short),
+    record {
+      among = first_listed positions k b first;
+      first = subst (λ x. IsFirstBreach r f x b) (sym first.delivery) first;
+      least = λ j t listed in_time has. elim (Contains-push_cases positions k j listed) [
+        | inl old ↦ before_least a b j t before (one.least j t old in_time has)
+        | inr new ↦
+            let same : j ≡ k = sym new in
+            subst (λ x. (b.instant ≤ t) × (b.instant ≡ t → b.delivery ≤ x)) (sym same) (first_least k b first t (subst (HasOrphan r.processes f (instant r.past t)) same has))
+      ];
+    },
+  )
+  chosen positions end k a b low short one first false before = (
+    low,
+    record {
+      among = Contains-append_left positions (k ∷ []) a.delivery one.among;
+      first = one.first;
+      least = λ j t listed in_time has. elim (Contains-push_cases positions k j listed) [
+        | inl old ↦ one.least j t old in_time has
+        | inr new ↦
+            let same : j ≡ k = sym new in
+            not_before_least a b j t before
+            (subst (λ x. (b.instant ≤ t) × (b.instant ≡ t → b.delivery ≤ x)) (sym same) (first_least k b first t (subst (HasOrphan r.processes f (instant r.past t)) same has)))
+      ];
+    },
+  )
+
+  -- of no position there is none
+  pub among_none : (end : ℕ) → LeastAmongBy r f end [] None
+  among_none end k t listed = absurd (nothing k listed)
+    where
+      empty : List ℕ
+      empty = []
+
+      nothing : (k : ℕ) → Contains empty k → ⊥
+      nothing k listed = omega (arith, listed.1)
+
+  -- One position more need be known no further than the breach so far.
+  pub among_more : (end until : ℕ) (positions : List ℕ) (k : ℕ) (one other : Option Breach) → until ≡ horizon end one → LeastAmongBy r f end positions one → FirstBreachBy r f until k other
+      → LeastAmongBy r f end (positions ++ k ∷ []) (earlier one other)
+  among_more end until positions k None None reach so_far next = λ j t listed low has. elim (Contains-push_cases positions k j listed) [
+    | inl old ↦ so_far j t old low has
+    | inr new ↦ next t (omega (arith, low, reach)) (subst (HasOrphan r.processes f (instant r.past t)) (sym new) has)
+  ]
+  among_more end until positions k None (Some b) reach so_far next = (
+    omega (arith, next.0, reach),
+    record {
+      among = first_listed positions k b next.1;
+      first = subst (λ x. IsFirstBreach r f x b) (sym next.1.delivery) next.1;
+      least = λ j t listed in_time has. elim (Contains-push_cases positions k j listed) [
+        | inl old ↦ elim (cases_lt end t) [
+          | inl late ↦ by_bound b end t j (omega (arith, next.0, reach)) late
+          | inr early ↦ absurd (so_far j t old early has)
+        ]
+        | inr new ↦
+            let same : j ≡ k = sym new in
+            subst (λ x. (b.instant ≤ t) × (b.instant ≡ t → b.delivery ≤ x)) (sym same) (first_least k b next.1 t (subst (HasOrphan r.processes f (instant r.past t)) same has))
+      ];
+    },
+  )
+  among_more end until positions k (Some a) None reach so_far next = (
+    so_far.0,
+    record {
+      among = Contains-append_left positions (k ∷ []) a.delivery so_far.1.among;
+      first = so_far.1.first;
+      least = λ j t listed in_time has. elim (Contains-push_cases positions k j listed) [
+        | inl old ↦ so_far.1.least j t old in_time has
+        | inr new ↦ elim (cases_lt a.instant t) [
+          | inl late ↦ by_bound a a.instant t j (omega arith) late
+          | inr early ↦ absurd (next t (omega (arith, early, reach)) (subst (HasOrphan r.processes f (instant r.past t)) (sym new) has))
+        ]
+      ];
+    },
+  )
+  among_more end until positions k (Some a) (Some b) reach so_far next =
+      chosen positions end k a b so_far.0 (omega (arith, next.0, reach)) so_far.1 next.1 (comes_before b a) refl
+
+  -- and where it has none by then, the least stays
+  pub among_same : (end until : ℕ) (positions : List ℕ) (k : ℕ) (one : Option Breach) → until ≡ horizon end one → LeastAmongBy r f end positions one → FirstBreachBy r f until k None
+      → LeastAmongBy r f end (positions ++ k ∷ []) one
+  among_same end until positions k None reach so_far next = among_more end until positions k None None reach so_far next
+  among_same end until positions k (Some a) reach so_far next = among_more end until positions k (Some a) None reach so_far next
+
+  -- a breach by the horizon is the new one
+  pub horizon_more : (end : ℕ) (one : Option Breach) (b : Breach) → b.instant ≤ horizon end one → b.instant ≡ horizon end (earlier one (Some b))
+  horizon_more end None b low = refl
+  horizon_more end (Some a) b low = by_choice (comes_before b a) refl
+    where
+      by_choice : (x : Bool) → comes_before b a ≡ x → b.instant ≡ horizon end (if x then Some b else Some a)
+      by_choice true before = refl
+      by_choice false before = grind (arith, nat_tests)
+
+  -- Where each other delivery has no orphan by then, it is the least of all.
+  pub among_all : (end : ℕ) (positions : List ℕ) (found : Option Breach) → AreAccepted r.processes r.past → end ≤ length r.past
+      → ((k : ℕ) (d : Det) → det_at r.past k ≡ Some d → Contains positions k ⊎ HasNoOrphanBy r f k end)
+      → LeastAmongBy r f end positions found → LeastBreachBy r f end 0 (deliveries_in r.past) found
+  among_all end positions None formed within others none = λ i k t low high numbered in_time has.
+      let some = numbered_some r.processes r.past i k formed numbered in
+      elim (others k some.0 some.1) [
+        | inl listed ↦ none k t listed in_time has
+        | inr never ↦ never t in_time has
+      ]
+  among_all end positions (Some b) formed within others one =
+      let orphan = one.1.first.least.is_orphan in
+      let numbered_then = has_number (instant r.past b.instant) b.delivery orphan.det orphan.delivered in
+      let numbered : IsNumbered r.past numbered_then.0 b.delivery = numbered_later r.past b.instant numbered_then.0 b.delivery one.1.first.within numbered_then.2 in (
+        one.0,
+        record {
+          number = numbered_then.0;
+          least_from = omega arith;
+          below_to = numbered_below r.past numbered_then.0 b.delivery numbered;
+          numbered = numbered;
+          first = one.1.first;
+          least = λ i k t low high is in_time has.
+              let some = numbered_some r.processes r.past i k formed is in
+              elim (others k some.0 some.1) [
+                | inl listed ↦ one.1.least k t listed in_time has
+                | inr never ↦ elim (cases_lt end t) [
+                  | inl late ↦ by_bound b end t k one.0 late
+                  | inr early ↦ absurd (never t early has)
+                ]
+              ];
+        },
+      )

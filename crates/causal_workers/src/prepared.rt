@@ -1,0 +1,69 @@
+//! What is prepared of a run before the workers of its audit start.
+ghost use Rattle.std.specs.Prelude.{◌≡◌, ◌≤◌, IfOk, IfSome, None, length};
+ghost use Rattle.std.specs.Bool.{OnTrue};
+ghost use Rattle.causal_workers.specs.Beginnings.{HasBreach, TellsBy};
+
+use causal_audit::{Breach, Course, Room, Surveyed, least_surveyed, least_swept};
+use causal_name::NoMemory;
+use causal_trace::trace::Trace;
+use std::alloc::Global;
+
+/// Which part of the entries is judged first: one of so many.
+const BEGINNING: u32 = 16;
+
+/// What is prepared of a run: the breach that is known already, if there is one, and the course whose deliveries the workers
+/// judge. The earlier of that breach and theirs is the least of the run.
+#[derive(Drop)]
+pub struct Prepared {
+    pub known: Option<Breach>,
+    pub course: Course,
+}
+
+/// What tells the least breach of a run by the instant `end`. A beginning is prepared and judged alone, so that a run that
+/// fails early is not prepared whole, and any other costs little more. Of a run of which a survey tells the least breach no
+/// delivery is left to judge.
+pub fn prepared_by(alloc: Global, trace: &Trace, f: u16, end: u32) -> Result<Prepared, NoMemory>
+    requires { end ≤ length trace.now.recording.past }
+    ensures { IfOk result (λ prepared. TellsBy trace.now.recording f end prepared.known prepared.course) }
+{
+    if let Some(course) = beginning_of(alloc, trace, f, end)? {
+        return Ok(Prepared {
+            known: None,
+            course,
+        });
+    }
+    match least_surveyed(alloc, trace, f, end)? {
+        Surveyed::Told(known) => {
+            let course = Course::of(alloc, trace, 0)?;
+            Ok(Prepared { known, course })
+        }
+        Surveyed::TooMany => {
+            let course = Course::of(alloc, trace, end)?;
+            Ok(Prepared {
+                known: None,
+                course,
+            })
+        }
+    }
+}
+
+/// The course of a beginning, if a delivery has an orphan in it.
+fn beginning_of(alloc: Global, trace: &Trace, f: u16, end: u32) -> Result<Option<Course>, NoMemory>
+    requires { end ≤ length trace.now.recording.past }
+    ensures { IfOk result (λ found. IfSome found (TellsBy trace.now.recording f end None)) }
+{
+    let beginning = Course::of(alloc, trace, end / BEGINNING)?;
+    if has_breach(alloc, &beginning, f)? {
+        Ok(Some(beginning))
+    } else {
+        Ok(None)
+    }
+}
+
+/// Whether it is known that a delivery of a run has an orphan at one of its instants.
+fn has_breach(alloc: Global, course: &Course, f: u16) -> Result<bool, NoMemory>
+    ensures { IfOk result (λ known. OnTrue known (HasBreach course.now f)) }
+{
+    let mut room = Room::new(alloc, course, 0, course.deliveries())?;
+    Ok(least_swept(course, f, &mut room).is_some())
+}
