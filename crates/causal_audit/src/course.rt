@@ -53,7 +53,6 @@ impl Course {
         requires { end ≤ length trace.now.recording.past }
         ensures { IfOk result (λ course. course ≡ up_to trace.now.recording end) }
     {
-        let _len = trace.len();
         let entries = &trace.entries()[..end as usize];
         let positions = positions_of(alloc, entries)?;
         let effects = effects_of(alloc, trace, end, positions.as_slice())?;

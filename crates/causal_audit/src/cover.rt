@@ -117,7 +117,6 @@ pub fn is_covered(
     requires stays { StaysUntil run.now.trace.now.recording.past k spread }
     ensures { result ≡ true → HasNoOrphanBy run.now.trace.now.recording f k end }
 {
-    let _len = run.trace.len();
     let entries = run.trace.entries();
     let mut t = first_of(mentions, k);
     let mut ahead = Cursor::at(mentions, t);

@@ -50,12 +50,12 @@ pub fn effects_of(
     requires positions { ArePositions (instant trace.now.recording.past end) positions.now }
     ensures { IfOk result (λ effects. HasEffects (instant trace.now.recording.past end) effects) }
 {
-    let _formed = trace.len();
+    let entries = &trace.entries()[..end as usize];
     let dets = dets_of(alloc, trace, positions)?;
     let mut firsts = Firsts::new(alloc)?;
     let first = firsts.note_each(alloc, dets.as_slice())?;
     let same = same_of(alloc, first.as_slice())?;
-    let marks = firsts.marks_of(alloc, &trace.entries()[..end as usize])?;
+    let marks = firsts.marks_of(alloc, entries)?;
     let clocks = clocks_until(alloc, trace, end)?;
     let risen = risen_of(alloc, &clocks, positions)?;
     Ok(Effects {

@@ -64,7 +64,6 @@ pub fn clocks_until(alloc: Global, trace: &Trace, end: u32) -> Result<Clocks, No
     requires { end ≤ length trace.now.recording.past }
     ensures { IfOk result (λ clocks. Stands (instant trace.now.recording.past end) clocks.events) }
 {
-    let _formed = trace.len();
     let n = trace.processes();
     let Ok(mut clocks) = Clocks::new(alloc, n) else {
         return Err(NoMemory);

@@ -11,7 +11,6 @@ use causal_trace::trace::Trace;
 pub fn first_excess_in(trace: &Trace, f: u16) -> Option<Excess>
     ensures { FirstExcess trace.now.recording f result }
 {
-    let _formed = trace.len();
     let recorded = trace.entries();
     let mut down = Holders::none();
     for (t, entry) in recorded.iter().enumerate() {

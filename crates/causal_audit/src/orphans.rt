@@ -62,7 +62,6 @@ pub fn first_orphan(
     requires changes { AreChangesKept run.now.trace.now.recording.past k det changes.now }
     ensures { FirstBreachBy run.now.trace.now.recording f end k result }
 {
-    let _len = run.trace.len();
     let entries = run.trace.entries();
     let mut t = changes.start(k);
     let mut ahead = changes.ahead(t);

@@ -109,7 +109,6 @@ impl Scan<'_> {
         ensures still { AreStill self.now.trace.now.recording.past from result k }
         ensures told { AreReached (instant self.now.trace.now.recording.past result) k result reached.new }
     {
-        let _len = self.trace.len();
         let entries = self.trace.entries();
         for i in from..until {
             let step = Step::of(&entries[i as usize], dependents, reached, k, i);
@@ -141,7 +140,6 @@ impl Scan<'_> {
         ensures first { FirstBreachBy self.now.trace.now.recording f end k result }
         ensures counted { length reached.new ≡ length reached.old }
     {
-        let _len = self.trace.len();
         let entries = self.trace.entries();
         let mut mentions = Cursor::at(self.mentions.list(det), 0);
         let mut t = mentions.next(0, k);

@@ -111,7 +111,6 @@ pub fn least_surveyed(alloc: Global, trace: &Trace, f: u16, end: u32) -> Result<
     requires { end ≤ length trace.now.recording.past }
     ensures { IfOk result (IsSurveyed trace.now.recording f end) }
 {
-    let _len = trace.len();
     let entries = trace.entries();
     let mentions = mentions_in(alloc, entries)?;
     let turns = turns_of(alloc, entries)?;

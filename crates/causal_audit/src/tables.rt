@@ -62,7 +62,6 @@ impl Tables {
     pub fn of(alloc: Global, trace: &Trace) -> Result<Tables, NoMemory>
         ensures { IfOk result (λ tables. tables ≡ trace.now.recording) }
     {
-        let _len = trace.len();
         let entries = trace.entries();
         let positions = positions_of(alloc, entries)?;
         let clocks = clocks_of(alloc, trace)?;

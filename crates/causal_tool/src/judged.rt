@@ -1,14 +1,11 @@
 //! From the text of a trace to its verdict.
-ghost use Rattle.std.specs.Prelude.{◌≡◌, ◌≤◌, ℕ, List, IfOk, IfErr, IfSome, Err, length};
-ghost use Rattle.causal_trace.specs.Past.{deliveries_in};
+ghost use Rattle.std.specs.Prelude.{◌≡◌, ◌≤◌, ℕ, List, IfOk, IfErr, IfSome, Err};
 ghost use Rattle.causal_text.specs.Streams.{TellsOf};
-ghost use Rattle.causal_audit.specs.Verdicts.{IsVerdict};
 ghost use Rattle.causal_workers.specs.Judgements.{IsJudgement};
 ghost use Rattle.causal_tool.specs.Judgements.{TellsFirstFault};
 
 use causal_text::{ReaderFault, TextFault, TextKind, read_from};
-use causal_trace::trace::Trace;
-use causal_workers::{AuditFault, Gate, Judged, audit};
+use causal_workers::{AuditFault, Gate, Judged, judge_trace};
 use std::alloc::Global;
 use std::io::Read;
 use std::sync::Wait;
@@ -55,7 +52,7 @@ pub fn audit_from<I: Read, G: Gate + Sync, R: Threads + Wait>(
         Ok(trace) => trace,
         Err(fault) => return Err(fault_of(fault)),
     };
-    match judgement(rt, alloc, &trace, f, workers, gate) {
+    match judge_trace(rt, alloc, &trace, f, workers, gate) {
         Ok(judged) => Ok(judged),
         Err(AuditFault::NoMemory) => Err(StreamFault::NoMemory),
         Err(AuditFault::NoWorker) => Err(StreamFault::NoWorker),
@@ -79,29 +76,5 @@ fn text_fault(fault: TextFault) -> StreamFault
     match fault.kind {
         TextKind::NoMemory => StreamFault::NoMemory,
         _ => StreamFault::Text(fault),
-    }
-}
-
-fn judgement<G: Gate + Sync, R: Threads + Wait>(
-    rt: &R,
-    alloc: Global,
-    trace: &Trace,
-    f: u16,
-    workers: u32,
-    gate: &G,
-) -> Result<Judged, AuditFault>
-    requires { (1 ≤ workers) × (workers ≤ 64) }
-    ensures verdict { IfOk result (λ judged. IsVerdict trace.now.recording f judged.verdict) }
-    ensures entries { IfOk result (λ judged. judged.entries ≡ length trace.now.recording.past) }
-    ensures deliveries { IfOk result (λ judged. judged.deliveries ≡ deliveries_in trace.now.recording.past) }
-    ensures alone { result ≡ Err AuditFault.NoWorker → 2 ≤ workers }
-{
-    match audit(rt, alloc, trace, f, workers, gate) {
-        Ok(verdict) => Ok(Judged {
-            verdict,
-            entries: trace.len(),
-            deliveries: trace.deliveries(),
-        }),
-        Err(fault) => Err(fault),
     }
 }

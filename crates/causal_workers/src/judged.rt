@@ -73,19 +73,34 @@ pub fn audit_text<G: Gate + Sync, R: Threads + Wait>(
     ensures alone { result ≡ Err (AuditTextFault.Audit AuditFault.NoWorker) → 2 ≤ workers }
 {
     let trace = read_trace(alloc, bytes)?;
-    let verdict = audit(rt, alloc, &trace, f, workers, gate)?;
-    Ok(judged_of(&trace, verdict))
+    let judged = judge_trace(rt, alloc, &trace, f, workers, gate)?;
+    Ok(judged)
 }
 
-/// The verdict with the counts of its trace.
-fn judged_of(trace: &Trace, verdict: Verdict) -> Judged
-    ensures verdict { result.verdict ≡ verdict }
-    ensures entries { result.entries ≡ length trace.now.recording.past }
-    ensures deliveries { result.deliveries ≡ deliveries_in trace.now.recording.past }
+/// The verdict for f on a trace, by 1 to 64 workers, with how many entries and how many deliveries the trace has.
+///
+/// # Errors
+/// Those of [`audit`].
+pub fn judge_trace<G: Gate + Sync, R: Threads + Wait>(
+    rt: &R,
+    alloc: Global,
+    trace: &Trace,
+    f: u16,
+    workers: u32,
+    gate: &G,
+) -> Result<Judged, AuditFault>
+    requires { (1 ≤ workers) × (workers ≤ 64) }
+    ensures verdict { IfOk result (λ judged. IsVerdict trace.now.recording f judged.verdict) }
+    ensures entries { IfOk result (λ judged. judged.entries ≡ length trace.now.recording.past) }
+    ensures deliveries { IfOk result (λ judged. judged.deliveries ≡ deliveries_in trace.now.recording.past) }
+    ensures alone { result ≡ Err AuditFault.NoWorker → 2 ≤ workers }
 {
-    Judged {
-        verdict,
-        entries: trace.len(),
-        deliveries: trace.deliveries(),
+    match audit(rt, alloc, trace, f, workers, gate) {
+        Ok(verdict) => Ok(Judged {
+            verdict,
+            entries: trace.len(),
+            deliveries: trace.deliveries(),
+        }),
+        Err(fault) => Err(fault),
     }
 }

@@ -16,7 +16,7 @@ mod prepared;
 
 pub use divided::{AuditFault, audit};
 pub use gate::{Gate, OpenGate};
-pub use judged::{AuditTextFault, Judged, audit_text};
+pub use judged::{AuditTextFault, Judged, audit_text, judge_trace};
 pub use line::verdict_line;
 
 #[cfg(test)]

@@ -1,5 +1,5 @@
 //! What is prepared of a run before the workers of its audit start.
-ghost use Rattle.std.specs.Prelude.{◌≡◌, ◌≤◌, IfOk, IfSome, None, length};
+ghost use Rattle.std.specs.Prelude.{◌≡◌, ◌≤◌, IfOk, None, length};
 ghost use Rattle.std.specs.Bool.{OnTrue};
 ghost use Rattle.causal_workers.specs.Beginnings.{HasBreach, TellsBy};
 
@@ -19,26 +19,19 @@ pub struct Prepared {
     pub course: Course,
 }
 
-/// What tells the least breach of a run by the instant `end`. A beginning is prepared and judged alone, so that a run that
-/// fails early is not prepared whole, and any other costs little more. Of a run of which a survey tells the least breach no
-/// delivery is left to judge.
+/// What tells the least breach of a run by the instant `end`. Of a run of which a survey tells it no delivery is left to
+/// judge.
 pub fn prepared_by(alloc: Global, trace: &Trace, f: u16, end: u32) -> Result<Prepared, NoMemory>
     requires { end ≤ length trace.now.recording.past }
     ensures { IfOk result (λ prepared. TellsBy trace.now.recording f end prepared.known prepared.course) }
 {
-    if let Some(course) = beginning_of(alloc, trace, f, end)? {
-        return Ok(Prepared {
-            known: None,
-            course,
-        });
-    }
     match least_surveyed(alloc, trace, f, end)? {
         Surveyed::Told(known) => {
             let course = Course::of(alloc, trace, 0)?;
             Ok(Prepared { known, course })
         }
         Surveyed::TooMany => {
-            let course = Course::of(alloc, trace, end)?;
+            let course = course_by(alloc, trace, f, end)?;
             Ok(Prepared {
                 known: None,
                 course,
@@ -47,17 +40,17 @@ pub fn prepared_by(alloc: Global, trace: &Trace, f: u16, end: u32) -> Result<Pre
     }
 }
 
-/// The course of a beginning, if a delivery has an orphan in it.
-fn beginning_of(alloc: Global, trace: &Trace, f: u16, end: u32) -> Result<Option<Course>, NoMemory>
+/// The course of a beginning, if a delivery has an orphan in it, or else that up to `end`: a run that fails early is not
+/// prepared whole, and any other costs little more.
+fn course_by(alloc: Global, trace: &Trace, f: u16, end: u32) -> Result<Course, NoMemory>
     requires { end ≤ length trace.now.recording.past }
-    ensures { IfOk result (λ found. IfSome found (TellsBy trace.now.recording f end None)) }
+    ensures { IfOk result (TellsBy trace.now.recording f end None) }
 {
     let beginning = Course::of(alloc, trace, end / BEGINNING)?;
     if has_breach(alloc, &beginning, f)? {
-        Ok(Some(beginning))
-    } else {
-        Ok(None)
+        return Ok(beginning);
     }
+    Course::of(alloc, trace, end)
 }
 
 /// Whether it is known that a delivery of a run has an orphan at one of its instants.

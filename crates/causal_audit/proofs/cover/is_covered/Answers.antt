@@ -36,7 +36,7 @@ loop-t-init c =
 pub returns-then-change-end : goal.returns-then-change-end
 returns-then-change-end c _ =
     let r = c.args.run.now.trace.now.recording in
-    let formed = c.len-len.ensures.formed.accepted in
+    let formed = c.entries-entries.ensures.formed.accepted in
     let change = c.min-change.result in
     let i = c.loop-t.invariant in
     let at_end : change ≡ c.args.end = omega (arith, c.if-change-end.true) in
@@ -48,7 +48,7 @@ returns-then-change-end c _ =
 pub returns-then-is_written : goal.returns-then-is_written
 returns-then-is_written c _ =
     let r = c.args.run.now.trace.now.recording in
-    let formed = c.len-len.ensures.formed.accepted in
+    let formed = c.entries-entries.ensures.formed.accepted in
     let change = c.min-change.result in
     let i = c.loop-t.invariant in
     let mentions = c.args.mentions.now in
@@ -69,7 +69,7 @@ returns-then-is_written c _ =
 pub returns-then-len-from : goal.returns-then-len-from
 returns-then-len-from c _ =
     let r = c.args.run.now.trace.now.recording in
-    let formed = c.len-len.ensures.formed.accepted in
+    let formed = c.entries-entries.ensures.formed.accepted in
     let change = c.min-change.result in
     let i = c.loop-t.invariant in
     let mentions = c.args.mentions.now in
@@ -108,7 +108,7 @@ returns-then-len-from c _ =
 pub loop-t-preserved : goal.loop-t-preserved
 loop-t-preserved c =
     let r = c.args.run.now.trace.now.recording in
-    let formed = c.len-len.ensures.formed.accepted in
+    let formed = c.entries-entries.ensures.formed.accepted in
     let change = c.min-change.result in
     let i = c.loop-t.invariant in
     let mentions = c.args.mentions.now in
@@ -148,7 +148,7 @@ loop-t-preserved c =
 pub returns : goal.returns
 returns c h =
     let r = c.args.run.now.trace.now.recording in
-    let formed = c.len-len.ensures.formed.accepted in
+    let formed = c.entries-entries.ensures.formed.accepted in
     let i = c.loop-t.invariant in
     λ u within. none_until r.processes c.args.f r.past formed c.args.k c.args.det c.requires.delivery c.args.mentions.now c.args.run.now.turns.now.positions.items c.requires.mentioned c.requires.turns.turned
     c.loop-t.t c.args.end c.requires.within (λ v above below. absurd (omega (arith, above, below, c.loop-t-test.false))) (λ v above below. absurd (omega (arith, above, below, c.loop-t-test.false)))

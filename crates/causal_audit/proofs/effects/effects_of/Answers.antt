@@ -19,22 +19,22 @@ items list = list.items
 pub dets_of-requires : goal.dets_of-requires
 dets_of-requires c =
     let r = c.args.trace.now.recording in
-    positions_deliver r.processes r.past c.args.end c.len-formed.ensures.formed.accepted c.requires.within c.args.positions.now c.requires.positions
+    positions_deliver r.processes r.past c.args.end c.entries.ensures.formed.accepted c.requires.within c.args.positions.now c.requires.positions
 
 pub note_each-requires-clause-few : goal.note_each-requires-clause-few
 note_each-requires-clause-few c =
     let past = c.args.trace.now.recording.past in
-    omega (arith, ap length c.as_slice.ensures.value, c.in_ok-dets.ensures.count, c.requires.positions.count, deliveries_few (instant past c.args.end), instant_length past c.args.end c.requires.within, c.requires.within, c.len-formed.ensures.length, c.len-formed.ensures.few)
+    omega (arith, ap length c.as_slice.ensures.value, c.in_ok-dets.ensures.count, c.requires.positions.count, deliveries_few (instant past c.args.end), instant_length past c.args.end c.requires.within, c.requires.within, c.entries.ensures.few)
 
 pub same_of-requires-clause-few : goal.same_of-requires-clause-few
 same_of-requires-clause-few c =
     let past = c.args.trace.now.recording.past in
-    omega (arith, ap length c.as_slice-2.ensures.value, c.in_ok-first.ensures.firsts.counted, ap length c.as_slice.ensures.value, c.in_ok-dets.ensures.count, c.requires.positions.count, deliveries_few (instant past c.args.end), instant_length past c.args.end c.requires.within, c.requires.within, c.len-formed.ensures.length, c.len-formed.ensures.few)
+    omega (arith, ap length c.as_slice-2.ensures.value, c.in_ok-first.ensures.firsts.counted, ap length c.as_slice.ensures.value, c.in_ok-dets.ensures.count, c.requires.positions.count, deliveries_few (instant past c.args.end), instant_length past c.args.end c.requires.within, c.requires.within, c.entries.ensures.few)
 
 pub risen_of-requires-clause-few : goal.risen_of-requires-clause-few
 risen_of-requires-clause-few c =
     let past = c.args.trace.now.recording.past in
-    omega (arith, c.requires.positions.count, deliveries_few (instant past c.args.end), instant_length past c.args.end c.requires.within, c.requires.within, c.len-formed.ensures.length, c.len-formed.ensures.few)
+    omega (arith, c.requires.positions.count, deliveries_few (instant past c.args.end), instant_length past c.args.end c.requires.within, c.requires.within, c.entries.ensures.few)
 
 pub risen_of-requires-clause-events : goal.risen_of-requires-clause-events
 risen_of-requires-clause-events c k d low =
@@ -51,7 +51,7 @@ pub returns : goal.returns
 returns c =
     let whole = c.args.trace.now.recording in
     let r = up_to whole c.args.end in
-    let formed = formed_then whole c.args.end c.len-formed.ensures.formed in
+    let formed = formed_then whole c.args.end c.entries.ensures.formed in
     let positions = c.args.positions.now in
     let dets = c.in_ok-dets.dets.items in
     let of = first_of c.note_each.new.self in

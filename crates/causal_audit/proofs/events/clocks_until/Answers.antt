@@ -31,7 +31,7 @@ note-requires c =
     let next : instant r.past (i + 1) ≡ c.entry-item.result ∷ instant r.past i =
     next_state r items c.loop-entry.invariant.items i c.entry-item.result
     (omega (arith, c.loop-entry-test.true, ap length c.loop-entry.invariant.items, length-reverse r.past)) c.entry-item.is in
-    let formed = formed_then c.args.trace.now.recording c.args.end c.len-formed.ensures.formed in
+    let formed = formed_then c.args.trace.now.recording c.args.end c.processes-n.ensures.formed in
     record {
       processes = r.processes;
       past = instant r.past i;
@@ -50,7 +50,7 @@ loop-entry-preserved c =
     let next : instant r.past (i + 1) ≡ c.entry-item.result ∷ instant r.past i =
     next_state r items c.loop-entry.invariant.items i c.entry-item.result
     (omega (arith, c.loop-entry-test.true, ap length c.loop-entry.invariant.items, length-reverse r.past)) c.entry-item.is in
-    let formed = formed_then c.args.trace.now.recording c.args.end c.len-formed.ensures.formed in
+    let formed = formed_then c.args.trace.now.recording c.args.end c.processes-n.ensures.formed in
     let accepted : AreAccepted n (c.entry-item.result ∷ instant r.past i) = subst (AreAccepted n) next (accepted_then n r.past (i + 1) formed.accepted) in
     let noted : Mirrors n (c.entry-item.result ∷ instant r.past i) c.note.new.clocks c.note.new.present =
     if_ok c.note.result _ (sym c.is_err.ensures.value ∙ c.if-is_err.false)

@@ -29,8 +29,8 @@ returns-then-len-from c =
       within = omega (arith, below r c.entries-recorded.result.now t c.entries-recorded.ensures.value c.loop-t-test.true);
       before = λ u h. c.loop-t.invariant.before u (omega (arith, h));
       excess = record {
-        many = omega (arith, c.if-len-from.true, c.len.ensures.counted, c.from.ensures, down_count r c.len-formed.ensures.formed (t + 1) c.down_after-down.result shown);
-        members = down_members r.processes (instant r.past (t + 1)) c.down_after-down.result (accepted_then r.processes r.past (t + 1) c.len-formed.ensures.formed.accepted) shown;
+        many = omega (arith, c.if-len-from.true, c.len.ensures.counted, c.from.ensures, down_count r c.entries-recorded.ensures.formed (t + 1) c.down_after-down.result shown);
+        members = down_members r.processes (instant r.past (t + 1)) c.down_after-down.result (accepted_then r.processes r.past (t + 1) c.entries-recorded.ensures.formed.accepted) shown;
       };
     }
 
@@ -43,7 +43,7 @@ loop-t-preserved c =
     record {
       down = shown;
       before = up_to_next (λ u. count_below r.processes (is_down (instant r.past u)) ≤ c.args.f) t c.loop-t.invariant.before
-          (omega (arith, c.if-len-from.false, c.len.ensures.counted, c.from.ensures, down_count r c.len-formed.ensures.formed (t + 1) c.down_after-down.result shown));
+          (omega (arith, c.if-len-from.false, c.len.ensures.counted, c.from.ensures, down_count r c.entries-recorded.ensures.formed (t + 1) c.down_after-down.result shown));
     }
 
 pub returns : goal.returns

@@ -36,7 +36,7 @@ loop-t-init c =
 pub returns-then-change-end : goal.returns-then-change-end
 returns-then-change-end c =
     let r = c.args.run.now.trace.now.recording in
-    let formed = c.len-len.ensures.formed in
+    let formed = c.entries-entries.ensures.formed in
     let end = c.args.end in
     let quiet : AreQuiet r.past c.loop-t.t end c.args.k c.args.det =
     quiet_until r.processes r.past formed.accepted c.args.k c.args.det c.args.changes.now c.requires.changes c.loop-t.t end
@@ -52,7 +52,7 @@ precedes-requires-clause-earlier c =
 pub returns-in-Some : goal.returns-in-Some
 returns-in-Some c =
     let r = c.args.run.now.trace.now.recording in
-    let formed = c.len-len.ensures.formed in
+    let formed = c.entries-entries.ensures.formed in
     let change = c.next-next.result.position in
     let below : change < length r.past = omega (arith, c.next-next.ensures.bounds, c.if-change-end.false, c.requires.within) in
     let quiet : AreQuiet r.past c.loop-t.t change c.args.k c.args.det =
@@ -75,7 +75,7 @@ returns-in-Some c =
 pub returns-then-is_over : goal.returns-then-is_over
 returns-then-is_over c =
     let r = c.args.run.now.trace.now.recording in
-    let formed = c.len-len.ensures.formed in
+    let formed = c.entries-entries.ensures.formed in
     let change = c.next-next.result.position in
     let below : change < length r.past = omega (arith, c.next-next.ensures.bounds, c.if-change-end.false, c.requires.within) in
     let quiet : AreQuiet r.past c.loop-t.t change c.args.k c.args.det =
@@ -102,7 +102,7 @@ returns-then-is_over c =
 pub loop-t-preserved : goal.loop-t-preserved
 loop-t-preserved c =
     let r = c.args.run.now.trace.now.recording in
-    let formed = c.len-len.ensures.formed in
+    let formed = c.entries-entries.ensures.formed in
     let change = c.next-next.result.position in
     let below : change < length r.past = omega (arith, c.next-next.ensures.bounds, c.if-change-end.false, c.requires.within) in
     let quiet : AreQuiet r.past c.loop-t.t change c.args.k c.args.det =

@@ -52,7 +52,7 @@ returns-then-change-end-clause-first c u within =
     let mentions = mentions_of c.args.self.now.mentions.now.numbers (lists_in c.args.self.now.mentions.now.lists.items) c.args.det in
     let change = c.next_change-change.result in
     let invariant = c.loop-t.invariant in
-    none_before r c.args.f c.len-len.ensures.formed c.args.k c.args.det c.requires.delivery mentions (c.requires.mentions.mentioned c.args.det) c.loop-t.t change c.next-mention.result
+    none_before r c.args.f c.entries-entries.ensures.formed c.args.k c.args.det c.requires.delivery mentions (c.requires.mentions.mentioned c.args.det) c.loop-t.t change c.next-mention.result
     c.next_change-change.ensures.bounds.0 c.next_change-change.ensures.bounds.1 (c.next-mention.ensures.none mentions invariant.mentions) c.next_change-change.ensures.still
     (omega (arith, c.if-change-end.true, c.requires.within)) invariant.before u (omega (arith, within, c.if-change-end.true))
 
@@ -62,25 +62,25 @@ next_change-change-requires-clause-dependents c = c.loop-t.invariant.sight.depen
 pub of-step-requires : goal.of-step-requires
 of-step-requires c send is =
     let r = c.args.self.now.trace.now.recording in
-    let formed = c.len-len.ensures.formed in
+    let formed = c.entries-entries.ensures.formed in
     let mentions = mentions_of c.args.self.now.mentions.now.numbers (lists_in c.args.self.now.mentions.now.lists.items) c.args.det in
     let change = c.next_change-change.result in
     let x = c.index-entries-change.result in
     let invariant = c.loop-t.invariant in
     let below : change < length r.past = omega (arith, c.next_change-change.ensures.bounds, c.next-mention.ensures.bounds, c.if-change-end.false, c.requires.within) in
-    let next : instant r.past (change + 1) ≡ x ∷ instant r.past change = next_state r c.entries-entries.result.now c.entries-entries.ensures change x below c.index-entries-change.is in
+    let next : instant r.past (change + 1) ≡ x ∷ instant r.past change = next_state r c.entries-entries.result.now c.entries-entries.ensures.value change x below c.index-entries-change.is in
     omega (arith, below, c.next_change-change.ensures.counted, invariant.counted, c.requires.counted, send_before r c.args.f formed c.args.k c.args.det c.requires.delivery change x below next send is)
 
 pub returns-in-Some-clause-first : goal.returns-in-Some-clause-first
 returns-in-Some-clause-first c =
     let r = c.args.self.now.trace.now.recording in
-    let formed = c.len-len.ensures.formed in
+    let formed = c.entries-entries.ensures.formed in
     let mentions = mentions_of c.args.self.now.mentions.now.numbers (lists_in c.args.self.now.mentions.now.lists.items) c.args.det in
     let change = c.next_change-change.result in
     let x = c.index-entries-change.result in
     let invariant = c.loop-t.invariant in
     let below : change < length r.past = omega (arith, c.next_change-change.ensures.bounds, c.next-mention.ensures.bounds, c.if-change-end.false, c.requires.within) in
-    let next : instant r.past (change + 1) ≡ x ∷ instant r.past change = next_state r c.entries-entries.result.now c.entries-entries.ensures change x below c.index-entries-change.is in
+    let next : instant r.past (change + 1) ≡ x ∷ instant r.past change = next_state r c.entries-entries.result.now c.entries-entries.ensures.value change x below c.index-entries-change.is in
     let sight : IsSight (instant r.past change) c.args.k c.args.det c.loop-t.sight =
     sight_until r c.args.f formed c.args.k c.args.det c.requires.delivery mentions (c.requires.mentions.mentioned c.args.det) c.loop-t.t change c.next-mention.result
     c.next_change-change.ensures.bounds.0 c.next_change-change.ensures.bounds.1 (c.next-mention.ensures.none mentions invariant.mentions) c.next_change-change.ensures.still (omega (arith, below)) c.loop-t.sight invariant.sight in
@@ -91,7 +91,7 @@ returns-in-Some-clause-first c =
     mentioned_next r.past c.args.det mentions (c.requires.mentions.mentioned c.args.det) (c.requires.mentions.only c.args.det) c.loop-t.t c.next-mention.result (c.next-mention.ensures.none mentions invariant.mentions)
     change c.next_change-change.ensures.bounds.0 c.next_change-change.ensures.bounds.1
     (λ is. subst (Contains mentions) is (c.next-mention.ensures.found mentions invariant.mentions (omega (arith, is, c.next_change-change.ensures.bounds, c.next-mention.ensures.bounds, c.if-change-end.false)))) x
-    (entry_read r c.entries-entries.result.now c.entries-entries.ensures change x below c.index-entries-change.is) in
+    (entry_read r c.entries-entries.result.now c.entries-entries.ensures.value change x below c.index-entries-change.is) in
     let seen : IsSight (instant r.past (change + 1)) c.args.k c.args.det c.see.new.self =
     sight_next r c.args.f formed c.args.k c.args.det c.requires.delivery change x below next c.loop-t.sight.dependents c.next_change-change.new.reached c.of-step.result.reached
     sight.dependents c.next_change-change.ensures.told c.of-step.ensures.reached c.loop-t.sight c.see.new.self sight (λ m part j legal. c.see.ensures m part j legal told) in
@@ -104,13 +104,13 @@ returns-in-Some-clause-first c =
 pub returns-then-is_over-clause-first : goal.returns-then-is_over-clause-first
 returns-then-is_over-clause-first c =
     let r = c.args.self.now.trace.now.recording in
-    let formed = c.len-len.ensures.formed in
+    let formed = c.entries-entries.ensures.formed in
     let mentions = mentions_of c.args.self.now.mentions.now.numbers (lists_in c.args.self.now.mentions.now.lists.items) c.args.det in
     let change = c.next_change-change.result in
     let x = c.index-entries-change.result in
     let invariant = c.loop-t.invariant in
     let below : change < length r.past = omega (arith, c.next_change-change.ensures.bounds, c.next-mention.ensures.bounds, c.if-change-end.false, c.requires.within) in
-    let next : instant r.past (change + 1) ≡ x ∷ instant r.past change = next_state r c.entries-entries.result.now c.entries-entries.ensures change x below c.index-entries-change.is in
+    let next : instant r.past (change + 1) ≡ x ∷ instant r.past change = next_state r c.entries-entries.result.now c.entries-entries.ensures.value change x below c.index-entries-change.is in
     let sight : IsSight (instant r.past change) c.args.k c.args.det c.loop-t.sight =
     sight_until r c.args.f formed c.args.k c.args.det c.requires.delivery mentions (c.requires.mentions.mentioned c.args.det) c.loop-t.t change c.next-mention.result
     c.next_change-change.ensures.bounds.0 c.next_change-change.ensures.bounds.1 (c.next-mention.ensures.none mentions invariant.mentions) c.next_change-change.ensures.still (omega (arith, below)) c.loop-t.sight invariant.sight in
@@ -121,7 +121,7 @@ returns-then-is_over-clause-first c =
     mentioned_next r.past c.args.det mentions (c.requires.mentions.mentioned c.args.det) (c.requires.mentions.only c.args.det) c.loop-t.t c.next-mention.result (c.next-mention.ensures.none mentions invariant.mentions)
     change c.next_change-change.ensures.bounds.0 c.next_change-change.ensures.bounds.1
     (λ is. subst (Contains mentions) is (c.next-mention.ensures.found mentions invariant.mentions (omega (arith, is, c.next_change-change.ensures.bounds, c.next-mention.ensures.bounds, c.if-change-end.false)))) x
-    (entry_read r c.entries-entries.result.now c.entries-entries.ensures change x below c.index-entries-change.is) in
+    (entry_read r c.entries-entries.result.now c.entries-entries.ensures.value change x below c.index-entries-change.is) in
     let seen : IsSight (instant r.past (change + 1)) c.args.k c.args.det c.see.new.self =
     sight_next r c.args.f formed c.args.k c.args.det c.requires.delivery change x below next c.loop-t.sight.dependents c.next_change-change.new.reached c.of-step.result.reached
     sight.dependents c.next_change-change.ensures.told c.of-step.ensures.reached c.loop-t.sight c.see.new.self sight (λ m part j legal. c.see.ensures m part j legal told) in
@@ -138,13 +138,13 @@ returns-then-is_over-clause-first c =
 pub loop-t-preserved : goal.loop-t-preserved
 loop-t-preserved c =
     let r = c.args.self.now.trace.now.recording in
-    let formed = c.len-len.ensures.formed in
+    let formed = c.entries-entries.ensures.formed in
     let mentions = mentions_of c.args.self.now.mentions.now.numbers (lists_in c.args.self.now.mentions.now.lists.items) c.args.det in
     let change = c.next_change-change.result in
     let x = c.index-entries-change.result in
     let invariant = c.loop-t.invariant in
     let below : change < length r.past = omega (arith, c.next_change-change.ensures.bounds, c.next-mention.ensures.bounds, c.if-change-end.false, c.requires.within) in
-    let next : instant r.past (change + 1) ≡ x ∷ instant r.past change = next_state r c.entries-entries.result.now c.entries-entries.ensures change x below c.index-entries-change.is in
+    let next : instant r.past (change + 1) ≡ x ∷ instant r.past change = next_state r c.entries-entries.result.now c.entries-entries.ensures.value change x below c.index-entries-change.is in
     let sight : IsSight (instant r.past change) c.args.k c.args.det c.loop-t.sight =
     sight_until r c.args.f formed c.args.k c.args.det c.requires.delivery mentions (c.requires.mentions.mentioned c.args.det) c.loop-t.t change c.next-mention.result
     c.next_change-change.ensures.bounds.0 c.next_change-change.ensures.bounds.1 (c.next-mention.ensures.none mentions invariant.mentions) c.next_change-change.ensures.still (omega (arith, below)) c.loop-t.sight invariant.sight in
@@ -155,7 +155,7 @@ loop-t-preserved c =
     mentioned_next r.past c.args.det mentions (c.requires.mentions.mentioned c.args.det) (c.requires.mentions.only c.args.det) c.loop-t.t c.next-mention.result (c.next-mention.ensures.none mentions invariant.mentions)
     change c.next_change-change.ensures.bounds.0 c.next_change-change.ensures.bounds.1
     (λ is. subst (Contains mentions) is (c.next-mention.ensures.found mentions invariant.mentions (omega (arith, is, c.next_change-change.ensures.bounds, c.next-mention.ensures.bounds, c.if-change-end.false)))) x
-    (entry_read r c.entries-entries.result.now c.entries-entries.ensures change x below c.index-entries-change.is) in
+    (entry_read r c.entries-entries.result.now c.entries-entries.ensures.value change x below c.index-entries-change.is) in
     let seen : IsSight (instant r.past (change + 1)) c.args.k c.args.det c.see.new.self =
     sight_next r c.args.f formed c.args.k c.args.det c.requires.delivery change x below next c.loop-t.sight.dependents c.next_change-change.new.reached c.of-step.result.reached
     sight.dependents c.next_change-change.ensures.told c.of-step.ensures.reached c.loop-t.sight c.see.new.self sight (λ m part j legal. c.see.ensures m part j legal told) in

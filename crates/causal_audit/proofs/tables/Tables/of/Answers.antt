@@ -15,8 +15,8 @@ invariant_of-result c =
     past_whole c.entries-entries.result.now ∙ ap reverse c.entries-entries.ensures.value ∙ reverse-reverse past in
     rw c.in_ok-trace.ensures (
       record {
-        formed = c.len-len.ensures.formed;
-        short = omega (arith, c.len-len.ensures);
+        formed = c.entries-entries.ensures.formed;
+        short = omega (arith, c.entries-entries.ensures.few);
         numbered = subst (λ p. ArePositions p c.in_ok-positions.positions.items) whole c.in_ok-positions.ensures;
         stands = c.in_ok-clocks.ensures;
         lasting = subst (λ p. NoneReleasedFrom p c.lasting_from-lasting_from.result) whole c.lasting_from-lasting_from.ensures;
@@ -25,7 +25,7 @@ invariant_of-result c =
         mentioned = subst (λ p. AreMentions p c.in_ok-mentions.mentions.numbers (map positions c.in_ok-mentions.mentions.lists.items)) whole c.in_ok-mentions.ensures;
         turned = subst (λ p. AreTurns p c.in_ok-turns.turns.positions.items c.in_ok-turns.turns.downs.items) whole c.in_ok-turns.ensures;
         in_lanes = subst (λ p. AreLanes p c.in_ok-clocks.clocks.events (map positions c.in_ok-lanes.lanes.items)) whole c.in_ok-lanes.ensures.lanes;
-        spread = c.in_ok-spreads.ensures c.args.trace.now.recording c.len-len.ensures.formed c.entries-entries.ensures.value c.in_ok-clocks.ensures;
+        spread = c.in_ok-spreads.ensures c.args.trace.now.recording c.entries-entries.ensures.formed c.entries-entries.ensures.value c.in_ok-clocks.ensures;
         few = omega (arith, c.in_ok-lanes.ensures.few, length-map c.in_ok-lanes.lanes.items positions);
       },
     )

@@ -1,8 +1,8 @@
 use Rattle.std.proofs.Common.{◌/◌, arith, subst}
 use Rattle.std.specs.Bool.{OnTrue}
 use Rattle.causal_workers.specs.Beginnings.{HasBreach}
-use Rattle.causal_workers.proofs.BeginningLemmas.{tells_beginning}
-use Rattle.causal_workers.proofs.prepared.beginning_of.Goals as goal
+use Rattle.causal_workers.proofs.BeginningLemmas.{tells_beginning, tells_end}
+use Rattle.causal_workers.proofs.prepared.course_by.Goals as goal
 
 pub returns-then-branch : goal.returns-then-branch
 returns-then-branch c =
