@@ -1,8 +1,8 @@
 //! The steps of a judgement, on traces that were judged by hand. The verdicts on many more stand with the program's tests.
 use crate::text::RING;
 use causal_audit::{
-    Breach, Excess, Tables, Verdict, decided, earlier, first_breach, first_excess, judge,
-    least_between,
+    Breach, Excess, Surveyed, Tables, Verdict, decided, earlier, first_breach, first_excess, judge,
+    least_between, least_surveyed,
 };
 use causal_holders::Holders;
 use causal_text::read_trace;
@@ -176,6 +176,19 @@ fn what_is_forgotten_by_all_orphans(rt: HostRuntime) -> Result<(), Fail> {
     // Process 2 alone holds it from instant 7 on, and nobody from instant 8 on; 0 depends on it through 1 and 2.
     assert_eq!(rt; judged(rt.alloc(), FORGOTTEN, 0)?, orphan(8, 1, &[], 0));
     assert_eq!(rt; judged(rt.alloc(), STORED, 0)?, Verdict::Accept);
+    Ok(())
+}
+
+#[test]
+fn a_survey_tells_the_least_breach(rt: HostRuntime) -> Result<(), Fail> {
+    let trace = read_trace(rt.alloc(), FORGOTTEN.as_bytes())?;
+    let end = trace.len();
+    let found = Surveyed::Told(Some(breach(8, 1, &[], 0)));
+    assert_eq!(rt; least_surveyed(rt.alloc(), &trace, 0, end)?, found);
+    assert_eq!(rt;
+        least_surveyed(rt.alloc(), &trace, 0, end.saturating_sub(1))?,
+        Surveyed::Told(None)
+    );
     Ok(())
 }
 

@@ -1,7 +1,9 @@
 //! The audit and the plain program beside it give the same verdict on small random traces, for each f.
 use crate::entries::{ascending, of_own};
 use crate::numbers::Numbers;
-use causal_audit::{Course, Room, Tables, Verdict, judge, least_between, least_swept};
+use causal_audit::{
+    Course, Room, Surveyed, Tables, Verdict, judge, least_between, least_surveyed, least_swept,
+};
 use causal_name::{Det, MsgName, NoMemory, Pid};
 use causal_trace::entry::{Dets, Entry};
 use causal_trace::fault::TraceFault;
@@ -250,6 +252,12 @@ fn sweeps_agree(alloc: Global, tables: &Tables, course: &Course, f: u16) -> Resu
     Ok(same)
 }
 
+/// Whether a survey tells the breach that walks find.
+fn survey_agrees(alloc: Global, trace: &Trace, tables: &Tables, f: u16) -> Result<bool, NoMemory> {
+    let surveyed = least_surveyed(alloc, trace, f, trace.len())?;
+    Ok(surveyed == Surveyed::Told(least_between(tables, f, 0, tables.deliveries())))
+}
+
 /// The verdict for so many failures, and whether all programs say the same.
 fn verdict(
     alloc: Global,
@@ -260,7 +268,8 @@ fn verdict(
 ) -> Result<(Verdict, bool), NoMemory> {
     let fast = judge(tables, f);
     let plain = causal_plain::judge(alloc, trace, f)?;
-    let same = fast == plain && sweeps_agree(alloc, tables, course, f)?;
+    let surveyed = survey_agrees(alloc, trace, tables, f)?;
+    let same = fast == plain && surveyed && sweeps_agree(alloc, tables, course, f)?;
     Ok((fast, same))
 }
 
