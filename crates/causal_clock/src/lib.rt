@@ -146,10 +146,11 @@ impl Clocks {
         self.entries.len() as u32
     }
 
-    /// How many lanes there are: at most [`FIRST_LANES`] and [`OPENED_LANES`].
+    /// How many lanes there are: at most [`FIRST_LANES`] and [`OPENED_LANES`]. There are at most [`EVENTS`] events.
     pub fn lanes(&self) -> u32
         ensures counted { result ≡ self.now.lanes }
         ensures few { result ≤ FIRST_LANES + OPENED_LANES }
+        ensures short { length self.now.events ≤ EVENTS }
     {
         self.lanes.len() as u32
     }
@@ -159,6 +160,7 @@ impl Clocks {
         requires { event < length self.now.events }
         ensures value { result ≡ lane_of self.now.events event }
         ensures within { result < self.now.lanes }
+        ensures few { self.now.lanes ≤ FIRST_LANES + OPENED_LANES }
     {
         self.entries[event as usize].event.lane
     }

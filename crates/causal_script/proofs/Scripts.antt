@@ -30,6 +30,3 @@ spelled text first rest s commands line split start is read r =
 pub empty_fault : (text : List ℕ) → text ≡ [] → IsFirstFault text (record { line = 1; kind = Script })
 empty_fault text is = subst (λ (t : List ℕ). IsFirstFault t (record { line = 1; kind = Script })) (sym is)
     (record { before = 0; number = refl; sound = sound_none []; faulty = λ place. place; big_first = λ same big. let over : max_script < 0 = big.0 in omega arith })
-
-pub nothing_read : (text : List ℕ) → IsReadUpTo text 1
-nothing_read text = record { before = 0; number = refl; sound = sound_none text }

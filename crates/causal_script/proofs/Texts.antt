@@ -246,9 +246,6 @@ range_more : (a n next : ℕ) → next ≡ a + n → range_with_len a (suc n) �
 range_more a zero next is = let same : next ≡ a = omega arith in ap (λ x. x ∷ []) (sym same)
 range_more a (suc n) next is = ap (λ xs. a ∷ xs) (range_more (a + 1) n next (omega arith))
 
-pub commands_none : (rest : List ℕ) → AreCommands rest [] rest
-commands_none rest = record { said = refl; requests = tt }
-
 pub commands_more : (rest left l after : List ℕ) (commands : List Command) (c : Command) → AreCommands rest commands left → lines left ≡ l ∷ lines after
     → l ≡ command_line c.request → IsRequest c.request → AreCommands rest (commands ++ c ∷ []) after
 commands_more rest left l after commands c h split is fits =
@@ -258,9 +255,6 @@ commands_more rest left l after commands c h split is fits =
       said = h.said ∙ ap (λ ls. map text commands ++ ls) (split ∙ ap (λ k. k ∷ lines after) is) ∙ sym (append_assoc (map text commands) (text c ∷ []) (lines after)) ∙ ap (λ ls. ls ++ lines after) (sym more);
       requests = all_push (λ d. IsRequest d.request) commands c h.requests fits;
     }
-
-pub reaches_none : (text rest : List ℕ) → IsAfter text 1 rest → Reaches text [] 1 rest
-reaches_none text rest a = record { after = a; numbered = refl; count = refl }
 
 length_push : {X : Type 0} (xs : List X) (x : X) → length (xs ++ x ∷ []) ≡ suc (length xs)
 length_push [] x = refl

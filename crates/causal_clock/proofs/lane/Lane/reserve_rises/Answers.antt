@@ -1,4 +1,4 @@
-use Rattle.std.proofs.Common.{◌≡◌, ℕ, [], map, ◌<◌, ◌-◌, length, get_or, vec_len, vec_capacity, inl, inr, sym, ap, ◌∙◌, subst, arith}
+use Rattle.std.proofs.Common.{◌≡◌, ℕ, map, ◌<◌, ◌-◌, length, get_or, vec_len, vec_capacity, inl, inr, sym, ap, ◌∙◌, subst, arith}
 use Rattle.std.proofs.lemmas.Bool.Decides.{eqb_tells}
 use Rattle.std.proofs.Math.ListN.{set}
 use Rattle.causal_clock.specs.Inside.Columns.{column_in}
