@@ -17,7 +17,6 @@ mod lane;
 pub mod laws;
 
 ghost use Rattle.std.specs.Prelude.{◌≡◌, ◌≢◌, ℕ, ◌+◌, ◌<◌, ◌≤◌, ◌↔◌, [], ◌∷◌, ◌++◌, length, vec_len, vec_capacity, IsTrue, IfOk, IfErr, OnOk, OnErr, Some, None, slice_index};
-ghost use Rattle.std.specs.Option.{ForSome};
 ghost use Rattle.causal_clock.specs.Timeline.{lane_of, place_of, receiving, with_event, with_lane};
 ghost use Rattle.causal_clock.specs.Precedence.{Reaches, FirstReach};
 ghost use Rattle.causal_clock.specs.Rises.{AreRises, RisesStrictly};

@@ -1,5 +1,5 @@
 //! A restart, as far as plain data goes.
-ghost use Rattle.std.specs.Prelude.{◌≡◌, ◌≤◌, ◌<◌, [], length, replicate, OnOk, IfOk, IfErr, None, Some, slice_set, vec_len, nat_le, ◌||◌};
+ghost use Rattle.std.specs.Prelude.{◌≡◌, ◌≤◌, ◌<◌, length, replicate, OnOk, IfOk, IfErr, None, Some, slice_set, vec_len, nat_le, ◌||◌};
 ghost use Rattle.causal_log.specs.Logs.{chosen};
 ghost use Rattle.causal_trace.specs.Past.{restarts};
 ghost use Rattle.causal_protocol.specs.declared.request.Request.TheVariants as Ask;

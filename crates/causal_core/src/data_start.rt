@@ -1,5 +1,5 @@
 //! A beginning, as far as plain data goes.
-ghost use Rattle.std.specs.Prelude.{◌≡◌, ◌≤◌, ◌<◌, [], length, map, replicate, OnOk, IfOk, Some};
+ghost use Rattle.std.specs.Prelude.{◌≡◌, ◌≤◌, ◌<◌, [], length, replicate, OnOk, IfOk, Some};
 ghost use Rattle.std.specs.FinMap as fin;
 ghost use Rattle.causal_protocol.specs.Memory.{fresh};
 ghost use Rattle.causal_core.specs.Starts.{opening};

@@ -1,5 +1,5 @@
 //! Which processes are down.
-ghost use Rattle.std.specs.Prelude.{◌≡◌, ◌≤◌, ℕ, length, is_none};
+ghost use Rattle.std.specs.Prelude.{◌≤◌, length, is_none};
 ghost use Rattle.causal_holders.specs.Members.{HasMembers};
 ghost use Rattle.causal_trace.specs.Past.{is_down};
 ghost use Rattle.causal_protocol.specs.Memory.{at};

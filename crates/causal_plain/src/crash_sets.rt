@@ -1,5 +1,5 @@
 //! All crash sets, listed.
-ghost use Rattle.std.specs.Prelude.{◌≡◌, ◌≤◌, ◌↔◌, true, IsTrue, IfOk};
+ghost use Rattle.std.specs.Prelude.{◌≡◌, ◌≤◌, ◌↔◌, IsTrue, IfOk};
 ghost use Rattle.std.specs.FinSet.{insert};
 ghost use Rattle.causal_plain.specs.Plain.{IsBelow, MayGrow, AreWithAndWithout, AreGrown, AreCrashSets};
 

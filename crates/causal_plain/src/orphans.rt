@@ -1,5 +1,5 @@
 //! The orphans of a delivery under a crash set, and the least crash set that gives it one.
-ghost use Rattle.std.specs.Prelude.{◌≡◌, ◌≤◌, ◌<◌, ◌↔◌, ℕ, IsTrue, true, false, reverse, MatchOption, IfOk, Some};
+ghost use Rattle.std.specs.Prelude.{◌≡◌, ◌≤◌, ◌<◌, ◌↔◌, IsTrue, true, false, reverse, MatchOption, IfOk, Some};
 ghost use Rattle.std.specs.FinSet.{contains};
 ghost use Rattle.causal_trace.specs.Past as past;
 ghost use Rattle.causal_trace.specs.Dependence.{AreForward};
