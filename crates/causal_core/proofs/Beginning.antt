@@ -22,7 +22,8 @@ use Rattle.causal_core.specs.Boxes.{Began}
 use Rattle.causal_core.specs.Inside.Facts.{Fits, FitsAt, IsHeld}
 use Rattle.causal_core.specs.Inside.Begins.{begun_by, MayBegin, Begins, HaveBegun}
 use Rattle.causal_core.specs.Starts.{with_beginning, with_beginnings, opening}
-use Rattle.causal_core.specs.View.{DataState, receivers, sent_bodies, keep_all}
+use Rattle.causal_core.specs.View.{DataState, receivers, sent_bodies}
+use Rattle.causal_core.specs.Inside.Memories.{keep_all}
 use Rattle.causal_core.proofs.Sending.{memories_sends, are_sends, receivers_below, receivers_long, addressed_few, pushed_length, sends_length}
 use Rattle.causal_core.proofs.BoxLemmas.{Began-push}
 use Rattle.causal_core.proofs.Filled.{sends_up}

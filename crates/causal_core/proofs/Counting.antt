@@ -26,7 +26,7 @@ use Rattle.causal_protocol.specs.Memory.{Memory, Memories}
 use Rattle.causal_protocol.specs.Gathering.{united_all, held_all, stable_all, known_together, gathered_log}
 use Rattle.causal_core.specs.Inside.Gathers.{is_logged}
 use Rattle.causal_core.specs.declared.cell.Cell.{Cell}
-use Rattle.causal_core.specs.View.{memory_of, memories_in}
+use Rattle.causal_core.specs.Inside.Memories.{memory_of, memories_in}
 use Rattle.causal_core.proofs.Stored.{has_with}
 
 -- the keys of a map

@@ -8,7 +8,8 @@ use Rattle.causal_core.specs.declared.runtime.Core.{Core}
 use Rattle.causal_protocol.specs.Run.{Run}
 use Rattle.causal_protocol.specs.Naming.{name}
 use Rattle.causal_core.specs.Boxes.{SameAnswers, SameElsewhere, StepsAt, HoldsNone}
-use Rattle.causal_core.specs.View.{body_at, sent_in, with_bodies, with_delivery}
+use Rattle.causal_core.specs.View.{body_at, sent_in, with_delivery}
+use Rattle.causal_core.specs.View.{with_bodies}
 
 -- the run, the bodies of the kept messages, and the boxes
 pub record CoreState (B : Type 0) : Type 0 where

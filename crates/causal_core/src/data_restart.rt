@@ -6,9 +6,11 @@ ghost use Rattle.causal_protocol.specs.declared.request.Request.TheVariants as A
 ghost use Rattle.causal_protocol.specs.declared.request.Reply.TheVariants as Told;
 ghost use Rattle.causal_protocol.specs.Refusals.{first_fault, is_full};
 ghost use Rattle.causal_protocol.specs.Steps.{Steps};
-ghost use Rattle.causal_core.specs.Flushes.{IsStored};
+ghost use Rattle.causal_core.specs.Inside.Stables.{IsStored};
 ghost use Rattle.causal_core.specs.Inside.Gathers.{IsGathered, IsGatheredFor};
-ghost use Rattle.causal_core.specs.View.{memory_of, bodies_of, memories_in, bodies_in, batches_of, sent_in, with_restart, IsReason};
+ghost use Rattle.causal_core.specs.View.{sent_in, with_restart, IsReason};
+ghost use Rattle.causal_core.specs.Inside.Grown.{batches_of};
+ghost use Rattle.causal_core.specs.Inside.Memories.{memory_of, bodies_of, memories_in, bodies_in};
 
 use crate::cell::Cell;
 use crate::count::count_gathered;
