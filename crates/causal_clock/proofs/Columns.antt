@@ -185,14 +185,6 @@ raised_there rises place count =
 
 -- ---- columns
 
-pub no_column : (events from_events : ℕ) → IsColumn [] events from_events
-no_column events from_events = record {
-  strictly = record { some = λ i lt. absurd (omega arith); places = λ i k lt inside. absurd (omega arith); counts = λ i k lt inside. absurd (omega arith) };
-  places = λ i lt. absurd (omega arith);
-  counts = λ i lt. absurd (omega arith);
-  few = omega arith;
-}
-
 pub column_more : (rises : List Rise) (events from_events events' from_events' : ℕ) → events ≤ events' → from_events ≤ from_events' → IsColumn rises events from_events → IsColumn rises events' from_events'
 column_more rises events from_events events' from_events' le le' is = record {
   strictly = is.strictly;

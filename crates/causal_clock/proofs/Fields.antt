@@ -10,9 +10,8 @@ use Rattle.causal_clock.specs.declared.Rise.{Rise}
 use Rattle.causal_clock.specs.Timeline.{lane_of, lane_length}
 use Rattle.causal_clock.specs.Inside.Kept.{LastOf, Keeps}
 use Rattle.causal_clock.specs.Inside.Fields.{counts_in, KeepsColumns}
-use Rattle.causal_clock.proofs.Columns.{no_column}
 use Rattle.causal_clock.proofs.Lanes.{told_default}
-use Rattle.causal_clock.proofs.Steps.{keeps_none, keeps_lane}
+use Rattle.causal_clock.proofs.Steps.{keeps_lane}
 
 abbrev pub events_in : List Entry → List Event
 events_in entries = map (λ x. x.event) entries
@@ -35,15 +34,6 @@ as_many_places entries = simp length-map
 -- what is kept says nothing of how columns are stored
 pub keeps_same : (es : List Event) (places lengths : List ℕ) (column column' : ℕ → ℕ → List Rise) → ((lane source : ℕ) → column' lane source ≡ column lane source) → KeepsColumns es places lengths column → KeepsColumns es places lengths column'
 keeps_same es places lengths column column' same k = subst (KeepsColumns es places lengths) (λ i lane source. sym (same lane source) i) k
-
--- with no event nothing is kept
-pub keeps_nothing : (places lengths : List ℕ) (column : ℕ → ℕ → List Rise) → ((lane : ℕ) → slice_index lengths lane ≡ 0) → ((lane source : ℕ) → column lane source ≡ []) → KeepsColumns [] places lengths column
-keeps_nothing places lengths column none empty = record {
-  keeps = keeps_none (counts_in [] column) (length lengths);
-  places = λ j lt. absurd (omega arith);
-  lengths = λ lane lt. none lane;
-  columns = λ lane source. rw (empty lane source) (no_column 0 0);
-}
 
 -- a lane that is not there has no events
 pub no_events : (es : List Event) (counts : ℕ → ℕ → ℕ) (lanes lane : ℕ) → Keeps es counts lanes → lanes ≤ lane → (event : Option ℕ) → LastOf es event lane → lane_length es lane ≡ 0

@@ -1,8 +1,9 @@
 -- What lists tell of their elements, as a lane's columns or a clock's lanes, when one is written back or added.
 use Rattle.std.specs.Prelude.{◌≡◌, ◌≢◌, ℕ, ◌<◌, List, [], ◌∷◌, ◌++◌, length, map}
-use Rattle.std.proofs.Common.{zero, suc, refl, arith, ap, subst, inl, inr, sym, ◌∙◌, get_or, get_or-set_same, get_or-set_other}
+use Rattle.std.proofs.Common.{Bool, true, false, cond, Vec, Global, zero, suc, refl, arith, ap, subst, inl, inr, sym, ◌∙◌, get_or, get_or-set_same, get_or-set_other}
 use Rattle.std.proofs.Math.ListN.{set}
 use Rattle.std.proofs.lemmas.Bool.Decides.{eqb_tells}
+use Rattle.causal_clock.specs.declared.Rise.{Rise}
 use Rattle.causal_clock.specs.declared.lane.Lane.{Lane}
 use Rattle.causal_clock.specs.Inside.Columns.{column_in, column_of}
 use Rattle.causal_clock.specs.Inside.Lanes.{rises_in, SameColumns}
@@ -56,3 +57,11 @@ module _ (xs : List Lane) (l : ℕ) (x y : Lane) (lt : l < length xs) where
 
 pub column_more : (xs : List Lane) (x : Lane) → rises_in x ≡ [] → (lane source : ℕ) → column_of (map rises_in (xs ++ x ∷ [])) lane source ≡ column_of (map rises_in xs) lane source
 column_more xs x is lane source = ap (λ columns. column_in (get_or columns lane []) source) (map-append rises_in xs (x ∷ [])) ∙ ap (λ columns. column_in columns source) (told_default (map rises_in xs) (rises_in x) [] is lane)
+
+-- an empty column that was added, or not, tells nothing new
+pub column_pushed : (added : Bool) (xs ys : List (Vec Rise Global)) (v : Vec Rise Global) → ys ≡ cond added (xs ++ v ∷ []) xs → v.items ≡ [] → (source : ℕ) → column_in (map (λ c. c.items) ys) source ≡ column_in (map (λ c. c.items) xs) source
+column_pushed true xs ys v is empty source =
+    ap (λ l. column_in (map (λ c. c.items) l) source) is
+    ∙ ap (λ l. column_in l source) (map-append (λ c. c.items) xs (v ∷ []))
+    ∙ told_default (map (λ c. c.items) xs) v.items [] empty source
+column_pushed false xs ys v is empty source = ap (λ l. column_in (map (λ c. c.items) l) source) is

@@ -5,7 +5,7 @@ use Rattle.std.proofs.lemmas.Bool.Decides.{leb_tells}
 use Rattle.causal_clock.specs.declared.Event.{Event}
 use Rattle.causal_clock.specs.declared.Rise.{Rise}
 use Rattle.causal_clock.specs.Timeline.{lane_of, lane_length, place_of, send_of}
-use Rattle.causal_clock.specs.Precedence.{DirectlyPrecedes, Reaches, itself, onward, FirstReach}
+use Rattle.causal_clock.specs.Precedence.{Reaches, itself, onward, FirstReach}
 use Rattle.causal_clock.specs.Rises.{rise_at, count_at, RisesStrictly, AreRises, IsReceiveAt}
 use Rattle.causal_clock.specs.Inside.Columns.{IsColumn}
 use Rattle.causal_clock.specs.Inside.Kept.{Keeps}

@@ -120,16 +120,6 @@ module _ (es : List Event) (counts : ℕ → ℕ → ℕ) (lanes : ℕ) (k : Kee
     lanes = in_lanes;
   }
 
--- with no event nothing is kept
-pub keeps_none : (counts : ℕ → ℕ → ℕ) (lanes : ℕ) → Keeps [] counts lanes
-keeps_none counts lanes = record {
-  few = omega arith;
-  reach = λ j lt. absurd (omega arith);
-  own = λ j lt. absurd (omega arith);
-  last = λ lane. (None, record { reached = λ i lt. absurd (omega arith); inside = λ p is. cc; empty = λ is. refl });
-  lanes = λ i lt. absurd (omega arith);
-}
-
 -- one more lane
 pub keeps_lane : (es : List Event) (counts : ℕ → ℕ → ℕ) (lanes : ℕ) → Keeps es counts lanes → Keeps es counts (lanes + 1)
 keeps_lane es counts lanes k = record { few = k.few; reach = k.reach; own = k.own; last = k.last; lanes = λ i lt. omega (arith, k.lanes i lt) }

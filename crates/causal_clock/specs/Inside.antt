@@ -3,3 +3,4 @@ pub mod Columns
 pub mod Fields
 pub mod Kept
 pub mod Lanes
+pub mod Row

@@ -1,8 +1,8 @@
 //! What a clock keeps for each lane: how many events it has, its columns, and a row of their last counts.
-ghost use Rattle.std.specs.Prelude.{◌≡◌, ℕ, ◌<◌, ◌≤◌, [], length, OnOk, slice_index};
+ghost use Rattle.std.specs.Prelude.{◌≡◌, ℕ, ◌<◌, ◌≤◌, [], length, map, OnOk, slice_index};
 ghost use Rattle.causal_clock.specs.Rises.{count_at, RisesStrictly};
 ghost use Rattle.causal_clock.specs.Inside.Columns.{column_in, raised, TellsAlike};
-ghost use Rattle.causal_clock.specs.Inside.Lanes.{rises_in, spares_in, HasRoom, KeepsRow, SameButFor, SameColumns};
+ghost use Rattle.causal_clock.specs.Inside.Row.{KeepsRow};
 
 use crate::column::{count_at, reserve_rise};
 use crate::{EVENTS, Rise};
@@ -13,21 +13,23 @@ use std::alloc::{AllocError, Global};
 /// that count is the place of the event and one more.
 ///
 /// The row has the count that each column tells from `last` on, the place of the last rise, so that what is asked of a
-/// late place is not searched. It has two bytes for each column.
+/// late place is not searched: `kept` says so. It has two bytes for each column.
 #[derive(Drop)]
 pub struct Lane {
     pub events: u32,
     pub last: u16,
     pub columns: Vec<Vec<Rise>>,
     pub row: Vec<u16>,
+    ghost kept: { KeepsRow events last (map (λ c. c.items) columns.items) row.items },
 }
 
 impl Lane {
+    ghost use Rattle.causal_clock.specs.Inside.Lanes.{rises_in, spares_in, HasRoom, SameButFor, SameColumns};
+
     /// A lane with no event.
     pub fn new(alloc: Global) -> Self
         ensures events { result.events ≡ 0 }
         ensures columns { rises_in result ≡ [] }
-        ensures row { KeepsRow result }
     {
         Self {
             events: 0,
@@ -60,7 +62,6 @@ impl Lane {
     /// How many events of the source lane, another one, are reached from that place of this lane.
     pub fn count_at(&self, source: u32, place: u16) -> u16
         requires strictly { RisesStrictly (column_in (rises_in self.now) source) }
-        requires row { KeepsRow self.now }
         ensures { result ≡ count_at (column_in (rises_in self.now) source) place }
     {
         if self.last <= place {
@@ -74,7 +75,6 @@ impl Lane {
     /// this lane never comes to reach more, nothing is searched.
     pub fn news_at(&self, source: u32, place: u16, known: u16) -> u16
         requires strictly { RisesStrictly (column_in (rises_in self.now) source) }
-        requires row { KeepsRow self.now }
         ensures { TellsAlike known result (count_at (column_in (rises_in self.now) source) place) }
     {
         if self.last_count(source) <= known {
@@ -87,10 +87,8 @@ impl Lane {
     /// Makes room for the rises that the next event brings, if it receives these counts. A refusal changes nothing else
     /// either.
     pub fn make_room(&mut self, alloc: Global, counts: &[u16]) -> Result<(), AllocError>
-        requires row { KeepsRow self.old }
         ensures events { self.new.events ≡ self.old.events }
         ensures same { SameColumns self.old self.new }
-        ensures row { KeepsRow self.new }
         ensures room { OnOk result (HasRoom self.new counts.now) }
     {
         self.widen(alloc, counts.len())?;
@@ -100,10 +98,8 @@ impl Lane {
 
     // Adds empty columns until there are that many.
     fn widen(&mut self, alloc: Global, count: usize) -> Result<(), AllocError>
-        requires row { KeepsRow self.old }
         ensures events { self.new.events ≡ self.old.events }
         ensures same { SameColumns self.old self.new }
-        ensures row { KeepsRow self.new }
         ensures wide { OnOk result (count ≤ length (rises_in self.new)) }
     {
         for _ in self.columns.len()..count {
@@ -114,10 +110,8 @@ impl Lane {
 
     // Adds counts of 0 to the row until there are that many.
     fn widen_row(&mut self, count: usize) -> Result<(), AllocError>
-        requires row { KeepsRow self.old }
         ensures events { self.new.events ≡ self.old.events }
         ensures same { rises_in self.new ≡ rises_in self.old }
-        ensures row { KeepsRow self.new }
         ensures wide { OnOk result (count ≤ length self.new.row.items) }
     {
         for _ in self.row.len()..count {
@@ -128,12 +122,10 @@ impl Lane {
 
     // Makes room for one more rise in each column that the counts are to raise.
     fn reserve_rises(&mut self, counts: &[u16]) -> Result<(), AllocError>
-        requires row { KeepsRow self.old }
         requires wide { length counts.now ≤ length (rises_in self.old) }
         requires counted { length counts.now ≤ length self.old.row.items }
         ensures events { self.new.events ≡ self.old.events }
         ensures same { rises_in self.new ≡ rises_in self.old }
-        ensures row { KeepsRow self.new }
         ensures room { OnOk result (HasRoom self.new counts.now) }
     {
         for (source, count) in counts.iter().enumerate() {
@@ -146,10 +138,8 @@ impl Lane {
     /// Raises the columns to the counts that the next event receives. There is room, and nothing is refused.
     pub fn raise(&mut self, counts: &[u16])
         requires few { self.old.events < EVENTS }
-        requires row { KeepsRow self.old }
         requires room { HasRoom self.old counts.now }
         ensures events { self.new.events ≡ self.old.events }
-        ensures row { KeepsRow self.new }
         ensures raised { (source : ℕ) → column_in (rises_in self.new) source
             ≡ raised (column_in (rises_in self.old) source) self.old.events (slice_index counts.now source) }
     {
@@ -161,12 +151,10 @@ impl Lane {
     // Raises one column to the count that the next event receives, if it is to rise: there is room for it then.
     fn raise_column(&mut self, source: usize, count: u16)
         requires few { self.old.events < EVENTS }
-        requires row { KeepsRow self.old }
         requires column { source < length (rises_in self.old) }
         requires counted { source < length self.old.row.items }
         requires room { slice_index self.old.row.items source < count → 0 < slice_index (spares_in self.old) source }
         ensures rest { SameButFor source self.old self.new }
-        ensures row { KeepsRow self.new }
         ensures raised { column_in (rises_in self.new) source
             ≡ raised (column_in (rises_in self.old) source) self.old.events count }
     {

@@ -17,13 +17,12 @@ mod lane;
 pub mod laws;
 
 ghost use Rattle.std.specs.Prelude.{◌≡◌, ◌≢◌, ℕ, ◌+◌, ◌<◌, ◌≤◌, ◌↔◌, [], ◌∷◌, ◌++◌, length, vec_len, vec_capacity, IsTrue, IfOk, IfErr, OnOk, OnErr, Some, None, slice_index};
-ghost use Rattle.std.specs.Option.{ForSome};
 ghost use Rattle.causal_clock.specs.Timeline.{lane_of, place_of, receiving, with_event, with_lane};
 ghost use Rattle.causal_clock.specs.Precedence.{Reaches, FirstReach};
 ghost use Rattle.causal_clock.specs.Rises.{AreRises, RisesStrictly};
 ghost use Rattle.causal_clock.specs.Inside.Columns.{column_in, TellsAlike};
 ghost use Rattle.causal_clock.specs.Inside.Fields.{count_told};
-ghost use Rattle.causal_clock.specs.Inside.Lanes.{AreEmpty, AllStrict, KeepsRow, rises_in};
+ghost use Rattle.causal_clock.specs.Inside.Lanes.{AreEmpty, AllStrict, rises_in};
 ghost use Rattle.causal_clock.specs.declared.ClockFault.TheVariants.{NoMemory};
 
 use crate::lane::Lane;
@@ -146,10 +145,11 @@ impl Clocks {
         self.entries.len() as u32
     }
 
-    /// How many lanes there are: at most [`FIRST_LANES`] and [`OPENED_LANES`].
+    /// How many lanes there are: at most [`FIRST_LANES`] and [`OPENED_LANES`]. There are at most [`EVENTS`] events.
     pub fn lanes(&self) -> u32
         ensures counted { result ≡ self.now.lanes }
         ensures few { result ≤ FIRST_LANES + OPENED_LANES }
+        ensures short { length self.now.events ≤ EVENTS }
     {
         self.lanes.len() as u32
     }
@@ -159,6 +159,7 @@ impl Clocks {
         requires { event < length self.now.events }
         ensures value { result ≡ lane_of self.now.events event }
         ensures within { result < self.now.lanes }
+        ensures few { self.now.lanes ≤ FIRST_LANES + OPENED_LANES }
     {
         self.entries[event as usize].event.lane
     }
@@ -297,7 +298,6 @@ fn counts_for(
 ) -> Result<Vec<u16>, AllocError>
     requires place { sent.place + 1 < EVENTS }
     requires strictly { AllStrict from.now }
-    requires row { KeepsRow from.now }
     ensures count { IfOk result (λ counts. length counts.items ≡ lanes) }
     ensures own { IfOk result (λ counts. slice_index counts.items own ≡ 0) }
     ensures each { IfOk result (λ counts. (source : ℕ) → source < lanes → source ≢ own →
@@ -319,7 +319,6 @@ fn counts_for(
 fn count_for(from: &Lane, sent: Entry, source: u32, known: u16) -> u16
     requires place { sent.place + 1 < EVENTS }
     requires strictly { RisesStrictly (column_in (rises_in from.now) source) }
-    requires row { KeepsRow from.now }
     ensures { TellsAlike known result (count_told (rises_in from.now) sent source) }
 {
     if sent.event.lane == source {
@@ -336,7 +335,8 @@ fn append(entries: &mut Vec<Entry>, lane: &mut Lane, event: Event) -> u32
     requires room { vec_len entries.old < vec_capacity entries.old }
     ensures number { result ≡ vec_len entries.old }
     ensures appended { entries.new.items ≡ entries.old.items ++ record { event = event; place = lane.old.events } ∷ [] }
-    ensures counted { lane.new ≡ record lane.old { events = lane.old.events + 1 } }
+    ensures counted { lane.new.events ≡ lane.old.events + 1 }
+    ensures same { rises_in lane.new ≡ rises_in lane.old }
 {
     let number = entries.len() as u32;
     let place = lane.events as u16;

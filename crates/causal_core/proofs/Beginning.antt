@@ -22,7 +22,8 @@ use Rattle.causal_core.specs.Boxes.{Began}
 use Rattle.causal_core.specs.Inside.Facts.{Fits, FitsAt, IsHeld}
 use Rattle.causal_core.specs.Inside.Begins.{begun_by, MayBegin, Begins, HaveBegun}
 use Rattle.causal_core.specs.Starts.{with_beginning, with_beginnings, opening}
-use Rattle.causal_core.specs.View.{DataState, receivers, sent_bodies, keep_all}
+use Rattle.causal_core.specs.View.{DataState, receivers, sent_bodies}
+use Rattle.causal_core.specs.Inside.Memories.{keep_all}
 use Rattle.causal_core.proofs.Sending.{memories_sends, are_sends, receivers_below, receivers_long, addressed_few, pushed_length, sends_length}
 use Rattle.causal_core.proofs.BoxLemmas.{Began-push}
 use Rattle.causal_core.proofs.Filled.{sends_up}
@@ -63,9 +64,6 @@ fresh_held n f ms count is = record {
 
 -- the memories of a run in which a process begins
 module _ (r : Run) (ms : Memories) (held : IsHeld r ms) (p : Pid) (may : MayBegin p.0 r) where
-  pub fresh_fits : Fits r.recording.past p.0 (fresh fin.empty)
-  fresh_fits = subst (FitsAt r.recording.past p.0) (ap (λ xs. at xs p.0) held.same ∙ may.fresh_yet) (held.fit.each p.0 may.process)
-
   pub begun_memories : (tos : List Pid) → slice_set ms p.0 (Some (keep_all (length r.recording.past) (chosen r.faults fin.empty) tos (fresh fin.empty))) ≡ memories r.recording.processes r.faults r.writers (pushed (sends_of p 0 tos) r.recording.past)
   begun_memories tos =
       memories_sends r.recording.processes r.faults r.writers r.recording.past p 0 tos ms (fresh fin.empty) held.same

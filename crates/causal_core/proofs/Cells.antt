@@ -6,7 +6,8 @@ use Rattle.std.proofs.lemmas.Option.{slice_get_read}
 use Rattle.std.proofs.lemmas.Bool.{false≢true}
 use Rattle.causal_core.specs.declared.cell.Cell.{Cell}
 use Rattle.causal_protocol.specs.Memory.{Memory, Memories, at}
-use Rattle.causal_core.specs.View.{memory_of, memories_in, memory_at, bodies_of, bodies_in, with_bodies, no_room, room_of, rooms_in, room_at}
+use Rattle.causal_core.specs.Inside.Memories.{memory_of, memories_in, memory_at, bodies_of, bodies_in, no_room, room_of, rooms_in, room_at}
+use Rattle.causal_core.specs.View.{with_bodies}
 use Rattle.causal_core.proofs.Sending.{set_same}
 
 pub get-map : {X Y : Type 0} (f : X → Y) (xs : List X) (p : ℕ) → slice_get (map f xs) p ≡ option_map f (slice_get xs p)

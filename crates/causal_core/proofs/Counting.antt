@@ -1,6 +1,6 @@
 -- How many determinants a restart lists: those of the store, and of each log those that neither the store nor an earlier
 -- log has.
-use Rattle.std.proofs.Common.{ℕ, zero, suc, ◌≡◌, ◌+◌, ◌<◌, ◌≤◌, ◌∙◌, Bool, true, false, cond, not, List, [], ◌∷◌, ◌++◌, map, filter, length, take, count_by, Option, Some, None, is_some, refl, sym, ap, subst, arith, get_or, drop, slice_get}
+use Rattle.std.proofs.Common.{ℕ, suc, ◌≡◌, ◌+◌, ◌<◌, ◌≤◌, ◌∙◌, Bool, true, false, cond, not, List, [], ◌∷◌, ◌++◌, filter, length, take, count_by, Option, Some, None, is_some, refl, sym, ap, subst, arith, get_or, drop}
 use Rattle.std.specs.Prelude.{◌||◌, ◌&&◌, T}
 use Rattle.std.specs.List.{list_any}
 use Rattle.std.specs.Option.{option_map, option_map_or}
@@ -26,7 +26,7 @@ use Rattle.causal_protocol.specs.Memory.{Memory, Memories}
 use Rattle.causal_protocol.specs.Gathering.{united_all, held_all, stable_all, known_together, gathered_log}
 use Rattle.causal_core.specs.Inside.Gathers.{is_logged}
 use Rattle.causal_core.specs.declared.cell.Cell.{Cell}
-use Rattle.causal_core.specs.View.{memory_of, memories_in}
+use Rattle.causal_core.specs.Inside.Memories.{memory_of, memories_in}
 use Rattle.causal_core.proofs.Stored.{has_with}
 
 -- the keys of a map
@@ -246,23 +246,6 @@ pub count_gathered : (ms : Memories) (stored : DetSet) (p : Pid) → count_all m
 unfolding count_all
 count_gathered ms stored p = keys_count (gathered_log ms stored p) (everything ms stored) (λ d. every_has ms stored d ∙ sym (gathered_has ms stored p d))
 
--- the determinant at a place of a log
-pub key_at : (log : LogMap) (i : ℕ) (e : Det × Known) (d : Det) → slice_get (fin.entries log) i ≡ Some e → get_or (fin.keys log) i d ≡ e.0
-key_at log i e d h = by (fin.entries log) i h
-  where
-    by : (es : List (Det × Known)) (i : ℕ) → slice_get es i ≡ Some e → get_or (map (λ x. x.0) es) i d ≡ e.0
-    by [] i h = absurd (let no : None ≡ Some e = h in cc)
-    by (x ∷ es) zero h = let is : x ≡ e = cc h in ap (λ y. y.0) is
-    by (x ∷ es) (suc i) h = by es i h
-
-pub no_key : (log : LogMap) (i : ℕ) → slice_get (fin.entries log) i ≡ None → i < length (fin.keys log) → ⊥
-no_key log i h below = by (fin.entries log) i h below
-  where
-    by : (es : List (Det × Known)) (i : ℕ) → slice_get es i ≡ None → i < length (map (λ x. x.0) es) → ⊥
-    by [] i h below = omega (arith, below)
-    by (x ∷ es) zero h below = let no : Some x ≡ None = h in cc
-    by (x ∷ es) (suc i) h below = by es i h (omega (arith, below))
-
 -- a process among others
 module _ (cells : List (Option Cell)) (i : ℕ) (c : Option Cell) (h : i < length cells) (is : c ≡ get_or cells i c) where
   pub logged_here : (d : Det) → is_logged (memories_in (drop i cells)) d ≡ (option_map_or (λ m. is_some (fin.get m.log d)) (option_map memory_of c) false || is_logged (memories_in (drop (i + 1) cells)) d)
@@ -273,9 +256,3 @@ module _ (cells : List (Option Cell)) (i : ℕ) (c : Option Cell) (h : i < lengt
 
 pub logged_end : (cells : List (Option Cell)) (i : ℕ) (d : Det) → length cells ≤ i → is_logged (memories_in (drop i cells)) d ≡ false
 logged_end cells i d h = ap (λ cs. is_logged (memories_in cs) d) (drop_all i cells h)
-
-pub keys_length : (log : LogMap) → fin.len log ≡ length (fin.keys log)
-keys_length log = fin.len-entries log ∙ sym (length-map (fin.entries log) (λ e. e.0))
-
-abbrev pub any_det : Det
-any_det = record { source = record { 0 = 0 }; ssn = 0; dest = record { 0 = 0 }; rsn = 0 }

@@ -25,7 +25,9 @@ use Rattle.causal_protocol.specs.Steps.{delivery_of}
 use Rattle.causal_core.specs.Inside.Facts.{IsPlaced, Fits, FitsAt, AllFit}
 use Rattle.causal_core.specs.declared.cell.Message.{Message}
 use Rattle.causal_core.specs.declared.grown.Grown.{Grown}
-use Rattle.causal_core.specs.View.{DataState, IsMade, IsGrown, kept_of, carried_by, memory_at, log_at}
+use Rattle.causal_core.specs.View.{DataState}
+use Rattle.causal_core.specs.Inside.Grown.{IsMade, IsGrown, carried_by}
+use Rattle.causal_core.specs.Inside.Memories.{kept_of, memory_at, log_at}
 use Rattle.causal_core.proofs.Cells.{get_within}
 use Rattle.causal_core.proofs.Fitting.{all_more, or_left, or_right}
 use Rattle.std.proofs.lemmas.List.{length-map}

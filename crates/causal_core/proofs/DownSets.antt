@@ -10,7 +10,7 @@ use Rattle.std.proofs.lemmas.Bool.Decides.{eqb_tells}
 use Rattle.causal_holders.specs.Members.{HasMembers}
 use Rattle.causal_core.specs.declared.cell.Cell.{Cell}
 use Rattle.causal_protocol.specs.Memory.{at}
-use Rattle.causal_core.specs.View.{memory_of, memories_in}
+use Rattle.causal_core.specs.Inside.Memories.{memory_of, memories_in}
 use Rattle.causal_core.proofs.Cells.{get-map, read_at}
 
 contains_more : (s : FinSet nat_cmp) (n q : ℕ) → contains (insert s n) q ≡ (q == n || contains s q)

@@ -14,7 +14,7 @@ use Rattle.causal_trace.specs.Past.{message_at}
 use Rattle.causal_protocol.specs.Memory.{Memory, Memories, fresh, at, changed}
 use Rattle.causal_protocol.specs.Run.{memories, receive, write}
 use Rattle.causal_protocol.specs.Steps.{pushed, sends_of}
-use Rattle.causal_core.specs.Boxes.{IsBox, HasBox}
+use Rattle.causal_core.specs.Inside.Slots.{IsBox, HasBox}
 
 -- to change the memory of an up process leaves who is up
 pub changed_up : (g : Memory → Memory) (ms : Memories) (p : ℕ) → map is_some (changed g ms p) ≡ map is_some ms

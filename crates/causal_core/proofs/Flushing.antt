@@ -27,8 +27,8 @@ use Rattle.causal_protocol.specs.Memory.{Memory, Memories, at, changed, with_log
 use Rattle.causal_protocol.specs.Run.{Run, memories, memories_of}
 use Rattle.causal_protocol.specs.Refusals.{rows, first_of, when, first_fault, is_long, unwritten}
 use Rattle.causal_protocol.specs.Steps.{LegalStep, Steps, IsPart, extended, reason_of, flush_reason_of, told_flush}
-use Rattle.causal_core.specs.View.{memory_at, log_at}
-use Rattle.causal_core.specs.Flushes.{written}
+use Rattle.causal_core.specs.Inside.Memories.{memory_at, log_at}
+use Rattle.causal_core.specs.Inside.Stables.{written}
 use Rattle.causal_core.proofs.Fitting.{all_more, or_left, or_right}
 use Rattle.causal_core.proofs.Sending.{pushed_last}
 use Rattle.causal_core.proofs.Legal.{row_none, when_false, there}

@@ -9,7 +9,7 @@ use Rattle.causal_log.specs.Logs.{LogMap, learned, united}
 use Rattle.causal_core.specs.declared.cell.Cell.{Cell}
 use Rattle.causal_protocol.specs.Memory.{Memory, Memories}
 use Rattle.causal_protocol.specs.Gathering.{united_all, held_all, stable_all}
-use Rattle.causal_core.specs.View.{memory_of, memories_in}
+use Rattle.causal_core.specs.Inside.Memories.{memory_of, memories_in}
 
 united_one : Option Memory → LogMap → LogMap
 united_one None log = log

@@ -5,7 +5,6 @@ mod Counting
 mod Delivering
 mod Dets
 mod DownSets
-mod Downs
 mod Filled
 mod Fitting
 mod Flushing

@@ -16,7 +16,7 @@ use Rattle.causal_protocol.specs.Memory.{Memory, Memories, batch_of, gained, wit
 use Rattle.causal_protocol.specs.Run.{Run, memories, memories_of, receive}
 use Rattle.causal_protocol.specs.Naming.{name, send_of, next_rsn, own_det, listed_for}
 use Rattle.causal_protocol.specs.Steps.{delivery_of, pushed, sends_of}
-use Rattle.causal_core.specs.View.{memory_at, log_at, keep_all}
+use Rattle.causal_core.specs.Inside.Memories.{memory_at, log_at, keep_all}
 use Rattle.causal_core.proofs.Fitting.{delivered_more, length-slice_set, at-set_same}
 use Rattle.causal_core.proofs.Sending.{memories_sends, set_twice}
 use Rattle.causal_core.proofs.Receiving.{gained_all, chosen_all, own_delivered}

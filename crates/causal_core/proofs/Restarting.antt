@@ -30,7 +30,8 @@ use Rattle.causal_protocol.specs.Refusals.{rows, first_of, first_fault, is_full,
 use Rattle.causal_protocol.specs.Steps.{extended, pushed, sends_of}
 use Rattle.causal_core.specs.Inside.Facts.{Fits, FitsAt, AllFit}
 use Rattle.causal_core.specs.Inside.Gathers.{is_logged}
-use Rattle.causal_core.specs.View.{keep_all, gathering_fault}
+use Rattle.causal_core.specs.View.{gathering_fault}
+use Rattle.causal_core.specs.Inside.Memories.{keep_all}
 use Rattle.causal_core.proofs.Fitting.{is_of, and_both, or_right, delivered_more, length-slice_set, at-set_same}
 use Rattle.causal_core.proofs.Sending.{eqb_refl, memories_sends, set_twice}
 use Rattle.causal_core.proofs.Cells.{some_within}

@@ -21,7 +21,8 @@ use Rattle.causal_protocol.specs.Memory.{Memory, Memories, at, keeping, with_sen
 use Rattle.causal_protocol.specs.Run.{memories}
 use Rattle.causal_protocol.specs.Steps.{pushed, sends_of, receiver_of, AreSends}
 use Rattle.causal_core.specs.Inside.Facts.{IsPlaced, Fits}
-use Rattle.causal_core.specs.View.{addressed, receivers, keep_all}
+use Rattle.causal_core.specs.View.{addressed, receivers}
+use Rattle.causal_core.specs.Inside.Memories.{keep_all}
 use Rattle.causal_core.proofs.Fitting.{is_of, length-slice_set, delivered_more, placed_more, at-set_same}
 
 pub eqb_refl : (n : ℕ) → (n == n) ≡ true

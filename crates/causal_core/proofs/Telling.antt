@@ -19,7 +19,7 @@ use Rattle.causal_log.specs.Logs.{dets_of}
 use Rattle.causal_log.specs.Stores.{dets_in}
 use Rattle.causal_log.specs.Slots.{first_of_slot}
 use Rattle.causal_protocol.specs.Memory.{kept_by}
-use Rattle.causal_core.specs.View.{stored_for}
+use Rattle.causal_core.specs.Inside.Memories.{stored_for}
 use Rattle.causal_protocol.specs.Naming.{name, next_rsn, next_det, named_for, if_to, kept_for, has_received, with_own, listed_for}
 use Rattle.causal_protocol.specs.Refusals.{rows, first_of, first_fault, is_full, when, unless}
 use Rattle.causal_core.specs.Inside.Facts.{Fits, FitsAt, AllFit}

@@ -16,7 +16,7 @@ use Rattle.causal_trace.specs.Past.{has_delivered}
 use Rattle.causal_protocol.specs.Memory.{Memory, Memories, at}
 use Rattle.causal_core.specs.declared.cell.Cell.{Cell}
 use Rattle.causal_core.specs.Inside.Facts.{FitsAt, AllFit, SameReceived}
-use Rattle.causal_core.specs.View.{memory_of, memories_in}
+use Rattle.causal_core.specs.Inside.Memories.{memory_of, memories_in}
 use Rattle.causal_core.specs.Pendings.{is_pending, names_sent, names_from}
 use Rattle.causal_core.proofs.Cells.{get-map, read_at}
 

@@ -1,7 +1,7 @@
 -- A determinant that a flush writes.
 use Rattle.std.proofs.Common.{ℕ, ◌≡◌, ◌<◌, ◌≤◌, ◌∙◌, Bool, true, false, List, [], ◌∷◌, length, Option, Some, None, is_some, refl, sym, ap, subst, arith}
 use Rattle.std.specs.Prelude.{◌||◌, unwrap_or}
-use Rattle.causal_core.specs.View.{log_at, memory_at}
+use Rattle.causal_core.specs.Inside.Memories.{log_at, memory_at}
 use Rattle.std.specs.List.{list_any, list_all}
 use Rattle.std.specs.Option.{option_map}
 use Rattle.std.specs.FinMap as fin

@@ -8,7 +8,8 @@ use Rattle.causal_core.specs.declared.runtime.Core.{Core}
 use Rattle.causal_protocol.specs.Run.{Run}
 use Rattle.causal_protocol.specs.Naming.{name}
 use Rattle.causal_core.specs.Boxes.{SameAnswers, SameElsewhere, StepsAt, HoldsNone}
-use Rattle.causal_core.specs.View.{DataState, body_at, sent_in, with_bodies, with_delivery}
+use Rattle.causal_core.specs.View.{body_at, sent_in, with_delivery}
+use Rattle.causal_core.specs.View.{with_bodies}
 
 -- the run, the bodies of the kept messages, and the boxes
 pub record CoreState (B : Type 0) : Type 0 where
@@ -18,9 +19,6 @@ pub record CoreState (B : Type 0) : Type 0 where
 
 abbrev pub run_of : {S B : Type 0} {Has : _} → Core S B Has → Run
 run_of core = core.held.run
-
-abbrev pub data_of : {S B : Type 0} {Has : _} → Core S B Has → DataState
-data_of core = core.held
 
 abbrev pub store_of : {S B : Type 0} {Has : _} → Core S B Has → S
 store_of core = core.store

@@ -1,7 +1,8 @@
 //! Boxes in slots.
 ghost use Rattle.std.specs.Prelude.{◌≡◌, ◌≤◌, ◌<◌, length, map, is_some, slice_set, true, false, IfOk, OnErr, vec_len};
 ghost use Rattle.causal_process.specs.declared.message.Input.TheVariants.{Begin};
-ghost use Rattle.causal_core.specs.Boxes.{box_answers, AnswersAlike, HasBox, HoldsBox, HoldsNone};
+ghost use Rattle.causal_core.specs.Boxes.{box_answers, AnswersAlike, HoldsBox, HoldsNone};
+ghost use Rattle.causal_core.specs.Inside.Slots.{HasBox};
 ghost use Rattle.causal_core.specs.Boxes.{SameAnswers, SameElsewhere, StepsAt};
 ghost use Rattle.causal_core.specs.Inside.Slots.{BoxSteps, SlotSteps};
 

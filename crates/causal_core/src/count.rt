@@ -3,7 +3,7 @@ ghost use Rattle.std.specs.Prelude.{◌≡◌, ◌≤◌, ◌<◌, ◌^◌, leng
 ghost use Rattle.std.specs.Option.{option_map, option_map_or};
 ghost use Rattle.std.specs.FinMap as fin;
 ghost use Rattle.causal_log.specs.Stores.{count_in};
-ghost use Rattle.causal_core.specs.View.{memory_of, memories_in};
+ghost use Rattle.causal_core.specs.Inside.Memories.{memory_of, memories_in};
 ghost use Rattle.causal_core.specs.Inside.Gathers.{count_new, is_logged, is_new, IsGatheredCount};
 
 use crate::cell::Cell;

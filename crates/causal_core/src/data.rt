@@ -11,13 +11,19 @@ ghost use Rattle.causal_protocol.specs.Run.{memories_of, stable_of};
 ghost use Rattle.causal_protocol.specs.Naming.{name, next_rsn};
 ghost use Rattle.causal_protocol.specs.Refusals.{first_fault};
 ghost use Rattle.causal_protocol.specs.Steps.{Steps, told_crash};
-ghost use Rattle.causal_core.specs.Flushes.{IsStored};
+ghost use Rattle.causal_core.specs.Inside.Stables.{IsStored};
 ghost use Rattle.causal_core.specs.Inside.Commits.{asked_by};
 ghost use Rattle.causal_core.specs.Inside.Limits.{is_full_with, is_long_with};
 ghost use Rattle.causal_core.specs.Inside.Stables.{flushed, with_stable};
-ghost use Rattle.causal_core.specs.View.{memory_of, bodies_of, log_at, memories_in, bodies_in, carried_by, sent_in};
-ghost use Rattle.causal_core.specs.View.{gathering_fault, naming, stored_for, with_bodies, with_delivery};
-ghost use Rattle.causal_core.specs.View.{HasRoom, IsGrown, IsReason};
+ghost use Rattle.causal_core.specs.View.{sent_in};
+ghost use Rattle.causal_core.specs.Inside.Grown.{carried_by};
+ghost use Rattle.causal_core.specs.Inside.Memories.{memory_of, bodies_of, log_at, memories_in, bodies_in};
+ghost use Rattle.causal_core.specs.View.{gathering_fault, naming, with_delivery};
+ghost use Rattle.causal_core.specs.Inside.Memories.{stored_for};
+ghost use Rattle.causal_core.specs.View.{with_bodies};
+ghost use Rattle.causal_core.specs.View.{IsReason};
+ghost use Rattle.causal_core.specs.Inside.Grown.{IsGrown};
+ghost use Rattle.causal_core.specs.Inside.Memories.{HasRoom};
 
 use crate::cell::Cell;
 use crate::commit::{commit_at, make_room_at};
@@ -49,7 +55,8 @@ pub struct Data {
 impl Model for Data {
     ghost use Rattle.std.specs.Prelude.{◌-◌, vec_capacity, vec_len};
     ghost use Rattle.causal_core.specs.Inside.Facts.{IsHeld};
-    ghost use Rattle.causal_core.specs.View.{DataState, run_from, memories_in, bodies_in, rooms_in};
+    ghost use Rattle.causal_core.specs.View.{DataState, run_from};
+    ghost use Rattle.causal_core.specs.Inside.Memories.{memories_in, bodies_in, rooms_in};
 
     ghost Value = { DataState };
 

@@ -7,7 +7,8 @@ ghost use Rattle.causal_protocol.specs.Memory.{at, changed, with_log};
 ghost use Rattle.causal_protocol.specs.Refusals.{first_fault, unwritten, forgettable};
 ghost use Rattle.causal_protocol.specs.Steps.{extended, Steps, told_forget};
 ghost use Rattle.causal_core.specs.Inside.Stables.{HasRoomForStable};
-ghost use Rattle.causal_core.specs.View.{memory_of, bodies_of, memories_in, bodies_in, IsReason};
+ghost use Rattle.causal_core.specs.View.{IsReason};
+ghost use Rattle.causal_core.specs.Inside.Memories.{memory_of, bodies_of, memories_in, bodies_in};
 
 use crate::cell::Cell;
 use crate::data::{Data, is_full, is_long, is_process};

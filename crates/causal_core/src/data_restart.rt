@@ -1,14 +1,16 @@
 //! A restart, as far as plain data goes.
-ghost use Rattle.std.specs.Prelude.{◌≡◌, ◌≤◌, ◌<◌, [], length, replicate, OnOk, IfOk, IfErr, None, Some, slice_set, vec_len, nat_le, ◌||◌};
+ghost use Rattle.std.specs.Prelude.{◌≡◌, ◌≤◌, ◌<◌, length, replicate, OnOk, IfOk, IfErr, None, Some, slice_set, vec_len, nat_le, ◌||◌};
 ghost use Rattle.causal_log.specs.Logs.{chosen};
 ghost use Rattle.causal_trace.specs.Past.{restarts};
 ghost use Rattle.causal_protocol.specs.declared.request.Request.TheVariants as Ask;
 ghost use Rattle.causal_protocol.specs.declared.request.Reply.TheVariants as Told;
 ghost use Rattle.causal_protocol.specs.Refusals.{first_fault, is_full};
 ghost use Rattle.causal_protocol.specs.Steps.{Steps};
-ghost use Rattle.causal_core.specs.Flushes.{IsStored};
+ghost use Rattle.causal_core.specs.Inside.Stables.{IsStored};
 ghost use Rattle.causal_core.specs.Inside.Gathers.{IsGathered, IsGatheredFor};
-ghost use Rattle.causal_core.specs.View.{memory_of, bodies_of, memories_in, bodies_in, batches_of, sent_in, with_restart, IsReason};
+ghost use Rattle.causal_core.specs.View.{sent_in, with_restart, IsReason};
+ghost use Rattle.causal_core.specs.Inside.Grown.{batches_of};
+ghost use Rattle.causal_core.specs.Inside.Memories.{memory_of, bodies_of, memories_in, bodies_in};
 
 use crate::cell::Cell;
 use crate::count::count_gathered;

@@ -1,11 +1,11 @@
 //! A beginning, as far as plain data goes.
-ghost use Rattle.std.specs.Prelude.{◌≡◌, ◌≤◌, ◌<◌, [], length, map, replicate, OnOk, IfOk, Some};
+ghost use Rattle.std.specs.Prelude.{◌≡◌, ◌≤◌, ◌<◌, [], length, replicate, OnOk, IfOk, Some};
 ghost use Rattle.std.specs.FinMap as fin;
 ghost use Rattle.causal_protocol.specs.Memory.{fresh};
 ghost use Rattle.causal_core.specs.Starts.{opening};
 ghost use Rattle.causal_core.specs.Inside.Begins.{MayBegin, HasBegun};
 ghost use Rattle.causal_core.specs.Inside.Gathers.{IsGathered};
-ghost use Rattle.causal_core.specs.View.{memories_in, bodies_in};
+ghost use Rattle.causal_core.specs.Inside.Memories.{memories_in, bodies_in};
 
 use crate::cell::Cell;
 use crate::data::Data;

@@ -1,9 +1,9 @@
 //! Which processes are down.
-ghost use Rattle.std.specs.Prelude.{◌≡◌, ◌≤◌, ℕ, length, is_none};
+ghost use Rattle.std.specs.Prelude.{◌≤◌, length, is_none};
 ghost use Rattle.causal_holders.specs.Members.{HasMembers};
 ghost use Rattle.causal_trace.specs.Past.{is_down};
 ghost use Rattle.causal_protocol.specs.Memory.{at};
-ghost use Rattle.causal_core.specs.View.{memories_in};
+ghost use Rattle.causal_core.specs.Inside.Memories.{memories_in};
 ghost use Rattle.causal_core.specs.CoreView.{run_of};
 
 use crate::cell::Cell;

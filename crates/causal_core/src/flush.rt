@@ -7,8 +7,9 @@ ghost use Rattle.causal_protocol.specs.Memory.{at};
 ghost use Rattle.causal_protocol.specs.Run.{memories_of};
 ghost use Rattle.causal_protocol.specs.Steps.{flush_reason_of, Steps, told_flush};
 ghost use Rattle.causal_core.specs.Boxes.{SameAnswers};
-ghost use Rattle.causal_core.specs.View.{log_at};
-ghost use Rattle.causal_core.specs.Flushes.{written, HasFailed, IsStored, TellsFailure};
+ghost use Rattle.causal_core.specs.Inside.Memories.{log_at};
+ghost use Rattle.causal_core.specs.Flushes.{HasFailed, TellsFailure};
+ghost use Rattle.causal_core.specs.Inside.Stables.{written, IsStored};
 ghost use Rattle.causal_core.specs.Inside.Stables.{flushed};
 ghost use Rattle.causal_core.specs.CoreView.{run_of, state_of, store_of};
 

@@ -1,7 +1,7 @@
 //! What a process has that begins.
 ghost use Rattle.std.specs.Prelude.{◌≡◌, ◌≤◌, [], IfOk};
 ghost use Rattle.causal_protocol.specs.Memory.{fresh};
-ghost use Rattle.causal_core.specs.View.{memory_of, bodies_of, room_of};
+ghost use Rattle.causal_core.specs.Inside.Memories.{memory_of, bodies_of, room_of};
 
 use crate::cell::Cell;
 use causal_log::Log;

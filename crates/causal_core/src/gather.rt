@@ -3,7 +3,7 @@ ghost use Rattle.std.specs.Prelude.{◌≡◌, IfOk, OnOk};
 ghost use Rattle.std.specs.FinMap as fin;
 ghost use Rattle.causal_protocol.specs.Gathering.{known_together, held_all, stable_all};
 ghost use Rattle.causal_core.specs.Inside.Gathers.{gathered_with};
-ghost use Rattle.causal_core.specs.View.{memories_in};
+ghost use Rattle.causal_core.specs.Inside.Memories.{memories_in};
 
 use crate::cell::Cell;
 use causal_log::Log;

@@ -5,8 +5,10 @@ ghost use Rattle.causal_protocol.specs.declared.request.Request.TheVariants as A
 ghost use Rattle.causal_protocol.specs.Memory.{at};
 ghost use Rattle.causal_protocol.specs.Naming.{name};
 ghost use Rattle.causal_protocol.specs.Refusals.{first_fault};
-ghost use Rattle.causal_core.specs.Boxes.{HasBox, SameAnswers, SameElsewhere, StepsAt};
-ghost use Rattle.causal_core.specs.View.{memory_of, bodies_of, room_of, memories_in, memory_at, bodies_in, rooms_in, body_at, body_in};
+ghost use Rattle.causal_core.specs.Boxes.{SameAnswers, SameElsewhere, StepsAt};
+ghost use Rattle.causal_core.specs.Inside.Slots.{HasBox};
+ghost use Rattle.causal_core.specs.View.{body_at, body_in};
+ghost use Rattle.causal_core.specs.Inside.Memories.{memory_of, bodies_of, room_of, memories_in, memory_at, bodies_in, rooms_in};
 
 use crate::boxes::step_at;
 use crate::cell::Cell;

@@ -1,6 +1,7 @@
 //! What a delivery needs memory for, made before the box steps.
-ghost use Rattle.std.specs.Prelude.{◌≡◌, replicate, unwrap_or, slice_get, IfOk};
-ghost use Rattle.causal_core.specs.View.{memory_of, kept_of, batches_of, IsMade};
+ghost use Rattle.std.specs.Prelude.{◌≡◌, replicate, IfOk};
+ghost use Rattle.causal_core.specs.Inside.Grown.{batches_of, IsMade};
+ghost use Rattle.causal_core.specs.Inside.Memories.{memory_of};
 
 use crate::cell::{Cell, Message};
 use crate::grown::Grown;

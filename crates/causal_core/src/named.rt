@@ -2,7 +2,7 @@
 ghost use Rattle.std.specs.Prelude.{◌≡◌, ◌<◌, ◌^◌, vec_len};
 ghost use Rattle.causal_protocol.specs.Refusals.{unless};
 ghost use Rattle.causal_core.specs.Inside.Namings.{named_by};
-ghost use Rattle.causal_core.specs.View.{memory_of};
+ghost use Rattle.causal_core.specs.Inside.Memories.{memory_of};
 
 use crate::cell::Cell;
 use causal_name::{Det, MsgName, Pid};

@@ -4,7 +4,7 @@ ghost use Rattle.std.specs.Option.{option_map, option_map_or};
 ghost use Rattle.causal_protocol.specs.Memory.{at};
 ghost use Rattle.causal_protocol.specs.Run.{memories_of};
 ghost use Rattle.causal_protocol.specs.Steps.{reason_of};
-ghost use Rattle.causal_core.specs.View.{memory_of, memories_in};
+ghost use Rattle.causal_core.specs.Inside.Memories.{memory_of, memories_in};
 ghost use Rattle.causal_core.specs.Inside.Facts.{SameReceived};
 ghost use Rattle.causal_core.specs.Inside.Listings.{pending_of};
 ghost use Rattle.causal_core.specs.Pendings.{is_pending, pending_in, pending_fault};

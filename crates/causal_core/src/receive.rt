@@ -7,7 +7,7 @@ ghost use Rattle.causal_trace.specs.Past.{message_at};
 ghost use Rattle.causal_protocol.specs.Memory.{gained, with_received};
 ghost use Rattle.causal_core.specs.Inside.Facts.{Fits};
 ghost use Rattle.causal_core.specs.Inside.Commits.{IsLogDelivered, MayCome, OthersFit};
-ghost use Rattle.causal_core.specs.View.{memory_of, room_of, bodies_of};
+ghost use Rattle.causal_core.specs.Inside.Memories.{memory_of, room_of, bodies_of};
 
 use crate::cell::Cell;
 use causal_log::Batch;

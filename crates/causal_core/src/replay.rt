@@ -1,5 +1,5 @@
 //! The deliveries that are named, one after the other.
-ghost use Rattle.std.specs.Prelude.{◌≡◌, ◌≤◌, ◌<◌, IfOk, IfErr, OnErr};
+ghost use Rattle.std.specs.Prelude.{◌≤◌, ◌<◌, IfOk, IfErr, OnErr};
 ghost use Rattle.causal_core.specs.CoreView.{run_of, state_of, IsUnchanged};
 ghost use Rattle.causal_core.specs.Replays.{Ends, RefusesNamed, Replayed, Redelivered};
 

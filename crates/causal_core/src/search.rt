@@ -3,7 +3,7 @@ ghost use Rattle.std.specs.Prelude.{◌≡◌, is_none, count_by};
 ghost use Rattle.std.specs.Option.{option_map, option_copied};
 ghost use Rattle.causal_protocol.specs.Memory.{at};
 ghost use Rattle.causal_protocol.specs.Naming.{kept_for, name};
-ghost use Rattle.causal_core.specs.View.{kept_of, memory_of, memories_in};
+ghost use Rattle.causal_core.specs.Inside.Memories.{kept_of, memory_of, memories_in};
 
 use crate::cell::{Cell, Message};
 use causal_name::Pid;

@@ -7,7 +7,9 @@ ghost use Rattle.causal_trace.specs.Rows.{are_delivered, IsWellFormed};
 ghost use Rattle.causal_core.specs.Inside.Facts.{Fits};
 ghost use Rattle.causal_core.specs.Inside.Commits.{keep_send, keep_sends, shared_batch, with_send, with_sends};
 ghost use Rattle.causal_core.specs.Inside.Commits.{OthersFit, StayDelivered};
-ghost use Rattle.causal_core.specs.View.{memory_of, room_of, bodies_of, receivers, sent_bodies, batches_of};
+ghost use Rattle.causal_core.specs.View.{receivers, sent_bodies};
+ghost use Rattle.causal_core.specs.Inside.Grown.{batches_of};
+ghost use Rattle.causal_core.specs.Inside.Memories.{memory_of, room_of, bodies_of};
 
 use crate::cell::{Cell, Message};
 use causal_log::Batch;

@@ -106,10 +106,6 @@ module _ {X : Type 0} where
   pub own_entries : (es : List (Det × X)) → is_ascending (keys_of es) ≡ true → entries (from_entries {R = det_cmp} es) ≡ es
   own_entries es ascend = entries_strict es (strict (keys_of es) ascend)
 
-  -- and there are as many of them
-  pub own_len : (es : List (Det × X)) (m : FinMap det_cmp X) → is_ascending (keys_of es) ≡ true → from_entries es ≡ m → len m ≡ length es
-  own_len es m ascend same = ap len (sym same) ∙ len-entries (from_entries es) ∙ ap length (own_entries es ascend)
-
   -- the determinant at a place
   pub get_or_keys : (es : List (Det × X)) (i : ℕ) (e : Det × X) (d : Det) → slice_get es i ≡ Some e → get_or (keys_of es) i d ≡ e.0
   get_or_keys [] i e d h = absurd (true≢false (sym (ap is_some h)))

@@ -1,6 +1,6 @@
 pub mod Lemmas
-pub mod EntryLemmas
-pub mod PartLemmas
-pub mod PlaceLemmas
-pub mod RankLemmas
-pub mod NoteLemmas
+mod EntryLemmas
+mod PartLemmas
+mod PlaceLemmas
+mod RankLemmas
+mod NoteLemmas

@@ -26,13 +26,6 @@ use Rattle.causal_log.proofs.Lemmas.Marking.{get_marked, get_unmarked}
 use Rattle.causal_log.proofs.Lemmas.Listing.{keys_logged}
 use Rattle.causal_log.proofs.Lemmas.Searches.{both, any_kept, passes}
 
--- notes that say nothing are true of every log
-pub nothing_noted : (notes : Notes) (log : LogMap) → notes.limit ≡ 0 → IsNoted notes log
-nothing_noted notes log h = record {
-  carried = λ f low. absurd (omega (arith, low, h));
-  slots = λ low. absurd (omega (arith, low, h));
-}
-
 or_both : (a b : Bool) → b ≡ true → (a || b) ≡ true
 or_both true b h = refl
 or_both false b h = h

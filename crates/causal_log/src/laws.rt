@@ -1,6 +1,6 @@
 //! Laws of logs, piggybacks and stable storage, in plain words and determinant by determinant: for callers, and for proofs
 //! that rest on this crate.
-ghost use Rattle.std.specs.Prelude.{◌≡◌, ℕ, ◌+◌, ◌<◌, ◌==◌, true, false, not, length, ◌&&◌, ◌||◌, ◌⊎◌, if◌then◌else◌, List, slice_get, Some, None, is_some};
+ghost use Rattle.std.specs.Prelude.{◌≡◌, ℕ, ◌+◌, ◌<◌, ◌==◌, true, false, not, length, ◌&&◌, ◌||◌, ◌⊎◌, if◌then◌else◌, List, Some, None, is_some};
 ghost use Rattle.std.specs.List.{list_any};
 ghost use Rattle.std.specs.Option.{option_map};
 ghost use Rattle.std.specs.FinMap as fin;

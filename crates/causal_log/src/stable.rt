@@ -1,5 +1,5 @@
 //! Stable storage.
-ghost use Rattle.std.specs.Prelude.{◌≡◌, ◌+◌, ◌≤◌, ◌<◌, ◌-◌, ◌^◌, ℕ, true, Err, IfOk, OnOk, OnErr};
+ghost use Rattle.std.specs.Prelude.{◌≡◌, ◌+◌, ◌≤◌, ◌<◌, ◌-◌, ◌^◌, ℕ, Err, IfOk, OnOk, OnErr};
 ghost use Rattle.causal_log.specs.Slots.{first_of_slot};
 ghost use Rattle.causal_log.specs.Stores.{DetSet, with_det, has, count_in, dets_in, KeepsMember};
 

@@ -14,7 +14,7 @@ use Rattle.causal_trace.specs.Dependence.{AreForward}
 use Rattle.causal_audit.specs.declared.verdict.Verdict.{Verdict}
 use Rattle.causal_audit.specs.declared.verdict.Verdict.TheVariants.{Accept, Exceeded, Orphan}
 use Rattle.causal_audit.specs.Verdicts.{IsFirstUnsafe, IsExcess, IsBreach, IsVerdict}
-use Rattle.causal_plain.specs.Plain.{IsFailure}
+use Rattle.causal_plain.specs.Inside.Plain.{IsFailure}
 
 -- the earlier states of a well-formed trace
 

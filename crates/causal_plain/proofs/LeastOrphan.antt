@@ -12,7 +12,7 @@ use Rattle.causal_trace.specs.Past.{is_down, logs, det_at}
 use Rattle.causal_trace.specs.Judgement.{IsCrashSet, IsOrphan, HasOrphan}
 use Rattle.causal_audit.specs.Laws.{gone}
 use Rattle.causal_audit.specs.Verdicts.{IsLeastOrphan}
-use Rattle.causal_plain.specs.Plain.{AreDependentProcesses, AreCrashSets, IsLost, AreOrphans, AreBreaking, IsLeastSet, HasNoLeast}
+use Rattle.causal_plain.specs.Inside.Plain.{AreDependentProcesses, AreCrashSets, IsLost, AreOrphans, AreBreaking, IsLeastSet, HasNoLeast}
 use Rattle.causal_audit.proofs.Lemmas.Judged.{crash_contains, orphan_without, exposed, gone_crash, gone_orphan}
 
 module _ (n f : ℕ) (past : List Entry) (k : ℕ) (d : Det) (at : det_at past k ≡ Some d) (dependents down : FinSet nat_cmp) (depend : AreDependentProcesses n past k dependents) (are_down : HasMembers n down (is_down past)) (sets found : List (FinSet nat_cmp)) (listed : AreCrashSets n f down sets) (broken : AreBreaking n past d dependents sets found) where

@@ -5,7 +5,7 @@ use Rattle.std.specs.Ordering.{nat_cmp}
 use Rattle.std.specs.FinSet.{FinSet, insert}
 use Rattle.std.proofs.lemmas.List.{take_more}
 use Rattle.std.proofs.lemmas.List.Elements.{Contains-append_left, Contains-push, Contains-push_cases}
-use Rattle.causal_plain.specs.Plain.{AreWithAndWithout, MayGrow}
+use Rattle.causal_plain.specs.Inside.Plain.{AreWithAndWithout, MayGrow}
 
 -- found has just those of the sets for which P holds
 abbrev pub Keeps : (FinSet nat_cmp → Type 0) → List (FinSet nat_cmp) → List (FinSet nat_cmp) → Type 0

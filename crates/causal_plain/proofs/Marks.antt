@@ -5,7 +5,7 @@ use Rattle.causal_trace.specs.declared.entry.Entry.{Entry}
 use Rattle.causal_trace.specs.Past.{is_down, lane}
 use Rattle.causal_trace.specs.Dependence.{AreForward, IsEventOf, DirectlyPrecedes, in_order, by_message, Reaches, itself, onward, Depends}
 use Rattle.causal_trace.proofs.Lemmas.Reached.{event_below}
-use Rattle.causal_plain.specs.Plain.{MarksReached, FollowsMarked, HasMarkedEvent}
+use Rattle.causal_plain.specs.Inside.Plain.{MarksReached, FollowsMarked, HasMarkedEvent}
 
 precedes_before : (past : List Entry) (i j : ℕ) → AreForward past → DirectlyPrecedes past i j → i < j
 precedes_before past i j forward (in_order p l h a b) = h

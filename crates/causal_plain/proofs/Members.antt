@@ -9,7 +9,7 @@ use Rattle.std.proofs.lemmas.Bool.Decides.{eqb_tells}
 use Rattle.causal_holders.specs.Members.{HasMembers}
 use Rattle.causal_holders.specs.Same.{have_same_members, have_same_members-itself, same_members_equal}
 use Rattle.causal_holders.proofs.Lemmas.Sets.{empty_or_member}
-use Rattle.causal_plain.specs.Plain.{HasJust}
+use Rattle.causal_plain.specs.Inside.Plain.{HasJust}
 
 pub empty_without : (q : ℕ) → contains {R = nat_cmp} empty q ≡ true → ⊥
 empty_without q h = false≢true (sym (contains-empty nat_cmp q) ∙ h)

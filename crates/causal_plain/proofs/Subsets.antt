@@ -9,7 +9,7 @@ use Rattle.std.proofs.lemmas.Bool.{false≢true, cases_Bool, and_from, eq-eqb, n
 use Rattle.std.proofs.lemmas.Bool.Decides.{eqb_tells}
 use Rattle.causal_holders.specs.Same.{is_subset-itself, same_members_equal}
 use Rattle.causal_holders.proofs.Lemmas.Sets.{some_member, len-is_subset}
-use Rattle.causal_plain.specs.Plain.{AreWithAndWithout, IsBelow, IsDownOrBelow, MayCrash, MayGrow, AreGrown, AreCrashSets}
+use Rattle.causal_plain.specs.Inside.Plain.{AreWithAndWithout, IsBelow, IsDownOrBelow, MayCrash, MayGrow, AreGrown, AreCrashSets}
 use Rattle.causal_plain.proofs.Members.{insert_itself, insert_cases, insert_other}
 
 -- at first there is the set of those who are down, where they may crash together

@@ -1,7 +1,7 @@
 //! All crash sets, listed.
-ghost use Rattle.std.specs.Prelude.{◌≡◌, ◌≤◌, ◌↔◌, true, IsTrue, IfOk};
+ghost use Rattle.std.specs.Prelude.{◌≡◌, ◌≤◌, ◌↔◌, IsTrue, IfOk};
 ghost use Rattle.std.specs.FinSet.{insert};
-ghost use Rattle.causal_plain.specs.Plain.{IsBelow, MayGrow, AreWithAndWithout, AreGrown, AreCrashSets};
+ghost use Rattle.causal_plain.specs.Inside.Plain.{IsBelow, MayGrow, AreWithAndWithout, AreGrown, AreCrashSets};
 
 use causal_holders::Holders;
 use std::alloc::{AllocError, Global};

@@ -1,9 +1,9 @@
 //! Which events a delivery reaches, and so which processes depend on it: happened-before, read off its definition.
-ghost use Rattle.std.specs.Prelude.{◌≡◌, ◌≤◌, ◌<◌, ◌↔◌, ℕ, IsTrue, true, false, length, reverse, slice_index_or, MatchOption, IfOk};
+ghost use Rattle.std.specs.Prelude.{◌≡◌, ◌≤◌, ◌<◌, ◌↔◌, IsTrue, true, false, length, reverse, IfOk};
 ghost use Rattle.std.specs.Option.{option_map};
-ghost use Rattle.causal_trace.specs.Past as past;
 ghost use Rattle.causal_trace.specs.Dependence.{AreForward, actor, is_delivery_of, IsEventOf, DirectlyPrecedes, Reaches};
-ghost use Rattle.causal_plain.specs.Plain.{IsLaneAt, MarksReached, AreReachMarks, FollowsMarked, HasMarkedEvent, DependsByMarks, AreDependentProcesses};
+ghost use Rattle.causal_plain.specs.Inside.Plain.{IsLaneAt, MarksReached, AreReachMarks, FollowsMarked};
+ghost use Rattle.causal_plain.specs.Inside.Plain.{HasMarkedEvent, DependsByMarks, AreDependentProcesses};
 
 use crate::state::{Lane, is_down, present_lane};
 use causal_holders::Holders;

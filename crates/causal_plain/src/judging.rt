@@ -4,7 +4,7 @@ ghost use Rattle.causal_name.specs.Sets.{count_below};
 ghost use Rattle.causal_trace.specs.Past as past;
 ghost use Rattle.causal_trace.specs.Rows.{AreAccepted};
 ghost use Rattle.causal_trace.specs.Dependence.{AreForward};
-ghost use Rattle.causal_plain.specs.Plain.{TellsFailure, TellsOrphan};
+ghost use Rattle.causal_plain.specs.Inside.Plain.{TellsFailure, TellsOrphan};
 ghost use Rattle.causal_audit.specs.Verdicts.{IsVerdict};
 
 use crate::orphans::least_orphan;

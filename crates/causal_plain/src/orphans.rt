@@ -1,9 +1,10 @@
 //! The orphans of a delivery under a crash set, and the least crash set that gives it one.
-ghost use Rattle.std.specs.Prelude.{◌≡◌, ◌≤◌, ◌<◌, ◌↔◌, ℕ, IsTrue, true, false, reverse, MatchOption, IfOk, Some};
+ghost use Rattle.std.specs.Prelude.{◌≡◌, ◌≤◌, ◌<◌, ◌↔◌, IsTrue, true, false, reverse, MatchOption, IfOk, Some};
 ghost use Rattle.std.specs.FinSet.{contains};
 ghost use Rattle.causal_trace.specs.Past as past;
 ghost use Rattle.causal_trace.specs.Dependence.{AreForward};
-ghost use Rattle.causal_plain.specs.Plain.{IsLoggedOutside, IsLost, AreOrphans, Breaks, AreBreaking, IsInEach, IsLeastSet, HasNoLeast, TellsLeastOrphan};
+ghost use Rattle.causal_plain.specs.Inside.Plain.{IsLoggedOutside, IsLost, AreOrphans, Breaks, AreBreaking};
+ghost use Rattle.causal_plain.specs.Inside.Plain.{IsInEach, IsLeastSet, HasNoLeast, TellsLeastOrphan};
 
 use crate::crash_sets::crash_sets;
 use crate::events::dependents;

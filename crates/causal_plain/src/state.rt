@@ -1,6 +1,5 @@
 //! What the state after some entries says, read off the entries one by one, oldest first.
-ghost use Rattle.std.specs.Prelude.{◌≡◌, ◌≤◌, ◌<◌, length, reverse, true};
-ghost use Rattle.std.specs.FinSet.{contains};
+ghost use Rattle.std.specs.Prelude.{◌≡◌, ◌≤◌, ◌<◌, reverse, true};
 ghost use Rattle.std.specs.Option.{option_map};
 ghost use Rattle.causal_holders.specs.Members.{HasMembers};
 ghost use Rattle.causal_trace.specs.Past as past;

@@ -1,5 +1,5 @@
 //! The processes of a script.
-ghost use Rattle.std.specs.Prelude.{◌≡◌, ◌<◌, List};
+ghost use Rattle.std.specs.Prelude.{◌≡◌, ◌<◌};
 ghost use Rattle.causal_process.specs.declared.message.Input.{Input};
 ghost use Rattle.causal_run.specs.Members.{member_answers, member_of};
 ghost use Rattle.causal_run.specs.Inside.MembersKept.{members_each, members_in_order};

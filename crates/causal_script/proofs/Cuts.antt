@@ -11,10 +11,6 @@ abbrev pub Lacks : ℕ → List ℕ → Type 0
 Lacks byte [] = Unit {0}
 Lacks byte (x ∷ xs) = (eqb x byte ≡ false) × Lacks byte xs
 
-pub cut_lacking : (byte : ℕ) (xs : List ℕ) → Lacks byte xs → cut byte xs ≡ None
-cut_lacking byte [] h = refl
-cut_lacking byte (x ∷ xs) h = rw (h.0, cut_lacking byte xs h.1) refl
-
 pub cut_front : (byte : ℕ) (xs ys : List ℕ) → Lacks byte xs → cut byte (xs ++ byte ∷ ys) ≡ Some (xs, ys)
 cut_front byte [] ys h = let same : eqb byte byte ≡ true = eq-eqb byte byte refl in rw same refl
 cut_front byte (x ∷ xs) ys h = rw (h.0, cut_front byte xs ys h.1) refl

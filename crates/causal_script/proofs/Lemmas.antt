@@ -1,2 +1,2 @@
--- What crates above may cite of this crate's proofs.
+-- Lemmas on what a text spells, which stand apart from those on the functions that read it.
 pub mod Exact

@@ -1,4 +1,4 @@
-pub mod Lemmas
+mod Lemmas
 mod CommandLines
 mod Cuts
 mod Numbers

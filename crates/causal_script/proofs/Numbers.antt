@@ -165,11 +165,6 @@ no_text limit word small none = unspelled limit word (λ n e.
     let d = decimal-number_of limit n word (omega arith) e in
     none (subst (λ (w : List ℕ). IsUtf8 w) (sym d.0) (IsUtf8-from_ascii (decimal n) (IsAscii-decimal n (omega (arith, d.1))))))
 
-pub no_word : (limit : ℕ) (word : List ℕ) → limit < 2 ^ 32 → ((n : ℕ) → IsPlain word → ⊥) → number_of limit word ≡ None
-no_word limit word small none = unspelled limit word (λ n e.
-    let d = decimal-number_of limit n word (omega arith) e in
-    none n (subst (λ (w : List ℕ). IsPlain w) (sym d.0) (decimal_plain n (omega (arith, d.1)))))
-
 -- ---- how a word begins
 
 pub first_is : (word : List ℕ) (first : ℕ) → Some first ≡ slice_get word 0 → (get_or word 0 0 ≡ first) × (0 < length word)

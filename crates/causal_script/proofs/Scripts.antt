@@ -7,7 +7,7 @@ use Rattle.causal_script.specs.declared.start.Start.{Start}
 use Rattle.causal_script.specs.Lines.{lines}
 use Rattle.causal_script.specs.Spelling.{max_script, IsStart, Spells, start_line, command_line}
 use Rattle.causal_script.specs.Faults.{IsFirstFault, IsReadUpTo}
-use Rattle.causal_script.specs.Inside.Place.{AreCommands, Reaches}
+use Rattle.causal_script.specs.Inside.Place.{AreCommands, AreOnLines}
 use Rattle.causal_script.proofs.Texts.{sound_none, length_lines, whole_within}
 
 pub length_map : {X Y : Type 0} (f : X → Y) (xs : List X) → length (map f xs) ≡ length xs
@@ -15,7 +15,7 @@ length_map f [] = refl
 length_map f (x ∷ xs) = ap suc (length_map f xs)
 
 pub spelled : (text first rest : List ℕ) (s : Start) (commands : List Command) (line : ℕ) → lines text ≡ first ∷ lines rest → IsStart s → first ≡ start_line s
-    → AreCommands rest commands [] → Reaches text commands line [] → Spells text (record { start = s; commands = commands })
+    → AreCommands rest commands [] → AreOnLines text commands line [] → Spells text (record { start = s; commands = commands })
 spelled text first rest s commands line split start is read r =
     let words = λ (c : Command). command_line c.request in
     let said : lines text ≡ start_line s ∷ map words commands = split ∙ ap (λ l. l ∷ lines rest) is ∙ ap (λ ls. start_line s ∷ ls) (read.said ∙ append-nil (map words commands)) in
@@ -30,6 +30,3 @@ spelled text first rest s commands line split start is read r =
 pub empty_fault : (text : List ℕ) → text ≡ [] → IsFirstFault text (record { line = 1; kind = Script })
 empty_fault text is = subst (λ (t : List ℕ). IsFirstFault t (record { line = 1; kind = Script })) (sym is)
     (record { before = 0; number = refl; sound = sound_none []; faulty = λ place. place; big_first = λ same big. let over : max_script < 0 = big.0 in omega arith })
-
-pub nothing_read : (text : List ℕ) → IsReadUpTo text 1
-nothing_read text = record { before = 0; number = refl; sound = sound_none text }

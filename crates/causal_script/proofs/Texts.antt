@@ -15,7 +15,7 @@ use Rattle.causal_script.specs.Lines.{is_feed, lines, feeds}
 use Rattle.causal_script.specs.Spelling.{max_script, command_line, IsRequest}
 use Rattle.causal_script.specs.Faults.{IsCommandLine, IsInPlace, IsFaultAfter, AreSound, IsFirstFault, IsReadUpTo}
 use Rattle.causal_script.specs.Inside.Reading.{cut}
-use Rattle.causal_script.specs.Inside.Place.{IsBigLine, is_line, judged, IsAfter, AreCommands, Reaches}
+use Rattle.causal_script.specs.Inside.Place.{IsBigLine, is_line, judged, IsAfter, AreCommands, AreOnLines}
 
 -- ---- the first line and the rest
 
@@ -246,9 +246,6 @@ range_more : (a n next : ℕ) → next ≡ a + n → range_with_len a (suc n) �
 range_more a zero next is = let same : next ≡ a = omega arith in ap (λ x. x ∷ []) (sym same)
 range_more a (suc n) next is = ap (λ xs. a ∷ xs) (range_more (a + 1) n next (omega arith))
 
-pub commands_none : (rest : List ℕ) → AreCommands rest [] rest
-commands_none rest = record { said = refl; requests = tt }
-
 pub commands_more : (rest left l after : List ℕ) (commands : List Command) (c : Command) → AreCommands rest commands left → lines left ≡ l ∷ lines after
     → l ≡ command_line c.request → IsRequest c.request → AreCommands rest (commands ++ c ∷ []) after
 commands_more rest left l after commands c h split is fits =
@@ -259,16 +256,13 @@ commands_more rest left l after commands c h split is fits =
       requests = all_push (λ d. IsRequest d.request) commands c h.requests fits;
     }
 
-pub reaches_none : (text rest : List ℕ) → IsAfter text 1 rest → Reaches text [] 1 rest
-reaches_none text rest a = record { after = a; numbered = refl; count = refl }
-
 length_push : {X : Type 0} (xs : List X) (x : X) → length (xs ++ x ∷ []) ≡ suc (length xs)
 length_push [] x = refl
 length_push (y ∷ xs) x = ap suc (length_push xs x)
 
 pub reaches_more : {A : Type 0} (text left l after : List ℕ) (commands : List Command) (line next : ℕ) (big : Option ℕ) (said : Option A) (x : A) (c : Command)
-    → next ≡ line + 1 → c.line ≡ next → Reaches text commands line left → lines left ≡ l ∷ lines after → IsBigLine text big → judged big next said ≡ Ok x → (said ≡ Some x → IsCommandLine l)
-    → Reaches text (commands ++ c ∷ []) next after
+    → next ≡ line + 1 → c.line ≡ next → AreOnLines text commands line left → lines left ≡ l ∷ lines after → IsBigLine text big → judged big next said ≡ Ok x → (said ≡ Some x → IsCommandLine l)
+    → AreOnLines text (commands ++ c ∷ []) next after
 reaches_more text left l after commands line next big said x c is here r split bigs e command =
     let place : IsCommandLine l → IsInPlace line (Some l) = λ w. subst (λ (n : ℕ). IsInPlace n (Some l)) (let count : line ≡ suc (length commands) = omega (arith, r.count) in sym count) w in
     let more : map (λ (d : Command). d.line) (commands ++ c ∷ []) ≡ map (λ (d : Command). d.line) commands ++ c.line ∷ [] = map-append (λ (d : Command). d.line) commands (c ∷ []) in
@@ -282,7 +276,7 @@ reaches_more text left l after commands line next big said x c is here r split b
 
 -- a fault on a command's line
 pub command_fault : {A : Type 0} (text left l after : List ℕ) (commands : List Command) (line next : ℕ) (big : Option ℕ) (said : Option A) (f : ScriptFault)
-    → next ≡ line + 1 → Reaches text commands line left → lines left ≡ l ∷ lines after → IsBigLine text big → judged big next said ≡ Err f → (said ≡ None → IsCommandLine l → ⊥) → IsFirstFault text f
+    → next ≡ line + 1 → AreOnLines text commands line left → lines left ≡ l ∷ lines after → IsBigLine text big → judged big next said ≡ Err f → (said ≡ None → IsCommandLine l → ⊥) → IsFirstFault text f
 command_fault text left l after commands line next big said f is r split bigs e none =
     let misplaced : IsInPlace line (Some l) → IsCommandLine l = λ w. subst (λ (n : ℕ). IsInPlace n (Some l)) (let count : line ≡ suc (length commands) = omega (arith, r.count) in count) w in
     let here = line_here line (lines text) l (lines after) (r.after.rest ∙ split) in

@@ -3,7 +3,7 @@ ghost use Rattle.std.specs.Prelude.{◌≡◌, ◌≢◌, ◌<◌, ◌≤◌, �
 ghost use Rattle.causal_script.specs.Lines.{lines, feeds};
 ghost use Rattle.causal_script.specs.Spelling.{Spells, IsPlan, plan_of};
 ghost use Rattle.causal_script.specs.Faults.{IsFirstFault, IsReadUpTo};
-ghost use Rattle.causal_script.specs.Inside.Place.{IsBigLine, IsAfter, AreCommands, Reaches, judged};
+ghost use Rattle.causal_script.specs.Inside.Place.{IsBigLine, IsAfter, AreCommands, AreOnLines, judged};
 
 use crate::command::request;
 use crate::script::{Command, Commands, Script, ScriptFault, ScriptFaultKind};
@@ -72,7 +72,7 @@ fn judged<T: Drop>(big: Option<u32>, line: u32, said: Option<T>) -> Result<T, Sc
 fn commands(alloc: Global, rest: &[u8], big: Option<u32>) -> Result<Vec<Command>, ScriptFault>
     ensures ok { IfOk result (λ commands. AreCommands rest.now commands.items []) }
     ensures reaches { IfOk result (λ commands. (text : List ℕ) → IsAfter text 1 rest.now → IsBigLine text big
-        → (line : ℕ) × Reaches text commands.items line []) }
+        → (line : ℕ) × AreOnLines text commands.items line []) }
     ensures err { IfErr result (λ fault. fault.kind ≢ ScriptFaultKind.NoMemory
         → (text : List ℕ) → IsAfter text 1 rest.now → IsBigLine text big → IsFirstFault text fault) }
     ensures memory { IfErr result (λ fault. fault.kind ≡ ScriptFaultKind.NoMemory

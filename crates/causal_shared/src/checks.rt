@@ -1,5 +1,5 @@
 //! The tests that a shared runtime makes when it is finished.
-ghost use Rattle.std.specs.Prelude.{◌≡◌, ◌≢◌, ◌<◌, ◌≤◌, ◌↔◌, ℕ, All, AllPairs, Any, IsTrue, IfSome, IfNone};
+ghost use Rattle.std.specs.Prelude.{◌≡◌, ◌≢◌, ◌<◌, ◌↔◌, All, AllPairs, Any, IsTrue, IfSome, IfNone};
 ghost use Rattle.causal_shared.specs.History.{items_of, AllLegal};
 ghost use Rattle.causal_core.specs.CoreView.{run_of};
 ghost use Rattle.causal_shared.specs.Finish.{Agrees, IsComplete, HasSeat, AllSeated};

@@ -1,6 +1,5 @@
 -- What the fields of a clock stand for.
 use Rattle.std.specs.Prelude.{◌≡◌, ℕ, ◌+◌, ◌<◌, ◌≤◌, ◌==◌, if◌then◌else◌, List, length, map, slice_index}
-use Rattle.std.specs.List.{All}
 use Rattle.causal_clock.specs.declared.Event.{Event}
 use Rattle.causal_clock.specs.declared.Entry.{Entry}
 use Rattle.causal_clock.specs.declared.TheConstants.{FIRST_LANES, OPENED_LANES}
@@ -10,7 +9,7 @@ use Rattle.causal_clock.specs.Timeline.{Timeline, lane_of, lane_length, place_of
 use Rattle.causal_clock.specs.Rises.{count_at}
 use Rattle.causal_clock.specs.Inside.Columns.{column_in, column_of, IsColumn}
 use Rattle.causal_clock.specs.Inside.Kept.{Keeps}
-use Rattle.causal_clock.specs.Inside.Lanes.{rises_in, KeepsRow}
+use Rattle.causal_clock.specs.Inside.Lanes.{rises_in}
 
 -- event j's count of a lane: of its own lane its place and one more, of another what the column tells at its place
 abbrev pub counts_in : List Event → (ℕ → ℕ → List Rise) → ℕ → ℕ → ℕ
@@ -45,6 +44,5 @@ timeline_of a = record { lanes = length a.lanes.items; opened = a.opened; events
 
 pub record IsClock (a : Inside) : Type 0 where
   pub keeps : KeepsColumns (events_of a) (places_of a) (lengths_of a) (column_of (columns_of a))
-  pub rows : All KeepsRow a.lanes.items
   pub lanes : length a.lanes.items ≤ FIRST_LANES + a.opened
   pub opened : a.opened ≤ OPENED_LANES

@@ -1,9 +1,8 @@
 -- What a lane keeps.
 use Rattle.std.specs.Prelude.{◌≡◌, ◌≢◌, ℕ, ◌-◌, ◌<◌, ◌≤◌, List, [], length, map, slice_index, vec_len, vec_capacity}
-use Rattle.std.specs.List.{All}
 use Rattle.causal_clock.specs.declared.Rise.{Rise}
 use Rattle.causal_clock.specs.declared.lane.Lane.{Lane}
-use Rattle.causal_clock.specs.Rises.{count_at, RisesStrictly}
+use Rattle.causal_clock.specs.Rises.{RisesStrictly}
 use Rattle.causal_clock.specs.Inside.Columns.{column_in, column_of}
 
 -- its columns
@@ -16,11 +15,6 @@ spares_in x = map (λ c. vec_capacity c - vec_len c) x.columns.items
 
 abbrev pub AllStrict : Lane → Type 0
 AllStrict x = (source : ℕ) → RisesStrictly (column_in (rises_in x) source)
-
--- the row has what each column tells from the place of the last rise on, which is no later than the next event's
-pub record KeepsRow (x : Lane) : Type 0 where
-  pub within : x.last ≤ x.events
-  pub told : (source place : ℕ) → x.last ≤ place → count_at (column_in (rises_in x) source) place ≡ slice_index x.row.items source
 
 -- both tell the same of each source lane
 abbrev pub SameColumns : Lane → Lane → Type 0
@@ -46,4 +40,3 @@ pub record AreEmpty (lanes : List Lane) (count : ℕ) : Type 0 where
   pub many : length lanes ≡ count
   pub lengths : (lane : ℕ) → slice_index (map (λ x. x.events) lanes) lane ≡ 0
   pub columns : (lane source : ℕ) → column_of (map rises_in lanes) lane source ≡ []
-  pub rows : All KeepsRow lanes

@@ -18,7 +18,9 @@ use Rattle.causal_protocol.specs.declared.request.Request.TheVariants as Ask
 use Rattle.causal_protocol.specs.Memory.{Memory, Memories, keeping, with_received}
 use Rattle.causal_protocol.specs.Steps.{sends_of, pushed}
 use Rattle.causal_core.specs.declared.grown.Grown.{Grown}
-use Rattle.causal_core.specs.View.{memory_at, receivers, first_batch, batches_of, carried_by, keep_all}
+use Rattle.causal_core.specs.View.{receivers}
+use Rattle.causal_core.specs.Inside.Grown.{first_batch, batches_of, carried_by}
+use Rattle.causal_core.specs.Inside.Memories.{memory_at, keep_all}
 use Rattle.causal_core.specs.Inside.Facts.{FitsAt}
 
 -- nothing stands against this as the next entry

@@ -11,7 +11,8 @@ use Rattle.causal_protocol.specs.Memory.{Memories, fresh}
 use Rattle.causal_protocol.specs.Gathering.{gathered_log, known_together, held_all, stable_all}
 use Rattle.causal_protocol.specs.Run.{Run, memories_of, stable_of}
 use Rattle.causal_core.specs.declared.gathered.Gathered.{Gathered}
-use Rattle.causal_core.specs.View.{memory_of, bodies_of, room_of, batches_of}
+use Rattle.causal_core.specs.Inside.Grown.{batches_of}
+use Rattle.causal_core.specs.Inside.Memories.{memory_of, bodies_of, room_of}
 
 -- whether the log of one of these processes has it
 abbrev pub is_logged : Memories → Det → Bool

@@ -7,7 +7,7 @@ use Rattle.causal_name.specs.declared.MsgName.{MsgName}
 use Rattle.causal_protocol.specs.Memory.{Memories}
 use Rattle.causal_protocol.specs.Naming.{name}
 use Rattle.causal_core.specs.Pendings.{is_pending}
-use Rattle.causal_core.specs.View.{rest_of}
+use Rattle.causal_core.specs.Inside.Grown.{rest_of}
 
 -- the determinant was listed, after the one more where that comes first: whatever follows, the list will be what it would
 -- have been

@@ -1,5 +1,5 @@
--- A box that is given an input.
-use Rattle.std.specs.Prelude.{◌≡◌, List, ◌∷◌, Option}
+-- Which slots hold a box, and a box that is given an input.
+use Rattle.std.specs.Prelude.{◌≡◌, ℕ, List, ◌∷◌, Option, Some, None, slice_get}
 use Rattle.causal_process.specs.declared.message.Input.{Input}
 use Rattle.causal_process.specs.declared.message.Outgoing.{Outgoing}
 use Rattle.causal_core.specs.Boxes.{after, box_answers}
@@ -12,3 +12,13 @@ module _ {B : Type 0} (answers : B → List Input → List (List Outgoing)) wher
   -- the same of the box of a slot
   abbrev pub SlotSteps : Input → List Outgoing → Option B → Option B → Type 0
   SlotSteps input sends old new = (inputs : List Input) → box_answers answers old (input ∷ inputs) ≡ after sends (box_answers answers new inputs)
+
+-- a box stands here
+abbrev pub IsBox : {B : Type 0} → Option (Option B) → Type 0
+IsBox (Some (Some b)) = Unit {0}
+IsBox (Some None) = ⊥
+IsBox None = ⊥
+
+-- slot q holds a box
+abbrev pub HasBox : {B : Type 0} → List (Option B) → ℕ → Type 0
+HasBox slots q = IsBox (slice_get slots q)

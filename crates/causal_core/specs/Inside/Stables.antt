@@ -1,8 +1,12 @@
--- What a flush makes of a memory and of a run, and the room that it takes.
-use Rattle.std.specs.Prelude.{ℕ, ◌≤◌, List, map}
+-- What a flush makes of a memory, of a run and of the store, and the room that it takes.
+use Rattle.std.specs.Prelude.{◌≡◌, ℕ, ◌≤◌, List, map, Result, Ok, Err}
 use Rattle.causal_name.specs.declared.Pid.{Pid}
 use Rattle.causal_name.specs.declared.Det.{Det}
 use Rattle.causal_log.specs.Logs.{marked}
+use Rattle.causal_log.specs.Stores.{DetSet, has}
+use Rattle.causal_trace.specs.declared.entry.Entry.{Entry}
+use Rattle.causal_trace.specs.Past.{is_stable}
+use Rattle.causal_protocol.specs.declared.request.FlushFault.{FlushFault}
 use Rattle.causal_trace.specs.declared.entry.Entry.TheVariants.{Stable}
 use Rattle.causal_protocol.specs.declared.request.Request.TheVariants as Ask
 use Rattle.causal_protocol.specs.Memory.{Memory, with_log}
@@ -21,3 +25,12 @@ flushed r p dets = extended r (Ask.Flush p) (map Stable dets)
 -- so many stable entries take no memory
 abbrev pub HasRoomForStable : ℕ → DataState → Type 0
 HasRoomForStable count d = (count ≤ d.spare) × (count ≤ d.writers_room)
+
+-- the store has just what the stable entries name
+abbrev pub IsStored : DetSet → List Entry → Type 0
+IsStored stored past = (d : Det) → has stored d ≡ is_stable past d
+
+-- how many determinants were written
+abbrev pub written : Result ℕ FlushFault → ℕ
+written (Ok count) = count
+written (Err f) = f.done

@@ -35,7 +35,7 @@ pub record AreCommands (rest : List ℕ) (commands : List Command) (left : List 
   pub requests : AllByRecursion (λ c. IsRequest c.request) commands
 
 -- in this text they are on the lines from 2 up to this one
-pub record Reaches (text : List ℕ) (commands : List Command) (line : ℕ) (left : List ℕ) : Type 0 where
+pub record AreOnLines (text : List ℕ) (commands : List Command) (line : ℕ) (left : List ℕ) : Type 0 where
   pub after : IsAfter text line left
   pub numbered : map (λ c. c.line) commands ≡ range_with_len 2 (length commands)
   pub count : line ≡ length commands + 1

@@ -1,12 +1,10 @@
 use Rattle.std.proofs.Common.{◌≡◌, ◌<◌, [], ◌∷◌, ◌++◌, None, length, ap, sym, ◌∙◌, refl, arith}
 use Rattle.std.proofs.Math.ListN.{length-set}
-use Rattle.std.proofs.lemmas.List.Elements.{All-set}
 use Rattle.causal_clock.specs.Inside.Columns.{column_in}
-use Rattle.causal_clock.specs.Inside.Lanes.{rises_in, KeepsRow}
+use Rattle.causal_clock.specs.Inside.Lanes.{rises_in}
 use Rattle.causal_clock.specs.Inside.Fields.{events_of, places_of}
 use Rattle.causal_clock.proofs.Columns.{raised_none}
 use Rattle.causal_clock.proofs.Moves.{small_lane, keeps_more}
-use Rattle.causal_clock.proofs.Rows.{row_at, row_longer}
 use Rattle.causal_clock.proofs.Clocks.local.Goals as goal
 
 pub append-requires-clause-place : goal.append-requires-clause-place
@@ -21,13 +19,11 @@ invariant_of-self-2 c =
     let room : length (events_of c.self.inside) < 65536 = rw (← c.self.view_is) at c.requires.room in
     let x = c.index_mut.result.now in
     let z = c.append.new.lane in
-    let counted = c.append.ensures.counted in
     let appended : c.append.new.entries.items ≡ c.self.inside.entries.items ++ record { event = record { lane = c.args.lane; send = None }; place = c.index_mut.result.now.events } ∷ [] =
     c.append.ensures.appended ∙ (λ i. c.reserve.ensures.items i ++ record { event = record { lane = c.args.lane; send = None }; place = c.index_mut.result.now.events } ∷ []) in
     record {
       keeps = rw appended (keeps_more c.self.inside.entries.items c.self.inside.lanes.items c.self.invariant.keeps (record { lane = c.args.lane; send = None }) lt x z c.index_mut.ensures.value (λ s is. cc) room
-          (λ source. 0) refl (λ source other. refl) (ap (λ l. l.events) counted) (λ source. ap (λ l. column_in (rises_in l) source) counted ∙ sym (raised_none (column_in (rises_in c.index_mut.result.now) source) c.index_mut.result.now.events)));
-      rows = All-set KeepsRow c.self.inside.lanes.items c.args.lane z (row_longer x z counted (row_at c.self.inside.lanes.items c.args.lane x lt c.index_mut.ensures.value c.self.invariant.rows)) c.self.invariant.rows;
+          (λ source. 0) refl (λ source other. refl) c.append.ensures.counted (λ source. ap (λ l. column_in l source) c.append.ensures.same ∙ sym (raised_none (column_in (rises_in c.index_mut.result.now) source) c.index_mut.result.now.events)));
       lanes = omega (arith, c.self.invariant.lanes, length-set c.self.inside.lanes.items c.args.lane c.append.new.lane);
       opened = c.self.invariant.opened;
     }

@@ -1,17 +1,15 @@
-use Rattle.std.proofs.Common.{◌≡◌, ◌≢◌, ℕ, ◌+◌, ◌<◌, [], ◌∷◌, ◌++◌, Some, List, ◌==◌, length, get_or, ap, sym, ◌∙◌, subst, arith, map}
+use Rattle.std.proofs.Common.{◌≡◌, ◌≢◌, ℕ, ◌+◌, ◌<◌, [], ◌∷◌, ◌++◌, Some, List, ◌==◌, length, get_or, ap, sym, ◌∙◌, subst, arith}
 use Rattle.std.proofs.Math.ListN.{length-set}
-use Rattle.std.proofs.lemmas.List.Elements.{All-set}
 use Rattle.std.proofs.lemmas.List.Sums.{count_by-le-length}
 use Rattle.causal_clock.specs.Rises.{RisesStrictly}
 use Rattle.causal_clock.specs.Timeline.{lane_of, place_of}
 use Rattle.causal_clock.specs.Inside.Columns.{column_in, raised, TellsAlike}
-use Rattle.causal_clock.specs.Inside.Lanes.{rises_in, KeepsRow}
+use Rattle.causal_clock.specs.Inside.Lanes.{rises_in}
 use Rattle.causal_clock.specs.Inside.Fields.{events_of, places_of, counts_in, count_told}
 use Rattle.causal_clock.proofs.Columns.{raised_alike}
 use Rattle.causal_clock.proofs.Fields.{lane_of_entry, place_of_entry, as_many_events}
 use Rattle.causal_clock.proofs.Lanes.{as_many, column_was, told_was}
 use Rattle.causal_clock.proofs.Moves.{lengths_in, columns_in, small_lane, keeps_unchanged, told_in, told_of, told_of-own, told_of-other, alike, keeps_more}
-use Rattle.causal_clock.proofs.Rows.{row_at, row_longer}
 use Rattle.causal_clock.proofs.Steps.{same_some}
 use Rattle.causal_clock.proofs.Clocks.receive.Goals as goal
 
@@ -39,20 +37,13 @@ counts_for-requires c =
     record {
       place = omega (arith, room, place, k.keeps.own send inside, (k.keeps.reach send inside (lane_of es send)).no_more, count_by-le-length (λ e. e.lane == lane_of es send) es);
       strictly = λ source. subst RisesStrictly (column_was c.self.inside.lanes.items sent.event.lane c.index-from.result.now c.index-from.result.now in_lanes c.index-from.ensures source) (k.columns sent.event.lane source).strictly;
-      row = row_at c.self.inside.lanes.items sent.event.lane c.index-from.result.now in_lanes c.index-from.ensures c.self.invariant.rows;
     }
-
-pub make_room-requires : goal.make_room-requires
-make_room-requires c =
-    let lt : c.args.lane < length c.self.inside.lanes.items = rw (← c.self.view_is) at c.requires.lane in
-    record { row = row_at c.self.inside.lanes.items c.args.lane c.index_mut-own.result.now lt c.index_mut-own.ensures.value c.self.invariant.rows }
 
 pub invariant_of-self-in_err-make_room : goal.invariant_of-self-in_err-make_room
 invariant_of-self-in_err-make_room c =
     let lt : c.args.lane < length c.self.inside.lanes.items = rw (← c.self.view_is) at c.requires.lane in
     record {
       keeps = rw c.reserve.ensures.items (keeps_unchanged (events_of c.self.inside) (places_of c.self.inside) c.self.inside.lanes.items c.args.lane c.index_mut-own.result.now c.make_room.new.self lt c.index_mut-own.ensures.value c.make_room.ensures.events c.make_room.ensures.same c.self.invariant.keeps);
-      rows = All-set KeepsRow c.self.inside.lanes.items c.args.lane c.make_room.new.self c.make_room.ensures.row c.self.invariant.rows;
       lanes = omega (arith, c.self.invariant.lanes, length-set c.self.inside.lanes.items c.args.lane c.make_room.new.self);
       opened = c.self.invariant.opened;
     }
@@ -102,18 +93,17 @@ invariant_of-self-2 c =
     (subst (λ (l : List ℕ). TellsAlike (get_or l source 0) (get_or counts source 0) (count_told (rises_in from) entry source)) row
     (c.in_ok-counts.ensures.each source (omega (arith, below, lengths, many, c.in_ok-counts.ensures.count)) other))) in
     let both = alike es (places_of c.self.inside) (lengths_in lanes) (columns_in lanes) k send own sent x.row.items counts (omega (arith, many, lengths)) c.in_ok-counts.ensures.own each in
-    let kept = row_at lanes own x lt c.index_mut-own.ensures.value c.self.invariant.rows in
+    let kept = x.kept in
     let events_are : c.raise.new.self.events ≡ c.index_mut-own.result.now.events = c.raise.ensures.events ∙ c.make_room.ensures.events in
     let appended : c.append.new.entries.items ≡ c.self.inside.entries.items ++ record { event = record { lane = c.args.lane; send = Some c.args.send_event }; place = c.index_mut-own.result.now.events } ∷ [] =
     c.append.ensures.appended ∙ (λ i. c.reserve.ensures.items i ++ record { event = record { lane = c.args.lane; send = Some c.args.send_event }; place = events_are i } ∷ []) in
     record {
       keeps = rw appended (keeps_more c.self.inside.entries.items c.self.inside.lanes.items k (record { lane = c.args.lane; send = Some c.args.send_event }) lt x z c.index_mut-own.ensures.value (λ s is. subst (λ (n : ℕ). n < length (events_of c.self.inside)) (same_some is) sent) room
           told (told_of-own es (columns_in lanes) send own) (told_of-other es (columns_in lanes) send own)
-          (ap (λ l. l.events) counted ∙ ap (λ n. n + 1) events_are)
-          (λ source. ap (λ l. column_in (rises_in l) source) counted ∙ c.raise.ensures.raised source
+          (counted ∙ ap (λ n. n + 1) events_are)
+          (λ source. ap (λ l. column_in l source) c.append.ensures.same ∙ c.raise.ensures.raised source
           ∙ (λ i. raised (c.make_room.ensures.same source i) (c.make_room.ensures.events i) (get_or (c.as_slice-2.ensures.value i) source 0))
           ∙ raised_alike (column_in (rises_in x) source) x.events (get_or x.row.items source 0) (get_or counts source 0) (told source) (kept.told source x.events kept.within) (both source)));
-      rows = All-set KeepsRow lanes own z (row_longer c.raise.new.self z counted c.raise.ensures.row) c.self.invariant.rows;
       lanes = omega (arith, c.self.invariant.lanes, length-set c.self.inside.lanes.items c.args.lane c.append.new.lane);
       opened = c.self.invariant.opened;
     }

@@ -1,9 +1,8 @@
-use Rattle.std.proofs.Common.{◌≡◌, ◌<◌, length, sym, ◌∙◌, ap, subst, arith}
+use Rattle.std.proofs.Common.{◌<◌, length, sym, ◌∙◌, subst}
 use Rattle.causal_clock.specs.Precedence.{FirstReach}
-use Rattle.causal_clock.specs.Rises.{AreRises, count_at}
-use Rattle.causal_clock.specs.Timeline.{place_of}
+use Rattle.causal_clock.specs.Rises.{AreRises}
 use Rattle.causal_clock.specs.Inside.Fields.{events_of, lengths_of, counts_in}
-use Rattle.causal_clock.proofs.Lanes.{as_many, column_was}
+use Rattle.causal_clock.proofs.Lanes.{column_was}
 use Rattle.causal_clock.proofs.Moves.{columns_in}
 use Rattle.causal_clock.proofs.Received.{rises_are}
 use Rattle.causal_clock.proofs.Rising.{counts_other}

@@ -1,6 +1,6 @@
 use Rattle.std.proofs.Common.{◌≡◌, ◌∙◌, ap, subst, Some, slice_get, slice_set, arith}
 use Rattle.causal_core.specs.Inside.Facts.{FitsAt}
-use Rattle.causal_core.specs.View.{memory_of, memories_in}
+use Rattle.causal_core.specs.Inside.Memories.{memory_of, memories_in}
 use Rattle.causal_core.proofs.Fitting.{all_fit_set}
 use Rattle.causal_core.proofs.Cells.{read_at, up_within, there, memory_there, room_there, memories_put, bodies_more}
 use Rattle.causal_core.proofs.commit.commit_at.Goals as goal

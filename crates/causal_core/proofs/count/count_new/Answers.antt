@@ -3,7 +3,7 @@ use Rattle.std.proofs.lemmas.List.{take_all}
 use Rattle.std.proofs.lemmas.List.Sums.{count_by_more_yes, count_by_more_no}
 use Rattle.causal_name.specs.declared.Det.{Det}
 use Rattle.causal_log.specs.Stores.{has}
-use Rattle.causal_core.specs.View.{memories_in}
+use Rattle.causal_core.specs.Inside.Memories.{memories_in}
 use Rattle.causal_core.specs.Inside.Gathers.{is_logged}
 use Rattle.causal_core.proofs.count.count_new.Goals as goal
 use Rattle.causal_core.proofs.count.count_new.Goals.{then-is_new, else-is_new}

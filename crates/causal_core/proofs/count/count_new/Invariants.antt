@@ -1,6 +1,6 @@
 use Rattle.std.proofs.Common.{◌≡◌, ◌≤◌, ◌||◌, not, take, count_by}
 use Rattle.causal_log.specs.Stores.{has}
-use Rattle.causal_core.specs.View.{memories_in}
+use Rattle.causal_core.specs.Inside.Memories.{memories_in}
 use Rattle.causal_core.specs.Inside.Gathers.{is_logged}
 use Rattle.causal_core.proofs.count.count_new.Given as goal
 

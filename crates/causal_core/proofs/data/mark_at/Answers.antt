@@ -1,7 +1,7 @@
 use Rattle.std.proofs.Common.{◌≡◌, ◌∙◌, ap, sym, Some, slice_get, slice_set, arith}
 use Rattle.std.specs.Option.{option_map}
 use Rattle.causal_core.specs.Inside.Stables.{with_stable}
-use Rattle.causal_core.specs.View.{memories_in}
+use Rattle.causal_core.specs.Inside.Memories.{memories_in}
 use Rattle.causal_core.proofs.Cells.{read_at, up_within, there, memories_put, bodies_kept}
 use Rattle.causal_core.proofs.data.mark_at.Goals as goal
 use Rattle.causal_core.proofs.data.mark_at.Goals.{In-Some}

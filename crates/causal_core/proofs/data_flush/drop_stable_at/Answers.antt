@@ -2,7 +2,7 @@ use Rattle.std.proofs.Common.{◌≡◌, ◌∙◌, ap, sym, Some, slice_get, sl
 use Rattle.std.specs.Option.{option_map}
 use Rattle.causal_log.specs.Logs.{unmarked}
 use Rattle.causal_protocol.specs.Memory.{with_log}
-use Rattle.causal_core.specs.View.{memories_in}
+use Rattle.causal_core.specs.Inside.Memories.{memories_in}
 use Rattle.causal_core.proofs.Cells.{read_at, up_within, there, memories_put, bodies_kept}
 use Rattle.causal_core.proofs.data_flush.drop_stable_at.Goals as goal
 use Rattle.causal_core.proofs.data_flush.drop_stable_at.Goals.{In-Some}

@@ -3,7 +3,7 @@ use Rattle.std.specs.FinMap as fin
 use Rattle.std.specs.Option.{option_map, option_map_or}
 use Rattle.std.proofs.lemmas.List.{map-append, replicate-append-replicate}
 use Rattle.causal_protocol.specs.Memory.{fresh}
-use Rattle.causal_core.specs.View.{memory_of, memories_in, bodies_of, bodies_in, kept_of}
+use Rattle.causal_core.specs.Inside.Memories.{memory_of, memories_in, bodies_of, bodies_in, kept_of}
 use Rattle.causal_core.proofs.data_start.fresh_cells.Goals as goal
 
 pub loop-i-init : goal.loop-i-init

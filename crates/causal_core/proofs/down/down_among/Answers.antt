@@ -2,7 +2,7 @@ use Rattle.std.proofs.Common.{◌+◌, ◌∙◌, sym, subst}
 use Rattle.std.specs.Prelude.{is_none}
 use Rattle.causal_holders.specs.Members.{HasMembers}
 use Rattle.causal_protocol.specs.Memory.{at}
-use Rattle.causal_core.specs.View.{memories_in}
+use Rattle.causal_core.specs.Inside.Memories.{memories_in}
 use Rattle.causal_core.proofs.DownSets.{none_in, one_in, one_out, none_told, down_there}
 use Rattle.causal_core.proofs.down.down_among.Goals as goal
 use Rattle.causal_core.proofs.down.down_among.Goals.{then-is_none, else-is_none}

@@ -3,8 +3,8 @@ use Rattle.std.specs.FinMap as fin
 use Rattle.std.specs.List.{list_all}
 use Rattle.causal_protocol.specs.Memory.{at}
 use Rattle.causal_protocol.specs.Run.{memories_of}
-use Rattle.causal_core.specs.View.{log_at}
-use Rattle.causal_core.specs.Flushes.{IsStored}
+use Rattle.causal_core.specs.Inside.Memories.{log_at}
+use Rattle.causal_core.specs.Inside.Stables.{IsStored}
 use Rattle.causal_core.specs.Inside.Stables.{flushed}
 use Rattle.causal_core.proofs.flush.write_all.Given as goal
 

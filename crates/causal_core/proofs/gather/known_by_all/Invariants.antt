@@ -1,6 +1,6 @@
 use Rattle.std.proofs.Common.{◌≡◌, drop}
 use Rattle.causal_protocol.specs.Gathering.{united_all, known_together}
-use Rattle.causal_core.specs.View.{memories_in}
+use Rattle.causal_core.specs.Inside.Memories.{memories_in}
 use Rattle.causal_core.proofs.gather.known_by_all.Given as goal
 
 abbrev pub invariant-loop-cell : goal.invariant-loop-cell

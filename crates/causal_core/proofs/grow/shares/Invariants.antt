@@ -1,6 +1,6 @@
 use Rattle.std.proofs.Common.{◌≡◌, ◌≤◌, ◌-◌, replicate, length}
 use Rattle.std.specs.Arc.{arc_value}
-use Rattle.causal_core.specs.View.{batches_of}
+use Rattle.causal_core.specs.Inside.Grown.{batches_of}
 use Rattle.causal_core.proofs.grow.shares.Given as goal
 
 abbrev pub invariant-loop-shares : goal.invariant-loop-shares

@@ -1,7 +1,7 @@
 use Rattle.std.proofs.Common.{◌≡◌, ◌++◌, drop}
 use Rattle.causal_log.specs.Logs.{dets_of}
 use Rattle.causal_protocol.specs.Naming.{with_own}
-use Rattle.causal_core.specs.View.{rest_of}
+use Rattle.causal_core.specs.Inside.Grown.{rest_of}
 use Rattle.causal_core.proofs.insertion.listed.Given as goal
 
 abbrev pub invariant-loop-item : goal.invariant-loop-item

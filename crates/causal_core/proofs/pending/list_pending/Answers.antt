@@ -2,7 +2,7 @@ use Rattle.std.proofs.Common.{◌∙◌, ◌++◌, ◌∷◌, [], cond, ap, sym,
 use Rattle.std.specs.List.{range_with_len}
 use Rattle.std.proofs.lemmas.List.FromFn.{filter_of_map_range_with_len_more}
 use Rattle.causal_protocol.specs.Naming.{name}
-use Rattle.causal_core.specs.View.{memories_in}
+use Rattle.causal_core.specs.Inside.Memories.{memories_in}
 use Rattle.causal_core.specs.Pendings.{is_pending}
 use Rattle.causal_core.proofs.pending.list_pending.Goals as goal
 

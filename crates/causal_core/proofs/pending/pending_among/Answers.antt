@@ -1,7 +1,7 @@
 use Rattle.std.proofs.Common.{◌∙◌, ◌++◌, ◌+◌, drop, ap, sym, filter, map, arith}
 use Rattle.std.specs.List.{range_with_len}
 use Rattle.causal_protocol.specs.Naming.{name}
-use Rattle.causal_core.specs.View.{memories_in}
+use Rattle.causal_core.specs.Inside.Memories.{memories_in}
 use Rattle.causal_core.specs.Pendings.{is_pending, names_from}
 use Rattle.causal_core.proofs.Waiting.{pending_more, pending_end, sent_there}
 use Rattle.causal_core.proofs.pending.pending_among.Goals as goal

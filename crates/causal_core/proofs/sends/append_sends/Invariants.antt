@@ -4,7 +4,9 @@ use Rattle.causal_trace.specs.Rows.{are_delivered, IsWellFormed}
 use Rattle.causal_protocol.specs.Memory.{Memory}
 use Rattle.causal_protocol.specs.Steps.{sends_of, pushed}
 use Rattle.causal_core.specs.Inside.Facts.{Fits, FitsAt}
-use Rattle.causal_core.specs.View.{memory_of, room_of, bodies_of, receivers, sent_bodies, first_batch, batches_of, keep_all}
+use Rattle.causal_core.specs.View.{receivers, sent_bodies}
+use Rattle.causal_core.specs.Inside.Grown.{first_batch, batches_of}
+use Rattle.causal_core.specs.Inside.Memories.{memory_of, room_of, bodies_of, keep_all}
 use Rattle.causal_core.proofs.sends.append_sends.Given as goal
 
 abbrev pub invariant-loop-outgoing : goal.invariant-loop-outgoing

@@ -1,5 +1,5 @@
 use Rattle.std.proofs.Common.{◌≡◌, subst, arith}
-use Rattle.causal_plain.specs.Plain.{AreGrown, AreWithAndWithout}
+use Rattle.causal_plain.specs.Inside.Plain.{AreGrown, AreWithAndWithout}
 use Rattle.causal_plain.proofs.Subsets.{grown_more, grown_crash_sets}
 use Rattle.causal_plain.proofs.crash_sets.crash_sets.Goals as goal
 

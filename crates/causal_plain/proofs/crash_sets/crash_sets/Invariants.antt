@@ -1,4 +1,4 @@
-use Rattle.causal_plain.specs.Plain.{AreGrown}
+use Rattle.causal_plain.specs.Inside.Plain.{AreGrown}
 use Rattle.causal_plain.proofs.crash_sets.crash_sets.Given as goal
 
 -- the sets of those who are down and of the numbers so far

@@ -1,6 +1,6 @@
 use Rattle.std.proofs.Common.{◌≡◌, ◌<◌, ◌≤◌, ◌∷◌, ◌++◌, [], sym, ap, ◌∙◌, subst, arith}
 use Rattle.std.specs.FinSet.{len}
-use Rattle.causal_plain.specs.Plain.{AreGrown}
+use Rattle.causal_plain.specs.Inside.Plain.{AreGrown}
 use Rattle.causal_plain.proofs.Subsets.{grown_first, grown_none}
 use Rattle.causal_plain.proofs.crash_sets.first_sets.Goals.{then-len-from+in_ok-push, else-len-from}
 use Rattle.causal_plain.proofs.crash_sets.first_sets.Goals as goal

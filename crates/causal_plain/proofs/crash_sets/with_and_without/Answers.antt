@@ -2,7 +2,7 @@ use Rattle.std.proofs.Common.{◌≡◌, ◌+◌, ◌∷◌, ◌++◌, [], take,
 use Rattle.std.specs.FinSet.{insert}
 use Rattle.std.proofs.lemmas.Bool.{both_ways}
 use Rattle.std.proofs.lemmas.List.{take_all}
-use Rattle.causal_plain.specs.Plain.{AreWithAndWithout}
+use Rattle.causal_plain.specs.Inside.Plain.{AreWithAndWithout}
 use Rattle.causal_plain.proofs.Listed.{both_none, both_alone, both_grown}
 use Rattle.causal_plain.proofs.crash_sets.with_and_without.Goals.{then-may_grow+in_ok-push-2, else-may_grow}
 use Rattle.causal_plain.proofs.crash_sets.with_and_without.Goals as goal

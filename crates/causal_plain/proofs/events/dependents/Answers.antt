@@ -4,7 +4,7 @@ use Rattle.causal_trace.specs.Past.{is_down, lane}
 use Rattle.std.proofs.lemmas.Bool.{both_ways}
 use Rattle.std.proofs.lemmas.List.{length-reverse}
 use Rattle.causal_trace.specs.Dependence.{Depends}
-use Rattle.causal_plain.specs.Plain.{HasJust, HasMarkedEvent}
+use Rattle.causal_plain.specs.Inside.Plain.{HasJust, HasMarkedEvent}
 use Rattle.causal_plain.proofs.Marks.{depends_marked}
 use Rattle.causal_plain.proofs.Members.{just_none, just_with, just_without}
 use Rattle.causal_plain.proofs.events.dependents.Goals.{then-depends, else-depends}

@@ -1,5 +1,5 @@
 use Rattle.std.proofs.Common.{reverse}
-use Rattle.causal_plain.specs.Plain.{AreDependentProcesses}
+use Rattle.causal_plain.specs.Inside.Plain.{AreDependentProcesses}
 use Rattle.causal_plain.proofs.events.dependents.Given as goal
 
 -- it has those so far

@@ -1,5 +1,5 @@
 use Rattle.std.proofs.Common.{◌≡◌, length, reverse}
-use Rattle.causal_plain.specs.Plain.{MarksReached}
+use Rattle.causal_plain.specs.Inside.Plain.{MarksReached}
 use Rattle.causal_plain.proofs.events.reached_from.Given as goal
 
 -- the positions so far are marked

@@ -8,7 +8,7 @@ use Rattle.causal_trace.specs.declared.entry.Entry.{Entry}
 use Rattle.causal_trace.specs.Past.{is_down}
 use Rattle.causal_trace.specs.Judgement.{HasOrphan, IsSafe}
 use Rattle.causal_audit.specs.declared.verdict.Verdict.{Verdict}
-use Rattle.causal_plain.specs.Plain.{IsFailure}
+use Rattle.causal_plain.specs.Inside.Plain.{IsFailure}
 use Rattle.causal_plain.proofs.judging.failure.Goals as goal
 
 pub returns-then-len-from : goal.returns-then-len-from

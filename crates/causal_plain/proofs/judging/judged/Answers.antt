@@ -2,7 +2,7 @@ use Rattle.std.proofs.Common.{◌≡◌, inl, inr, take, reverse, sym, subst, ar
 use Rattle.std.specs.Prelude.{MatchOption}
 use Rattle.std.proofs.lemmas.Bool.Decides.{eqb_tells}
 use Rattle.causal_trace.specs.Judgement.{IsSafe}
-use Rattle.causal_plain.specs.Plain.{IsFailure}
+use Rattle.causal_plain.specs.Inside.Plain.{IsFailure}
 use Rattle.causal_plain.proofs.Failing.{earlier_prefix, failed, safe_throughout}
 use Rattle.causal_plain.proofs.judging.judged.Goals as goal
 

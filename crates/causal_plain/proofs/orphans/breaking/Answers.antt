@@ -1,7 +1,7 @@
 use Rattle.std.proofs.Common.{◌+◌, [], reverse, take, sym, ap, ◌∙◌, subst, arith}
 use Rattle.std.proofs.lemmas.Bool.{both_ways}
 use Rattle.std.proofs.lemmas.List.{take_all}
-use Rattle.causal_plain.specs.Plain.{Breaks}
+use Rattle.causal_plain.specs.Inside.Plain.{Breaks}
 use Rattle.causal_plain.proofs.Listed.{Keeps, keeps_none, keeps_with, keeps_without}
 use Rattle.causal_plain.proofs.orphans.breaking.Goals.{then-breaks+in_ok-push, else-breaks}
 use Rattle.causal_plain.proofs.orphans.breaking.Goals as goal

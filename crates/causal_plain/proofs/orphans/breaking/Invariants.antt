@@ -1,5 +1,5 @@
 use Rattle.std.proofs.Common.{take, reverse}
-use Rattle.causal_plain.specs.Plain.{AreBreaking}
+use Rattle.causal_plain.specs.Inside.Plain.{AreBreaking}
 use Rattle.causal_plain.proofs.orphans.breaking.Given as goal
 
 -- those of the sets so far

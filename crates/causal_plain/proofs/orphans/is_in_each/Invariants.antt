@@ -1,5 +1,5 @@
 use Rattle.std.proofs.Common.{take}
-use Rattle.causal_plain.specs.Plain.{IsInEach}
+use Rattle.causal_plain.specs.Inside.Plain.{IsInEach}
 use Rattle.causal_plain.proofs.orphans.is_in_each.Given as goal
 
 -- it is in each of the sets so far

@@ -1,7 +1,7 @@
 use Rattle.std.proofs.Common.{◌≡◌, List, reverse, true, sym, subst}
 use Rattle.std.specs.Ordering.{nat_cmp}
 use Rattle.std.specs.FinSet.{FinSet, contains}
-use Rattle.causal_plain.specs.Plain.{AreBreaking, HasNoLeast, IsLeastSet}
+use Rattle.causal_plain.specs.Inside.Plain.{AreBreaking, HasNoLeast, IsLeastSet}
 use Rattle.causal_plain.proofs.LeastOrphan.{no_orphan, least_is, some_orphan}
 use Rattle.causal_plain.proofs.Members.{empty_without}
 use Rattle.causal_plain.proofs.orphans.least_orphan.Goals as goal

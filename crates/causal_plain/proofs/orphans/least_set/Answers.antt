@@ -3,7 +3,7 @@ use Rattle.std.specs.Prelude.{Contains}
 use Rattle.std.proofs.lemmas.Bool.{both_ways}
 use Rattle.std.proofs.lemmas.List.{take_all}
 use Rattle.std.proofs.lemmas.List.Elements.{Contains-push_cases}
-use Rattle.causal_plain.specs.Plain.{IsInEach}
+use Rattle.causal_plain.specs.Inside.Plain.{IsInEach}
 use Rattle.causal_plain.proofs.Listed.{front}
 use Rattle.causal_plain.proofs.orphans.least_set.Goals as goal
 

@@ -2,7 +2,7 @@ use Rattle.std.proofs.Common.{take}
 use Rattle.std.specs.Prelude.{Contains}
 use Rattle.std.specs.Ordering.{nat_cmp}
 use Rattle.std.specs.FinSet.{FinSet}
-use Rattle.causal_plain.specs.Plain.{IsInEach}
+use Rattle.causal_plain.specs.Inside.Plain.{IsInEach}
 use Rattle.causal_plain.proofs.orphans.least_set.Given as goal
 
 -- none of the sets so far is

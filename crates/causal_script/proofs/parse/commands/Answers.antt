@@ -1,7 +1,7 @@
 use Rattle.std.proofs.Common.{List, refl, sym, ◌∙◌, subst}
 use Rattle.std.proofs.lemmas.Result.{err_from_is_err_and}
 use Rattle.causal_script.specs.declared.script.Command.{Command}
-use Rattle.causal_script.specs.Inside.Place.{AreCommands, Reaches}
+use Rattle.causal_script.specs.Inside.Place.{AreCommands, AreOnLines}
 use Rattle.causal_script.proofs.CommandLines.{says_request, commanded, not_commanded}
 use Rattle.causal_script.proofs.Texts.{judged_ok, judged_line, commands_more, reaches_more, command_fault, read_up_to, pushed, next_line}
 use Rattle.causal_script.proofs.parse.commands.Goals as goal
@@ -23,7 +23,7 @@ loop-text-preserved c =
       λ text a bigs.
           let r = i.1 text a bigs in
           let next = next_line text c.loop-text.left.now c.loop-text.line line r.after c.saturating_add-line.ensures in
-          subst (λ (cs : List Command). Reaches text cs line c.in-Some.after.now) (sym more)
+          subst (λ (cs : List Command). AreOnLines text cs line c.in-Some.after.now) (sym more)
           (reaches_more text c.loop-text.left.now l c.in-Some.after.now c.loop-text.commands.items c.loop-text.line line c.args.big c.request.result request command next refl r split bigs e
           (λ same. commanded l request (sym c.request.ensures ∙ same))),
     )

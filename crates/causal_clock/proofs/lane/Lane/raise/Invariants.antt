@@ -1,12 +1,11 @@
 use Rattle.std.proofs.Common.{◌≡◌, ℕ, ◌<◌, ◌≤◌, get_or, length}
 use Rattle.causal_clock.specs.Inside.Columns.{column_in, raised}
-use Rattle.causal_clock.specs.Inside.Lanes.{rises_in, spares_in, KeepsRow}
+use Rattle.causal_clock.specs.Inside.Lanes.{rises_in, spares_in}
 use Rattle.causal_clock.proofs.lane.Lane.raise.Given as goal
 
 abbrev pub invariant-loop-source : goal.invariant-loop-source
 invariant-loop-source l = record {
   events : l.self.events ≡ l.initial.self.events;
-  row : KeepsRow l.self;
   long : length (rises_in l.self) ≡ length (rises_in l.initial.self);
   counted : length l.self.row.items ≡ length l.initial.self.row.items;
   done : (k : ℕ) → k < l.source → column_in (rises_in l.self) k ≡ raised (column_in (rises_in l.initial.self) k) l.self.events (get_or l.counts k 0);

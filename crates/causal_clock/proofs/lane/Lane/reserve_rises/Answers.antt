@@ -1,4 +1,4 @@
-use Rattle.std.proofs.Common.{◌≡◌, ℕ, [], map, ◌<◌, ◌-◌, length, get_or, vec_len, vec_capacity, inl, inr, sym, ap, ◌∙◌, subst, arith}
+use Rattle.std.proofs.Common.{◌≡◌, ℕ, map, ◌<◌, ◌-◌, length, get_or, vec_len, vec_capacity, inl, inr, refl, sym, ap, ◌∙◌, subst, arith}
 use Rattle.std.proofs.lemmas.Bool.Decides.{eqb_tells}
 use Rattle.std.proofs.Math.ListN.{set}
 use Rattle.causal_clock.specs.Inside.Columns.{column_in}
@@ -13,14 +13,6 @@ returns-in_err-reserve_rise-clause-same c =
     let same : rises_in c.loop-source.self ≡ rises_in c.args.self.now = c.loop-source.invariant.same in
     let inside : c.loop-source.source < length c.loop-source.self.columns.items = omega (arith, c.loop-source-test.true, c.requires.wide, ap length same, as_many (λ v. v.items) c.loop-source.self.columns.items) in
     told_same (λ v. v.items) xs c.loop-source.source c.index_mut.result.now c.reserve_rise.new.column inside c.index_mut.ensures.value c.reserve_rise.ensures.items ∙ same
-
-pub returns-in_err-reserve_rise-clause-row : goal.returns-in_err-reserve_rise-clause-row
-returns-in_err-reserve_rise-clause-row c =
-    let xs = c.loop-source.self.columns.items in
-    let was : rises_in c.loop-source.self ≡ rises_in c.args.self.now = c.loop-source.invariant.same in
-    let inside : c.loop-source.source < length c.loop-source.self.columns.items = omega (arith, c.loop-source-test.true, c.requires.wide, ap length was, as_many (λ v. v.items) c.loop-source.self.columns.items) in
-    let same = told_same (λ v. v.items) xs c.loop-source.source c.index_mut.result.now c.reserve_rise.new.column inside c.index_mut.ensures.value c.reserve_rise.ensures.items ∙ was in
-    row_same c.args.self.now _ c.loop-source.invariant.events c.loop-source.invariant.last (λ source. ap (λ l. column_in l source) same) (λ k. ap (λ r. get_or r.items k 0) c.loop-source.invariant.row) c.requires.row
 
 pub loop-source-preserved : goal.loop-source-preserved
 loop-source-preserved c =
@@ -48,3 +40,11 @@ loop-source-preserved c =
             subst (λ (n : ℕ). 0 < n) (sym (told_elsewhere (λ v. vec_capacity v - vec_len v) xs source x y 0 k other.1)) (c.loop-source.invariant.spare k (omega (arith, lt, other.1)) more)
       ];
     }
+
+pub invariant_of-self : goal.invariant_of-self
+invariant_of-self c =
+    let xs = c.loop-source.self.columns.items in
+    let was : rises_in c.loop-source.self ≡ rises_in c.args.self.now = c.loop-source.invariant.same in
+    let inside : c.loop-source.source < length c.loop-source.self.columns.items = omega (arith, c.loop-source-test.true, c.requires.wide, ap length was, as_many (λ v. v.items) c.loop-source.self.columns.items) in
+    let same = told_same (λ v. v.items) xs c.loop-source.source c.index_mut.result.now c.reserve_rise.new.column inside c.index_mut.ensures.value c.reserve_rise.ensures.items in
+    record { kept = row_same c.loop-source.self.events c.loop-source.self.last (rises_in c.loop-source.self) _ c.loop-source.self.row.items c.loop-source.self.row.items (λ source. ap (λ l. column_in l source) same) (λ k. refl) c.loop-source.self.kept }

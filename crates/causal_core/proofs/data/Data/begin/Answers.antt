@@ -12,7 +12,9 @@ use Rattle.causal_protocol.specs.Steps.{pushed, sends_of}
 use Rattle.causal_core.specs.Inside.Facts.{AllFit}
 use Rattle.causal_core.specs.Inside.Begins.{MayBegin, begun_by}
 use Rattle.causal_core.specs.Inside.Gathers.{IsGathered}
-use Rattle.causal_core.specs.View.{run_from, memory_of, memories_in, bodies_in, sent_bodies, receivers, first_batch, keep_all}
+use Rattle.causal_core.specs.View.{run_from, sent_bodies, receivers}
+use Rattle.causal_core.specs.Inside.Grown.{first_batch}
+use Rattle.causal_core.specs.Inside.Memories.{memory_of, memories_in, bodies_in, keep_all}
 use Rattle.causal_core.proofs.Fitting.{all_fit_set, at-set_other}
 use Rattle.causal_core.proofs.Receiving.{chosen_all}
 use Rattle.causal_core.proofs.Beginning.{none_pass, begun_memories}

@@ -8,7 +8,8 @@ use Rattle.causal_protocol.specs.declared.request.Reply.TheVariants as Told
 use Rattle.causal_protocol.specs.Run.{Run}
 use Rattle.causal_protocol.specs.Refusals.{first_fault}
 use Rattle.causal_protocol.specs.Steps.{Steps, LegalStep, extended}
-use Rattle.causal_core.specs.View.{run_from, memories_in}
+use Rattle.causal_core.specs.View.{run_from}
+use Rattle.causal_core.specs.Inside.Memories.{memories_in}
 use Rattle.causal_core.proofs.Cells.{memories_length}
 use Rattle.causal_core.proofs.Legal.{tells_reason, held_fit, crash_legal, crash_held}
 use Rattle.causal_core.proofs.RefusedRequests.{refused_crash}

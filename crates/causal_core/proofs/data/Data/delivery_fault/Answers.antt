@@ -16,7 +16,8 @@ use Rattle.causal_log.specs.Logs.{dets_of}
 use Rattle.causal_protocol.specs.Naming.{with_own, name, lesser, next_det, kept_for, listed_for}
 use Rattle.causal_protocol.specs.Refusals.{first_fault, unless, is_full}
 use Rattle.causal_core.specs.Inside.Facts.{Fits, FitsAt}
-use Rattle.causal_core.specs.View.{run_from, memories_in, memory_of, kept_of, stored_for}
+use Rattle.causal_core.specs.View.{run_from}
+use Rattle.causal_core.specs.Inside.Memories.{memories_in, memory_of, kept_of, stored_for}
 use Rattle.causal_core.proofs.Telling.{tell_process, tell_down, tell_other, tell_absent, tell_again, tell_full, received_few, stored_here, listed_is}
 use Rattle.causal_core.proofs.data.Data.delivery_fault.Goals as goal
 use Rattle.causal_core.proofs.data.Data.delivery_fault.Goals.{After-are_processes, In-Some, After-cell_at, After-other_named, In-Some-message, After-is_full}

@@ -18,7 +18,9 @@ use Rattle.causal_protocol.specs.Refusals.{first_fault, gathered}
 use Rattle.causal_protocol.specs.Steps.{LegalStep, Steps, pushed, sends_of}
 use Rattle.causal_core.specs.Inside.Facts.{Fits, FitsAt, AllFit}
 use Rattle.causal_core.specs.Inside.Gathers.{IsGathered}
-use Rattle.causal_core.specs.View.{DataState, run_from, memory_of, memories_in, bodies_in, rooms_in, receivers, first_batch, keep_all}
+use Rattle.causal_core.specs.View.{DataState, run_from, receivers}
+use Rattle.causal_core.specs.Inside.Grown.{first_batch}
+use Rattle.causal_core.specs.Inside.Memories.{memory_of, memories_in, bodies_in, rooms_in, keep_all}
 use Rattle.causal_core.proofs.Fitting.{fits_other, all_fit_set, delivered_more}
 use Rattle.causal_core.proofs.Sending.{are_sends, receivers_below, receivers_long, addressed_few}
 use Rattle.causal_core.proofs.Receiving.{chosen_all}

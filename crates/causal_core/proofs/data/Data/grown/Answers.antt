@@ -10,7 +10,9 @@ use Rattle.causal_protocol.specs.declared.request.Request.TheVariants as Ask
 use Rattle.causal_protocol.specs.Memory.{at}
 use Rattle.causal_protocol.specs.Naming.{name, kept_for}
 use Rattle.causal_protocol.specs.Refusals.{first_fault}
-use Rattle.causal_core.specs.View.{DataState, IsGrown, run_from, memories_in, bodies_in, rooms_in, memory_of, kept_of}
+use Rattle.causal_core.specs.View.{DataState, run_from}
+use Rattle.causal_core.specs.Inside.Grown.{IsGrown}
+use Rattle.causal_core.specs.Inside.Memories.{memories_in, bodies_in, rooms_in, memory_of, kept_of}
 use Rattle.causal_core.proofs.Telling.{received_few}
 use Rattle.causal_core.proofs.Delivering.{receiver_up, receiver_below, message_there, made_grown}
 use Rattle.causal_core.proofs.data.Data.grown.Goals as goal

@@ -2,7 +2,8 @@ use Rattle.std.proofs.Common.{◌≡◌, ◌∙◌, ap, sym, arith, None}
 use Rattle.std.proofs.lemmas.Grind.{common_steps}
 use Rattle.causal_protocol.specs.declared.request.Request.TheVariants as Ask
 use Rattle.causal_protocol.specs.Refusals.{first_fault, forgettable}
-use Rattle.causal_core.specs.View.{run_from, memories_in}
+use Rattle.causal_core.specs.View.{run_from}
+use Rattle.causal_core.specs.Inside.Memories.{memories_in}
 use Rattle.causal_core.proofs.Legal.{held_fit}
 use Rattle.causal_core.proofs.Forgotten.{forgotten_held, forget_legal, forget_few}
 use Rattle.causal_core.proofs.data.Data.note_forgotten.Goals as goal

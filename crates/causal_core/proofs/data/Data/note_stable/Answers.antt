@@ -3,7 +3,8 @@ use Rattle.std.specs.FinMap as fin
 use Rattle.std.proofs.lemmas.List.{reverse-append}
 use Rattle.causal_protocol.specs.Memory.{at}
 use Rattle.causal_protocol.specs.Run.{memories_of}
-use Rattle.causal_core.specs.View.{run_from, memories_in, log_at}
+use Rattle.causal_core.specs.View.{run_from}
+use Rattle.causal_core.specs.Inside.Memories.{memories_in, log_at}
 use Rattle.causal_core.proofs.Legal.{held_fit}
 use Rattle.causal_core.proofs.Writing.{stable_may, stable_held}
 use Rattle.causal_core.proofs.data.Data.note_stable.Goals as goal

@@ -4,7 +4,7 @@ use Rattle.std.proofs.lemmas.Bool.Decides.{nat_tests}
 use Rattle.std.specs.Option.{option_map_or}
 use Rattle.causal_trace.proofs.Lemmas.Formed.{formed_short}
 use Rattle.causal_protocol.specs.Memory.{at}
-use Rattle.causal_core.specs.View.{memories_in}
+use Rattle.causal_core.specs.Inside.Memories.{memories_in}
 use Rattle.causal_core.specs.Inside.Facts.{SameReceived}
 use Rattle.causal_core.proofs.Waiting.{sent_few, received_same, some_read}
 use Rattle.causal_core.proofs.data.Data.pending.Goals as goal

@@ -8,7 +8,7 @@ use Rattle.causal_protocol.specs.declared.request.CoreFault.TheVariants as Why
 use Rattle.causal_protocol.specs.Gathering.{gathered_log}
 use Rattle.causal_protocol.specs.Run.{memories_of}
 use Rattle.causal_protocol.specs.Refusals.{is_full, gathered, when}
-use Rattle.causal_core.specs.View.{memories_in}
+use Rattle.causal_core.specs.Inside.Memories.{memories_in}
 use Rattle.causal_core.proofs.Stored.{store_is}
 use Rattle.causal_core.proofs.Restarting.{few_stable, restart_full}
 use Rattle.causal_core.proofs.data.Data.restart_fault.Goals as goal

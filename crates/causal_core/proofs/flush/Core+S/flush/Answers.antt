@@ -6,7 +6,7 @@ use Rattle.causal_protocol.specs.Memory.{at}
 use Rattle.causal_protocol.specs.Run.{memories_of}
 use Rattle.causal_protocol.specs.Steps.{told_flush}
 use Rattle.causal_protocol.proofs.Lemmas.Carried.{step_carried}
-use Rattle.causal_core.specs.View.{log_at}
+use Rattle.causal_core.specs.Inside.Memories.{log_at}
 use Rattle.causal_core.proofs.Flushing.{flush_up, flush_below, flush_short, flush_steps, flush_refused, flush_reason, refusal_stores, unwritten_logged}
 use Rattle.causal_core.proofs.flush.Core+S.flush.Goals as goal
 

@@ -10,7 +10,8 @@ use Rattle.causal_protocol.proofs.Lemmas.Carried.{step_carried}
 use Rattle.causal_protocol.specs.Naming.{name, next_ssn, own_det}
 use Rattle.causal_protocol.specs.declared.request.Request.TheVariants as Ask
 use Rattle.causal_protocol.specs.Steps.{extended, delivery_of, sends_of}
-use Rattle.causal_core.specs.View.{DataState, receivers, with_bodies, sent_bodies}
+use Rattle.causal_core.specs.View.{DataState, receivers, sent_bodies}
+use Rattle.causal_core.specs.View.{with_bodies}
 use Rattle.causal_core.proofs.Stored.{store_is}
 use Rattle.causal_core.proofs.Filled.{box_there}
 use Rattle.causal_core.proofs.RefusedRequests.{refused_delivery}

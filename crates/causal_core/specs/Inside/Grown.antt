@@ -1,0 +1,54 @@
+-- What a delivery puts in place.
+use Rattle.std.specs.Prelude.{◌≡◌, ℕ, Bool, true, false, List, [], ◌∷◌, map, replicate}
+use Rattle.std.specs.Arc.{arc_value}
+use Rattle.std.specs.declared.sync.Arc.{Arc}
+use Rattle.std.proofs.Common.{Global}
+use Rattle.causal_name.specs.declared.Pid.{Pid}
+use Rattle.causal_name.specs.declared.MsgName.{MsgName}
+use Rattle.causal_log.specs.declared.batch.Item.{Item}
+use Rattle.causal_log.specs.Logs.{LogMap, chosen, dets_of}
+use Rattle.causal_core.specs.declared.cell.Message.{Message}
+use Rattle.causal_core.specs.declared.grown.Grown.{Grown}
+use Rattle.causal_protocol.specs.Memory.{Memory, gained, batch_of}
+use Rattle.causal_protocol.specs.Run.{memories_of}
+use Rattle.causal_protocol.specs.Naming.{own_det, send_of, with_own, listed_for}
+use Rattle.causal_name.specs.declared.Det.{Det}
+use Rattle.causal_core.specs.View.{DataState}
+use Rattle.causal_core.specs.Inside.Memories.{log_at}
+
+-- what is still to be listed: the rest, with the determinant in its place where it has not been placed
+abbrev pub rest_of : Bool → Det → List Det → List Det
+rest_of true own ds = ds
+rest_of false own ds = with_own own ds
+
+-- the batches that are shared, and the first of these
+abbrev pub batches_of : List (Arc (List Item) Global) → List (List Item)
+batches_of shares = map arc_value shares
+
+abbrev pub first_batch : List (List Item) → List Item
+first_batch [] = []
+first_batch (b ∷ bs) = b
+
+-- what the delivered message carries
+abbrev pub carried_by : Grown → List Item
+carried_by g = arc_value g.carried
+
+-- a log after the delivery
+abbrev pub grown_log : Grown → LogMap → LogMap
+grown_log g log = gained (carried_by g) g.own log
+
+-- what a delivery to q of the message of that name puts in place
+pub record IsGrown (d : DataState) (q : Pid) (name : MsgName) (g : Grown) : Type 0 where
+  pub own : g.own ≡ own_det (memories_of d.run) q name
+  pub send : g.send ≡ send_of (memories_of d.run) name
+  pub listed : g.listed.items ≡ listed_for (memories_of d.run) q name
+  pub carried : carried_by g ≡ batch_of (memories_of d.run) name
+  pub shares : batches_of g.shares.items ≡ replicate 8 (chosen d.run.faults (grown_log g (log_at (memories_of d.run) q.0)))
+
+-- what the delivery of a kept message as this determinant puts in place, by the receiver's memory
+pub record IsMade (f : ℕ) (own : Det) (m : Memory) (message : Message) (g : Grown) : Type 0 where
+  pub own_is : g.own ≡ own
+  pub send : g.send ≡ message.send
+  pub listed : g.listed.items ≡ with_own own (dets_of (arc_value message.batch))
+  pub carried : carried_by g ≡ arc_value message.batch
+  pub shares : batches_of g.shares.items ≡ replicate 8 (chosen f (gained (arc_value message.batch) own m.log))

@@ -1,0 +1,2 @@
+-- What models and private functions keep; no public clause cites it.
+pub mod Plain
