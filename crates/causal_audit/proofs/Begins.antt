@@ -24,7 +24,7 @@ replicate_count zero x = refl
 replicate_count (suc n) x = ap suc (replicate_count n x)
 
 -- what is read where all are the same
-read_same : {A : Type 0} → (xs : List A) (n m : ℕ) (x : A) → xs ≡ replicate n x → get_or xs m x ≡ x
+pub read_same : {A : Type 0} → (xs : List A) (n m : ℕ) (x : A) → xs ≡ replicate n x → get_or xs m x ≡ x
 read_same xs n m x is = ap (λ ys. get_or ys m x) is ∙ replicated n m x
 
 pub room_begins : (r : Recording) (room : Room) → IsUnused r room → (effects : Effects) → HasEffects r.past effects → IsRoom r effects.first.items 0 empty room

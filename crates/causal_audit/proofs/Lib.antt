@@ -27,6 +27,8 @@ mod Numbered
 mod Orphaned
 mod Outward
 mod Prepared
+mod ReachedFirst
+mod Reaching
 mod Risen
 mod Rooms
 mod Scanned

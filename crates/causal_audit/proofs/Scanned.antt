@@ -1,6 +1,6 @@
 -- Which entries a delivery reaches, as its messages are followed.
 use Rattle.std.proofs.Common.{ℕ, ◌≡◌, ◌+◌, ◌<◌, ◌≤◌, inl, inr, Bool, true, false, List, ◌∷◌, length, get_or, Some, refl, sym, ap, subst, ◌∙◌, arith}
-use Rattle.std.specs.Prelude.{◌⊎◌, ◌||◌, ◌&&◌, ◌==◌, nat_le}
+use Rattle.std.specs.Prelude.{◌↔◌, ◌⊎◌, ◌||◌, ◌&&◌, ◌==◌, nat_le}
 use Rattle.std.proofs.Math.ListN.{set}
 use Rattle.std.specs.Ordering.{nat_cmp}
 use Rattle.std.specs.FinSet.{FinSet, contains}
@@ -13,7 +13,7 @@ use Rattle.causal_trace.specs.declared.entry.Entry.{Entry}
 use Rattle.causal_trace.specs.declared.entry.Entry.TheVariants.{Send, Deliver}
 use Rattle.causal_trace.specs.Past.{instant, entry_at, det_at, lane}
 use Rattle.causal_trace.specs.Rows.{Recording, IsWellFormed, AreAccepted}
-use Rattle.causal_trace.specs.Dependence.{actor, is_delivery_of, IsEventOf, in_order, by_message, Reaches, itself, onward, Depends, AreForward, DirectlyPrecedes}
+use Rattle.causal_trace.specs.Dependence.{actor, is_delivery_of, in_order, by_message, Reaches, itself, onward, Depends, AreForward, DirectlyPrecedes}
 use Rattle.causal_trace.proofs.Lemmas.Accepted.{accepted_forward, delivers_sent}
 use Rattle.causal_trace.proofs.Lemmas.Reached.{event_below, reaches_old, reaches_newest, ReachesNewest, is_newest, in_lane, through_message}
 use Rattle.causal_trace.proofs.Lemmas.AtInstants.{det_then, instant_length}
@@ -34,7 +34,7 @@ use Rattle.causal_audit.proofs.Swept.{sent_before}
 -- ---- what reaches the newest entry
 
 -- an event of a process that depends on k is reached
-reached_after : (e : Entry) (past : List Entry) (k p : ℕ) → actor e ≡ Some p → Depends past k p → Reaches (e ∷ past) k (length past)
+pub reached_after : (e : Entry) (past : List Entry) (k p : ℕ) → actor e ≡ Some p → Depends past k p → Reaches (e ∷ past) k (length past)
 reached_after e past k p of d =
     onward (reaches_more e past k d.event d.reached)
     (in_order p (lane past p) (event_below past d.event p (lane past p) d.present) (inl d.present) (inr (refl, of, refl)))
@@ -45,93 +45,82 @@ precedes_up past i j forward (in_order p l less a b) = less
 precedes_up past i j forward (by_message d) = forward j i d
 
 -- an event reaches none before itself
-reaches_up : (past : List Entry) (i j : ℕ) → AreForward past → Reaches past i j → i ≤ j
+pub reaches_up : (past : List Entry) (i j : ℕ) → AreForward past → Reaches past i j → i ≤ j
 reaches_up past i j forward (itself p l at) = omega arith
 reaches_up past i k forward (onward {j} r d) = omega (arith, reaches_up past i j forward r, precedes_up past j k forward d)
 
-module _ (n : ℕ) (past : List Entry) (k : ℕ) (dependents : FinSet nat_cmp) (are : AreDependents past k dependents) where
+module _ (n : ℕ) (past : List Entry) (k : ℕ) (depends : ℕ → Bool) (are : (p : ℕ) → (depends p ≡ true) ↔ Depends past k p) where
   -- a send is reached where its process depends on k
   pub send_tells : (d : Det) (from to : Pid) (ssn : ℕ) → AreAccepted n (Send from to ssn ∷ past) → (k ≡ length past → det_at (Send from to ssn ∷ past) k ≡ Some d)
-      → TellsNextReach past (Send from to ssn) k (contains dependents from.0)
+      → TellsNextReach past (Send from to ssn) k (depends from.0)
   send_tells d from to ssn formed at p of =
       let e = Send from to ssn in
       let same : from.0 ≡ p = let x : Some from.0 ≡ Some p = of in cc in (
-        λ h. reached_after e past k p of ((are p).0 (ap (contains dependents) (sym same) ∙ h)),
-        λ reach. ap (contains dependents) same ∙ (are p).1 (sent_before n past k d from to ssn p formed at of (reaches_newest e past k p (length past) (accepted_forward n (e ∷ past) formed) refl of reach)),
+        λ h. reached_after e past k p of ((are p).0 (ap depends (sym same) ∙ h)),
+        λ reach. ap depends same ∙ (are p).1 (sent_before n past k d from to ssn p formed at of (reaches_newest e past k p (length past) (accepted_forward n (e ∷ past) formed) refl of reach)),
       )
 
-  module _ (flags : List Bool) (told : AreReached past k (length past) flags) where
-    -- a delivery is reached where it is k, where its process depends on k, or where its message's send is reached
-    pub delivery_tells : (to : Pid) (send rsn : ℕ) (listed : List Det) → AreAccepted n (Deliver to send rsn listed ∷ past)
-        → TellsNextReach past (Deliver to send rsn listed) k (length past == k || (contains dependents to.0 || (nat_le k send && get_or flags send false)))
-    delivery_tells to send rsn listed formed p of = (forth, back)
-      where
-        e : Entry
-        e = Deliver to send rsn listed
+  -- a delivery is reached where it is k, where its process depends on k, or where its message's send is reached
+  pub delivery_tells : (own brings : Bool) → ((own ≡ true) ↔ (length past ≡ k)) → (to : Pid) (send rsn : ℕ) (listed : List Det) → ((brings ≡ true) ↔ Reaches past k send)
+      → AreAccepted n (Deliver to send rsn listed ∷ past) → TellsNextReach past (Deliver to send rsn listed) k (own || (depends to.0 || brings))
+  delivery_tells own brings is_own to send rsn listed is_brought formed p of = (forth, λ reach. how (reaches_newest e past k p (length past) (accepted_forward n (e ∷ past) formed) refl of reach))
+    where
+      e : Entry
+      e = Deliver to send rsn listed
 
-        same : to.0 ≡ p
-        same = let x : Some to.0 ≡ Some p = of in cc
+      same : to.0 ≡ p
+      same = let x : Some to.0 ≡ Some p = of in cc
 
-        forward : AreForward (e ∷ past)
-        forward = accepted_forward n (e ∷ past) formed
-
-        -- the send is an event before it
-        at_send : (q : ℕ) × (l : ℕ) × IsEventOf past send q l
-        at_send = sent_event past send to.0 (delivers_sent n past to send rsn listed formed.1)
-
-        low : send < length past
-        low = event_below past send at_send.0 at_send.1 at_send.2
-
-        forth : (length past == k || (contains dependents to.0 || (nat_le k send && get_or flags send false))) ≡ true → Reaches (e ∷ past) k (length past)
-        forth h = elim (or_cases (length past == k) _ h) [
-          | inl own ↦
-              let is : length past ≡ k = eqb-true (length past) k own in
-              subst (λ x. Reaches (e ∷ past) x (length past)) is (itself p (lane past p) (inr (refl, of, refl)))
-          | inr more ↦ elim (or_cases (contains dependents to.0) _ more) [
-            | inl known ↦ reached_after e past k p of ((are p).0 (ap (contains dependents) (sym same) ∙ known))
-            | inr message ↦
-                let parts = and_parts (nat_le k send) (get_or flags send false) message in
-                onward (reaches_more e past k send ((told send at_send.0 at_send.1 (leb-true k send parts.0) low at_send.2).0 parts.1)) (by_message (inr (refl, eq-eqb send send refl)))
-          ]
+      forth : (own || (depends to.0 || brings)) ≡ true → Reaches (e ∷ past) k (length past)
+      forth h = elim (or_cases own (depends to.0 || brings) h) [
+        | inl here ↦ subst (λ x. Reaches (e ∷ past) x (length past)) (is_own.0 here) (itself p (lane past p) (inr (refl, of, refl)))
+        | inr more ↦ elim (or_cases (depends to.0) brings more) [
+          | inl known ↦ reached_after e past k p of ((are p).0 (ap depends (sym same) ∙ known))
+          | inr message ↦ onward (reaches_more e past k send (is_brought.0 message)) (by_message (inr (refl, eq-eqb send send refl)))
         ]
+      ]
 
-        one_of : (a b c : Bool) → (a ≡ true) ⊎ ((b ≡ true) ⊎ (c ≡ true)) → (a || (b || c)) ≡ true
-        one_of true b c h = refl
-        one_of false true c h = refl
-        one_of false false c (inl h) = absurd (false≢true h)
-        one_of false false c (inr (inl h)) = absurd (false≢true h)
-        one_of false false c (inr (inr h)) = h
+      one_of : (a b c : Bool) → (a ≡ true) ⊎ ((b ≡ true) ⊎ (c ≡ true)) → (a || (b || c)) ≡ true
+      one_of true b c h = refl
+      one_of false true c h = refl
+      one_of false false c (inl h) = absurd (false≢true h)
+      one_of false false c (inr (inl h)) = absurd (false≢true h)
+      one_of false false c (inr (inr h)) = h
 
-        how : ReachesNewest e past k p → (length past == k || (contains dependents to.0 || (nat_le k send && get_or flags send false))) ≡ true
-        how (is_newest is) = one_of (length past == k) (contains dependents to.0) _ (inl (eq-eqb (length past) k (sym is)))
-        how (in_lane j event reach) =
-            one_of (length past == k) (contains dependents to.0) _
-            (inr (inl (ap (contains dependents) same ∙ (are p).1 (known_already n past e k j p formed.1 of event reach))))
-        how (through_message j is reach) =
-            let named : j ≡ send = sym (eqb-true send j is) in
-            let there : Reaches past k send = subst (Reaches past k) named reach in
-            let above : k ≤ send = reaches_up past k send (accepted_forward n past formed.0) there in
-            let tested : nat_le k send ≡ true = grind (arith, nat_tests) in
-            one_of (length past == k) (contains dependents to.0) _ (inr (inr (and_from (nat_le k send) (get_or flags send false) tested ((told send at_send.0 at_send.1 above low at_send.2).1 there))))
+      how : ReachesNewest e past k p → (own || (depends to.0 || brings)) ≡ true
+      how (is_newest is) = one_of own (depends to.0) brings (inl (is_own.1 (sym is)))
+      how (in_lane j event reach) = one_of own (depends to.0) brings (inr (inl (ap depends same ∙ (are p).1 (known_already n past e k j p formed.1 of event reach))))
+      how (through_message j is reach) = one_of own (depends to.0) brings (inr (inr (is_brought.1 (subst (Reaches past k) (sym (eqb-true send j is)) reach))))
 
-        back : Reaches (e ∷ past) k (length past) → (length past == k || (contains dependents to.0 || (nat_le k send && get_or flags send false))) ≡ true
-        back reach = how (reaches_newest e past k p (length past) forward refl of reach)
+-- the flag of a send tells whether it is reached
+brought : (n : ℕ) (past : List Entry) (to : Pid) (send rsn : ℕ) (listed : List Det) → AreAccepted n (Deliver to send rsn listed ∷ past) → (k : ℕ) (flags : List Bool) → AreReached past k (length past) flags
+    → ((nat_le k send && get_or flags send false) ≡ true) ↔ Reaches past k send
+brought n past to send rsn listed formed k flags told =
+    let at_send = sent_event past send to.0 (delivers_sent n past to send rsn listed formed.1) in
+    let low = event_below past send at_send.0 at_send.1 at_send.2 in (
+      λ h. let parts = and_parts (nat_le k send) (get_or flags send false) h in (told send at_send.0 at_send.1 (leb-true k send parts.0) low at_send.2).0 parts.1,
+      λ reach.
+          let above : k ≤ send = reaches_up past k send (accepted_forward n past formed.0) reach in
+          let tested : nat_le k send ≡ true = grind (arith, nat_tests) in
+          and_from (nat_le k send) (get_or flags send false) tested ((told send at_send.0 at_send.1 above low at_send.2).1 reach),
+    )
 
 -- the same, at an entry that is known by an equation
 
 pub send_reach : (x : Entry) (k i : ℕ) (dependents : FinSet nat_cmp) (flags : List Bool) (hit : Bool) (from to : Pid) (ssn : ℕ) → x ≡ Send from to ssn → hit ≡ contains dependents from.0 → TellsReach x k i dependents flags hit
 send_reach x k i dependents flags hit from to ssn is same n past d formed long at are told =
     subst (λ y. AreAccepted n (y ∷ past) → (k ≡ i → det_at (y ∷ past) k ≡ Some d) → TellsNextReach past y k hit) (sym is)
-    (λ legal made. subst (TellsNextReach past (Send from to ssn) k) (sym same) (send_tells n past k dependents are d from to ssn legal (λ here. made (here ∙ long))))
+    (λ legal made. subst (TellsNextReach past (Send from to ssn) k) (sym same) (send_tells n past k (contains dependents) are d from to ssn legal (λ here. made (here ∙ long))))
     formed at
 
+-- and a delivery
 pub delivery_reach : (x : Entry) (k i : ℕ) (dependents : FinSet nat_cmp) (flags : List Bool) (hit : Bool) (to : Pid) (send rsn : ℕ) (listed : List Det) → x ≡ Deliver to send rsn listed
     → hit ≡ (i == k || (contains dependents to.0 || (nat_le k send && get_or flags send false))) → TellsReach x k i dependents flags hit
 delivery_reach x k i dependents flags hit to send rsn listed is same n past d formed long at are told =
     subst (λ y. AreAccepted n (y ∷ past) → TellsNextReach past y k hit) (sym is)
-    (λ legal. subst (TellsNextReach past (Deliver to send rsn listed) k)
-    (sym (same ∙ ap (λ j. j == k || (contains dependents to.0 || (nat_le k send && get_or flags send false))) (sym long)))
-    (delivery_tells n past k dependents are flags (subst (λ j. AreReached past k j flags) (sym long) told) to send rsn listed legal))
+    (λ legal. subst (TellsNextReach past (Deliver to send rsn listed) k) (sym (same ∙ ap (λ j. j == k || (contains dependents to.0 || (nat_le k send && get_or flags send false))) (sym long)))
+    (delivery_tells n past k (contains dependents) are (length past == k) (nat_le k send && get_or flags send false) (λ h. eqb-true (length past) k h, λ h. eq-eqb (length past) k h) to send rsn listed
+    (brought n past to send rsn listed legal k flags (subst (λ j. AreReached past k j flags) (sym long) told)) legal))
     formed
 
 -- a delivery's send stands before it
@@ -140,6 +129,7 @@ send_within n e past send formed is = accepted_forward n (e ∷ past) formed (le
 
 -- ---- the flags, with one entry more
 
+-- the flag of one entry more tells whether it is reached
 pub reached_more : (n : ℕ) (e : Entry) (past : List Entry) (k i : ℕ) (flags : List Bool) (hit : Bool) → AreAccepted n (e ∷ past) → length past ≡ i → i < length flags → AreReached past k i flags → TellsNextReach past e k hit
     → AreReached (e ∷ past) k (i + 1) (set flags i hit)
 reached_more n e past k i flags hit formed long inside told tells v p l above below (inl old) =
@@ -159,6 +149,7 @@ reached_more n e past k i flags hit formed long inside told tells v p l above be
 
 -- ---- who depends on k, where an entry adds nobody
 
+-- the same processes depend on k
 pub still_dependents : (n : ℕ) (e : Entry) (past : List Entry) (k : ℕ) (s : FinSet nat_cmp) → AreAccepted n (e ∷ past) → is_turn e ≡ false → ((p : ℕ) → actor e ≡ Some p → Reaches (e ∷ past) k (length past) → Depends past k p)
     → AreDependents past k s → AreDependents (e ∷ past) k s
 still_dependents n e past k s formed no_turn known are p = (
@@ -181,6 +172,7 @@ quiet_still past k d mentions mentioned t u next low none still v e above below 
 
 module _ (r : Recording) (f : ℕ) (formed : IsWellFormed r) (k : ℕ) (d : Det) (at : det_at r.past k ≡ Some d) where
   module _ (mentions : List ℕ) (mentioned : HasMentions r.past d mentions) (t change mention : ℕ) (up : t ≤ change) (low : change ≤ mention) (none : HasNoneUntil mentions t mention) (still : AreStill r.past t change k) (within : change ≤ length r.past) where
+    -- the entries up to the change are quiet
     quiet : AreQuiet r.past t change k d
     quiet = quiet_still r.past k d mentions mentioned t change mention low none still
 
@@ -193,9 +185,11 @@ module _ (r : Recording) (f : ℕ) (formed : IsWellFormed r) (k : ℕ) (d : Det)
     sight_until s sight = sight_agrees (instant r.past t) (instant r.past change) k d s (instants_agree r.processes r.past k d t change formed.accepted up within quiet) sight
 
   module _ (i : ℕ) (x : Entry) (below : i < length r.past) (next : instant r.past (i + 1) ≡ x ∷ instant r.past i) where
+    -- the entry may stand where it stands
     legal : AreAccepted r.processes (x ∷ instant r.past i)
     legal = accepted_next r formed i x below next
 
+    -- so many entries stand before it
     long : length (instant r.past i) ≡ i
     long = instant_length r.past i (omega (arith, below))
 
@@ -210,16 +204,20 @@ module _ (r : Recording) (f : ℕ) (formed : IsWellFormed r) (k : ℕ) (d : Det)
           reach r.processes (instant r.past i) d legal long
           (λ here. ap (λ y. det_at y k) (sym next) ∙ det_then r.past (i + 1) k (omega (arith, here)) (omega (arith, below)) ∙ at) are told
 
+      -- and the flags tell it of one entry more
       pub flags_next : i < length flags → AreReached (instant r.past (i + 1)) k (i + 1) (set flags i hit)
       flags_next inside = subst (λ past. AreReached past k (i + 1) (set flags i hit)) (sym next) (reached_more r.processes x (instant r.past i) k i flags hit legal long inside told reach_told)
 
       module _ (leaves : LeavesDependents x dependents hit) where
+        -- its process depends on k before, where k reaches it
         known : (p : ℕ) → actor x ≡ Some p → Reaches (x ∷ instant r.past i) k (length (instant r.past i)) → Depends (instant r.past i) k p
         known p of to = (are p).0 (leaves.1 p of ((reach_told p of).1 to))
 
+        -- the same processes depend on k after it
         pub dependents_next : AreDependents (instant r.past (i + 1)) k dependents
         dependents_next = subst (λ past. AreDependents past k dependents) (sym next) (still_dependents r.processes x (instant r.past i) k dependents legal leaves.0 known are)
 
+        -- it is one more entry that leaves the dependents
         pub still_next : (from : ℕ) → entry_at r.past i ≡ Some x → AreStill r.past from i k → AreStill r.past from (i + 1) k
         still_next from there still v p e above low at_v =
             elim (cases_lt v i) [
@@ -232,6 +230,7 @@ module _ (r : Recording) (f : ℕ) (formed : IsWellFormed r) (k : ℕ) (d : Det)
                   (subst (λ y. (is_turn y ≡ false) × (actor y ≡ Some p → Reaches (y ∷ instant r.past i) k (length (instant r.past i)) → Depends (instant r.past i) k p)) same (leaves.0, known p))
             ]
 
+      -- what is known after it
       pub sight_next : (before after : Sight) → IsSight (instant r.past i) k d before
           → ((n : ℕ) (past : List Entry) (k : ℕ) → AreAccepted n (x ∷ past) → TellsNextReach past x k hit → IsSight past k d before → IsSight (x ∷ past) k d after)
           → IsSight (instant r.past (i + 1)) k d after

@@ -9,6 +9,7 @@ pub mod Kept
 pub mod Kinds
 pub mod Moments
 pub mod Newly
+pub mod Reaching
 pub mod Rises
 pub mod Rooms
 pub mod Scans

@@ -1,6 +1,5 @@
 //! The first instant at which a delivery has an orphan, by following its messages: no clock is read.
 ghost use Rattle.std.specs.Prelude.{◌≡◌, ◌<◌, ◌≤◌, ◌&&◌, ◌||◌, ◌==◌, ℕ, IfOk, length, nat_le, slice_index_or, Some, false, true};
-ghost use Rattle.std.specs.FinSet as set;
 ghost use Rattle.causal_name.specs.declared.Det.{Det};
 ghost use Rattle.causal_trace.specs.Past.{det_at, instant};
 ghost use Rattle.causal_trace.specs.Dependence.{is_delivery_of};

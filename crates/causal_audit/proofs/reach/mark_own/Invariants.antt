@@ -1,0 +1,10 @@
+use Rattle.std.proofs.Common.{◌≡◌, length}
+use Rattle.causal_audit.specs.Inside.Reaching.{AreOwnRows}
+use Rattle.causal_audit.proofs.reach.mark_own.Given as goal
+
+-- the places so far are in their rows
+abbrev pub invariant-loop-place : goal.invariant-loop-place
+invariant-loop-place l = record {
+  count : length l.rows.items ≡ length l.fn.rows.items;
+  own : AreOwnRows l.positions l.place l.rows.items;
+}
