@@ -12,7 +12,8 @@ use Rattle.causal_clock.specs.declared.Event.{Event}
 use Rattle.causal_clock.specs.Precedence as clock
 use Rattle.causal_audit.specs.declared.sight.Sight.{Sight}
 use Rattle.causal_audit.specs.Inside.Ahead.{AreNoneUntil}
-use Rattle.causal_audit.specs.Inside.Changes.{AreChanges}
+use Rattle.causal_audit.specs.Inside.Changes.{AreChanges, HasMentions, HasTurns}
+use Rattle.causal_audit.specs.Inside.Followed.{HasFirstsUntil}
 use Rattle.causal_audit.specs.declared.changes.Changes.{Changes}
 use Rattle.causal_audit.specs.Quiet.{is_turn, mentioned_by, IsQuiet, AreQuiet}
 use Rattle.causal_audit.specs.Inside.Sights.{IsSight, TellsNextReach}
@@ -36,8 +37,8 @@ event_then past t i p l within below at = event_dropped (length past - t) past i
 
 -- ---- what is in none of the lists is quiet
 
-module _ (n : ℕ) (past : List Entry) (formed : AreAccepted n past) (k : ℕ) (d : Det) (lists : Changes) (changes : AreChanges past k d lists.mentions.now lists.turns.now lists.firsts.now) where
-  module _ (v : ℕ) (e : Entry) (at : entry_at past v ≡ Some e) (below : v < length past) (first : Contains lists.firsts.now v → ⊥) where
+module _ (n : ℕ) (past : List Entry) (formed : AreAccepted n past) (k : ℕ) (d : Det) (lists : Changes) (mentioned : HasMentions past d lists.mentions.now) (turned : HasTurns past lists.turns.now) (end : ℕ) (first_until : HasFirstsUntil past k end lists.firsts.now) where
+  module _ (v : ℕ) (e : Entry) (at : entry_at past v ≡ Some e) (below : v < length past) (early : v < end) (first : Contains lists.firsts.now v → ⊥) where
     same_entry : (next_entry past v below).0 ≡ e
     same_entry = let x : Some (next_entry past v below).0 ≡ Some e = sym (next_entry past v below).1 ∙ at in cc
 
@@ -60,7 +61,7 @@ module _ (n : ℕ) (past : List Entry) (formed : AreAccepted n past) (k : ℕ) (
       unmentioned = unmentioned;
       known = λ p of reach.
           let here = known p of reach in
-          elim (changes.first v p (lane (instant past v) p) here.1 here.0) [
+          elim (first_until v p (lane (instant past v) p) early here.1 here.0) [
             | inl listed ↦ absurd (first listed)
             | inr found ↦
                 known_already n (instant past v) e k found.0 p (subst (AreAccepted n) next (accepted_then n past (v + 1) formed)).1 of
@@ -69,11 +70,18 @@ module _ (n : ℕ) (past : List Entry) (formed : AreAccepted n past) (k : ℕ) (
           ];
     }
 
-  pub quiet_until : (t u : ℕ) → AreNoneUntil lists t u → u ≤ length past → AreQuiet past t u k d
-  quiet_until t u none within v e above below at =
-      quiet v e at (omega (arith, below, within)) (none.firsts v above below)
-      (false_from_ne_true (is_turn e) (λ is. none.turns v above below (changes.turned v e at is)))
-      (false_from_ne_true (has (mentioned_by e) d) (λ is. none.mentions v above below (changes.mentioned v e at is)))
+  -- up to the end of what the firsts tell
+  pub quiet_below : (t u : ℕ) → AreNoneUntil lists t u → u ≤ length past → u ≤ end → AreQuiet past t u k d
+  quiet_below t u none within low v e above below at =
+      quiet v e at (omega (arith, below, within)) (omega (arith, below, low)) (none.firsts v above below)
+      (false_from_ne_true (is_turn e) (λ is. none.turns v above below (turned v e at is)))
+      (false_from_ne_true (has (mentioned_by e) d) (λ is. none.mentions v above below (mentioned v e at is)))
+
+-- where the firsts tell of the whole run
+pub quiet_until : (n : ℕ) (past : List Entry) → AreAccepted n past → (k : ℕ) (d : Det) (lists : Changes) → AreChanges past k d lists.mentions.now lists.turns.now lists.firsts.now
+    → (t u : ℕ) → AreNoneUntil lists t u → u ≤ length past → AreQuiet past t u k d
+quiet_until n past formed k d lists changes t u none within =
+    quiet_below n past formed k d lists changes.mentioned changes.turned (length past) (λ v p l _. changes.first v p l) t u none within within
 
 -- ---- what is known after the next change
 

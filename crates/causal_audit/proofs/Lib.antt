@@ -12,6 +12,7 @@ mod Exposure
 mod Filings
 mod FirstOnes
 mod Firsts
+mod Following
 mod Gathered
 mod HeldOutside
 mod Indexed

@@ -41,11 +41,11 @@ module _ (r : Recording) (formed : IsWellFormed r) (t : ℕ) (x : Entry) (below 
   here = instant_length r.past t (omega (arith, below))
 
   -- what reaches the entry then reaches it in the whole run
-  reach_out : Reaches (x ∷ instant r.past t) k (length (instant r.past t)) → Reaches r.past k t
+  pub reach_out : Reaches (x ∷ instant r.past t) k (length (instant r.past t)) → Reaches r.past k t
   reach_out h = reaches_whole r.past (t + 1) k t (subst (λ past. Reaches past k t) (sym next) (subst (Reaches (x ∷ instant r.past t) k) here h))
 
   -- and the other way round
-  reach_in : Reaches r.past k t → Reaches (x ∷ instant r.past t) k (length (instant r.past t))
+  pub reach_in : Reaches r.past k t → Reaches (x ∷ instant r.past t) k (length (instant r.past t))
   reach_in h = subst (Reaches (x ∷ instant r.past t) k) (sym here) (subst (λ past. Reaches past k t) next (reaches_then r.processes r.past (t + 1) k t formed.accepted (omega (arith, below)) (omega arith) h))
 
   -- the event at t is the entry's

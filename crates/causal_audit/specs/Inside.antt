@@ -4,6 +4,7 @@ pub mod BreachAt
 pub mod Changes
 pub mod Courses
 pub mod Filed
+pub mod Followed
 pub mod Index
 pub mod Kept
 pub mod Kinds

@@ -2,7 +2,7 @@
 ghost use Rattle.std.specs.Prelude.{◌≤◌};
 ghost use Rattle.std.specs.List.Sorted.{IsNonDecreasing};
 ghost use Rattle.causal_audit.specs.declared.changes.Changes.{Changes};
-ghost use Rattle.causal_audit.specs.Inside.Ahead.{AreAhead, HasNoneUntil, PassesNone, TellsNext};
+ghost use Rattle.causal_audit.specs.Inside.Ahead.{AreAhead, HasNoneUntil, PassesNone, TellsNewly, TellsNext};
 
 use crate::cursor::Cursor;
 
@@ -51,11 +51,12 @@ impl<'a> Changes<'a> {
     }
 }
 
-/// The next change, and whether it is an entry that mentions the determinant.
+/// The next change, whether it is an entry that mentions the determinant, and whether it is among the firsts.
 #[derive(Clone, Copy)]
 pub struct Next {
     pub position: u32,
     pub mentioned: bool,
+    pub newly: bool,
 }
 
 impl Ahead<'_> {
@@ -66,6 +67,7 @@ impl Ahead<'_> {
         ensures ahead { (changes : Changes) → AreAhead changes from self.old → AreAhead changes from self.new }
         ensures none { PassesNone from self.old result.position }
         ensures mentioned { TellsNext from end self.old result }
+        ensures newly { TellsNewly from end self.old result }
     {
         let mention = self.mentions.next(from, end);
         let turn = self.turns.next(from, end);
@@ -74,6 +76,7 @@ impl Ahead<'_> {
         Next {
             position,
             mentioned: mention == position,
+            newly: first == position,
         }
     }
 }

@@ -15,6 +15,7 @@ mod cursor;
 mod effects;
 mod events;
 pub mod excess;
+mod followed;
 mod holding;
 pub mod judging;
 mod kind;

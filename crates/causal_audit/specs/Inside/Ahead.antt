@@ -40,3 +40,9 @@ PassesNone from ahead next = (changes : Changes) → AreAhead changes from ahead
 -- and it is told whether it is a mention
 abbrev pub TellsNext : ℕ → ℕ → Ahead → Next → Type 0
 TellsNext from end ahead next = (changes : Changes) → AreAhead changes from ahead → TellsMention changes from end next
+
+-- and whether it is one of the firsts
+abbrev pub TellsNewly : ℕ → ℕ → Ahead → Next → Type 0
+TellsNewly from end ahead next =
+    (changes : Changes) → AreAhead changes from ahead → next.position < end
+    → (next.newly ≡ true) ↔ Contains changes.firsts.now next.position

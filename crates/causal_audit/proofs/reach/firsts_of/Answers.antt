@@ -34,7 +34,7 @@ see-newly-requires-clause-send c send is =
     let t = c.loop-t.t in
     let x = c.index-entries-t.result in
     let below : t < length r.past = omega (arith, c.loop-t-test.true, c.requires.within) in
-    let next : instant r.past (t + 1) ≡ x ∷ instant r.past t = next_state r c.entries-entries.result.now c.entries-entries.ensures t x below c.index-entries-t.is in
+    let next : instant r.past (t + 1) ≡ x ∷ instant r.past t = next_state r c.entries-entries.result.now c.entries-entries.ensures.value t x below c.index-entries-t.is in
     omega (arith, below, c.len-len.ensures.length, instant_length r.past t (omega (arith, below)), send_within r.processes x (instant r.past t) send (accepted_next r c.len-len.ensures.formed t x below next) is)
 
 pub loop-t-preserved : goal.loop-t-preserved
@@ -46,7 +46,7 @@ loop-t-preserved c =
     let x = c.index-entries-t.result in
     let invariant = c.loop-t.invariant in
     let below : t < length r.past = omega (arith, c.loop-t-test.true, c.requires.within) in
-    let next : instant r.past (t + 1) ≡ x ∷ instant r.past t = next_state r c.entries-entries.result.now c.entries-entries.ensures t x below c.index-entries-t.is in
+    let next : instant r.past (t + 1) ≡ x ∷ instant r.past t = next_state r c.entries-entries.result.now c.entries-entries.ensures.value t x below c.index-entries-t.is in
     let added = c.in_ok-add_to_each.ensures in
     let sees : (j : ℕ) (d : Det) → j < length positions → det_at r.past (slice_index positions j) ≡ Some d
     → IsReach (x ∷ instant r.past t) (slice_index positions j) j c.see-newly.new.self × IsNewly (instant r.past t) x (slice_index positions j) j c.see-newly.result =

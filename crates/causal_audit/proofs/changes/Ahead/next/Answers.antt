@@ -31,3 +31,17 @@ returns-clause-mentioned c changes are early =
         | inr apart ↦ absurd (c.next-mention.ensures.none changes.mentions.now are.mentions position (omega (arith, c.next-mention.ensures.bounds, c.next-turn.ensures.bounds, c.next-first.ensures.bounds, c.min.ensures, c.min-position.ensures)) (omega (arith, low, apart.1)) listed)
       ],
     )
+
+pub returns-clause-newly : goal.returns-clause-newly
+returns-clause-newly c changes are early =
+    let position = c.min-position.result in
+    let first = c.next-first.result in
+    let low : position ≤ first = omega (arith, c.min.ensures, c.min-position.ensures) in (
+      λ is.
+          let same : first ≡ position = eqb-true first position is in
+          subst (Contains changes.firsts.now) same (c.next-first.ensures.found changes.firsts.now are.firsts (omega (arith, same, early))),
+      λ listed. elim (eqb_tells first position) [
+        | inl here ↦ here.0
+        | inr apart ↦ absurd (c.next-first.ensures.none changes.firsts.now are.firsts position (omega (arith, c.next-mention.ensures.bounds, c.next-turn.ensures.bounds, c.next-first.ensures.bounds, c.min.ensures, c.min-position.ensures)) (omega (arith, low, apart.1)) listed)
+      ],
+    )

@@ -1,0 +1,70 @@
+-- A delivery that is followed by the entries by which it newly reaches a process.
+use Rattle.std.proofs.Common.{ℕ, ◌≡◌, ◌+◌, ◌∷◌, ◌<◌, ◌≤◌, inl, inr, Bool, true, List, length, Some, refl, sym, subst, ◌∙◌, arith}
+use Rattle.std.specs.Prelude.{Contains, ◌↔◌, ◌||◌}
+use Rattle.std.specs.Ordering.{nat_cmp}
+use Rattle.std.specs.FinSet.{FinSet, contains}
+use Rattle.std.proofs.lemmas.Bool.{or_cases, or_left, or_right}
+use Rattle.causal_name.specs.declared.Det.{Det}
+use Rattle.causal_trace.specs.declared.entry.Entry.{Entry}
+use Rattle.causal_trace.specs.Past.{instant, lane}
+use Rattle.causal_trace.specs.Rows.{Recording, IsWellFormed, AreAccepted}
+use Rattle.causal_trace.specs.Dependence.{actor, IsEventOf, Reaches}
+use Rattle.causal_trace.proofs.Lemmas.AtInstants.{instant_length}
+use Rattle.causal_audit.specs.declared.changes.Changes.{Changes}
+use Rattle.causal_audit.specs.declared.sight.Sight.{Sight}
+use Rattle.causal_audit.specs.Inside.Ahead.{AreNoneUntil}
+use Rattle.causal_audit.specs.Inside.Followed.{AreFollowed, HasFirstsUntil, IsReachedBy}
+use Rattle.causal_audit.specs.Inside.Sights.{AreDependents, IsSight, TellsNextReach}
+use Rattle.causal_audit.specs.Quiet.{AreQuiet}
+use Rattle.causal_audit.proofs.Between.{known_already, instants_agree, sight_agrees}
+use Rattle.causal_audit.proofs.Changed.{event_then, quiet_below, seen_next}
+use Rattle.causal_audit.proofs.Orphaned.{accepted_next}
+use Rattle.causal_audit.proofs.ReachedFirst.{reach_in, reach_out}
+use Rattle.causal_audit.proofs.Scanned.{reached_after}
+use Rattle.causal_audit.proofs.Walked.{reaches_then, event_whole}
+
+module _ (r : Recording) (formed : IsWellFormed r) (u : ℕ) (x : Entry) (below : u < length r.past) (next : instant r.past (u + 1) ≡ x ∷ instant r.past u) (k end : ℕ) (early : u < end) (list : List ℕ) where
+  module _ (reached : (v : ℕ) → Contains list v → Reaches r.past k v) (first : HasFirstsUntil r.past k end list) (dependents : FinSet nat_cmp) (are : AreDependents (instant r.past u) k dependents) (newly hit : Bool) (tells : (newly ≡ true) ↔ Contains list u) where
+    -- the event at u is of its process's present lane
+    event_now : (p : ℕ) → actor x ≡ Some p → IsEventOf r.past u p (lane (instant r.past u) p)
+    event_now p of =
+        let here : IsEventOf (x ∷ instant r.past u) u p (lane (instant r.past u) p) = inr (sym (instant_length r.past u (omega (arith, below))), of, refl) in
+        event_whole r.past (u + 1) u p (lane (instant r.past u) p) (subst (λ past. IsEventOf past u p (lane (instant r.past u) p)) (sym next) here)
+
+    -- a reached event is among the firsts, or its process depends on k already
+    is_known : (p : ℕ) → actor x ≡ Some p → Reaches (x ∷ instant r.past u) k (length (instant r.past u)) → (newly || contains dependents p) ≡ true
+    is_known p of reach =
+        elim (first u p (lane (instant r.past u) p) early (event_now p of) (reach_out r formed u x below next k reach)) [
+          | inl listed ↦ or_left newly (contains dependents p) (tells.1 listed)
+          | inr found ↦ or_right newly (contains dependents p) ((are p).1
+              (known_already r.processes (instant r.past u) x k found.0 p (accepted_next r formed u x below next).1 of
+              (event_then r.past u found.0 p (lane (instant r.past u) p) (omega (arith, below)) found.1 found.2)
+              (reaches_then r.processes r.past u k found.0 formed.accepted (omega (arith, below)) found.1 found.3)))
+        ]
+
+    -- so it is told whether the entry is reached
+    pub followed_tells : IsReachedBy x dependents newly hit → TellsNextReach (instant r.past u) x k hit
+    followed_tells by p of = (
+      λ h. elim (or_cases newly (contains dependents p) (sym (by p of) ∙ h)) [
+        | inl is ↦ reach_in r formed u x below next k (reached u (tells.0 is))
+        | inr known ↦ reached_after x (instant r.past u) k p of ((are p).0 known)
+      ],
+      λ reach. by p of ∙ is_known p of reach,
+    )
+
+module _ (r : Recording) (formed : IsWellFormed r) (k : ℕ) (d : Det) (end : ℕ) (within : end ≤ length r.past) (lists : Changes) (followed : AreFollowed r.past k d end lists) (t u : ℕ) (none : AreNoneUntil lists t u) where
+  -- the entries up to the next change are quiet
+  pub followed_quiet : u ≤ end → AreQuiet r.past t u k d
+  followed_quiet low = quiet_below r.processes r.past formed.accepted k d lists followed.mentioned followed.turned end followed.first t u none (omega (arith, low, within)) low
+
+  -- what is known after the next change
+  pub followed_sight : (x : Entry) → t ≤ u → (low : u < end) → instant r.past (u + 1) ≡ x ∷ instant r.past u
+      → (newly hit : Bool) → (newly ≡ true) ↔ Contains lists.firsts.now u → (before after : Sight) → IsReachedBy x before.dependents newly hit
+      → ((n : ℕ) (past : List Entry) (k : ℕ) → AreAccepted n (x ∷ past) → TellsNextReach past x k hit → IsSight past k d before → IsSight (x ∷ past) k d after)
+      → IsSight (instant r.past t) k d before → IsSight (instant r.past (u + 1)) k d after
+  followed_sight x up low next newly hit tells before after by sees sight =
+      let below : u < length r.past = omega (arith, low, within) in
+      let quiet = followed_quiet (omega (arith, low)) in
+      let here : IsSight (instant r.past u) k d before = sight_agrees (instant r.past t) (instant r.past u) k d before (instants_agree r.processes r.past k d t u formed.accepted up (omega (arith, below)) quiet) sight in
+      seen_next r.processes r.past formed.accepted k d t u x up below quiet next hit
+      (followed_tells r formed u x below next k end low lists.firsts.now followed.reached followed.first before.dependents here.dependents newly hit tells by) before after sees sight

@@ -1,0 +1,32 @@
+-- Where something may change for a delivery that is followed by the entries by which it newly reaches a process.
+use Rattle.std.specs.Prelude.{◌≡◌, ℕ, ◌<◌, ◌⊎◌, ◌||◌, Bool, List, Contains, Some}
+use Rattle.std.specs.Ordering.{nat_cmp}
+use Rattle.std.specs.FinSet.{FinSet, contains}
+use Rattle.std.specs.List.Sorted.{IsNonDecreasing}
+use Rattle.causal_name.specs.declared.Det.{Det}
+use Rattle.causal_trace.specs.declared.entry.Entry.{Entry}
+use Rattle.causal_trace.specs.Dependence.{actor, IsEventOf, Reaches}
+use Rattle.causal_audit.specs.declared.changes.Changes.{Changes}
+use Rattle.causal_audit.specs.Inside.Changes.{AreMentionsOf, HasMentions, HasTurns}
+
+-- each entry below `end` that k reaches is in the list, or comes after one of its lane that k reaches
+abbrev pub HasFirstsUntil : List Entry → ℕ → ℕ → List ℕ → Type 0
+HasFirstsUntil past k end list =
+    (v p l : ℕ) → v < end → IsEventOf past v p l → Reaches past k v
+    → Contains list v ⊎ ((i : ℕ) × (i < v) × IsEventOf past i p l × Reaches past k i)
+
+-- ascending they have each position below `end` at which something may change for the delivery at k, whose determinant is d;
+-- the firsts are such that it reaches
+pub record AreFollowed (past : List Entry) (k : ℕ) (d : Det) (end : ℕ) (changes : Changes) : Type 0 where
+  pub mentions_ascend : IsNonDecreasing changes.mentions.now
+  pub turns_ascend : IsNonDecreasing changes.turns.now
+  pub firsts_ascend : IsNonDecreasing changes.firsts.now
+  pub mentioned : HasMentions past d changes.mentions.now
+  pub only : AreMentionsOf past d changes.mentions.now
+  pub turned : HasTurns past changes.turns.now
+  pub reached : (v : ℕ) → Contains changes.firsts.now v → Reaches past k v
+  pub first : HasFirstsUntil past k end changes.firsts.now
+
+-- an event is reached where it is newly, or where its process depends on the delivery already
+abbrev pub IsReachedBy : Entry → FinSet nat_cmp → Bool → Bool → Type 0
+IsReachedBy e dependents newly reached = (p : ℕ) → actor e ≡ Some p → reached ≡ (newly || contains dependents p)

@@ -1,0 +1,72 @@
+//! The first instant at which a delivery has an orphan, told by the entries by which it newly reaches a process: no clock is
+//! read.
+ghost use Rattle.std.specs.Prelude.{◌≡◌, ◌≤◌, length, Some};
+ghost use Rattle.causal_name.specs.declared.Det.{Det};
+ghost use Rattle.causal_trace.specs.Past.{det_at};
+ghost use Rattle.causal_audit.specs.Breaches.{FirstBreachBy};
+ghost use Rattle.causal_audit.specs.Inside.Followed.{AreFollowed, IsReachedBy};
+ghost use Rattle.causal_audit.specs.Inside.Kept.{AreTurnsKept};
+ghost use Rattle.causal_audit.specs.Lasting.{NoneReleasedFrom};
+
+use crate::breach::Breach;
+use crate::changes::Changes;
+use crate::cover::Outline;
+use crate::orphans::breach_at;
+use crate::sight::Sight;
+use causal_holders::Holders;
+use causal_name::Det;
+use causal_trace::entry::Entry;
+
+/// Whether a delivery reaches the entry, where these processes depend on it before, and it newly reaches a process by the
+/// entry or not.
+fn is_reached(entry: &Entry, dependents: Holders, newly: bool) -> bool
+    ensures { IsReachedBy entry.now dependents newly result }
+{
+    match entry {
+        Entry::Send { from, .. } => newly || dependents.contains(from.0),
+        Entry::Deliver { to, .. } => newly || dependents.contains(to.0),
+        _ => false,
+    }
+}
+
+/// How the delivery at position k, whose determinant this is, first has an orphan, if it has one by the instant `end`. Only
+/// the instants after a change are looked at, from the delivery or the first mention of its determinant on, until no later
+/// one can have an orphan. So it costs what changes for the delivery, and not the entries.
+pub fn first_followed(
+    run: &Outline<'_>,
+    changes: &Changes<'_>,
+    f: u16,
+    end: u32,
+    k: u32,
+    det: Det,
+) -> Option<Breach>
+    requires within { end ≤ length run.now.trace.now.recording.past }
+    requires lasting { NoneReleasedFrom run.now.trace.now.recording.past run.now.lasting_from }
+    requires turns { AreTurnsKept run.now.trace.now.recording.past run.now.turns.now }
+    requires delivery { det_at run.now.trace.now.recording.past k ≡ Some det }
+    requires changes { AreFollowed run.now.trace.now.recording.past k det end changes.now }
+    ensures { FirstBreachBy run.now.trace.now.recording f end k result }
+{
+    let entries = run.trace.entries();
+    let mut t = changes.start(k);
+    let mut ahead = changes.ahead(t);
+    let mut sight = Sight::begin(run.turns.down_at(t));
+    while t < end {
+        let next = ahead.next(t, end);
+        let change = next.position;
+        if change == end {
+            return None;
+        }
+        let entry = &entries[change as usize];
+        let reached = is_reached(entry, sight.dependents, next.newly);
+        sight.see(entry, det, next.mentioned, reached);
+        t = change + 1;
+        if let Some(found) = breach_at(&sight, f, k, t) {
+            return Some(found);
+        }
+        if sight.is_over(f, run.lasting_from <= t) {
+            return None;
+        }
+    }
+    None
+}
