@@ -55,7 +55,7 @@ module _ (r : Recording) (formed : IsWellFormed r) (u : ℕ) (x : Entry) (below 
 module _ (r : Recording) (formed : IsWellFormed r) (k : ℕ) (d : Det) (end : ℕ) (within : end ≤ length r.past) (lists : Changes) (followed : AreFollowed r.past k d end lists) (t u : ℕ) (none : AreNoneUntil lists t u) where
   -- the entries up to the next change are quiet
   pub followed_quiet : u ≤ end → AreQuiet r.past t u k d
-  followed_quiet low = quiet_below r.processes r.past formed.accepted k d lists followed.mentioned followed.turned end followed.first t u none (omega (arith, low, within)) low
+  followed_quiet low = quiet_below r.processes r.past formed.accepted k d lists followed.mentioned followed.turned end followed.firsts.first t u none (omega (arith, low, within)) low
 
   -- what is known after the next change
   pub followed_sight : (x : Entry) → t ≤ u → (low : u < end) → instant r.past (u + 1) ≡ x ∷ instant r.past u
@@ -67,4 +67,4 @@ module _ (r : Recording) (formed : IsWellFormed r) (k : ℕ) (d : Det) (end : �
       let quiet = followed_quiet (omega (arith, low)) in
       let here : IsSight (instant r.past u) k d before = sight_agrees (instant r.past t) (instant r.past u) k d before (instants_agree r.processes r.past k d t u formed.accepted up (omega (arith, below)) quiet) sight in
       seen_next r.processes r.past formed.accepted k d t u x up below quiet next hit
-      (followed_tells r formed u x below next k end low lists.firsts.now followed.reached followed.first before.dependents here.dependents newly hit tells by) before after sees sight
+      (followed_tells r formed u x below next k end low lists.firsts.now followed.firsts.reached followed.firsts.first before.dependents here.dependents newly hit tells by) before after sees sight

@@ -36,6 +36,7 @@ mod Scanned
 mod Seen
 mod Sharings
 mod Shown
+mod Sifted
 mod Spreading
 mod Steps
 mod Sweeping

@@ -1,25 +1,29 @@
-//! The first instant at which a delivery has an orphan, by following its messages: no clock is read.
-ghost use Rattle.std.specs.Prelude.{◌≡◌, ◌<◌, ◌≤◌, ◌&&◌, ◌||◌, ◌==◌, ℕ, IfOk, length, nat_le, slice_index_or, Some, false, true};
+//! The least breach of the deliveries at given positions, by following their messages: no clock is read.
+ghost use Rattle.std.specs.Prelude.{◌≡◌, ◌≤◌, ◌<◌, IfOk, length, Some};
+ghost use Rattle.std.specs.List.{All};
 ghost use Rattle.causal_name.specs.declared.Det.{Det};
-ghost use Rattle.causal_trace.specs.Past.{det_at, instant};
-ghost use Rattle.causal_trace.specs.Dependence.{is_delivery_of};
+ghost use Rattle.causal_trace.specs.Past.{det_at};
 ghost use Rattle.causal_audit.specs.Breaches.{FirstBreachBy, LeastAmongBy};
+ghost use Rattle.causal_audit.specs.Inside.Filed.{lists_in};
+ghost use Rattle.causal_audit.specs.Inside.Followed.{AreFirstsBelow};
 ghost use Rattle.causal_audit.specs.Inside.Kept.{AreMentionsKept, AreTurnsKept};
-ghost use Rattle.causal_audit.specs.Inside.Scans.{AreReached, AreStill, LeavesDependents, TellsReach};
-ghost use Rattle.causal_audit.specs.Inside.Sights.{AreDependents};
+ghost use Rattle.causal_audit.specs.Inside.Reaching.{HaveFirstsUntil};
+ghost use Rattle.causal_audit.specs.Inside.Scans.{AreThoseBelow};
 ghost use Rattle.causal_audit.specs.Lasting.{NoneReleasedFrom};
 
 use crate::breach::{Breach, earlier};
-use crate::cursor::Cursor;
+use crate::changes::Changes;
+use crate::cover::Outline;
+use crate::followed::first_followed;
 use crate::mentions::Mentions;
-use crate::orphans::breach_at;
-use crate::sight::Sight;
+use crate::reach::firsts_of;
 use crate::turns::Turns;
-use causal_holders::Holders;
-use causal_name::{Det, NoMemory};
-use causal_trace::entry::Entry;
+use causal_name::NoMemory;
 use causal_trace::trace::Trace;
 use std::alloc::Global;
+
+/// How many deliveries are followed by one walk over the entries.
+const GROUP: usize = 256;
 
 /// What is read of a recorded run to follow the messages of a delivery: the trace, a position from which on no entry
 /// releases a process, who is down after each crash and restart, and what mentions each determinant.
@@ -31,148 +35,30 @@ pub struct Scan<'a> {
     pub mentions: &'a Mentions,
 }
 
-/// What an entry is to a delivery: whether the delivery reaches it, and whether by it others may be down or depend on the
-/// delivery.
-#[derive(Clone, Copy)]
-struct Step {
-    reached: bool,
-    changes: bool,
-}
-
-/// Whether the delivery at k reaches the one at i, whose message was sent at `send`, and whose process depends on it
-/// already or does not.
-fn is_reached(known: bool, reached: &[bool], k: u32, i: u32, send: u32) -> bool
-    requires { send < length reached.now }
-    ensures { result ≡ (i == k || (known || (nat_le k send && slice_index_or reached.now send false))) }
+/// Those of the positions that are below `end`.
+fn those_below(alloc: Global, positions: &[u32], end: u32) -> Result<Vec<u32>, NoMemory>
+    ensures { IfOk result (λ kept. AreThoseBelow positions.now end kept.items) }
 {
-    i == k || known || (k <= send && reached[send as usize])
-}
-
-impl Step {
-    /// The entry at position i, where these processes depend on the delivery at k, and of the entries since k it is told
-    /// which it reaches. A send is reached where its process depends on the delivery, and a delivery to a process where it
-    /// is this one, where the process depends on it already, or where the message's send is reached.
-    fn of(entry: &Entry, dependents: Holders, reached: &[bool], k: u32, i: u32) -> Step
-        requires { (send : ℕ) → is_delivery_of send entry.now ≡ true → send < length reached.now }
-        ensures reached { TellsReach entry.now k i dependents reached.now result.reached }
-        ensures changes { result.changes ≡ false → LeavesDependents entry.now dependents result.reached }
-    {
-        match entry {
-            Entry::Send { from, .. } => Step {
-                reached: dependents.contains(from.0),
-                changes: false,
-            },
-            Entry::Deliver { to, send, .. } => {
-                let known = dependents.contains(to.0);
-                let reached = is_reached(known, reached, k, i, *send);
-                Step {
-                    reached,
-                    changes: reached && !known,
-                }
-            }
-            Entry::Crash { .. } => Step {
-                reached: false,
-                changes: true,
-            },
-            Entry::Restart { .. } => Step {
-                reached: false,
-                changes: true,
-            },
-            _ => Step {
-                reached: false,
-                changes: false,
-            },
+    let mut kept = Vec::new(alloc);
+    for position in positions {
+        if *position < end {
+            kept.push(*position)?;
         }
     }
+    Ok(kept)
 }
 
 impl Scan<'_> {
-    /// The first entry from `from` on by which others may be down or depend on the delivery at k, or `until` if that comes
-    /// first. Of each entry before it is told whether the delivery reaches it.
-    fn next_change(
-        &self,
-        dependents: Holders,
-        reached: &mut [bool],
-        k: u32,
-        det: Det,
-        from: u32,
-        until: u32,
-    ) -> u32
-        requires bounds { (from ≤ until) × (until ≤ length self.now.trace.now.recording.past) }
-        requires delivery { det_at self.now.trace.now.recording.past k ≡ Some det }
-        requires counted { length reached.old ≡ length self.now.trace.now.recording.past }
-        requires dependents { AreDependents (instant self.now.trace.now.recording.past from) k dependents }
-        requires told { AreReached (instant self.now.trace.now.recording.past from) k from reached.old }
-        ensures bounds { (from ≤ result) × (result ≤ until) }
-        ensures counted { length reached.new ≡ length reached.old }
-        ensures still { AreStill self.now.trace.now.recording.past from result k }
-        ensures told { AreReached (instant self.now.trace.now.recording.past result) k result reached.new }
-    {
-        let entries = self.trace.entries();
-        for i in from..until {
-            let step = Step::of(&entries[i as usize], dependents, reached, k, i);
-            if step.changes {
-                return i;
-            }
-            reached[i as usize] = step.reached;
-        }
-        until
-    }
-
-    /// How the delivery at position k, whose determinant this is, first has an orphan, if it has one by the instant `end`.
-    /// Each entry is read from the delivery or the first mention of its determinant on, until no later instant can have an
-    /// orphan; the flags take up which entries the delivery reaches, whatever they were.
-    fn first_breach(
-        &self,
-        f: u16,
-        end: u32,
-        k: u32,
-        det: Det,
-        reached: &mut [bool],
-    ) -> Option<Breach>
+    /// How the delivery at position k, if there is one, first has an orphan, if it has one by the instant `end`. It newly
+    /// reaches a process by the firsts.
+    fn first_breach_at(&self, f: u16, end: u32, k: u32, firsts: &[u32]) -> Option<Breach>
         requires within { end ≤ length self.now.trace.now.recording.past }
         requires lasting { NoneReleasedFrom self.now.trace.now.recording.past self.now.lasting_from }
         requires turns { AreTurnsKept self.now.trace.now.recording.past self.now.turns.now }
         requires mentions { AreMentionsKept self.now.trace.now.recording.past self.now.mentions.now }
-        requires delivery { det_at self.now.trace.now.recording.past k ≡ Some det }
-        requires counted { length reached.old ≡ length self.now.trace.now.recording.past }
-        ensures first { FirstBreachBy self.now.trace.now.recording f end k result }
-        ensures counted { length reached.new ≡ length reached.old }
-    {
-        let entries = self.trace.entries();
-        let mut mentions = Cursor::at(self.mentions.list(det), 0);
-        let mut t = mentions.next(0, k);
-        let mut sight = Sight::begin(self.turns.down_at(t));
-        while t < end {
-            let mention = mentions.next(t, end);
-            let change = self.next_change(sight.dependents, reached, k, det, t, mention);
-            if change == end {
-                return None;
-            }
-            let entry = &entries[change as usize];
-            let step = Step::of(entry, sight.dependents, reached, k, change);
-            reached[change as usize] = step.reached;
-            sight.see(entry, det, mention == change, step.reached);
-            t = change + 1;
-            if let Some(found) = breach_at(&sight, f, k, t) {
-                return Some(found);
-            }
-            if sight.is_over(f, self.lasting_from <= t) {
-                return None;
-            }
-        }
-        None
-    }
-
-    /// How the delivery at position k, if there is one, first has an orphan, if it has one by the instant `end`.
-    fn first_breach_at(&self, f: u16, end: u32, k: u32, reached: &mut [bool]) -> Option<Breach>
-        requires within { end ≤ length self.now.trace.now.recording.past }
-        requires lasting { NoneReleasedFrom self.now.trace.now.recording.past self.now.lasting_from }
-        requires turns { AreTurnsKept self.now.trace.now.recording.past self.now.turns.now }
-        requires mentions { AreMentionsKept self.now.trace.now.recording.past self.now.mentions.now }
-        requires counted { length reached.old ≡ length self.now.trace.now.recording.past }
-        ensures first { FirstBreachBy self.now.trace.now.recording f end k result }
-        ensures counted { length reached.new ≡ length reached.old }
+        requires firsts { (d : Det) → det_at self.now.trace.now.recording.past k ≡ Some d →
+            AreFirstsBelow self.now.trace.now.recording.past k end firsts.now }
+        ensures { FirstBreachBy self.now.trace.now.recording f end k result }
     {
         if end <= k {
             return None;
@@ -180,23 +66,39 @@ impl Scan<'_> {
         let Some(det) = self.trace.det_at(k) else {
             return None;
         };
-        self.first_breach(f, end, k, det, reached)
+        let run = Outline {
+            trace: self.trace,
+            lasting_from: self.lasting_from,
+            turns: self.turns,
+        };
+        let changes = Changes {
+            mentions: self.mentions.list(det),
+            turns: self.turns.positions.as_slice(),
+            firsts,
+        };
+        first_followed(&run, &changes, f, end, k, det)
     }
 
-    /// The least breach of the deliveries at these positions, if it comes by the instant `end`. No instant is looked at that
-    /// is later than a breach that was found.
-    fn least_of(&self, f: u16, end: u32, positions: &[u32], reached: &mut [bool]) -> Option<Breach>
+    /// The least breach of the deliveries of a group, if it comes by the instant `end`, where the lists tell by which entries
+    /// each newly reaches a process. No instant is looked at that is later than a breach that was found.
+    fn least_of(&self, f: u16, end: u32, group: &[u32], lists: &[Vec<u32>]) -> Option<Breach>
         requires within { end ≤ length self.now.trace.now.recording.past }
         requires lasting { NoneReleasedFrom self.now.trace.now.recording.past self.now.lasting_from }
         requires turns { AreTurnsKept self.now.trace.now.recording.past self.now.turns.now }
         requires mentions { AreMentionsKept self.now.trace.now.recording.past self.now.mentions.now }
-        requires counted { length reached.old ≡ length self.now.trace.now.recording.past }
-        ensures { LeastAmongBy self.now.trace.now.recording f end positions.now result }
+        requires count { length lists.now ≡ length group.now }
+        requires firsts { HaveFirstsUntil self.now.trace.now.recording.past group.now end (lists_in lists.now) }
+        ensures { LeastAmongBy self.now.trace.now.recording f end group.now result }
     {
         let mut least = None;
         let mut until = end;
-        for position in positions {
-            if let Some(found) = self.first_breach_at(f, until, *position, reached) {
+        for (place, position) in group.iter().enumerate() {
+            if let Some(found) = self.first_breach_at(
+                f,
+                until,
+                *position,
+                lists[place].as_slice(),
+            ) {
                 until = found.instant;
                 least = earlier(least, Some(found));
             }
@@ -204,12 +106,60 @@ impl Scan<'_> {
         least
     }
 
+    /// The same, by one walk over the entries before `end`. It takes 32 bytes for each entry of the run, and what each delivery
+    /// newly reaches.
+    fn least_in_group(
+        &self,
+        alloc: Global,
+        f: u16,
+        end: u32,
+        group: &[u32],
+    ) -> Result<Option<Breach>, NoMemory>
+        requires within { end ≤ length self.now.trace.now.recording.past }
+        requires lasting { NoneReleasedFrom self.now.trace.now.recording.past self.now.lasting_from }
+        requires turns { AreTurnsKept self.now.trace.now.recording.past self.now.turns.now }
+        requires mentions { AreMentionsKept self.now.trace.now.recording.past self.now.mentions.now }
+        requires few { length group.now ≤ 256 }
+        requires inside { All (λ k. k < length self.now.trace.now.recording.past) group.now }
+        ensures { IfOk result (LeastAmongBy self.now.trace.now.recording f end group.now) }
+    {
+        let lists = firsts_of(alloc, self.trace, end, group)?;
+        Ok(self.least_of(f, end, group, lists.as_slice()))
+    }
+
+    /// The least breach of the deliveries at these positions, which are below `end`, by groups.
+    fn least_by_groups(
+        &self,
+        alloc: Global,
+        f: u16,
+        end: u32,
+        positions: &[u32],
+    ) -> Result<Option<Breach>, NoMemory>
+        requires within { end ≤ length self.now.trace.now.recording.past }
+        requires lasting { NoneReleasedFrom self.now.trace.now.recording.past self.now.lasting_from }
+        requires turns { AreTurnsKept self.now.trace.now.recording.past self.now.turns.now }
+        requires mentions { AreMentionsKept self.now.trace.now.recording.past self.now.mentions.now }
+        requires below { All (λ k. k < end) positions.now }
+        ensures { IfOk result (LeastAmongBy self.now.trace.now.recording f end positions.now) }
+    {
+        let mut least = None;
+        let mut until = end;
+        for group in positions.chunks(GROUP) {
+            if let Some(found) = self.least_in_group(alloc, f, until, group)? {
+                until = found.instant;
+                least = earlier(least, Some(found));
+            }
+        }
+        Ok(least)
+    }
+
     /// The least breach, by instant and then by position, of the deliveries at these positions, if it comes by the instant
     /// `end`; None where none of them has an orphan by then.
     ///
-    /// For each position it takes at most time as the entries from there, or from the first mention of its determinant, up
-    /// to `end` or to a breach that was found; an entry that tells nothing of the delivery costs a few instructions. It
-    /// takes a byte for each entry of the run.
+    /// The entries up to `end`, or to a breach that was found, are walked once for each 256 positions, a few instructions
+    /// each. Beside that each position takes time as what changes for its delivery: as the mentions of its determinant, the
+    /// crashes and restarts, and the entries by which it newly reaches a process. It takes four bytes for each position, and
+    /// for one group at a time 32 for each entry of the run and four for each entry by which one newly reaches a process.
     ///
     /// # Errors
     /// `NoMemory` where memory was refused.
@@ -226,7 +176,7 @@ impl Scan<'_> {
         requires mentions { AreMentionsKept self.now.trace.now.recording.past self.now.mentions.now }
         ensures { IfOk result (LeastAmongBy self.now.trace.now.recording f end positions.now) }
     {
-        let mut reached = vec![in alloc; false; self.trace.len() as usize]?;
-        Ok(self.least_of(f, end, positions, reached.as_mut_slice()))
+        let kept = those_below(alloc, positions, end)?;
+        self.least_by_groups(alloc, f, end, kept.as_slice())
     }
 }

@@ -3,17 +3,20 @@ use Rattle.std.proofs.Common.{ℕ, ◌≡◌, ◌<◌, ◌≤◌, inl, inr, Bool
 use Rattle.std.specs.Prelude.{◌⊎◌, Contains, if◌then◌else◌}
 use Rattle.std.proofs.lemmas.Bool.{cases_lt}
 use Rattle.std.proofs.lemmas.Bool.Decides.{nat_tests}
-use Rattle.std.proofs.lemmas.List.Elements.{Contains-append_left, Contains-push, Contains-push_cases}
+use Rattle.std.proofs.lemmas.List.Elements.{Contains-append_cases, Contains-append_left, Contains-append_right, Contains-push, Contains-push_cases}
 use Rattle.causal_name.specs.declared.Det.{Det}
 use Rattle.causal_trace.specs.Past.{instant, deliveries_in, det_at}
 use Rattle.causal_trace.specs.Rows.{Recording, AreAccepted}
 use Rattle.causal_trace.specs.Judgement.{HasOrphan}
 use Rattle.causal_audit.specs.declared.breach.Breach.{Breach}
 use Rattle.causal_audit.specs.Earlier.{comes_before, earlier}
+use Rattle.causal_audit.specs.Inside.Scans.{AreThoseBelow}
 use Rattle.causal_audit.specs.Numbers.{IsNumbered}
 use Rattle.causal_audit.specs.Breaches.{FirstBreachBy, IsFirstBreach, HasNoOrphanBy, IsLeastAmong, LeastAmongBy, LeastBreachBy, horizon}
 use Rattle.causal_audit.proofs.Lemmas.LeastLemmas.{before_least, not_before_least}
 use Rattle.causal_audit.proofs.Newly.{numbered_some}
+use Rattle.causal_audit.proofs.Orphaned.{not_yet}
+use Rattle.causal_trace.proofs.Lemmas.AtInstants.{instant_length}
 use Rattle.causal_audit.proofs.Numbered.{has_number, numbered_later, numbered_below}
 
 module _ (r : Recording) (f : ℕ) where
@@ -31,35 +34,31 @@ module _ (r : Recording) (f : ℕ) where
   by_bound : (b : Breach) (end t k : ℕ) → b.instant ≤ end → end < t → (b.instant ≤ t) × (b.instant ≡ t → b.delivery ≤ k)
   by_bound b end t k low late = (omega (arith, low, late), λ same. absurd (omega (arith, low, late, same)))
 
-  first_listed : (positions : List ℕ) (k : ℕ) (b : Breach) → IsFirstBreach r f k b → Contains (positions ++ k ∷ []) b.delivery
-  first_listed positions k b first = subst (Contains (positions ++ k ∷ [])) (sym first.delivery) (Contains-push positions k)
+  -- nothing is in the empty list
+  nothing : (k : ℕ) → Contains {X = ℕ} [] k → ⊥
+  nothing k listed = omega (arith, listed.1)
 
-  chosen : (positions : List ℕ) (end k : ℕ) (a b : Breach) → a.instant ≤ end → b.instant ≤ a.instant → IsLeastAmong r f positions a → IsFirstBreach r f k b → (x : Bool) → comes_before b a ≡ x
-      → LeastAmongBy r f end (positions ++ k ∷ []) (if x then Some b else Some a)
-  chosen positions end k a b low short one first true before = (
+  chosen : (positions more : List ℕ) (end : ℕ) (a b : Breach) → a.instant ≤ end → b.instant ≤ a.instant → IsLeastAmong r f positions a → IsLeastAmong r f more b → (x : Bool) → comes_before b a ≡ x
+      → LeastAmongBy r f end (positions ++ more) (if x then Some b else Some a)
+  chosen positions more end a b low short one other true before = (
     omega (arith, low, short),
     record {
-      among = first_listed positions k b first;
-      first = subst (λ x. IsFirstBreach r f x b) (sym first.delivery) first;
-      least = λ j t listed in_time has. elim (Contains-push_cases positions k j listed) [
+      among = Contains-append_right positions more b.delivery other.among;
+      first = other.first;
+      least = λ j t listed in_time has. elim (Contains-append_cases positions more j listed) [
         | inl old ↦ before_least a b j t before (one.least j t old in_time has)
-        | inr new ↦
-            let same : j ≡ k = sym new in
-            subst (λ x. (b.instant ≤ t) × (b.instant ≡ t → b.delivery ≤ x)) (sym same) (first_least k b first t (subst (HasOrphan r.processes f (instant r.past t)) same has))
+        | inr new ↦ other.least j t new in_time has
       ];
     },
   )
-  chosen positions end k a b low short one first false before = (
+  chosen positions more end a b low short one other false before = (
     low,
     record {
-      among = Contains-append_left positions (k ∷ []) a.delivery one.among;
+      among = Contains-append_left positions more a.delivery one.among;
       first = one.first;
-      least = λ j t listed in_time has. elim (Contains-push_cases positions k j listed) [
+      least = λ j t listed in_time has. elim (Contains-append_cases positions more j listed) [
         | inl old ↦ one.least j t old in_time has
-        | inr new ↦
-            let same : j ≡ k = sym new in
-            not_before_least a b j t before
-            (subst (λ x. (b.instant ≤ t) × (b.instant ≡ t → b.delivery ≤ x)) (sym same) (first_least k b first t (subst (HasOrphan r.processes f (instant r.past t)) same has)))
+        | inr new ↦ not_before_least a b j t before (other.least j t new in_time has)
       ];
     },
   )
@@ -67,58 +66,101 @@ module _ (r : Recording) (f : ℕ) where
   -- of no position there is none
   pub among_none : (end : ℕ) → LeastAmongBy r f end [] None
   among_none end k t listed = absurd (nothing k listed)
-    where
-      empty : List ℕ
-      empty = []
 
-      nothing : (k : ℕ) → Contains empty k → ⊥
-      nothing k listed = omega (arith, listed.1)
-
-  -- One position more need be known no further than the breach so far.
-  pub among_more : (end until : ℕ) (positions : List ℕ) (k : ℕ) (one other : Option Breach) → until ≡ horizon end one → LeastAmongBy r f end positions one → FirstBreachBy r f until k other
-      → LeastAmongBy r f end (positions ++ k ∷ []) (earlier one other)
-  among_more end until positions k None None reach so_far next = λ j t listed low has. elim (Contains-push_cases positions k j listed) [
-    | inl old ↦ so_far j t old low has
-    | inr new ↦ next t (omega (arith, low, reach)) (subst (HasOrphan r.processes f (instant r.past t)) (sym new) has)
+  -- of one position it is the first breach of its delivery
+  among_one : (end k : ℕ) (found : Option Breach) → FirstBreachBy r f end k found → LeastAmongBy r f end (k ∷ []) found
+  among_one end k None none = λ j t listed low has. elim (Contains-push_cases [] k j listed) [
+    | inl old ↦ absurd (nothing j old)
+    | inr new ↦ none t low (subst (HasOrphan r.processes f (instant r.past t)) (sym new) has)
   ]
-  among_more end until positions k None (Some b) reach so_far next = (
+  among_one end k (Some b) one = (
+    one.0,
+    record {
+      among = subst (Contains (k ∷ [])) (sym one.1.delivery) (Contains-push [] k);
+      first = subst (λ x. IsFirstBreach r f x b) (sym one.1.delivery) one.1;
+      least = λ j t listed in_time has. elim (Contains-push_cases [] k j listed) [
+        | inl old ↦ absurd (nothing j old)
+        | inr new ↦
+            let same : j ≡ k = sym new in
+            subst (λ x. (b.instant ≤ t) × (b.instant ≡ t → b.delivery ≤ x)) (sym same) (first_least k b one.1 t (subst (HasOrphan r.processes f (instant r.past t)) same has))
+      ];
+    },
+  )
+
+  -- More positions need be known no further than the breach so far.
+  pub among_joined : (end until : ℕ) (positions more : List ℕ) (one other : Option Breach) → until ≡ horizon end one → LeastAmongBy r f end positions one → LeastAmongBy r f until more other
+      → LeastAmongBy r f end (positions ++ more) (earlier one other)
+  among_joined end until positions more None None reach so_far next = λ j t listed low has. elim (Contains-append_cases positions more j listed) [
+    | inl old ↦ so_far j t old low has
+    | inr new ↦ next j t new (omega (arith, low, reach)) has
+  ]
+  among_joined end until positions more None (Some b) reach so_far next = (
     omega (arith, next.0, reach),
     record {
-      among = first_listed positions k b next.1;
-      first = subst (λ x. IsFirstBreach r f x b) (sym next.1.delivery) next.1;
-      least = λ j t listed in_time has. elim (Contains-push_cases positions k j listed) [
+      among = Contains-append_right positions more b.delivery next.1.among;
+      first = next.1.first;
+      least = λ j t listed in_time has. elim (Contains-append_cases positions more j listed) [
         | inl old ↦ elim (cases_lt end t) [
           | inl late ↦ by_bound b end t j (omega (arith, next.0, reach)) late
           | inr early ↦ absurd (so_far j t old early has)
         ]
-        | inr new ↦
-            let same : j ≡ k = sym new in
-            subst (λ x. (b.instant ≤ t) × (b.instant ≡ t → b.delivery ≤ x)) (sym same) (first_least k b next.1 t (subst (HasOrphan r.processes f (instant r.past t)) same has))
+        | inr new ↦ next.1.least j t new in_time has
       ];
     },
   )
-  among_more end until positions k (Some a) None reach so_far next = (
+  among_joined end until positions more (Some a) None reach so_far next = (
     so_far.0,
     record {
-      among = Contains-append_left positions (k ∷ []) a.delivery so_far.1.among;
+      among = Contains-append_left positions more a.delivery so_far.1.among;
       first = so_far.1.first;
-      least = λ j t listed in_time has. elim (Contains-push_cases positions k j listed) [
+      least = λ j t listed in_time has. elim (Contains-append_cases positions more j listed) [
         | inl old ↦ so_far.1.least j t old in_time has
         | inr new ↦ elim (cases_lt a.instant t) [
           | inl late ↦ by_bound a a.instant t j (omega arith) late
-          | inr early ↦ absurd (next t (omega (arith, early, reach)) (subst (HasOrphan r.processes f (instant r.past t)) (sym new) has))
+          | inr early ↦ absurd (next j t new (omega (arith, early, reach)) has)
         ]
       ];
     },
   )
-  among_more end until positions k (Some a) (Some b) reach so_far next =
-      chosen positions end k a b so_far.0 (omega (arith, next.0, reach)) so_far.1 next.1 (comes_before b a) refl
+  among_joined end until positions more (Some a) (Some b) reach so_far next =
+      chosen positions more end a b so_far.0 (omega (arith, next.0, reach)) so_far.1 next.1 (comes_before b a) refl
 
-  -- and where it has none by then, the least stays
+  -- and where none of them has one by then, the least stays
+  pub joined_same : (end until : ℕ) (positions more : List ℕ) (one : Option Breach) → until ≡ horizon end one → LeastAmongBy r f end positions one → LeastAmongBy r f until more None
+      → LeastAmongBy r f end (positions ++ more) one
+  joined_same end until positions more None reach so_far next = among_joined end until positions more None None reach so_far next
+  joined_same end until positions more (Some a) reach so_far next = among_joined end until positions more (Some a) None reach so_far next
+
+  -- one position more
+  pub among_more : (end until : ℕ) (positions : List ℕ) (k : ℕ) (one other : Option Breach) → until ≡ horizon end one → LeastAmongBy r f end positions one → FirstBreachBy r f until k other
+      → LeastAmongBy r f end (positions ++ k ∷ []) (earlier one other)
+  among_more end until positions k one other reach so_far next = among_joined end until positions (k ∷ []) one other reach so_far (among_one until k other next)
+
+  -- and where its delivery has none by then, the least stays
   pub among_same : (end until : ℕ) (positions : List ℕ) (k : ℕ) (one : Option Breach) → until ≡ horizon end one → LeastAmongBy r f end positions one → FirstBreachBy r f until k None
       → LeastAmongBy r f end (positions ++ k ∷ []) one
-  among_same end until positions k None reach so_far next = among_more end until positions k None None reach so_far next
-  among_same end until positions k (Some a) reach so_far next = among_more end until positions k (Some a) None reach so_far next
+  among_same end until positions k one reach so_far next = joined_same end until positions (k ∷ []) one reach so_far (among_one until k None next)
+
+  -- the deliveries that are made later have no orphan by the end
+  pub among_below : (end : ℕ) (positions kept : List ℕ) (found : Option Breach) → end ≤ length r.past → AreThoseBelow positions end kept → LeastAmongBy r f end kept found → LeastAmongBy r f end positions found
+  among_below end positions kept None within those none = λ k t listed low has. elim (cases_lt k end) [
+    | inl early ↦ none k t (those.each k listed early) low has
+    | inr late ↦ not_yet r.processes f (instant r.past t) k (omega (arith, late, low, instant_length r.past t (omega (arith, low, within)))) has
+  ]
+  among_below end positions kept (Some b) within those one = (
+    one.0,
+    record {
+      among = those.only b.delivery one.1.among;
+      first = one.1.first;
+      least = λ k t listed in_time has. elim (cases_lt k end) [
+        | inl early ↦ one.1.least k t (those.each k listed early) in_time has
+        | inr late ↦ elim (cases_lt k t) [
+          | inl made ↦ by_bound b end t k one.0 (omega (arith, late, made))
+          | inr before ↦ absurd (not_yet r.processes f (instant r.past t) k (omega (arith, before, instant_length r.past t in_time)) has)
+        ]
+      ];
+    },
+  )
 
   -- a breach by the horizon is the new one
   pub horizon_more : (end : ℕ) (one : Option Breach) (b : Breach) → b.instant ≤ horizon end one → b.instant ≡ horizon end (earlier one (Some b))

@@ -15,17 +15,20 @@ HasFirstsUntil past k end list =
     (v p l : ℕ) → v < end → IsEventOf past v p l → Reaches past k v
     → Contains list v ⊎ ((i : ℕ) × (i < v) × IsEventOf past i p l × Reaches past k i)
 
--- ascending they have each position below `end` at which something may change for the delivery at k, whose determinant is d;
--- the firsts are such that it reaches
+-- it ascends, and has only such that k reaches
+pub record AreFirstsBelow (past : List Entry) (k end : ℕ) (list : List ℕ) : Type 0 where
+  pub ascend : IsNonDecreasing list
+  pub reached : (v : ℕ) → Contains list v → Reaches past k v
+  pub first : HasFirstsUntil past k end list
+
+-- ascending they have each position below `end` at which something may change for the delivery at k, whose determinant is d
 pub record AreFollowed (past : List Entry) (k : ℕ) (d : Det) (end : ℕ) (changes : Changes) : Type 0 where
   pub mentions_ascend : IsNonDecreasing changes.mentions.now
   pub turns_ascend : IsNonDecreasing changes.turns.now
-  pub firsts_ascend : IsNonDecreasing changes.firsts.now
   pub mentioned : HasMentions past d changes.mentions.now
   pub only : AreMentionsOf past d changes.mentions.now
   pub turned : HasTurns past changes.turns.now
-  pub reached : (v : ℕ) → Contains changes.firsts.now v → Reaches past k v
-  pub first : HasFirstsUntil past k end changes.firsts.now
+  pub firsts : AreFirstsBelow past k end changes.firsts.now
 
 -- an event is reached where it is newly, or where its process depends on the delivery already
 abbrev pub IsReachedBy : Entry → FinSet nat_cmp → Bool → Bool → Type 0

@@ -1,18 +1,37 @@
-use Rattle.std.proofs.Common.{◌≡◌, ◌≤◌, ◌<◌, length, None, Some, sym, ◌∙◌, arith}
+use Rattle.std.proofs.Common.{ℕ, ◌≡◌, ◌≤◌, ◌<◌, List, Vec, Global, length, map, None, Some, sym, subst, ◌∙◌, arith}
+use Rattle.std.specs.List.Sorted.{IsNonDecreasing}
+use Rattle.causal_audit.specs.Inside.Changes.{AreMentionsOf, HasMentions, HasTurns}
+use Rattle.causal_audit.proofs.Mentioned.{mentions_ascend}
 use Rattle.causal_trace.specs.Past.{instant}
 use Rattle.causal_trace.proofs.Lemmas.AtInstants.{det_then, det_within, instant_length}
 use Rattle.causal_audit.proofs.Orphaned.{not_yet}
 use Rattle.causal_audit.proofs.scan.Scan.first_breach_at.Goals as goal
 
-pub returns-then-end-k-clause-first : goal.returns-then-end-k-clause-first
-returns-then-end-k-clause-first c t within has =
+abbrev positions : Vec ℕ Global → List ℕ
+positions list = list.items
+
+pub returns-then-end-k : goal.returns-then-end-k
+returns-then-end-k c t within has =
     let r = c.args.self.now.trace.now.recording in
     not_yet r.processes c.args.f (instant r.past t) c.args.k (omega (arith, within, c.if-end-k.true, c.requires.within, instant_length r.past t (omega (arith, within, c.requires.within)))) has
 
-pub returns-in_default-clause-first : goal.returns-in_default-clause-first
-returns-in_default-clause-first c t within has =
+pub returns-in_default : goal.returns-in_default
+returns-in_default c t within has =
     let r = c.args.self.now.trace.now.recording in
     let inside : t ≤ length r.past = omega (arith, within, c.requires.within) in
     let made : c.args.k < t = omega (arith, det_within (instant r.past t) c.args.k has.is_orphan.det has.is_orphan.delivered, instant_length r.past t inside) in
     let none : None ≡ Some has.is_orphan.det = sym c.in_default.is ∙ c.det_at.ensures ∙ sym (det_then r.past t c.args.k made inside) ∙ has.is_orphan.delivered in
     absurd (let e : None ≡ Some has.is_orphan.det = none in cc)
+
+pub first_followed-requires-clause-changes : goal.first_followed-requires-clause-changes
+first_followed-requires-clause-changes c =
+    let past = c.args.self.now.trace.now.recording.past in
+    let mentions = c.requires.mentions in
+    record {
+      mentions_ascend = subst IsNonDecreasing (sym c.list.ensures) (mentions_ascend past c.args.self.now.mentions.now.numbers (map positions c.args.self.now.mentions.now.lists.items) mentions c.in-Some.det);
+      turns_ascend = subst IsNonDecreasing (sym c.as_slice.ensures.value) c.requires.turns.ascends.ascending;
+      mentioned = subst (HasMentions past c.in-Some.det) (sym c.list.ensures) (mentions.mentioned c.in-Some.det);
+      only = subst (AreMentionsOf past c.in-Some.det) (sym c.list.ensures) (mentions.only c.in-Some.det);
+      turned = subst (HasTurns past) (sym c.as_slice.ensures.value) c.requires.turns.turned;
+      firsts = c.requires.firsts c.in-Some.det (sym c.in-Some.ensures);
+    }
