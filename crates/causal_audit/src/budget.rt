@@ -14,9 +14,10 @@ pub struct Budget {
 }
 
 impl Budget {
-    /// The steps for a run: 256 for each entry, and one for each determinant that an entry lists. A run in which nobody
-    /// restarts needs no more: no two of its deliveries have the same determinant, so all of them together have as many
-    /// mentions as are listed or written to stable storage, and each meets at most 256 crashes.
+    /// The steps for a run: 256 for each entry, and one for each determinant that an entry lists. To see which deliveries are
+    /// covered a run in which nobody restarts needs no more: no two of its deliveries have the same determinant, so all of them
+    /// together have as many mentions as are listed or written to stable storage, and each meets at most 256 crashes. To follow
+    /// one that is not covered takes its steps once more.
     pub fn of(trace: &Trace) -> Budget
         ensures { result.left ≡ 256 * length trace.now.recording.past + listed_in trace.now.recording.past }
     {

@@ -18,7 +18,7 @@ use causal_trace::trace::Trace;
 use std::alloc::Global;
 
 /// How many deliveries that are not covered a survey gathers.
-const LIMIT: usize = 256;
+const LIMIT: usize = 4096;
 
 /// What a survey of the deliveries reads: the outline of the run, what mentions each determinant, and how long each entry stays
 /// with its process; and for which f and up to which instant it asks.
@@ -32,38 +32,49 @@ pub struct Survey<'a> {
 }
 
 impl Survey<'_> {
-    /// Whether the delivery at k, whose determinant this is, is seen to be covered at each instant up to the end. Each mention
-    /// of the determinant and each crash and restart may take a step; where fewer are left, the delivery is not looked at.
+    /// How many steps a look at a delivery with this determinant may take: one for each entry that mentions the determinant, and
+    /// for each crash and restart.
+    fn steps(&self, det: Det) -> usize
+        requires survey { IsSurvey self.now }
+    {
+        let turns = self.outline.turns.positions.len();
+        self.mentions.list(det).len().saturating_add(turns)
+    }
+
+    /// Whether the delivery at k, whose determinant this is, is seen to be covered at each instant up to the end. Where fewer
+    /// steps are left than that may take, the delivery is not looked at.
     fn covers(&self, k: u32, det: Det, budget: &mut Budget) -> bool
         requires survey { IsSurvey self.now }
         requires delivery { det_at self.now.outline.trace.now.recording.past k ≡ Some det }
         ensures { result ≡ true → HasNoOrphanBy self.now.outline.trace.now.recording self.now.f k self.now.end }
     {
-        let mentions = self.mentions.list(det);
-        let turns = self.outline.turns.positions.len();
-        if !budget.take(mentions.len().saturating_add(turns)) {
+        if !budget.take(self.steps(det)) {
             return false;
         }
+        let mentions = self.mentions.list(det);
         let stay = self.stays[k as usize];
         is_covered(&self.outline, mentions, stay, self.f, self.end, k, det)
     }
 
-    /// Gathers the position k, if there is a delivery that is not seen to be covered.
-    fn gather(&self, k: u32, budget: &mut Budget, gathered: &mut Vec<u32>) -> Result<(), NoMemory>
+    /// Gathers the position k, if there is a delivery that is not seen to be covered, and tells whether the steps suffice to
+    /// follow it later, which takes as many once more.
+    fn gather(&self, k: u32, budget: &mut Budget, gathered: &mut Vec<u32>) -> Result<bool, NoMemory>
         requires survey { IsSurvey self.now }
         ensures { OnOk result
             (AreGathered self.now k gathered.old.items → AreGathered self.now (k + 1) gathered.new.items) }
     {
         let Some(det) = self.outline.trace.det_at(k) else {
-            return Ok(());
+            return Ok(true);
         };
-        if !self.covers(k, det, budget) {
-            gathered.push(k)?;
+        if self.covers(k, det, budget) {
+            return Ok(true);
         }
-        Ok(())
+        gathered.push(k)?;
+        Ok(budget.take(self.steps(det)))
     }
 
-    /// The positions of the deliveries before the end that are not seen to be covered, in order; None where they are too many.
+    /// The positions of the deliveries before the end that are not seen to be covered, in order; None where they are too many,
+    /// or the steps do not suffice to follow them.
     fn uncovered(&self, alloc: Global) -> Result<Option<Vec<u32>>, NoMemory>
         requires survey { IsSurvey self.now }
         ensures { IfOk result (λ found. IfSome found (λ positions. AreGathered self.now self.now.end positions.items)) }
@@ -71,15 +82,15 @@ impl Survey<'_> {
         let mut budget = Budget::of(self.outline.trace);
         let mut gathered = Vec::new(alloc);
         for k in 0..self.end {
-            self.gather(k, &mut budget, &mut gathered)?;
-            if gathered.len() > LIMIT {
+            let suffices = self.gather(k, &mut budget, &mut gathered)?;
+            if !suffices || gathered.len() > LIMIT {
                 return Ok(None);
             }
         }
         Ok(Some(gathered))
     }
 
-    /// The least breach of the deliveries, where few are left: their messages are followed one delivery at a time.
+    /// The least breach of the deliveries, where few are left: their messages are followed, those of a group at once.
     fn least(&self, alloc: Global) -> Result<Surveyed, NoMemory>
         requires survey { IsSurvey self.now }
         ensures { IfOk result (IsSurveyed self.now.outline.trace.now.recording self.now.f self.now.end) }
@@ -99,11 +110,12 @@ impl Survey<'_> {
 }
 
 /// The least breach of a run by the instant `end`, by instant and then by position, as far as a survey tells: where all but
-/// at most 256 deliveries before it are seen to be covered throughout. Then those are followed one by one.
+/// at most 4,096 deliveries before it are seen to be covered throughout. Then those are followed, 256 at once.
 ///
-/// It takes time and memory as the entries and the listed determinants; then at most 256 steps for each entry, and for each
-/// delivery that is not covered time as the entries. Where many deliveries share a determinant that is mentioned often the
-/// steps may not suffice; those that are left then are not covered.
+/// It takes time and memory as the entries and the listed determinants; then at most 256 steps for each entry and one for each
+/// listed determinant, to see which deliveries are covered and to follow those that are not; and for each 256 of these one walk
+/// over the entries, so 16 at most, and for each as many steps as there are lanes. Where many deliveries share a determinant
+/// that is mentioned often the steps may not suffice; then nothing is told.
 ///
 /// # Errors
 /// `NoMemory` where memory was refused.
