@@ -5,7 +5,7 @@ ghost use Rattle.causal_trace.specs.Past.{listed_in};
 use causal_trace::trace::Trace;
 
 /// How many steps there are for each entry.
-const STEPS: usize = 256;
+const STEPS: usize = 32;
 
 /// How many steps a survey may still take.
 #[derive(Clone, Copy)]
@@ -14,12 +14,12 @@ pub struct Budget {
 }
 
 impl Budget {
-    /// The steps for a run: 256 for each entry, and one for each determinant that an entry lists. To see which deliveries are
-    /// covered a run in which nobody restarts needs no more: no two of its deliveries have the same determinant, so all of them
-    /// together have as many mentions as are listed or written to stable storage, and each meets at most 256 crashes. To follow
-    /// one that is not covered takes its steps once more.
+    /// The steps for a run: 32 for each entry, and one for each determinant that an entry lists. To see which deliveries are
+    /// covered a run in which nobody crashes needs no more: no two of its deliveries have the same determinant, so all of them
+    /// together have as many mentions as are listed or written to stable storage. To follow one that is not covered takes its
+    /// steps once more.
     pub fn of(trace: &Trace) -> Budget
-        ensures { result.left ≡ 256 * length trace.now.recording.past + listed_in trace.now.recording.past }
+        ensures { result.left ≡ 32 * length trace.now.recording.past + listed_in trace.now.recording.past }
     {
         Budget {
             left: trace.len() as usize * STEPS + trace.listed() as usize,

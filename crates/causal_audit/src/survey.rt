@@ -32,25 +32,40 @@ pub struct Survey<'a> {
 }
 
 impl Survey<'_> {
-    /// How many steps a look at a delivery with this determinant may take: one for each entry that mentions the determinant, and
-    /// for each crash and restart.
-    fn steps(&self, det: Det) -> usize
+    /// How many steps a look at the delivery at k, whose determinant this is, may take: one for each entry that mentions the
+    /// determinant, and one for each crash and restart from there or from the first of those on.
+    fn steps(&self, k: u32, det: Det) -> usize
         requires survey { IsSurvey self.now }
     {
-        let turns = self.outline.turns.positions.len();
-        self.mentions.list(det).len().saturating_add(turns)
+        let mentions = self.mentions.list(det);
+        let from = match mentions.first() {
+            Some(position) => k.min(*position),
+            None => k,
+        };
+        mentions
+            .len()
+            .saturating_add(self.outline.turns.count_from(from))
     }
 
-    /// Whether the delivery at k, whose determinant this is, is seen to be covered at each instant up to the end. Where fewer
-    /// steps are left than that may take, the delivery is not looked at.
-    fn covers(&self, k: u32, det: Det, budget: &mut Budget) -> bool
+    /// How many steps a look at each delivery before the end may take.
+    fn steps_of_all(&self) -> usize
+        requires survey { IsSurvey self.now }
+    {
+        let mut all = 0_usize;
+        for position in 0..self.end {
+            if let Some(det) = self.outline.trace.det_at(position) {
+                all = all.saturating_add(self.steps(position, det));
+            }
+        }
+        all
+    }
+
+    /// Whether the delivery at k, whose determinant this is, is seen to be covered at each instant up to the end.
+    fn covers(&self, k: u32, det: Det) -> bool
         requires survey { IsSurvey self.now }
         requires delivery { det_at self.now.outline.trace.now.recording.past k ≡ Some det }
         ensures { result ≡ true → HasNoOrphanBy self.now.outline.trace.now.recording self.now.f k self.now.end }
     {
-        if !budget.take(self.steps(det)) {
-            return false;
-        }
         let mentions = self.mentions.list(det);
         let stay = self.stays[k as usize];
         is_covered(&self.outline, mentions, stay, self.f, self.end, k, det)
@@ -66,20 +81,24 @@ impl Survey<'_> {
         let Some(det) = self.outline.trace.det_at(k) else {
             return Ok(true);
         };
-        if self.covers(k, det, budget) {
+        if self.covers(k, det) {
             return Ok(true);
         }
         gathered.push(k)?;
-        Ok(budget.take(self.steps(det)))
+        Ok(budget.take(self.steps(k, det)))
     }
 
     /// The positions of the deliveries before the end that are not seen to be covered, in order; None where they are too many,
-    /// or the steps do not suffice to follow them.
+    /// or the steps do not suffice to look at all deliveries and to follow those. That they do not suffice for the looks is
+    /// found before the first.
     fn uncovered(&self, alloc: Global) -> Result<Option<Vec<u32>>, NoMemory>
         requires survey { IsSurvey self.now }
         ensures { IfOk result (λ found. IfSome found (λ positions. AreGathered self.now self.now.end positions.items)) }
     {
         let mut budget = Budget::of(self.outline.trace);
+        if !budget.take(self.steps_of_all()) {
+            return Ok(None);
+        }
         let mut gathered = Vec::new(alloc);
         for k in 0..self.end {
             let suffices = self.gather(k, &mut budget, &mut gathered)?;
@@ -112,7 +131,7 @@ impl Survey<'_> {
 /// The least breach of a run by the instant `end`, by instant and then by position, as far as a survey tells: where all but
 /// at most 4,096 deliveries before it are seen to be covered throughout. Then those are followed, 256 at once.
 ///
-/// It takes time and memory as the entries and the listed determinants; then at most 256 steps for each entry and one for each
+/// It takes time and memory as the entries and the listed determinants; then at most 32 steps for each entry and one for each
 /// listed determinant, to see which deliveries are covered and to follow those that are not; and for each 256 of these one walk
 /// over the entries, so 16 at most, and for each as many steps as there are lanes. Where many deliveries share a determinant
 /// that is mentioned often the steps may not suffice; then nothing is told.

@@ -36,6 +36,12 @@ impl Turns {
         }
         self.downs[passed - 1]
     }
+
+    /// How many there are from position t on.
+    pub fn count_from(&self, t: u32) -> usize {
+        let passed = self.positions.partition_point(|position| *position < t);
+        self.positions.len() - passed
+    }
 }
 
 /// Whether an entry is a crash or a restart.

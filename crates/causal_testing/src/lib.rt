@@ -10,6 +10,8 @@ mod cores;
 mod entries;
 #[cfg(test)]
 mod logs;
+#[cfg(test)]
+mod many_orphans;
 pub mod numbers;
 #[cfg(test)]
 mod plain_audits;

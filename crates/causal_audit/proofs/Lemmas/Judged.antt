@@ -67,12 +67,15 @@ module _ (n f : ℕ) (past : List Entry) (k : ℕ) (d : Det) (at : det_at past k
     is_orphan = gone_orphan e.orphan e.process e.unstable e.depends e.without;
   }
 
+-- orphans are told by counting: where the counts expose a delivery it has an orphan, and only there
 pub counted : OrphansAreCounted
 counted n f past k d at = (exposed n f past k d at, unexposed n f past k d at)
 
+-- a crash set under which somebody is an orphan has the down processes and the holders
 pub contained : CrashSetsContain
 contained n f past k d crash p at = crash_contains n f past k d at crash p
 
+-- those who are down or hold the determinant are a crash set themselves, under which there is the least orphan
 pub gone_is : GoneIsCrashSet
 gone_is n f past k d at e = (
   gone_crash n f past k d at e.few,
@@ -109,5 +112,6 @@ safe_from_covered n f past enough each = record {
       ];
 }
 
+-- for f not below n an instant is safe where each determinant is stable or logged by all who depend, and only there
 pub no_orphans : NoOrphansCondition
 no_orphans n f past enough = (covered n f past enough, safe_from_covered n f past enough)

@@ -20,6 +20,7 @@ before_least a b k t h later =
     let second : b.instant ≡ a.instant → b.delivery ≤ a.delivery = λ e. grind (arith, nat_tests) in
     (omega (arith, first, later.0), λ e. let same : a.instant ≡ t = omega (arith, first, later.0, e) in omega (arith, later.1 same, second (omega (arith, same, e))))
 
+-- and than what does not come after a
 pub not_before_least : (a b : Breach) (k t : ℕ) → comes_before b a ≡ false → (b.instant ≤ t) × (b.instant ≡ t → b.delivery ≤ k) → (a.instant ≤ t) × (a.instant ≡ t → a.delivery ≤ k)
 not_before_least a b k t h later =
     let first : a.instant ≤ b.instant = grind (arith, nat_tests) in

@@ -72,6 +72,7 @@ excess_or_breach r f t u k d c p same a b =
     let at : IsExcess r.processes f (instant r.past u) d = subst (λ x. IsExcess r.processes f (instant r.past x) d) same a in
     absurd (omega (arith, at.many, b.few_down))
 
+-- two verdicts on one run for one f are equal
 pub one_verdict : VerdictsAreOne
 one_verdict r f Accept Accept a b = refl
 one_verdict r f Accept (Exceeded t d) a b = absurd (b.0.unsafe (a t b.0.within))

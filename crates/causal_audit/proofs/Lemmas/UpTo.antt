@@ -83,5 +83,6 @@ module _ (r : Recording) (f end : ℕ) (within : end ≤ length r.past) where
         },
       )
 
+-- the least breach of a run up to an instant is that of the whole run, as far as that instant
 pub least_up_to : LeastUpTo
 least_up_to r f end found within least = least_then r f end within found least

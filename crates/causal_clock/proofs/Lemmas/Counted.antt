@@ -20,6 +20,7 @@ pub record IsCountOf (rises : List Rise) (place count i : ℕ) : Type 0 where
   pub reached : (rise_at rises i).place ≤ place
   pub count_is : count ≡ (rise_at rises i).count
 
+-- a count is nothing yet, or that of the last rise no later than the place
 pub count_risen : (rises : List Rise) (place : ℕ) → (count_at rises place ≡ 0) ⊎ ((i : ℕ) × IsCountOf rises place (count_at rises place) i)
 count_risen [] place = inl refl
 count_risen (r ∷ rises) place =

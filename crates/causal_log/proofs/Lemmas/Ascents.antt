@@ -12,15 +12,18 @@ use Rattle.causal_name.specs.Names.{det_cmp, same_det, is_before, is_ascending}
 use Rattle.causal_name.proofs.Lemmas.DetOrder.{dets_total, same_is}
 use Rattle.causal_log.proofs.Lemmas.Searches.{both, shown}
 
+-- the rest of an ascending list ascends
 pub ascending_tail : (d : Det) (ds : List Det) → is_ascending (d ∷ ds) ≡ true → is_ascending ds ≡ true
 ascending_tail d [] h = refl
 ascending_tail d (e ∷ ds) h = (both (is_before d e) (is_ascending (e ∷ ds)) h).1
 
+-- what is told as less is less
 pub is_less : (r : Ordering) → is_lt r ≡ true → r ≡ Less
 is_less Less e = refl
 is_less Equal e = absurd (true≢false (sym e))
 is_less Greater e = absurd (true≢false (sym e))
 
+-- the order of determinants is transitive
 pub before_trans : (x y z : Det) → is_before x y ≡ true → is_before y z ≡ true → is_before x z ≡ true
 before_trans x y z h k = ap is_lt (dets_total.trans x y z (is_less (det_cmp x y) h) (is_less (det_cmp y z) k))
 

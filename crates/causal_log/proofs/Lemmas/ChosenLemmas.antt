@@ -13,5 +13,6 @@ dets_of_items : (es : List (Det × Known)) → dets_of (map item_of es) ≡ keys
 dets_of_items [] = refl
 dets_of_items (e ∷ es) = ap (λ ds. e.0 ∷ ds) (dets_of_items es)
 
+-- what messages carry ascends
 pub chosen_ascend : (f : ℕ) (log : LogMap) → is_ascending (dets_of (chosen f log)) ≡ true
 chosen_ascend f log = ap is_ascending (dets_of_items (filter (λ e. is_carried f e.1) (fin.entries log))) ∙ filter_ascends (λ e. is_carried f e.1) log

@@ -46,6 +46,7 @@ module _ (has : Known → Bool) (either : (one other : Known) → has (joined on
       ∙ ap (λ b. b || list_any (λ e. same_det q e.0 && has e.1) es) (known_one log e.0 e.1 q)
       ∙ or_assoc (has (known_of log q)) (same_det q e.0 && has e.1) (list_any (λ e. same_det q e.0 && has e.1) es)
 
+-- after many were learned, those are logged that were before or are among them
 pub logged_all : (es : List (Det × Known)) (log : LogMap) (q : Det) → is_some (fin.get (learned_all es log) q) ≡ (is_some (fin.get log q) || list_any (λ e. same_det q e.0) es)
 logged_all [] log q = or_nothing (is_some (fin.get log q))
 logged_all (e ∷ es) log q =
@@ -57,6 +58,7 @@ logged_all (e ∷ es) log q =
 pub holds_either : (p : ℕ) (one other : Known) → set.contains (joined one other).holders p ≡ (set.contains one.holders p || set.contains other.holders p)
 holds_either p one other = set.contains-union nat_cmp_total one.holders other.holders p
 
+-- what is joined is stable where either is
 pub stable_either : (one other : Known) → (joined one other).stable ≡ (one.stable || other.stable)
 stable_either one other = refl
 

@@ -38,6 +38,7 @@ module _ (P : Known → Bool) where
 pub stable_ascends : (log : LogMap) → is_ascending (stable_in log) ≡ true
 stable_ascends = passing_ascend (λ k. k.stable)
 
+-- a determinant is among the marked ones where what is known of it has the mark
 pub stable_listed : (log : LogMap) (det : Det) → list_any (same_det det) (stable_in log) ≡ (known_of log det).stable
 stable_listed log det = passing_logged (λ k. k.stable) log det ∙ by (fin.get log det)
   where
@@ -49,6 +50,7 @@ stable_listed log det = passing_logged (λ k. k.stable) log det ∙ by (fin.get 
 pub unstable_ascends : (log : LogMap) → is_ascending (unstable_in log) ≡ true
 unstable_ascends = passing_ascend (λ k. not k.stable)
 
+-- a determinant is among the others where it is logged and has no mark
 pub unstable_listed : (log : LogMap) (det : Det) → list_any (same_det det) (unstable_in log) ≡ (is_some (fin.get log det) && not (known_of log det).stable)
 unstable_listed log det = passing_logged (λ k. not k.stable) log det ∙ by (fin.get log det)
   where

@@ -12,18 +12,22 @@ use Rattle.causal_name.specs.Names.{det_cmp, same_det, is_before}
 use Rattle.std.specs.Cmp.{eq_by_cmp_equiv, tied_itself}
 use Rattle.causal_name.proofs.Lemmas.DetOrder.{dets_total, det_ties, same_is}
 
+-- where both are told, each is
 pub both : (a b : Bool) → (a && b) ≡ true → (a ≡ true) × (b ≡ true)
 both true b h = (refl, h)
 both false b h = absurd (true≢false (sym h))
 
+-- what a test shows is true
 pub shown : (b : Bool) → T b → b ≡ true
 shown true h = refl
 shown false h = absurd h
 
+-- true on the right makes the whole true
 pub or_right : (a : Bool) → true ≡ (a || true)
 or_right true = refl
 or_right false = refl
 
+-- false on the right changes nothing
 pub or_nothing : (a : Bool) → a ≡ (a || false)
 or_nothing true = refl
 or_nothing false = refl
@@ -33,6 +37,7 @@ pub any_map : {A B : Type 0} (f : A → B) (test : B → Bool) (given : A → Bo
 any_map f test given is [] = refl
 any_map f test given is (x ∷ xs) = λ i. is x i || any_map f test given is xs i
 
+-- and among what it gives of a filtered list
 pub any_kept : {A B : Type 0} (f : A → B) (keeps : A → Bool) (test : B → Bool) (given : A → Bool) → ((x : A) → (keeps x && test (f x)) ≡ given x) → (xs : List A) → list_any test (map f (filter keeps xs)) ≡ list_any given xs
 any_kept f keeps test given is [] = refl
 any_kept f keeps test given is (x ∷ xs) =

@@ -39,6 +39,7 @@ one_list (c ∷ cs) (d ∷ ds) e n f g =
     let tail : cs ≡ ds = one_list cs ds others more f.1 g.1 in
     cc
 
+-- a text spells one plan
 pub one_plan : (text : List ℕ) (p q : Plan) → Spells text p → Spells text q → p ≡ q
 one_plan text p q a b =
     let all : start_line p.start ∷ map (λ (c : Command). command_line c.request) p.commands ≡ start_line q.start ∷ map (λ (c : Command). command_line c.request) q.commands = sym a.said ∙ b.said in
@@ -52,6 +53,7 @@ one_plan text p q a b =
 
 -- ---- one fault
 
+-- a text has one first fault
 pub one_fault : (text : List ℕ) (f g : ScriptFault) → IsFirstFault text f → IsFirstFault text g → f ≡ g
 one_fault text f g a b = by_place (cases_lt a.before b.before) (cases_lt b.before a.before) where
   kinds : (k l : ScriptFaultKind) → IsFaultAfter text a.before k → IsFaultAfter text a.before l → (k ≡ Script → IsFaultAfter text a.before Big → ⊥) → (l ≡ Script → IsFaultAfter text a.before Big → ⊥) → k ≡ l
@@ -90,6 +92,7 @@ stands : (s : Start) (cs : List Command) (k : ℕ) → IsStart s → AllByRecurs
 stands s cs zero h all = (s, h, refl)
 stands s cs (suc k) h all = commands_stand cs k all
 
+-- no text both spells a plan and has a first fault
 pub not_both : (text : List ℕ) (p : Plan) (f : ScriptFault) → Spells text p → IsFirstFault text f → ⊥
 not_both text p f a b = by_kind f.kind b.faulty where
   by_kind : (k : ScriptFaultKind) → IsFaultAfter text b.before k → ⊥
@@ -168,6 +171,7 @@ whole text l ls s split fits is read =
       short (inl over) = absurd (read.sound (feeds (take max_script text)) Big (feeds_below max_script text over) (over, refl))
       short (inr within) = within
 
+-- each text spells a plan or has a first fault
 pub one_of_them : (text : List ℕ) → ((p : Plan) × Spells text p) ⊎ ((f : ScriptFault) × IsFirstFault text f)
 one_of_them text = by_lines (lines text) refl where
   big : (b : Option ℕ) × IsBigLine text b

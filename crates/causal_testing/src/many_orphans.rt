@@ -1,0 +1,81 @@
+//! A run in which more deliveries have an orphan at the last instant than a survey follows one by one.
+use crate::entries::{Line, push};
+use causal_audit::{Breach, Surveyed, Verdict, least_surveyed};
+use causal_holders::Holders;
+use causal_trace::fault::TraceFault;
+use causal_trace::trace::Trace;
+use causal_workers::{OpenGate, audit};
+use std::alloc::Global;
+use std::test::Fail;
+
+/// Process 0 sends so many messages to process 1, each of which lists its own delivery; then process 1 sends to process 2,
+/// and lists nothing.
+fn unlisted(alloc: Global, count: u32) -> Result<Trace, TraceFault> {
+    let mut trace = Trace::new(alloc, 3)?;
+    for number in 0..count {
+        let send = trace.len();
+        push(alloc, &mut trace, Line::Send(0, 1, number))?;
+        push(
+            alloc,
+            &mut trace,
+            Line::Deliver(1, send, number, &[(0, number, 1, number)]),
+        )?;
+    }
+    let send = trace.len();
+    push(alloc, &mut trace, Line::Send(1, 2, 0))?;
+    push(
+        alloc,
+        &mut trace,
+        Line::Deliver(2, send, 0, &[(1, 0, 2, 0)]),
+    )?;
+    Ok(trace)
+}
+
+/// What happens at this instant: if process 1 were down, process 2 would depend on its first delivery, which nobody has.
+fn breach(instant: u32) -> Breach {
+    let mut crash = Holders::none();
+    crash.insert(1);
+    Breach {
+        instant,
+        delivery: 1,
+        crash,
+        orphan: 2,
+    }
+}
+
+fn surveyed(alloc: Global, count: u32) -> Result<Surveyed, Fail> {
+    let trace = unlisted(alloc, count)?;
+    Ok(least_surveyed(alloc, &trace, 1, trace.len())?)
+}
+
+#[test]
+fn a_survey_follows_so_many(rt: HostRuntime) -> Result<(), Fail> {
+    assert_eq!(rt;
+        surveyed(rt.alloc(), 300)?,
+        Surveyed::Told(Some(breach(602)))
+    );
+    assert_eq!(rt; surveyed(rt.alloc(), 4097)?, Surveyed::TooMany);
+    Ok(())
+}
+
+#[test]
+fn beyond_them_the_verdict_is_the_same(rt: HostRuntime) -> Result<(), Fail> {
+    let Breach {
+        instant,
+        delivery,
+        crash,
+        orphan,
+    } = breach(8196);
+    let wanted = Verdict::Orphan {
+        instant,
+        delivery,
+        crash,
+        orphan,
+    };
+    let trace = unlisted(rt.alloc(), 4097)?;
+    for workers in 1..=3 {
+        let said = audit(&rt, rt.alloc(), &trace, 1, workers, &OpenGate)?;
+        assert_eq!(rt; said, wanted, "{workers} workers");
+    }
+    Ok(())
+}
