@@ -344,6 +344,3 @@ fn append(entries: &mut Vec<Entry>, lane: &mut Lane, event: Event) -> u32
     lane.events += 1;
     number
 }
-
-#[cfg(test)]
-mod tests;

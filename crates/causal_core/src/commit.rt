@@ -13,6 +13,7 @@ ghost use Rattle.causal_core.specs.View.{with_bodies};
 ghost use Rattle.causal_core.specs.View.{receivers, sent_bodies};
 ghost use Rattle.causal_core.specs.Inside.Memories.{room_of, rooms_in, room_at};
 ghost use Rattle.causal_core.specs.Inside.Grown.{batches_of, carried_by, grown_log};
+ghost use Rattle.causal_trace.specs.Limits.{max_entries};
 
 use crate::cell::Cell;
 use crate::grown::Grown;
@@ -44,7 +45,7 @@ pub(crate) fn commit(
     requires room { 8 ≤ (room_of cell.old).sent }
     requires received { 1 ≤ (room_of cell.old).received }
     requires insertions { length (carried_by grown) + 1 ≤ (room_of cell.old).log }
-    requires short { length trace.old.recording.past + 9 ≤ 65536 }
+    requires short { length trace.old.recording.past + 9 ≤ max_entries }
     ensures number { result ≡ length (receivers trace.old.recording.processes sends.items) }
     ensures recording { trace.new.recording ≡ with_step trace.old.recording q grown sends.items (memory_of cell.old) }
     ensures formed { IsWellFormed trace.new.recording }
@@ -87,7 +88,7 @@ pub(crate) fn commit_at(
     requires room { 8 ≤ (room_at (rooms_in cells.old.items) q.0).sent }
     requires received { 1 ≤ (room_at (rooms_in cells.old.items) q.0).received }
     requires insertions { length (carried_by grown) + 1 ≤ (room_at (rooms_in cells.old.items) q.0).log }
-    requires short { length trace.old.recording.past + 9 ≤ 65536 }
+    requires short { length trace.old.recording.past + 9 ≤ max_entries }
     ensures number { result ≡ length (receivers trace.old.recording.processes sends.items) }
     ensures recording { trace.new.recording
         ≡ with_step trace.old.recording q grown sends.items (memory_at (memories_in cells.old.items) q.0) }

@@ -5,6 +5,7 @@ ghost use Rattle.std.specs.FinMap as fin;
 ghost use Rattle.causal_log.specs.Stores.{count_in};
 ghost use Rattle.causal_core.specs.Inside.Memories.{memory_of, memories_in};
 ghost use Rattle.causal_core.specs.Inside.Gathers.{count_new, is_logged, is_new, IsGatheredCount};
+ghost use Rattle.causal_trace.specs.Limits.{max_entries, max_processes};
 
 use crate::cell::Cell;
 use causal_log::{Log, Stable};
@@ -56,8 +57,8 @@ fn count_new<S: Stable>(cells: &[Option<Cell>], store: &S, log: &Log) -> usize
 
 /// How many determinants the store has or an up process logs.
 pub(crate) fn count_gathered<S: Stable>(cells: &[Option<Cell>], store: &S) -> usize
-    requires processes { length cells.now ≤ 256 }
-    requires few { count_in (S.contents store.now) ≤ 65536 }
+    requires processes { length cells.now ≤ max_processes }
+    requires few { count_in (S.contents store.now) ≤ max_entries }
     ensures { IsGatheredCount result (memories_in cells.now) (S.contents store.now) }
 {
     let mut count = store.len() as usize;

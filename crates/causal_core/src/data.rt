@@ -24,6 +24,7 @@ ghost use Rattle.causal_core.specs.View.{with_bodies};
 ghost use Rattle.causal_core.specs.View.{IsReason};
 ghost use Rattle.causal_core.specs.Inside.Grown.{IsGrown};
 ghost use Rattle.causal_core.specs.Inside.Memories.{HasRoom};
+ghost use Rattle.causal_trace.specs.Limits.{max_entries};
 
 use crate::cell::Cell;
 use crate::commit::{commit_at, make_room_at};
@@ -351,7 +352,7 @@ impl Data {
         requires process { p.0 < self.old.run.recording.processes }
         requires up { is_some (at (memories_of self.old.run) p.0) ≡ true }
         requires logged { is_some (fin.get (log_at (memories_of self.old.run) p.0) det) ≡ true }
-        requires short { length self.old.run.recording.past < 65536 }
+        requires short { length self.old.run.recording.past < max_entries }
         requires spare { 1 ≤ self.old.spare }
         requires room { 1 ≤ self.old.writers_room }
         ensures run { self.new.run ≡ flushed self.old.run p (det ∷ []) }

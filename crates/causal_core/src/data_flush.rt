@@ -9,6 +9,7 @@ ghost use Rattle.causal_protocol.specs.Steps.{extended, Steps, told_forget};
 ghost use Rattle.causal_core.specs.Inside.Stables.{HasRoomForStable};
 ghost use Rattle.causal_core.specs.View.{IsReason};
 ghost use Rattle.causal_core.specs.Inside.Memories.{memory_of, bodies_of, memories_in, bodies_in};
+ghost use Rattle.causal_trace.specs.Limits.{max_entries};
 
 use crate::cell::Cell;
 use crate::data::{Data, is_full, is_long, is_process};
@@ -67,7 +68,7 @@ impl Data {
 
     /// Room for so many stable entries.
     fn make_room_for_stable(&mut self, count: usize) -> Result<(), NoMemory>
-        requires { count ≤ 65536 }
+        requires { count ≤ max_entries }
         ensures run { self.new.run ≡ self.old.run }
         ensures bodies { self.new.bodies ≡ self.old.bodies }
         ensures room { OnOk result (HasRoomForStable count self.new) }

@@ -6,6 +6,7 @@ ghost use Rattle.causal_core.specs.Starts.{opening};
 ghost use Rattle.causal_core.specs.Inside.Begins.{MayBegin, HasBegun};
 ghost use Rattle.causal_core.specs.Inside.Gathers.{IsGathered};
 ghost use Rattle.causal_core.specs.Inside.Memories.{memories_in, bodies_in};
+ghost use Rattle.causal_trace.specs.Limits.{max_processes};
 
 use crate::cell::Cell;
 use crate::data::Data;
@@ -38,7 +39,7 @@ impl Data {
     /// A run of n processes, for f failures, in which nothing has happened.
     pub(crate) fn open(alloc: Global, n: u16, f: u16) -> Result<Data, NoMemory>
         requires some { 1 ≤ n }
-        requires few { n ≤ 256 }
+        requires few { n ≤ max_processes }
         ensures run { IfOk result (λ held. held.run ≡ opening n f []) }
         ensures bodies { IfOk result (λ held. held.bodies ≡ replicate n []) }
     {

@@ -5,6 +5,7 @@ ghost use Rattle.causal_trace.specs.Past.{is_down};
 ghost use Rattle.causal_protocol.specs.Memory.{at};
 ghost use Rattle.causal_core.specs.Inside.Memories.{memories_in};
 ghost use Rattle.causal_core.specs.CoreView.{run_of};
+ghost use Rattle.causal_trace.specs.Limits.{max_processes};
 
 use crate::cell::Cell;
 use crate::data::Data;
@@ -14,7 +15,7 @@ use causal_log::Stable;
 
 /// The processes that have nothing in volatile memory.
 fn down_among(cells: &[Option<Cell>]) -> Holders
-    requires { length cells.now ≤ 256 }
+    requires { length cells.now ≤ max_processes }
     ensures { HasMembers (length cells.now) result (λ p. is_none (at (memories_in cells.now) p)) }
 {
     let mut down = Holders::none();

@@ -12,6 +12,7 @@ ghost use Rattle.causal_core.specs.Flushes.{HasFailed, TellsFailure};
 ghost use Rattle.causal_core.specs.Inside.Stables.{written, IsStored};
 ghost use Rattle.causal_core.specs.Inside.Stables.{flushed};
 ghost use Rattle.causal_core.specs.CoreView.{run_of, state_of, store_of};
+ghost use Rattle.causal_trace.specs.Limits.{max_entries};
 
 use crate::data::Data;
 use crate::runtime::Core;
@@ -24,7 +25,7 @@ fn write_one<S: Stable>(held: &mut Data, store: &mut S, p: Pid, det: Det) -> Res
     requires process { p.0 < held.old.run.recording.processes }
     requires up { is_some (at (memories_of held.old.run) p.0) ≡ true }
     requires logged { is_some (fin.get (log_at (memories_of held.old.run) p.0) det) ≡ true }
-    requires short { length held.old.run.recording.past < 65536 }
+    requires short { length held.old.run.recording.past < max_entries }
     requires spare { 1 ≤ held.old.spare }
     requires room { 1 ≤ held.old.writers_room }
     requires stored { IsStored (S.contents store.old) held.old.run.recording.past }
@@ -62,7 +63,7 @@ fn write_all<S: Stable>(
     requires process { p.0 < held.old.run.recording.processes }
     requires up { is_some (at (memories_of held.old.run) p.0) ≡ true }
     requires logged { list_all (λ d. is_some (fin.get (log_at (memories_of held.old.run) p.0) d)) dets.now ≡ true }
-    requires short { length held.old.run.recording.past + length dets.now ≤ 65536 }
+    requires short { length held.old.run.recording.past + length dets.now ≤ max_entries }
     requires spare { length dets.now ≤ held.old.spare }
     requires room { length dets.now ≤ held.old.writers_room }
     requires stored { IsStored (S.contents store.old) held.old.run.recording.past }

@@ -9,6 +9,7 @@ ghost use Rattle.causal_core.specs.Inside.Facts.{SameReceived};
 ghost use Rattle.causal_core.specs.Inside.Listings.{pending_of};
 ghost use Rattle.causal_core.specs.Pendings.{is_pending, pending_in, pending_fault};
 ghost use Rattle.causal_core.specs.CoreView.{run_of};
+ghost use Rattle.causal_trace.specs.Limits.{max_entries, max_processes};
 
 use crate::cell::Cell;
 use crate::data::{Data, is_process};
@@ -40,7 +41,7 @@ fn push_if(names: &mut Vec<MsgName>, name: MsgName, wanted: bool) -> Result<(), 
 
 /// How many messages a process has sent; none where it is down.
 fn count_sent(cell: &Option<Cell>) -> u32
-    requires { option_map_or (λ m. length m.sent) (option_map memory_of cell.now) 0 ≤ 65536 }
+    requires { option_map_or (λ m. length m.sent) (option_map memory_of cell.now) 0 ≤ max_entries }
     ensures { result ≡ option_map_or (λ m. length m.sent) (option_map memory_of cell.now) 0 }
 {
     match cell {
@@ -76,8 +77,8 @@ fn pending_among(
     q: Pid,
 ) -> Result<Vec<MsgName>, NoMemory>
     requires received { SameReceived trace.now.recording.past (memories_in cells.now) q }
-    requires few { length cells.now ≤ 256 }
-    requires short { (p : ℕ) → option_map_or (λ m. length m.sent) (at (memories_in cells.now) p) 0 ≤ 65536 }
+    requires few { length cells.now ≤ max_processes }
+    requires short { (p : ℕ) → option_map_or (λ m. length m.sent) (at (memories_in cells.now) p) 0 ≤ max_entries }
     ensures { IfOk result (λ names. names.items ≡ pending_in (memories_in cells.now) q) }
 {
     let mut names = Vec::new(alloc);

@@ -10,6 +10,7 @@ ghost use Rattle.causal_core.specs.Inside.Commits.{OthersFit, StayDelivered};
 ghost use Rattle.causal_core.specs.View.{receivers, sent_bodies};
 ghost use Rattle.causal_core.specs.Inside.Grown.{batches_of};
 ghost use Rattle.causal_core.specs.Inside.Memories.{memory_of, room_of, bodies_of};
+ghost use Rattle.causal_trace.specs.Limits.{max_entries};
 
 use crate::cell::{Cell, Message};
 use causal_log::Batch;
@@ -36,7 +37,7 @@ pub(crate) fn append_sends(
     requires delivered { are_delivered trace.old.recording.past (dets_of (shared_batch shares.items)) ≡ true }
     requires spare { 8 ≤ trace.old.spare }
     requires room { 8 ≤ (room_of cell.old).sent }
-    requires short { length trace.old.recording.past + 8 ≤ 65536 }
+    requires short { length trace.old.recording.past + 8 ≤ max_entries }
     ensures number { result ≡ length (receivers trace.old.recording.processes sends.items) }
     ensures recording { trace.new.recording ≡ with_sends trace.old.recording q sends.items (memory_of cell.old) }
     ensures formed { IsWellFormed trace.new.recording }
@@ -66,7 +67,7 @@ fn send(trace: &mut Trace, cell: &mut Cell, q: Pid, outgoing: Outgoing, batch: A
     requires fit { Fits trace.old.recording.past q.0 (memory_of cell.old) }
     requires spare { 1 ≤ trace.old.spare }
     requires room { 1 ≤ (room_of cell.old).sent }
-    requires short { length trace.old.recording.past < 65536 }
+    requires short { length trace.old.recording.past < max_entries }
     requires ascending { is_ascending (dets_of (arc_value batch)) ≡ true }
     requires delivered { are_delivered trace.old.recording.past (dets_of (arc_value batch)) ≡ true }
     ensures recording { trace.new.recording ≡ with_send trace.old.recording q outgoing.to (memory_of cell.old) }

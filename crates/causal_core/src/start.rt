@@ -4,6 +4,7 @@ ghost use Rattle.std.specs.FinMap as fin;
 ghost use Rattle.causal_core.specs.CoreView.{run_of, state_of};
 ghost use Rattle.causal_core.specs.Inside.Begins.{MayBegin, Begins, HaveAllBegun};
 ghost use Rattle.causal_core.specs.Starts.{opening, start_fault, IsOpening, IsStartReason, Starts};
+ghost use Rattle.causal_trace.specs.Limits.{max_processes};
 
 use crate::boxes::begin_box;
 use crate::data::Data;
@@ -54,7 +55,7 @@ fn begin_all(
 ) -> Result<Vec<Option<Box<dyn Process + Send>>>, NoMemory>
     requires run { held.old.run ≡ opening (length boxes.items) held.old.run.faults [] }
     requires bodies { held.old.bodies ≡ replicate (length boxes.items) [] }
-    requires few { length boxes.items ≤ 256 }
+    requires few { length boxes.items ≤ max_processes }
     ensures { IfOk result (λ slots. HaveAllBegun answers held.old.run.faults boxes.items slots.items held.new) }
 {
     let mut slots = Vec::new(alloc);

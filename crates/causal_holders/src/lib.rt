@@ -196,6 +196,3 @@ impl Iterator for Iter {
         Some(process)
     }
 }
-
-#[cfg(test)]
-mod tests;

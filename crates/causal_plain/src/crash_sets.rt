@@ -2,6 +2,7 @@
 ghost use Rattle.std.specs.Prelude.{◌≡◌, ◌≤◌, ◌↔◌, IsTrue, IfOk};
 ghost use Rattle.std.specs.FinSet.{insert};
 ghost use Rattle.causal_plain.specs.Inside.Plain.{IsBelow, MayGrow, AreWithAndWithout, AreGrown, AreCrashSets};
+ghost use Rattle.causal_trace.specs.Limits.{max_processes};
 
 use causal_holders::Holders;
 use std::alloc::{AllocError, Global};
@@ -55,7 +56,7 @@ fn first_sets(alloc: Global, f: u16, down: Holders) -> Result<Vec<Holders>, Allo
 /// All crash sets of n processes for f: the sets that contain the processes that are down and have at most f members.
 /// No other set is built on the way.
 pub fn crash_sets(alloc: Global, n: u16, f: u16, down: Holders) -> Result<Vec<Holders>, AllocError>
-    requires count { n ≤ 256 }
+    requires count { n ≤ max_processes }
     requires below { IsBelow n down }
     ensures { IfOk result (λ sets. AreCrashSets n f down sets.items) }
 {

@@ -4,6 +4,7 @@ ghost use Rattle.std.specs.Option.{option_map};
 ghost use Rattle.causal_trace.specs.Dependence.{AreForward, actor, is_delivery_of, IsEventOf, DirectlyPrecedes, Reaches};
 ghost use Rattle.causal_plain.specs.Inside.Plain.{IsLaneAt, MarksReached, AreReachMarks, FollowsMarked};
 ghost use Rattle.causal_plain.specs.Inside.Plain.{HasMarkedEvent, DependsByMarks, AreDependentProcesses};
+ghost use Rattle.causal_trace.specs.Limits.{max_processes};
 
 use crate::state::{Lane, is_down, present_lane};
 use causal_holders::Holders;
@@ -127,7 +128,7 @@ fn depends(entries: &[Entry], marks: &[bool], p: Pid) -> bool
 
 /// Those of the first n processes whose state depends on the delivery k.
 pub fn dependents(alloc: Global, entries: &[Entry], n: u16, k: usize) -> Result<Holders, AllocError>
-    requires count { n ≤ 256 }
+    requires count { n ≤ max_processes }
     requires earlier { AreForward (reverse entries.now) }
     ensures { IfOk result (AreDependentProcesses n (reverse entries.now) k) }
 {

@@ -6,6 +6,7 @@ ghost use Rattle.causal_trace.specs.Rows.{AreAccepted};
 ghost use Rattle.causal_trace.specs.Dependence.{AreForward};
 ghost use Rattle.causal_plain.specs.Inside.Plain.{TellsFailure, TellsOrphan};
 ghost use Rattle.causal_audit.specs.Verdicts.{IsVerdict};
+ghost use Rattle.causal_trace.specs.Limits.{max_entries, max_processes};
 
 use crate::orphans::least_orphan;
 use crate::state::down_set;
@@ -20,8 +21,8 @@ fn first_orphan(
     n: u16,
     f: u16,
 ) -> Result<Option<Verdict>, AllocError>
-    requires count { n ≤ 256 }
-    requires few { length entries.now ≤ 65536 }
+    requires count { n ≤ max_processes }
+    requires few { length entries.now ≤ max_entries }
     requires earlier { AreForward (reverse entries.now) }
     requires few_down { count_below n (past.is_down (reverse entries.now)) ≤ f }
     ensures { IfOk result (TellsOrphan n f (reverse entries.now)) }
@@ -41,8 +42,8 @@ fn first_orphan(
 
 /// How the state after these entries fails to be safe for f, if it does.
 fn failure(alloc: Global, entries: &[Entry], n: u16, f: u16) -> Result<Option<Verdict>, AllocError>
-    requires count { n ≤ 256 }
-    requires few { length entries.now ≤ 65536 }
+    requires count { n ≤ max_processes }
+    requires few { length entries.now ≤ max_entries }
     requires earlier { AreForward (reverse entries.now) }
     ensures { IfOk result (TellsFailure n f (reverse entries.now)) }
 {
@@ -58,8 +59,8 @@ fn failure(alloc: Global, entries: &[Entry], n: u16, f: u16) -> Result<Option<Ve
 
 /// The verdict on a run of n processes with these entries, for f.
 pub fn judged(alloc: Global, entries: &[Entry], n: u16, f: u16) -> Result<Verdict, AllocError>
-    requires count { n ≤ 256 }
-    requires few { length entries.now ≤ 65536 }
+    requires count { n ≤ max_processes }
+    requires few { length entries.now ≤ max_entries }
     requires accepted { AreAccepted n (reverse entries.now) }
     ensures { IfOk result (IsVerdict (record { processes = n; past = reverse entries.now }) f) }
 {

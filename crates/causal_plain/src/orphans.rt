@@ -5,6 +5,7 @@ ghost use Rattle.causal_trace.specs.Past as past;
 ghost use Rattle.causal_trace.specs.Dependence.{AreForward};
 ghost use Rattle.causal_plain.specs.Inside.Plain.{IsLoggedOutside, IsLost, AreOrphans, Breaks, AreBreaking};
 ghost use Rattle.causal_plain.specs.Inside.Plain.{IsInEach, IsLeastSet, HasNoLeast, TellsLeastOrphan};
+ghost use Rattle.causal_trace.specs.Limits.{max_processes};
 
 use crate::crash_sets::crash_sets;
 use crate::events::dependents;
@@ -30,7 +31,7 @@ fn keeps(entries: &[Entry], d: Det, crash: Holders, p: u8) -> bool
 
 /// Whether one of the first n processes does.
 fn is_kept(entries: &[Entry], n: u16, d: Det, crash: Holders) -> bool
-    requires { n ≤ 256 }
+    requires { n ≤ max_processes }
     ensures { IsTrue result ↔ IsLoggedOutside n (reverse entries.now) d crash }
 {
     for p in 0..n {
@@ -43,7 +44,7 @@ fn is_kept(entries: &[Entry], n: u16, d: Det, crash: Holders) -> bool
 
 /// Whether the determinant is lost under the crash set: neither stable nor in the log of a survivor.
 fn is_lost(entries: &[Entry], n: u16, d: Det, crash: Holders) -> bool
-    requires { n ≤ 256 }
+    requires { n ≤ max_processes }
     ensures { IsTrue result ↔ IsLost n (reverse entries.now) d crash }
 {
     !is_stable(entries, d) && !is_kept(entries, n, d, crash)
@@ -51,7 +52,7 @@ fn is_lost(entries: &[Entry], n: u16, d: Det, crash: Holders) -> bool
 
 /// Those of the dependents that are orphans under the crash set.
 fn orphans(entries: &[Entry], n: u16, d: Det, dependents: Holders, crash: Holders) -> Holders
-    requires { n ≤ 256 }
+    requires { n ≤ max_processes }
     ensures { AreOrphans n (reverse entries.now) d dependents crash result }
 {
     if is_lost(entries, n, d, crash) {
@@ -63,7 +64,7 @@ fn orphans(entries: &[Entry], n: u16, d: Det, dependents: Holders, crash: Holder
 
 /// Whether a dependent is an orphan under the crash set.
 fn breaks(entries: &[Entry], n: u16, d: Det, dependents: Holders, crash: Holders) -> bool
-    requires { n ≤ 256 }
+    requires { n ≤ max_processes }
     ensures { IsTrue result ↔ Breaks n (reverse entries.now) d dependents crash }
 {
     orphans(entries, n, d, dependents, crash) != Holders::none()
@@ -78,7 +79,7 @@ fn breaking(
     dependents: Holders,
     sets: &[Holders],
 ) -> Result<Vec<Holders>, AllocError>
-    requires { n ≤ 256 }
+    requires { n ≤ max_processes }
     ensures { IfOk result (λ found. AreBreaking n (reverse entries.now) d dependents sets.now found.items) }
 {
     let mut breaking = Vec::new(alloc);
@@ -122,7 +123,7 @@ pub fn least_orphan(
     f: u16,
     k: usize,
 ) -> Result<Option<LeastOrphan>, AllocError>
-    requires count { n ≤ 256 }
+    requires count { n ≤ max_processes }
     requires earlier { AreForward (reverse entries.now) }
     ensures { IfOk result (TellsLeastOrphan n f (reverse entries.now) k) }
 {

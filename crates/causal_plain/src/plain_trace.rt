@@ -23,7 +23,7 @@ pub struct PlainTrace {
 impl Model for PlainTrace {
     ghost use Rattle.std.specs.Prelude.{◌-◌, vec_len, vec_capacity};
     ghost use Rattle.causal_trace.specs.State.{TraceState};
-    ghost use Rattle.causal_trace.specs.Inside.Bounded.{IsBounded};
+    ghost use Rattle.causal_trace.specs.Bounded.{IsBounded};
     ghost use Rattle.causal_plain.specs.Inside.Plain.{recorded};
 
     ghost Value = { TraceState };

@@ -2,6 +2,7 @@
 ghost use Rattle.std.specs.Prelude.{◌≡◌, ◌≤◌, ◌<◌, reverse, true};
 ghost use Rattle.std.specs.Option.{option_map};
 ghost use Rattle.causal_holders.specs.Members.{HasMembers};
+ghost use Rattle.causal_trace.specs.Limits.{max_processes};
 ghost use Rattle.causal_trace.specs.Past as past;
 
 use causal_holders::Holders;
@@ -40,7 +41,7 @@ pub fn is_down(entries: &[Entry], p: Pid) -> bool
 
 /// Those of the first n processes that are down.
 pub fn down_set(entries: &[Entry], n: u16) -> Holders
-    requires { n ≤ 256 }
+    requires { n ≤ max_processes }
     ensures { HasMembers n result (past.is_down (reverse entries.now)) }
 {
     let mut down = Holders::none();

@@ -13,6 +13,3 @@ mod stopping;
 pub use fault::RunFault;
 pub use performing::perform;
 pub use scripted::run_script;
-
-#[cfg(test)]
-mod tests;

@@ -15,6 +15,3 @@ mod words;
 pub use line::{refused_line, script_line};
 pub use parse::parse_script;
 pub use script::{Command, Commands, Kind, Script, ScriptFault, ScriptFaultKind};
-
-#[cfg(test)]
-mod tests;

@@ -5,9 +5,13 @@
 #[cfg(test)]
 mod audits;
 #[cfg(test)]
+mod clocks;
+#[cfg(test)]
 mod cores;
 #[cfg(test)]
 mod entries;
+#[cfg(test)]
+mod holders;
 #[cfg(test)]
 mod logs;
 #[cfg(test)]
@@ -24,7 +28,11 @@ mod random_traces;
 #[cfg(test)]
 mod random_workers;
 #[cfg(test)]
+mod runs;
+#[cfg(test)]
 mod runtime;
+#[cfg(test)]
+mod scripts;
 #[cfg(test)]
 mod seats;
 #[cfg(test)]
@@ -33,3 +41,5 @@ mod text;
 mod traces;
 #[cfg(test)]
 mod verdicts;
+#[cfg(test)]
+mod workers;

@@ -2,7 +2,7 @@
 ghost use Rattle.std.specs.Prelude.{◌≡◌, ◌++◌, OnOk, IfOk, IfErr, string_bytes};
 ghost use Rattle.std.specs.Io.KnownBytes.{Appends};
 ghost use Rattle.causal_text.specs.Canonical.{det_text, more_dets_text, dets_text, entry_text, entries_text, canonical, canonical_version};
-ghost use Rattle.causal_text.specs.Written.{StopsIn};
+ghost use Rattle.causal_text.specs.Written.{StopsInTrace};
 ghost use Rattle.causal_text.specs.Inside.Texts.{numbers_text, named_text, listed_text};
 
 use crate::version::Version;
@@ -166,7 +166,7 @@ pub fn text_of(alloc: Global, trace: &Trace) -> Result<Vec<u8>, NoMemory>
 /// refused, before the first write.
 pub fn write_trace<W: Write>(alloc: Global, trace: &Trace, writer: &mut W) -> Result<(), WriteFault>
     ensures ok { OnOk result (Appends (W.contents writer.old) (W.contents writer.new) (canonical trace.now.recording)) }
-    ensures err { IfErr result (StopsIn (canonical trace.now.recording) (W.contents writer.old) (W.contents writer.new)) }
+    ensures err { IfErr result (StopsInTrace trace.now.recording (W.contents writer.old) (W.contents writer.new)) }
     ensures cause { IfErr result (λ fault. fault.cause ≡ WriteCause.Memory → fault.written ≡ 0) }
 {
     match text_of(alloc, trace) {

@@ -1,4 +1,3 @@
 -- What models and private functions keep; no public clause cites it.
-pub mod Bounded
 pub mod Chains
 pub mod Index

@@ -1,3 +1,4 @@
+pub mod Bounded
 pub mod Inside
 pub mod Limits
 pub mod Past

@@ -10,7 +10,7 @@ use Rattle.causal_audit.specs.Breaches.{IsLeastBreach, LeastBreach, LeastBreachB
 use Rattle.causal_audit.specs.Courses.{up_to}
 use Rattle.causal_audit.specs.declared.breach.Breach.{Breach}
 use Rattle.causal_audit.proofs.Lemmas.UpTo.{least_up_to}
-use Rattle.causal_workers.specs.Beginnings.{HasBreach, TellsBy}
+use Rattle.causal_workers.specs.Inside.Beginnings.{HasBreach, TellsBy}
 
 pub tells_beginning : (r : Recording) (f early end : ℕ) (course : Recording) → early ≤ end → end ≤ length r.past → course ≡ up_to r early → HasBreach course f → TellsBy r f end None course
 tells_beginning r f early end course before within is has None least = absurd (has least)

@@ -6,7 +6,7 @@ use Rattle.causal_audit.specs.Breaches.{LeastBreach}
 use Rattle.causal_audit.specs.Earlier.{earlier}
 use Rattle.causal_audit.proofs.Lemmas.LeastLemmas.{least_of_both}
 use Rattle.causal_workers.specs.declared.part.Task.{Task}
-use Rattle.causal_workers.specs.Parts.{AreTasks, Covers, Follows, HasRoom, IsPart, Started}
+use Rattle.causal_workers.specs.Inside.Parts.{AreTasks, Covers, Follows, HasRoom, IsPart, Started}
 
 -- a further task at the end
 pub tasks_more : (r : Recording) (f from mid : ℕ) (tasks : List Task) (task : Task) (to : ℕ) → AreTasks r f from tasks mid

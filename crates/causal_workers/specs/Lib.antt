@@ -1,4 +1,3 @@
-pub mod Beginnings
+pub mod Inside
 pub mod Judgements
 pub mod Lines
-pub mod Parts

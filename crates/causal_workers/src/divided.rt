@@ -6,7 +6,7 @@ ghost use Rattle.causal_trace.specs.Rows.{Recording};
 ghost use Rattle.causal_audit.specs.Breaches.{LeastBreach};
 ghost use Rattle.causal_audit.specs.Verdicts.{IsVerdict};
 ghost use Rattle.causal_workers.specs.Judgements.{IsOnlyVerdict};
-ghost use Rattle.causal_workers.specs.Parts.{AreTasksAfter, Covers, FollowsAfter, HasRoom, IsFirstPart};
+ghost use Rattle.causal_workers.specs.Inside.Parts.{AreTasksAfter, Covers, FollowsAfter, HasRoom, IsFirstPart};
 
 use crate::gate::Gate;
 use crate::part::{Part, Started, Task};

@@ -18,6 +18,3 @@ pub use divided::{AuditFault, audit};
 pub use gate::{Gate, OpenGate};
 pub use judged::{AuditTextFault, Judged, audit_text, judge_trace};
 pub use line::verdict_line;
-
-#[cfg(test)]
-mod tests;

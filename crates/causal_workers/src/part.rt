@@ -1,6 +1,6 @@
 //! The work of one worker.
 ghost use Rattle.causal_audit.specs.Breaches.{LeastBreach};
-ghost use Rattle.causal_workers.specs.Parts.{HasRoom};
+ghost use Rattle.causal_workers.specs.Inside.Parts.{HasRoom};
 
 use crate::gate::Gate;
 use causal_audit::{Breach, Course, Room, least_swept};

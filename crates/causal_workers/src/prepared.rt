@@ -1,7 +1,7 @@
 //! What is prepared of a run before the workers of its audit start.
 ghost use Rattle.std.specs.Prelude.{◌≡◌, ◌≤◌, IfOk, None, length};
 ghost use Rattle.std.specs.Bool.{OnTrue};
-ghost use Rattle.causal_workers.specs.Beginnings.{HasBreach, TellsBy};
+ghost use Rattle.causal_workers.specs.Inside.Beginnings.{HasBreach, TellsBy};
 
 use causal_audit::{Breach, Course, Room, Surveyed, least_surveyed, least_swept};
 use causal_name::NoMemory;

@@ -10,6 +10,7 @@ use Rattle.causal_protocol.specs.Runs.{Opens}
 use Rattle.causal_core.specs.Boxes.{Began, after, box_answers}
 use Rattle.causal_core.specs.View.{DataState, sent_bodies}
 use Rattle.causal_core.specs.Starts.{with_beginning, with_beginnings, opening}
+use Rattle.causal_trace.specs.Limits.{max_entries, max_processes}
 
 -- the run once the process p begins with these sends
 abbrev pub begun_by : Run → ℕ → List Outgoing → Run
@@ -18,9 +19,9 @@ begun_by r p sends = record { recording = record { processes = r.recording.proce
 -- the next process, of this number, may begin: it has done nothing yet, and there is room for its sends
 pub record MayBegin (p : ℕ) (r : Run) : Type 0 where
   pub process : p < r.recording.processes
-  pub number : r.recording.processes ≤ 256
+  pub number : r.recording.processes ≤ max_processes
   pub fresh_yet : at (memories_of r) p ≡ Some (fresh fin.empty)
-  pub short : length r.recording.past + 8 ≤ 65536
+  pub short : length r.recording.past + 8 ≤ max_entries
 
 -- the process p has begun with these sends
 pub record HasBegun (p : ℕ) (sends : List Outgoing) (old new : DataState) : Type 0 where

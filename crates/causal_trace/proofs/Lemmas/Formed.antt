@@ -11,7 +11,7 @@ use Rattle.causal_trace.specs.declared.fault.TraceFault.TheVariants.{NoMemory}
 use Rattle.causal_trace.specs.Past.{listed_in, listed_by}
 use Rattle.causal_trace.specs.Rows.{Recording, rows, first_holding, first_fault, passes_limit, AreAccepted, IsWellFormed}
 use Rattle.causal_trace.specs.State.{with_entry}
-use Rattle.causal_trace.specs.Inside.Bounded.{IsBounded}
+use Rattle.causal_trace.specs.Bounded.{IsBounded}
 
 -- where a chain of rows tells nothing, its first row doesn't hold, and the rest tells nothing
 pub nothing_told : (b : Bool) (f : TraceFault) (rest : Option TraceFault) → cond b (Some f) rest ≡ None → (b ≡ false) × (rest ≡ None)

@@ -9,7 +9,7 @@ use Rattle.causal_trace.specs.declared.lanes.Lane.{Lane}
 use Rattle.causal_trace.specs.Limits.{max_entries}
 use Rattle.causal_trace.specs.Past.{is_down, lane, sends, deliveries, restarts, deliveries_in, message_at}
 use Rattle.causal_trace.specs.Rows.{Recording}
-use Rattle.causal_trace.specs.Inside.Bounded.{IsBounded}
+use Rattle.causal_trace.specs.Bounded.{IsBounded}
 use Rattle.causal_trace.specs.Inside.Chains.{Heads, AreLinked, HasHead, ChainsState, chain, head_of, heads_of, receipts}
 use Rattle.causal_trace.specs.declared.chains.Node.{Node}
 

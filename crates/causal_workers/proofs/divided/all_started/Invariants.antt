@@ -1,7 +1,7 @@
 use Rattle.std.proofs.Common.{ℕ, ◌≤◌, ◌≡◌, ◌+◌, length, vec_len, vec_capacity}
 use Rattle.std.specs.Vec.Iter.{into_iter_items, into_iter_len}
 use Rattle.causal_trace.specs.Past.{deliveries_in}
-use Rattle.causal_workers.specs.Parts.{AreTasks, Follows}
+use Rattle.causal_workers.specs.Inside.Parts.{AreTasks, Follows}
 use Rattle.causal_workers.proofs.divided.all_started.Given as goal
 
 -- the parts of those that were started, and then those of the tasks that are left

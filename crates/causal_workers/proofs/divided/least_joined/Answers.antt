@@ -1,7 +1,7 @@
 use Rattle.std.proofs.Common.{arith, sym, ap, subst, ◌∙◌, ◌≡◌, [], length}
 use Rattle.std.proofs.lemmas.List.{nil_from_length}
 use Rattle.std.specs.Vec.Iter.{into_iter_items}
-use Rattle.causal_workers.specs.Parts.{Covers}
+use Rattle.causal_workers.specs.Inside.Parts.{Covers}
 use Rattle.causal_workers.proofs.PartLemmas.{covers_next, covers_all}
 use Rattle.causal_workers.proofs.divided.least_joined.Goals as goal
 

@@ -1,7 +1,7 @@
 use Rattle.std.proofs.Common.{◌≡◌, ℕ, length}
 use Rattle.std.specs.Vec.Iter.{into_iter_items, into_iter_len}
 use Rattle.causal_trace.specs.Rows.{Recording}
-use Rattle.causal_workers.specs.Parts.{Covers}
+use Rattle.causal_workers.specs.Inside.Parts.{Covers}
 use Rattle.causal_workers.proofs.divided.least_joined.Given as goal
 
 abbrev pub invariant-loop-handle : goal.invariant-loop-handle

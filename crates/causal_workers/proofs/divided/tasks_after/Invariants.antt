@@ -1,5 +1,5 @@
 use Rattle.std.proofs.Common.{◌≤◌, ◌≡◌, ◌+◌, vec_len}
-use Rattle.causal_workers.specs.Parts.{AreTasks}
+use Rattle.causal_workers.specs.Inside.Parts.{AreTasks}
 use Rattle.causal_workers.proofs.divided.tasks_after.Given as goal
 
 -- the tasks so far, up to the delivery from which the next one goes on

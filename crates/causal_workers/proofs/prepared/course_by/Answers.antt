@@ -2,7 +2,7 @@ use Rattle.std.proofs.Common.{◌≡◌, ◌≤◌, ◌/◌, ℕ, IfOk, None, Re
 use Rattle.std.specs.Bool.{OnTrue}
 use Rattle.causal_trace.specs.Rows.{Recording}
 use Rattle.causal_audit.specs.Courses.{up_to}
-use Rattle.causal_workers.specs.Beginnings.{HasBreach, TellsBy}
+use Rattle.causal_workers.specs.Inside.Beginnings.{HasBreach, TellsBy}
 use Rattle.causal_workers.proofs.BeginningLemmas.{tells_beginning, tells_end}
 use Rattle.causal_workers.proofs.prepared.course_by.Goals as goal
 

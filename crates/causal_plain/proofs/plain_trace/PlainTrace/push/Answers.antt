@@ -3,7 +3,7 @@ use Rattle.causal_trace.specs.declared.fault.TraceFault.TheVariants.{NoMemory}
 use Rattle.causal_trace.specs.Past.{listed_by}
 use Rattle.causal_trace.specs.Rows.{first_fault}
 use Rattle.causal_trace.specs.State.{with_entry}
-use Rattle.causal_trace.specs.Inside.Bounded.{IsBounded}
+use Rattle.causal_trace.specs.Bounded.{IsBounded}
 use Rattle.std.proofs.lemmas.List.{reverse-append}
 use Rattle.causal_trace.proofs.Lemmas.Formed.{no_memory_told, kept_push}
 use Rattle.causal_plain.proofs.plain_trace.PlainTrace.push.Goals as goal

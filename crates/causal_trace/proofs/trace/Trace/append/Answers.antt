@@ -4,7 +4,7 @@ use Rattle.std.proofs.lemmas.List.{take_at, reverse-append}
 use Rattle.causal_trace.specs.Past.{listed_by, message_sent, det_of, lane}
 use Rattle.causal_trace.specs.Rows.{first_fault}
 use Rattle.causal_trace.specs.State.{past_at, with_entry}
-use Rattle.causal_trace.specs.Inside.Bounded.{IsBounded}
+use Rattle.causal_trace.specs.Bounded.{IsBounded}
 use Rattle.causal_trace.specs.Inside.Index.{lanes_after, subject, HasRoom, is_restart}
 use Rattle.causal_trace.specs.Inside.Chains.{heads_after, nodes_after, HasHead}
 use Rattle.causal_name.specs.Names.{message_of}

@@ -1,11 +1,8 @@
 //! Verdicts and lines that were worked out by hand, for several numbers of workers, and that two workers run together.
-use crate::divided::audit;
-use crate::gate::{Gate, OpenGate};
-use crate::judged::{AuditTextFault, Judged, audit_text};
-use crate::line::verdict_line;
 use causal_audit::Verdict;
 use causal_holders::Holders;
 use causal_text::{TextFault, TextKind, read_trace};
+use causal_workers::{AuditTextFault, Gate, Judged, OpenGate, audit, audit_text, verdict_line};
 use std::sync::atomic::{AtomicU64, Ordering};
 use std::test::Fail;
 use std::thread;

@@ -1,5 +1,5 @@
 //! One happy path of each call, with members in all four words and at both ends of a word.
-use super::*;
+use causal_holders::Holders;
 
 fn set_of(processes: &[u8]) -> Holders {
     let mut set = Holders::none();

@@ -1,9 +1,9 @@
 //! Scripts whose reading was worked out by hand, and each line that tells a fault.
-use crate::line::{refused_line, script_line};
-use crate::parse::parse_script;
-use crate::script::{Command, Kind, ScriptFault, ScriptFaultKind};
 use causal_name::{MsgName, Pid};
 use causal_protocol::request::{CoreFault, Request};
+use causal_script::{
+    Command, Kind, ScriptFault, ScriptFaultKind, parse_script, refused_line, script_line,
+};
 use std::alloc::Global;
 use std::process::Abort;
 use std::test::Fail;

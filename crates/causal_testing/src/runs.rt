@@ -1,8 +1,8 @@
 //! Scripts of each kind, with how long the traces are that they give or the line at which they are refused. What traces
 //! say, to the byte, stands with the tests of the program.
-use crate::{RunFault, run_script};
 use causal_name::{NoMemory, Pid};
 use causal_protocol::request::{CoreFault, Request};
+use causal_run::{RunFault, run_script};
 use causal_script::{Command, Commands, Kind, Script, parse_script};
 use std::alloc::Global;
 use std::sync::Wait;

@@ -1,5 +1,5 @@
 //! One happy path of each call.
-use super::*;
+use causal_clock::{ClockFault, Clocks, Rise};
 
 #[test]
 fn three_lanes_in_a_ring(rt: HostRuntime) -> Result<(), ClockFault> {

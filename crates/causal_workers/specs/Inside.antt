@@ -1,0 +1,3 @@
+-- What private functions keep; no public clause cites it.
+pub mod Beginnings
+pub mod Parts
