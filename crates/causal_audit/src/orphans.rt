@@ -65,7 +65,7 @@ pub fn first_orphan(
     let entries = run.trace.entries();
     let mut t = changes.start(k);
     let mut ahead = changes.ahead(t);
-    let mut sight = Sight::begin(run.turns.down_at(t));
+    let mut sight = Sight::begin(run.turns.from(t).down());
     while t < end {
         let next = ahead.next(t, end);
         let change = next.position;

@@ -16,6 +16,7 @@ use Rattle.causal_trace.proofs.Lemmas.AtInstants.{accepted_then, instant_length,
 use Rattle.causal_audit.proofs.Lasting.{orphans_end, over_from}
 use Rattle.causal_audit.proofs.Steps.{entry_read, next_state, up_to_next}
 use Rattle.causal_audit.proofs.Orphaned.{not_yet, first_breach_is}
+use Rattle.causal_audit.proofs.Turned.{passed_down}
 use Rattle.causal_audit.proofs.followed.first_followed.Goals as goal
 
 pub loop-t-init : goal.loop-t-init
@@ -23,10 +24,11 @@ loop-t-init c =
     let r = c.args.run.now.trace.now.recording in
     let start = c.start-t.result in
     let within : start ≤ length r.past = omega (arith, c.start-t.ensures.made, det_within r.past c.args.k c.args.det c.requires.delivery) in
+    let walk = passed_down r.past c.args.run.now.turns.now start c.from.result c.requires.turns c.from.ensures in
     record {
       within = within;
       ahead = c.ahead-ahead.ensures;
-      sight = c.begin-sight.ensures (instant r.past start) c.args.k c.args.det (c.down_at.ensures r.past within c.requires.turns)
+      sight = c.begin-sight.ensures (instant r.past start) c.args.k c.args.det (c.down.ensures r.past start within walk.0 walk.1)
           (unheard_until r.past c.args.k c.args.det c.args.changes.now.mentions.now start c.requires.changes.mentioned c.start-t.ensures.unmentioned c.start-t.ensures.made within);
       before = λ u h. not_yet r.processes c.args.f (instant r.past u) c.args.k (omega (arith, h, c.start-t.ensures.made, instant_length r.past u (omega (arith, h, within))));
     }
