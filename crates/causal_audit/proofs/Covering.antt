@@ -1,9 +1,9 @@
 -- A walk over the entries that may change who is down or holds a determinant, and what it tells of a delivery's orphans.
 use Rattle.std.proofs.Common.{ℕ, ◌≡◌, ◌<◌, ◌≤◌, inl, inr, Bool, true, false, List, length, Some, refl, sym, ap, ◌∙◌, arith}
-use Rattle.std.specs.Prelude.{◌↔◌, ◌||◌, ◌&&◌, ◌==◌, not, Contains}
+use Rattle.std.specs.Prelude.{◌↔◌, ◌||◌, ◌==◌, Contains}
 use Rattle.std.specs.Ordering.{nat_cmp}
 use Rattle.std.specs.Cmp.{nat_cmp_total}
-use Rattle.std.specs.FinSet.{FinSet, contains, union, difference, len, contains-union, contains-difference}
+use Rattle.std.specs.FinSet.{FinSet, contains, union, difference, len, contains-union}
 use Rattle.std.proofs.lemmas.Bool.{cases_lt, or_cases, or_right, false≢true, eq-eqb, false_from_ne_true}
 use Rattle.std.proofs.lemmas.Bool.Decides.{eqb_tells}
 use Rattle.causal_name.specs.declared.Det.{Det}
@@ -23,7 +23,7 @@ use Rattle.causal_audit.specs.Spread.{StaysUntil, LastsUntil}
 use Rattle.causal_trace.proofs.Lemmas.AtInstants.{accepted_then}
 use Rattle.causal_audit.proofs.Shown.{down_inside, logs_inside}
 use Rattle.causal_audit.proofs.Spreading.{covered}
-use Rattle.causal_audit.proofs.Staying.{gone_stay, holders_stay}
+use Rattle.causal_audit.proofs.Staying.{difference_shown, gone_stay, holders_stay}
 
 -- ---- those who are down or hold a determinant, as a set
 
@@ -76,9 +76,6 @@ mentioned_next past d mentions mentioned only t next none v above low found e th
     ]
 
 -- ---- until an entry mentions it or restarts one of them
-
-difference_shown : (s t : FinSet nat_cmp) (p : ℕ) (held down : Bool) → contains s p ≡ held → contains t p ≡ down → contains (difference s t) p ≡ (held && not down)
-difference_shown s t p held down h k = contains-difference nat_cmp_total s t p ∙ (λ i. h i && not (k i))
 
 module _ (n f : ℕ) (past : List Entry) (formed : AreAccepted n past) (k : ℕ) (d : Det) (at : det_at past k ≡ Some d) (t next : ℕ) (within : next ≤ length past) (unmentioned : MentionsNone past d t next) where
   module _ (down holders : FinSet nat_cmp) (unrestarted : RestartsNone past (union down holders) t next) (downs : Shows down (λ p. is_down (instant past t) p)) (holds : Shows holders (λ p. logs (instant past t) p d)) where

@@ -14,8 +14,8 @@ ghost use Rattle.causal_audit.specs.Lasting.{NoneReleasedFrom};
 use crate::breach::{Breach, earlier};
 use crate::changes::Changes;
 use crate::cover::Outline;
-use crate::followed::first_followed;
 use crate::mentions::Mentions;
+use crate::orphans::first_orphan;
 use crate::reach::firsts_of;
 use crate::turns::Turns;
 use causal_name::NoMemory;
@@ -73,10 +73,9 @@ impl Scan<'_> {
         };
         let changes = Changes {
             mentions: self.mentions.list(det),
-            turns: self.turns.positions.as_slice(),
             firsts,
         };
-        first_followed(&run, &changes, f, end, k, det)
+        first_orphan(&run, &changes, f, end, k, det)
     }
 
     /// The least breach of the deliveries of a group, if it comes by the instant `end`, where the lists tell by which entries

@@ -14,7 +14,7 @@ use crate::cover::{Outline, is_covered};
 use crate::events::clocks_of;
 use crate::lanes::{LANES, lanes_of, write_firsts};
 use crate::mentions::{Mentions, mentions_in};
-use crate::orphans::{Run, first_orphan};
+use crate::orphans::first_orphan;
 use crate::releases::lasting_from;
 use crate::spreads::spreads_of;
 use crate::turns::{Turns, turns_of};
@@ -129,19 +129,13 @@ impl Tables {
         requires within { end ≤ length self.now.past }
         ensures { FirstBreachBy self.now f end k result }
     {
-        let run = Run {
-            trace: &self.trace,
-            clocks: &self.clocks,
-            lasting_from: self.lasting_from,
-            turns: &self.turns,
-        };
-        let outline = Outline {
+        let run = Outline {
             trace: &self.trace,
             lasting_from: self.lasting_from,
             turns: &self.turns,
         };
         let mentions = self.mentions.list(det);
-        if is_covered(&outline, mentions, self.spreads[k as usize], f, end, k, det) {
+        if is_covered(&run, mentions, self.spreads[k as usize], f, end, k, det) {
             return None;
         }
         let mut room = [0; LANES];
@@ -149,7 +143,6 @@ impl Tables {
         write_firsts(firsts, &self.clocks, &self.lanes, k, self.entries());
         let changes = Changes {
             mentions,
-            turns: &self.turns.positions,
             firsts: &*firsts,
         };
         first_orphan(&run, &changes, f, end, k, det)
