@@ -7,6 +7,7 @@ ghost use Rattle.causal_audit.specs.Inside.Kept.{AreTurnsKept};
 ghost use Rattle.causal_audit.specs.Inside.Passing.{HasPassed, IsPassing};
 ghost use Rattle.causal_audit.specs.Inside.Staying.{RestartsNone};
 
+use crate::budget::Budget;
 use crate::cursor::Cursor;
 use crate::turns::{Passing, Turns};
 use causal_holders::Holders;
@@ -67,8 +68,15 @@ pub struct Next {
 
 impl Ahead<'_> {
     /// The first position that is not below `from` of a change or of a restart of one of these processes, or `end` if that
-    /// comes first. Those before it are passed.
-    pub fn next(&mut self, trace: &Trace, members: Holders, from: u32, end: u32) -> Next
+    /// comes first. Those before it are passed. A step is taken for a restart.
+    pub fn next(
+        &mut self,
+        trace: &Trace,
+        members: Holders,
+        from: u32,
+        end: u32,
+        budget: &mut Budget,
+    ) -> Next
         requires order { from ≤ end }
         requires turns { AreTurnsKept trace.now.recording.past self.old.turns.turns.now }
         requires passing { IsPassing self.old.turns.turns.now from self.old.turns }
@@ -82,9 +90,8 @@ impl Ahead<'_> {
     {
         let mention = self.mentions.next(from, end);
         let first = self.firsts.next(from, end);
-        let position = self
-            .turns
-            .next_restart(trace, members, from, mention.min(first));
+        let until = mention.min(first);
+        let position = self.turns.next_restart(trace, members, from, until, budget);
         Next {
             position,
             mentioned: mention == position,

@@ -14,6 +14,7 @@ ghost use Rattle.causal_audit.specs.Quiet.{mentioned_by};
 ghost use Rattle.causal_audit.specs.Inside.Sights.{Shows, ShowsDownAfter, ShowsHoldersAfter};
 ghost use Rattle.causal_audit.specs.Spread.{LastsUntil, StaysUntil};
 
+use crate::budget::Budget;
 use crate::cursor::Cursor;
 use crate::holding::holders_after;
 use crate::sight::down_after;
@@ -98,7 +99,7 @@ fn first_of(list: &[u32], end: u32) -> u32
 
 /// Whether the delivery at k, whose determinant this is, is covered at each instant up to `end`. Those who are down or hold the
 /// determinant are still so until an entry mentions it or restarts one of them: only there they are looked at again. Where it is
-/// not covered, it may have an orphan.
+/// not covered, it may have an orphan. Each restart that is looked at takes a step.
 pub fn is_covered(
     run: &Outline<'_>,
     mentions: &[u32],
@@ -107,6 +108,7 @@ pub fn is_covered(
     end: u32,
     k: u32,
     det: Det,
+    budget: &mut Budget,
 ) -> bool
     requires within { end ≤ length run.now.trace.now.recording.past }
     requires lasting { NoneReleasedFrom run.now.trace.now.recording.past run.now.lasting_from }
@@ -128,7 +130,7 @@ pub fn is_covered(
     };
     while t < end {
         let mention = ahead.next(t, end);
-        let change = turns.next_restart(run.trace, cover.gone(), t, mention);
+        let change = turns.next_restart(run.trace, cover.gone(), t, mention, budget);
         if !cover.lasts(f, k, det.dest.0, spread, change) {
             return false;
         }

@@ -9,6 +9,7 @@ ghost use Rattle.causal_audit.specs.Inside.Filed.{past_of};
 ghost use Rattle.causal_audit.specs.Numbers.{IsNumbered, ArePositions, ArePositionsAfter};
 
 use crate::breach::Breach;
+use crate::budget::Budget;
 use crate::changes::Changes;
 use crate::cover::{Outline, is_covered};
 use crate::events::clocks_of;
@@ -135,7 +136,9 @@ impl Tables {
             turns: &self.turns,
         };
         let mentions = self.mentions.list(det);
-        if is_covered(&run, mentions, self.spreads[k as usize], f, end, k, det) {
+        let spread = self.spreads[k as usize];
+        let mut budget = Budget::endless();
+        if is_covered(&run, mentions, spread, f, end, k, det, &mut budget) {
             return None;
         }
         let mut room = [0; LANES];
@@ -145,7 +148,7 @@ impl Tables {
             mentions,
             firsts: &*firsts,
         };
-        first_orphan(&run, &changes, f, end, k, det)
+        first_orphan(&run, &changes, f, end, k, det, &mut budget)
     }
 }
 

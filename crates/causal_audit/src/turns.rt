@@ -11,6 +11,7 @@ ghost use Rattle.causal_audit.specs.Inside.Passing.{HasPassed, IsPassing};
 ghost use Rattle.causal_audit.specs.Inside.Sights.{Shows};
 ghost use Rattle.causal_audit.specs.Inside.Staying.{RestartsNone, restarts_one};
 
+use crate::budget::Budget;
 use crate::sight::down_after;
 use causal_holders::Holders;
 use causal_name::NoMemory;
@@ -53,12 +54,6 @@ impl Turns {
             passed: self.positions.partition_point(|position| *position < t),
         }
     }
-
-    /// How many there are from position t on.
-    pub fn count_from(&self, t: u32) -> usize {
-        let passed = self.positions.partition_point(|position| *position < t);
-        self.positions.len() - passed
-    }
 }
 
 impl Passing<'_> {
@@ -74,9 +69,16 @@ impl Passing<'_> {
         self.turns.downs[self.passed - 1]
     }
 
-    /// The first position from `from` on at which one of these processes restarts, or `end` if that comes first. Crashes, and
-    /// restarts of others, are passed.
-    pub fn next_restart(&mut self, trace: &Trace, members: Holders, from: u32, end: u32) -> u32
+    /// The first position from `from` on at which one of these processes restarts, which takes a step, or `end` if that comes
+    /// first. Crashes, and restarts of others, are passed.
+    pub fn next_restart(
+        &mut self,
+        trace: &Trace,
+        members: Holders,
+        from: u32,
+        end: u32,
+        budget: &mut Budget,
+    ) -> u32
         requires order { from ≤ end }
         requires turns { AreTurnsKept trace.now.recording.past self.old.turns.now }
         requires passing { IsPassing self.old.turns.now from self.old }
@@ -90,6 +92,7 @@ impl Passing<'_> {
                 return end;
             }
             if *position >= from && restarts_one(&entries[*position as usize], members) {
+                budget.charge(1);
                 return *position;
             }
             self.passed += 1;

@@ -26,7 +26,7 @@ returns-in_default c t within has =
 pub first_orphan-requires-clause-changes : goal.first_orphan-requires-clause-changes
 first_orphan-requires-clause-changes c =
     let past = c.args.self.now.trace.now.recording.past in
-    let mentions = c.requires.mentions in
+    let mentions = c.requires.scan.mentioned in
     record {
       mentions_ascend = subst IsNonDecreasing (sym c.list.ensures) (mentions_ascend past c.args.self.now.mentions.now.numbers (map positions c.args.self.now.mentions.now.lists.items) mentions c.in-Some.det);
       mentioned = subst (HasMentions past c.in-Some.det) (sym c.list.ensures) (mentions.mentioned c.in-Some.det);

@@ -62,8 +62,8 @@ first_orphan-requires-clause-changes c =
 pub returns : goal.returns
 returns c = rw (← c.self.view_is) c.first_orphan.ensures
 
-pub index-requires : goal.index-requires
-index-requires c =
+pub index-spread-requires : goal.index-spread-requires
+index-spread-requires c =
     let at : det_at c.self.inside.trace.recording.past c.args.k ≡ Some c.args.det = rw (← c.self.view_is) at c.requires.delivery in
     omega (arith, det_within c.self.inside.trace.recording.past c.args.k c.args.det at, c.self.invariant.1.spread.count)
 
@@ -79,5 +79,5 @@ is_covered-requires-clause-stays c =
     let spreads = c.self.inside.spreads.items in
     let at : det_at r.past c.args.k ≡ Some c.args.det = rw (← c.self.view_is) at c.requires.delivery in
     let inside : c.args.k < length spreads = omega (arith, det_within r.past c.args.k c.args.det at, c.self.invariant.1.spread.count) in
-    let is : c.index.result.now ≡ get_or spreads c.args.k 0 = c.index.ensures ∙ get_or_default spreads c.args.k c.index.result.now 0 inside in
+    let is : c.index-spread.result.now ≡ get_or spreads c.args.k 0 = c.index-spread.ensures ∙ get_or_default spreads c.args.k c.index-spread.result.now 0 inside in
     subst (StaysUntil r.past c.args.k) (sym is) (stays_until r.processes r.past kept.formed.accepted c.self.inside.clocks.events kept.stands spreads c.self.invariant.1.spread c.args.k)
