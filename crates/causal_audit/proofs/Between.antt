@@ -7,21 +7,16 @@ use Rattle.causal_name.specs.Names.{same_det}
 use Rattle.causal_name.specs.Sets.{count_below}
 use Rattle.causal_trace.specs.declared.entry.Entry.{Entry}
 use Rattle.causal_trace.specs.declared.entry.Entry.TheVariants.{Send, Deliver, Stable, Crash, Restart, Forget}
-use Rattle.causal_trace.specs.Past.{instant, entry_at, det_at, is_down, is_stable, logs, has, lane}
+use Rattle.causal_trace.specs.Past.{instant, entry_at, is_down, is_stable, logs, has, lane}
 use Rattle.causal_trace.specs.Rows.{AreAccepted, first_fault}
-use Rattle.causal_trace.specs.Dependence.{actor, IsEventOf, Reaches, itself, Depends}
-use Rattle.causal_trace.specs.Judgement.{HasOrphan}
+use Rattle.causal_trace.specs.Dependence.{actor, IsEventOf, Reaches, Depends}
 use Rattle.causal_trace.proofs.Lemmas.Accepted.{delivers_up}
-use Rattle.causal_trace.proofs.Lemmas.Reached.{reaches_begins}
-use Rattle.causal_audit.specs.declared.sight.Sight.{Sight}
 use Rattle.causal_audit.specs.Laws.{gone, IsExposed}
 use Rattle.causal_audit.specs.Quiet.{is_turn, mentioned_by, IsQuiet, AreQuiet, Agree, InstantsAgree, OrphansAgree}
-use Rattle.causal_audit.specs.Inside.Sights.{IsSight}
 use Rattle.causal_audit.proofs.Dependence.{IsNoTurn, depends_more, depends_before}
-use Rattle.causal_trace.proofs.Lemmas.AtInstants.{instants_stay, one_more_instant, last_instant, instant_length, accepted_then, det_then, det_within}
+use Rattle.causal_trace.proofs.Lemmas.AtInstants.{instants_stay, one_more_instant, last_instant, accepted_then, det_then}
 use Rattle.causal_audit.proofs.Lemmas.Judged.{exposed, unexposed}
-use Rattle.causal_audit.proofs.Legal.{sends_up, delivery_event}
-use Rattle.causal_audit.proofs.Orphaned.{not_yet}
+use Rattle.causal_audit.proofs.Legal.{sends_up}
 
 -- ---- a quiet entry changes nothing
 
@@ -136,15 +131,6 @@ instants_agree n past k d t u formed up within quiet =
     subst (λ x. Agree (instant past t) (instant past x) k d) same
     (agree_for n past k d t (u - t) formed (omega (arith, same, within)) (λ v e above below at. quiet v e above (omega (arith, below, same)) at))
 
--- so what is known at one is known at the other
-pub sight_agrees : (one other : List Entry) (k : ℕ) (d : Det) (s : Sight) → Agree one other k d → IsSight one k d s → IsSight other k d s
-sight_agrees one other k d s a sight = record {
-  down = λ p. sight.down p ∙ a.down p;
-  holders = λ p. sight.holders p ∙ a.logged p;
-  stable = sight.stable ∙ a.stable;
-  dependents = λ p. (λ h. (a.dependents p).0 ((sight.dependents p).0 h), λ x. (sight.dependents p).1 ((a.dependents p).1 x));
-}
-
 exposed_agrees : (n f : ℕ) (one other : List Entry) (k : ℕ) (d : Det) → Agree one other k d → IsExposed n f one k d → IsExposed n f other k d
 exposed_agrees n f one other k d a e =
     let same : gone one d ≡ gone other d = λ i p. a.down p i || a.logged p i in
@@ -180,34 +166,3 @@ known_already n past (Stable det) k i p legal of present reach = absurd (let x :
 known_already n past (Crash who) k i p legal of present reach = absurd (let x : None ≡ Some p = of in cc)
 known_already n past (Restart who listed) k i p legal of present reach = absurd (let x : None ≡ Some p = of in cc)
 known_already n past (Forget who listed) k i p legal of present reach = absurd (let x : None ≡ Some p = of in cc)
-
--- the delivery itself is a change
-own_change : (n : ℕ) (past : List Entry) (k : ℕ) (d : Det) → AreAccepted n past → det_at past k ≡ Some d → ((e : Entry) → entry_at past k ≡ Some e → IsQuiet (instant past k) e k d) → ⊥
-own_change n past k d formed at quiet =
-    let below : k < length past = det_within past k d at in
-    let found = next_entry past k below in
-    let long : length (instant past k) ≡ k = instant_length past k (omega (arith, below)) in
-    let made : det_at (found.0 ∷ instant past k) k ≡ Some d = ap (λ x. det_at x k) (sym found.2) ∙ det_then past (k + 1) k (omega arith) (omega (arith, below)) ∙ at in
-    let event = delivery_event (found.0 ∷ instant past k) k d made in
-    newest event.0 event.1 long found.0 (quiet found.0 found.1) event.2
-  where
-    newest : (p l : ℕ) → length (instant past k) ≡ k → (e : Entry) → IsQuiet (instant past k) e k d → IsEventOf (e ∷ instant past k) k p l → ⊥
-    newest p l long e quiet (inl older) = omega (arith, long, reaches_begins (instant past k) k k (itself p l older))
-    newest p l long e quiet (inr own) =
-        let depends : Depends (instant past k) k p = quiet.known p own.1 (subst (Reaches (e ∷ instant past k) k) own.0 (itself p l (inr own))) in
-        omega (arith, long, reaches_begins (instant past k) k depends.event depends.reached)
-
--- where no instant so far has an orphan, none has before the next change
-pub still_none : (n f : ℕ) (past : List Entry) (k : ℕ) (d : Det) (t v : ℕ) → AreAccepted n past → det_at past k ≡ Some d → v ≤ length past → ((u : ℕ) → u ≤ t → HasOrphan n f (instant past u) k → ⊥) → AreQuiet past t v k d
-    → (u : ℕ) → u ≤ v → HasOrphan n f (instant past u) k → ⊥
-still_none n f past k d t v formed at within before quiet u low has =
-    elim (cases_lt t u) [
-      | inr early ↦ before u early has
-      | inl late ↦ elim (cases_lt k t) [
-        | inl made ↦ before t (omega arith) ((orphans_agree n f past k d t u formed at made (omega (arith, late)) (omega (arith, low, within)) (λ w e above below there. quiet w e above (omega (arith, below, low)) there)).1 has)
-        | inr ahead ↦ elim (cases_lt k u) [
-          | inr coming ↦ not_yet n f (instant past u) k (omega (arith, coming, instant_length past u (omega (arith, low, within)))) has
-          | inl passed ↦ own_change n past k d formed at (λ e there. quiet k e ahead (omega (arith, passed, low)) there)
-        ]
-      ]
-    ]

@@ -3,27 +3,27 @@ use Rattle.std.proofs.Common.{ℕ, ◌≡◌, ◌<◌, ◌≤◌, inl, inr, Bool
 use Rattle.std.specs.Prelude.{◌↔◌, ◌||◌, ◌==◌, Contains}
 use Rattle.std.specs.Ordering.{nat_cmp}
 use Rattle.std.specs.Cmp.{nat_cmp_total}
-use Rattle.std.specs.FinSet.{FinSet, contains, union, len, contains-union}
-use Rattle.std.proofs.lemmas.Bool.{cases_lt, or_cases, false≢true, eq-eqb, false_from_ne_true}
+use Rattle.std.specs.FinSet.{FinSet, contains, union, difference, len, contains-union}
+use Rattle.std.proofs.lemmas.Bool.{cases_lt, or_cases, or_right, false≢true, eq-eqb, false_from_ne_true}
 use Rattle.std.proofs.lemmas.Bool.Decides.{eqb_tells}
 use Rattle.causal_name.specs.declared.Det.{Det}
 use Rattle.causal_name.specs.Sets.{count_below}
-use Rattle.causal_holders.proofs.Lemmas.Counting.{members_counted}
+use Rattle.causal_holders.proofs.Lemmas.Counting.{count_below-within, members_counted}
 use Rattle.causal_trace.specs.declared.entry.Entry.{Entry}
 use Rattle.causal_trace.specs.Past.{instant, entry_at, det_at, has, is_down, logs}
 use Rattle.causal_trace.specs.Rows.{AreAccepted}
 use Rattle.causal_trace.specs.Judgement.{HasOrphan}
 use Rattle.causal_audit.specs.Inside.Ahead.{HasNoneUntil}
-use Rattle.causal_audit.specs.Inside.Changes.{AreMentionsOf, HasMentions, HasTurns}
+use Rattle.causal_audit.specs.Inside.Changes.{AreMentionsOf, HasMentions}
 use Rattle.causal_audit.specs.Laws.{gone}
-use Rattle.causal_audit.specs.Quiet.{is_turn, mentioned_by}
+use Rattle.causal_audit.specs.Quiet.{mentioned_by}
 use Rattle.causal_audit.specs.Inside.Sights.{Shows}
+use Rattle.causal_audit.specs.Inside.Staying.{MentionsNone, RestartsNone}
 use Rattle.causal_audit.specs.Spread.{StaysUntil, LastsUntil}
-use Rattle.causal_audit.proofs.Begun.{onward_to, down_stays}
-use Rattle.causal_audit.proofs.Between.{logs_stay}
 use Rattle.causal_trace.proofs.Lemmas.AtInstants.{accepted_then}
 use Rattle.causal_audit.proofs.Shown.{down_inside, logs_inside}
 use Rattle.causal_audit.proofs.Spreading.{covered}
+use Rattle.causal_audit.proofs.Staying.{difference_shown, gone_stay, holders_stay}
 
 -- ---- those who are down or hold a determinant, as a set
 
@@ -41,9 +41,6 @@ module _ (n : ℕ) (past : List Entry) (d : Det) (formed : AreAccepted n past) (
             ];
         member = λ q low. gone_shown q;
       })
-
-pub none_sooner : (list : List ℕ) (t next last : ℕ) → next ≤ last → HasNoneUntil list t last → HasNoneUntil list t next
-none_sooner list t next last low none v above below = none v above (omega (arith, below, low))
 
 -- a position below the next mention is none
 pub beyond : (change mention : ℕ) → change ≤ mention → (mention == change) ≡ false → change < mention
@@ -78,36 +75,44 @@ mentioned_next past d mentions mentioned only t next none v above low found e th
       | inr apart ↦ apart.0 ∙ sym (unmentioned_at past d mentions mentioned t next none v above (beyond v next low apart.0) e there)
     ]
 
--- ---- between two of them
+-- ---- until an entry mentions it or restarts one of them
 
-module _ (n f : ℕ) (past : List Entry) (formed : AreAccepted n past) (k : ℕ) (d : Det) (at : det_at past k ≡ Some d) (mentions turns : List ℕ) (mentioned : HasMentions past d mentions) (turned : HasTurns past turns) where
-  module _ (t next : ℕ) (within : next ≤ length past) (unmentioned : HasNoneUntil mentions t next) (unturned : HasNoneUntil turns t next) (down holders : FinSet nat_cmp) (downs : Shows down (λ p. is_down (instant past t) p)) (holds : Shows holders (λ p. logs (instant past t) p d)) where
-    no_turn : (v : ℕ) (e : Entry) → t ≤ v → v < next → entry_at past v ≡ Some e → is_turn e ≡ false
-    no_turn v e above below there = false_from_ne_true (is_turn e) (λ is. unturned v above below (turned v e there is))
+module _ (n f : ℕ) (past : List Entry) (formed : AreAccepted n past) (k : ℕ) (d : Det) (at : det_at past k ≡ Some d) (t next : ℕ) (within : next ≤ length past) (unmentioned : MentionsNone past d t next) where
+  module _ (down holders : FinSet nat_cmp) (unrestarted : RestartsNone past (union down holders) t next) (downs : Shows down (λ p. is_down (instant past t) p)) (holds : Shows holders (λ p. logs (instant past t) p d)) where
+    legal : (u : ℕ) → AreAccepted n (instant past u)
+    legal u = accepted_then n past u formed
 
-    no_mention : (v : ℕ) (e : Entry) → t ≤ v → v < next → entry_at past v ≡ Some e → has (mentioned_by e) d ≡ false
-    no_mention v e above below there = false_from_ne_true (has (mentioned_by e) d) (λ is. unmentioned v above below (mentioned v e there is))
+    -- the holders that are not down then still hold it
+    pub holds_until : (u : ℕ) → t ≤ u → u ≤ next → (fell : FinSet nat_cmp) → Shows fell (λ p. is_down (instant past u) p) → Shows (difference holders fell) (λ p. logs (instant past u) p d)
+    holds_until u up low fell falls p =
+        difference_shown holders fell p (logs (instant past t) p d) (is_down (instant past u) p) (holds p) (falls p)
+        ∙ sym (holders_stay n past d (union down holders) t u p formed up (omega (arith, low, within))
+        (λ v e above below. unmentioned v e above (omega (arith, below, low))) (λ v e above below. unrestarted v e above (omega (arith, below, low)))
+        (λ held. gone_shown n (instant past t) d (legal t) down holders downs holds p ∙ or_right (is_down (instant past t) p) (logs (instant past t) p d) held))
 
-    pub downs_until : (u : ℕ) → t ≤ u → u ≤ next → Shows down (λ p. is_down (instant past u) p)
-    downs_until u up low p = downs p ∙ down_stays past t u up (omega (arith, low, within)) (λ v e above below there. no_turn v e above (omega (arith, below, low)) there) p
-
-    pub holds_until : (u : ℕ) → t ≤ u → u ≤ next → Shows holders (λ p. logs (instant past u) p d)
-    holds_until u up low p =
-        onward_to (λ x. contains holders p ≡ logs x p d) past t u up (omega (arith, low, within))
-        (λ v e above below there same. same ∙ logs_stay e (instant past v) d (no_turn v e above (omega (arith, below, low)) there) (no_mention v e above (omega (arith, below, low)) there) p) (holds p)
+    -- and all of them are still down or hold it
+    gone_until : (u : ℕ) → t ≤ u → u ≤ next → (p : ℕ) → gone (instant past t) d p ≡ true → gone (instant past u) d p ≡ true
+    gone_until u up low p here =
+        gone_stay past d (union down holders) t u p up (omega (arith, low, within))
+        (λ v e above below. unmentioned v e above (omega (arith, below, low))) (λ v e above below. unrestarted v e above (omega (arith, below, low)))
+        (gone_shown n (instant past t) d (legal t) down holders downs holds p ∙ here) here
 
     module _ (spread : ℕ) (stays : StaysUntil past k spread) (lasts : LastsUntil f k d.dest.0 spread next (union down holders)) where
       none_between : (u : ℕ) → t ≤ u → u ≤ next → HasOrphan n f (instant past u) k → ⊥
       none_between u up low =
           let inside : u ≤ length past = omega (arith, low, within) in
-          let legal = accepted_then n past u formed in
-          let fell = downs_until u up low in
-          let held = holds_until u up low in
           covered n f past k d spread u formed at stays inside (elim lasts [
             | inl ahead ↦ inl (omega (arith, low, ahead))
             | inr more ↦ elim more [
-              | inl many ↦ inr (inl (omega (arith, many, gone_many n (instant past u) d legal down holders fell held)))
-              | inr here ↦ inr (inr (omega (arith, low, here.0), sym (gone_shown n (instant past u) d legal down holders fell held d.dest.0) ∙ here.1))
+              | inl many ↦
+                  inr (inl (omega (
+                    arith,
+                    many,
+                    gone_many n (instant past t) d (legal t) down holders downs holds,
+                    count_below-within n (gone (instant past t) d) (gone (instant past u) d) (λ p _ here. gone_until u up low p here),
+                  )))
+              | inr here ↦
+                  inr (inr (omega (arith, low, here.0), gone_until u up low d.dest.0 (sym (gone_shown n (instant past t) d (legal t) down holders downs holds d.dest.0) ∙ here.1)))
             ]
           ])
 
@@ -117,3 +122,8 @@ module _ (n f : ℕ) (past : List Entry) (formed : AreAccepted n past) (k : ℕ)
             | inl early ↦ before u early has
             | inr late ↦ none_between u late low has
           ]
+
+-- where nothing is left to come nothing mentions it
+pub none_mention : (past : List Entry) (d : Det) (mentions : List ℕ) → HasMentions past d mentions → (t next last : ℕ) → next ≤ last → HasNoneUntil mentions t last → MentionsNone past d t next
+none_mention past d mentions mentioned t next last low none v e above below there =
+    unmentioned_at past d mentions mentioned t last none v above (omega (arith, below, low)) e there

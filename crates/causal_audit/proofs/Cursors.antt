@@ -52,6 +52,5 @@ cursor_later list from to cursor up is = record {
 pub ahead_later : (changes : Changes) (from to : ℕ) (ahead : Ahead) → from ≤ to → AreAhead changes from ahead → AreAhead changes to ahead
 ahead_later changes from to ahead up are = record {
   mentions = cursor_later changes.mentions.now from to ahead.mentions up are.mentions;
-  turns = cursor_later changes.turns.now from to ahead.turns up are.turns;
   firsts = cursor_later changes.firsts.now from to ahead.firsts up are.firsts;
 }

@@ -38,6 +38,7 @@ mod Sharings
 mod Shown
 mod Sifted
 mod Spreading
+mod Staying
 mod Steps
 mod Sweeping
 mod Swept

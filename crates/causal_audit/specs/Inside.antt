@@ -10,6 +10,7 @@ pub mod Kept
 pub mod Kinds
 pub mod Moments
 pub mod Newly
+pub mod Passing
 pub mod Reaching
 pub mod Rises
 pub mod Rooms
@@ -17,5 +18,6 @@ pub mod Scans
 pub mod Sharing
 pub mod Sights
 pub mod Stands
+pub mod Staying
 pub mod Stored
 pub mod Surveys

@@ -1,11 +1,14 @@
 //! How many steps a survey may take.
-ghost use Rattle.std.specs.Prelude.{◌≡◌, ◌+◌, ◌*◌, ◌<◌, length, true, false};
+ghost use Rattle.std.specs.Prelude.{◌≡◌, ◌+◌, ◌-◌, ◌*◌, ◌↔◌, length, true};
 ghost use Rattle.causal_trace.specs.Past.{listed_in};
 
 use causal_trace::trace::Trace;
 
 /// How many steps there are for each entry.
-const STEPS: usize = 32;
+const STEPS: usize = 64;
+
+/// How many entries a walk over all of them reads for a step: one is read by a few instructions, where a step is some tens.
+const READ: usize = 8;
 
 /// How many steps a survey may still take.
 #[derive(Clone, Copy)]
@@ -14,27 +17,36 @@ pub struct Budget {
 }
 
 impl Budget {
-    /// The steps for a run: 32 for each entry, and one for each determinant that an entry lists. To see which deliveries are
-    /// covered a run in which nobody crashes needs no more: no two of its deliveries have the same determinant, so all of them
-    /// together have as many mentions as are listed or written to stable storage. To follow one that is not covered takes its
-    /// steps once more.
+    /// The steps for a run: 64 for each entry, and one for each determinant that an entry lists.
     pub fn of(trace: &Trace) -> Budget
-        ensures { result.left ≡ 32 * length trace.now.recording.past + listed_in trace.now.recording.past }
+        ensures { result.left ≡ 64 * length trace.now.recording.past + listed_in trace.now.recording.past }
     {
         Budget {
             left: trace.len() as usize * STEPS + trace.listed() as usize,
         }
     }
 
-    /// Takes so many steps, if as many are left.
-    pub fn take(&mut self, steps: usize) -> bool
-        ensures taken { result ≡ true → self.new.left + steps ≡ self.old.left }
-        ensures short { result ≡ false → self.old.left < steps }
+    /// More steps than there can be, for a caller that counts none.
+    pub fn endless() -> Budget {
+        Budget { left: usize::MAX }
+    }
+
+    /// Takes so many steps, or those that are left.
+    pub fn charge(&mut self, steps: usize)
+        ensures { self.new.left ≡ self.old.left - steps }
     {
-        if steps > self.left {
-            return false;
-        }
-        self.left -= steps;
-        true
+        self.left = self.left.saturating_sub(steps);
+    }
+
+    /// Takes the steps for a walk over so many entries.
+    pub fn charge_walk(&mut self, entries: u32) {
+        self.charge(entries as usize / READ);
+    }
+
+    /// Whether no step is left.
+    pub fn is_spent(&self) -> bool
+        ensures { (result ≡ true) ↔ (self.now.left ≡ 0) }
+    {
+        self.left == 0
     }
 }

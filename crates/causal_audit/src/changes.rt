@@ -1,26 +1,32 @@
-//! Where something may change for a delivery: between two changes its instants agree.
+//! Where something may change for a delivery, beside the restarts: until then it newly has no orphan.
 ghost use Rattle.std.specs.Prelude.{◌≤◌};
 ghost use Rattle.std.specs.List.Sorted.{IsNonDecreasing};
 ghost use Rattle.causal_audit.specs.declared.changes.Changes.{Changes};
 ghost use Rattle.causal_audit.specs.Inside.Ahead.{AreAhead, HasNoneUntil, PassesNone, TellsNewly, TellsNext};
+ghost use Rattle.causal_audit.specs.Inside.Kept.{AreTurnsKept};
+ghost use Rattle.causal_audit.specs.Inside.Passing.{HasPassed, IsPassing};
+ghost use Rattle.causal_audit.specs.Inside.Staying.{RestartsNone};
 
+use crate::budget::Budget;
 use crate::cursor::Cursor;
+use crate::turns::{Passing, Turns};
+use causal_holders::Holders;
+use causal_trace::trace::Trace;
 
-/// Ascending positions at which something may change for a delivery: of the entries that mention its determinant, of the
-/// crashes and restarts, and of the first event of each lane that it reaches. There may be others among them.
+/// Ascending positions at which something may change for a delivery: of the entries that mention its determinant, and of the
+/// first event of each lane that it reaches. There may be others among the latter.
 #[derive(Clone, Copy)]
 pub struct Changes<'a> {
     pub mentions: &'a [u32],
-    pub turns: &'a [u32],
     pub firsts: &'a [u32],
 }
 
-/// The changes that are still ahead.
+/// The changes that are still ahead, and a walk over the crashes and restarts.
 #[derive(Clone, Copy)]
 pub struct Ahead<'a> {
     pub mentions: Cursor<'a>,
-    pub turns: Cursor<'a>,
     pub firsts: Cursor<'a>,
+    pub turns: Passing<'a>,
 }
 
 impl<'a> Changes<'a> {
@@ -37,16 +43,17 @@ impl<'a> Changes<'a> {
     }
 
     /// Those that are not below `from`.
-    pub fn ahead(&self, from: u32) -> Ahead<'a>
+    pub fn ahead(&self, turns: &'a Turns, from: u32) -> Ahead<'a>
         requires mentions_ascend { IsNonDecreasing self.now.mentions.now }
-        requires turns_ascend { IsNonDecreasing self.now.turns.now }
         requires firsts_ascend { IsNonDecreasing self.now.firsts.now }
-        ensures { AreAhead self.now from result }
+        requires turns_ascend { IsNonDecreasing turns.now.positions.items }
+        ensures ahead { AreAhead self.now from result }
+        ensures passed { HasPassed turns.now from result.turns }
     {
         Ahead {
             mentions: Cursor::at(self.mentions, from),
-            turns: Cursor::at(self.turns, from),
             firsts: Cursor::at(self.firsts, from),
+            turns: turns.from(from),
         }
     }
 }
@@ -60,19 +67,31 @@ pub struct Next {
 }
 
 impl Ahead<'_> {
-    /// The first of them that is not below `from`, or `end` if that comes first. Those before it are passed.
-    pub fn next(&mut self, from: u32, end: u32) -> Next
-        requires { from ≤ end }
+    /// The first position that is not below `from` of a change or of a restart of one of these processes, or `end` if that
+    /// comes first. Those before it are passed. A step is taken for a restart.
+    pub fn next(
+        &mut self,
+        trace: &Trace,
+        members: Holders,
+        from: u32,
+        end: u32,
+        budget: &mut Budget,
+    ) -> Next
+        requires order { from ≤ end }
+        requires turns { AreTurnsKept trace.now.recording.past self.old.turns.turns.now }
+        requires passing { IsPassing self.old.turns.turns.now from self.old.turns }
         ensures bounds { (from ≤ result.position) × (result.position ≤ end) }
         ensures ahead { (changes : Changes) → AreAhead changes from self.old → AreAhead changes from self.new }
+        ensures passed { HasPassed self.old.turns.turns.now result.position self.new.turns }
         ensures none { PassesNone from self.old result.position }
+        ensures unrestarted { RestartsNone trace.now.recording.past members from result.position }
         ensures mentioned { TellsNext from end self.old result }
         ensures newly { TellsNewly from end self.old result }
     {
         let mention = self.mentions.next(from, end);
-        let turn = self.turns.next(from, end);
         let first = self.firsts.next(from, end);
-        let position = mention.min(turn).min(first);
+        let until = mention.min(first);
+        let position = self.turns.next_restart(trace, members, from, until, budget);
         Next {
             position,
             mentioned: mention == position,

@@ -14,6 +14,7 @@ ghost use Rattle.causal_audit.specs.Quiet.{mentioned_by};
 ghost use Rattle.causal_audit.specs.Inside.Sights.{Shows, ShowsDownAfter, ShowsHoldersAfter};
 ghost use Rattle.causal_audit.specs.Spread.{LastsUntil, StaysUntil};
 
+use crate::budget::Budget;
 use crate::cursor::Cursor;
 use crate::holding::holders_after;
 use crate::sight::down_after;
@@ -72,14 +73,15 @@ impl Cover {
         next <= spread && gone.contains(receiver)
     }
 
-    /// Takes in one more entry, which mentions the determinant or does not.
-    fn see(&mut self, entry: &Entry, det: Det, mentioned: bool)
-        ensures down { ShowsDownAfter entry.now self.old.down self.new.down }
+    /// Takes in one more entry, which mentions the determinant or does not, where these are down before it: a holder that is
+    /// down has crashed since, and holds it no longer.
+    fn see(&mut self, down: Holders, entry: &Entry, det: Det, mentioned: bool)
+        ensures down { ShowsDownAfter entry.now down self.new.down }
         ensures holders { ShowsHoldersAfter (mentioned ≡ has (mentioned_by entry.now) det)
-            entry.now det self.old.holders self.new.holders }
+            entry.now det (set.difference self.old.holders down) self.new.holders }
     {
-        self.down = down_after(self.down, entry);
-        self.holders = holders_after(self.holders, entry, det, mentioned);
+        self.down = down_after(down, entry);
+        self.holders = holders_after(self.holders.minus(down), entry, det, mentioned);
     }
 }
 
@@ -95,9 +97,9 @@ fn first_of(list: &[u32], end: u32) -> u32
     }
 }
 
-/// Whether the delivery at k, whose determinant this is, is covered at each instant up to `end`. Only where an entry mentions the
-/// determinant, or crashes or restarts a process, those who are down or hold it may be others. Where it is not covered, it
-/// may have an orphan.
+/// Whether the delivery at k, whose determinant this is, is covered at each instant up to `end`. Those who are down or hold the
+/// determinant are still so until an entry mentions it or restarts one of them: only there they are looked at again. Where it is
+/// not covered, it may have an orphan. Each restart that is looked at takes a step.
 pub fn is_covered(
     run: &Outline<'_>,
     mentions: &[u32],
@@ -106,6 +108,7 @@ pub fn is_covered(
     end: u32,
     k: u32,
     det: Det,
+    budget: &mut Budget,
 ) -> bool
     requires within { end ≤ length run.now.trace.now.recording.past }
     requires lasting { NoneReleasedFrom run.now.trace.now.recording.past run.now.lasting_from }
@@ -120,15 +123,14 @@ pub fn is_covered(
     let entries = run.trace.entries();
     let mut t = first_of(mentions, k);
     let mut ahead = Cursor::at(mentions, t);
-    let mut turns = Cursor::at(&run.turns.positions, t);
+    let mut turns = run.turns.from(t);
     let mut cover = Cover {
-        down: run.turns.down_at(t),
+        down: turns.down(),
         holders: Holders::none(),
     };
     while t < end {
         let mention = ahead.next(t, end);
-        let turn = turns.next(t, end);
-        let change = mention.min(turn);
+        let change = turns.next_restart(run.trace, cover.gone(), t, mention, budget);
         if !cover.lasts(f, k, det.dest.0, spread, change) {
             return false;
         }
@@ -139,7 +141,7 @@ pub fn is_covered(
         if is_written(entry, det) {
             return true;
         }
-        cover.see(entry, det, mention == change);
+        cover.see(turns.down(), entry, det, mention == change);
         t = change + 1;
         if run.lasting_from <= t && cover.gone().len() > u32::from(f) {
             return true;

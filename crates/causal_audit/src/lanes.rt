@@ -7,7 +7,7 @@ ghost use Rattle.causal_trace.specs.declared.entry.Entry.{Entry};
 ghost use Rattle.causal_trace.specs.Dependence.{actor};
 ghost use Rattle.causal_clock.specs.declared.Event.{Event};
 ghost use Rattle.causal_clock.specs.Timeline.{lane_of};
-ghost use Rattle.causal_audit.specs.Inside.Filed.{Ascends, AreFirsts, AreInLanes, AreLanes, AreOfOneLane, IsFirstReached, lists_in, past_of};
+ghost use Rattle.causal_audit.specs.Inside.Filed.{Ascends, AreFirsts, AreInLanes, AreLanes, AreOfOneLane, AreReached, IsFirstReached, lists_in, past_of};
 
 use crate::lists::{add_to, empty_lists};
 use causal_clock::Clocks;
@@ -66,7 +66,7 @@ fn first_reached(clocks: &Clocks, k: u32, lane: &[u32], end: u32) -> u32
     requires delivery { k < length clocks.now.events }
     requires ascends { Ascends (length clocks.now.events) lane.now }
     requires one_lane { AreOfOneLane clocks.now.events lane.now }
-    ensures { IsFirstReached clocks.now.events k lane.now result }
+    ensures { IsFirstReached clocks.now.events k lane.now end result }
 {
     let mut low = 0;
     let mut high = lane.len();
@@ -89,6 +89,7 @@ pub fn write_firsts(firsts: &mut [u32], clocks: &Clocks, lanes: &[Vec<u32>], k: 
     requires inside { AreInLanes clocks.now.events (lists_in lanes.now) }
     ensures ascending { IsNonDecreasing firsts.new }
     ensures firsts { AreFirsts clocks.now.events k (lists_in lanes.now) firsts.new }
+    ensures reached { AreReached clocks.now.events k (lists_in lanes.now) end firsts.new }
 {
     for (m, lane) in lanes.iter().enumerate() {
         firsts[m] = first_reached(clocks, k, lane.as_slice(), end);

@@ -15,7 +15,6 @@ mod cursor;
 mod effects;
 mod events;
 pub mod excess;
-mod followed;
 mod holding;
 pub mod judging;
 mod kind;

@@ -1,31 +1,21 @@
-//! The first instant at which a delivery has an orphan.
-ghost use Rattle.std.specs.Prelude.{◌≡◌, ◌<◌, ◌≤◌, length, Some};
+//! The first instant at which a delivery has an orphan, told by the entries by which it newly reaches a process.
+ghost use Rattle.std.specs.Prelude.{◌≡◌, ◌≤◌, length, Some};
 ghost use Rattle.causal_name.specs.declared.Det.{Det};
 ghost use Rattle.causal_trace.specs.Past.{det_at};
 ghost use Rattle.causal_audit.specs.Inside.BreachAt.{TellsBreachAt};
 ghost use Rattle.causal_audit.specs.Breaches.{FirstBreachBy};
-ghost use Rattle.causal_audit.specs.Inside.Changes.{AreChangesKept};
+ghost use Rattle.causal_audit.specs.Inside.Followed.{AreFollowed, IsReachedBy};
 ghost use Rattle.causal_audit.specs.Inside.Kept.{AreTurnsKept};
 ghost use Rattle.causal_audit.specs.Lasting.{NoneReleasedFrom};
-ghost use Rattle.causal_audit.specs.Inside.Stands.{Stands};
 
 use crate::breach::Breach;
+use crate::budget::Budget;
 use crate::changes::Changes;
+use crate::cover::Outline;
 use crate::sight::Sight;
-use crate::turns::Turns;
-use causal_clock::Clocks;
+use causal_holders::Holders;
 use causal_name::Det;
-use causal_trace::trace::Trace;
-
-/// What is kept of a recorded run for each of its deliveries: the trace, a clock of its entries, a position from which on
-/// no entry releases a process, and who is down after each crash and restart.
-#[derive(Clone, Copy)]
-pub struct Run<'a> {
-    pub trace: &'a Trace,
-    pub clocks: &'a Clocks,
-    pub lasting_from: u32,
-    pub turns: &'a Turns,
-}
+use causal_trace::entry::Entry;
 
 /// How the delivery at position k has an orphan at the instant t; None where it has none. It has none before it is made.
 pub fn breach_at(sight: &Sight, f: u16, k: u32, t: u32) -> Option<Breach>
@@ -43,41 +33,52 @@ pub fn breach_at(sight: &Sight, f: u16, k: u32, t: u32) -> Option<Breach>
     })
 }
 
+/// Whether a delivery reaches the entry, where these processes depend on it before, and it newly reaches a process by the
+/// entry or not.
+fn is_reached(entry: &Entry, dependents: Holders, newly: bool) -> bool
+    ensures { IsReachedBy entry.now dependents newly result }
+{
+    match entry {
+        Entry::Send { from, .. } => newly || dependents.contains(from.0),
+        Entry::Deliver { to, .. } => newly || dependents.contains(to.0),
+        _ => false,
+    }
+}
+
 /// How the delivery at position k, whose determinant this is, first has an orphan, if it has one by the instant `end`. Only
 /// the instants after a change are looked at, from the delivery or the first mention of its determinant on, until no later
-/// one can have an orphan: from `lasting_from` on no entry releases a process.
+/// one can have an orphan: from `lasting_from` on no entry releases a process. A crash is no change, and a restart only where
+/// the process was down, held the determinant or depended on the delivery after the last one; those take steps.
 pub fn first_orphan(
-    run: &Run<'_>,
+    run: &Outline<'_>,
     changes: &Changes<'_>,
     f: u16,
     end: u32,
     k: u32,
     det: Det,
+    budget: &mut Budget,
 ) -> Option<Breach>
     requires within { end ≤ length run.now.trace.now.recording.past }
-    requires clock { Stands run.now.trace.now.recording.past run.now.clocks.now.events }
     requires lasting { NoneReleasedFrom run.now.trace.now.recording.past run.now.lasting_from }
     requires turns { AreTurnsKept run.now.trace.now.recording.past run.now.turns.now }
     requires delivery { det_at run.now.trace.now.recording.past k ≡ Some det }
-    requires changes { AreChangesKept run.now.trace.now.recording.past k det changes.now }
+    requires changes { AreFollowed run.now.trace.now.recording.past k det end changes.now }
     ensures { FirstBreachBy run.now.trace.now.recording f end k result }
 {
     let entries = run.trace.entries();
     let mut t = changes.start(k);
-    let mut ahead = changes.ahead(t);
-    let mut sight = Sight::begin(run.turns.down_at(t));
+    let mut ahead = changes.ahead(run.turns, t);
+    let mut sight = Sight::begin(ahead.turns.down());
     while t < end {
-        let next = ahead.next(t, end);
+        let next = ahead.next(run.trace, sight.members(), t, end, budget);
         let change = next.position;
         if change == end {
             return None;
         }
-        sight.see(
-            &entries[change as usize],
-            det,
-            next.mentioned,
-            run.clocks.precedes(k, change),
-        );
+        let entry = &entries[change as usize];
+        sight = sight.later(ahead.turns.down());
+        let reached = is_reached(entry, sight.dependents, next.newly);
+        sight.see(entry, det, next.mentioned, reached);
         t = change + 1;
         if let Some(found) = breach_at(&sight, f, k, t) {
             return Some(found);

@@ -6,16 +6,15 @@ ghost use Rattle.causal_trace.specs.Past.{det_at};
 ghost use Rattle.causal_audit.specs.Breaches.{FirstBreachBy, LeastAmongBy};
 ghost use Rattle.causal_audit.specs.Inside.Filed.{lists_in};
 ghost use Rattle.causal_audit.specs.Inside.Followed.{AreFirstsBelow};
-ghost use Rattle.causal_audit.specs.Inside.Kept.{AreMentionsKept, AreTurnsKept};
 ghost use Rattle.causal_audit.specs.Inside.Reaching.{HaveFirstsUntil};
-ghost use Rattle.causal_audit.specs.Inside.Scans.{AreThoseBelow};
-ghost use Rattle.causal_audit.specs.Lasting.{NoneReleasedFrom};
+ghost use Rattle.causal_audit.specs.Inside.Scans.{AreThoseBelow, IsScan, IsToldAmong};
 
-use crate::breach::{Breach, earlier};
+use crate::breach::{Breach, Surveyed, earlier};
+use crate::budget::Budget;
 use crate::changes::Changes;
 use crate::cover::Outline;
-use crate::followed::first_followed;
 use crate::mentions::Mentions;
+use crate::orphans::first_orphan;
 use crate::reach::firsts_of;
 use crate::turns::Turns;
 use causal_name::NoMemory;
@@ -50,12 +49,17 @@ fn those_below(alloc: Global, positions: &[u32], end: u32) -> Result<Vec<u32>, N
 
 impl Scan<'_> {
     /// How the delivery at position k, if there is one, first has an orphan, if it has one by the instant `end`. It newly
-    /// reaches a process by the firsts.
-    fn first_breach_at(&self, f: u16, end: u32, k: u32, firsts: &[u32]) -> Option<Breach>
+    /// reaches a process by the firsts, which take a step each.
+    fn first_breach_at(
+        &self,
+        f: u16,
+        end: u32,
+        k: u32,
+        firsts: &[u32],
+        budget: &mut Budget,
+    ) -> Option<Breach>
         requires within { end ≤ length self.now.trace.now.recording.past }
-        requires lasting { NoneReleasedFrom self.now.trace.now.recording.past self.now.lasting_from }
-        requires turns { AreTurnsKept self.now.trace.now.recording.past self.now.turns.now }
-        requires mentions { AreMentionsKept self.now.trace.now.recording.past self.now.mentions.now }
+        requires scan { IsScan self.now }
         requires firsts { (d : Det) → det_at self.now.trace.now.recording.past k ≡ Some d →
             AreFirstsBelow self.now.trace.now.recording.past k end firsts.now }
         ensures { FirstBreachBy self.now.trace.now.recording f end k result }
@@ -73,19 +77,24 @@ impl Scan<'_> {
         };
         let changes = Changes {
             mentions: self.mentions.list(det),
-            turns: self.turns.positions.as_slice(),
             firsts,
         };
-        first_followed(&run, &changes, f, end, k, det)
+        budget.charge(firsts.len());
+        first_orphan(&run, &changes, f, end, k, det, budget)
     }
 
     /// The least breach of the deliveries of a group, if it comes by the instant `end`, where the lists tell by which entries
     /// each newly reaches a process. No instant is looked at that is later than a breach that was found.
-    fn least_of(&self, f: u16, end: u32, group: &[u32], lists: &[Vec<u32>]) -> Option<Breach>
+    fn least_of(
+        &self,
+        f: u16,
+        end: u32,
+        group: &[u32],
+        lists: &[Vec<u32>],
+        budget: &mut Budget,
+    ) -> Option<Breach>
         requires within { end ≤ length self.now.trace.now.recording.past }
-        requires lasting { NoneReleasedFrom self.now.trace.now.recording.past self.now.lasting_from }
-        requires turns { AreTurnsKept self.now.trace.now.recording.past self.now.turns.now }
-        requires mentions { AreMentionsKept self.now.trace.now.recording.past self.now.mentions.now }
+        requires scan { IsScan self.now }
         requires count { length lists.now ≡ length group.now }
         requires firsts { HaveFirstsUntil self.now.trace.now.recording.past group.now end (lists_in lists.now) }
         ensures { LeastAmongBy self.now.trace.now.recording f end group.now result }
@@ -93,12 +102,8 @@ impl Scan<'_> {
         let mut least = None;
         let mut until = end;
         for (place, position) in group.iter().enumerate() {
-            if let Some(found) = self.first_breach_at(
-                f,
-                until,
-                *position,
-                lists[place].as_slice(),
-            ) {
+            let firsts = lists[place].as_slice();
+            if let Some(found) = self.first_breach_at(f, until, *position, firsts, budget) {
                 until = found.instant;
                 least = earlier(least, Some(found));
             }
@@ -114,52 +119,55 @@ impl Scan<'_> {
         f: u16,
         end: u32,
         group: &[u32],
+        budget: &mut Budget,
     ) -> Result<Option<Breach>, NoMemory>
         requires within { end ≤ length self.now.trace.now.recording.past }
-        requires lasting { NoneReleasedFrom self.now.trace.now.recording.past self.now.lasting_from }
-        requires turns { AreTurnsKept self.now.trace.now.recording.past self.now.turns.now }
-        requires mentions { AreMentionsKept self.now.trace.now.recording.past self.now.mentions.now }
+        requires scan { IsScan self.now }
         requires few { length group.now ≤ 256 }
         requires inside { All (λ k. k < length self.now.trace.now.recording.past) group.now }
         ensures { IfOk result (LeastAmongBy self.now.trace.now.recording f end group.now) }
     {
         let lists = firsts_of(alloc, self.trace, end, group)?;
-        Ok(self.least_of(f, end, group, lists.as_slice()))
+        Ok(self.least_of(f, end, group, lists.as_slice(), budget))
     }
 
-    /// The least breach of the deliveries at these positions, which are below `end`, by groups.
+    /// The least breach of the deliveries at these positions, which are below `end`, by groups, as long as steps are left.
     fn least_by_groups(
         &self,
         alloc: Global,
         f: u16,
         end: u32,
         positions: &[u32],
-    ) -> Result<Option<Breach>, NoMemory>
+        budget: &mut Budget,
+    ) -> Result<Surveyed, NoMemory>
         requires within { end ≤ length self.now.trace.now.recording.past }
-        requires lasting { NoneReleasedFrom self.now.trace.now.recording.past self.now.lasting_from }
-        requires turns { AreTurnsKept self.now.trace.now.recording.past self.now.turns.now }
-        requires mentions { AreMentionsKept self.now.trace.now.recording.past self.now.mentions.now }
+        requires scan { IsScan self.now }
         requires below { All (λ k. k < end) positions.now }
-        ensures { IfOk result (LeastAmongBy self.now.trace.now.recording f end positions.now) }
+        ensures { IfOk result (IsToldAmong self.now.trace.now.recording f end positions.now) }
     {
         let mut least = None;
         let mut until = end;
         for group in positions.chunks(GROUP) {
-            if let Some(found) = self.least_in_group(alloc, f, until, group)? {
+            budget.charge_walk(until);
+            if budget.is_spent() {
+                return Ok(Surveyed::TooMany);
+            }
+            if let Some(found) = self.least_in_group(alloc, f, until, group, budget)? {
                 until = found.instant;
                 least = earlier(least, Some(found));
             }
         }
-        Ok(least)
+        Ok(Surveyed::Told(least))
     }
 
     /// The least breach, by instant and then by position, of the deliveries at these positions, if it comes by the instant
-    /// `end`; None where none of them has an orphan by then.
+    /// `end`; None where none of them has an orphan by then. Where the steps do not suffice nothing is told.
     ///
     /// The entries up to `end`, or to a breach that was found, are walked once for each 256 positions, a few instructions
-    /// each. Beside that each position takes time as what changes for its delivery: as the mentions of its determinant, the
-    /// crashes and restarts, and the entries by which it newly reaches a process. It takes four bytes for each position, and
-    /// for one group at a time 32 for each entry of the run and four for each entry by which one newly reaches a process.
+    /// each: eight of them take a step. Beside that a step is taken for each entry by which a delivery newly reaches a process,
+    /// and for each restart that is looked at; the mentions of its determinant are the caller's to count. It takes four bytes
+    /// for each position, and for one group at a time 32 for each entry of the run and four for each entry by which one newly
+    /// reaches a process.
     ///
     /// # Errors
     /// `NoMemory` where memory was refused.
@@ -169,14 +177,13 @@ impl Scan<'_> {
         f: u16,
         end: u32,
         positions: &[u32],
-    ) -> Result<Option<Breach>, NoMemory>
+        budget: &mut Budget,
+    ) -> Result<Surveyed, NoMemory>
         requires within { end ≤ length self.now.trace.now.recording.past }
-        requires lasting { NoneReleasedFrom self.now.trace.now.recording.past self.now.lasting_from }
-        requires turns { AreTurnsKept self.now.trace.now.recording.past self.now.turns.now }
-        requires mentions { AreMentionsKept self.now.trace.now.recording.past self.now.mentions.now }
-        ensures { IfOk result (LeastAmongBy self.now.trace.now.recording f end positions.now) }
+        requires scan { IsScan self.now }
+        ensures { IfOk result (IsToldAmong self.now.trace.now.recording f end positions.now) }
     {
         let kept = those_below(alloc, positions, end)?;
-        self.least_by_groups(alloc, f, end, kept.as_slice())
+        self.least_by_groups(alloc, f, end, kept.as_slice(), budget)
     }
 }

@@ -5,6 +5,7 @@ ghost use Rattle.std.specs.FinSet as set;
 ghost use Rattle.causal_name.specs.declared.Det.{Det};
 ghost use Rattle.causal_trace.specs.declared.entry.Entry.{Entry};
 ghost use Rattle.causal_trace.specs.Past.{is_stable};
+ghost use Rattle.causal_audit.specs.Inside.Staying.{later, members};
 ghost use Rattle.causal_audit.specs.Inside.Sights.{ExposesLeast, IsSightAfter, IsSightBegun, ShowsDependentsAfter, ShowsDownAfter, TellsOver};
 
 use crate::holding::holders_after;
@@ -98,6 +99,26 @@ impl Sight {
             holders: Holders::none(),
             stable: false,
             dependents: Holders::none(),
+        }
+    }
+
+    /// Those who are down, hold the determinant or depend on the delivery.
+    pub fn members(self) -> Holders
+        ensures { result ≡ members self }
+    {
+        self.down.union(self.holders).union(self.dependents)
+    }
+
+    /// What is known at a later instant at which these are down, if nothing else has changed for the delivery and none of its
+    /// members has restarted: a holder or a dependent that is down has crashed since.
+    pub fn later(self, down: Holders) -> Sight
+        ensures { result ≡ later down self }
+    {
+        Sight {
+            down,
+            holders: self.holders.minus(down),
+            stable: self.stable,
+            dependents: self.dependents.minus(down),
         }
     }
 

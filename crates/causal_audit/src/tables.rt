@@ -9,12 +9,13 @@ ghost use Rattle.causal_audit.specs.Inside.Filed.{past_of};
 ghost use Rattle.causal_audit.specs.Numbers.{IsNumbered, ArePositions, ArePositionsAfter};
 
 use crate::breach::Breach;
+use crate::budget::Budget;
 use crate::changes::Changes;
 use crate::cover::{Outline, is_covered};
 use crate::events::clocks_of;
 use crate::lanes::{LANES, lanes_of, write_firsts};
 use crate::mentions::{Mentions, mentions_in};
-use crate::orphans::{Run, first_orphan};
+use crate::orphans::first_orphan;
 use crate::releases::lasting_from;
 use crate::spreads::spreads_of;
 use crate::turns::{Turns, turns_of};
@@ -129,19 +130,15 @@ impl Tables {
         requires within { end ≤ length self.now.past }
         ensures { FirstBreachBy self.now f end k result }
     {
-        let run = Run {
-            trace: &self.trace,
-            clocks: &self.clocks,
-            lasting_from: self.lasting_from,
-            turns: &self.turns,
-        };
-        let outline = Outline {
+        let run = Outline {
             trace: &self.trace,
             lasting_from: self.lasting_from,
             turns: &self.turns,
         };
         let mentions = self.mentions.list(det);
-        if is_covered(&outline, mentions, self.spreads[k as usize], f, end, k, det) {
+        let spread = self.spreads[k as usize];
+        let mut budget = Budget::endless();
+        if is_covered(&run, mentions, spread, f, end, k, det, &mut budget) {
             return None;
         }
         let mut room = [0; LANES];
@@ -149,10 +146,9 @@ impl Tables {
         write_firsts(firsts, &self.clocks, &self.lanes, k, self.entries());
         let changes = Changes {
             mentions,
-            turns: &self.turns.positions,
             firsts: &*firsts,
         };
-        first_orphan(&run, &changes, f, end, k, det)
+        first_orphan(&run, &changes, f, end, k, det, &mut budget)
     }
 }
 

@@ -1,5 +1,5 @@
 //! The positions of the crashes and restarts, and who is down after each.
-ghost use Rattle.std.specs.Prelude.{◌≡◌, ◌≤◌, ◌∷◌, List, IfOk, length};
+ghost use Rattle.std.specs.Prelude.{◌≡◌, ◌≤◌, ◌∷◌, ℕ, List, IfOk, length};
 ghost use Rattle.std.specs.List.Sorted.{IsNonDecreasing};
 ghost use Rattle.causal_trace.specs.declared.entry.Entry.{Entry};
 ghost use Rattle.causal_trace.specs.Limits.{max_entries};
@@ -7,12 +7,16 @@ ghost use Rattle.causal_trace.specs.Past.{instant, is_down};
 ghost use Rattle.causal_audit.specs.Quiet.{is_turn};
 ghost use Rattle.causal_audit.specs.Inside.Filed.{past_of};
 ghost use Rattle.causal_audit.specs.Inside.Kept.{AreTurnsKept};
+ghost use Rattle.causal_audit.specs.Inside.Passing.{HasPassed, IsPassing};
 ghost use Rattle.causal_audit.specs.Inside.Sights.{Shows};
+ghost use Rattle.causal_audit.specs.Inside.Staying.{RestartsNone, restarts_one};
 
+use crate::budget::Budget;
 use crate::sight::down_after;
 use causal_holders::Holders;
 use causal_name::NoMemory;
 use causal_trace::entry::Entry;
+use causal_trace::trace::Trace;
 use std::alloc::Global;
 
 /// The positions of the crashes and restarts, and for each who is down after it.
@@ -22,25 +26,78 @@ pub struct Turns {
     pub downs: Vec<Holders>,
 }
 
+/// A walk over the crashes and restarts of a run: how many of them have been passed.
+#[derive(Clone, Copy)]
+pub struct Passing<'a> {
+    pub turns: &'a Turns,
+    pub passed: usize,
+}
+
+/// Whether an entry restarts one of these processes.
+fn restarts_one(entry: &Entry, members: Holders) -> bool
+    ensures { result ≡ restarts_one members entry.now }
+{
+    match entry {
+        Entry::Restart { who, .. } => members.contains(who.0),
+        _ => false,
+    }
+}
+
 impl Turns {
-    /// Who is down at the instant t: those who were after the last crash or restart before it.
-    pub fn down_at(&self, t: u32) -> Holders
+    /// A walk over them that has passed those before position t.
+    pub fn from(&self, t: u32) -> Passing<'_>
         requires ascending { IsNonDecreasing self.now.positions.items }
-        requires counted { length self.now.downs.items ≡ length self.now.positions.items }
-        ensures { (past : List Entry) → t ≤ length past → AreTurnsKept past self.now →
-            Shows result (λ p. is_down (instant past t) p) }
+        ensures { HasPassed self.now t result }
     {
-        let passed = self.positions.partition_point(|position| *position < t);
-        if passed == 0 {
+        Passing {
+            turns: self,
+            passed: self.positions.partition_point(|position| *position < t),
+        }
+    }
+}
+
+impl Passing<'_> {
+    /// Who is down after those that were passed.
+    pub fn down(&self) -> Holders
+        requires { self.now.passed ≤ length self.now.turns.now.downs.items }
+        ensures { (past : List Entry) (t : ℕ) → t ≤ length past → AreTurnsKept past self.now.turns.now →
+            HasPassed self.now.turns.now t self.now → Shows result (λ p. is_down (instant past t) p) }
+    {
+        if self.passed == 0 {
             return Holders::none();
         }
-        self.downs[passed - 1]
+        self.turns.downs[self.passed - 1]
     }
 
-    /// How many there are from position t on.
-    pub fn count_from(&self, t: u32) -> usize {
-        let passed = self.positions.partition_point(|position| *position < t);
-        self.positions.len() - passed
+    /// The first position from `from` on at which one of these processes restarts, which takes a step, or `end` if that comes
+    /// first. Crashes, and restarts of others, are passed.
+    pub fn next_restart(
+        &mut self,
+        trace: &Trace,
+        members: Holders,
+        from: u32,
+        end: u32,
+        budget: &mut Budget,
+    ) -> u32
+        requires order { from ≤ end }
+        requires turns { AreTurnsKept trace.now.recording.past self.old.turns.now }
+        requires passing { IsPassing self.old.turns.now from self.old }
+        ensures bounds { (from ≤ result) × (result ≤ end) }
+        ensures passed { HasPassed self.old.turns.now result self.new }
+        ensures none { RestartsNone trace.now.recording.past members from result }
+    {
+        let entries = trace.entries();
+        while let Some(position) = self.turns.positions.get(self.passed) {
+            if *position >= end {
+                return end;
+            }
+            if *position >= from && restarts_one(&entries[*position as usize], members) {
+                budget.charge(1);
+                return *position;
+            }
+            self.passed += 1;
+        }
+        end
     }
 }
 

@@ -61,15 +61,21 @@ pub record AreLanes (past : List Entry) (events : List Event) (lanes : List (Lis
   pub inside : (m v : ℕ) → Contains (list_at lanes m) v → (lane_of events v ≡ m) × (p : ℕ) × (l : ℕ) × IsEventOf past v p l
   pub each : (v p l : ℕ) → IsEventOf past v p l → Contains (list_at lanes (lane_of events v)) v
 
--- if k reaches any event of the list, then this one, and it is the first of them
-abbrev pub IsFirstReached : List Event → ℕ → List ℕ → ℕ → Type 0
-IsFirstReached events k lane first = (v : ℕ) → Contains lane v → Reaches events k v → (first ≤ v) × Contains lane first × Reaches events k first
+-- if k reaches any event of the list, then this one, and it is the first of them; below `end` it is one that k reaches
+pub record IsFirstReached (events : List Event) (k : ℕ) (lane : List ℕ) (end first : ℕ) : Type 0 where
+  pub any : (v : ℕ) → Contains lane v → Reaches events k v → (first ≤ v) × Contains lane first × Reaches events k first
+  pub below : first < end → Contains lane first × Reaches events k first
 
 -- of each lane of which k reaches an event, the list has the first one
 abbrev pub AreFirsts : List Event → ℕ → List (List ℕ) → List ℕ → Type 0
 AreFirsts events k lanes firsts =
     (m v : ℕ) → Contains (list_at lanes m) v → Reaches events k v
     → (i : ℕ) × Contains firsts i × (i ≤ v) × Contains (list_at lanes m) i × Reaches events k i
+
+-- each of them below `end` is an event of some lane, and k reaches it
+abbrev pub AreReached : List Event → ℕ → List (List ℕ) → ℕ → List ℕ → Type 0
+AreReached events k lanes end firsts =
+    (v : ℕ) → v < end → Contains firsts v → (m : ℕ) × Contains (list_at lanes m) v × Reaches events k v
 
 -- determinants that have numbers, the newest first
 abbrev pub Numbers : Type 0

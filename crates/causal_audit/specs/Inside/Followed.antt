@@ -1,4 +1,4 @@
--- Where something may change for a delivery that is followed by the entries by which it newly reaches a process.
+-- Where something may change for a delivery that is followed.
 use Rattle.std.specs.Prelude.{◌≡◌, ℕ, ◌<◌, ◌⊎◌, ◌||◌, Bool, List, Contains, Some}
 use Rattle.std.specs.Ordering.{nat_cmp}
 use Rattle.std.specs.FinSet.{FinSet, contains}
@@ -7,7 +7,7 @@ use Rattle.causal_name.specs.declared.Det.{Det}
 use Rattle.causal_trace.specs.declared.entry.Entry.{Entry}
 use Rattle.causal_trace.specs.Dependence.{actor, IsEventOf, Reaches}
 use Rattle.causal_audit.specs.declared.changes.Changes.{Changes}
-use Rattle.causal_audit.specs.Inside.Changes.{AreMentionsOf, HasMentions, HasTurns}
+use Rattle.causal_audit.specs.Inside.Changes.{AreMentionsOf, HasMentions}
 
 -- each entry below `end` that k reaches is in the list, or comes after one of its lane that k reaches
 abbrev pub HasFirstsUntil : List Entry → ℕ → ℕ → List ℕ → Type 0
@@ -15,19 +15,18 @@ HasFirstsUntil past k end list =
     (v p l : ℕ) → v < end → IsEventOf past v p l → Reaches past k v
     → Contains list v ⊎ ((i : ℕ) × (i < v) × IsEventOf past i p l × Reaches past k i)
 
--- it ascends, and has only such that k reaches
+-- it ascends, and has below `end` only such that k reaches
 pub record AreFirstsBelow (past : List Entry) (k end : ℕ) (list : List ℕ) : Type 0 where
   pub ascend : IsNonDecreasing list
-  pub reached : (v : ℕ) → Contains list v → Reaches past k v
+  pub reached : (v : ℕ) → v < end → Contains list v → Reaches past k v
   pub first : HasFirstsUntil past k end list
 
--- ascending they have each position below `end` at which something may change for the delivery at k, whose determinant is d
+-- ascending they have each position below `end` at which the determinant d of the delivery at k is mentioned, or k newly
+-- reaches a process
 pub record AreFollowed (past : List Entry) (k : ℕ) (d : Det) (end : ℕ) (changes : Changes) : Type 0 where
   pub mentions_ascend : IsNonDecreasing changes.mentions.now
-  pub turns_ascend : IsNonDecreasing changes.turns.now
   pub mentioned : HasMentions past d changes.mentions.now
   pub only : AreMentionsOf past d changes.mentions.now
-  pub turned : HasTurns past changes.turns.now
   pub firsts : AreFirstsBelow past k end changes.firsts.now
 
 -- an event is reached where it is newly, or where its process depends on the delivery already

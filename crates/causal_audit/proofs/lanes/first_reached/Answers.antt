@@ -25,7 +25,7 @@ returns-then-low-lane c =
     let lane = c.args.lane.now in
     let met : c.loop-low.high ≡ c.loop-low.low = omega (arith, c.loop-low-test.false, c.loop-low.invariant.order) in
     let there : c.loop-low.low < length lane = c.if-low-lane.true in
-    first_at c.args.clocks.now.events c.args.k lane c.requires.ascends c.requires.one_lane c.loop-low.low there c.loop-low.invariant.before
+    first_at c.args.clocks.now.events c.args.k lane c.requires.ascends c.requires.one_lane c.args.end c.loop-low.low there c.loop-low.invariant.before
     (subst (λ i. Reaches c.args.clocks.now.events c.args.k (get_or lane i 0)) met (c.loop-low.invariant.at_high (omega (arith, there, met))))
 
 pub returns-else-low-lane : goal.returns-else-low-lane

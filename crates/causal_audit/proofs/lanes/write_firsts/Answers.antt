@@ -3,9 +3,9 @@ use Rattle.std.specs.Prelude.{Contains}
 use Rattle.std.proofs.Math.ListN.{set}
 use Rattle.std.proofs.lemmas.Bool.Decides.{eqb_tells}
 use Rattle.std.proofs.lemmas.List.{get_or-map, length-map, get_or-set_same, get_or-set_other}
-use Rattle.std.proofs.lemmas.List.Sorted.{IsNonDecreasingBy-from_sort}
+use Rattle.std.proofs.lemmas.List.Sorted.{IsNonDecreasingBy-from_sort, IsPermutation-sym}
 use Rattle.causal_audit.specs.Inside.Filed.{Ascends, IsFirstReached, list_at}
-use Rattle.causal_audit.proofs.Firsts.{firsts_from}
+use Rattle.causal_audit.proofs.Firsts.{firsts_from, reached_from}
 use Rattle.causal_audit.proofs.lanes.write_firsts.Goals as goal
 
 -- the list of a vector among several
@@ -31,12 +31,12 @@ loop-m-preserved c m below =
     let inside : c.loop-m.m < length firsts = omega (arith, c.loop-m-test.true, c.loop-m.auto.firsts, c.requires.count) in
     elim (eqb_tells m c.loop-m.m) [
       | inl here ↦
-          subst (λ j. IsFirstReached events c.args.k (list_at lanes j) (get_or (set firsts c.loop-m.m c.first_reached.result) j 0)) (sym here.1)
-          (subst (λ list. IsFirstReached events c.args.k list (get_or (set firsts c.loop-m.m c.first_reached.result) c.loop-m.m 0)) (sym is)
-          (subst (IsFirstReached events c.args.k c.as_slice.result.now) (sym (get_or-set_same firsts c.loop-m.m c.first_reached.result 0 inside)) c.first_reached.ensures))
+          subst (λ j. IsFirstReached events c.args.k (list_at lanes j) c.args.end (get_or (set firsts c.loop-m.m c.first_reached.result) j 0)) (sym here.1)
+          (subst (λ list. IsFirstReached events c.args.k list c.args.end (get_or (set firsts c.loop-m.m c.first_reached.result) c.loop-m.m 0)) (sym is)
+          (subst (IsFirstReached events c.args.k c.as_slice.result.now c.args.end) (sym (get_or-set_same firsts c.loop-m.m c.first_reached.result 0 inside)) c.first_reached.ensures))
       | inr other ↦
           let apart : m ≢ c.loop-m.m = other.1 in
-          subst (IsFirstReached events c.args.k (list_at lanes m)) (sym (get_or-set_other firsts c.loop-m.m m c.first_reached.result 0 apart)) (c.loop-m.invariant m (omega (arith, below, apart)))
+          subst (IsFirstReached events c.args.k (list_at lanes m) c.args.end) (sym (get_or-set_other firsts c.loop-m.m m c.first_reached.result 0 apart)) (c.loop-m.invariant m (omega (arith, below, apart)))
     ]
 
 pub returns-clause-ascending : goal.returns-clause-ascending
@@ -46,5 +46,12 @@ pub returns-clause-firsts : goal.returns-clause-firsts
 returns-clause-firsts c =
     let count = length-map c.args.lanes.now (λ list. list.items) in
     firsts_from c.args.clocks.now.events c.args.k (map (λ list. list.items) c.args.lanes.now) c.loop-m.firsts c.sort_unstable.new.self
-    (omega (arith, c.loop-m.auto.firsts, c.requires.count, count)) c.sort_unstable.ensures.permutation
+    (omega (arith, c.loop-m.auto.firsts, c.requires.count, count)) c.sort_unstable.ensures.permutation c.args.end
+    (λ m there. c.loop-m.invariant m (omega (arith, there, count, c.loop-m-test.false)))
+
+pub returns-clause-reached : goal.returns-clause-reached
+returns-clause-reached c =
+    let count = length-map c.args.lanes.now (λ list. list.items) in
+    reached_from c.args.clocks.now.events c.args.k (map (λ list. list.items) c.args.lanes.now) c.loop-m.firsts c.sort_unstable.new.self
+    (omega (arith, c.loop-m.auto.firsts, c.requires.count, count)) (IsPermutation-sym c.loop-m.firsts c.sort_unstable.new.self c.sort_unstable.ensures.permutation) c.args.end
     (λ m there. c.loop-m.invariant m (omega (arith, there, count, c.loop-m-test.false)))

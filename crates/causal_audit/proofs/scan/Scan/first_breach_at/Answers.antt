@@ -1,6 +1,6 @@
 use Rattle.std.proofs.Common.{ℕ, ◌≡◌, ◌≤◌, ◌<◌, List, Vec, Global, length, map, None, Some, sym, subst, ◌∙◌, arith}
 use Rattle.std.specs.List.Sorted.{IsNonDecreasing}
-use Rattle.causal_audit.specs.Inside.Changes.{AreMentionsOf, HasMentions, HasTurns}
+use Rattle.causal_audit.specs.Inside.Changes.{AreMentionsOf, HasMentions}
 use Rattle.causal_audit.proofs.Mentioned.{mentions_ascend}
 use Rattle.causal_trace.specs.Past.{instant}
 use Rattle.causal_trace.proofs.Lemmas.AtInstants.{det_then, det_within, instant_length}
@@ -23,15 +23,13 @@ returns-in_default c t within has =
     let none : None ≡ Some has.is_orphan.det = sym c.in_default.is ∙ c.det_at.ensures ∙ sym (det_then r.past t c.args.k made inside) ∙ has.is_orphan.delivered in
     absurd (let e : None ≡ Some has.is_orphan.det = none in cc)
 
-pub first_followed-requires-clause-changes : goal.first_followed-requires-clause-changes
-first_followed-requires-clause-changes c =
+pub first_orphan-requires-clause-changes : goal.first_orphan-requires-clause-changes
+first_orphan-requires-clause-changes c =
     let past = c.args.self.now.trace.now.recording.past in
-    let mentions = c.requires.mentions in
+    let mentions = c.requires.scan.mentioned in
     record {
       mentions_ascend = subst IsNonDecreasing (sym c.list.ensures) (mentions_ascend past c.args.self.now.mentions.now.numbers (map positions c.args.self.now.mentions.now.lists.items) mentions c.in-Some.det);
-      turns_ascend = subst IsNonDecreasing (sym c.as_slice.ensures.value) c.requires.turns.ascends.ascending;
       mentioned = subst (HasMentions past c.in-Some.det) (sym c.list.ensures) (mentions.mentioned c.in-Some.det);
       only = subst (AreMentionsOf past c.in-Some.det) (sym c.list.ensures) (mentions.only c.in-Some.det);
-      turned = subst (HasTurns past) (sym c.as_slice.ensures.value) c.requires.turns.turned;
       firsts = c.requires.firsts c.in-Some.det (sym c.in-Some.ensures);
     }

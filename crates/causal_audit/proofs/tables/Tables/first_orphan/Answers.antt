@@ -4,9 +4,9 @@ use Rattle.std.specs.List.{All}
 use Rattle.std.specs.List.Sorted.{IsNonDecreasing}
 use Rattle.std.proofs.lemmas.List.{get_or_default}
 use Rattle.causal_trace.specs.Past.{det_at}
-use Rattle.causal_audit.specs.Inside.Changes.{AreMentionsOf, HasMentions, HasTurns}
-use Rattle.causal_audit.specs.Inside.Filed.{Ascends, AreFirsts, list_at}
-use Rattle.causal_audit.proofs.Firsts.{firsts_listed}
+use Rattle.causal_audit.specs.Inside.Changes.{AreMentionsOf, HasMentions}
+use Rattle.causal_audit.specs.Inside.Filed.{Ascends, AreFirsts, AreReached, list_at}
+use Rattle.causal_audit.proofs.Firsts.{firsts_listed, firsts_reached}
 use Rattle.causal_trace.proofs.Lemmas.AtInstants.{det_within}
 use Rattle.causal_audit.proofs.Mentioned.{mentions_ascend}
 use Rattle.causal_audit.specs.Spread.{StaysUntil}
@@ -31,9 +31,6 @@ pub write_firsts-requires-clause-inside : goal.write_firsts-requires-clause-insi
 write_firsts-requires-clause-inside c m v has =
     (c.self.invariant.1.in_lanes.inside m v (subst (λ lanes. Contains (list_at (map (λ list. list.items) lanes) m) v) c.deref.ensures.value has)).0
 
-pub first_orphan-requires-clause-clock : goal.first_orphan-requires-clause-clock
-first_orphan-requires-clause-clock c = c.self.invariant.0.stands
-
 pub first_orphan-requires-clause-delivery : goal.first_orphan-requires-clause-delivery
 first_orphan-requires-clause-delivery c = rw (← c.self.view_is) at c.requires.delivery
 
@@ -49,21 +46,24 @@ first_orphan-requires-clause-changes c =
     let at : det_at r.past c.args.k ≡ Some c.args.det = rw (← c.self.view_is) at c.requires.delivery in
     let firsts : AreFirsts events c.args.k lanes c.write_firsts.new.firsts =
     subst (λ ls. AreFirsts events c.args.k (map positions ls) c.write_firsts.new.firsts) c.deref.ensures.value c.write_firsts.ensures.firsts in
+    let reached : AreReached events c.args.k lanes c.entries.result c.write_firsts.new.firsts =
+    subst (λ ls. AreReached events c.args.k (map positions ls) c.entries.result c.write_firsts.new.firsts) c.deref.ensures.value c.write_firsts.ensures.reached in
     record {
       mentions_ascend = subst IsNonDecreasing (sym c.list-mentions.ensures) (mentions_ascend r.past numbers mentions indexes.mentioned c.args.det);
-      turns_ascend = subst IsNonDecreasing (sym c.deref-2.ensures.value) indexes.turned.ascends.ascending;
-      firsts_ascend = c.write_firsts.ensures.ascending;
       mentioned = subst (HasMentions r.past c.args.det) (sym c.list-mentions.ensures) (indexes.mentioned.mentioned c.args.det);
       only = subst (AreMentionsOf r.past c.args.det) (sym c.list-mentions.ensures) (indexes.mentioned.only c.args.det);
-      turned = subst (HasTurns r.past) (sym c.deref-2.ensures.value) indexes.turned.turned;
-      first = firsts_listed r.processes r.past kept.formed.accepted events kept.stands lanes indexes.in_lanes c.args.k c.args.det at c.write_firsts.new.firsts firsts;
+      firsts = record {
+        ascend = c.write_firsts.ensures.ascending;
+        reached = λ v early. firsts_reached r.processes r.past kept.formed.accepted events kept.stands lanes indexes.in_lanes c.args.k c.args.det at c.entries.result c.write_firsts.new.firsts reached v (omega (arith, early, c.requires.within, c.entries.ensures.length));
+        first = firsts_listed r.processes r.past kept.formed.accepted events kept.stands lanes indexes.in_lanes c.args.k c.args.det at c.write_firsts.new.firsts firsts c.args.end;
+      };
     }
 
 pub returns : goal.returns
 returns c = rw (← c.self.view_is) c.first_orphan.ensures
 
-pub index-requires : goal.index-requires
-index-requires c =
+pub index-spread-requires : goal.index-spread-requires
+index-spread-requires c =
     let at : det_at c.self.inside.trace.recording.past c.args.k ≡ Some c.args.det = rw (← c.self.view_is) at c.requires.delivery in
     omega (arith, det_within c.self.inside.trace.recording.past c.args.k c.args.det at, c.self.invariant.1.spread.count)
 
@@ -79,5 +79,5 @@ is_covered-requires-clause-stays c =
     let spreads = c.self.inside.spreads.items in
     let at : det_at r.past c.args.k ≡ Some c.args.det = rw (← c.self.view_is) at c.requires.delivery in
     let inside : c.args.k < length spreads = omega (arith, det_within r.past c.args.k c.args.det at, c.self.invariant.1.spread.count) in
-    let is : c.index.result.now ≡ get_or spreads c.args.k 0 = c.index.ensures ∙ get_or_default spreads c.args.k c.index.result.now 0 inside in
+    let is : c.index-spread.result.now ≡ get_or spreads c.args.k 0 = c.index-spread.ensures ∙ get_or_default spreads c.args.k c.index-spread.result.now 0 inside in
     subst (StaysUntil r.past c.args.k) (sym is) (stays_until r.processes r.past kept.formed.accepted c.self.inside.clocks.events kept.stands spreads c.self.invariant.1.spread c.args.k)
