@@ -4,10 +4,12 @@ pub mod BreachAt
 pub mod Changes
 pub mod Courses
 pub mod Filed
+pub mod Firsts
 pub mod Followed
 pub mod Index
 pub mod Kept
 pub mod Kinds
+pub mod Layout
 pub mod Moments
 pub mod Newly
 pub mod Reaching
@@ -19,3 +21,4 @@ pub mod Sights
 pub mod Stands
 pub mod Stored
 pub mod Surveys
+pub mod Sweeps
