@@ -17,10 +17,11 @@ use Rattle.causal_audit.specs.declared.kind.Kind.{Kind}
 use Rattle.causal_audit.specs.declared.kind.Kind.TheVariants.{Send, Deliver, Stable, Crash, Restart, Forget}
 use Rattle.causal_audit.specs.declared.room.Room.{Room}
 use Rattle.causal_audit.specs.declared.sight.Sight.{Sight}
-use Rattle.causal_audit.specs.declared.sweep.Moment.{Moment}
+use Rattle.causal_audit.specs.declared.sweep.Moment.TheInside.{Inside}
 use Rattle.causal_audit.specs.Inside.Courses.{run_read}
-use Rattle.causal_audit.specs.Inside.Moments.{HasNone, IsMoment}
+use Rattle.causal_audit.specs.Inside.Moments.{HasNone}
 use Rattle.causal_audit.specs.Inside.Rooms.{is_among, dependents_after, firsts_of, sight_of, IsFollowed, IsGathered}
+use Rattle.causal_audit.specs.Inside.Sweeps.{IsMoment, seen_at}
 use Rattle.causal_audit.specs.Numbers.{IsNumbered}
 use Rattle.causal_audit.specs.Inside.Sights.{IsSight}
 use Rattle.causal_audit.proofs.Exposure.{not_many, not_stable}
@@ -108,7 +109,10 @@ told_true b P is h = subst (λ x. OnTrue x P) is h
 pub told_none : (b : Bool) (P : Type 0) → b ≡ false → OnFalse b P → P
 told_none b P is h = subst (λ x. OnFalse x P) is h
 
-module _ (moment : Moment) (room : Room) (is : IsMoment moment room) (mark : ℕ) where
+module _ (moment : Inside) (is : IsMoment moment) (mark : ℕ) where
+  abbrev room : Room
+  room = moment.room.now
+
   abbrev here : List Entry
   here = instant (run_read moment.reading).past moment.t
 
@@ -121,17 +125,17 @@ module _ (moment : Moment) (room : Room) (is : IsMoment moment room) (mark : ℕ
       let high : slice_index moment.reading.effects.now.first.items i ≤ i = is.reading.has_effects.within i (numbered_below r.past i k numbered) in
       (omega (arith, low, same), omega (arith, low, high, same, followed.1))
 
-  pub none_below : mark < room.lowest → HasNone moment room mark
+  pub none_below : mark < room.lowest → HasNone (seen_at moment) mark
   none_below below i k followed same numbered has = omega (arith, below, (stands i k followed same numbered).0)
 
-  pub none_beyond : length room.stable.items ≤ mark - room.lowest → HasNone moment room mark
+  pub none_beyond : length room.stable.items ≤ mark - room.lowest → HasNone (seen_at moment) mark
   none_beyond beyond i k followed same numbered has = omega (arith, beyond, is.seen.stable_count, (stands i k followed same numbered).1)
 
   -- what tells of each delivery with the determinant that it has no orphan
   none_when : ((s : Sight) → s.down ≡ moment.down → s.holders ≡ get_or room.holders.items (mark - room.lowest) empty → s.stable ≡ get_or room.stable.items (mark - room.lowest) false
       → ((p : ℕ) → contains s.dependents p ≡ true → contains (get_or room.gathered.items (mark - room.lowest) empty) p ≡ true)
       → (k : ℕ) (d : Det) → AreAccepted (run_read moment.reading).processes here → det_at here k ≡ Some d → IsSight here k d s → HasOrphan (run_read moment.reading).processes moment.f here k → ⊥)
-      → HasNone moment room mark
+      → HasNone (seen_at moment) mark
   none_when safe i k followed same numbered has =
       let r = run_read moment.reading in
       let first = moment.reading.effects.now.first.items in
@@ -142,12 +146,12 @@ module _ (moment : Moment) (room : Room) (is : IsMoment moment room) (mark : ℕ
       (λ p depends. ap (λ m. contains (get_or room.gathered.items (m - room.lowest) empty) p) (sym same) ∙ is.gathered.each i p followed depends)
       k some.0 (accepted_then r.processes r.past moment.t formed) (det_then r.past moment.t k made is.within ∙ some.1) (is.seen.sights i k some.0 followed numbered some.1) has
 
-  pub none_stable : get_or room.stable.items (mark - room.lowest) false ≡ true → HasNone moment room mark
+  pub none_stable : get_or room.stable.items (mark - room.lowest) false ≡ true → HasNone (seen_at moment) mark
   none_stable stable = none_when (λ s _ _ at _ k d formed det sight. not_stable (run_read moment.reading).processes moment.f here k d formed det s sight (at ∙ stable))
 
-  pub none_many : (holders : FinSet nat_cmp) → get_or room.holders.items (mark - room.lowest) empty ≡ holders → moment.f < len (union moment.down holders) → HasNone moment room mark
+  pub none_many : (holders : FinSet nat_cmp) → get_or room.holders.items (mark - room.lowest) empty ≡ holders → moment.f < len (union moment.down holders) → HasNone (seen_at moment) mark
   none_many holders held many = none_when (λ s down at _ _ k d formed det sight. not_many (run_read moment.reading).processes moment.f here k d formed det s sight (subst (λ n. moment.f < n) (λ j. len (union (sym down j) (sym (at ∙ held) j))) many))
 
-  pub none_within : (holders gathered : FinSet nat_cmp) → get_or room.holders.items (mark - room.lowest) empty ≡ holders → get_or room.gathered.items (mark - room.lowest) empty ≡ gathered → is_subset gathered holders ≡ true → HasNone moment room mark
+  pub none_within : (holders gathered : FinSet nat_cmp) → get_or room.holders.items (mark - room.lowest) empty ≡ holders → get_or room.gathered.items (mark - room.lowest) empty ≡ gathered → is_subset gathered holders ≡ true → HasNone (seen_at moment) mark
   none_within holders gathered held all subset = none_when (λ s _ at _ more k d formed det sight. not_within (run_read moment.reading).processes moment.f here k d det s sight
       (λ p depends. ap (λ x. contains x p) (at ∙ held) ∙ is_subset-contains nat_cmp_total gathered holders subset p (ap (λ x. contains x p) (sym all) ∙ more p depends)))

@@ -8,7 +8,7 @@ use Rattle.std.proofs.Math.ListN.{get_or-append}
 use Rattle.std.proofs.Math.Seq.{get_or-append_seam}
 use Rattle.std.proofs.lemmas.Bool.{cases_lt, false≢true, eq-eqb, ne_eqb, eqb-true, and_parts, or_cases, cases_Bool, cond-true, cond-false}
 use Rattle.std.proofs.lemmas.Bool.Decides.{eqb_tells}
-use Rattle.std.proofs.lemmas.List.{length-set}
+use Rattle.std.proofs.lemmas.List.{get_or_past}
 use Rattle.std.proofs.lemmas.List.Elements.{All-push}
 use Rattle.causal_name.specs.declared.Det.{Det}
 use Rattle.causal_name.specs.Names.{same_det}
@@ -16,7 +16,7 @@ use Rattle.causal_trace.specs.declared.entry.Entry.{Entry}
 use Rattle.causal_trace.specs.Past.{entry_at, has}
 use Rattle.causal_trace.proofs.Lemmas.Instants.{entry_beyond}
 use Rattle.causal_audit.specs.Inside.Changes.{HasMentions}
-use Rattle.causal_audit.specs.Inside.Filed.{Ascends, AreMentions, AreMentionsWith, AreNumbered, Numbers, list_at, mentions_of, number_of, with_added}
+use Rattle.causal_audit.specs.Inside.Filed.{Ascends, AreMentions, AreMentionsWith, Numbers, list_at, mentions_of, number_of, with_added}
 use Rattle.causal_audit.specs.Quiet.{mentioned_by}
 use Rattle.causal_audit.proofs.Filings.{added_cases, added_has, added_keeps, added_ascend, ascend_weaker}
 
@@ -72,10 +72,7 @@ numbers_apart (x ∷ older) c d m at to =
 
 -- ---- a new list, for a determinant that has none
 
-module _ (numbers : Numbers) (lists : List (List ℕ)) (det : Det) (none : number_of numbers det ≡ None) (numbered : AreNumbered numbers lists) where
-  pub new_numbered : AreNumbered (det ∷ numbers) (lists ++ [] ∷ [])
-  new_numbered = omega (arith, numbered, length-append lists ([] ∷ []))
-
+module _ (numbers : Numbers) (lists : List (List ℕ)) (det : Det) (none : number_of numbers det ≡ None) (numbered : length lists ≡ length numbers) where
   old_list : (o : Option ℕ) → ((m : ℕ) → o ≡ Some m → m < length lists) → option_map_or (list_at (lists ++ [] ∷ [])) o [] ≡ option_map_or (list_at lists) o []
   old_list None inside = refl
   old_list (Some m) inside = get_or-append lists ([] ∷ []) [] m (inside m refl)
@@ -132,11 +129,9 @@ more_or : (a b : Bool) → b ≡ true → (a || b) ≡ true
 more_or true b h = refl
 more_or false b h = h
 
-pub mentions_more : (past : List Entry) (dets : List Det) (numbers : Numbers) (lists : List (List ℕ)) (det : Det) (m : ℕ) → number_of numbers det ≡ Some m → AreMentionsWith past dets numbers lists → AreMentionsWith past (dets ++ det ∷ []) numbers (with_added lists m (length past))
-mentions_more past dets numbers lists det m at are =
-    let there : m < length lists = omega (arith, are.numbered, number_below numbers det m at) in
+pub mentions_more : (past : List Entry) (dets : List Det) (numbers : Numbers) (lists : List (List ℕ)) (det : Det) (m : ℕ) → number_of numbers det ≡ Some m → m < length lists → AreMentionsWith past dets numbers lists → AreMentionsWith past (dets ++ det ∷ []) numbers (with_added lists m (length past))
+mentions_more past dets numbers lists det m at there are =
     record {
-      numbered = omega (arith, are.numbered, length-set lists m (list_at lists m ++ length past ∷ []));
       ascend = added_ascend lists m (length past) there are.ascend;
       mentioned = λ d v e is mentions. keeps_of (number_of numbers d) lists m (length past) v there (are.mentioned d v e is mentions);
       noted = λ d listed. elim (or_cases (has dets d) (same_det d det) (sym (has_more dets det d) ∙ listed)) [
@@ -156,9 +151,8 @@ mentions_more past dets numbers lists det m at are =
 
 -- ---- with a new number the lists say the same
 
-pub mentions_alike : (past : List Entry) (dets : List Det) (numbers new : Numbers) (lists more : List (List ℕ)) → AreNumbered new more → ((bound : ℕ) → All (Ascends bound) lists → All (Ascends bound) more) → ((d : Det) → mentions_of new more d ≡ mentions_of numbers lists d) → AreMentionsWith past dets numbers lists → AreMentionsWith past dets new more
-mentions_alike past dets numbers new lists more numbered ascend same are = record {
-  numbered = numbered;
+pub mentions_alike : (past : List Entry) (dets : List Det) (numbers new : Numbers) (lists more : List (List ℕ)) → ((bound : ℕ) → All (Ascends bound) lists → All (Ascends bound) more) → ((d : Det) → mentions_of new more d ≡ mentions_of numbers lists d) → AreMentionsWith past dets numbers lists → AreMentionsWith past dets new more
+mentions_alike past dets numbers new lists more ascend same are = record {
   ascend = ascend (length past + 1) are.ascend;
   mentioned = λ d. subst (HasMentions past d) (sym (same d)) (are.mentioned d);
   noted = λ d listed. subst (λ list. Contains list (length past)) (sym (same d)) (are.noted d listed);
@@ -176,7 +170,6 @@ entry_within past v e at =
 
 pub mentions_begun : (past : List Entry) (numbers : Numbers) (lists : List (List ℕ)) → AreMentions past numbers lists → AreMentionsWith past [] numbers lists
 mentions_begun past numbers lists are = record {
-  numbered = are.numbered;
   ascend = ascend_weaker (length past) (length past + 1) lists (omega arith) are.ascend;
   mentioned = are.mentioned;
   noted = λ d listed. absurd (false≢true listed);
@@ -185,7 +178,6 @@ mentions_begun past numbers lists are = record {
 
 pub mentions_done : (e : Entry) (past : List Entry) (numbers : Numbers) (lists : List (List ℕ)) → AreMentionsWith past (mentioned_by e) numbers lists → AreMentions (e ∷ past) numbers lists
 mentions_done e past numbers lists are = record {
-  numbered = are.numbered;
   ascend = let more : length past + 1 ≡ length (e ∷ past) = omega arith in subst (λ n. All (Ascends n) lists) more are.ascend;
   mentioned = λ d v x at listed. elim (eqb_tells v (length past)) [
     | inl newest ↦
@@ -204,7 +196,6 @@ mentions_done e past numbers lists are = record {
 
 pub mentions_none : AreMentions [] [] []
 mentions_none = record {
-  numbered = refl;
   ascend = λ k d low. absurd (omega (arith, low));
   mentioned = λ d v e at. absurd (let x : None ≡ Some e = at in cc);
   only = λ d v listed. absurd (nothing v listed);
@@ -217,8 +208,12 @@ mentions_none = record {
     nothing v listed = omega (arith, listed.1)
 
 pub mentions_ascend : (past : List Entry) (numbers : Numbers) (lists : List (List ℕ)) → AreMentions past numbers lists → (d : Det) → IsNonDecreasing (mentions_of numbers lists d)
-mentions_ascend past numbers lists are d = list_of (number_of numbers d) (λ m at. omega (arith, are.numbered, number_below numbers d m at))
+mentions_ascend past numbers lists are d = list_of (number_of numbers d)
   where
-    list_of : (o : Option ℕ) → ((m : ℕ) → o ≡ Some m → m < length lists) → IsNonDecreasing (option_map_or (list_at lists) o [])
-    list_of None inside = λ i j x low high. absurd (omega (arith, high))
-    list_of (Some m) inside = (are.ascend m [] (inside m refl)).ascending
+    list_of : (o : Option ℕ) → IsNonDecreasing (option_map_or (list_at lists) o [])
+    list_of None = λ i j x low high. absurd (omega (arith, high))
+    list_of (Some m) =
+        elim (cases_lt m (length lists)) [
+          | inl inside ↦ (are.ascend m [] inside).ascending
+          | inr beyond ↦ subst IsNonDecreasing (sym (get_or_past lists m [] beyond)) (λ i j x low high. absurd (omega (arith, high)))
+        ]

@@ -19,11 +19,10 @@ use Rattle.causal_audit.specs.Inside.Newly.{is_between, is_sharing, IsLeastAt, L
 use Rattle.causal_audit.specs.Inside.Filed.{list_at}
 use Rattle.causal_audit.proofs.Lasting.{or_more}
 use Rattle.causal_audit.specs.Courses.{end_of}
-use Rattle.causal_audit.specs.declared.room.Room.{Room}
-use Rattle.causal_audit.specs.declared.sweep.Moment.{Moment}
+use Rattle.causal_audit.specs.declared.sweep.Moment.TheInside.{Inside}
 use Rattle.causal_audit.specs.Inside.Courses.{run_read}
-use Rattle.causal_audit.specs.Inside.Moments.{IsMoment}
 use Rattle.causal_audit.specs.Inside.Rooms.{IsFollowed, is_among}
+use Rattle.causal_audit.specs.Inside.Sweeps.{IsMoment}
 use Rattle.causal_audit.specs.Numbers.{IsNumbered}
 use Rattle.causal_audit.specs.Verdicts.{IsLeastOrphan}
 use Rattle.std.proofs.lemmas.Bool.Decides.{nat_tests, eqb_tells}
@@ -294,15 +293,15 @@ row_read lists t v row is row_is below = row_is ∙ ap (λ x. x.items) is ∙ sy
 
 -- ---- where a room has the determinant of a delivery that it follows
 
-pub place_at : (moment : Moment) (room : Room) → IsMoment moment room → (i : ℕ) → IsFollowed room i → (x : ℕ) → x ≡ get_or moment.reading.effects.now.first.items i x
-    → (room.lowest ≤ x) × (x - room.lowest < end_of room - room.lowest) × (x ≡ slice_index moment.reading.effects.now.first.items i)
-place_at moment room is i followed x read =
+pub place_at : (moment : Inside) → IsMoment moment → (i : ℕ) → IsFollowed moment.room.now i → (x : ℕ) → x ≡ get_or moment.reading.effects.now.first.items i x
+    → (moment.room.now.lowest ≤ x) × (x - moment.room.now.lowest < end_of moment.room.now - moment.room.now.lowest) × (x ≡ slice_index moment.reading.effects.now.first.items i)
+place_at moment is i followed x read =
     let r = run_read moment.reading in
     let first = moment.reading.effects.now.first.items in
     let inside : i < deliveries_in r.past = omega (arith, followed.1, is.seen.part) in
     let place = position_of r.past i inside in
     let some = numbered_some r.processes r.past i place.0 is.reading.formed.accepted place.1 in
-    let low : room.lowest ≤ slice_index first i = is.seen.lowest i place.0 some.0 followed place.1 some.1 in
+    let low : moment.room.now.lowest ≤ slice_index first i = is.seen.lowest i place.0 some.0 followed place.1 some.1 in
     let same : x ≡ slice_index first i = sym (placed first i i x 0 read refl (omega (arith, inside, is.reading.has_effects.first_count))) in
     let high : slice_index first i ≤ i = is.reading.has_effects.within i inside in
     (omega (arith, low, same), omega (arith, low, same, high, followed.1), same)

@@ -16,8 +16,10 @@ use Rattle.causal_clock.specs.Timeline.{Timeline, lane_of, lane_length, place_of
 use Rattle.causal_clock.specs.Precedence.{Reaches, itself, onward}
 use Rattle.causal_clock.specs.Rises.{AreRises, rise_at}
 use Rattle.causal_clock.proofs.Lemmas.Counted.{rise_counts, count_risen}
-use Rattle.causal_audit.specs.Inside.Filed.{Ascends, list_at, with_added}
-use Rattle.causal_audit.specs.Inside.Rises.{AreDeliveryLanes, AreEventLanes, AreKept, AreLaid, AreOwn, AreRisen, AreSound, HasRisen, IsRisenAt, IsWalked, WasReached, place_in, risen_event}
+use Rattle.causal_audit.specs.Inside.Filed.{Ascends, list_at, with_added, lists_in}
+use Rattle.causal_audit.specs.declared.rising.Laid.TheInside.{Inside}
+use Rattle.causal_audit.specs.Inside.Layout.{IsLaid, placed_of}
+use Rattle.causal_audit.specs.Inside.Rises.{AreDeliveryLanes, AreEventLanes, AreKept, AreLaid, AreOwn, AreRisen, AreSound, HasRisen, IsRisenAt, IsWalked, Placed, WasReached, place_in, risen_event}
 use Rattle.causal_audit.proofs.Filings.{added_has, added_keeps, added_cases, added_ascend, ascend_weaker}
 use Rattle.causal_audit.proofs.Sharings.{nothing}
 
@@ -485,3 +487,8 @@ module _ (positions : List ℕ) (events : List Event) (lanes : List (List ℕ)) 
     sound = sound.sound;
     complete = λ j i there below reach. has (lane_of events (slice_index positions j)) (lane_of events (slice_index positions i)) (lane_below j there) (lane_below i below) j i there below refl refl reach;
   }
+
+-- ---- what is laid out, told of what it is seen as
+
+pub laid_as : (laid : Inside) (placed : Placed) → placed_of laid ≡ placed → IsLaid laid → AreLaid placed.positions placed.clock (lists_in laid.events.items) (lists_in laid.deliveries.items)
+laid_as laid placed view is = subst (λ p. AreLaid p.positions p.clock (lists_in laid.events.items) (lists_in laid.deliveries.items)) view is.in_lanes

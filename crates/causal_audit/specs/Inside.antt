@@ -4,10 +4,12 @@ pub mod BreachAt
 pub mod Changes
 pub mod Courses
 pub mod Filed
+pub mod Firsts
 pub mod Followed
 pub mod Index
 pub mod Kept
 pub mod Kinds
+pub mod Layout
 pub mod Moments
 pub mod Newly
 pub mod Passing
@@ -21,3 +23,4 @@ pub mod Stands
 pub mod Staying
 pub mod Stored
 pub mod Surveys
+pub mod Sweeps

@@ -6,7 +6,7 @@ ghost use Rattle.causal_audit.specs.Numbers.{ArePositions};
 
 use crate::events::clocks_until;
 use crate::kind::Kind;
-use crate::rising::risen_of;
+use crate::rising::Laid;
 use crate::sharing::{Firsts, dets_of, same_of};
 use causal_name::NoMemory;
 use causal_trace::trace::Trace;
@@ -57,7 +57,8 @@ pub fn effects_of(
     let same = same_of(alloc, first.as_slice())?;
     let marks = firsts.marks_of(alloc, entries)?;
     let clocks = clocks_until(alloc, trace, end)?;
-    let risen = risen_of(alloc, &clocks, positions)?;
+    let laid = Laid::of(alloc, &clocks, positions)?;
+    let risen = laid.risen(alloc)?;
     Ok(Effects {
         first,
         same,

@@ -1,11 +1,10 @@
 //! The positions of the entries that mention each determinant.
-ghost use Rattle.std.specs.Prelude.{◌≡◌, ◌<◌, ◌≤◌, ◌∷◌, ◌++◌, [], List, IfOk, OnOk, Some, length};
+ghost use Rattle.std.specs.Prelude.{◌≡◌, ◌≤◌, ◌∷◌, ◌++◌, [], List, IfOk, OnOk, Some, length};
 ghost use Rattle.causal_name.specs.declared.Det.{Det};
 ghost use Rattle.causal_trace.specs.declared.entry.Entry.{Entry};
 ghost use Rattle.causal_trace.specs.Limits.{max_entries};
 ghost use Rattle.causal_audit.specs.Quiet.{mentioned_by};
-ghost use Rattle.causal_audit.specs.Inside.Filed.{AreNumbered, lists_in, mentions_of, number_of, past_of};
-ghost use Rattle.causal_audit.specs.Inside.Kept.{AreMentionsKept, AreMentionsWithKept, KeepAscending, MentionTheSame};
+ghost use Rattle.causal_audit.specs.Inside.Filed.{AreMentions, lists_in, mentions_of, number_of, past_of};
 
 use crate::lists::add_to;
 use crate::numbering::Numbering;
@@ -19,12 +18,24 @@ use std::slice;
 pub struct Mentions {
     pub numbers: Numbering,
     pub lists: Vec<Vec<u32>>,
+    ghost numbered: { length lists.items ≡ length numbers },
 }
 
 impl Mentions {
+    ghost use Rattle.causal_audit.specs.Inside.Kept.{AreMentionsKept, AreMentionsWithKept, KeepAscending, MentionTheSame};
+
+    /// No determinants, as before the first entry.
+    fn new(alloc: Global) -> Result<Mentions, NoMemory>
+        ensures { IfOk result (AreMentionsKept []) }
+    {
+        Ok(Mentions {
+            numbers: Numbering::new(alloc)?,
+            lists: Vec::new(alloc),
+        })
+    }
+
     /// The list of a determinant.
     pub fn list(&self, det: Det) -> &[u32]
-        requires { AreNumbered self.now.numbers (lists_in self.now.lists.items) }
         ensures { result.now ≡ mentions_of self.now.numbers (lists_in self.now.lists.items) det }
     {
         match self.numbers.find(det) {
@@ -35,9 +46,7 @@ impl Mentions {
 
     /// The number of a determinant's list, which is a new one where it has none.
     fn number(&mut self, alloc: Global, det: Det) -> Result<usize, NoMemory>
-        requires { AreNumbered self.old.numbers (lists_in self.old.lists.items) }
         ensures number { IfOk result (λ m. number_of self.new.numbers det ≡ Some m) }
-        ensures numbered { OnOk result (AreNumbered self.new.numbers (lists_in self.new.lists.items)) }
         ensures ascend { OnOk result (KeepAscending self.old self.new) }
         ensures same { OnOk result (MentionTheSame self.old self.new) }
     {
@@ -45,16 +54,16 @@ impl Mentions {
             return Ok(number);
         }
         let number = self.lists.len();
-        self.lists.push(Vec::new(alloc))?;
+        // Room comes first, so that a refusal leaves no determinant without a list.
+        self.lists.reserve(1)?;
         self.numbers.add(det)?;
+        self.lists.push_reserved(Vec::new(alloc));
         Ok(number)
     }
 
     /// Puts the position of an entry into the list of a determinant that it mentions.
     fn add(&mut self, alloc: Global, det: Det, i: u32) -> Result<(), NoMemory>
-        requires { AreNumbered self.old.numbers (lists_in self.old.lists.items) }
-        ensures numbered { OnOk result (AreNumbered self.new.numbers (lists_in self.new.lists.items)) }
-        ensures noted { OnOk result ((past : List Entry) (dets : List Det) → length past ≡ i →
+        ensures { OnOk result ((past : List Entry) (dets : List Det) → length past ≡ i →
             AreMentionsWithKept past dets self.old → AreMentionsWithKept past (dets ++ det ∷ []) self.new) }
     {
         let number = self.number(alloc, det)?;
@@ -63,7 +72,6 @@ impl Mentions {
 
     /// Puts the position of an entry into the lists of the determinants that it mentions.
     fn add_each(&mut self, alloc: Global, dets: &[Det], i: u32) -> Result<(), NoMemory>
-        requires { AreNumbered self.old.numbers (lists_in self.old.lists.items) }
         ensures { OnOk result ((past : List Entry) → length past ≡ i →
             AreMentionsWithKept past [] self.old → AreMentionsWithKept past dets.now self.new) }
     {
@@ -75,7 +83,6 @@ impl Mentions {
 
     /// Notes one more entry, at position i.
     fn note(&mut self, alloc: Global, entry: &Entry, i: u32) -> Result<(), NoMemory>
-        requires { AreNumbered self.old.numbers (lists_in self.old.lists.items) }
         ensures { OnOk result ((past : List Entry) → length past ≡ i →
             AreMentionsKept past self.old → AreMentionsKept (entry.now ∷ past) self.new) }
     {
@@ -100,12 +107,10 @@ pub fn mentioned(entry: &Entry) -> &[Det]
 /// The positions of the entries that mention each determinant, in order.
 pub fn mentions_in(alloc: Global, entries: &[Entry]) -> Result<Mentions, NoMemory>
     requires { length entries.now ≤ max_entries }
-    ensures { IfOk result (AreMentionsKept (past_of entries.now)) }
+    ensures { IfOk result (λ mentions.
+        AreMentions (past_of entries.now) mentions.numbers (lists_in mentions.lists.items)) }
 {
-    let mut mentions = Mentions {
-        numbers: Numbering::new(alloc)?,
-        lists: Vec::new(alloc),
-    };
+    let mut mentions = Mentions::new(alloc)?;
     for (i, entry) in entries.iter().enumerate() {
         mentions.note(alloc, entry, i as u32)?;
     }

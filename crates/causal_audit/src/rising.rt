@@ -5,22 +5,36 @@ ghost use Rattle.std.specs.List.Sorted.{IsNonDecreasing};
 ghost use Rattle.causal_clock.specs.Timeline.{send_of};
 ghost use Rattle.causal_trace.specs.Limits.{max_entries};
 ghost use Rattle.causal_audit.specs.Inside.Filed.{lists_in};
-ghost use Rattle.causal_audit.specs.Inside.Rises.{AreDeliveryLanes, AreEventLanes, AreKept, ArePlaces, AreRisen, AreSound, AreSoundFor, HasPlaces, HasRisen, HasRisenFor, IsLaid, place_for};
+ghost use Rattle.causal_audit.specs.Inside.Rises.{AreDeliveryLanes, AreEventLanes, AreKept, ArePlaces, AreRisen, AreSoundFor, HasRisenFor, place_for};
 
 use crate::lists::{add_at, add_to, empty_lists, lists_for};
 use causal_clock::Clocks;
 use causal_name::NoMemory;
 use std::alloc::Global;
+use std::marker::Model;
 
-/// What a walk over the rises of a clock reads: the positions of the deliveries, how many events of their lanes stand before
-/// them, and for each lane its events, by their places, and its deliveries, by their numbers.
-#[derive(Clone, Copy)]
+/// The deliveries of a run at the events of its clock, laid out for a walk over the rises of the clock: how many events of
+/// their lanes stand before them, and for each lane its events, by their places, and its deliveries, by their numbers. It is
+/// seen as where the deliveries stand, and the clock.
+#[derive(Drop)]
 pub struct Laid<'a> {
-    pub clocks: &'a Clocks,
-    pub positions: &'a [u32],
-    pub places: &'a [u16],
-    pub events: &'a [Vec<u32>],
-    pub deliveries: &'a [Vec<u32>],
+    clocks: &'a Clocks,
+    positions: &'a [u32],
+    places: Vec<u16>,
+    events: Vec<Vec<u32>>,
+    deliveries: Vec<Vec<u32>>,
+}
+
+impl<'a> Model for Laid<'a> {
+    ghost use Rattle.causal_audit.specs.Inside.Rises.{Placed};
+
+    ghost Value = { Placed };
+
+    ghost use Rattle.causal_audit.specs.Inside.Layout.{IsLaid, placed_of};
+
+    ghost view = { placed_of };
+
+    ghost invariant = { IsLaid };
 }
 
 /// How many events of its lane stand before each delivery.
@@ -67,34 +81,32 @@ fn delivery_lanes(
     Ok(lanes)
 }
 
-/// For each entry that is a delivery this one, which reaches itself; for another none. Each row has room for so many.
-fn own_risen(
-    alloc: Global,
-    clocks: &Clocks,
-    positions: &[u32],
-    room: &[usize],
-) -> Result<Vec<Vec<u32>>, NoMemory>
-    requires room { length room.now ≡ length clocks.now.events }
-    requires few { length positions.now ≤ max_entries }
-    requires events { All (λ k. k < length clocks.now.events) positions.now }
-    requires ascend { IsNonDecreasing positions.now }
-    ensures sound { IfOk result (λ risen. AreSound positions.now clocks.now.events (lists_in risen.items)) }
-    ensures own { IfOk result (λ risen.
-        (lane : ℕ) → HasRisen positions.now clocks.now.events lane lane (lists_in risen.items)) }
-{
-    let mut risen = lists_for(alloc, room)?;
-    for (i, position) in positions.iter().enumerate() {
-        add_to(&mut risen, *position as usize, i as u32)?;
+impl<'a> Laid<'a> {
+    /// The deliveries that stand at these positions, one at each receive and in ascending order, laid out for the clock.
+    pub fn of(alloc: Global, clocks: &'a Clocks, positions: &'a [u32]) -> Result<Self, NoMemory>
+        requires few { length positions.now ≤ max_entries }
+        requires events { All (λ k. k < length clocks.now.events) positions.now }
+        requires ascend { IsNonDecreasing positions.now }
+        requires received { (j : ℕ) → j < length clocks.now.events →
+            send_of clocks.now.events j ≢ None → Contains positions.now j }
+        ensures { IfOk result (λ laid. laid ≡ record { positions = positions.now; clock = clocks.now }) }
+    {
+        let events = event_lanes(alloc, clocks)?;
+        let deliveries = delivery_lanes(alloc, clocks, positions)?;
+        let places = places_of(alloc, clocks, positions)?;
+        Ok(Self {
+            clocks,
+            positions,
+            places,
+            events,
+            deliveries,
+        })
     }
-    Ok(risen)
-}
 
-impl Laid<'_> {
     /// How many deliveries of a lane are among its first `count` events, if the first `known` ones are.
     fn counted(&self, lane: &[u32], known: usize, count: u16) -> usize
         requires known { known ≤ length lane.now }
-        requires places { HasPlaces self.now }
-        requires lane { All (λ i. i < length self.now.positions.now) lane.now }
+        requires lane { All (λ i. i < length self.now.positions) lane.now }
         ensures bounds { (known ≤ result) × (result ≤ length lane.now) }
     {
         for m in known..lane.len() {
@@ -107,10 +119,8 @@ impl Laid<'_> {
 
     /// Adds to the room of each row of a lane how many deliveries of a source, another lane, it is to have.
     fn count_source(&self, room: &mut [usize], lane: u32, source: u32)
-        requires laid { IsLaid self.now }
-        requires places { HasPlaces self.now }
-        requires lane { lane < self.now.clocks.now.lanes }
-        requires source { source < self.now.clocks.now.lanes }
+        requires lane { lane < self.now.clock.lanes }
+        requires source { source < self.now.clock.lanes }
         requires apart { source ≢ lane }
         ensures { length room.new ≡ length room.old }
     {
@@ -128,9 +138,7 @@ impl Laid<'_> {
 
     /// Adds to the room of each row of a lane how many deliveries of the other lanes it is to have.
     fn count_sources(&self, room: &mut [usize], lane: u32)
-        requires laid { IsLaid self.now }
-        requires places { HasPlaces self.now }
-        requires lane { lane < self.now.clocks.now.lanes }
+        requires lane { lane < self.now.clock.lanes }
         ensures { length room.new ≡ length room.old }
     {
         for source in 0..self.clocks.lanes() {
@@ -142,9 +150,7 @@ impl Laid<'_> {
 
     /// How many deliveries each row is to have, so that it can be made just so long. No answer rests on it.
     fn room_for(&self, alloc: Global) -> Result<Vec<usize>, NoMemory>
-        requires laid { IsLaid self.now }
-        requires places { HasPlaces self.now }
-        ensures { IfOk result (λ room. length room.items ≡ length self.now.clocks.now.events) }
+        ensures { IfOk result (λ room. length room.items ≡ length self.now.clock.events) }
     {
         let mut room = vec![in alloc; 0; self.clocks.len() as usize]?;
         for position in self.positions {
@@ -156,8 +162,6 @@ impl Laid<'_> {
 
     /// The same for the rows of all lanes by the other lanes.
     fn count_lanes(&self, room: &mut [usize])
-        requires laid { IsLaid self.now }
-        requires places { HasPlaces self.now }
         ensures { length room.new ≡ length room.old }
     {
         for lane in 0..self.clocks.lanes() {
@@ -175,8 +179,7 @@ impl Laid<'_> {
         count: u16,
     ) -> Result<usize, NoMemory>
         requires known { known ≤ length lane.now }
-        requires places { HasPlaces self.now }
-        requires lane { All (λ i. i < length self.now.positions.now) lane.now }
+        requires lane { All (λ i. i < length self.now.positions) lane.now }
         ensures bounds { IfOk result (λ all. (known ≤ all) × (all ≤ length lane.now)) }
         ensures added { IfOk result (λ all. row.new.items ≡ row.old.items ++ take (all - known) (drop known lane.now)) }
         ensures counted { IfOk result (λ all. (m : ℕ) → known ≤ m → m < all →
@@ -197,10 +200,8 @@ impl Laid<'_> {
     /// Puts the deliveries of a source, another lane, that newly reach a delivery of the lane into its row. It takes time as the
     /// rises of the lane by the source and the deliveries of the source.
     fn add_source(&self, risen: &mut [Vec<u32>], lane: u32, source: u32) -> Result<(), NoMemory>
-        requires laid { IsLaid self.now }
-        requires places { HasPlaces self.now }
-        requires lane { lane < self.now.clocks.now.lanes }
-        requires source { source < self.now.clocks.now.lanes }
+        requires lane { lane < self.now.clock.lanes }
+        requires source { source < self.now.clock.lanes }
         requires apart { source ≢ lane }
         requires sound { AreSoundFor self.now risen.old }
         ensures sound { OnOk result (AreSoundFor self.now risen.new) }
@@ -219,13 +220,11 @@ impl Laid<'_> {
 
     /// Puts the deliveries of the other lanes that newly reach a delivery of the lane into its row.
     fn add_sources(&self, risen: &mut [Vec<u32>], lane: u32) -> Result<(), NoMemory>
-        requires laid { IsLaid self.now }
-        requires places { HasPlaces self.now }
-        requires lane { lane < self.now.clocks.now.lanes }
+        requires lane { lane < self.now.clock.lanes }
         requires sound { AreSoundFor self.now risen.old }
         ensures sound { OnOk result (AreSoundFor self.now risen.new) }
         ensures kept { OnOk result (AreKept (lists_in risen.old) (lists_in risen.new)) }
-        ensures risen { OnOk result ((source : ℕ) → source < self.now.clocks.now.lanes → source ≢ lane →
+        ensures risen { OnOk result ((source : ℕ) → source < self.now.clock.lanes → source ≢ lane →
             HasRisenFor self.now lane source risen.new) }
     {
         for source in 0..self.clocks.lanes() {
@@ -235,40 +234,34 @@ impl Laid<'_> {
         }
         Ok(())
     }
-}
 
-/// For each entry that is a delivery, the deliveries that newly reach its lane there; for another none.
-///
-/// It takes time as the entries, the rises of the clock, what is listed, and for each lane that receives as the deliveries; and
-/// memory as the entries, the lanes, and what is listed, which is at most the deliveries times the lanes. What is listed is
-/// counted first, so that no list has more room than it needs.
-pub fn risen_of(
-    alloc: Global,
-    clocks: &Clocks,
-    positions: &[u32],
-) -> Result<Vec<Vec<u32>>, NoMemory>
-    requires few { length positions.now ≤ max_entries }
-    requires events { All (λ k. k < length clocks.now.events) positions.now }
-    requires ascend { IsNonDecreasing positions.now }
-    requires received { (j : ℕ) → j < length clocks.now.events →
-        send_of clocks.now.events j ≢ None → Contains positions.now j }
-    ensures { IfOk result (λ risen.
-        AreRisen positions.now clocks.now.events (length positions.now) (lists_in risen.items)) }
-{
-    let events = event_lanes(alloc, clocks)?;
-    let deliveries = delivery_lanes(alloc, clocks, positions)?;
-    let places = places_of(alloc, clocks, positions)?;
-    let laid = Laid {
-        clocks,
-        positions,
-        places: places.as_slice(),
-        events: events.as_slice(),
-        deliveries: deliveries.as_slice(),
-    };
-    let room = laid.room_for(alloc)?;
-    let mut risen = own_risen(alloc, clocks, positions, room.as_slice())?;
-    for lane in 0..clocks.lanes() {
-        laid.add_sources(risen.as_mut_slice(), lane)?;
+    /// For each entry that is a delivery this one, which reaches itself; for another none. Each row has room for all that it
+    /// is to have.
+    fn own_risen(&self, alloc: Global) -> Result<Vec<Vec<u32>>, NoMemory>
+        ensures sound { IfOk result (λ risen. AreSoundFor self.now risen.items) }
+        ensures own { IfOk result (λ risen. (lane : ℕ) → HasRisenFor self.now lane lane risen.items) }
+    {
+        let room = self.room_for(alloc)?;
+        let mut risen = lists_for(alloc, room.as_slice())?;
+        for (i, position) in self.positions.iter().enumerate() {
+            add_to(&mut risen, *position as usize, i as u32)?;
+        }
+        Ok(risen)
     }
-    Ok(risen)
+
+    /// For each entry that is a delivery, the deliveries that newly reach its lane there; for another none.
+    ///
+    /// It takes time as the entries, the rises of the clock, what is listed, and for each lane that receives as the
+    /// deliveries; and memory as the entries, the lanes, and what is listed, which is at most the deliveries times the lanes.
+    /// What is listed is counted first, so that no list has more room than it needs.
+    pub fn risen(&self, alloc: Global) -> Result<Vec<Vec<u32>>, NoMemory>
+        ensures { IfOk result (λ risen. AreRisen self.now.positions self.now.clock.events
+            (length self.now.positions) (lists_in risen.items)) }
+    {
+        let mut risen = self.own_risen(alloc)?;
+        for lane in 0..self.clocks.lanes() {
+            self.add_sources(risen.as_mut_slice(), lane)?;
+        }
+        Ok(risen)
+    }
 }

@@ -3,7 +3,7 @@ ghost use Rattle.std.specs.Prelude.{◌≡◌, ◌≤◌, IfOk, true, false, map
 ghost use Rattle.std.specs.FinSet as set;
 ghost use Rattle.causal_trace.specs.Past.{deliveries_in};
 ghost use Rattle.causal_audit.specs.Courses.{IsUnused, end_of};
-ghost use Rattle.causal_audit.specs.Inside.Moments.{is_followed};
+ghost use Rattle.causal_audit.specs.Inside.Newly.{is_between};
 ghost use Rattle.causal_audit.specs.Inside.Rooms.{changed, changed_at, dependents_after, firsts_of, holders_after, stable_after};
 
 use crate::course::Course;
@@ -165,8 +165,8 @@ impl Room {
     }
 
     /// Whether it follows the delivery of this number.
-    pub fn follows(&self, number: u32) -> bool
-        ensures { result ≡ is_followed self.now number }
+    pub(crate) fn follows(&self, number: u32) -> bool
+        ensures { result ≡ is_between self.now.from (end_of self.now) number }
     {
         self.from <= number && ((number - self.from) as usize) < self.dependents.len()
     }

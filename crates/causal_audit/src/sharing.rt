@@ -1,11 +1,11 @@
 //! The first delivery of each determinant, what shares it and what mentions it.
-ghost use Rattle.std.specs.Prelude.{◌≡◌, ◌<◌, ◌≤◌, ◌+◌, ℕ, List, IfOk, OnOk, Some, None, length, map, slice_index};
+ghost use Rattle.std.specs.Prelude.{◌≡◌, ◌<◌, ◌≤◌, ◌+◌, ℕ, List, IfOk, OnOk, Some, None, length, slice_index};
 ghost use Rattle.std.specs.List.{slice_get};
 ghost use Rattle.causal_name.specs.declared.Det.{Det};
 ghost use Rattle.causal_trace.specs.Limits.{max_entries};
 ghost use Rattle.causal_trace.specs.Past.{det_at};
 ghost use Rattle.causal_audit.specs.Inside.Filed.{lists_in};
-ghost use Rattle.causal_audit.specs.Inside.Sharing.{AreDeliveryPositions, AreDetsAt, AreFirstOnes, AreShared, HasFirstAlso, IsPaired, first_of, marks_by, numbers_in};
+ghost use Rattle.causal_audit.specs.Inside.Sharing.{AreDeliveryPositions, AreDetsAt, AreFirstOnes, AreShared, marks_by, numbers_in};
 
 use crate::lists::{add_to, empty_lists};
 use crate::mentions::mentioned;
@@ -20,13 +20,15 @@ use std::alloc::Global;
 pub struct Firsts {
     pub numbers: Numbering,
     pub deliveries: Vec<u32>,
+    ghost paired: { length deliveries.items ≡ length numbers },
 }
 
 impl Firsts {
+    ghost use Rattle.causal_audit.specs.Inside.Firsts.{HasFirstAlso, first_of};
+
     /// No determinants.
     pub fn new(alloc: Global) -> Result<Firsts, NoMemory>
-        ensures paired { IfOk result (λ firsts. IsPaired firsts) }
-        ensures none { IfOk result (λ firsts. (d : Det) → first_of firsts d ≡ None) }
+        ensures { IfOk result (λ firsts. (d : Det) → first_of firsts d ≡ None) }
     {
         Ok(Firsts {
             numbers: Numbering::new(alloc)?,
@@ -36,7 +38,6 @@ impl Firsts {
 
     /// The number of the first delivery of a determinant; None where it has none.
     pub fn find(&self, det: Det) -> Option<u32>
-        requires { IsPaired self.now }
         ensures { result ≡ first_of self.now det }
     {
         match self.numbers.find(det) {
@@ -47,20 +48,18 @@ impl Firsts {
 
     /// Gives a determinant its first delivery.
     fn add(&mut self, det: Det, i: u32) -> Result<(), NoMemory>
-        requires { IsPaired self.old }
-        ensures paired { OnOk result (IsPaired self.new) }
-        ensures added { OnOk result (HasFirstAlso det i self.old self.new) }
+        ensures { OnOk result (HasFirstAlso det i self.old self.new) }
     {
+        // Room comes first, so that a refusal leaves no determinant without a delivery.
+        self.deliveries.reserve(1)?;
         self.numbers.add(det)?;
-        self.deliveries.push(i)?;
+        self.deliveries.push_reserved(i);
         Ok(())
     }
 
     /// Notes the delivery of number i, which is the first of its determinant where there was none.
     fn note(&mut self, first: &mut Vec<u32>, det: Det, i: u32) -> Result<(), NoMemory>
-        requires { IsPaired self.old }
-        ensures paired { OnOk result (IsPaired self.new) }
-        ensures noted { OnOk result ((dets : List Det) → slice_get dets i ≡ Some det →
+        ensures { OnOk result ((dets : List Det) → slice_get dets i ≡ Some det →
             AreFirstOnes dets i (first_of self.old) first.old.items →
             AreFirstOnes dets (i + 1) (first_of self.new) first.new.items) }
     {
@@ -77,10 +76,8 @@ impl Firsts {
     /// receiver.
     pub fn note_each(&mut self, alloc: Global, dets: &[Det]) -> Result<Vec<u32>, NoMemory>
         requires few { length dets.now ≤ max_entries }
-        requires paired { IsPaired self.old }
         requires none { (d : Det) → first_of self.old d ≡ None }
-        ensures paired { OnOk result (IsPaired self.new) }
-        ensures firsts { IfOk result (λ ones. AreFirstOnes dets.now (length dets.now) (first_of self.new) ones.items) }
+        ensures { IfOk result (λ ones. AreFirstOnes dets.now (length dets.now) (first_of self.new) ones.items) }
     {
         let mut first = Vec::new(alloc);
         for (i, det) in dets.iter().enumerate() {
@@ -91,7 +88,6 @@ impl Firsts {
 
     /// The numbers of these determinants, without those that have none.
     fn numbers_of(&self, alloc: Global, dets: &[Det]) -> Result<Vec<u32>, NoMemory>
-        requires { IsPaired self.now }
         ensures { IfOk result (λ numbers. numbers.items ≡ numbers_in (first_of self.now) dets.now) }
     {
         let mut numbers = Vec::new(alloc);
@@ -106,7 +102,6 @@ impl Firsts {
     /// For each entry the numbers of the determinants that it mentions. It takes time as the entries and the listed
     /// determinants, and for each of these as the determinants of its message.
     pub fn marks_of(&self, alloc: Global, entries: &[Entry]) -> Result<Vec<Vec<u32>>, NoMemory>
-        requires { IsPaired self.now }
         ensures { IfOk result (λ marks. lists_in marks.items ≡ marks_by (first_of self.now) entries.now) }
     {
         let mut marks = Vec::new(alloc);

@@ -2,15 +2,12 @@
 ghost use Rattle.std.specs.Prelude.{◌≡◌, ◌<◌, ◌||◌, ◌&&◌, ℕ, Bool};
 ghost use Rattle.std.specs.Bool.{OnFalse, OnTrue};
 ghost use Rattle.std.specs.List.{All};
-ghost use Rattle.causal_trace.specs.Past.{deliveries_in, instant};
-ghost use Rattle.causal_audit.specs.Inside.BreachAt.{BreachAt};
+ghost use Rattle.causal_trace.specs.Past.{deliveries_in};
 ghost use Rattle.causal_audit.specs.Breaches.{LeastBreach};
 ghost use Rattle.causal_audit.specs.Courses.{IsUnused, end_of};
-ghost use Rattle.causal_audit.specs.Inside.Courses.{run_read};
-ghost use Rattle.causal_audit.specs.Inside.Moments.{HasNone, IsMoment, IsSpared, LeastOf, is_followed};
-ghost use Rattle.causal_audit.specs.Inside.Newly.{is_candidate, is_sharing, same_of};
-ghost use Rattle.causal_audit.specs.Inside.Rooms.{IsFollowed, is_among};
-ghost use Rattle.causal_audit.specs.Numbers.{IsNumbered};
+ghost use Rattle.causal_audit.specs.Inside.Moments.{Follows, HasNone, IsFound, IsSpared, LeastOf, is_followed};
+ghost use Rattle.causal_audit.specs.Inside.Newly.{is_candidate, is_sharing};
+ghost use Rattle.causal_audit.specs.Inside.Rooms.{is_among};
 
 use crate::breach::{Breach, earlier};
 use crate::course::Course;
@@ -20,24 +17,39 @@ use crate::orphans::breach_at;
 use crate::room::Room;
 use crate::sight::Sight;
 use causal_holders::Holders;
+use std::marker::Model;
 
-/// An instant of a sweep: what is read of the run, who is down, and how many entries were read.
-#[derive(Clone, Copy)]
+/// An instant of a sweep: what is read of the run, who is down, how many entries were read, and the room, which has what is
+/// known then of the deliveries that it follows.
+#[derive(Drop)]
 pub struct Moment<'a> {
-    pub reading: Reading<'a>,
-    pub f: u16,
-    pub down: Holders,
-    pub t: u32,
+    reading: Reading<'a>,
+    f: u16,
+    down: Holders,
+    t: u32,
+    room: &'a Room,
+}
+
+impl<'a> Model for Moment<'a> {
+    ghost use Rattle.causal_audit.specs.Inside.Moments.{Seen};
+
+    ghost Value = { Seen };
+
+    ghost use Rattle.causal_audit.specs.Inside.Sweeps.{IsMoment, seen_at};
+
+    ghost view = { seen_at };
+
+    ghost invariant = { IsMoment };
 }
 
 impl Moment<'_> {
     /// Whether a delivery that the room follows and that has the determinant of this first one may have an orphan at this
     /// instant: the determinant is not stable, the down processes and its holders are at most f, and somebody who depends
     /// on one of its deliveries is no holder.
-    fn may_fail(&self, room: &Room, mark: u32) -> bool
-        requires moment { IsMoment self.now room.now }
-        ensures { OnFalse result (HasNone self.now room.now mark) }
+    fn may_fail(&self, mark: u32) -> bool
+        ensures { OnFalse result (HasNone self.now mark) }
     {
+        let room = self.room;
         if mark < room.lowest {
             return false;
         }
@@ -51,22 +63,19 @@ impl Moment<'_> {
     }
 
     /// Whether the room follows the delivery of number i, and it may have an orphan at this instant.
-    fn is_open(&self, room: &Room, i: u32) -> bool
-        requires moment { IsMoment self.now room.now }
-        ensures open { OnTrue result (IsFollowed room.now i) }
-        ensures safe { OnFalse result (IsSpared self.now room.now i) }
+    fn is_open(&self, i: u32) -> bool
+        ensures open { OnTrue result (Follows self.now i) }
+        ensures safe { OnFalse result (IsSpared self.now i) }
     {
-        room.follows(i) && self.may_fail(room, self.reading.effects.first[i as usize])
+        self.room.follows(i) && self.may_fail(self.reading.effects.first[i as usize])
     }
 
     /// How the delivery of number i has an orphan at this instant.
-    fn found(&self, room: &Room, i: u32) -> Option<Breach>
-        requires moment { IsMoment self.now room.now }
-        requires followed { IsFollowed room.now i }
-        ensures { (k : ℕ) → IsNumbered (run_read self.now.reading).past i k →
-            BreachAt (run_read self.now.reading).processes self.now.f
-            (instant (run_read self.now.reading).past self.now.t) k self.now.t result }
+    fn found(&self, i: u32) -> Option<Breach>
+        requires { Follows self.now i }
+        ensures { IsFound self.now i result }
     {
+        let room = self.room;
         let position = self.reading.positions[i as usize];
         let place = (self.reading.effects.first[i as usize] - room.lowest) as usize;
         let sight = Sight {
@@ -79,15 +88,14 @@ impl Moment<'_> {
     }
 
     /// The earlier of what is given and how one of these deliveries that the room follows has an orphan.
-    fn least_of(&self, room: &Room, numbers: &[u32], so_far: Option<Breach>) -> Option<Breach>
-        requires moment { IsMoment self.now room.now }
-        ensures { (C : ℕ → Bool) → LeastOf self.now room.now C so_far →
-            LeastOf self.now room.now (λ i. C i || (is_among numbers.now i && is_followed room.now i)) result }
+    fn least_of(&self, numbers: &[u32], so_far: Option<Breach>) -> Option<Breach>
+        ensures { (C : ℕ → Bool) → LeastOf self.now C so_far →
+            LeastOf self.now (λ i. C i || (is_among numbers.now i && is_followed self.now i)) result }
     {
         let mut least = so_far;
         for number in numbers {
-            if self.is_open(room, *number) {
-                least = earlier(least, self.found(room, *number));
+            if self.is_open(*number) {
+                least = earlier(least, self.found(*number));
             }
         }
         least
@@ -95,51 +103,48 @@ impl Moment<'_> {
 
     /// How the first of the deliveries that the room follows has an orphan that has one. Those that are still to come have
     /// none.
-    fn least_in_part(&self, room: &Room) -> Option<Breach>
-        requires moment { IsMoment self.now room.now }
-        ensures { LeastOf self.now room.now (is_followed room.now) result }
+    fn least_in_part(&self) -> Option<Breach>
+        ensures { LeastOf self.now (is_followed self.now) result }
     {
         let mut least = None;
-        let end = room.from + room.dependents.len() as u32;
-        for i in room.from..end {
+        let end = self.room.from + self.room.dependents.len() as u32;
+        for i in self.room.from..end {
             if self.t <= self.reading.positions[i as usize] {
                 return least;
             }
-            if self.is_open(room, i) {
-                least = earlier(least, self.found(room, i));
+            if self.is_open(i) {
+                least = earlier(least, self.found(i));
             }
         }
         least
     }
 
     /// The same of those that have one of these determinants.
-    fn least_sharing(&self, room: &Room, marks: &[u32]) -> Option<Breach>
-        requires moment { IsMoment self.now room.now }
-        requires marks { All (λ m. m < deliveries_in (run_read self.now.reading).past) marks.now }
-        ensures { LeastOf self.now room.now (λ i.
-            is_sharing (same_of self.now.reading.effects.now) marks.now i && is_followed room.now i) result }
+    fn least_sharing(&self, marks: &[u32]) -> Option<Breach>
+        requires { All (λ m. m < deliveries_in self.now.run.past) marks.now }
+        ensures { LeastOf self.now (λ i.
+            is_sharing self.now.same marks.now i && is_followed self.now i) result }
     {
         let mut least = None;
         for mark in marks {
-            if self.may_fail(room, *mark) {
+            if self.may_fail(*mark) {
                 let sharing = self.reading.effects.same[*mark as usize].as_slice();
-                least = self.least_of(room, sharing, least);
+                least = self.least_of(sharing, least);
             }
         }
         least
     }
 
     /// The same of those that may newly have an orphan by an entry of this kind.
-    fn newly(&self, room: &Room, kind: Kind, marks: &[u32], risen: &[u32]) -> Option<Breach>
-        requires moment { IsMoment self.now room.now }
-        requires marks { All (λ m. m < deliveries_in (run_read self.now.reading).past) marks.now }
-        ensures { LeastOf self.now room.now (λ i.
-            is_candidate kind (same_of self.now.reading.effects.now) marks.now risen.now i && is_followed room.now i) result }
+    fn newly(&self, kind: Kind, marks: &[u32], risen: &[u32]) -> Option<Breach>
+        requires { All (λ m. m < deliveries_in self.now.run.past) marks.now }
+        ensures { LeastOf self.now (λ i.
+            is_candidate kind self.now.same marks.now risen.now i && is_followed self.now i) result }
     {
         match kind {
-            Kind::Deliver { .. } => self.least_of(room, risen, None),
-            Kind::Restart { .. } => self.least_in_part(room),
-            Kind::Forget { .. } => self.least_sharing(room, marks),
+            Kind::Deliver { .. } => self.least_of(risen, None),
+            Kind::Restart { .. } => self.least_in_part(),
+            Kind::Forget { .. } => self.least_sharing(marks),
             _ => None,
         }
     }
@@ -164,8 +169,9 @@ pub fn least_swept(course: &Course, f: u16, room: &mut Room) -> Option<Breach>
             f,
             down,
             t: t as u32 + 1,
+            room: &*room,
         };
-        if let Some(breach) = moment.newly(room, *kind, marks, risen) {
+        if let Some(breach) = moment.newly(*kind, marks, risen) {
             return Some(breach);
         }
     }

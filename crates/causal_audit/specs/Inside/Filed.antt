@@ -90,20 +90,14 @@ number_of (det ∷ older) d = if same_det det d then Some (length older) else nu
 abbrev pub mentions_of : Numbers → List (List ℕ) → Det → List ℕ
 mentions_of numbers lists d = option_map_or (list_at lists) (number_of numbers d) []
 
--- each number is that of a list
-abbrev pub AreNumbered : Numbers → List (List ℕ) → Type 0
-AreNumbered numbers lists = length lists ≡ length numbers
-
 -- for each determinant the positions of the entries that mention it, and no others
 pub record AreMentions (past : List Entry) (numbers : Numbers) (lists : List (List ℕ)) : Type 0 where
-  pub numbered : AreNumbered numbers lists
   pub ascend : All (Ascends (length past)) lists
   pub mentioned : (d : Det) → HasMentions past d (mentions_of numbers lists d)
   pub only : (d : Det) → AreMentionsOf past d (mentions_of numbers lists d)
 
 -- the same, and these determinants have the next position too
 pub record AreMentionsWith (past : List Entry) (dets : List Det) (numbers : Numbers) (lists : List (List ℕ)) : Type 0 where
-  pub numbered : AreNumbered numbers lists
   pub ascend : All (Ascends (length past + 1)) lists
   pub mentioned : (d : Det) → HasMentions past d (mentions_of numbers lists d)
   pub noted : (d : Det) → has dets d ≡ true → Contains (mentions_of numbers lists d) (length past)

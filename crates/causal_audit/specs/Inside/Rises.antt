@@ -9,8 +9,12 @@ use Rattle.causal_clock.specs.declared.Rise.{Rise}
 use Rattle.causal_clock.specs.Timeline.{Timeline, lane_of, lane_length, place_of, send_of}
 use Rattle.causal_clock.specs.Precedence.{Reaches}
 use Rattle.causal_clock.specs.Rises.{rise_at}
-use Rattle.causal_audit.specs.declared.rising.Laid.{Laid}
 use Rattle.causal_audit.specs.Inside.Filed.{Ascends, list_at, lists_in}
+
+-- where deliveries stand, and the clock at whose events
+pub record Placed : Type 0 where
+  pub positions : List ℕ
+  pub clock : Timeline
 
 -- for each lane of the clock those of the first `count` deliveries that are its own, in order
 pub record AreDeliveryLanes (positions : List ℕ) (events : List Event) (count : ℕ) (lanes : List (List ℕ)) : Type 0 where
@@ -95,19 +99,14 @@ pub record IsWalked (positions : List ℕ) (events : List Event) (own from : Lis
   pub risen_at : (m : ℕ) → m < known → (k : ℕ) × (k < passed) × IsRisenAt positions events own rises risen (slice_index from m) k
   pub left : (m k : ℕ) → known ≤ m → m < length from → k < passed → (rise_at rises k).count ≤ place_in positions events (slice_index from m)
 
--- what a walk over the rises of a clock reads
-abbrev pub IsLaid : Laid → Type 0
-IsLaid laid = AreLaid laid.positions.now laid.clocks.now (lists_in laid.events.now) (lists_in laid.deliveries.now)
-
 -- so many events of its lane stand before a delivery
-abbrev pub place_for : Laid → ℕ → ℕ
-place_for laid i = place_in laid.positions.now laid.clocks.now.events i
+abbrev pub place_for : Placed → ℕ → ℕ
+place_for placed i = place_in placed.positions placed.clock.events i
 
-abbrev pub AreSoundFor : Laid → List (Vec ℕ) → Type 0
-AreSoundFor laid risen = AreSound laid.positions.now laid.clocks.now.events (lists_in risen)
+-- the lists have only deliveries, which reach that whose list it is
+abbrev pub AreSoundFor : Placed → List (Vec ℕ) → Type 0
+AreSoundFor placed risen = AreSound placed.positions placed.clock.events (lists_in risen)
 
-abbrev pub HasRisenFor : Laid → ℕ → ℕ → List (Vec ℕ) → Type 0
-HasRisenFor laid lane source risen = HasRisen laid.positions.now laid.clocks.now.events lane source (lists_in risen)
-
-abbrev pub HasPlaces : Laid → Type 0
-HasPlaces laid = ArePlaces laid.positions.now laid.clocks.now.events (length laid.positions.now) laid.places.now
+-- each delivery of the source that reaches one of the lane is in its list, or reaches an earlier one of the lane
+abbrev pub HasRisenFor : Placed → ℕ → ℕ → List (Vec ℕ) → Type 0
+HasRisenFor placed lane source risen = HasRisen placed.positions placed.clock.events lane source (lists_in risen)

@@ -1,23 +1,12 @@
 -- The first delivery of each determinant, what shares it and what mentions it. Deliveries go by their numbers here, and a
 -- determinant by the number of its first delivery.
-use Rattle.std.specs.Prelude.{◌≡◌, ◌≢◌, ℕ, ◌<◌, ◌≤◌, if◌then◌else◌, List, [], ◌∷◌, length, map, Option, Some, None, slice_index, Contains}
+use Rattle.std.specs.Prelude.{◌≡◌, ◌≢◌, ℕ, ◌<◌, ◌≤◌, List, [], ◌∷◌, length, map, Option, Some, None, slice_index, Contains}
 use Rattle.std.specs.List.{slice_get}
-use Rattle.std.specs.Option.{option_map}
 use Rattle.causal_name.specs.declared.Det.{Det}
-use Rattle.causal_name.specs.Names.{same_det}
 use Rattle.causal_trace.specs.declared.entry.Entry.{Entry}
 use Rattle.causal_trace.specs.Past.{det_at}
 use Rattle.causal_audit.specs.Quiet.{mentioned_by}
-use Rattle.causal_audit.specs.declared.sharing.Firsts.{Firsts}
-use Rattle.causal_audit.specs.Inside.Filed.{list_at, number_of}
-
--- each determinant that is numbered has a first delivery
-abbrev pub IsPaired : Firsts → Type 0
-IsPaired firsts = length firsts.deliveries.items ≡ length firsts.numbers
-
--- the number of the first delivery of a determinant, if it has one
-abbrev pub first_of : Firsts → Det → Option ℕ
-first_of firsts d = option_map (λ m. slice_index firsts.deliveries.items m) (number_of firsts.numbers d)
+use Rattle.causal_audit.specs.Inside.Filed.{list_at}
 
 -- of the first `count` deliveries, which have these determinants, each has the number of the first with its own; no other
 -- determinant has one
@@ -43,10 +32,6 @@ added (Some m) numbers = m ∷ numbers
 abbrev pub numbers_in : (Det → Option ℕ) → List Det → List ℕ
 numbers_in of [] = []
 numbers_in of (d ∷ ds) = added (of d) (numbers_in of ds)
-
--- one more determinant has this first delivery, and all others the one that they had
-abbrev pub HasFirstAlso : Det → ℕ → Firsts → Firsts → Type 0
-HasFirstAlso det i old new = (d : Det) → first_of new d ≡ (if same_det det d then Some i else first_of old d)
 
 -- a delivery stands at each of the positions
 abbrev pub AreDeliveryPositions : List Entry → List ℕ → Type 0

@@ -133,14 +133,14 @@ loop-t-init c =
       before = λ i k u low high numbered in_time has. at_first (run_read reading) c.args.f k u in_time has;
     }
 
-pub newly-requires-clause-marks : goal.newly-requires-clause-marks
-newly-requires-clause-marks c =
-    let here = (goal.at.newly-requires-clause-marks c).After-see in
+pub newly-requires : goal.newly-requires
+newly-requires c =
+    let here = (goal.at.newly-requires c).After-see in
     subst (All (λ m. m < deliveries_in (run here).past)) (sym (marks_read here)) ((prepared here).has_effects.marks_within c.loop-t.t)
 
-pub newly-requires-clause-moment : goal.newly-requires-clause-moment
-newly-requires-clause-moment c =
-    let here = (goal.at.newly-requires-clause-moment c).After-see in
+pub invariant_of-moment : goal.invariant_of-moment
+invariant_of-moment c =
+    let here = (goal.at.invariant_of-moment c).After-see in
     record {
       reading = prepared here;
       within = omega (arith, below here);

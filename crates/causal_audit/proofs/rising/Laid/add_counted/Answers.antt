@@ -1,7 +1,7 @@
 use Rattle.std.proofs.Common.{ℕ, ◌≡◌, ◌+◌, ◌-◌, ◌<◌, ◌≤◌, ◌∷◌, ◌++◌, [], inl, inr, List, length, take, drop, get_or, append_assoc, sym, ap, subst, ◌∙◌, arith, length-drop}
 use Rattle.std.specs.Prelude.{slice_index}
 use Rattle.std.proofs.lemmas.Bool.{cases_lt}
-use Rattle.std.proofs.lemmas.List.{take_more, get_or-drop}
+use Rattle.std.proofs.lemmas.List.{take_more, get_or-drop, get_or_default}
 use Rattle.causal_audit.specs.Inside.Rises.{place_for}
 use Rattle.causal_audit.proofs.rising.Laid.add_counted.Goals as goal
 
@@ -26,8 +26,10 @@ loop-m-preserved c =
         | inr late ↦
             let same : m ≡ k = omega (arith, late, high) in
             let i = slice_index lane m in
-            let inside : i < length c.args.self.now.positions.now = c.requires.lane m 0 c.loop-m-test.true in
-            let here : place_for c.args.self.now (slice_index lane m) < c.args.count = omega (arith, c.if-self-i.false, c.requires.places.each i inside) in
+            let inside : i < length c.self.inside.positions.now = omega (arith, c.requires.lane m 0 c.loop-m-test.true, ap (λ p. length p.positions) c.self.view_is) in
+            let places = c.self.inside.places.items in
+            let read : c.index.result.now ≡ slice_index places i = c.index.ensures ∙ get_or_default places i c.index.result.now 0 (omega (arith, inside, c.self.invariant.placed.counted)) in
+            let here : place_for c.args.self.now (slice_index lane m) < c.args.count = omega (arith, c.if-index-count.false, read, c.self.invariant.placed.each i inside, ap (λ p. place_for p i) c.self.view_is) in
             subst (λ x. place_for c.args.self.now (slice_index lane x) < c.args.count) same here
       ];
     }

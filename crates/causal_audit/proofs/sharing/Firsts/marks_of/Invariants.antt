@@ -1,6 +1,7 @@
 use Rattle.std.proofs.Common.{◌≡◌, map, take}
 use Rattle.causal_audit.specs.Quiet.{mentioned_by}
-use Rattle.causal_audit.specs.Inside.Sharing.{first_of, numbers_in}
+use Rattle.causal_audit.specs.Inside.Firsts.{first_of}
+use Rattle.causal_audit.specs.Inside.Sharing.{numbers_in}
 use Rattle.causal_audit.proofs.sharing.Firsts.marks_of.Given as goal
 
 -- those of the entries so far

@@ -5,7 +5,4 @@ pub loop-i-preserved : goal.loop-i-preserved
 loop-i-preserved c =
     let dets = c.args.dets.now in
     let i = c.loop-i.i in
-    record {
-      paired = c.in_ok-note.ensures.paired;
-      firsts = c.in_ok-note.ensures.noted dets (slice_get-get_or dets i _ c.loop-i-test.true) c.loop-i.invariant.firsts;
-    }
+    c.in_ok-note.ensures dets (slice_get-get_or dets i _ c.loop-i-test.true) c.loop-i.invariant

@@ -1,5 +1,6 @@
 use Rattle.std.proofs.Common.{◌≡◌, ◌++◌, drop}
-use Rattle.causal_audit.specs.Inside.Sharing.{first_of, numbers_in}
+use Rattle.causal_audit.specs.Inside.Firsts.{first_of}
+use Rattle.causal_audit.specs.Inside.Sharing.{numbers_in}
 use Rattle.causal_audit.proofs.sharing.Firsts.numbers_of.Given as goal
 
 -- the numbers so far and those to come are all

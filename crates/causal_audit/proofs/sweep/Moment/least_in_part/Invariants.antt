@@ -4,4 +4,4 @@ use Rattle.causal_audit.proofs.sweep.Moment.least_in_part.Given as goal
 
 -- the least of those so far
 abbrev pub invariant-loop-i : goal.invariant-loop-i
-invariant-loop-i l = LeastOf l.self l.room (is_between l.room.from l.i) l.least
+invariant-loop-i l = LeastOf l.self (is_between l.self.from l.i) l.least

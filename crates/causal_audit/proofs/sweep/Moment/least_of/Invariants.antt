@@ -7,5 +7,5 @@ use Rattle.causal_audit.proofs.sweep.Moment.least_of.Given as goal
 -- the least with these numbers so far
 abbrev pub invariant-loop-number : goal.invariant-loop-number
 invariant-loop-number l =
-    (C : ℕ → Bool) → LeastOf l.self l.room C l.fn.so_far
-    → LeastOf l.self l.room (λ i. C i || (is_among (take l.number-index l.numbers) i && is_followed l.room i)) l.least
+    (C : ℕ → Bool) → LeastOf l.self C l.fn.so_far
+    → LeastOf l.self (λ i. C i || (is_among (take l.number-index l.numbers) i && is_followed l.self i)) l.least

@@ -1,12 +1,13 @@
-use Rattle.std.proofs.Common.{ℕ, ◌≡◌, ◌≤◌, ◌++◌, List, Vec, Global, inl, inr, length, take, drop, sym, ap, subst, ◌∙◌, arith}
+use Rattle.std.proofs.Common.{ℕ, ◌≡◌, ◌<◌, ◌≤◌, ◌++◌, List, Vec, Global, inl, inr, length, take, drop, sym, ap, subst, ◌∙◌, arith}
+use Rattle.std.specs.Prelude.{◌≢◌}
 use Rattle.std.proofs.lemmas.Bool.{cases_lt}
 use Rattle.std.proofs.lemmas.Bool.Decides.{eqb_tells}
 use Rattle.std.proofs.lemmas.Grind.{common_steps}
 use Rattle.std.proofs.lemmas.List.{length-map}
 use Rattle.causal_audit.specs.Inside.Filed.{lists_in}
-use Rattle.causal_audit.specs.Inside.Rises.{AreKept, AreSound, HasRisen}
+use Rattle.causal_audit.specs.Inside.Rises.{AreKept, AreSound, AreSoundFor, HasRisen, HasRisenFor}
 use Rattle.causal_audit.proofs.Risen.{kept_risen, risen_all}
-use Rattle.causal_audit.proofs.rising.risen_of.Goals as goal
+use Rattle.causal_audit.proofs.rising.Laid.risen.Goals as goal
 
 abbrev items : Vec ℕ Global → List ℕ
 items list = list.items
@@ -17,8 +18,8 @@ written x xs same = grind (arith, common_steps, x.ok.0)
 
 pub loop-lane-preserved : goal.loop-lane-preserved
 loop-lane-preserved c =
-    let positions = c.args.positions.now in
-    let events = c.args.clocks.now.events in
+    let positions = c.args.self.now.positions in
+    let events = c.args.self.now.clock.events in
     let old = c.loop-lane.risen in
     let rows = c.add_sources.new.risen in
     let told = c.in_ok-add_sources.ensures in
@@ -41,16 +42,23 @@ loop-lane-preserved c =
 
 pub returns : goal.returns
 returns c =
-    let positions = c.args.positions.now in
-    let events = c.args.clocks.now.events in
-    let lanes = c.args.clocks.now.lanes in
+    let laid = c.self.inside in
+    let positions = laid.positions.now in
+    let events = laid.clocks.now.events in
+    let lanes = laid.clocks.now.lanes in
     let risen = lists_in c.loop-lane.risen.items in
-    let deliveries = c.in_ok-deliveries.deliveries in
-    let told = c.in_ok-deliveries.ensures in
-    let last = c.loop-lane.invariant in
+    let deliveries = lists_in laid.deliveries.items in
+    let is = c.self.invariant.in_lanes in
+    let own : (lane : ℕ) → HasRisen positions events lane lane risen =
+    subst (λ p. (lane : ℕ) → HasRisenFor p lane lane c.loop-lane.risen.items) (sym c.self.view_is) c.loop-lane.invariant.own in
+    let others : (lane source : ℕ) → lane < c.loop-lane.lane → source < lanes → source ≢ lane → HasRisen positions events lane source risen =
+    subst (λ p. (lane source : ℕ) → lane < c.loop-lane.lane → source < p.clock.lanes → source ≢ lane → HasRisenFor p lane source c.loop-lane.risen.items) (sym c.self.view_is) c.loop-lane.invariant.risen in
+    let sound : AreSound positions events risen = subst (λ p. AreSoundFor p c.loop-lane.risen.items) (sym c.self.view_is) c.loop-lane.invariant.sound in
     let all : lanes ≤ c.loop-lane.lane = omega (arith, c.loop-lane-test.false, c.lanes-lane-end.ensures.counted) in
-    risen_all positions events (lists_in deliveries.items) told.lanes lanes (omega (arith, length-map deliveries.items items, told.count, deliveries.ok.0)) risen last.sound
+    rw (← c.self.view_is) (
+    risen_all positions events deliveries is.numbered lanes is.lanes risen sound
     (λ lane source low there. elim (eqb_tells source lane) [
-      | inl is ↦ subst (λ l. HasRisen positions events lane l risen) (sym is.1) (last.own lane)
-      | inr other ↦ last.risen lane source (omega (arith, low, all)) there other.1
+      | inl same ↦ subst (λ l. HasRisen positions events lane l risen) (sym same.1) (own lane)
+      | inr other ↦ others lane source (omega (arith, low, all)) there other.1
     ])
+    )
