@@ -1,11 +1,11 @@
 -- Who is gathered for each determinant, after one more entry, and what that tells of its deliveries.
-use Rattle.std.proofs.Common.{ℕ, ◌≡◌, ◌-◌, ◌<◌, ◌≤◌, inl, inr, Bool, true, false, List, [], ◌∷◌, length, map, get_or, Some, refl, sym, ap, subst, ◌∙◌, arith}
-use Rattle.std.specs.Prelude.{◌⊎◌, ◌==◌, ◌&&◌, ◌||◌, not, slice_index}
+use Rattle.std.proofs.Common.{ℕ, ◌≡◌, ◌-◌, ◌<◌, ◌≤◌, inl, inr, Bool, true, false, List, [], ◌∷◌, length, get_or, Some, refl, sym, ap, subst, ◌∙◌, arith}
+use Rattle.std.specs.Prelude.{◌==◌, ◌&&◌, ◌||◌, not, slice_index}
 use Rattle.std.specs.Ordering.{nat_cmp}
 use Rattle.std.specs.Cmp.{nat_cmp_total}
 use Rattle.std.specs.Bool.{OnFalse, OnTrue}
-use Rattle.std.specs.FinSet.{FinSet, contains, empty, insert, is_subset, is_subset-contains, len, remove, union}
-use Rattle.std.proofs.lemmas.Bool.{false≢true, or_cases, and_parts, eqb-true, eq-eqb}
+use Rattle.std.specs.FinSet.{FinSet, contains, empty, is_subset, is_subset-contains, len, union}
+use Rattle.std.proofs.lemmas.Bool.{false≢true, or_cases, eqb-true, eq-eqb}
 use Rattle.causal_name.specs.declared.Det.{Det}
 use Rattle.causal_trace.specs.declared.entry.Entry.{Entry}
 use Rattle.causal_trace.specs.Past.{det_at, instant}
@@ -28,7 +28,7 @@ use Rattle.causal_audit.proofs.Exposure.{not_many, not_stable}
 use Rattle.causal_audit.proofs.Lemmas.Judged.{exposed}
 use Rattle.causal_audit.proofs.Newly.{numbered_some}
 use Rattle.causal_audit.proofs.Numbered.{numbered_below}
-use Rattle.causal_audit.proofs.Rooms.{all_changed_count, after_counts}
+use Rattle.causal_audit.proofs.Rooms.{after_counts}
 use Rattle.causal_audit.proofs.Seen.{inserted_shows, all_removed}
 
 -- a number of a list gives its first one to the list of these

@@ -3,7 +3,6 @@ use Rattle.std.specs.Prelude.{◌≢◌}
 use Rattle.std.proofs.lemmas.Bool.{cases_lt}
 use Rattle.std.proofs.lemmas.Bool.Decides.{eqb_tells}
 use Rattle.std.proofs.lemmas.Grind.{common_steps}
-use Rattle.std.proofs.lemmas.List.{length-map}
 use Rattle.causal_audit.specs.Inside.Filed.{lists_in}
 use Rattle.causal_audit.specs.Inside.Rises.{AreKept, AreSound, AreSoundFor, HasRisen, HasRisenFor}
 use Rattle.causal_audit.proofs.Risen.{kept_risen, risen_all}

@@ -1,5 +1,5 @@
-use Rattle.std.proofs.Common.{◌≡◌, ◌-◌, ◌<◌, length, get_or, true, false, arith, refl, sym, ap, ◌∙◌}
-use Rattle.std.specs.FinSet.{empty, len, union}
+use Rattle.std.proofs.Common.{◌-◌, ◌<◌, length, false, arith, refl, sym, ap, ◌∙◌}
+use Rattle.std.specs.FinSet.{empty, len}
 use Rattle.causal_audit.specs.Inside.Moments.{HasNone}
 use Rattle.causal_audit.specs.Inside.Sweeps.{seen_at}
 use Rattle.causal_audit.proofs.Gathered.{none_below, none_beyond, none_many, none_stable, none_within, on_false, on_not}
