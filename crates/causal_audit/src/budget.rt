@@ -7,9 +7,6 @@ use causal_trace::trace::Trace;
 /// How many steps there are for each entry.
 const STEPS: usize = 64;
 
-/// How many entries a walk over all of them reads for a step: one is read by a few instructions, where a step is some tens.
-const READ: usize = 8;
-
 /// How many steps a survey may still take.
 #[derive(Clone, Copy)]
 pub struct Budget {
@@ -36,11 +33,6 @@ impl Budget {
         ensures { self.new.left ≡ self.old.left - steps }
     {
         self.left = self.left.saturating_sub(steps);
-    }
-
-    /// Takes the steps for a walk over so many entries.
-    pub fn charge_walk(&mut self, entries: u32) {
-        self.charge(entries as usize / READ);
     }
 
     /// Whether no step is left.

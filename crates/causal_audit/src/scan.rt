@@ -49,7 +49,7 @@ fn those_below(alloc: Global, positions: &[u32], end: u32) -> Result<Vec<u32>, N
 
 impl Scan<'_> {
     /// How the delivery at position k, if there is one, first has an orphan, if it has one by the instant `end`. It newly
-    /// reaches a process by the firsts, which take a step each.
+    /// reaches a process by the firsts.
     fn first_breach_at(
         &self,
         f: u16,
@@ -79,7 +79,6 @@ impl Scan<'_> {
             mentions: self.mentions.list(det),
             firsts,
         };
-        budget.charge(firsts.len());
         first_orphan(&run, &changes, f, end, k, det, budget)
     }
 
@@ -148,7 +147,6 @@ impl Scan<'_> {
         let mut least = None;
         let mut until = end;
         for group in positions.chunks(GROUP) {
-            budget.charge_walk(until);
             if budget.is_spent() {
                 return Ok(Surveyed::TooMany);
             }
@@ -164,10 +162,10 @@ impl Scan<'_> {
     /// `end`; None where none of them has an orphan by then. Where the steps do not suffice nothing is told.
     ///
     /// The entries up to `end`, or to a breach that was found, are walked once for each 256 positions, a few instructions
-    /// each: eight of them take a step. Beside that a step is taken for each entry by which a delivery newly reaches a process,
-    /// and for each restart that is looked at; the mentions of its determinant are the caller's to count. It takes four bytes
-    /// for each position, and for one group at a time 32 for each entry of the run and four for each entry by which one newly
-    /// reaches a process.
+    /// each. Beside that each position takes time as what changes for its delivery: as the mentions of its determinant, the
+    /// entries by which it newly reaches a process, and the restarts that are looked at. The last take steps; the others are the
+    /// caller's to count. It takes four bytes for each position, and for one group at a time 32 for each entry of the run and
+    /// four for each entry by which one newly reaches a process.
     ///
     /// # Errors
     /// `NoMemory` where memory was refused.

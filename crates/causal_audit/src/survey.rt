@@ -17,6 +17,9 @@ use causal_name::{Det, NoMemory};
 use causal_trace::trace::Trace;
 use std::alloc::Global;
 
+/// How many entries of a walk are one step of each delivery in its group of 256: of all these eight entries are a step.
+const WALKED: u32 = 2048;
+
 /// What a survey of the deliveries reads: the outline of the run, what mentions each determinant, and how long each entry stays
 /// with its process; and for which f and up to which instant it asks.
 #[derive(Clone, Copy)]
@@ -62,8 +65,19 @@ impl Survey<'_> {
         )
     }
 
-    /// Gathers the position k, if there is a delivery that is not seen to be covered. To follow it later takes a step for each
-    /// mention of its determinant once more.
+    /// How many steps it takes to follow a delivery with this determinant, in a group: one for each mention of it once more, one
+    /// for each process that the delivery may reach, and its part of the group's walk over the entries. So it is found before
+    /// the first is followed where the steps do not suffice.
+    fn steps_to_follow(&self, det: Det) -> usize
+        requires survey { IsSurvey self.now }
+    {
+        let mentions = self.mentions.list(det).len();
+        let processes = usize::from(self.outline.trace.processes());
+        let walk = self.end / WALKED;
+        mentions.saturating_add(processes + walk as usize)
+    }
+
+    /// Gathers the position k, if there is a delivery that is not seen to be covered, and takes the steps to follow it later.
     fn gather(&self, k: u32, budget: &mut Budget, gathered: &mut Vec<u32>) -> Result<(), NoMemory>
         requires survey { IsSurvey self.now }
         ensures { OnOk result
@@ -76,7 +90,7 @@ impl Survey<'_> {
             return Ok(());
         }
         gathered.push(k)?;
-        budget.charge(self.mentions.list(det).len());
+        budget.charge(self.steps_to_follow(det));
         Ok(())
     }
 
@@ -122,9 +136,10 @@ impl Survey<'_> {
 ///
 /// It takes time and memory as the entries and the listed determinants; then at most 64 steps for each entry and one for each
 /// listed determinant. A look at a delivery takes one for each mention of its determinant, counted before the first look, and
-/// one for each restart of a process that was down or held the determinant. To follow it takes as many once more, and one for
-/// each lane that it reaches; and each 256 that are followed take a walk over the entries, of which eight are a step. Where many
-/// deliveries share a determinant that is mentioned often the steps may not suffice; then nothing is told.
+/// one for each restart of a process that was down or held the determinant. To follow it takes as many once more, one for each
+/// process, and one for each 2,048 entries, since each 256 that are followed take one walk over them. All but the restarts is
+/// counted before any is followed. Where many deliveries share a determinant that is mentioned often, or all of a run with many
+/// processes are followed, the steps may not suffice; then nothing is told.
 ///
 /// # Errors
 /// `NoMemory` where memory was refused.
