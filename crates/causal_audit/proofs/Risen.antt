@@ -270,12 +270,6 @@ module _ (walk : Walk) where
   abbrev events : List Event
   events = walk.clock.events
 
-  abbrev lane : ℕ
-  lane = walk.lane
-
-  abbrev source : ℕ
-  source = walk.source
-
   abbrev rises : List Rise
   rises = walk.rises
 
@@ -292,7 +286,7 @@ module _ (walk : Walk) where
   pub record IsSpot (k : ℕ) : Type 0 where
     pub inside : (rise_at rises k).place < length own
     pub within : spot k < length events
-    pub of_lane : lane_of events (spot k) ≡ lane
+    pub of_lane : lane_of events (spot k) ≡ walk.lane
     pub placed : place_of events (spot k) ≡ (rise_at rises k).place
     pub delivery : Contains positions (spot k)
 
@@ -311,11 +305,11 @@ module _ (walk : Walk) where
         delivery = subst (Contains positions) (sym here) (walk.laid.received j is.within is.receives);
       }
 
-  in_source : source < length walk.delivery_lanes
+  in_source : walk.source < length walk.delivery_lanes
   in_source = omega (arith, walk.in_lanes, walk.laid.lanes)
 
   ascends : Ascends (length positions) from
-  ascends = subst (Ascends (length positions)) (sym walk.from_is) (walk.laid.numbered.ascend source [] in_source)
+  ascends = subst (Ascends (length positions)) (sym walk.from_is) (walk.laid.numbered.ascend walk.source [] in_source)
 
   pub from_below : All (λ i. i < length positions) from
   from_below = ascends.below
@@ -323,8 +317,8 @@ module _ (walk : Walk) where
   low_of : (m : ℕ) → m < length from → slice_index from m < length positions
   low_of m below = ascends.below m 0 below
 
-  lane_from : (m : ℕ) → m < length from → lane_of events (slice_index positions (slice_index from m)) ≡ source
-  lane_from m below = walk.laid.numbered.inside source (slice_index from m) (subst (λ xs. Contains xs (slice_index from m)) walk.from_is (contains_at from m below))
+  lane_from : (m : ℕ) → m < length from → lane_of events (slice_index positions (slice_index from m)) ≡ walk.source
+  lane_from m below = walk.laid.numbered.inside walk.source (slice_index from m) (subst (λ xs. Contains xs (slice_index from m)) walk.from_is (contains_at from m below))
 
   -- a later delivery of the source has no lower place
   later_place : (m n : ℕ) → m ≤ n → n < length from → place_in positions events (slice_index from m) ≤ place_in positions events (slice_index from n)
@@ -436,9 +430,9 @@ module _ (walk : Walk) where
   -- after all rises
   module _ (known : ℕ) (risen : List (List ℕ)) (sound : AreSound positions events risen) (walked : IsWalked positions events own from rises risen (length rises) known) where
     -- what a rise of the lane up to an event counts is risen there, or was before
-    module _ (j i : ℕ) (there : j < length positions) (of_j : lane_of events (slice_index positions j) ≡ lane) where
+    module _ (j i : ℕ) (there : j < length positions) (of_j : lane_of events (slice_index positions j) ≡ walk.lane) where
       risen_by : (k : ℕ) → k < length rises → Contains (list_at risen (spot k)) i → (rise_at rises k).place ≤ place_in positions events j
-          → Contains (list_at risen (slice_index positions j)) i ⊎ WasReached positions events j lane i
+          → Contains (list_at risen (slice_index positions j)) i ⊎ WasReached positions events j walk.lane i
       risen_by k below listed upto =
           let v = slice_index positions j in
           let at_k = spot_of k below in
@@ -469,7 +463,7 @@ module _ (walk : Walk) where
           place_of_number : {w : ℕ} → Contains positions w → (n : ℕ) × (n < length positions) × (slice_index positions n ≡ w)
           place_of_number {w} has = place_of_element positions w has
 
-    pub walked_all : HasRisen positions events lane source risen
+    pub walked_all : HasRisen positions events walk.lane walk.source risen
     walked_all j i there below of_j of_i reach =
         let v = slice_index positions j in
         let inside : v < length events = walk.laid.within j 0 there in
