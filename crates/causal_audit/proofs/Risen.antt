@@ -240,15 +240,44 @@ module _ (positions : List ℕ) (events : List Event) (within : All (λ k. k < l
 
 -- ---- a walk over the rises of a lane by a source
 
-module _ (positions : List ℕ) (clock : Timeline) (at lanes : List (List ℕ)) (laid : AreLaid positions clock at lanes) (lane source : ℕ) (in_lanes : source < clock.lanes) (rises : List Rise) (are : AreRises clock.events lane source rises) where
+-- the deliveries of a source are among all
+pub source_below : (positions : List ℕ) (clock : Timeline) (event_lanes delivery_lanes : List (List ℕ)) → AreLaid positions clock event_lanes delivery_lanes → (source : ℕ) → source < clock.lanes
+    → (from : List ℕ) → from ≡ list_at delivery_lanes source → All (λ i. i < length positions) from
+source_below positions clock event_lanes delivery_lanes laid source low from is =
+    subst (All (λ i. i < length positions)) (sym is) (laid.numbered.ascend source [] (omega (arith, low, laid.lanes))).below
+
+-- what the walk reads: the events of the lane, the deliveries of the source, and the rises
+pub record Walk : Type 0 where
+  pub positions : List ℕ
+  pub clock : Timeline
+  pub event_lanes : List (List ℕ)
+  pub delivery_lanes : List (List ℕ)
+  pub laid : AreLaid positions clock event_lanes delivery_lanes
+  pub lane : ℕ
+  pub source : ℕ
+  pub in_lanes : source < clock.lanes
+  pub rises : List Rise
+  pub are : AreRises clock.events lane source rises
+  pub own : List ℕ
+  pub own_is : own ≡ list_at event_lanes lane
+  pub from : List ℕ
+  pub from_is : from ≡ list_at delivery_lanes source
+
+module _ (walk : Walk) where
+  abbrev positions : List ℕ
+  positions = walk.positions
+
   abbrev events : List Event
-  events = clock.events
+  events = walk.clock.events
+
+  abbrev rises : List Rise
+  rises = walk.rises
 
   abbrev own : List ℕ
-  own = list_at at lane
+  own = walk.own
 
   abbrev from : List ℕ
-  from = list_at lanes source
+  from = walk.from
 
   abbrev spot : ℕ → ℕ
   spot k = risen_event own rises k
@@ -257,30 +286,30 @@ module _ (positions : List ℕ) (clock : Timeline) (at lanes : List (List ℕ)) 
   pub record IsSpot (k : ℕ) : Type 0 where
     pub inside : (rise_at rises k).place < length own
     pub within : spot k < length events
-    pub of_lane : lane_of events (spot k) ≡ lane
+    pub of_lane : lane_of events (spot k) ≡ walk.lane
     pub placed : place_of events (spot k) ≡ (rise_at rises k).place
     pub delivery : Contains positions (spot k)
 
   pub spot_of : (k : ℕ) → k < length rises → IsSpot k
   spot_of k below =
-      let some = are.received k below in
+      let some = walk.are.received k below in
       let j = some.0 in
       let is = some.1 in
-      let list : list_at at (lane_of events j) ≡ own = ap (list_at at) is.of_lane in
-      let here : spot k ≡ j = ap (slice_index own) (sym is.placed) ∙ ap (λ xs. slice_index xs (place_of events j)) (sym list) ∙ laid.placed.each j is.within in
+      let list : list_at walk.event_lanes (lane_of events j) ≡ own = ap (list_at walk.event_lanes) is.of_lane ∙ sym walk.own_is in
+      let here : spot k ≡ j = ap (slice_index own) (sym is.placed) ∙ ap (λ xs. slice_index xs (place_of events j)) (sym list) ∙ walk.laid.placed.each j is.within in
       record {
-        inside = omega (arith, laid.placed.inside j is.within, ap length list, is.placed);
+        inside = omega (arith, walk.laid.placed.inside j is.within, ap length list, is.placed);
         within = omega (arith, here, is.within);
         of_lane = ap (lane_of events) here ∙ is.of_lane;
         placed = ap (place_of events) here ∙ is.placed;
-        delivery = subst (Contains positions) (sym here) (laid.received j is.within is.receives);
+        delivery = subst (Contains positions) (sym here) (walk.laid.received j is.within is.receives);
       }
 
-  in_source : source < length lanes
-  in_source = omega (arith, in_lanes, laid.lanes)
+  in_source : walk.source < length walk.delivery_lanes
+  in_source = omega (arith, walk.in_lanes, walk.laid.lanes)
 
   ascends : Ascends (length positions) from
-  ascends = laid.numbered.ascend source [] in_source
+  ascends = subst (Ascends (length positions)) (sym walk.from_is) (walk.laid.numbered.ascend walk.source [] in_source)
 
   pub from_below : All (λ i. i < length positions) from
   from_below = ascends.below
@@ -288,16 +317,16 @@ module _ (positions : List ℕ) (clock : Timeline) (at lanes : List (List ℕ)) 
   low_of : (m : ℕ) → m < length from → slice_index from m < length positions
   low_of m below = ascends.below m 0 below
 
-  lane_from : (m : ℕ) → m < length from → lane_of events (slice_index positions (slice_index from m)) ≡ source
-  lane_from m below = laid.numbered.inside source (slice_index from m) (contains_at from m below)
+  lane_from : (m : ℕ) → m < length from → lane_of events (slice_index positions (slice_index from m)) ≡ walk.source
+  lane_from m below = walk.laid.numbered.inside walk.source (slice_index from m) (subst (λ xs. Contains xs (slice_index from m)) walk.from_is (contains_at from m below))
 
   -- a later delivery of the source has no lower place
   later_place : (m n : ℕ) → m ≤ n → n < length from → place_in positions events (slice_index from m) ≤ place_in positions events (slice_index from n)
   later_place m n order below =
       let first : m < length from = omega (arith, order, below) in
       let numbers : slice_index from m ≤ slice_index from n = ascends.ascending m n 0 order below in
-      let places : slice_index positions (slice_index from m) ≤ slice_index positions (slice_index from n) = laid.ascend (slice_index from m) (slice_index from n) 0 numbers (low_of n below) in
-      places_ascend events (slice_index positions (slice_index from m)) (slice_index positions (slice_index from n)) places (laid.within (slice_index from n) 0 (low_of n below)) (lane_from m first ∙ sym (lane_from n below))
+      let places : slice_index positions (slice_index from m) ≤ slice_index positions (slice_index from n) = walk.laid.ascend (slice_index from m) (slice_index from n) 0 numbers (low_of n below) in
+      places_ascend events (slice_index positions (slice_index from m)) (slice_index positions (slice_index from n)) places (walk.laid.within (slice_index from n) 0 (low_of n below)) (lane_from m first ∙ sym (lane_from n below))
 
   pub walked_none : (risen : List (List ℕ)) → IsWalked positions events own from rises risen 0 0
   walked_none risen = record {
@@ -342,7 +371,7 @@ module _ (positions : List ℕ) (clock : Timeline) (at lanes : List (List ℕ)) 
     reaches_here m more less =
         let inside : m < length from = omega (arith, less, high) in
         let k = slice_index positions (slice_index from m) in
-        let told = (are.told v here.within here.of_lane).first k (laid.within (slice_index from m) 0 (low_of m inside)) (lane_from m inside) in
+        let told = (walk.are.told v here.within here.of_lane).first k (walk.laid.within (slice_index from m) 0 (low_of m inside)) (lane_from m inside) in
         told.1 (omega (arith, counted m more less, rise_counts rises (place_of events v) x below (omega (arith, here.placed))))
 
     sound_here : (i : ℕ) → Contains row i → (i < length positions) × Contains positions v × Reaches events (slice_index positions i) v
@@ -401,19 +430,19 @@ module _ (positions : List ℕ) (clock : Timeline) (at lanes : List (List ℕ)) 
   -- after all rises
   module _ (known : ℕ) (risen : List (List ℕ)) (sound : AreSound positions events risen) (walked : IsWalked positions events own from rises risen (length rises) known) where
     -- what a rise of the lane up to an event counts is risen there, or was before
-    module _ (j i : ℕ) (there : j < length positions) (of_j : lane_of events (slice_index positions j) ≡ lane) where
+    module _ (j i : ℕ) (there : j < length positions) (of_j : lane_of events (slice_index positions j) ≡ walk.lane) where
       risen_by : (k : ℕ) → k < length rises → Contains (list_at risen (spot k)) i → (rise_at rises k).place ≤ place_in positions events j
-          → Contains (list_at risen (slice_index positions j)) i ⊎ WasReached positions events j lane i
+          → Contains (list_at risen (slice_index positions j)) i ⊎ WasReached positions events j walk.lane i
       risen_by k below listed upto =
           let v = slice_index positions j in
           let at_k = spot_of k below in
-          let inside : v < length events = laid.within j 0 there in
+          let inside : v < length events = walk.laid.within j 0 there in
           elim (cases_lt (spot k) v) [
             | inl before ↦
                 let number = place_of_number at_k.delivery in
                 let early : number.0 < j = elim (cases_lt number.0 j) [
                   | inl less ↦ less
-                  | inr least ↦ absurd (let order : v ≤ slice_index positions number.0 = laid.ascend j number.0 0 least number.1 in omega (arith, before, order, number.2))
+                  | inr least ↦ absurd (let order : v ≤ slice_index positions number.0 = walk.laid.ascend j number.0 0 least number.1 in omega (arith, before, order, number.2))
                 ] in
                 inr (record {
                   number = number.0;
@@ -424,27 +453,27 @@ module _ (positions : List ℕ) (clock : Timeline) (at lanes : List (List ℕ)) 
             | inr least ↦
                 let order = places_ascend events v (spot k) least at_k.within (of_j ∙ sym at_k.of_lane) in
                 let place : place_of events (spot k) ≡ place_of events v = omega (arith, order, upto, at_k.placed) in
-                let one = laid.placed.each (spot k) at_k.within in
-                let other = laid.placed.each v inside in
-                let list : list_at at (lane_of events (spot k)) ≡ list_at at (lane_of events v) = ap (list_at at) (at_k.of_lane ∙ sym of_j) in
-                let same : spot k ≡ v = sym one ∙ ap (λ xs. slice_index xs (place_of events (spot k))) list ∙ ap (slice_index (list_at at (lane_of events v))) place ∙ other in
+                let one = walk.laid.placed.each (spot k) at_k.within in
+                let other = walk.laid.placed.each v inside in
+                let list : list_at walk.event_lanes (lane_of events (spot k)) ≡ list_at walk.event_lanes (lane_of events v) = ap (list_at walk.event_lanes) (at_k.of_lane ∙ sym of_j) in
+                let same : spot k ≡ v = sym one ∙ ap (λ xs. slice_index xs (place_of events (spot k))) list ∙ ap (slice_index (list_at walk.event_lanes (lane_of events v))) place ∙ other in
                 inl (subst (λ w. Contains (list_at risen w) i) same listed)
           ]
         where
           place_of_number : {w : ℕ} → Contains positions w → (n : ℕ) × (n < length positions) × (slice_index positions n ≡ w)
           place_of_number {w} has = place_of_element positions w has
 
-    pub walked_all : HasRisen positions events lane source risen
+    pub walked_all : HasRisen positions events walk.lane walk.source risen
     walked_all j i there below of_j of_i reach =
         let v = slice_index positions j in
-        let inside : v < length events = laid.within j 0 there in
-        let told = ((are.told v inside of_j).first (slice_index positions i) (laid.within i 0 below) of_i).0 reach in
+        let inside : v < length events = walk.laid.within j 0 there in
+        let told = ((walk.are.told v inside of_j).first (slice_index positions i) (walk.laid.within i 0 below) of_i).0 reach in
         elim (count_risen rises (place_of events v)) [
           | inl none ↦ absurd (omega (arith, told, none))
           | inr some ↦
               let k = some.0 in
               let at_k = some.1 in
-              let mine : Contains from i = subst (λ l. Contains (list_at lanes l) i) of_i (laid.numbered.each i below) in
+              let mine : Contains from i = subst (λ xs. Contains xs i) (sym walk.from_is) (subst (λ l. Contains (list_at walk.delivery_lanes l) i) of_i (walk.laid.numbered.each i below)) in
               let found = place_of_element from i mine in
               let m = found.0 in
               let known_m : m < known = elim (cases_lt m known) [
@@ -457,7 +486,7 @@ module _ (positions : List ℕ) (clock : Timeline) (at lanes : List (List ℕ)) 
                 | inr least ↦ least
               ] in
               let place : (rise_at rises was.0).place ≤ (rise_at rises k).place = elim (cases_lt was.0 k) [
-                | inl less ↦ omega (arith, are.strictly.places was.0 k less at_k.within)
+                | inl less ↦ omega (arith, walk.are.strictly.places was.0 k less at_k.within)
                 | inr least ↦ let same : was.0 ≡ k = omega (arith, least, order) in omega (arith, ap (λ y. (rise_at rises y).place) same)
               ] in
               risen_by j i there of_j was.0 was.1 (subst (Contains (list_at risen (spot was.0))) found.2 was.2.listed) (omega (arith, place, at_k.reached))

@@ -1,11 +1,10 @@
-use Rattle.std.proofs.Common.{ℕ, ◌≡◌, ◌<◌, ◌≤◌, ◌++◌, List, Vec, Global, inl, inr, length, take, drop, sym, ap, subst, ◌∙◌, arith}
-use Rattle.std.specs.Prelude.{◌≢◌}
+use Rattle.std.proofs.Common.{ℕ, ◌≡◌, ◌≤◌, ◌++◌, List, Vec, Global, inl, inr, length, take, drop, sym, ap, subst, ◌∙◌, arith}
 use Rattle.std.proofs.lemmas.Bool.{cases_lt}
 use Rattle.std.proofs.lemmas.Bool.Decides.{eqb_tells}
 use Rattle.std.proofs.lemmas.Grind.{common_steps}
 use Rattle.causal_audit.specs.Inside.Filed.{lists_in}
-use Rattle.causal_audit.specs.Inside.Rises.{AreKept, AreSound, AreSoundFor, HasRisen, HasRisenFor}
-use Rattle.causal_audit.proofs.Risen.{kept_risen, risen_all}
+use Rattle.causal_audit.specs.Inside.Rises.{AreKept, AreSound, HasRisen, HasRisenFor}
+use Rattle.causal_audit.proofs.Risen.{kept_risen, laid_as, risen_all}
 use Rattle.causal_audit.proofs.rising.Laid.risen.Goals as goal
 
 abbrev items : Vec ℕ Global → List ℕ
@@ -41,23 +40,13 @@ loop-lane-preserved c =
 
 pub returns : goal.returns
 returns c =
-    let laid = c.self.inside in
-    let positions = laid.positions.now in
-    let events = laid.clocks.now.events in
-    let lanes = laid.clocks.now.lanes in
-    let risen = lists_in c.loop-lane.risen.items in
-    let deliveries = lists_in laid.deliveries.items in
-    let is = c.self.invariant.in_lanes in
-    let own : (lane : ℕ) → HasRisen positions events lane lane risen =
-    subst (λ p. (lane : ℕ) → HasRisenFor p lane lane c.loop-lane.risen.items) (sym c.self.view_is) c.loop-lane.invariant.own in
-    let others : (lane source : ℕ) → lane < c.loop-lane.lane → source < lanes → source ≢ lane → HasRisen positions events lane source risen =
-    subst (λ p. (lane source : ℕ) → lane < c.loop-lane.lane → source < p.clock.lanes → source ≢ lane → HasRisenFor p lane source c.loop-lane.risen.items) (sym c.self.view_is) c.loop-lane.invariant.risen in
-    let sound : AreSound positions events risen = subst (λ p. AreSoundFor p c.loop-lane.risen.items) (sym c.self.view_is) c.loop-lane.invariant.sound in
-    let all : lanes ≤ c.loop-lane.lane = omega (arith, c.loop-lane-test.false, c.lanes-lane-end.ensures.counted) in
-    rw (← c.self.view_is) (
-    risen_all positions events deliveries is.numbered lanes is.lanes risen sound
+    let placed = c.args.self.now in
+    let risen = c.loop-lane.risen.items in
+    let last = c.loop-lane.invariant in
+    let is = laid_as c.self.inside placed c.self.view_is c.self.invariant in
+    let all : placed.clock.lanes ≤ c.loop-lane.lane = omega (arith, c.loop-lane-test.false, c.lanes-lane-end.ensures.counted, ap (λ p. p.clock.lanes) c.self.view_is) in
+    risen_all placed.positions placed.clock.events (lists_in c.self.inside.deliveries.items) is.numbered placed.clock.lanes is.lanes (lists_in risen) last.sound
     (λ lane source low there. elim (eqb_tells source lane) [
-      | inl same ↦ subst (λ l. HasRisen positions events lane l risen) (sym same.1) (own lane)
-      | inr other ↦ others lane source (omega (arith, low, all)) there other.1
+      | inl same ↦ subst (λ l. HasRisenFor placed lane l risen) (sym same.1) (last.own lane)
+      | inr other ↦ last.risen lane source (omega (arith, low, all)) there other.1
     ])
-    )
