@@ -5,9 +5,12 @@ use Rattle.std.specs.Option.{option_map, option_map_or, option_and_then}
 use Rattle.std.proofs.lemmas.Option.{slice_get_read}
 use Rattle.std.proofs.lemmas.Bool.{false≢true}
 use Rattle.causal_core.specs.declared.cell.Cell.{Cell}
+use Rattle.causal_core.specs.declared.cell.Message.{Message}
+use Rattle.causal_name.specs.declared.Pid.{Pid}
 use Rattle.causal_protocol.specs.Memory.{Memory, Memories, at}
+use Rattle.causal_protocol.specs.Naming.{if_to, kept_for, name}
 use Rattle.causal_core.specs.Inside.Memories.{memory_of, memories_in, memory_at, bodies_of, bodies_in, no_room, room_of, rooms_in, room_at}
-use Rattle.causal_core.specs.View.{with_bodies}
+use Rattle.causal_core.specs.View.{body_in, with_bodies}
 use Rattle.causal_core.proofs.Sending.{set_same}
 
 pub get-map : {X Y : Type 0} (f : X → Y) (xs : List X) (p : ℕ) → slice_get (map f xs) p ≡ option_map f (slice_get xs p)
@@ -39,6 +42,10 @@ get_within (y ∷ ys) (suc i) x h = omega (arith, get_within ys i x h)
 pub read_at : {X : Type 0} (xs : List X) (i : ℕ) (x y : X) → i < length xs → x ≡ get_or xs i x → x ≡ y → slice_get xs i ≡ Some y
 read_at xs i x y h is same = slice_get_read xs (length xs) i x refl h is ∙ ap Some same
 
+-- the body of a message that is read
+pub body_read : (kept : List Message) (ssn : ℕ) (m : Message) → ssn < length kept → m ≡ get_or kept ssn m → body_in (map (λ m. m.body) kept) ssn ≡ m.body
+body_read kept ssn m h is = ap (λ o. unwrap_or o []) (get-map (λ m. m.body) kept ssn ∙ ap (option_map (λ m. m.body)) (slice_get_read kept (length kept) ssn m refl h is))
+
 pub memories_length : (cells : List (Option Cell)) → length (memories_in cells) ≡ length cells
 memories_length [] = refl
 memories_length (c ∷ cells) = ap suc (memories_length cells)
@@ -53,6 +60,10 @@ some_within [] p m h = absurd (let e : None ≡ Some m = h in cc)
 some_within (x ∷ ms) zero m h = omega arith
 some_within (x ∷ ms) (suc p) m h = omega (arith, some_within ms p m h)
 
+-- the message that a process keeps for q, by what its sender has
+pub kept_from : (ms : Memories) (q source : Pid) (ssn : ℕ) (sender : Option Memory) → sender ≡ at ms source.0 → kept_for ms q (name source ssn) ≡ if_to q (option_and_then (λ m. slice_get m.sent ssn) sender)
+kept_from ms q source ssn sender is = ap (λ o. if_to q (option_and_then (λ (m : Memory). slice_get m.sent ssn) o)) (sym is)
+
 module _ (cells : List (Option Cell)) (p : ℕ) (cell : Cell) (found : slice_get cells p ≡ Some (Some cell)) where
   pub there : at (memories_in cells) p ≡ Some (memory_of cell)
   there = ap (λ o. option_and_then (λ x. x) o) (get-map (option_map memory_of) cells p ∙ ap (option_map (option_map memory_of)) found)
@@ -65,6 +76,9 @@ module _ (cells : List (Option Cell)) (p : ℕ) (cell : Cell) (found : slice_get
 
   pub bodies_there : slice_get (bodies_in cells) p ≡ Some (bodies_of cell)
   bodies_there = get-map (λ c. option_map_or bodies_of c []) cells p ∙ ap (option_map (λ c. option_map_or bodies_of c [])) found
+
+  pub body_there : (ssn : ℕ) → body_in (unwrap_or (slice_get (bodies_in cells) p) []) ssn ≡ body_in (bodies_of cell) ssn
+  body_there ssn = ap (λ o. body_in (unwrap_or o []) ssn) bodies_there
 
   -- another cell is put there
   module _ (new : Cell) where

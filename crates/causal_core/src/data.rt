@@ -9,7 +9,7 @@ ghost use Rattle.causal_protocol.specs.Memory.{at, changed};
 ghost use Rattle.causal_protocol.specs.Gathering.{gathered_log};
 ghost use Rattle.causal_protocol.specs.Run.{memories_of, stable_of};
 ghost use Rattle.causal_protocol.specs.Naming.{name, next_rsn};
-ghost use Rattle.causal_protocol.specs.Refusals.{first_fault};
+ghost use Rattle.causal_protocol.specs.Refusals.{first_fault, gathered};
 ghost use Rattle.causal_protocol.specs.Steps.{Steps, told_crash};
 ghost use Rattle.causal_core.specs.Inside.Stables.{IsStored};
 ghost use Rattle.causal_core.specs.Inside.Commits.{asked_by};
@@ -345,6 +345,20 @@ impl Data {
     {
         let stored = store.all(alloc)?;
         gather(alloc, self.cells.as_slice(), stored.as_slice(), p)
+    }
+
+    /// What a restart of p would list, where the store has what is stable.
+    pub(crate) fn gathered<S: Stable>(
+        &self,
+        alloc: Global,
+        p: Pid,
+        store: &S,
+    ) -> Result<Vec<Det>, NoMemory>
+        requires { IsStored (S.contents store.now) self.now.run.recording.past }
+        ensures { IfOk result (λ dets. dets.items ≡ gathered self.now.run p) }
+    {
+        let log = self.gather(alloc, p, store)?;
+        log.dets(alloc)
     }
 
     /// Records that a flush of p wrote a determinant.

@@ -1,5 +1,6 @@
 //! A restart, as far as plain data goes.
 ghost use Rattle.std.specs.Prelude.{◌≡◌, ◌≤◌, ◌<◌, length, replicate, OnOk, IfOk, IfErr, None, Some, slice_set, vec_len, nat_le, ◌||◌};
+ghost use Rattle.std.specs.FinMap as fin;
 ghost use Rattle.causal_log.specs.Logs.{chosen};
 ghost use Rattle.causal_trace.specs.Past.{restarts};
 ghost use Rattle.causal_protocol.specs.declared.request.Request.TheVariants as Ask;
@@ -20,7 +21,7 @@ use crate::gathered::Gathered;
 use crate::grow::shares;
 use crate::sends::append_sends;
 use causal_log::{Batch, Log, Stable};
-use causal_name::{NoMemory, Pid};
+use causal_name::{Det, NoMemory, Pid};
 use causal_process::Outgoing;
 use causal_protocol::request::{CoreFault, Restarted};
 use causal_trace::entry::{Dets, Entry};
@@ -45,14 +46,28 @@ fn chosen_shares(alloc: Global, f: u16, log: &Log) -> Result<Vec<Arc<Batch>>, No
     shares(alloc, batch)
 }
 
-/// What a process has that comes up with this log, and what its sends carry.
-pub(crate) fn gathered(alloc: Global, f: u16, mut log: Log) -> Result<Gathered, NoMemory>
-    ensures { IfOk result (λ g. IsGathered f log.map g) }
+/// What a restart entry lists of a log, and eight shares of what the log chooses for f failures.
+fn listed_and_shares(
+    alloc: Global,
+    f: u16,
+    log: &mut Log,
+) -> Result<(Vec<Det>, Vec<Arc<Batch>>), NoMemory>
+    ensures log { log.new.map ≡ log.old.map }
+    ensures listed { IfOk result (λ made. made.0.items ≡ fin.keys log.old.map) }
+    ensures shares { IfOk result (λ made. batches_of made.1.items ≡ replicate 8 (chosen f log.old.map)) }
 {
     // The log notes its entries as it makes room, else each call that is refused would read it whole.
     log.reserve(1)?;
     let listed = log.dets(alloc)?;
-    let shares = chosen_shares(alloc, f, &log)?;
+    let shares = chosen_shares(alloc, f, log)?;
+    Ok((listed, shares))
+}
+
+/// What a process has that comes up with this log, and what its sends carry.
+pub(crate) fn gathered(alloc: Global, f: u16, mut log: Log) -> Result<Gathered, NoMemory>
+    ensures { IfOk result (λ g. IsGathered f log.map g) }
+{
+    let (listed, shares) = listed_and_shares(alloc, f, &mut log)?;
     let cell = fresh_cell(alloc, log)?;
     Ok(Gathered {
         listed,

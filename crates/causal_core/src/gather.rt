@@ -1,8 +1,8 @@
 //! What a restart gathers.
 ghost use Rattle.std.specs.Prelude.{◌≡◌, IfOk, OnOk};
 ghost use Rattle.std.specs.FinMap as fin;
-ghost use Rattle.causal_protocol.specs.Gathering.{known_together, held_all, stable_all};
-ghost use Rattle.causal_core.specs.Inside.Gathers.{gathered_with};
+ghost use Rattle.causal_protocol.specs.Gathering.{united_all, held_all, stable_all};
+ghost use Rattle.causal_core.specs.Inside.Gathers.{gathered_onto, gathered_with};
 ghost use Rattle.causal_core.specs.Inside.Memories.{memories_in};
 
 use crate::cell::Cell;
@@ -10,17 +10,16 @@ use causal_log::Log;
 use causal_name::{Det, NoMemory, Pid};
 use std::alloc::Global;
 
-/// All that the up processes know.
-fn known_by_all(alloc: Global, cells: &[Option<Cell>]) -> Result<Log, NoMemory>
-    ensures { IfOk result (λ log. log.map ≡ known_together (memories_in cells.now)) }
+/// All that the up processes know becomes known.
+fn know_all(log: &mut Log, cells: &[Option<Cell>]) -> Result<(), NoMemory>
+    ensures { OnOk result (log.new.map ≡ united_all (memories_in cells.now) log.old.map) }
 {
-    let mut log = Log::new(alloc);
     for cell in cells {
         if let Some(cell) = cell {
             log.union_from(&cell.log)?;
         }
     }
-    Ok(log)
+    Ok(())
 }
 
 /// That p holds each of these becomes known.
@@ -51,6 +50,21 @@ fn hold_known(alloc: Global, log: &mut Log, p: Pid) -> Result<(), NoMemory>
     hold_all(log, dets.as_slice(), p)
 }
 
+/// What up processes know and what is stored becomes known, and that p holds it.
+fn gather_into(
+    alloc: Global,
+    log: &mut Log,
+    cells: &[Option<Cell>],
+    stored: &[Det],
+    p: Pid,
+) -> Result<(), NoMemory>
+    ensures { OnOk result (log.new.map ≡ gathered_onto log.old.map (memories_in cells.now) stored.now p) }
+{
+    know_all(log, cells)?;
+    hold_known(alloc, log, p)?;
+    store_all(log, stored, p)
+}
+
 /// The log that p has once it has gathered what up processes log and what is stored.
 pub(crate) fn gather(
     alloc: Global,
@@ -60,8 +74,7 @@ pub(crate) fn gather(
 ) -> Result<Log, NoMemory>
     ensures { IfOk result (λ log. log.map ≡ gathered_with (memories_in cells.now) stored.now p) }
 {
-    let mut log = known_by_all(alloc, cells)?;
-    hold_known(alloc, &mut log, p)?;
-    store_all(&mut log, stored, p)?;
-    Ok(log)
+    let mut log = Log::new(alloc);
+    // The log goes through `and`, since each way out that drops a log is long to prove.
+    gather_into(alloc, &mut log, cells, stored, p).and(Ok(log))
 }

@@ -124,10 +124,7 @@ impl<S: Stable> Core<S> {
         if let Some(fault) = self.held.gathering_fault(p) {
             return Err(fault);
         }
-        let Ok(log) = self.held.gather(self.alloc, p, &self.store) else {
-            return Err(CoreFault::NoMemory);
-        };
-        match log.dets(self.alloc) {
+        match self.held.gathered(self.alloc, p, &self.store) {
             Ok(dets) => Ok(dets),
             Err(_) => Err(CoreFault::NoMemory),
         }

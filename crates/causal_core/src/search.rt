@@ -32,7 +32,7 @@ pub(crate) fn cell_at(cells: &[Option<Cell>], p: Pid) -> Option<&Cell>
 pub(crate) fn message(cells: &[Option<Cell>], q: Pid, source: Pid, ssn: u32) -> Option<&Message>
     ensures { option_map kept_of (option_copied result) ≡ kept_for (memories_in cells.now) q (name source ssn) }
 {
-    let Some(Some(sender)) = cells.get(usize::from(source.0)) else {
+    let Some(sender) = cell_at(cells, source) else {
         return None;
     };
     let Some(message) = sender.sent.get(ssn as usize) else {

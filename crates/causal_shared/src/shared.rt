@@ -1,6 +1,6 @@
 //! The core that several threads share.
 ghost use Rattle.std.specs.Prelude.{◌≡◌, ◌↔◌, ◌≤◌, ◌<◌, ℕ, length, All, vec_len};
-ghost use Rattle.std.specs.Prelude.{IfOk, IfErr, OnErr, Some};
+ghost use Rattle.std.specs.Prelude.{IfOk, IfErr, IfNone, OnErr, Ok, Some};
 ghost use Rattle.causal_core.specs.CoreView.{run_of};
 ghost use Rattle.causal_protocol.specs.Runs.{IsSafeRun, HasSingleSlots};
 ghost use Rattle.causal_protocol.specs.declared.request.Request.TheVariants as Ask;
@@ -11,7 +11,7 @@ ghost use Rattle.causal_shared.specs.Locked.{held_of, AnswersAs, IsSafeSnapshot}
 ghost use Rattle.causal_shared.specs.Finish.{Agrees, IsComplete, AllSeated, AreSeatsOf};
 ghost use Rattle.causal_shared.specs.Inside.Settled.{IsMismatch, BeginsAt};
 ghost use Rattle.causal_shared.specs.Finish.{items_together, before_items};
-ghost use Rattle.causal_shared.specs.Inside.Settled.{HasOtherOpening};
+ghost use Rattle.causal_shared.specs.Inside.Settled.{HasOtherOpening, IsSettled};
 ghost use Rattle.causal_shared.specs.Pending.{AreAscending};
 ghost use Rattle.causal_shared.specs.Seat.{AreFresh, SeatCall, SeesEntries, heard, heard_restart};
 ghost use Rattle.causal_shared.specs.Shared.{opening_of, tag_of, seats_of_shared};
@@ -65,13 +65,13 @@ impl<S: Stable + Send> Shared<S> {
         ensures len { IfOk result (λ r. vec_len r.1 ≡ k) }
         ensures seats { IfOk result (λ r. AreFresh tag (instant (run_of core)) k r.1.items) }
     {
-        let seen = core.trace().len();
         let faults = core.faults();
-        let opening = core.trace().try_clone()?;
-        let seats = seats_of(alloc, k, tag, seen)?;
-        let locked = Mutex::new(Locked::new(alloc, core, k)?);
+        let opening = core.trace().try_clone();
+        let seats = seats_of(alloc, k, tag, core.trace().len());
+        let locked = Locked::new(alloc, core, k);
+        let ((opening, seats), locked) = both(both(opening, seats), locked)?;
         let shared = Shared {
-            locked,
+            locked: Mutex::new(locked),
             tag,
             seats: k,
             faults,
@@ -185,6 +185,17 @@ fn seats_of(alloc: Global, k: u32, tag: u64, seen: u32) -> Result<Vec<Seat>, NoM
     Ok(seats)
 }
 
+/// Both values, or want of memory. Its caller drops none of them on an early return, which would make a proof long.
+fn both<A: Drop, B: Drop>(
+    a: Result<A, NoMemory>,
+    b: Result<B, NoMemory>,
+) -> Result<(A, B), NoMemory>
+    ensures first { IfOk result (λ both. a ≡ Ok both.0) }
+    ensures second { IfOk result (λ both. b ≡ Ok both.1) }
+{
+    Ok((a?, b?))
+}
+
 /// What is left of a shared runtime.
 #[derive(Drop)]
 pub struct Finished<S: Stable, B = Box<dyn Process + Send>> {
@@ -227,7 +238,38 @@ pub fn finish<S: Stable + Send>(
     )
 }
 
-/// The tests of `finish`, over the value that was behind the lock.
+/// What stands against a finish, over the value that is behind the lock.
+fn finish_fault<S: Stable>(
+    locked: &Locked<S>,
+    seats: &[Seat],
+    tag: u64,
+    k: u32,
+    faults: u16,
+    opening: &Trace,
+) -> Option<FinishFault>
+    ensures settled { IfNone result (IsSettled (held_of locked.now) tag k seats.now opening.now.recording faults) }
+    ensures missing { result ≡ Some FinishFault.Missing ↔ ¬ IsComplete tag k seats.now }
+    ensures mismatch { (n : ℕ) → result ≡ Some (FinishFault.Mismatch n)
+        → IsMismatch (held_of locked.now).history seats.now n }
+    ensures opened { result ≡ Some FinishFault.Opening
+        → HasOtherOpening (held_of locked.now).run (held_of locked.now).history seats.now opening.now.recording faults }
+{
+    if !is_complete(seats, tag, k) {
+        return Some(FinishFault::Missing);
+    }
+    if let Some(number) = first_mismatch(locked.history(), seats) {
+        return Some(FinishFault::Mismatch(number));
+    }
+    if !all_seated(locked.history(), seats) {
+        return Some(FinishFault::Mismatch(0));
+    }
+    if !is_opening(locked.core(), locked.history(), opening, faults) {
+        return Some(FinishFault::Opening);
+    }
+    None
+}
+
+/// The same as `finish`, over the value that was behind the lock.
 fn settle<S: Stable>(
     locked: Locked<S>,
     seats: &[Seat],
@@ -251,17 +293,8 @@ fn settle<S: Stable>(
     ensures opened { result ≡ Err FinishFault.Opening
         → HasOtherOpening (held_of locked).run (held_of locked).history seats.now opening.now.recording faults }
 {
-    if !is_complete(seats, tag, k) {
-        return Err(FinishFault::Missing);
-    }
-    if let Some(number) = first_mismatch(locked.history(), seats) {
-        return Err(FinishFault::Mismatch(number));
-    }
-    if !all_seated(locked.history(), seats) {
-        return Err(FinishFault::Mismatch(0));
-    }
-    if !is_opening(locked.core(), locked.history(), opening, faults) {
-        return Err(FinishFault::Opening);
+    if let Some(fault) = finish_fault(&locked, seats, tag, k, faults, opening) {
+        return Err(fault);
     }
     let (core, history) = locked.into_parts();
     Ok(Finished { core, history })

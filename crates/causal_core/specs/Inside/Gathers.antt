@@ -8,7 +8,7 @@ use Rattle.causal_name.specs.declared.Det.{Det}
 use Rattle.causal_log.specs.Logs.{LogMap, chosen}
 use Rattle.causal_log.specs.Stores.{DetSet, has}
 use Rattle.causal_protocol.specs.Memory.{Memories, fresh}
-use Rattle.causal_protocol.specs.Gathering.{gathered_log, known_together, held_all, stable_all}
+use Rattle.causal_protocol.specs.Gathering.{gathered_log, united_all, held_all, stable_all}
 use Rattle.causal_protocol.specs.Run.{Run, memories_of, stable_of}
 use Rattle.causal_core.specs.declared.gathered.Gathered.{Gathered}
 use Rattle.causal_core.specs.Inside.Grown.{batches_of}
@@ -25,9 +25,13 @@ is_new stored ms d = not (has stored d || is_logged ms d)
 abbrev pub count_new : DetSet → Memories → LogMap → ℕ
 count_new stored ms log = count_by (is_new stored ms) (fin.keys log)
 
--- the log that p has once it has gathered what these processes log, and this, which is stored
+-- a log to which p gathers what these processes log, and this, which is stored
+abbrev pub gathered_onto : LogMap → Memories → List Det → Pid → LogMap
+gathered_onto log ms stored p = stable_all stored p (held_all (fin.keys (united_all ms log)) p (united_all ms log))
+
+-- the log that p has once it has gathered them
 abbrev pub gathered_with : Memories → List Det → Pid → LogMap
-gathered_with ms stored p = stable_all stored p (held_all (fin.keys (known_together ms)) p (known_together ms))
+gathered_with ms stored p = gathered_onto fin.empty ms stored p
 
 -- so many determinants are gathered, whoever gathers them
 abbrev pub IsGatheredCount : ℕ → Memories → DetSet → Type 0

@@ -4,7 +4,8 @@ use Rattle.causal_trace.specs.declared.entry.Entry.{Entry}
 use Rattle.causal_trace.specs.Rows.{Recording}
 use Rattle.causal_protocol.specs.Run.{Run}
 use Rattle.causal_shared.specs.declared.item.Item.{Item}
-use Rattle.causal_shared.specs.Finish.{Agrees, AllSeated, before_items}
+use Rattle.causal_shared.specs.Finish.{Agrees, AllSeated, IsComplete, before_items}
+use Rattle.causal_shared.specs.History.{Held}
 use Rattle.causal_shared.specs.Seat.{SeatState}
 use Rattle.causal_shared.specs.Shared.{opening_from}
 
@@ -26,6 +27,13 @@ pub record HasOtherOpening (r : Run) (history : List Item) (seats : List SeatSta
   pub agree : All (Agrees history) seats
   pub seated : AllSeated seats history
   pub other : ¬ BeginsAt r history recording faults
+
+-- nothing stands against a finish: the seats are those of the runtime, they and the history agree, and it began so
+pub record IsSettled (held : Held) (tag k : ℕ) (seats : List SeatState) (recording : Recording) (faults : ℕ) : Type 0 where
+  pub complete : IsComplete tag k seats
+  pub agree : All (Agrees held.history) seats
+  pub seated : AllSeated seats held.history
+  pub begins : BeginsAt held.run held.history recording faults
 
 -- the entries before the first item, in the order in which they came
 abbrev pub entries_before : List Entry → List Item → List Entry

@@ -2,8 +2,8 @@ use Rattle.std.proofs.Common.{◌∙◌, ◌+◌, ap, sym, drop, arith}
 use Rattle.causal_protocol.specs.Gathering.{united_all}
 use Rattle.causal_core.specs.Inside.Memories.{memories_in}
 use Rattle.causal_core.proofs.Gathers.{united_up, united_down, united_end}
-use Rattle.causal_core.proofs.gather.known_by_all.Goals as goal
-use Rattle.causal_core.proofs.gather.known_by_all.Goals.{in-Some+in_ok-union_from, in_default}
+use Rattle.causal_core.proofs.gather.know_all.Goals as goal
+use Rattle.causal_core.proofs.gather.know_all.Goals.{in-Some+in_ok-union_from, in_default}
 
 pub loop-cell-preserved : goal.loop-cell-preserved
 loop-cell-preserved c =
