@@ -116,12 +116,19 @@ module _ (n f : ℕ) (past : List Entry) (formed : AreAccepted n past) (k : ℕ)
             ]
           ])
 
-      pub none_until : ((u : ℕ) → u < t → HasOrphan n f (instant past u) k → ⊥) → (u : ℕ) → u ≤ next → HasOrphan n f (instant past u) k → ⊥
-      none_until before u low has =
+      pub none_until : (until : ℕ) → ((u : ℕ) → until ≤ u → u < t → HasOrphan n f (instant past u) k → ⊥) → (u : ℕ) → until ≤ u → u ≤ next → HasOrphan n f (instant past u) k → ⊥
+      none_until until before u from low has =
           elim (cases_lt u t) [
-            | inl early ↦ before u early has
+            | inl early ↦ before u from early has
             | inr late ↦ none_between u late low has
           ]
+
+    -- what is noted of the stretch up to `next`: that it is covered, or an instant past it
+    pub none_from : (spread : ℕ) → StaysUntil past k spread → (until noted : ℕ) → (noted ≤ next → (noted ≡ until) × LastsUntil f k d.dest.0 spread next (union down holders))
+        → ((u : ℕ) → until ≤ u → u < t → HasOrphan n f (instant past u) k → ⊥) → (u : ℕ) → noted ≤ u → u ≤ next → HasOrphan n f (instant past u) k → ⊥
+    none_from spread stays until noted told before u from low =
+        let same = told (omega (arith, from, low)) in
+        none_until spread stays same.1 until before u (omega (arith, from, same.0)) low
 
 -- where nothing is left to come nothing mentions it
 pub none_mention : (past : List Entry) (d : Det) (mentions : List ℕ) → HasMentions past d mentions → (t next last : ℕ) → next ≤ last → HasNoneUntil mentions t last → MentionsNone past d t next

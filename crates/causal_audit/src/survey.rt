@@ -2,15 +2,15 @@
 //! clock.
 ghost use Rattle.std.specs.Prelude.{◌≡◌, ◌+◌, ◌≤◌, ◌<◌, IfOk, IfSome, OnOk, Some, length, true};
 ghost use Rattle.causal_trace.specs.Past.{det_at};
-ghost use Rattle.causal_audit.specs.Breaches.{HasNoOrphanBy, IsSurveyed};
+ghost use Rattle.causal_audit.specs.Breaches.{HasNoOrphanFrom, IsSurveyed};
 ghost use Rattle.causal_audit.specs.Inside.Surveys.{AreGathered, IsSurvey};
 
 use crate::breach::Surveyed;
 use crate::budget::Budget;
-use crate::cover::{Outline, is_covered};
+use crate::cover::{Outline, uncovered_until};
 use crate::mentions::{Mentions, mentions_in};
 use crate::releases::lasting_from;
-use crate::scan::Scan;
+use crate::scan::{Scan, Window};
 use crate::spreads::stays_of;
 use crate::turns::turns_of;
 use causal_name::{Det, NoMemory};
@@ -45,15 +45,16 @@ impl Survey<'_> {
         all
     }
 
-    /// Whether the delivery at k, whose determinant this is, is seen to be covered at each instant up to the end.
-    fn covers(&self, k: u32, det: Det, budget: &mut Budget) -> bool
+    /// An instant from which on the delivery at k, whose determinant this is, is seen to be covered up to the end; 0 where it is
+    /// so throughout.
+    fn uncovered_until(&self, k: u32, det: Det, budget: &mut Budget) -> u32
         requires survey { IsSurvey self.now }
         requires delivery { det_at self.now.outline.trace.now.recording.past k ≡ Some det }
-        ensures { result ≡ true → HasNoOrphanBy self.now.outline.trace.now.recording self.now.f k self.now.end }
+        ensures { HasNoOrphanFrom self.now.outline.trace.now.recording self.now.f k result self.now.end }
     {
         let mentions = self.mentions.list(det);
         let stay = self.stays[k as usize];
-        is_covered(
+        uncovered_until(
             &self.outline,
             mentions,
             stay,
@@ -77,8 +78,14 @@ impl Survey<'_> {
         mentions.saturating_add(processes + walk as usize)
     }
 
-    /// Gathers the position k, if there is a delivery that is not seen to be covered, and takes the steps to follow it later.
-    fn gather(&self, k: u32, budget: &mut Budget, gathered: &mut Vec<u32>) -> Result<(), NoMemory>
+    /// Gathers the window of the delivery at position k, if there is one that is not seen to be covered throughout, and takes the
+    /// steps to follow it later.
+    fn gather(
+        &self,
+        k: u32,
+        budget: &mut Budget,
+        gathered: &mut Vec<Window>,
+    ) -> Result<(), NoMemory>
         requires survey { IsSurvey self.now }
         ensures { OnOk result
             (AreGathered self.now k gathered.old.items → AreGathered self.now (k + 1) gathered.new.items) }
@@ -86,19 +93,20 @@ impl Survey<'_> {
         let Some(det) = self.outline.trace.det_at(k) else {
             return Ok(());
         };
-        if self.covers(k, det, budget) {
+        let until = self.uncovered_until(k, det, budget);
+        if until == 0 {
             return Ok(());
         }
-        gathered.push(k)?;
+        gathered.push(Window { position: k, until })?;
         budget.charge(self.steps_to_follow(det));
         Ok(())
     }
 
-    /// The positions of the deliveries before the end that are not seen to be covered, in order; None where the steps do not
-    /// suffice to look at all deliveries, which is mostly found before the first, or to follow those.
-    fn uncovered(&self, alloc: Global, budget: &mut Budget) -> Result<Option<Vec<u32>>, NoMemory>
+    /// The windows of the deliveries before the end that are not seen to be covered throughout, in order; None where the steps do
+    /// not suffice to look at all deliveries, which is mostly found before the first, or to follow those.
+    fn uncovered(&self, alloc: Global, budget: &mut Budget) -> Result<Option<Vec<Window>>, NoMemory>
         requires survey { IsSurvey self.now }
-        ensures { IfOk result (λ found. IfSome found (λ positions. AreGathered self.now self.now.end positions.items)) }
+        ensures { IfOk result (λ found. IfSome found (λ windows. AreGathered self.now self.now.end windows.items)) }
     {
         let mut gathered = Vec::new(alloc);
         budget.charge(self.mentions_of_all());
