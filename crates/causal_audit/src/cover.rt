@@ -143,6 +143,8 @@ pub fn uncovered_until(
     ensures { HasNoOrphanFrom run.now.trace.now.recording f k result end }
 {
     let entries = run.trace.entries();
+    // An orphan survives, so never all processes are in its crash set.
+    let most = f.min(run.trace.processes() - 1);
     let mut t = first_of(mentions, k);
     let mut ahead = Cursor::at(mentions, t);
     let mut turns = run.turns.from(t);
@@ -154,7 +156,7 @@ pub fn uncovered_until(
     while t < end {
         let mention = ahead.next(t, end);
         let change = turns.next_restart(run.trace, cover.gone(), t, mention, budget);
-        until = cover.uncovered_until(f, k, det.dest.0, spread, change, until);
+        until = cover.uncovered_until(most, k, det.dest.0, spread, change, until);
         if change == end {
             return until;
         }
@@ -164,9 +166,9 @@ pub fn uncovered_until(
         }
         cover.see(turns.down(), entry, det, mention == change);
         t = change + 1;
-        if run.lasting_from <= t && cover.gone().len() > u32::from(f) {
+        if run.lasting_from <= t && cover.gone().len() > u32::from(most) {
             return until;
         }
     }
-    cover.uncovered_until(f, k, det.dest.0, spread, end, until)
+    cover.uncovered_until(most, k, det.dest.0, spread, end, until)
 }

@@ -13,6 +13,7 @@ use crate::breach::{Breach, Surveyed, earlier};
 use crate::budget::Budget;
 use crate::changes::Changes;
 use crate::cover::Outline;
+use crate::lists::least_in;
 use crate::mentions::Mentions;
 use crate::orphans::first_orphan;
 use crate::reach::firsts_of;
@@ -23,6 +24,9 @@ use std::alloc::Global;
 
 /// How many deliveries are followed by one walk over the entries.
 const GROUP: usize = 256;
+
+/// How many entries of a walk are one step.
+const WALKED: u32 = 8;
 
 /// What is read of a recorded run to follow the messages of a delivery: the trace, a position from which on no entry
 /// releases a process, who is down after each crash and restart, and what mentions each determinant.
@@ -62,6 +66,15 @@ fn last_of(windows: &[Window], end: u32) -> u32
         last = last.max(window.until.min(end));
     }
     last
+}
+
+/// How many numbers these lists have in all.
+fn listed_in_all(lists: &[Vec<u32>]) -> usize {
+    let mut all = 0_usize;
+    for list in lists {
+        all = all.saturating_add(list.len());
+    }
+    all
 }
 
 impl Scan<'_> {
@@ -135,8 +148,8 @@ impl Scan<'_> {
         least
     }
 
-    /// The same, by one walk over the entries up to the last instant at which one of them may have an orphan. It takes 32 bytes
-    /// for each entry of the run, and what each delivery newly reaches.
+    /// The same, by one walk over the entries, from the first of them up to the last instant at which one may have an orphan. It
+    /// takes 32 bytes for each entry of the run, and what each delivery newly reaches.
     fn least_in_group(
         &self,
         alloc: Global,
@@ -155,17 +168,21 @@ impl Scan<'_> {
         let positions = positions_in(alloc, group)?;
         let last = last_of(group, end);
         let lists = firsts_of(alloc, self.trace, last, positions.as_slice())?;
+        let walked = last - least_in(positions.as_slice(), last);
+        budget.charge((walked / WALKED) as usize);
+        budget.charge(listed_in_all(lists.as_slice()));
         Ok(self.least_of(f, end, last, group, lists.as_slice(), budget))
     }
 
     /// The least breach, by instant and then by position, of the deliveries of these windows, if it comes by the instant `end`;
     /// None where none of them has an orphan by then. Where the steps do not suffice nothing is told.
     ///
-    /// They are followed in groups of 256: for each the entries are walked once, up to the last instant at which one of the group
-    /// may have an orphan, or to a breach that was found, a few instructions each. Beside that each delivery takes time as what
-    /// changes for it until then: as the mentions of its determinant, the entries by which it newly reaches a process, and the
-    /// restarts that are looked at. The last take steps; the others are the caller's to count. For one group at a time it takes
-    /// 32 bytes for each entry of the run and four for each entry by which one newly reaches a process.
+    /// They are followed in groups of 256: for each the entries are walked once, from the first of the group up to the last
+    /// instant at which one of it may have an orphan, or to a breach that was found. Eight entries of a walk take a step, and so
+    /// does each entry by which one of the group newly reaches a process. Then each delivery takes time as what changes for it
+    /// until it has no orphan any more: as those entries, the restarts that are looked at, which take steps, and the mentions of
+    /// its determinant, which are the caller's to count. For one group at a time it takes 32 bytes for each entry of the run and
+    /// four for each entry by which one newly reaches a process.
     ///
     /// # Errors
     /// `NoMemory` where memory was refused.
