@@ -1,6 +1,6 @@
 -- The process of each entry, and how long a delivery stays with it.
-use Rattle.std.proofs.Common.{ℕ, ◌≡◌, ◌+◌, ◌<◌, ◌≤◌, inl, inr, List, [], ◌∷◌, ◌++◌, length, get_or, Option, Some, None, refl, sym, ap, subst, ◌∙◌, arith, length-append}
-use Rattle.std.specs.Prelude.{◌⊎◌, ◌==◌}
+use Rattle.std.proofs.Common.{ℕ, ◌≡◌, ◌<◌, ◌≤◌, inl, inr, List, [], ◌∷◌, length, get_or, Some, None, refl, sym, ap, ◌∙◌, arith, length-append}
+use Rattle.std.specs.Prelude.{◌==◌}
 use Rattle.std.proofs.Math.ListN.{get_or-append}
 use Rattle.std.proofs.Math.Seq.{get_or-append_seam}
 use Rattle.std.proofs.lemmas.Bool.{cond-true, cond-false}
@@ -9,7 +9,7 @@ use Rattle.causal_trace.specs.declared.entry.Entry.{Entry}
 use Rattle.causal_trace.specs.declared.entry.Entry.TheVariants.{Send, Deliver, Stable, Crash, Restart, Forget}
 use Rattle.causal_trace.specs.Past.{entry_at}
 use Rattle.causal_trace.specs.Rows.{AreAccepted}
-use Rattle.causal_trace.specs.Dependence.{actor, IsEventOf, Reaches}
+use Rattle.causal_trace.specs.Dependence.{actor, IsEventOf}
 use Rattle.causal_trace.proofs.Lemmas.Reached.{event_below}
 use Rattle.causal_clock.specs.declared.Event.{Event}
 use Rattle.causal_clock.specs.Timeline.{lane_of}

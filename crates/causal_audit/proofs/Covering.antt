@@ -1,6 +1,6 @@
 -- A walk over the entries that may change who is down or holds a determinant, and what it tells of a delivery's orphans.
-use Rattle.std.proofs.Common.{ℕ, ◌≡◌, ◌<◌, ◌≤◌, inl, inr, Bool, true, false, List, length, Some, refl, sym, ap, ◌∙◌, arith}
-use Rattle.std.specs.Prelude.{◌↔◌, ◌||◌, ◌==◌, Contains}
+use Rattle.std.proofs.Common.{ℕ, zero, suc, ◌≡◌, ◌<◌, ◌≤◌, ◌-◌, inl, inr, Bool, true, false, List, length, Some, refl, sym, ap, ◌∙◌, arith}
+use Rattle.std.specs.Prelude.{◌↔◌, ◌||◌, ◌==◌, Contains, if◌then◌else◌, min}
 use Rattle.std.specs.Ordering.{nat_cmp}
 use Rattle.std.specs.Cmp.{nat_cmp_total}
 use Rattle.std.specs.FinSet.{FinSet, contains, union, difference, len, contains-union}
@@ -8,7 +8,7 @@ use Rattle.std.proofs.lemmas.Bool.{cases_lt, or_cases, or_right, false≢true, e
 use Rattle.std.proofs.lemmas.Bool.Decides.{eqb_tells}
 use Rattle.causal_name.specs.declared.Det.{Det}
 use Rattle.causal_name.specs.Sets.{count_below}
-use Rattle.causal_holders.proofs.Lemmas.Counting.{count_below-within, members_counted}
+use Rattle.causal_holders.proofs.Lemmas.Counting.{count_below-le, count_below-within, members_counted}
 use Rattle.causal_trace.specs.declared.entry.Entry.{Entry}
 use Rattle.causal_trace.specs.Past.{instant, entry_at, det_at, has, is_down, logs}
 use Rattle.causal_trace.specs.Rows.{AreAccepted}
@@ -24,6 +24,32 @@ use Rattle.causal_trace.proofs.Lemmas.AtInstants.{accepted_then}
 use Rattle.causal_audit.proofs.Shown.{down_inside, logs_inside}
 use Rattle.causal_audit.proofs.Spreading.{covered}
 use Rattle.causal_audit.proofs.Staying.{difference_shown, gone_stay, holders_stay}
+
+-- ---- an orphan survives
+
+-- one that is out of a set leaves one fewer for it
+all_but : (n : ℕ) (set : ℕ → Bool) (p : ℕ) → p < n → set p ≡ false → count_below n set < n
+all_but zero set p low out = absurd (omega (arith, low))
+all_but (suc n) set p low out =
+    elim (cases_lt p n) [
+      | inl below ↦ omega (arith, all_but n set p below out, one (set n))
+      | inr above ↦
+          let is : set n ≡ false = ap set (omega (arith, low, above)) ∙ out in
+          omega (arith, count_below-le n set, ap {B = ℕ} (λ b. if b then 1 else 0) is)
+    ]
+  where
+    one : (b : Bool) → (if b then 1 else 0) ≤ 1
+    one true = omega arith
+    one false = omega arith
+
+-- so at most all processes but one are in its crash set
+pub of_most : (n f most : ℕ) (past : List Entry) (k : ℕ) → most ≡ min f (n - 1) → HasOrphan n f past k → HasOrphan n most past k
+of_most n f most past k is has = record {
+  crash = has.crash;
+  orphan = has.orphan;
+  may_crash = record { down = has.may_crash.down; few = omega (arith, is, has.may_crash.few, all_but n has.crash has.orphan has.is_orphan.process has.is_orphan.survives) };
+  is_orphan = has.is_orphan;
+}
 
 -- ---- those who are down or hold a determinant, as a set
 
@@ -116,12 +142,19 @@ module _ (n f : ℕ) (past : List Entry) (formed : AreAccepted n past) (k : ℕ)
             ]
           ])
 
-      pub none_until : ((u : ℕ) → u < t → HasOrphan n f (instant past u) k → ⊥) → (u : ℕ) → u ≤ next → HasOrphan n f (instant past u) k → ⊥
-      none_until before u low has =
+      pub none_until : (until : ℕ) → ((u : ℕ) → until ≤ u → u < t → HasOrphan n f (instant past u) k → ⊥) → (u : ℕ) → until ≤ u → u ≤ next → HasOrphan n f (instant past u) k → ⊥
+      none_until until before u from low has =
           elim (cases_lt u t) [
-            | inl early ↦ before u early has
+            | inl early ↦ before u from early has
             | inr late ↦ none_between u late low has
           ]
+
+    -- what is noted of the stretch up to `next`: that it is covered, or an instant past it
+    pub none_from : (spread : ℕ) → StaysUntil past k spread → (until noted : ℕ) → (noted ≤ next → (noted ≡ until) × LastsUntil f k d.dest.0 spread next (union down holders))
+        → ((u : ℕ) → until ≤ u → u < t → HasOrphan n f (instant past u) k → ⊥) → (u : ℕ) → noted ≤ u → u ≤ next → HasOrphan n f (instant past u) k → ⊥
+    none_from spread stays until noted told before u from low =
+        let same = told (omega (arith, from, low)) in
+        none_until spread stays same.1 until before u (omega (arith, from, same.0)) low
 
 -- where nothing is left to come nothing mentions it
 pub none_mention : (past : List Entry) (d : Det) (mentions : List ℕ) → HasMentions past d mentions → (t next last : ℕ) → next ≤ last → HasNoneUntil mentions t last → MentionsNone past d t next

@@ -46,3 +46,4 @@ mod Turned
 mod Uncovered
 mod VerdictLemmas
 mod Walked
+mod Windowed

@@ -1,5 +1,5 @@
 -- The first event of each lane that a delivery reaches, with one entry more.
-use Rattle.std.proofs.Common.{ℕ, ◌≡◌, ◌+◌, ◌++◌, ◌<◌, inl, inr, Bool, true, false, List, [], ◌∷◌, length, Some, refl, sym, subst, ◌∙◌, arith}
+use Rattle.std.proofs.Common.{ℕ, ◌≡◌, ◌+◌, ◌++◌, ◌<◌, ◌≤◌, inl, inr, Bool, true, false, List, [], ◌∷◌, length, Some, refl, sym, subst, ◌∙◌, arith}
 use Rattle.std.specs.Prelude.{Contains}
 use Rattle.std.specs.Ordering.{nat_cmp}
 use Rattle.std.specs.FinSet.{FinSet, contains}
@@ -9,7 +9,7 @@ use Rattle.std.specs.List.{All}
 use Rattle.std.proofs.lemmas.List.Elements.{All-get_or, Contains-append_left, Contains-push, Contains-push_cases}
 use Rattle.causal_trace.specs.declared.entry.Entry.{Entry}
 use Rattle.causal_trace.specs.Past.{instant, lane}
-use Rattle.causal_trace.specs.Rows.{Recording, IsWellFormed}
+use Rattle.causal_trace.specs.Rows.{Recording, AreAccepted, IsWellFormed}
 use Rattle.causal_trace.specs.Dependence.{actor, IsEventOf, Reaches, Depends}
 use Rattle.causal_trace.proofs.Lemmas.AtInstants.{instant_length}
 use Rattle.causal_trace.proofs.Lemmas.Reached.{event_below}
@@ -17,6 +17,7 @@ use Rattle.causal_audit.specs.Inside.Filed.{list_at}
 use Rattle.causal_audit.specs.Inside.Reaching.{AreFirstsUntil, HaveAdded, IsNewly}
 use Rattle.causal_audit.proofs.Changed.{event_then}
 use Rattle.causal_audit.proofs.Filings.{ascends_push, ascends_weaker}
+use Rattle.causal_audit.proofs.Spreading.{reach_later}
 use Rattle.causal_audit.proofs.Walked.{reaches_then, reaches_whole, event_whole}
 
 -- each of empty lists is empty
@@ -27,12 +28,12 @@ all_empty lists empty j =
       | inr beyond ↦ get_or-eq_default lists [] beyond
     ]
 
--- before any entry there are none
-pub firsts_none : (past : List Entry) (k : ℕ) → AreFirstsUntil past k 0 []
-firsts_none past k = record {
+-- before the delivery there are none
+pub firsts_none : (n : ℕ) (past : List Entry) (k t : ℕ) → AreAccepted n past → t ≤ k → AreFirstsUntil past k t []
+firsts_none n past k t formed early = record {
   ascends = record { ascending = λ i j d low high. absurd (omega (arith, high)); below = λ i d low. absurd (omega (arith, low)) };
   reached = λ v listed. absurd (omega (arith, listed.1));
-  first = λ v p l low. absurd (omega (arith, low));
+  first = λ v p l low at to. absurd (omega (arith, low, early, reach_later n past formed k v to));
 }
 
 module _ (r : Recording) (formed : IsWellFormed r) (t : ℕ) (x : Entry) (below : t < length r.past) (next : instant r.past (t + 1) ≡ x ∷ instant r.past t) (k : ℕ) where

@@ -16,7 +16,7 @@ use Rattle.causal_trace.specs.Past.{det_at, is_down, lane}
 use Rattle.causal_trace.specs.Rows.{AreAccepted}
 use Rattle.causal_trace.specs.Dependence.{actor, IsEventOf, Reaches, Depends}
 use Rattle.causal_trace.proofs.Lemmas.Accepted.{accepted_forward, delivers_sent, delivers_up}
-use Rattle.causal_trace.proofs.Lemmas.Reached.{event_below, reaches_old, depends_restarted}
+use Rattle.causal_trace.proofs.Lemmas.Reached.{event_below, reaches_begins, reaches_old, depends_restarted}
 use Rattle.causal_audit.specs.declared.reach.Reach.{Reach}
 use Rattle.causal_audit.specs.Inside.Filed.{list_at, with_added}
 use Rattle.causal_audit.specs.Inside.Reaching.{AreOwnRows, HaveAdded, IsNewly, IsReach, SeesReach, row}
@@ -315,12 +315,19 @@ own_more positions rows i k is inside own v j =
     or_old true b h = refl
     or_old false b h = h
 
--- before any entry was read
-pub begun : (positions : List ℕ) (j : ℕ) (reached present : Sets) → j < length positions → AreOwnRows positions (length positions) reached → ((p : ℕ) → row present p ≡ empty) → Told [] (get_or positions j 0) j reached present
-begun positions j reached present low own none = record {
-  behind = λ v p l at. absurd at;
+-- before the delivery was made
+pub begun : (past : List Entry) (positions : List ℕ) (j : ℕ) (reached present : Sets) → j < length positions → length past ≤ get_or positions j 0 → AreOwnRows positions (length positions) reached → ((p : ℕ) → row present p ≡ empty)
+    → Told past (get_or positions j 0) j reached present
+begun past positions j reached present low early own none = record {
+  behind = λ v p l at. (
+    λ h. absurd (omega (arith, early, event_below past v p l at, ((own v j).0 h).1)),
+    λ reach. absurd (omega (arith, early, reaches_begins past (get_or positions j 0) v reach)),
+  );
   ahead = λ v above. (λ h. sym ((own v j).0 h).1, λ is. (own v j).1 (low, sym is));
-  depends = λ p. (λ h. absurd (none_in j (ap (λ s. contains s j) (sym (none p)) ∙ h)), λ d. absurd d.present);
+  depends = λ p. (
+    λ h. absurd (none_in j (ap (λ s. contains s j) (sym (none p)) ∙ h)),
+    λ d. absurd (omega (arith, early, reaches_begins past (get_or positions j 0) d.event d.reached)),
+  );
 }
 
 -- ---- places taken out of a set one by one

@@ -30,7 +30,8 @@ use Rattle.causal_audit.proofs.Walked.{reaches_whole, event_whole}
 abbrev Left : List Entry → ℕ → ℕ → ℕ → ℕ → Type 0
 Left past i p l v = (s : ℕ) × (j : ℕ) × (i ≤ s) × IsEventOf past s p l × Delivers past j s × (j ≤ v)
 
-reach_later : (n : ℕ) (past : List Entry) → AreAccepted n past → (i j : ℕ) → Reaches past i j → i ≤ j
+-- what an event reaches is no earlier
+pub reach_later : (n : ℕ) (past : List Entry) → AreAccepted n past → (i j : ℕ) → Reaches past i j → i ≤ j
 reach_later n past formed i j (itself p l at) = omega arith
 reach_later n past formed i k (onward {j} r (in_order p l less a b)) = omega (arith, reach_later n past formed i j r, less)
 reach_later n past formed i k (onward {j} r (by_message h)) = omega (arith, reach_later n past formed i j r, accepted_forward n past formed k j h)

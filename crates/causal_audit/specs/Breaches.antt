@@ -102,6 +102,10 @@ Decides excess breach verdict =
 abbrev pub HasNoOrphanBy : Recording → ℕ → ℕ → ℕ → Type 0
 HasNoOrphanBy r f k end = (u : ℕ) → u ≤ end → HasOrphan r.processes f (instant r.past u) k → ⊥
 
+-- nor has it one from the instant `from` on
+abbrev pub HasNoOrphanFrom : Recording → ℕ → ℕ → ℕ → ℕ → Type 0
+HasNoOrphanFrom r f k from end = (u : ℕ) → from ≤ u → u ≤ end → HasOrphan r.processes f (instant r.past u) k → ⊥
+
 -- what a survey tells is the least breach of all deliveries by the instant `end`; of a run with too many deliveries to look
 -- at nothing is known
 abbrev pub IsSurveyed : Recording → ℕ → ℕ → Surveyed → Type 0

@@ -1,11 +1,12 @@
-//! The deliveries that are covered throughout: they have no orphan, whoever depends on them.
+//! Until when a delivery may be uncovered: while it is covered it has no orphan, whoever depends on it.
 ghost use Rattle.std.specs.Prelude.{◌≡◌, ◌≤◌, ◌<◌, ◌∷◌, true, false, List, length, Some};
 ghost use Rattle.std.specs.FinSet as set;
 ghost use Rattle.std.specs.List.Sorted.{IsNonDecreasing};
 ghost use Rattle.causal_name.specs.declared.Det.{Det};
 ghost use Rattle.causal_trace.specs.declared.entry.Entry.{Entry};
+ghost use Rattle.causal_trace.specs.Limits.{max_entries};
 ghost use Rattle.causal_trace.specs.Past.{det_at, has, is_stable, logs};
-ghost use Rattle.causal_audit.specs.Breaches.{HasNoOrphanBy};
+ghost use Rattle.causal_audit.specs.Breaches.{HasNoOrphanFrom};
 ghost use Rattle.causal_audit.specs.Inside.Ahead.{HasNoneUntil};
 ghost use Rattle.causal_audit.specs.Inside.Changes.{AreMentionsOf, HasMentions};
 ghost use Rattle.causal_audit.specs.Inside.Kept.{AreTurnsKept};
@@ -73,6 +74,27 @@ impl Cover {
         next <= spread && gone.contains(receiver)
     }
 
+    /// An instant from which on the delivery is covered up to `next`, if it is so from `until` on as far as was looked at: the
+    /// same while these cover it up to `next`, and else the one after that.
+    fn uncovered_until(
+        self,
+        f: u16,
+        k: u32,
+        receiver: u8,
+        spread: u32,
+        next: u32,
+        until: u32,
+    ) -> u32
+        requires { next ≤ max_entries }
+        ensures { result ≤ next →
+            (result ≡ until) × LastsUntil f k receiver spread next (set.union self.down self.holders) }
+    {
+        if self.lasts(f, k, receiver, spread, next) {
+            return until;
+        }
+        next + 1
+    }
+
     /// Takes in one more entry, which mentions the determinant or does not, where these are down before it: a holder that is
     /// down has crashed since, and holds it no longer.
     fn see(&mut self, down: Holders, entry: &Entry, det: Det, mentioned: bool)
@@ -97,10 +119,10 @@ fn first_of(list: &[u32], end: u32) -> u32
     }
 }
 
-/// Whether the delivery at k, whose determinant this is, is covered at each instant up to `end`. Those who are down or hold the
-/// determinant are still so until an entry mentions it or restarts one of them: only there they are looked at again. Where it is
-/// not covered, it may have an orphan. Each restart that is looked at takes a step.
-pub fn is_covered(
+/// An instant from which on the delivery at k, whose determinant this is, is covered up to `end`; 0 where it is covered
+/// throughout. Those who are down or hold the determinant are still so until an entry mentions it or restarts one of them: only
+/// there they are looked at again. Before that instant it may have an orphan. Each restart that is looked at takes a step.
+pub fn uncovered_until(
     run: &Outline<'_>,
     mentions: &[u32],
     spread: u32,
@@ -109,7 +131,7 @@ pub fn is_covered(
     k: u32,
     det: Det,
     budget: &mut Budget,
-) -> bool
+) -> u32
     requires within { end ≤ length run.now.trace.now.recording.past }
     requires lasting { NoneReleasedFrom run.now.trace.now.recording.past run.now.lasting_from }
     requires turns { AreTurnsKept run.now.trace.now.recording.past run.now.turns.now }
@@ -118,9 +140,11 @@ pub fn is_covered(
     requires mentioned { HasMentions run.now.trace.now.recording.past det mentions.now }
     requires only { AreMentionsOf run.now.trace.now.recording.past det mentions.now }
     requires stays { StaysUntil run.now.trace.now.recording.past k spread }
-    ensures { result ≡ true → HasNoOrphanBy run.now.trace.now.recording f k end }
+    ensures { HasNoOrphanFrom run.now.trace.now.recording f k result end }
 {
     let entries = run.trace.entries();
+    // An orphan survives, so never all processes are in its crash set.
+    let most = f.min(run.trace.processes() - 1);
     let mut t = first_of(mentions, k);
     let mut ahead = Cursor::at(mentions, t);
     let mut turns = run.turns.from(t);
@@ -128,24 +152,23 @@ pub fn is_covered(
         down: turns.down(),
         holders: Holders::none(),
     };
+    let mut until = 0;
     while t < end {
         let mention = ahead.next(t, end);
         let change = turns.next_restart(run.trace, cover.gone(), t, mention, budget);
-        if !cover.lasts(f, k, det.dest.0, spread, change) {
-            return false;
-        }
+        until = cover.uncovered_until(most, k, det.dest.0, spread, change, until);
         if change == end {
-            return true;
+            return until;
         }
         let entry = &entries[change as usize];
         if is_written(entry, det) {
-            return true;
+            return until;
         }
         cover.see(turns.down(), entry, det, mention == change);
         t = change + 1;
-        if run.lasting_from <= t && cover.gone().len() > u32::from(f) {
-            return true;
+        if run.lasting_from <= t && cover.gone().len() > u32::from(most) {
+            return until;
         }
     }
-    cover.lasts(f, k, det.dest.0, spread, end)
+    cover.uncovered_until(most, k, det.dest.0, spread, end, until)
 }

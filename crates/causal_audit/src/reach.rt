@@ -1,12 +1,13 @@
 //! Which of a few deliveries reach the entries of a run, and on which of them its processes depend, all by one walk.
-ghost use Rattle.std.specs.Prelude.{◌≡◌, ◌<◌, ◌≤◌, ℕ, [], IfOk, OnOk, length, slice_index, true, vec_len};
+ghost use Rattle.std.specs.Prelude.{◌≡◌, ◌<◌, ◌≤◌, ℕ, List, IfOk, OnOk, length, slice_index, true, vec_len};
 ghost use Rattle.std.specs.FinSet as set;
 ghost use Rattle.std.specs.List.{All};
+ghost use Rattle.causal_trace.specs.declared.entry.Entry.{Entry};
 ghost use Rattle.causal_trace.specs.Dependence.{is_delivery_of};
 ghost use Rattle.causal_audit.specs.Inside.Filed.{lists_in};
 ghost use Rattle.causal_audit.specs.Inside.Reaching.{AreOwnRows, HasRows, HaveAdded, HaveFirstsUntil, IsReach, SeesReach, row};
 
-use crate::lists::{add_to, empty_lists};
+use crate::lists::{add_to, empty_lists, least_in};
 use causal_holders::Holders;
 use causal_name::NoMemory;
 use causal_trace::entry::Entry;
@@ -60,13 +61,14 @@ fn add_to_each(lists: &mut Vec<Vec<u32>>, places: Holders, position: u32) -> Res
 }
 
 impl Reach {
-    /// Where no entry was read of a run of so many, for the deliveries at these positions.
+    /// Where no entry was read of a run of so many, for the deliveries at these positions; so it is too after the entries before
+    /// the first of them, none of which they reach.
     pub fn begin(alloc: Global, entries: u32, positions: &[u32]) -> Result<Reach, NoMemory>
         requires few { length positions.now ≤ 256 }
         requires inside { All (λ k. k < entries) positions.now }
         ensures rows { IfOk result (HasRows entries) }
-        ensures begins { IfOk result (λ reach. (j : ℕ) → j < length positions.now →
-            IsReach [] (slice_index positions.now j) j reach) }
+        ensures begins { IfOk result (λ reach. (past : List Entry) (j : ℕ) → j < length positions.now →
+            length past ≤ slice_index positions.now j → IsReach past (slice_index positions.now j) j reach) }
     {
         let mut reached = vec![in alloc; Holders::none(); entries as usize]?;
         mark_own(&mut reached, positions);
@@ -111,7 +113,7 @@ impl Reach {
 }
 
 /// For each of these deliveries, by its place, the entries below `end` by which it newly reaches a process. It reads each
-/// entry once.
+/// entry from the first of the deliveries on once.
 ///
 /// # Errors
 /// `NoMemory` where memory was refused.
@@ -132,7 +134,8 @@ pub fn firsts_of(
     let entries = trace.entries();
     let mut reach = Reach::begin(alloc, len, positions)?;
     let mut lists = empty_lists(alloc, positions.len() as u32)?;
-    for t in 0..end {
+    let start = least_in(positions, end);
+    for t in start..end {
         let newly = reach.see(&entries[t as usize], t, len);
         add_to_each(&mut lists, newly, t)?;
     }

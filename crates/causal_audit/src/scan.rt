@@ -1,5 +1,5 @@
-//! The least breach of the deliveries at given positions, by following their messages: no clock is read.
-ghost use Rattle.std.specs.Prelude.{◌≡◌, ◌≤◌, ◌<◌, IfOk, length, Some};
+//! The least breach of given deliveries, by following their messages: no clock is read.
+ghost use Rattle.std.specs.Prelude.{◌≡◌, ◌≤◌, ◌<◌, IfOk, length, min, Some};
 ghost use Rattle.std.specs.List.{All};
 ghost use Rattle.causal_name.specs.declared.Det.{Det};
 ghost use Rattle.causal_trace.specs.Past.{det_at};
@@ -7,12 +7,13 @@ ghost use Rattle.causal_audit.specs.Breaches.{FirstBreachBy, LeastAmongBy};
 ghost use Rattle.causal_audit.specs.Inside.Filed.{lists_in};
 ghost use Rattle.causal_audit.specs.Inside.Followed.{AreFirstsBelow};
 ghost use Rattle.causal_audit.specs.Inside.Reaching.{HaveFirstsUntil};
-ghost use Rattle.causal_audit.specs.Inside.Scans.{AreThoseBelow, IsScan, IsToldAmong};
+ghost use Rattle.causal_audit.specs.Inside.Scans.{IsScan, IsToldAmong, IsWindow, positions_of};
 
 use crate::breach::{Breach, Surveyed, earlier};
 use crate::budget::Budget;
 use crate::changes::Changes;
 use crate::cover::Outline;
+use crate::lists::least_in;
 use crate::mentions::Mentions;
 use crate::orphans::first_orphan;
 use crate::reach::firsts_of;
@@ -24,6 +25,9 @@ use std::alloc::Global;
 /// How many deliveries are followed by one walk over the entries.
 const GROUP: usize = 256;
 
+/// How many entries of a walk are one step.
+const WALKED: u32 = 8;
+
 /// What is read of a recorded run to follow the messages of a delivery: the trace, a position from which on no entry
 /// releases a process, who is down after each crash and restart, and what mentions each determinant.
 #[derive(Clone, Copy)]
@@ -34,36 +38,64 @@ pub struct Scan<'a> {
     pub mentions: &'a Mentions,
 }
 
-/// Those of the positions that are below `end`.
-fn those_below(alloc: Global, positions: &[u32], end: u32) -> Result<Vec<u32>, NoMemory>
-    ensures { IfOk result (λ kept. AreThoseBelow positions.now end kept.items) }
+/// A delivery that is to be followed: the position of its entry, and an instant from which on it has no orphan any more.
+#[derive(Clone, Copy)]
+pub struct Window {
+    pub position: u32,
+    pub until: u32,
+}
+
+/// The positions of these deliveries.
+fn positions_in(alloc: Global, windows: &[Window]) -> Result<Vec<u32>, NoMemory>
+    ensures { IfOk result (λ list. list.items ≡ positions_of windows.now) }
 {
-    let mut kept = Vec::new(alloc);
-    for position in positions {
-        if *position < end {
-            kept.push(*position)?;
-        }
+    let mut list = Vec::with_capacity(alloc, windows.len())?;
+    for window in windows {
+        list.push(window.position)?;
     }
-    Ok(kept)
+    Ok(list)
+}
+
+/// An instant after which none of these deliveries has an orphan, or `end` if that comes first.
+fn last_of(windows: &[Window], end: u32) -> u32
+    ensures bound { result ≤ end }
+    ensures last { All (λ window. min window.until end ≤ result) windows.now }
+{
+    let mut last = 0;
+    for window in windows {
+        last = last.max(window.until.min(end));
+    }
+    last
+}
+
+/// How many numbers these lists have in all.
+fn listed_in_all(lists: &[Vec<u32>]) -> usize {
+    let mut all = 0_usize;
+    for list in lists {
+        all = all.saturating_add(list.len());
+    }
+    all
 }
 
 impl Scan<'_> {
-    /// How the delivery at position k, if there is one, first has an orphan, if it has one by the instant `end`. It newly
-    /// reaches a process by the firsts.
-    fn first_breach_at(
+    /// How the delivery of a window, if there is one at its position, first has an orphan, if it has one by the instant `end`. It
+    /// newly reaches a process by the firsts. No instant is looked at from which on it has none any more.
+    fn first_breach_in(
         &self,
         f: u16,
         end: u32,
-        k: u32,
+        window: Window,
         firsts: &[u32],
         budget: &mut Budget,
     ) -> Option<Breach>
         requires within { end ≤ length self.now.trace.now.recording.past }
         requires scan { IsScan self.now }
-        requires firsts { (d : Det) → det_at self.now.trace.now.recording.past k ≡ Some d →
-            AreFirstsBelow self.now.trace.now.recording.past k end firsts.now }
-        ensures { FirstBreachBy self.now.trace.now.recording f end k result }
+        requires window { IsWindow self.now.trace.now.recording f end window }
+        requires firsts { (d : Det) → det_at self.now.trace.now.recording.past window.position ≡ Some d →
+            AreFirstsBelow self.now.trace.now.recording.past window.position (min window.until end) firsts.now }
+        ensures { FirstBreachBy self.now.trace.now.recording f end window.position result }
     {
+        let k = window.position;
         if end <= k {
             return None;
         }
@@ -79,30 +111,36 @@ impl Scan<'_> {
             mentions: self.mentions.list(det),
             firsts,
         };
-        first_orphan(&run, &changes, f, end, k, det, budget)
+        let last = window.until.min(end);
+        first_orphan(&run, &changes, f, last, k, det, budget)
     }
 
     /// The least breach of the deliveries of a group, if it comes by the instant `end`, where the lists tell by which entries
-    /// each newly reaches a process. No instant is looked at that is later than a breach that was found.
+    /// before `last` each newly reaches a process. No instant is looked at that is later than a breach that was found.
     fn least_of(
         &self,
         f: u16,
         end: u32,
-        group: &[u32],
+        last: u32,
+        group: &[Window],
         lists: &[Vec<u32>],
         budget: &mut Budget,
     ) -> Option<Breach>
         requires within { end ≤ length self.now.trace.now.recording.past }
         requires scan { IsScan self.now }
+        requires windows { All (IsWindow self.now.trace.now.recording f end) group.now }
+        requires last { All (λ window. min window.until end ≤ last) group.now }
         requires count { length lists.now ≡ length group.now }
-        requires firsts { HaveFirstsUntil self.now.trace.now.recording.past group.now end (lists_in lists.now) }
-        ensures { LeastAmongBy self.now.trace.now.recording f end group.now result }
+        requires firsts { HaveFirstsUntil self.now.trace.now.recording.past (positions_of group.now) last
+            (lists_in lists.now) }
+        ensures { LeastAmongBy self.now.trace.now.recording f end (positions_of group.now) result }
     {
         let mut least = None;
         let mut until = end;
-        for (place, position) in group.iter().enumerate() {
+        for place in 0..group.len() {
+            let window = group[place];
             let firsts = lists[place].as_slice();
-            if let Some(found) = self.first_breach_at(f, until, *position, firsts, budget) {
+            if let Some(found) = self.first_breach_in(f, until, window, firsts, budget) {
                 until = found.instant;
                 least = earlier(least, Some(found));
             }
@@ -110,61 +148,40 @@ impl Scan<'_> {
         least
     }
 
-    /// The same, by one walk over the entries before `end`. It takes 32 bytes for each entry of the run, and what each delivery
-    /// newly reaches.
+    /// The same, by one walk over the entries, from the first of them up to the last instant at which one may have an orphan. It
+    /// takes 32 bytes for each entry of the run, and what each delivery newly reaches.
     fn least_in_group(
         &self,
         alloc: Global,
         f: u16,
         end: u32,
-        group: &[u32],
+        group: &[Window],
         budget: &mut Budget,
     ) -> Result<Option<Breach>, NoMemory>
         requires within { end ≤ length self.now.trace.now.recording.past }
         requires scan { IsScan self.now }
         requires few { length group.now ≤ 256 }
-        requires inside { All (λ k. k < length self.now.trace.now.recording.past) group.now }
-        ensures { IfOk result (LeastAmongBy self.now.trace.now.recording f end group.now) }
+        requires inside { All (λ window. window.position < length self.now.trace.now.recording.past) group.now }
+        requires windows { All (IsWindow self.now.trace.now.recording f end) group.now }
+        ensures { IfOk result (LeastAmongBy self.now.trace.now.recording f end (positions_of group.now)) }
     {
-        let lists = firsts_of(alloc, self.trace, end, group)?;
-        Ok(self.least_of(f, end, group, lists.as_slice(), budget))
+        let positions = positions_in(alloc, group)?;
+        let last = last_of(group, end);
+        let lists = firsts_of(alloc, self.trace, last, positions.as_slice())?;
+        let walked = last - least_in(positions.as_slice(), last);
+        budget.charge((walked / WALKED) as usize);
+        budget.charge(listed_in_all(lists.as_slice()));
+        Ok(self.least_of(f, end, last, group, lists.as_slice(), budget))
     }
 
-    /// The least breach of the deliveries at these positions, which are below `end`, by groups, as long as steps are left.
-    fn least_by_groups(
-        &self,
-        alloc: Global,
-        f: u16,
-        end: u32,
-        positions: &[u32],
-        budget: &mut Budget,
-    ) -> Result<Surveyed, NoMemory>
-        requires within { end ≤ length self.now.trace.now.recording.past }
-        requires scan { IsScan self.now }
-        requires below { All (λ k. k < end) positions.now }
-        ensures { IfOk result (IsToldAmong self.now.trace.now.recording f end positions.now) }
-    {
-        let mut least = None;
-        let mut until = end;
-        for group in positions.chunks(GROUP) {
-            if budget.is_spent() {
-                return Ok(Surveyed::TooMany);
-            }
-            if let Some(found) = self.least_in_group(alloc, f, until, group, budget)? {
-                until = found.instant;
-                least = earlier(least, Some(found));
-            }
-        }
-        Ok(Surveyed::Told(least))
-    }
-
-    /// The least breach, by instant and then by position, of the deliveries at these positions, if it comes by the instant
-    /// `end`; None where none of them has an orphan by then. Where the steps do not suffice nothing is told.
+    /// The least breach, by instant and then by position, of the deliveries of these windows, if it comes by the instant `end`;
+    /// None where none of them has an orphan by then. Where the steps do not suffice nothing is told.
     ///
-    /// The entries up to `end`, or to a breach that was found, are walked once for each 256 positions, a few instructions
-    /// each. Beside that each position takes time as what changes for its delivery: as the mentions of its determinant, the
-    /// entries by which it newly reaches a process, and the restarts that are looked at. The last take steps; the others are the
-    /// caller's to count. It takes four bytes for each position, and for one group at a time 32 for each entry of the run and
+    /// They are followed in groups of 256: for each the entries are walked once, from the first of the group up to the last
+    /// instant at which one of it may have an orphan, or to a breach that was found. Eight entries of a walk take a step, and so
+    /// does each entry by which one of the group newly reaches a process. Then each delivery takes time as what changes for it
+    /// until it has no orphan any more: as those entries, the restarts that are looked at, which take steps, and the mentions of
+    /// its determinant, which are the caller's to count. For one group at a time it takes 32 bytes for each entry of the run and
     /// four for each entry by which one newly reaches a process.
     ///
     /// # Errors
@@ -174,14 +191,26 @@ impl Scan<'_> {
         alloc: Global,
         f: u16,
         end: u32,
-        positions: &[u32],
+        windows: &[Window],
         budget: &mut Budget,
     ) -> Result<Surveyed, NoMemory>
         requires within { end ≤ length self.now.trace.now.recording.past }
         requires scan { IsScan self.now }
-        ensures { IfOk result (IsToldAmong self.now.trace.now.recording f end positions.now) }
+        requires below { All (λ window. window.position < end) windows.now }
+        requires windows { All (IsWindow self.now.trace.now.recording f end) windows.now }
+        ensures { IfOk result (IsToldAmong self.now.trace.now.recording f end (positions_of windows.now)) }
     {
-        let kept = those_below(alloc, positions, end)?;
-        self.least_by_groups(alloc, f, end, kept.as_slice(), budget)
+        let mut least = None;
+        let mut until = end;
+        for group in windows.chunks(GROUP) {
+            if budget.is_spent() {
+                return Ok(Surveyed::TooMany);
+            }
+            if let Some(found) = self.least_in_group(alloc, f, until, group, budget)? {
+                until = found.instant;
+                least = earlier(least, Some(found));
+            }
+        }
+        Ok(Surveyed::Told(least))
     }
 }

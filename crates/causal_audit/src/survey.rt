@@ -2,23 +2,20 @@
 //! clock.
 ghost use Rattle.std.specs.Prelude.{◌≡◌, ◌+◌, ◌≤◌, ◌<◌, IfOk, IfSome, OnOk, Some, length, true};
 ghost use Rattle.causal_trace.specs.Past.{det_at};
-ghost use Rattle.causal_audit.specs.Breaches.{HasNoOrphanBy, IsSurveyed};
+ghost use Rattle.causal_audit.specs.Breaches.{HasNoOrphanFrom, IsSurveyed};
 ghost use Rattle.causal_audit.specs.Inside.Surveys.{AreGathered, IsSurvey};
 
 use crate::breach::Surveyed;
 use crate::budget::Budget;
-use crate::cover::{Outline, is_covered};
+use crate::cover::{Outline, uncovered_until};
 use crate::mentions::{Mentions, mentions_in};
 use crate::releases::lasting_from;
-use crate::scan::Scan;
+use crate::scan::{Scan, Window};
 use crate::spreads::stays_of;
 use crate::turns::turns_of;
 use causal_name::{Det, NoMemory};
 use causal_trace::trace::Trace;
 use std::alloc::Global;
-
-/// How many entries of a walk are one step of each delivery in its group of 256: of all these eight entries are a step.
-const WALKED: u32 = 2048;
 
 /// What a survey of the deliveries reads: the outline of the run, what mentions each determinant, and how long each entry stays
 /// with its process; and for which f and up to which instant it asks.
@@ -45,15 +42,16 @@ impl Survey<'_> {
         all
     }
 
-    /// Whether the delivery at k, whose determinant this is, is seen to be covered at each instant up to the end.
-    fn covers(&self, k: u32, det: Det, budget: &mut Budget) -> bool
+    /// An instant from which on the delivery at k, whose determinant this is, is seen to be covered up to the end; 0 where it is
+    /// so throughout.
+    fn uncovered_until(&self, k: u32, det: Det, budget: &mut Budget) -> u32
         requires survey { IsSurvey self.now }
         requires delivery { det_at self.now.outline.trace.now.recording.past k ≡ Some det }
-        ensures { result ≡ true → HasNoOrphanBy self.now.outline.trace.now.recording self.now.f k self.now.end }
+        ensures { HasNoOrphanFrom self.now.outline.trace.now.recording self.now.f k result self.now.end }
     {
         let mentions = self.mentions.list(det);
         let stay = self.stays[k as usize];
-        is_covered(
+        uncovered_until(
             &self.outline,
             mentions,
             stay,
@@ -65,20 +63,14 @@ impl Survey<'_> {
         )
     }
 
-    /// How many steps it takes to follow a delivery with this determinant, in a group: one for each mention of it once more, one
-    /// for each process that the delivery may reach, and its part of the group's walk over the entries. So it is found before
-    /// the first is followed where the steps do not suffice.
-    fn steps_to_follow(&self, det: Det) -> usize
-        requires survey { IsSurvey self.now }
-    {
-        let mentions = self.mentions.list(det).len();
-        let processes = usize::from(self.outline.trace.processes());
-        let walk = self.end / WALKED;
-        mentions.saturating_add(processes + walk as usize)
-    }
-
-    /// Gathers the position k, if there is a delivery that is not seen to be covered, and takes the steps to follow it later.
-    fn gather(&self, k: u32, budget: &mut Budget, gathered: &mut Vec<u32>) -> Result<(), NoMemory>
+    /// Gathers the window of the delivery at position k, if there is one that is not seen to be covered throughout, and takes a
+    /// step for each mention of its determinant, which are passed once more when it is followed.
+    fn gather(
+        &self,
+        k: u32,
+        budget: &mut Budget,
+        gathered: &mut Vec<Window>,
+    ) -> Result<(), NoMemory>
         requires survey { IsSurvey self.now }
         ensures { OnOk result
             (AreGathered self.now k gathered.old.items → AreGathered self.now (k + 1) gathered.new.items) }
@@ -86,19 +78,20 @@ impl Survey<'_> {
         let Some(det) = self.outline.trace.det_at(k) else {
             return Ok(());
         };
-        if self.covers(k, det, budget) {
+        let until = self.uncovered_until(k, det, budget);
+        if until == 0 {
             return Ok(());
         }
-        gathered.push(k)?;
-        budget.charge(self.steps_to_follow(det));
+        gathered.push(Window { position: k, until })?;
+        budget.charge(self.mentions.list(det).len());
         Ok(())
     }
 
-    /// The positions of the deliveries before the end that are not seen to be covered, in order; None where the steps do not
-    /// suffice to look at all deliveries, which is mostly found before the first, or to follow those.
-    fn uncovered(&self, alloc: Global, budget: &mut Budget) -> Result<Option<Vec<u32>>, NoMemory>
+    /// The windows of the deliveries before the end that are not seen to be covered throughout, in order; None where the steps do
+    /// not suffice to look at all deliveries, which is mostly found before the first, or for the mentions of those.
+    fn uncovered(&self, alloc: Global, budget: &mut Budget) -> Result<Option<Vec<Window>>, NoMemory>
         requires survey { IsSurvey self.now }
-        ensures { IfOk result (λ found. IfSome found (λ positions. AreGathered self.now self.now.end positions.items)) }
+        ensures { IfOk result (λ found. IfSome found (λ windows. AreGathered self.now self.now.end windows.items)) }
     {
         let mut gathered = Vec::new(alloc);
         budget.charge(self.mentions_of_all());
@@ -135,11 +128,13 @@ impl Survey<'_> {
 /// suffice to look at all deliveries before it, and to follow those that are not seen to be covered throughout.
 ///
 /// It takes time and memory as the entries and the listed determinants; then at most 64 steps for each entry and one for each
-/// listed determinant. A look at a delivery takes one for each mention of its determinant, counted before the first look, and
-/// one for each restart of a process that was down or held the determinant. To follow it takes as many once more, one for each
-/// process, and one for each 2,048 entries, since each 256 that are followed take one walk over them. All but the restarts is
-/// counted before any is followed. Where many deliveries share a determinant that is mentioned often, or all of a run with many
-/// processes are followed, the steps may not suffice; then nothing is told.
+/// listed determinant, and what it takes to follow one group more. A look at a delivery takes one for each mention of its
+/// determinant, counted before the first look, and one for each restart of a process that was down or held the determinant. A
+/// delivery that is not covered throughout is followed up to the instant from which on it is. For that its mentions are counted
+/// once more when it is found, and each restart when it is looked at. The walk of a group of 256 takes a step for each eight
+/// entries, from the first of its deliveries up to the last of those instants, and one for each entry by which one of them newly
+/// reaches a process. Where many deliveries share a determinant that is mentioned often, or many stay uncovered in a run with
+/// many processes, the steps may not suffice; then nothing is told.
 ///
 /// # Errors
 /// `NoMemory` where memory was refused.

@@ -11,7 +11,7 @@ ghost use Rattle.causal_audit.specs.Numbers.{IsNumbered, ArePositions, ArePositi
 use crate::breach::Breach;
 use crate::budget::Budget;
 use crate::changes::Changes;
-use crate::cover::{Outline, is_covered};
+use crate::cover::{Outline, uncovered_until};
 use crate::events::clocks_of;
 use crate::lanes::{LANES, lanes_of, write_firsts};
 use crate::mentions::{Mentions, mentions_in};
@@ -138,7 +138,8 @@ impl Tables {
         let mentions = self.mentions.list(det);
         let spread = self.spreads[k as usize];
         let mut budget = Budget::endless();
-        if is_covered(&run, mentions, spread, f, end, k, det, &mut budget) {
+        let until = uncovered_until(&run, mentions, spread, f, end, k, det, &mut budget);
+        if until == 0 {
             return None;
         }
         let mut room = [0; LANES];
@@ -148,7 +149,8 @@ impl Tables {
             mentions,
             firsts: &*firsts,
         };
-        first_orphan(&run, &changes, f, end, k, det, &mut budget)
+        let last = until.min(end);
+        first_orphan(&run, &changes, f, last, k, det, &mut budget)
     }
 }
 

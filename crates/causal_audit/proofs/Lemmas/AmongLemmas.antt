@@ -1,6 +1,6 @@
 -- The least breach of the deliveries at given positions.
 use Rattle.std.proofs.Common.{ℕ, ◌≡◌, ◌<◌, ◌≤◌, inl, inr, Bool, true, false, List, [], ◌∷◌, ◌++◌, Option, Some, None, length, refl, sym, subst, arith}
-use Rattle.std.specs.Prelude.{◌⊎◌, Contains, if◌then◌else◌}
+use Rattle.std.specs.Prelude.{◌⊎◌, Contains, if◌then◌else◌, min}
 use Rattle.std.proofs.lemmas.Bool.{cases_lt}
 use Rattle.std.proofs.lemmas.Bool.Decides.{nat_tests}
 use Rattle.std.proofs.lemmas.List.Elements.{Contains-append_cases, Contains-append_left, Contains-append_right, Contains-push, Contains-push_cases}
@@ -10,13 +10,10 @@ use Rattle.causal_trace.specs.Rows.{Recording, AreAccepted}
 use Rattle.causal_trace.specs.Judgement.{HasOrphan}
 use Rattle.causal_audit.specs.declared.breach.Breach.{Breach}
 use Rattle.causal_audit.specs.Earlier.{comes_before, earlier}
-use Rattle.causal_audit.specs.Inside.Scans.{AreThoseBelow}
 use Rattle.causal_audit.specs.Numbers.{IsNumbered}
-use Rattle.causal_audit.specs.Breaches.{FirstBreachBy, IsFirstBreach, HasNoOrphanBy, IsLeastAmong, LeastAmongBy, LeastBreachBy, horizon}
+use Rattle.causal_audit.specs.Breaches.{FirstBreachBy, IsFirstBreach, HasNoOrphanBy, HasNoOrphanFrom, IsLeastAmong, LeastAmongBy, LeastBreachBy, horizon}
 use Rattle.causal_audit.proofs.Lemmas.LeastLemmas.{before_least, not_before_least}
 use Rattle.causal_audit.proofs.Newly.{numbered_some}
-use Rattle.causal_audit.proofs.Orphaned.{not_yet}
-use Rattle.causal_trace.proofs.Lemmas.AtInstants.{instant_length}
 use Rattle.causal_audit.proofs.Numbered.{has_number, numbered_later, numbered_below}
 
 module _ (r : Recording) (f : ℕ) where
@@ -141,26 +138,13 @@ module _ (r : Recording) (f : ℕ) where
       → LeastAmongBy r f end (positions ++ k ∷ []) one
   among_same end until positions k one reach so_far next = joined_same end until positions (k ∷ []) one reach so_far (among_one until k None next)
 
-  -- the deliveries that are made later have no orphan by the end
-  pub among_below : (end : ℕ) (positions kept : List ℕ) (found : Option Breach) → end ≤ length r.past → AreThoseBelow positions end kept → LeastAmongBy r f end kept found → LeastAmongBy r f end positions found
-  among_below end positions kept None within those none = λ k t listed low has. elim (cases_lt k end) [
-    | inl early ↦ none k t (those.each k listed early) low has
-    | inr late ↦ not_yet r.processes f (instant r.past t) k (omega (arith, late, low, instant_length r.past t (omega (arith, low, within)))) has
+  -- where a delivery has no orphan from some instant on, its first breach by that instant is its first
+  pub first_until : (end until k : ℕ) (found : Option Breach) → HasNoOrphanFrom r f k until end → FirstBreachBy r f (min until end) k found → FirstBreachBy r f end k found
+  first_until end until k None later none = λ t low has. elim (cases_lt t until) [
+    | inl early ↦ none t (omega (arith, early, low)) has
+    | inr late ↦ later t late low has
   ]
-  among_below end positions kept (Some b) within those one = (
-    one.0,
-    record {
-      among = those.only b.delivery one.1.among;
-      first = one.1.first;
-      least = λ k t listed in_time has. elim (cases_lt k end) [
-        | inl early ↦ one.1.least k t (those.each k listed early) in_time has
-        | inr late ↦ elim (cases_lt k t) [
-          | inl made ↦ by_bound b end t k one.0 (omega (arith, late, made))
-          | inr before ↦ absurd (not_yet r.processes f (instant r.past t) k (omega (arith, before, instant_length r.past t in_time)) has)
-        ]
-      ];
-    },
-  )
+  first_until end until k (Some b) later one = (omega (arith, one.0), one.1)
 
   -- a breach by the horizon is the new one
   pub horizon_more : (end : ℕ) (one : Option Breach) (b : Breach) → b.instant ≤ horizon end one → b.instant ≡ horizon end (earlier one (Some b))

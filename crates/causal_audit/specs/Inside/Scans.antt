@@ -1,13 +1,13 @@
--- What a scan reads of a run, which positions it follows, and what it tells of them.
-use Rattle.std.specs.Prelude.{ℕ, ◌<◌, List, Contains}
-use Rattle.std.specs.List.{All}
+-- What a scan reads of a run, which deliveries it follows, and what it tells of them.
+use Rattle.std.specs.Prelude.{ℕ, List, map}
 use Rattle.causal_trace.specs.Rows.{Recording}
-use Rattle.causal_audit.specs.Breaches.{LeastAmongBy}
+use Rattle.causal_audit.specs.Breaches.{HasNoOrphanFrom, LeastAmongBy}
 use Rattle.causal_audit.specs.Inside.Kept.{AreMentionsKept, AreTurnsKept}
 use Rattle.causal_audit.specs.Lasting.{NoneReleasedFrom}
 use Rattle.causal_audit.specs.declared.breach.Surveyed.{Surveyed}
 use Rattle.causal_audit.specs.declared.breach.Surveyed.TheVariants.{Told, TooMany}
 use Rattle.causal_audit.specs.declared.scan.Scan.{Scan}
+use Rattle.causal_audit.specs.declared.scan.Window.{Window}
 
 -- this is kept of the run
 pub record IsScan (scan : Scan) : Type 0 where
@@ -15,11 +15,13 @@ pub record IsScan (scan : Scan) : Type 0 where
   pub turned : AreTurnsKept scan.trace.now.recording.past scan.turns.now
   pub mentioned : AreMentionsKept scan.trace.now.recording.past scan.mentions.now
 
--- those of the positions that are below `end`
-pub record AreThoseBelow (positions : List ℕ) (end : ℕ) (kept : List ℕ) : Type 0 where
-  pub below : All (λ k. k < end) kept
-  pub only : (k : ℕ) → Contains kept k → Contains positions k
-  pub each : (k : ℕ) → Contains positions k → k < end → Contains kept k
+-- the positions of the deliveries
+abbrev pub positions_of : List Window → List ℕ
+positions_of windows = map (λ window. window.position) windows
+
+-- from the window's instant on up to the instant `end` its delivery has no orphan
+abbrev pub IsWindow : Recording → ℕ → ℕ → Window → Type 0
+IsWindow r f end window = HasNoOrphanFrom r f window.position window.until end
 
 -- what is told is the least breach of the deliveries at these positions by the instant `end`; where there were too many nothing
 -- is known

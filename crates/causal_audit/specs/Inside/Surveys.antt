@@ -6,7 +6,9 @@ use Rattle.causal_name.specs.declared.Det.{Det}
 use Rattle.causal_trace.specs.declared.entry.Entry.{Entry}
 use Rattle.causal_trace.specs.Past.{det_at}
 use Rattle.causal_trace.specs.Rows.{Recording, IsWellFormed}
+use Rattle.causal_audit.specs.declared.scan.Window.{Window}
 use Rattle.causal_audit.specs.declared.survey.Survey.{Survey}
+use Rattle.causal_audit.specs.Inside.Scans.{IsWindow, positions_of}
 use Rattle.causal_audit.specs.Breaches.{HasNoOrphanBy}
 use Rattle.causal_audit.specs.Inside.Kept.{AreMentionsKept, AreTurnsKept}
 use Rattle.causal_audit.specs.Lasting.{NoneReleasedFrom}
@@ -33,7 +35,7 @@ pub record AreUncovered (r : Recording) (f end below : ℕ) (positions : List �
   pub deliveries : All (IsDeliveryAt r.past) positions
   pub others : (k : ℕ) → k < below → IsDeliveryAt r.past k → Contains positions k ⊎ HasNoOrphanBy r f k end
 
--- they are the deliveries of the run before position `below` that the survey gathers
-abbrev pub AreGathered : Survey → ℕ → List ℕ → Type 0
-AreGathered survey below positions =
-    AreUncovered survey.outline.trace.now.recording survey.f survey.end below positions
+-- they are the windows of the deliveries of the run before position `below` that the survey gathers
+pub record AreGathered (survey : Survey) (below : ℕ) (windows : List Window) : Type 0 where
+  pub uncovered : AreUncovered survey.outline.trace.now.recording survey.f survey.end below (positions_of windows)
+  pub none_later : All (IsWindow survey.outline.trace.now.recording survey.f survey.end) windows

@@ -10,7 +10,7 @@ use Rattle.causal_audit.specs.Inside.Reaching.{AreFirstsUntil, IsNewly, IsReach}
 use Rattle.causal_audit.proofs.Orphaned.{accepted_next}
 use Rattle.causal_audit.proofs.ReachedFirst.{firsts_none, firsts_next, all_empty}
 use Rattle.causal_audit.proofs.Scanned.{send_within}
-use Rattle.causal_audit.proofs.Steps.{next_state, no_entry}
+use Rattle.causal_audit.proofs.Steps.{next_state}
 use Rattle.causal_audit.proofs.reach.firsts_of.Goals as goal
 
 abbrev positions_in : Vec ℕ Global → List ℕ
@@ -21,11 +21,15 @@ loop-t-init c =
     let r = c.args.trace.now.recording in
     let positions = c.args.positions.now in
     let count = length-map c.in_ok-lists.lists.items (λ list. list.items) in
+    let start = c.least_in-start.result in
+    let long : length (instant r.past start) ≡ start = instant_length r.past start (omega (arith, c.least_in-start.ensures.bound, c.requires.within)) in
     record {
       rows = c.in_ok-reach.ensures.rows;
-      told = λ j d low at. subst (λ past. IsReach past (slice_index positions j) j c.in_ok-reach.reach) (sym (no_entry r.past)) (c.in_ok-reach.ensures.begins j low);
+      told = λ j d low at. c.in_ok-reach.ensures.begins (instant r.past start) j low (omega (arith, long, c.least_in-start.ensures.least j low));
       count = omega (arith, count, c.in_ok-lists.ensures.count);
-      firsts = λ j d low at. subst (AreFirstsUntil r.past (slice_index positions j) 0) (sym (all_empty (lists_in c.in_ok-lists.lists.items) (All-map (λ list. list ≡ []) positions_in c.in_ok-lists.lists.items c.in_ok-lists.ensures.empty) j)) (firsts_none r.past (slice_index positions j));
+      firsts = λ j d low at.
+          subst (AreFirstsUntil r.past (slice_index positions j) start) (sym (all_empty (lists_in c.in_ok-lists.lists.items) (All-map (λ list. list ≡ []) positions_in c.in_ok-lists.lists.items c.in_ok-lists.ensures.empty) j))
+          (firsts_none r.processes r.past (slice_index positions j) start c.len-len.ensures.formed.accepted (c.least_in-start.ensures.least j low));
     }
 
 pub see-newly-requires-clause-send : goal.see-newly-requires-clause-send

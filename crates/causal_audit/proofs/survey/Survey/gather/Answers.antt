@@ -1,25 +1,45 @@
-use Rattle.std.proofs.Common.{◌≡◌, ◌+◌, Some, None, sym, ◌∙◌, subst}
+use Rattle.std.proofs.Common.{◌≡◌, ◌+◌, ◌∷◌, [], Some, None, sym, ◌∙◌, subst, arith}
 use Rattle.causal_trace.specs.Past.{det_at}
-use Rattle.causal_audit.specs.Inside.Surveys.{AreGathered}
+use Rattle.std.proofs.lemmas.List.{map-append}
+use Rattle.std.proofs.lemmas.List.Elements.{All-push}
+use Rattle.causal_audit.specs.declared.scan.Window.{Window}
+use Rattle.causal_audit.specs.Inside.Scans.{IsWindow, positions_of}
+use Rattle.causal_audit.specs.Inside.Surveys.{AreGathered, AreUncovered}
 use Rattle.causal_audit.proofs.Uncovered.{one_gathered, one_left_out}
+use Rattle.causal_audit.proofs.Windowed.{position}
 use Rattle.causal_audit.proofs.survey.Survey.gather.Goals as goal
 
 pub returns-in_default : goal.returns-in_default
-returns-in_default c =
+returns-in_default c so_far =
     let survey = c.args.self.now in
     let r = survey.outline.trace.now.recording in
     let none : det_at r.past c.args.k ≡ None = sym c.det_at.ensures ∙ c.in_default.is in
-    one_left_out r survey.f survey.end c.args.k c.args.gathered.now.items (λ delivery. absurd (let e : None ≡ Some delivery.0 = sym none ∙ delivery.1 in cc))
+    record {
+      uncovered = one_left_out r survey.f survey.end c.args.k (positions_of c.args.gathered.now.items) (λ delivery. absurd (let e : None ≡ Some delivery.0 = sym none ∙ delivery.1 in cc)) so_far.uncovered;
+      none_later = so_far.none_later;
+    }
+
+pub returns-then-until-eq0 : goal.returns-then-until-eq0
+returns-then-until-eq0 c so_far =
+    let survey = c.args.self.now in
+    let r = survey.outline.trace.now.recording in
+    record {
+      uncovered =
+          one_left_out r survey.f survey.end c.args.k (positions_of c.args.gathered.now.items)
+          (λ _ u low. c.uncovered_until-until.ensures u (omega (arith, c.if-until-eq0.true)) low) so_far.uncovered;
+      none_later = so_far.none_later;
+    }
 
 pub returns : goal.returns
-returns c =
+returns c so_far =
     let survey = c.args.self.now in
     let r = survey.outline.trace.now.recording in
-    λ so_far. subst (AreGathered survey (c.args.k + 1)) (sym c.in_ok-push.ensures.items)
-    (one_gathered r survey.f survey.end c.args.k c.args.gathered.now.items (c.in-Some.det, sym c.in-Some.ensures) so_far)
-
-pub returns-then-covers : goal.returns-then-covers
-returns-then-covers c =
-    let survey = c.args.self.now in
-    let r = survey.outline.trace.now.recording in
-    one_left_out r survey.f survey.end c.args.k c.args.gathered.now.items (λ _. c.covers.ensures c.if-covers.true)
+    let before = c.args.gathered.now.items in
+    let window : Window = record { position = c.args.k; until = c.uncovered_until-until.result } in
+    subst (AreGathered survey (c.args.k + 1)) (sym c.in_ok-push.ensures.items)
+    (record {
+      uncovered =
+          subst (AreUncovered r survey.f survey.end (c.args.k + 1)) (sym (map-append position before (window ∷ [])))
+          (one_gathered r survey.f survey.end c.args.k (positions_of before) (c.in-Some.det, sym c.in-Some.ensures) so_far.uncovered);
+      none_later = All-push (IsWindow r survey.f survey.end) before window so_far.none_later c.uncovered_until-until.ensures;
+    })

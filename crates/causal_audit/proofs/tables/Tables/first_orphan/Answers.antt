@@ -8,7 +8,9 @@ use Rattle.causal_audit.specs.Inside.Changes.{AreMentionsOf, HasMentions}
 use Rattle.causal_audit.specs.Inside.Filed.{Ascends, AreFirsts, AreReached, list_at}
 use Rattle.causal_audit.proofs.Firsts.{firsts_listed, firsts_reached}
 use Rattle.causal_trace.proofs.Lemmas.AtInstants.{det_within}
+use Rattle.causal_audit.proofs.Lemmas.AmongLemmas.{first_until}
 use Rattle.causal_audit.proofs.Mentioned.{mentions_ascend}
+use Rattle.causal_audit.specs.Breaches.{FirstBreachBy}
 use Rattle.causal_audit.specs.Spread.{StaysUntil}
 use Rattle.causal_audit.proofs.Spreading.{stays_until}
 use Rattle.causal_audit.proofs.tables.Tables.first_orphan.Goals as goal
@@ -54,26 +56,33 @@ first_orphan-requires-clause-changes c =
       only = subst (AreMentionsOf r.past c.args.det) (sym c.list-mentions.ensures) (indexes.mentioned.only c.args.det);
       firsts = record {
         ascend = c.write_firsts.ensures.ascending;
-        reached = λ v early. firsts_reached r.processes r.past kept.formed.accepted events kept.stands lanes indexes.in_lanes c.args.k c.args.det at c.entries.result c.write_firsts.new.firsts reached v (omega (arith, early, c.requires.within, c.entries.ensures.length));
-        first = firsts_listed r.processes r.past kept.formed.accepted events kept.stands lanes indexes.in_lanes c.args.k c.args.det at c.write_firsts.new.firsts firsts c.args.end;
+        reached = λ v early. firsts_reached r.processes r.past kept.formed.accepted events kept.stands lanes indexes.in_lanes c.args.k c.args.det at c.entries.result c.write_firsts.new.firsts reached v (omega (arith, early, c.min-last.ensures, c.requires.within, c.entries.ensures.length));
+        first = firsts_listed r.processes r.past kept.formed.accepted events kept.stands lanes indexes.in_lanes c.args.k c.args.det at c.write_firsts.new.firsts firsts c.min-last.result;
       };
     }
 
 pub returns : goal.returns
-returns c = rw (← c.self.view_is) c.first_orphan.ensures
+returns c =
+    let r = c.self.inside.trace.recording in
+    rw (← c.self.view_is)
+    (first_until r c.args.f c.args.end c.uncovered_until-until.result c.args.k c.first_orphan.result c.uncovered_until-until.ensures
+    (subst (λ last. FirstBreachBy r c.args.f last c.args.k c.first_orphan.result) c.min-last.ensures c.first_orphan.ensures))
+
+pub returns-then-until-eq0 : goal.returns-then-until-eq0
+returns-then-until-eq0 c u low = rw (← c.self.view_is) (c.uncovered_until-until.ensures u (omega (arith, c.if-until-eq0.true)) low)
 
 pub index-spread-requires : goal.index-spread-requires
 index-spread-requires c =
     let at : det_at c.self.inside.trace.recording.past c.args.k ≡ Some c.args.det = rw (← c.self.view_is) at c.requires.delivery in
     omega (arith, det_within c.self.inside.trace.recording.past c.args.k c.args.det at, c.self.invariant.1.spread.count)
 
-pub is_covered-requires-clause-ascending : goal.is_covered-requires-clause-ascending
-is_covered-requires-clause-ascending c =
+pub uncovered_until-until-requires-clause-ascending : goal.uncovered_until-until-requires-clause-ascending
+uncovered_until-until-requires-clause-ascending c =
     let mentions = map positions c.self.inside.mentions.lists.items in
     subst IsNonDecreasing (sym c.list-mentions.ensures) (mentions_ascend c.self.inside.trace.recording.past c.self.inside.mentions.numbers mentions c.self.invariant.1.mentioned c.args.det)
 
-pub is_covered-requires-clause-stays : goal.is_covered-requires-clause-stays
-is_covered-requires-clause-stays c =
+pub uncovered_until-until-requires-clause-stays : goal.uncovered_until-until-requires-clause-stays
+uncovered_until-until-requires-clause-stays c =
     let r = c.self.inside.trace.recording in
     let kept = c.self.invariant.0 in
     let spreads = c.self.inside.spreads.items in

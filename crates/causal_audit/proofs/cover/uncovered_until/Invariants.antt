@@ -4,7 +4,7 @@ use Rattle.causal_trace.specs.Past.{instant, is_down, logs}
 use Rattle.causal_audit.specs.Inside.Ahead.{IsCursor}
 use Rattle.causal_audit.specs.Inside.Passing.{IsPassing}
 use Rattle.causal_audit.specs.Inside.Sights.{Shows}
-use Rattle.causal_audit.proofs.cover.is_covered.Given as goal
+use Rattle.causal_audit.proofs.cover.uncovered_until.Given as goal
 
 abbrev pub invariant-loop-t : goal.invariant-loop-t
 invariant-loop-t l = record {
@@ -13,7 +13,7 @@ invariant-loop-t l = record {
   turns : IsPassing l.run.turns.now l.t l.turns;
   down : Shows l.cover.down (λ p. is_down (instant l.run.trace.now.recording.past l.t) p);
   holders : Shows l.cover.holders (λ p. logs (instant l.run.trace.now.recording.past l.t) p l.det);
-  before : (u : ℕ) → u < l.t → HasOrphan l.run.trace.now.recording.processes l.f (instant l.run.trace.now.recording.past u) l.k → ⊥;
+  before : (u : ℕ) → l.until ≤ u → u < l.t → HasOrphan l.run.trace.now.recording.processes l.most (instant l.run.trace.now.recording.past u) l.k → ⊥;
 }
 
 abbrev pub decreases-loop-t : goal.decreases-loop-t
