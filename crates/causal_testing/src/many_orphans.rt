@@ -1,4 +1,4 @@
-//! A run in which more deliveries have an orphan at the last instant than a survey follows one by one.
+//! Runs with many deliveries that a survey has to follow, and one in which its steps do not suffice.
 use crate::entries::{Line, push};
 use causal_audit::{Breach, Surveyed, Verdict, least_surveyed};
 use causal_holders::Holders;
@@ -54,12 +54,15 @@ fn a_survey_follows_so_many(rt: HostRuntime) -> Result<(), Fail> {
         surveyed(rt.alloc(), 300)?,
         Surveyed::Told(Some(breach(602)))
     );
-    assert_eq!(rt; surveyed(rt.alloc(), 4097)?, Surveyed::TooMany);
+    assert_eq!(rt;
+        surveyed(rt.alloc(), 4097)?,
+        Surveyed::Told(Some(breach(8196)))
+    );
     Ok(())
 }
 
 #[test]
-fn beyond_them_the_verdict_is_the_same(rt: HostRuntime) -> Result<(), Fail> {
+fn the_verdict_is_the_same(rt: HostRuntime) -> Result<(), Fail> {
     let Breach {
         instant,
         delivery,
@@ -76,6 +79,31 @@ fn beyond_them_the_verdict_is_the_same(rt: HostRuntime) -> Result<(), Fail> {
     for workers in 1..=3 {
         let said = audit(&rt, rt.alloc(), &trace, 1, workers, &OpenGate)?;
         assert_eq!(rt; said, wanted, "{workers} workers");
+    }
+    Ok(())
+}
+
+/// Process 1 delivers one message, and again in so many incarnations; each lists it as it begins and at its delivery.
+fn replayed(alloc: Global, count: u32) -> Result<Trace, TraceFault> {
+    let mut trace = Trace::new(alloc, 2)?;
+    push(alloc, &mut trace, Line::Send(0, 1, 0))?;
+    push(alloc, &mut trace, Line::Deliver(1, 0, 0, &[(0, 0, 1, 0)]))?;
+    for _ in 0..count {
+        push(alloc, &mut trace, Line::Crash(1))?;
+        push(alloc, &mut trace, Line::Restart(1, &[(0, 0, 1, 0)]))?;
+        push(alloc, &mut trace, Line::Deliver(1, 0, 0, &[(0, 0, 1, 0)]))?;
+    }
+    Ok(trace)
+}
+
+#[test]
+fn where_its_steps_do_not_suffice_it_tells_nothing(rt: HostRuntime) -> Result<(), Fail> {
+    let trace = replayed(rt.alloc(), 190)?;
+    let said = least_surveyed(rt.alloc(), &trace, 1, trace.len())?;
+    assert_eq!(rt; said, Surveyed::TooMany);
+    for workers in 1..=3 {
+        let said = audit(&rt, rt.alloc(), &trace, 1, workers, &OpenGate)?;
+        assert_eq!(rt; said, Verdict::Accept, "{workers} workers");
     }
     Ok(())
 }
