@@ -142,7 +142,7 @@ module _ (n f : ℕ) (past : List Entry) (formed : AreAccepted n past) (k : ℕ)
             ]
           ])
 
-      pub none_until : (until : ℕ) → ((u : ℕ) → until ≤ u → u < t → HasOrphan n f (instant past u) k → ⊥) → (u : ℕ) → until ≤ u → u ≤ next → HasOrphan n f (instant past u) k → ⊥
+      none_until : (until : ℕ) → ((u : ℕ) → until ≤ u → u < t → HasOrphan n f (instant past u) k → ⊥) → (u : ℕ) → until ≤ u → u ≤ next → HasOrphan n f (instant past u) k → ⊥
       none_until until before u from low has =
           elim (cases_lt u t) [
             | inl early ↦ before u from early has
