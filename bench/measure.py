@@ -62,9 +62,9 @@ class Row:
 def measure_row(row, program, path):
     about = row.about
     command = [program, "audit", "--faults", str(about["f"]), "--workers", str(row.workers)]
-    row.full = measure(command, path)
-    row.check(row.full, about["answer"], about["status"])
     if row.workers > 1:
+        row.full = measure(command, path)
+        row.check(row.full, about["answer"], about["status"])
         return
     row.lines = measure(["wc", "-l"], path)
     if (about["variant"], about["f_word"]) == ("safe", "1"):
@@ -74,12 +74,15 @@ def measure_row(row, program, path):
     runs = [(command, unjudged)]
     if os.path.exists(KIT_JSON):
         runs.append(([KIT_JSON], unjudged))
-    row.read, *kit = measure_in_turn(runs)
+    if not is_line:
+        runs.append((command, path))
+    row.read, *others = measure_in_turn(runs)
+    row.full = row.read if is_line else others.pop()
+    kit = others
     if row.read.over or any(each.over for each in kit):
         sys.exit(f"reading {' '.join(row.key())} takes over {LIMIT:.0f} s")
-    if is_line:
-        row.check(row.read, about["answer"], about["status"])
-    else:
+    row.check(row.full, about["answer"], about["status"])
+    if not is_line:
         row.check(row.read, f"fault line={about['entries'] + 2} Count", 2)
     if kit:
         row.kit = kit[0]
@@ -170,7 +173,7 @@ def columns(row, before):
         "MB": f"{about['bytes'] / 1e6:.1f}",
         "answer": "WRONG" if row.wrong else "none" if full.over else full.line.split(" ")[0],
         "wall s": full.told(),
-        "user s": "" if full.over else f"{min(full.users):.3f}",
+        "processor s": "" if full.over else f"{full.least_processor():.3f}",
         "peak MB": "" if full.over else f"{full.peak / 1e3:.1f}",
         "MB/s": f"{less}{about['bytes'] / 1e6 / seconds:.2f}",
         "entries/s": f"{less}{about['entries'] / seconds:,.0f}",
@@ -183,20 +186,23 @@ def columns(row, before):
         "kit JSON peak MB": "",
         "read / Python": "",
         "read / kit": "",
+        "whole / kit": "",
         "wall / last": "",
     }
     if read is not None:
-        cells["read s"] = read.told()
+        cells["read s"] = f"{read.least_processor():.3f}"
         cells["read peak MB"] = f"{read.peak / 1e3:.1f}"
-        cells["judge s"] = f"over {LIMIT - read.best():.1f}" if full.over else f"{max(0.0, full.best() - read.best()):.3f}"
-        cells["wc -l s"] = f"{row.lines.best():.3f}"
+        judging = full.least_processor() - read.least_processor() if full.processor else LIMIT
+        cells["judge s"] = f"over {LIMIT:.0f}" if full.over else f"{max(0.0, judging):.3f}"
+        cells["wc -l s"] = f"{row.lines.least_processor():.3f}"
         if row.python is not None:
-            cells["Python JSON s"] = row.python.told()
-            cells["read / Python"] = f"{read.best() / row.python.best():.2f}"
+            cells["Python JSON s"] = f"{row.python.least_processor():.3f}"
+            cells["read / Python"] = f"{ratio(read, row.python):.2f}"
         if row.kit is not None:
-            cells["kit JSON s"] = row.kit.told()
+            cells["kit JSON s"] = f"{row.kit.least_processor():.3f}"
             cells["kit JSON peak MB"] = f"{row.kit.peak / 1e3:.1f}"
-            cells["read / kit"] = f"{read.best() / row.kit.best():.2f}"
+            cells["read / kit"] = f"{ratio(read, row.kit):.2f}"
+            cells["whole / kit"] = f"{whole(row):.2f}"
     if row.key() in before and not full.over:
         cells["wall / last"] = f"{full.best() / before[row.key()]:.2f}"
     return cells
@@ -226,9 +232,14 @@ def own_size(about):
     return 40 * about["entries"] + 12 * about["listed"]
 
 
-def worst(rows, ratio):
-    """The greatest ratio, and the trace that has it."""
-    return max(((ratio(row), " ".join(row.key()[:2])) for row in rows), default=(None, "no trace"))
+def ratio(measured, yardstick):
+    """How many times the yardstick's processor seconds a command takes; at least so many where it was stopped."""
+    return (LIMIT if measured.over else measured.least_processor()) / yardstick.least_processor()
+
+
+def worst(rows, value_of):
+    """The greatest value, and the trace that has it."""
+    return max(((value_of(row), " ".join(row.key()[:2])) for row in rows), default=(None, "no trace"))
 
 
 def lists_targets(row):
@@ -238,7 +249,7 @@ def lists_targets(row):
     return [
         target_line(f"reading and checking {name}: seconds / 2", row.read.best() / 2, 1.0),
         target_line("judging them too: seconds / 2", seconds / 2, 1.0, row.full.over),
-        target_line("reading and checking / Python's JSON reader", row.read.best() / row.python.best(), 1.3),
+        target_line("reading and checking / Python's JSON reader", ratio(row.read, row.python), 1.3),
     ]
 
 
@@ -251,8 +262,8 @@ def targets(rows):
         if (row.about["variant"], row.about["f_word"]) != ("safe", "1"):
             continue
         name = f"reading and checking `{row.key()[0]}` / the kit's JSON reader"
-        lines.append(target_line(name, row.read.best() / row.kit.best(), 1.3))
-    value, trace = worst(compared, lambda row: row.read.best() / row.kit.best())
+        lines.append(target_line(name, ratio(row.read, row.kit), 1.3))
+    value, trace = worst(compared, lambda row: ratio(row.read, row.kit))
     lines.append(target_line(f"the same at worst, of all rows: `{trace}`", value, 1.3))
     # a fault keeps no trace
     kept = [row for row in compared if row.about["status"] != 2]
@@ -263,7 +274,7 @@ def targets(rows):
 
 def whole(row):
     """How long the whole audit takes, as a ratio to the kit's JSON reader on the same text."""
-    return (LIMIT if row.full.over else row.full.best()) / row.kit.best()
+    return ratio(row.full, row.kit)
 
 
 def audit_targets(rows):
@@ -273,13 +284,13 @@ def audit_targets(rows):
     small = [row for row in rows if row.about["processes"] <= 64]
     beyond = lambda row: (row.full.peak - row.kit.peak) / 1e3
     lines = []
-    for name, some, ratio, bound in (
+    for name, some, value_of, bound in (
         ("the whole audit / the kit's JSON reader, where a million determinants are listed", full, whole, 1.6),
         ("the same where few are", lean, whole, 3.0),
         ("MB beyond the kit's JSON reader", rows, beyond, 100.0),
         ("the same up to 64 processes", small, beyond, 40.0),
     ):
-        value, trace = worst([row for row in some if row.full], ratio)
+        value, trace = worst([row for row in some if row.full], value_of)
         lines.append(target_line(f"{name}, at worst: `{trace}`", value, bound))
     return lines
 
@@ -291,12 +302,12 @@ def hostile_targets(rows):
     colliding, scattered = (found.get((f"{shape} hostile", "1", "1")) for shape in ("colliding", "scattered"))
     if colliding and scattered:
         lines.append(target_line("colliding determinants / the same in a random order",
-                                 colliding.full.best() / scattered.full.best(), 1.3, colliding.full.over))
+                                 ratio(colliding.full, scattered.full), 1.3, colliding.full.over))
     for shape, f in (("early", "0"), ("down", "0"), ("orphaned", "0"), ("orphaned", "1")):
         row = found.get((f"{shape} hostile", f, "1"))
         if row:
             lines.append(target_line(f"`{shape} hostile` for f = {f}, told at an early instant: whole audit / reading",
-                                     row.full.best() / row.read.best(), 1.3, row.full.over))
+                                     ratio(row.full, row.read), 1.3, row.full.over))
     for shape in hostile.LINES:
         row = found.get((f"{shape} hostile", "1", "1"))
         if row:
@@ -325,11 +336,12 @@ ABOUT = """\
 Every trace stands at a limit. *f* is the `--faults` of the run, for which the trace was made (`n`: as many as there are
 processes). No run is safe for f = 0 in which a process crashes, so there the right answer is `exceeded`.
 
-Each time is the best of three to five runs, with how much longer the longest was; of *read* and *kit JSON*, which run in
-turn, of five to fifteen. `once` stands beside a run of more than {slow:.0f} seconds, and `over {limit:.0f}` where it was stopped after
-{limit:.0f} seconds without an answer. *wall*, *user*, *peak*, *MB/s* and *entries/s* are of a whole run of the program. *read* is a run
-on the same text with a wrong number in its end line, which is read whole and each entry checked, but not judged; *judge* is
-the difference. *wc -l*, *Python JSON* and *kit JSON* are the yardsticks on the same bytes: a count of the lines, and
+Each time is the best of some runs: of one worker's five to fifteen, in turn with *read* and *kit JSON*, and otherwise of three
+to five. *wall* is told with how much longer the longest was; all other times, and the ratios, are processor seconds (the
+system's part included), which the machine's other work lengthens less. `once` stands beside a run of more than {slow:.0f} seconds,
+and `over {limit:.0f}` where it was stopped after {limit:.0f} seconds without an answer. *wall*, *processor*, *peak*, *MB/s* and *entries/s*
+are of a whole run of the program. *read* is a run on the same text with a wrong number in its end line, which is read whole
+and each entry checked, but not judged; *judge* is the difference. *wc -l*, *Python JSON* and *kit JSON* are the yardsticks on the same bytes: a count of the lines, and
 programs that read each line to a value by Python's `json` and by the kit's `serde_json`, and drop it. A trace's own size is
 40 bytes an entry and 12 a listed determinant; what the kit's reader takes is the program and the longest line's value.
 *wall / last* is against the table that stood here before, if that was of a machine of this kind. MB are 10^6 bytes.

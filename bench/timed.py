@@ -19,6 +19,7 @@ class Measured:
     def __init__(self):
         self.walls = []
         self.users = []
+        self.processor = []
         self.peak = 0
         self.line = ""
         self.status = None
@@ -26,6 +27,10 @@ class Measured:
 
     def best(self):
         return min(self.walls)
+
+    def least_processor(self):
+        """Processor seconds, the system's part included. What else the machine does lengthens them less than the wall's."""
+        return min(self.processor)
 
     def told(self):
         if self.over:
@@ -64,6 +69,7 @@ def once(command, path, measured):
         return
     measured.walls.append(wall)
     measured.users.append(usage.ru_utime)
+    measured.processor.append(usage.ru_utime + usage.ru_stime)
     measured.line = line.rstrip("\n")
     measured.status = child.returncode
     if timed is not command:
@@ -87,13 +93,15 @@ def measure(command, path):
 
 def measure_in_turn(runs):
     """Runs whose times are compared, one after the other and again, so that a change of the machine's speed meets all of
-    them: five to fifteen times each."""
+    them: five to fifteen times each, or once where one is slow."""
     measured = [Measured() for _ in runs]
-    while len(measured[0].walls) < 5 or (len(measured[0].walls) < 15 and sum(sum(each.walls) for each in measured) < 1.2):
+    while len(measured[0].walls) < 5 or (len(measured[0].walls) < 15 and sum(sum(each.walls) for each in measured) < 2.0):
         for each, (command, path) in zip(measured, runs):
             once(command, path, each)
             if each.over:
                 return measured
+        if any(each.walls[0] > SLOW for each in measured):
+            return measured
     return measured
 
 
