@@ -5,7 +5,7 @@ use Rattle.causal_audit.proofs.reach.add_to_each.Given as goal
 
 -- those of the places that are not left have it
 abbrev pub invariant-loop-place : goal.invariant-loop-place
-invariant-loop-place l = HaveSoFar l.fn.places l.rest l.position (lists_in l.fn.lists.items) (lists_in l.lists.items)
+invariant-loop-place l = HaveSoFar l.fn.windows l.fn.places l.rest l.position (lists_in l.fn.lists.items) (lists_in l.lists.items)
 
 abbrev pub decreases-loop-place : goal.decreases-loop-place
 decreases-loop-place l = len l.rest
