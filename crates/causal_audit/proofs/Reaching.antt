@@ -20,7 +20,7 @@ use Rattle.causal_trace.proofs.Lemmas.Reached.{event_below, reaches_begins, reac
 use Rattle.causal_audit.specs.declared.reach.Reach.{Reach}
 use Rattle.causal_audit.specs.declared.scan.Window.{Window}
 use Rattle.causal_audit.specs.Inside.Filed.{list_at, with_added}
-use Rattle.causal_audit.specs.Inside.Reaching.{AreOwnRows, HaveAdded, IsNewly, IsReach, SeesReach, TellsReached, row, window_at}
+use Rattle.causal_audit.specs.Inside.Reaching.{AreOver, AreOwnRows, HaveAdded, IsNewly, IsReach, SeesReach, TellsReached, row, window_at}
 use Rattle.causal_audit.specs.Inside.Sights.{TellsNextReach}
 use Rattle.causal_audit.proofs.Dependence.{IsNoTurn, reaches_more, depends_more, depends_before}
 use Rattle.causal_audit.proofs.Legal.{sent_event}
@@ -423,16 +423,29 @@ pub record HaveSoFar (windows : List Window) (places rest : FinSet nat_cmp) (pos
   pub others : (j : ℕ) → contains places j ≡ false → list_at now j ≡ list_at old j
   pub over : (j : ℕ) → (window_at windows j).until ≤ position → list_at now j ≡ list_at old j
 
--- none is taken out yet
-pub so_far_none : (windows : List Window) (places : FinSet nat_cmp) (position : ℕ) (lists : List (List ℕ)) → HaveSoFar windows places places position lists lists
-so_far_none windows places position lists = record {
+-- none is taken out yet but those whose windows are over
+pub so_far_none : (windows : List Window) (places over : FinSet nat_cmp) (position : ℕ) (lists : List (List ℕ)) → AreOver windows position over → HaveSoFar windows places (difference places over) position lists lists
+so_far_none windows places over position lists ended = record {
   count = refl;
-  left = λ j h. h;
-  listed = λ j h k. absurd (false≢true (sym k ∙ h));
+  left = λ j h. (and_parts (contains places j) (not (contains over j)) (sym (contains-difference nat_cmp_total places over j) ∙ h)).0;
+  listed = λ j h out high. absurd (omega (arith, high, ended j (out_of (contains places j) (contains over j) h (sym (contains-difference nat_cmp_total places over j) ∙ out))));
   ahead = λ j h. refl;
   others = λ j h. refl;
   over = λ j h. refl;
 }
+  where
+    out_of : (a b : Bool) → a ≡ true → (a && not b) ≡ false → b ≡ true
+    out_of true true h k = refl
+    out_of true false h k = absurd (false≢true (sym k))
+    out_of false b h k = absurd (false≢true h)
+
+-- one more window is over
+pub over_more : (windows : List Window) (position p : ℕ) (over : FinSet nat_cmp) → (window_at windows p).until ≤ position → AreOver windows position over → AreOver windows position (insert over p)
+over_more windows position p over ended are j h =
+    elim (or_cases (p == j) (contains over j) (sym (inserted over p j) ∙ h)) [
+      | inl here ↦ subst (λ x. (window_at windows x).until ≤ position) (eqb-true p j here) ended
+      | inr old ↦ are j old
+    ]
 
 module _ (windows : List Window) (places rest : FinSet nat_cmp) (position : ℕ) (old now : List (List ℕ)) (p : ℕ) (within : contains rest p ≡ true) (are : HaveSoFar windows places rest position old now) where
   -- one is taken out, whose window is open

@@ -4,7 +4,7 @@ ghost use Rattle.std.specs.FinSet as set;
 ghost use Rattle.std.specs.List.{All};
 ghost use Rattle.causal_trace.specs.declared.entry.Entry.{Entry};
 ghost use Rattle.causal_audit.specs.Inside.Filed.{lists_in};
-ghost use Rattle.causal_audit.specs.Inside.Reaching.{AreOwnRows, HasRowOf, HasRows, HaveAdded, HaveFirstsWithin, IsReach, SeesReach, TellsReached, row, window_at};
+ghost use Rattle.causal_audit.specs.Inside.Reaching.{AreOver, AreOwnRows, HasRowOf, HasRows, HaveAdded, HaveFirstsWithin, IsReach, SeesReach, TellsReached, row, window_at};
 
 use crate::lists::{add_to, empty_lists};
 use crate::scan::Window;
@@ -17,9 +17,9 @@ use std::alloc::Global;
 /// As many as there may be processes.
 const PROCESSES: usize = 256;
 
-/// Of at most 256 deliveries, by their places: for each entry of a walk, from the one at `start` on, which of them reach it if
-/// it was read, and which of them it is if it is still to be read; and for each process on which of them its present lane
-/// depends.
+/// Of at most 256 deliveries, by their places: for each entry of a walk, from the one at `start` on, which of them
+/// reach it if it was read, and which of them it is if it is still to be read; and for each process on which of them
+/// its present lane depends.
 #[derive(Drop)]
 pub struct Reach {
     pub start: u32,
@@ -37,8 +37,8 @@ fn set_at(rows: &[Holders], i: usize) -> Holders
     }
 }
 
-/// Puts the place of each of these deliveries into the row of its own entry, where that has one. The first row is of the entry
-/// at `start`.
+/// Puts the place of each of these deliveries into the row of its own entry, where that has one. The first row is of
+/// the entry at `start`.
 fn mark_own(rows: &mut Vec<Holders>, start: u32, windows: &[Window])
     requires few { length windows.now ≤ 256 }
     requires from { All (λ window. start ≤ window.position) windows.now }
@@ -64,30 +64,36 @@ fn is_open(windows: &[Window], place: u8, position: u32) -> bool
     }
 }
 
-/// Puts a position at the end of the lists of those of these places whose windows are still open for it.
+/// Puts a position at the end of the lists of those of these places whose windows are still open for it. A place whose
+/// window turns out to be over is noted, and passed without a test from then on.
 fn add_to_each(
     lists: &mut Vec<Vec<u32>>,
+    over: &mut Holders,
     windows: &[Window],
     places: Holders,
     position: u32,
 ) -> Result<(), NoMemory>
     requires count { vec_len lists.old ≡ length windows.now }
-    ensures { OnOk result
+    requires over { AreOver windows.now position over.old }
+    ensures over { AreOver windows.now position over.new }
+    ensures added { OnOk result
         (HaveAdded windows.now places position (lists_in lists.old.items) (lists_in lists.new.items)) }
 {
-    let mut rest = places;
+    let mut rest = places.minus(*over);
     while let Some(place) = rest.least() {
         rest.remove(place);
         if is_open(windows, place, position) {
             add_to(lists, usize::from(place), position)?;
+        } else {
+            over.insert(place);
         }
     }
     Ok(())
 }
 
 impl Reach {
-    /// Where no entry was read of a walk from `start` up to `end`, for the deliveries of these windows, none of which stands before
-    /// the walk; so it is after the entries before the walk, none of which they reach.
+    /// Where no entry was read of a walk from `start` up to `end`, for the deliveries of these windows, none of which
+    /// stands before the walk; so it is after the entries before the walk, none of which they reach.
     pub fn begin(alloc: Global, start: u32, end: u32, windows: &[Window]) -> Result<Reach, NoMemory>
         requires few { length windows.now ≤ 256 }
         requires from { All (λ window. start ≤ window.position) windows.now }
@@ -151,9 +157,9 @@ impl Reach {
     }
 }
 
-/// For the delivery of each of these windows, by its place, the entries below its `until` by which it newly reaches a process,
-/// as far as they stand below `end`. It reads each entry from `start` on, before which none of the deliveries stands, up to
-/// `end` once. It takes 32 bytes for each of these entries, and four for each entry of a list.
+/// For the delivery of each of these windows, by its place, the entries below its `until` by which it newly reaches a
+/// process, as far as they stand below `end`. It reads each entry from `start` on, before which none of the deliveries
+/// stands, up to `end` once. It takes 32 bytes for each of these entries, and four for each entry of a list.
 ///
 /// # Errors
 /// `NoMemory` where memory was refused.
@@ -175,9 +181,10 @@ pub fn firsts_of(
     let entries = trace.entries();
     let mut reach = Reach::begin(alloc, start, end, windows)?;
     let mut lists = empty_lists(alloc, windows.len() as u32)?;
+    let mut over = Holders::none();
     for t in start..end {
         let newly = reach.see(&entries[t as usize], t);
-        add_to_each(&mut lists, windows, newly, t)?;
+        add_to_each(&mut lists, &mut over, windows, newly, t)?;
     }
     Ok(lists)
 }

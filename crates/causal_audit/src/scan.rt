@@ -29,7 +29,8 @@ const GROUP: usize = 256;
 const WALKED: u32 = 8;
 
 /// What is read of a recorded run to follow the messages of a delivery: the trace, a position from which on no entry
-/// releases a process, who is down after each crash and restart, and what mentions each determinant. It is seen as the recording.
+/// releases a process, who is down after each crash and restart, and what mentions each determinant. It is seen as the
+/// recording.
 #[derive(Drop)]
 pub struct Scan<'a> {
     pub trace: &'a Trace,
@@ -49,7 +50,8 @@ impl<'a> Model for Scan<'a> {
     ghost invariant = { IsScan };
 }
 
-/// A delivery that is to be followed: the position of its entry, and an instant from which on it has no orphan any more.
+/// A delivery that is to be followed: the position of its entry, and an instant from which on it has no orphan any
+/// more.
 #[derive(Clone, Copy)]
 pub struct Window {
     pub position: u32,
@@ -90,8 +92,8 @@ fn listed_in_all(lists: &[Vec<u32>]) -> usize {
 }
 
 impl Scan<'_> {
-    /// How the delivery of a window, if there is one at its position, first has an orphan, if it has one by the instant `end`. It
-    /// newly reaches a process by the firsts. No instant is looked at from which on it has none any more.
+    /// How the delivery of a window, if there is one at its position, first has an orphan, if it has one by the instant
+    /// `end`. It newly reaches a process by the firsts. No instant is looked at from which on it has none any more.
     fn first_breach_in(
         &self,
         f: u16,
@@ -126,8 +128,9 @@ impl Scan<'_> {
         first_orphan(&run, &changes, f, last, k, det, budget)
     }
 
-    /// The least breach of the deliveries of a group, if it comes by the instant `end`, where the lists tell by which entries
-    /// of its window before `last` each newly reaches a process. No instant is looked at that is later than a breach that was found.
+    /// The least breach of the deliveries of a group, if it comes by the instant `end`, where the lists tell by which
+    /// entries of its window before `last` each newly reaches a process. No instant is looked at that is later than a
+    /// breach that was found.
     fn least_of(
         &self,
         f: u16,
@@ -157,8 +160,9 @@ impl Scan<'_> {
         least
     }
 
-    /// The same, by one walk over the entries, from the first of them up to the last instant at which one may have an orphan. It
-    /// takes 32 bytes for each entry of the walk, and four for each entry by which one newly reaches a process in its window.
+    /// The same, by one walk over the entries, from the first of them up to the last instant at which one may have an
+    /// orphan. It takes 32 bytes for each entry of the walk, and four for each entry by which one newly reaches a
+    /// process in its window.
     fn least_in_group(
         &self,
         alloc: Global,
@@ -180,15 +184,16 @@ impl Scan<'_> {
         Ok(self.least_of(f, end, last, group, lists.as_slice(), budget))
     }
 
-    /// The least breach, by instant and then by position, of the deliveries of these windows, if it comes by the instant `end`;
-    /// None where none of them has an orphan by then. Where the steps do not suffice nothing is told.
+    /// The least breach, by instant and then by position, of the deliveries of these windows, if it comes by the
+    /// instant `end`; None where none of them has an orphan by then. Where the steps do not suffice nothing is told.
     ///
-    /// They are followed in groups of 256: for each the entries are walked once, from the first of the group up to the last
-    /// instant at which one of it may have an orphan, or to a breach that was found. Eight entries of a walk take a step, and so
-    /// does each entry by which one of the group newly reaches a process in its window. Then each delivery takes time as what changes for it
-    /// until it has no orphan any more: as those entries, the restarts that are looked at, which take steps, and the mentions of
-    /// its determinant, which are the caller's to count. For one group at a time it takes 32 bytes for each entry of its walk and
-    /// four for each entry by which one newly reaches a process in its window.
+    /// They are followed in groups of 256: for each the entries are walked once, from the first of the group up to the
+    /// last instant at which one of it may have an orphan, or to a breach that was found. Eight entries of a walk take
+    /// a step, and so does each entry by which one of the group newly reaches a process in its window. Then each
+    /// delivery takes time as what changes for it until it has no orphan any more: as those entries, the restarts that
+    /// are looked at, which take steps, and the mentions of its determinant, which are the caller's to count. For one
+    /// group at a time it takes 32 bytes for each entry of its walk and four for each entry by which one newly reaches
+    /// a process in its window.
     ///
     /// # Errors
     /// `NoMemory` where memory was refused.

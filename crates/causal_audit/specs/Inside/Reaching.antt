@@ -63,6 +63,10 @@ SeesReach e t old new newly =
     (n : ℕ) (past : List Entry) (k j : ℕ) (d : Det) → n ≤ 256 → AreAccepted n (e ∷ past) → length past ≡ t
     → (k ≡ t → det_at (e ∷ past) k ≡ Some d) → IsReach past k j old → IsReach (e ∷ past) k j new × IsNewly past e k j newly
 
+-- the windows at these places are over at the entry at t
+abbrev pub AreOver : List Window → ℕ → FinSet nat_cmp → Type 0
+AreOver windows t over = (j : ℕ) → contains over j ≡ true → (window_at windows j).until ≤ t
+
 -- the lists of those of these places in whose windows the position is have it at their end, and the others are as they were
 pub record HaveAdded (windows : List Window) (places : FinSet nat_cmp) (position : ℕ) (old new : List (List ℕ)) : Type 0 where
   pub count : length new ≡ length old

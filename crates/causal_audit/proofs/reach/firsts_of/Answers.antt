@@ -1,4 +1,7 @@
 use Rattle.std.proofs.Common.{ℕ, ◌≡◌, ◌+◌, ◌∷◌, ◌<◌, ◌≤◌, [], List, Some, Vec, Global, length, min, sym, ap, subst, ◌∙◌, arith}
+use Rattle.std.specs.Ordering.{nat_cmp}
+use Rattle.std.specs.FinSet.{contains, contains-empty}
+use Rattle.std.proofs.lemmas.Bool.{false≢true}
 use Rattle.std.proofs.lemmas.List.{length-map}
 use Rattle.std.proofs.lemmas.List.Elements.{All-map}
 use Rattle.causal_name.specs.declared.Det.{Det}
@@ -24,6 +27,7 @@ loop-t-init c =
     record {
       rows = c.in_ok-reach.ensures.rows;
       told = λ j d low at. c.in_ok-reach.ensures.begins (instant r.past start) j long low;
+      over = λ j h. absurd (false≢true (sym (contains-empty nat_cmp j) ∙ ap (λ s. contains s j) (sym c.none-over.ensures) ∙ h));
       count = omega (arith, count, c.in_ok-lists.ensures.count);
       firsts = λ j d low at.
           let window = window_at windows j in
@@ -42,7 +46,7 @@ loop-t-preserved c =
     let invariant = c.loop-t.invariant in
     let below : t < length r.past = omega (arith, c.loop-t-test.true, c.requires.within) in
     let next : instant r.past (t + 1) ≡ x ∷ instant r.past t = next_state r c.entries-entries.result.now c.entries-entries.ensures.value t x below c.index-entries-t.is in
-    let added = c.in_ok-add_to_each.ensures in
+    let added = c.in_ok-add_to_each.ensures.added in
     let sees : (j : ℕ) (d : Det) → j < length windows → det_at r.past (window_at windows j).position ≡ Some d
     → IsReach (x ∷ instant r.past t) (window_at windows j).position j c.see-newly.new.self × IsNewly (instant r.past t) x (window_at windows j).position j c.see-newly.result =
     λ j d low at.
@@ -52,6 +56,7 @@ loop-t-preserved c =
     record {
       rows = c.see-newly.ensures.rows c.args.start c.args.end invariant.rows;
       told = λ j d low at. subst (λ past. IsReach past (window_at windows j).position j c.see-newly.new.self) (sym next) (sees j d low at).0;
+      over = λ j h. omega (arith, c.add_to_each.ensures.over j h);
       count = added.count ∙ invariant.count;
       firsts = λ j d low at.
           firsts_next r formed t x below next (window_at windows j).position windows j c.see-newly.result (sees j d low at).1 (lists_in c.loop-t.lists.items) (lists_in c.add_to_each.new.lists.items)
