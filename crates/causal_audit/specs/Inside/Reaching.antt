@@ -19,13 +19,15 @@ row rows i = slice_index_or rows i empty
 abbrev pub window_at : List Window → ℕ → Window
 window_at windows j = slice_index_or windows j (record { position = 0; until = 0 })
 
--- the walk begins at no later entry than the delivery at k, whose place is j, and row i is of the i-th entry from there: those
--- of the entries so far tell which of them it reaches, those ahead where it stands, and the rows of the processes whose present
--- lane depends on it
+-- the walk begins no later than at the delivery at k, whose place is j, and row i is of the i-th entry from there: the
+-- rows of the entries so far tell which of them it reaches, those ahead where it stands, and those of the processes whose
+-- present lane depends on it
 pub record IsReach (past : List Entry) (k j : ℕ) (reach : Reach) : Type 0 where
   pub early : reach.start ≤ k
-  pub behind : (i p l : ℕ) → IsEventOf past (reach.start + i) p l → (contains (row reach.reached.items i) j ≡ true) ↔ Reaches past k (reach.start + i)
-  pub ahead : (i : ℕ) → i < length reach.reached.items → length past ≤ reach.start + i → (contains (row reach.reached.items i) j ≡ true) ↔ (reach.start + i ≡ k)
+  pub behind : (i p l : ℕ) → IsEventOf past (reach.start + i) p l
+      → (contains (row reach.reached.items i) j ≡ true) ↔ Reaches past k (reach.start + i)
+  pub ahead : (i : ℕ) → i < length reach.reached.items → length past ≤ reach.start + i
+      → (contains (row reach.reached.items i) j ≡ true) ↔ (reach.start + i ≡ k)
   pub depends : (p : ℕ) → (contains (row reach.present.items p) j ≡ true) ↔ Depends past k p
 
 -- each row from the one of the entry at `start` on has just those of the first `count` places whose positions it is
@@ -67,10 +69,12 @@ SeesReach e t old new newly =
 abbrev pub AreOver : List Window → ℕ → FinSet nat_cmp → Type 0
 AreOver windows t over = (j : ℕ) → contains over j ≡ true → (window_at windows j).until ≤ t
 
--- the lists of those of these places in whose windows the position is have it at their end, and the others are as they were
+-- the lists of those of these places whose windows are not over have the position at their end, and the others are as
+-- they were
 pub record HaveAdded (windows : List Window) (places : FinSet nat_cmp) (position : ℕ) (old new : List (List ℕ)) : Type 0 where
   pub count : length new ≡ length old
-  pub listed : (j : ℕ) → contains places j ≡ true → position < (window_at windows j).until → list_at new j ≡ list_at old j ++ position ∷ []
+  pub listed : (j : ℕ) → contains places j ≡ true → position < (window_at windows j).until
+      → list_at new j ≡ list_at old j ++ position ∷ []
   pub others : (j : ℕ) → contains places j ≡ false → list_at new j ≡ list_at old j
   pub over : (j : ℕ) → (window_at windows j).until ≤ position → list_at new j ≡ list_at old j
 
@@ -78,7 +82,8 @@ pub record HaveAdded (windows : List Window) (places : FinSet nat_cmp) (position
 pub record AreFirstsUntil (past : List Entry) (k t : ℕ) (list : List ℕ) : Type 0 where
   pub ascends : Ascends t list
   pub reached : (v : ℕ) → Contains list v → Reaches past k v
-  pub first : (v p l : ℕ) → v < t → IsEventOf past v p l → Reaches past k v → Contains list v ⊎ ((i : ℕ) × (i < v) × IsEventOf past i p l × Reaches past k i)
+  pub first : (v p l : ℕ) → v < t → IsEventOf past v p l → Reaches past k v
+      → Contains list v ⊎ ((i : ℕ) × (i < v) × IsEventOf past i p l × Reaches past k i)
 
 -- the same of the list of each window with a delivery, up to the end of the window or to t, if that comes first
 abbrev pub HaveFirstsWithin : List Entry → List Window → ℕ → List (List ℕ) → Type 0
