@@ -1,5 +1,5 @@
 -- The first event of each lane that a delivery reaches, with one entry more.
-use Rattle.std.proofs.Common.{ℕ, ◌≡◌, ◌+◌, ◌++◌, ◌<◌, ◌≤◌, inl, inr, Bool, true, false, List, [], ◌∷◌, length, Some, refl, sym, subst, ◌∙◌, arith}
+use Rattle.std.proofs.Common.{ℕ, ◌≡◌, ◌+◌, ◌++◌, ◌<◌, ◌≤◌, inl, inr, Bool, true, false, List, [], ◌∷◌, length, min, Some, refl, sym, subst, ◌∙◌, arith}
 use Rattle.std.specs.Prelude.{Contains}
 use Rattle.std.specs.Ordering.{nat_cmp}
 use Rattle.std.specs.FinSet.{FinSet, contains}
@@ -14,7 +14,8 @@ use Rattle.causal_trace.specs.Dependence.{actor, IsEventOf, Reaches, Depends}
 use Rattle.causal_trace.proofs.Lemmas.AtInstants.{instant_length}
 use Rattle.causal_trace.proofs.Lemmas.Reached.{event_below}
 use Rattle.causal_audit.specs.Inside.Filed.{list_at}
-use Rattle.causal_audit.specs.Inside.Reaching.{AreFirstsUntil, HaveAdded, IsNewly}
+use Rattle.causal_audit.specs.declared.scan.Window.{Window}
+use Rattle.causal_audit.specs.Inside.Reaching.{AreFirstsUntil, HaveAdded, IsNewly, window_at}
 use Rattle.causal_audit.proofs.Changed.{event_then}
 use Rattle.causal_audit.proofs.Filings.{ascends_push, ascends_weaker}
 use Rattle.causal_audit.proofs.Spreading.{reach_later}
@@ -96,14 +97,24 @@ module _ (r : Recording) (formed : IsWellFormed r) (t : ℕ) (x : Entry) (below 
     }
 
   -- the list of a place, with the entry
-  pub firsts_next : (j : ℕ) (newly : FinSet nat_cmp) → IsNewly (instant r.past t) x k j newly → (old new : List (List ℕ)) → j < length old → HaveAdded newly t old new → AreFirstsUntil r.past k t (list_at old j) → AreFirstsUntil r.past k (t + 1) (list_at new j)
-  firsts_next j newly is old new low added are = by (contains newly j) refl
+  pub firsts_next : (windows : List Window) (j : ℕ) (newly : FinSet nat_cmp) → IsNewly (instant r.past t) x k j newly → (old new : List (List ℕ)) → HaveAdded windows newly t old new
+      → AreFirstsUntil r.past k (min (window_at windows j).until t) (list_at old j) → AreFirstsUntil r.past k (min (window_at windows j).until (t + 1)) (list_at new j)
+  firsts_next windows j newly is old new added are =
+      elim (cases_lt t (window_at windows j).until) [
+        | inl ahead ↦
+            let now : min (window_at windows j).until t ≡ t = omega (arith, ahead) in
+            let then : t + 1 ≡ min (window_at windows j).until (t + 1) = omega (arith, ahead) in
+            subst (λ end. AreFirstsUntil r.past k end (list_at new j)) then (by (contains newly j) refl ahead (subst (λ end. AreFirstsUntil r.past k end (list_at old j)) now are))
+        | inr ended ↦
+            let same : min (window_at windows j).until t ≡ min (window_at windows j).until (t + 1) = omega (arith, ended) in
+            subst (AreFirstsUntil r.past k (min (window_at windows j).until (t + 1))) (sym (added.over j ended)) (subst (λ end. AreFirstsUntil r.past k end (list_at old j)) same are)
+      ]
     where
-      by : (b : Bool) → contains newly j ≡ b → AreFirstsUntil r.past k (t + 1) (list_at new j)
-      by true within = subst (AreFirstsUntil r.past k (t + 1)) (sym (added.listed j low within)) (firsts_more (list_at old j) are (is.sound within))
-      by false out =
+      by : (b : Bool) → contains newly j ≡ b → t < (window_at windows j).until → AreFirstsUntil r.past k t (list_at old j) → AreFirstsUntil r.past k (t + 1) (list_at new j)
+      by true within ahead before = subst (AreFirstsUntil r.past k (t + 1)) (sym (added.listed j within ahead)) (firsts_more (list_at old j) before (is.sound within))
+      by false out ahead before =
           subst (AreFirstsUntil r.past k (t + 1)) (sym (added.others j out))
-          (firsts_same (list_at old j) are (λ p of reach. elim (is.complete p of reach) [
+          (firsts_same (list_at old j) before (λ p of reach. elim (is.complete p of reach) [
             | inl within ↦ absurd (false≢true (sym out ∙ within))
             | inr depends ↦ depends
           ]))

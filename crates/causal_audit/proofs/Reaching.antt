@@ -1,11 +1,11 @@
--- Which of a few deliveries reach the entries of a run, with one entry more.
-use Rattle.std.proofs.Common.{ℕ, ◌≡◌, ◌≢◌, ◌+◌, ◌++◌, ◌<◌, ◌≤◌, inl, inr, Bool, true, false, cond, List, [], ◌∷◌, length, get_or, Some, None, refl, sym, ap, subst, ◌∙◌, arith}
+-- Which of a few deliveries reach the entries of a walk, with one entry more.
+use Rattle.std.proofs.Common.{ℕ, ◌≡◌, ◌≢◌, ◌+◌, ◌++◌, ◌-◌, ◌<◌, ◌≤◌, inl, inr, Bool, true, false, cond, List, [], ◌∷◌, length, Some, None, refl, sym, ap, subst, ◌∙◌, arith}
 use Rattle.std.specs.Prelude.{◌↔◌, ◌⊎◌, ◌||◌, ◌&&◌, ◌==◌, not}
-use Rattle.std.proofs.Math.ListN.{set}
+use Rattle.std.proofs.Math.ListN.{get_or-eq_default, set}
 use Rattle.std.specs.Ordering.{nat_cmp}
 use Rattle.std.specs.Cmp.{nat_cmp_total}
 use Rattle.std.specs.FinSet.{FinSet, contains, empty, len, len-insert, remove, same_set, nat_cmp-IsAntisymmetric, union, difference, insert, contains-empty, contains-union, contains-difference}
-use Rattle.std.proofs.lemmas.Bool.{false≢true, or_cases, and_parts, eqb-true, eq-eqb, ne_eqb}
+use Rattle.std.proofs.lemmas.Bool.{cases_lt, false≢true, or_cases, and_parts, eqb-true, eq-eqb, ne_eqb}
 use Rattle.std.proofs.lemmas.Bool.Decides.{eqb_tells}
 use Rattle.std.proofs.lemmas.List.{get_or-set_same, get_or-set_other, length-set}
 use Rattle.causal_name.specs.declared.Pid.{Pid}
@@ -18,21 +18,24 @@ use Rattle.causal_trace.specs.Dependence.{actor, IsEventOf, Reaches, Depends}
 use Rattle.causal_trace.proofs.Lemmas.Accepted.{accepted_forward, delivers_sent, delivers_up}
 use Rattle.causal_trace.proofs.Lemmas.Reached.{event_below, reaches_begins, reaches_old, depends_restarted}
 use Rattle.causal_audit.specs.declared.reach.Reach.{Reach}
+use Rattle.causal_audit.specs.declared.scan.Window.{Window}
 use Rattle.causal_audit.specs.Inside.Filed.{list_at, with_added}
-use Rattle.causal_audit.specs.Inside.Reaching.{AreOwnRows, HaveAdded, IsNewly, IsReach, SeesReach, row}
+use Rattle.causal_audit.specs.Inside.Reaching.{AreOver, AreOwnRows, HaveAdded, IsNewly, IsReach, SeesReach, TellsReached, row, window_at}
 use Rattle.causal_audit.specs.Inside.Sights.{TellsNextReach}
 use Rattle.causal_audit.proofs.Dependence.{IsNoTurn, reaches_more, depends_more, depends_before}
 use Rattle.causal_audit.proofs.Legal.{sent_event}
 use Rattle.causal_audit.proofs.Scanned.{send_tells, delivery_tells}
+use Rattle.causal_audit.proofs.Spreading.{reach_later}
 use Rattle.causal_audit.proofs.Shown.{inserted, removed, crash_inside, restart_inside}
 
 abbrev Sets : Type 0
 Sets = List (FinSet nat_cmp)
 
--- what the rows tell of the delivery at k, whose place is j
-pub record Told (past : List Entry) (k j : ℕ) (reached present : Sets) : Type 0 where
-  pub behind : (v p l : ℕ) → IsEventOf past v p l → (contains (row reached v) j ≡ true) ↔ Reaches past k v
-  pub ahead : (v : ℕ) → length past ≤ v → (contains (row reached v) j ≡ true) ↔ (v ≡ k)
+-- what the rows from the entry at `start` on tell of the delivery at k, whose place is j
+pub record Told (past : List Entry) (start k j : ℕ) (reached present : Sets) : Type 0 where
+  pub early : start ≤ k
+  pub behind : (i p l : ℕ) → IsEventOf past (start + i) p l → (contains (row reached i) j ≡ true) ↔ Reaches past k (start + i)
+  pub ahead : (i : ℕ) → i < length reached → length past ≤ start + i → (contains (row reached i) j ≡ true) ↔ (start + i ≡ k)
   pub depends : (p : ℕ) → (contains (row present p) j ≡ true) ↔ Depends past k p
 
 -- whether its place is among the new ones
@@ -44,47 +47,49 @@ pub record Newly (past : List Entry) (e : Entry) (k j : ℕ) (newly : FinSet nat
 pub none_in : (j : ℕ) → contains {R = nat_cmp} empty j ≡ true → ⊥
 none_in j h = false≢true (sym (contains-empty nat_cmp j) ∙ h)
 
-module _ (n : ℕ) (past : List Entry) (k j : ℕ) (reached present : Sets) (told : Told past k j reached present) where
+module _ (n : ℕ) (past : List Entry) (start k j : ℕ) (reached present : Sets) (told : Told past start k j reached present) where
   -- ---- the rows of the entries
 
   module _ (e : Entry) (formed : AreAccepted n (e ∷ past)) where
     -- the rows of the older entries tell the same
-    behind_old : (rows : Sets) → ((v : ℕ) → v < length past → row rows v ≡ row reached v) → (v p l : ℕ) → IsEventOf past v p l → (contains (row rows v) j ≡ true) ↔ Reaches (e ∷ past) k v
-    behind_old rows same v p l old =
-        let low : v < length past = event_below past v p l old in
-        let before = told.behind v p l old in (
-          λ h. reaches_more e past k v (before.0 (ap (λ s. contains s j) (sym (same v low)) ∙ h)),
-          λ reach. ap (λ s. contains s j) (same v low) ∙ before.1 (reaches_old e past k (accepted_forward n (e ∷ past) formed) v low reach),
+    behind_old : (rows : Sets) → ((i : ℕ) → start + i < length past → row rows i ≡ row reached i) → (i p l : ℕ) → IsEventOf past (start + i) p l
+        → (contains (row rows i) j ≡ true) ↔ Reaches (e ∷ past) k (start + i)
+    behind_old rows same i p l old =
+        let low : start + i < length past = event_below past (start + i) p l old in
+        let before = told.behind i p l old in (
+          λ h. reaches_more e past k (start + i) (before.0 (ap (λ s. contains s j) (sym (same i low)) ∙ h)),
+          λ reach. ap (λ s. contains s j) (same i low) ∙ before.1 (reaches_old e past k (accepted_forward n (e ∷ past) formed) (start + i) low reach),
         )
 
     -- an entry that is no event
-    behind_same : actor e ≡ None → (v p l : ℕ) → IsEventOf (e ∷ past) v p l → (contains (row reached v) j ≡ true) ↔ Reaches (e ∷ past) k v
-    behind_same none v p l (inl old) = behind_old reached (λ v low. refl) v p l old
-    behind_same none v p l (inr new) = absurd (let x : None ≡ Some p = sym none ∙ new.1 in cc)
+    behind_same : actor e ≡ None → (i p l : ℕ) → IsEventOf (e ∷ past) (start + i) p l → (contains (row reached i) j ≡ true) ↔ Reaches (e ∷ past) k (start + i)
+    behind_same none i p l (inl old) = behind_old reached (λ m low. refl) i p l old
+    behind_same none i p l (inr new) = absurd (let x : None ≡ Some p = sym none ∙ new.1 in cc)
 
-    -- an event
-    behind_set : (t : ℕ) → length past ≡ t → t < length reached → (hit : FinSet nat_cmp) → TellsNextReach past e k (contains hit j) → (v p l : ℕ) → IsEventOf (e ∷ past) v p l
-        → (contains (row (set reached t hit) v) j ≡ true) ↔ Reaches (e ∷ past) k v
-    behind_set t long inside hit tells v p l (inl old) =
-        behind_old (set reached t hit) (λ v low. get_or-set_other reached t v hit empty (λ is. omega (arith, is, low, long))) v p l old
-    behind_set t long inside hit tells v p l (inr new) =
-        let here : v ≡ t = new.0 ∙ long in
-        let is : contains (row (set reached t hit) v) j ≡ contains hit j = ap (λ x. contains (row (set reached t hit) x) j) here ∙ ap (λ s. contains s j) (get_or-set_same reached t hit empty inside) in
+    -- an event, whose row is the one at `here`
+    behind_set : (here : ℕ) → start + here ≡ length past → here < length reached → (hit : FinSet nat_cmp) → TellsNextReach past e k (contains hit j) → (i p l : ℕ) → IsEventOf (e ∷ past) (start + i) p l
+        → (contains (row (set reached here hit) i) j ≡ true) ↔ Reaches (e ∷ past) k (start + i)
+    behind_set here at inside hit tells i p l (inl old) =
+        behind_old (set reached here hit) (λ m low. get_or-set_other reached here m hit empty (λ is. omega (arith, is, low, at))) i p l old
+    behind_set here at inside hit tells i p l (inr new) =
+        let same : i ≡ here = omega (arith, new.0, at) in
+        let is : contains (row (set reached here hit) i) j ≡ contains hit j = ap (λ x. contains (row (set reached here hit) x) j) same ∙ ap (λ s. contains s j) (get_or-set_same reached here hit empty inside) in
         let now = tells p new.1 in (
           λ h. subst (Reaches (e ∷ past) k) (sym new.0) (now.0 (sym is ∙ h)),
           λ reach. is ∙ now.1 (subst (Reaches (e ∷ past) k) new.0 reach),
         )
 
     -- the rows ahead tell the same, where one behind them is set
-    ahead_set : (t : ℕ) → length past ≡ t → (hit : FinSet nat_cmp) → (v : ℕ) → length (e ∷ past) ≤ v → (contains (row (set reached t hit) v) j ≡ true) ↔ (v ≡ k)
-    ahead_set t long hit v above =
-        let same : row (set reached t hit) v ≡ row reached v = get_or-set_other reached t v hit empty (λ is. omega (arith, is, above, long)) in
-        let before = told.ahead v (omega (arith, above)) in
+    ahead_set : (here : ℕ) → start + here ≡ length past → (hit : FinSet nat_cmp) → (i : ℕ) → i < length (set reached here hit) → length (e ∷ past) ≤ start + i
+        → (contains (row (set reached here hit) i) j ≡ true) ↔ (start + i ≡ k)
+    ahead_set here at hit i low above =
+        let same : row (set reached here hit) i ≡ row reached i = get_or-set_other reached here i hit empty (λ is. omega (arith, is, above, at)) in
+        let before = told.ahead i (omega (arith, low, length-set reached here hit)) (omega (arith, above)) in
         (λ h. before.0 (ap (λ s. contains s j) (sym same) ∙ h), λ is. ap (λ s. contains s j) same ∙ before.1 is)
 
     -- and where none is
-    ahead_same : (v : ℕ) → length (e ∷ past) ≤ v → (contains (row reached v) j ≡ true) ↔ (v ≡ k)
-    ahead_same v above = told.ahead v (omega (arith, above))
+    ahead_same : (i : ℕ) → i < length reached → length (e ∷ past) ≤ start + i → (contains (row reached i) j ≡ true) ↔ (start + i ≡ k)
+    ahead_same i low above = told.ahead i low (omega (arith, above))
 
     -- ---- the rows of the processes
 
@@ -118,27 +123,29 @@ module _ (n : ℕ) (past : List Entry) (k j : ℕ) (reached present : Sets) (tol
   -- ---- each entry
 
   -- a send
-  pub sent : (d : Det) (from to : Pid) (ssn t : ℕ) → AreAccepted n (Send from to ssn ∷ past) → length past ≡ t → t < length reached → (k ≡ t → det_at (Send from to ssn ∷ past) k ≡ Some d)
-      → Told (Send from to ssn ∷ past) k j (set reached t (row present from.0)) present × Newly past (Send from to ssn) k j empty
-  sent d from to ssn t formed long inside at =
+  pub sent : (d : Det) (from to : Pid) (ssn here : ℕ) → AreAccepted n (Send from to ssn ∷ past) → start + here ≡ length past → here < length reached → (k ≡ length past → det_at (Send from to ssn ∷ past) k ≡ Some d)
+      → Told (Send from to ssn ∷ past) start k j (set reached here (row present from.0)) present × Newly past (Send from to ssn) k j empty
+  sent d from to ssn here formed long inside at =
       let e = Send from to ssn in
-      let tells : TellsNextReach past e k (contains (row present from.0) j) = send_tells n past k (λ p. contains (row present p) j) told.depends d from to ssn formed (λ here. at (here ∙ long)) in
+      let tells : TellsNextReach past e k (contains (row present from.0) j) = send_tells n past k (λ p. contains (row present p) j) told.depends d from to ssn formed at in
       let known : (p : ℕ) → actor e ≡ Some p → Reaches (e ∷ past) k (length past) → Depends past k p = λ p of reach.
       let same : from.0 ≡ p = let x : Some from.0 ≡ Some p = of in cc in
       subst (Depends past k) same ((told.depends from.0).0 ((tells p of).1 reach))
       in (
         record {
-          behind = behind_set e formed t long inside (row present from.0) tells;
-          ahead = ahead_set e formed t long (row present from.0);
+          early = told.early;
+          behind = behind_set e formed here long inside (row present from.0) tells;
+          ahead = ahead_set e formed here long (row present from.0);
           depends = depends_same e formed (λ p. (refl, refl)) known;
         },
         record { sound = λ h. absurd (none_in j h); complete = λ p of reach. inr (known p of reach) },
       )
 
   -- an entry of stable storage
-  pub stored : (det : Det) → AreAccepted n (Stable det ∷ past) → Told (Stable det ∷ past) k j reached present × Newly past (Stable det) k j empty
+  pub stored : (det : Det) → AreAccepted n (Stable det ∷ past) → Told (Stable det ∷ past) start k j reached present × Newly past (Stable det) k j empty
   stored det formed = (
     record {
+      early = told.early;
       behind = behind_same (Stable det) formed refl;
       ahead = ahead_same (Stable det) formed;
       depends = depends_same (Stable det) formed (λ p. (refl, refl)) (λ p of. absurd (let x : None ≡ Some p = of in cc));
@@ -147,9 +154,10 @@ module _ (n : ℕ) (past : List Entry) (k j : ℕ) (reached present : Sets) (tol
   )
 
   -- a forgetting
-  pub forgotten : (who : Pid) (listed : List Det) → AreAccepted n (Forget who listed ∷ past) → Told (Forget who listed ∷ past) k j reached present × Newly past (Forget who listed) k j empty
+  pub forgotten : (who : Pid) (listed : List Det) → AreAccepted n (Forget who listed ∷ past) → Told (Forget who listed ∷ past) start k j reached present × Newly past (Forget who listed) k j empty
   forgotten who listed formed = (
     record {
+      early = told.early;
       behind = behind_same (Forget who listed) formed refl;
       ahead = ahead_same (Forget who listed) formed;
       depends = depends_same (Forget who listed) formed (λ p. (refl, refl)) (λ p of. absurd (let x : None ≡ Some p = of in cc));
@@ -158,9 +166,10 @@ module _ (n : ℕ) (past : List Entry) (k j : ℕ) (reached present : Sets) (tol
   )
 
   -- a crash
-  pub crashed : (who : Pid) → n ≤ length present → AreAccepted n (Crash who ∷ past) → Told (Crash who ∷ past) k j reached (set present who.0 empty) × Newly past (Crash who) k j empty
+  pub crashed : (who : Pid) → n ≤ length present → AreAccepted n (Crash who ∷ past) → Told (Crash who ∷ past) start k j reached (set present who.0 empty) × Newly past (Crash who) k j empty
   crashed who few formed = (
     record {
+      early = told.early;
       behind = behind_same (Crash who) formed refl;
       ahead = ahead_same (Crash who) formed;
       depends =
@@ -172,9 +181,10 @@ module _ (n : ℕ) (past : List Entry) (k j : ℕ) (reached present : Sets) (tol
   )
 
   -- a restart
-  pub restarted : (who : Pid) (listed : List Det) → n ≤ length present → AreAccepted n (Restart who listed ∷ past) → Told (Restart who listed ∷ past) k j reached (set present who.0 empty) × Newly past (Restart who listed) k j empty
+  pub restarted : (who : Pid) (listed : List Det) → n ≤ length present → AreAccepted n (Restart who listed ∷ past) → Told (Restart who listed ∷ past) start k j reached (set present who.0 empty) × Newly past (Restart who listed) k j empty
   restarted who listed few formed = (
     record {
+      early = told.early;
       behind = behind_same (Restart who listed) formed refl;
       ahead = ahead_same (Restart who listed) formed;
       depends =
@@ -185,25 +195,25 @@ module _ (n : ℕ) (past : List Entry) (k j : ℕ) (reached present : Sets) (tol
     record { sound = λ h. absurd (none_in j h); complete = λ p of. absurd (let x : None ≡ Some p = of in cc) },
   )
 
-  module _ (to : Pid) (send rsn : ℕ) (listed : List Det) (formed : AreAccepted n (Deliver to send rsn listed ∷ past)) where
+  module _ (to : Pid) (send rsn : ℕ) (listed : List Det) (formed : AreAccepted n (Deliver to send rsn listed ∷ past)) (r : ℕ) (at : start + r ≡ length past) (inside : r < length reached) (brought : FinSet nat_cmp) (is_brought : (p l : ℕ) → IsEventOf past send p l → (contains brought j ≡ true) ↔ Reaches past k send) where
     abbrev pub e : Entry
     e = Deliver to send rsn listed
 
     abbrev pub hit : FinSet nat_cmp
-    hit = union (row reached (length past)) (union (row present to.0) (row reached send))
+    hit = union (row reached r) (union (row present to.0) brought)
 
     -- a place is among those that reach the delivery by its own row, its receiver or its send
-    in_hit : contains hit j ≡ (contains (row reached (length past)) j || (contains (row present to.0) j || contains (row reached send) j))
-    in_hit = contains-union nat_cmp_total (row reached (length past)) (union (row present to.0) (row reached send)) j ∙ ap (λ b. contains (row reached (length past)) j || b) (contains-union nat_cmp_total (row present to.0) (row reached send) j)
+    in_hit : contains hit j ≡ (contains (row reached r) j || (contains (row present to.0) j || contains brought j))
+    in_hit = contains-union nat_cmp_total (row reached r) (union (row present to.0) brought) j ∙ ap (λ b. contains (row reached r) j || b) (contains-union nat_cmp_total (row present to.0) brought j)
 
     -- these are just those that reach it
     tells : TellsNextReach past e k (contains hit j)
     tells =
         let at_send = sent_event past send to.0 (delivers_sent n past to send rsn listed formed.1) in
-        let own = told.ahead (length past) (omega arith) in
+        let own : (contains (row reached r) j ≡ true) ↔ (length past ≡ k) = subst (λ v. (contains (row reached r) j ≡ true) ↔ (v ≡ k)) at (told.ahead r inside (omega (arith, at))) in
         subst (TellsNextReach past e k) (sym in_hit)
-        (delivery_tells n past k (λ p. contains (row present p) j) told.depends (contains (row reached (length past)) j) (contains (row reached send) j) own to send rsn listed
-        (told.behind send at_send.0 at_send.1 at_send.2) formed)
+        (delivery_tells n past k (λ p. contains (row present p) j) told.depends (contains (row reached r) j) (contains brought j) own to send rsn listed
+        (is_brought at_send.0 at_send.1 at_send.2) formed)
 
     -- the receiver depends on what reaches the delivery
     depends_set : to.0 < length present → (p : ℕ) → (contains (row (set present to.0 hit) p) j ≡ true) ↔ Depends (e ∷ past) k p
@@ -215,7 +225,7 @@ module _ (n : ℕ) (past : List Entry) (k j : ℕ) (reached present : Sets) (tol
               let of : Some to.0 ≡ Some p = ap Some (sym here.1) in (
                 λ h. record { up = up; event = length past; present = inr (refl, of, refl); reached = (tells p of).0 (sym is ∙ h) },
                 λ d. is ∙ elim (depends_before n e past k p formed (refl, refl) d) [
-                  | inl old ↦ in_hit ∙ known (contains (row reached (length past)) j) (contains (row present to.0) j) (contains (row reached send) j) ((told.depends to.0).1 (subst (Depends past k) here.1 old))
+                  | inl old ↦ in_hit ∙ known (contains (row reached r) j) (contains (row present to.0) j) (contains brought j) ((told.depends to.0).1 (subst (Depends past k) here.1 old))
                   | inr new ↦ (tells p of).1 new.1
                 ],
               )
@@ -238,9 +248,9 @@ module _ (n : ℕ) (past : List Entry) (k j : ℕ) (reached present : Sets) (tol
     newly = difference hit (row present to.0)
 
     -- a delivery
-    pub delivered : (t : ℕ) → length past ≡ t → t < length reached → to.0 < length present → Told (e ∷ past) k j (set reached t hit) (set present to.0 hit) × Newly past e k j newly
-    delivered t long inside room = (
-      record { behind = behind_set e formed t long inside hit tells; ahead = ahead_set e formed t long hit; depends = depends_set room },
+    pub delivered : to.0 < length present → Told (e ∷ past) start k j (set reached r hit) (set present to.0 hit) × Newly past e k j newly
+    delivered room = (
+      record { early = told.early; behind = behind_set e formed r at inside hit tells; ahead = ahead_set e formed r at hit; depends = depends_set room },
       record {
         sound = λ h. (tells to.0 refl).0 (first (contains hit j) (contains (row present to.0) j) (sym (contains-difference nat_cmp_total hit (row present to.0) j) ∙ h));
         complete = λ p of reach.
@@ -264,73 +274,114 @@ module _ (n : ℕ) (past : List Entry) (k j : ℕ) (reached present : Sets) (tol
 -- what is told of an entry that is known by an equation is what a reach sees
 pub seen : (x y : Entry) (t : ℕ) (old new : Reach) (newly : FinSet nat_cmp) → x ≡ y
     → ((n : ℕ) (past : List Entry) (k j : ℕ) (d : Det) → n ≤ 256 → AreAccepted n (y ∷ past) → length past ≡ t → (k ≡ t → det_at (y ∷ past) k ≡ Some d)
-    → Told past k j old.reached.items old.present.items → Told (y ∷ past) k j new.reached.items new.present.items × Newly past y k j newly)
+    → Told past old.start k j old.reached.items old.present.items → Told (y ∷ past) new.start k j new.reached.items new.present.items × Newly past y k j newly)
     → SeesReach x t old new newly
 seen x y t old new newly same sees n past k j d few formed long at is =
     subst (λ z. AreAccepted n (z ∷ past) → (k ≡ t → det_at (z ∷ past) k ≡ Some d) → IsReach (z ∷ past) k j new × IsNewly past z k j newly) (sym same)
     (λ legal made.
-    let after = sees n past k j d few legal long made (record { behind = is.behind; ahead = is.ahead; depends = is.depends }) in (
-      record { behind = after.0.behind; ahead = after.0.ahead; depends = after.0.depends },
+    let after = sees n past k j d few legal long made (record { early = is.early; behind = is.behind; ahead = is.ahead; depends = is.depends }) in (
+      record { early = after.0.early; behind = after.0.behind; ahead = after.0.ahead; depends = after.0.depends },
       record { sound = after.1.sound; complete = after.1.complete },
     ))
     formed at
 
+-- none reaches an event before the walk
+pub told_before : (reach : Reach) (v : ℕ) → v < reach.start → TellsReached reach v empty
+told_before reach v before n past k j p l formed is at = (
+  λ h. absurd (none_in j h),
+  λ to. absurd (omega (arith, before, is.early, reach_later n past formed k v to)),
+)
+
+-- which of them reach a later one its row tells
+pub told_at : (reach : Reach) (v : ℕ) → reach.start ≤ v → TellsReached reach v (row reach.reached.items (v - reach.start))
+told_at reach v from n past k j p l formed is at =
+    let same : reach.start + (v - reach.start) ≡ v = omega (arith, from) in
+    subst (λ x. (contains (row reach.reached.items (v - reach.start)) j ≡ true) ↔ Reaches past k x) same
+    (is.behind (v - reach.start) p l (subst (λ x. IsEventOf past x p l) (sym same) at))
+
+-- what the rows of a reach tell
+pub is_told : (past : List Entry) (k j : ℕ) (reach : Reach) → Told past reach.start k j reach.reached.items reach.present.items → IsReach past k j reach
+is_told past k j reach told = record { early = told.early; behind = told.behind; ahead = told.ahead; depends = told.depends }
+
 -- the rows of the entries, with one place more
 
 -- no place is in a row
-pub own_none : (positions : List ℕ) (rows : Sets) → ((v : ℕ) → row rows v ≡ empty) → AreOwnRows positions 0 rows
-own_none positions rows none v j = (λ h. absurd (none_in j (ap (λ s. contains s j) (sym (none v)) ∙ h)), λ h. absurd (omega (arith, h.0)))
+pub own_none : (windows : List Window) (start : ℕ) (rows : Sets) → ((i : ℕ) → row rows i ≡ empty) → AreOwnRows windows start 0 rows
+own_none windows start rows none i j inside = (λ h. absurd (none_in j (ap (λ s. contains s j) (sym (none i)) ∙ h)), λ h. absurd (omega (arith, h.0)))
 
--- one place is put into its row
-pub own_more : (positions : List ℕ) (rows : Sets) (i k : ℕ) → get_or positions i 0 ≡ k → k < length rows → AreOwnRows positions i rows → AreOwnRows positions (i + 1) (set rows k (insert (row rows k) i))
-own_more positions rows i k is inside own v j =
-    elim (eqb_tells v k) [
-      | inl here ↦
-          let same : contains (row (set rows k (insert (row rows k) i)) v) j ≡ ((i == j) || contains (row rows v) j) =
-          ap (λ x. contains (row (set rows k (insert (row rows k) i)) x) j) here.1 ∙ ap (λ s. contains s j) (get_or-set_same rows k (insert (row rows k) i) empty inside) ∙ inserted (row rows k) i j
-          ∙ ap (λ x. (i == j) || contains (row rows x) j) (sym here.1) in (
-            λ h. elim (or_cases (i == j) (contains (row rows v) j) (sym same ∙ h)) [
-              | inl now ↦ let at : i ≡ j = eqb-true i j now in (omega (arith, at), ap (λ x. get_or positions x 0) (sym at) ∙ is ∙ sym here.1)
-              | inr old ↦ let before = (own v j).0 old in (omega (arith, before.0), before.1)
-            ],
-            λ h. same ∙ elim (eqb_tells i j) [
-              | inl now ↦ ap (λ b. b || contains (row rows v) j) now.0
-              | inr apart ↦ or_old (i == j) (contains (row rows v) j) ((own v j).1 (let ne : i ≡ j → ⊥ = apart.1 in omega (arith, h.0, ne), h.1))
-            ],
-          )
-      | inr apart ↦
-          let same : row (set rows k (insert (row rows k) i)) v ≡ row rows v = get_or-set_other rows k v (insert (row rows k) i) empty apart.1 in (
-            λ h. let before = (own v j).0 (ap (λ s. contains s j) (sym same) ∙ h) in (omega (arith, before.0), before.1),
-            λ h. ap (λ s. contains s j) same ∙ (own v j).1 (
-              elim (eqb_tells i j) [
-                | inl now ↦ absurd (apart.1 (sym h.1 ∙ ap (λ x. get_or positions x 0) (sym now.1) ∙ is))
-                | inr other ↦ let ne : i ≡ j → ⊥ = other.1 in omega (arith, h.0, ne)
+module _ (windows : List Window) (start : ℕ) (rows : Sets) (place r : ℕ) (is : (window_at windows place).position ≡ start + r) (own : AreOwnRows windows start place rows) where
+  -- a place whose delivery has no row
+  pub own_same : length rows ≤ r → AreOwnRows windows start (place + 1) rows
+  own_same beyond i j inside =
+      let before = own i j inside in (
+        λ h. let was = before.0 h in (omega (arith, was.0), was.1),
+        λ h. before.1 (
+          elim (eqb_tells place j) [
+            | inl now ↦ absurd (omega (arith, is, ap (λ x. (window_at windows x).position) now.1, h.1, beyond, inside))
+            | inr other ↦ let ne : place ≡ j → ⊥ = other.1 in omega (arith, h.0, ne)
+          ],
+          h.1,
+        ),
+      )
+
+  -- one place is put into its row
+  pub own_more : r < length rows → AreOwnRows windows start (place + 1) (set rows r (insert (row rows r) place))
+  own_more inside i j within =
+      let low : i < length rows = omega (arith, within, length-set rows r (insert (row rows r) place)) in
+      elim (eqb_tells i r) [
+        | inl here ↦
+            let same : contains (row (set rows r (insert (row rows r) place)) i) j ≡ ((place == j) || contains (row rows i) j) =
+            ap (λ x. contains (row (set rows r (insert (row rows r) place)) x) j) here.1 ∙ ap (λ s. contains s j) (get_or-set_same rows r (insert (row rows r) place) empty inside) ∙ inserted (row rows r) place j
+            ∙ ap (λ x. (place == j) || contains (row rows x) j) (sym here.1) in (
+              λ h. elim (or_cases (place == j) (contains (row rows i) j) (sym same ∙ h)) [
+                | inl now ↦ let at : place ≡ j = eqb-true place j now in (omega (arith, at), omega (arith, ap (λ x. (window_at windows x).position) at, is, here.1))
+                | inr old ↦ let before = (own i j low).0 old in (omega (arith, before.0), before.1)
               ],
-              h.1,
-            ),
-          )
-    ]
-  where
-    or_old : (a b : Bool) → b ≡ true → (a || b) ≡ true
-    or_old true b h = refl
-    or_old false b h = h
+              λ h. same ∙ elim (eqb_tells place j) [
+                | inl now ↦ ap (λ b. b || contains (row rows i) j) now.0
+                | inr apart ↦ or_old (place == j) (contains (row rows i) j) ((own i j low).1 (let ne : place ≡ j → ⊥ = apart.1 in omega (arith, h.0, ne), h.1))
+              ],
+            )
+        | inr apart ↦
+            let same : row (set rows r (insert (row rows r) place)) i ≡ row rows i = get_or-set_other rows r i (insert (row rows r) place) empty apart.1 in
+            let before = own i j low in (
+              λ h. let was = before.0 (ap (λ s. contains s j) (sym same) ∙ h) in (omega (arith, was.0), was.1),
+              λ h. ap (λ s. contains s j) same ∙ before.1 (
+                elim (eqb_tells place j) [
+                  | inl now ↦ absurd (apart.1 (omega (arith, is, ap (λ x. (window_at windows x).position) now.1, h.1)))
+                  | inr other ↦ let ne : place ≡ j → ⊥ = other.1 in omega (arith, h.0, ne)
+                ],
+                h.1,
+              ),
+            )
+      ]
+    where
+      or_old : (a b : Bool) → b ≡ true → (a || b) ≡ true
+      or_old true b h = refl
+      or_old false b h = h
 
--- before the delivery was made
-pub begun : (past : List Entry) (positions : List ℕ) (j : ℕ) (reached present : Sets) → j < length positions → length past ≤ get_or positions j 0 → AreOwnRows positions (length positions) reached → ((p : ℕ) → row present p ≡ empty)
-    → Told past (get_or positions j 0) j reached present
-begun past positions j reached present low early own none = record {
-  behind = λ v p l at. (
-    λ h. absurd (omega (arith, early, event_below past v p l at, ((own v j).0 h).1)),
-    λ reach. absurd (omega (arith, early, reaches_begins past (get_or positions j 0) v reach)),
-  );
-  ahead = λ v above. (λ h. sym ((own v j).0 h).1, λ is. (own v j).1 (low, sym is));
+-- before the walk
+pub begun : (past : List Entry) (windows : List Window) (start j : ℕ) (reached present : Sets) → length past ≡ start → j < length windows → start ≤ (window_at windows j).position
+    → AreOwnRows windows start (length windows) reached → ((p : ℕ) → row present p ≡ empty) → Told past start (window_at windows j).position j reached present
+begun past windows start j reached present long low early own none = record {
+  early = early;
+  behind = λ i p l at. absurd (omega (arith, long, event_below past (start + i) p l at));
+  ahead = λ i inside above. (λ h. sym ((own i j inside).0 h).1, λ is. (own i j inside).1 (low, sym is));
   depends = λ p. (
     λ h. absurd (none_in j (ap (λ s. contains s j) (sym (none p)) ∙ h)),
-    λ d. absurd (omega (arith, early, reaches_begins past (get_or positions j 0) d.event d.reached)),
+    λ d. absurd (omega (arith, long, early, event_below past d.event p (lane past p) d.present, reaches_begins past (window_at windows j).position d.event d.reached)),
   );
 }
 
 -- ---- places taken out of a set one by one
+
+-- at a place whose window is still open there is a window
+pub has_window : (windows : List Window) (j t : ℕ) → t < (window_at windows j).until → j < length windows
+has_window windows j t ahead =
+    elim (cases_lt j (length windows)) [
+      | inl low ↦ low
+      | inr beyond ↦ absurd (omega (arith, ahead, ap (λ window. window.until) (get_or-eq_default windows (record { position = 0; until = 0 }) beyond)))
+    ]
 
 -- a set is smaller without one of its members
 pub fewer : (s : FinSet nat_cmp) (p : ℕ) → contains s p ≡ true → len (remove s p) < len s
@@ -364,57 +415,76 @@ left_out s p j h =
     ]
 
 -- the lists of the places that are left are as they were, and the others are as they will be
-pub record HaveSoFar (places rest : FinSet nat_cmp) (position : ℕ) (old now : List (List ℕ)) : Type 0 where
+pub record HaveSoFar (windows : List Window) (places rest : FinSet nat_cmp) (position : ℕ) (old now : List (List ℕ)) : Type 0 where
   pub count : length now ≡ length old
   pub left : (j : ℕ) → contains rest j ≡ true → contains places j ≡ true
-  pub listed : (j : ℕ) → j < length old → contains places j ≡ true → contains rest j ≡ false → list_at now j ≡ list_at old j ++ position ∷ []
+  pub listed : (j : ℕ) → contains places j ≡ true → contains rest j ≡ false → position < (window_at windows j).until → list_at now j ≡ list_at old j ++ position ∷ []
   pub ahead : (j : ℕ) → contains rest j ≡ true → list_at now j ≡ list_at old j
   pub others : (j : ℕ) → contains places j ≡ false → list_at now j ≡ list_at old j
+  pub over : (j : ℕ) → (window_at windows j).until ≤ position → list_at now j ≡ list_at old j
 
--- none is taken out yet
-pub so_far_none : (places : FinSet nat_cmp) (position : ℕ) (lists : List (List ℕ)) → HaveSoFar places places position lists lists
-so_far_none places position lists = record {
+-- none is taken out yet but those whose windows are over
+pub so_far_none : (windows : List Window) (places over : FinSet nat_cmp) (position : ℕ) (lists : List (List ℕ)) → AreOver windows position over → HaveSoFar windows places (difference places over) position lists lists
+so_far_none windows places over position lists ended = record {
   count = refl;
-  left = λ j h. h;
-  listed = λ j low h k. absurd (false≢true (sym k ∙ h));
+  left = λ j h. (and_parts (contains places j) (not (contains over j)) (sym (contains-difference nat_cmp_total places over j) ∙ h)).0;
+  listed = λ j h out high. absurd (omega (arith, high, ended j (out_of (contains places j) (contains over j) h (sym (contains-difference nat_cmp_total places over j) ∙ out))));
   ahead = λ j h. refl;
   others = λ j h. refl;
+  over = λ j h. refl;
 }
+  where
+    out_of : (a b : Bool) → a ≡ true → (a && not b) ≡ false → b ≡ true
+    out_of true true h k = refl
+    out_of true false h k = absurd (false≢true (sym k))
+    out_of false b h k = absurd (false≢true h)
 
-module _ (places rest : FinSet nat_cmp) (position : ℕ) (old now : List (List ℕ)) (p : ℕ) (within : contains rest p ≡ true) (are : HaveSoFar places rest position old now) where
-  -- one is taken out, which has a list
-  pub so_far_more : p < length now → HaveSoFar places (remove rest p) position old (with_added now p position)
-  so_far_more inside = record {
+-- one more window is over
+pub over_more : (windows : List Window) (position p : ℕ) (over : FinSet nat_cmp) → (window_at windows p).until ≤ position → AreOver windows position over → AreOver windows position (insert over p)
+over_more windows position p over ended are j h =
+    elim (or_cases (p == j) (contains over j) (sym (inserted over p j) ∙ h)) [
+      | inl here ↦ subst (λ x. (window_at windows x).until ≤ position) (eqb-true p j here) ended
+      | inr old ↦ are j old
+    ]
+
+module _ (windows : List Window) (places rest : FinSet nat_cmp) (position : ℕ) (old now : List (List ℕ)) (p : ℕ) (within : contains rest p ≡ true) (are : HaveSoFar windows places rest position old now) where
+  -- one is taken out, whose window is open
+  pub so_far_more : p < length now → position < (window_at windows p).until → HaveSoFar windows places (remove rest p) position old (with_added now p position)
+  so_far_more inside ahead = record {
     count = length-set now p (list_at now p ++ position ∷ []) ∙ are.count;
     left = λ j h. are.left j (left_in rest p j h).0;
-    listed = λ j low h out. elim (left_out rest p j out) [
+    listed = λ j h out high. elim (left_out rest p j out) [
       | inl here ↦
           ap (list_at (with_added now p position)) here ∙ get_or-set_same now p (list_at now p ++ position ∷ []) [] inside
           ∙ ap (λ list. list ++ position ∷ []) (are.ahead p within) ∙ ap (λ i. list_at old i ++ position ∷ []) (sym here)
-      | inr gone ↦ get_or-set_other now p j (list_at now p ++ position ∷ []) [] (λ is. false≢true (sym gone ∙ ap (contains rest) is ∙ within)) ∙ are.listed j low h gone
+      | inr gone ↦ get_or-set_other now p j (list_at now p ++ position ∷ []) [] (λ is. false≢true (sym gone ∙ ap (contains rest) is ∙ within)) ∙ are.listed j h gone high
     ];
     ahead = λ j h. let still = left_in rest p j h in get_or-set_other now p j (list_at now p ++ position ∷ []) [] still.1 ∙ are.ahead j still.0;
     others = λ j h.
         get_or-set_other now p j (list_at now p ++ position ∷ []) [] (λ is. false≢true (sym h ∙ ap (contains places) is ∙ are.left p within)) ∙ are.others j h;
+    over = λ j low.
+        get_or-set_other now p j (list_at now p ++ position ∷ []) [] (λ is. omega (arith, low, ahead, ap (λ x. (window_at windows x).until) is)) ∙ are.over j low;
   }
 
-  -- one is taken out, which has none
-  pub so_far_same : length now ≤ p → HaveSoFar places (remove rest p) position old now
-  so_far_same beyond = record {
+  -- one is taken out, whose window is over
+  pub so_far_same : (window_at windows p).until ≤ position → HaveSoFar windows places (remove rest p) position old now
+  so_far_same ended = record {
     count = are.count;
     left = λ j h. are.left j (left_in rest p j h).0;
-    listed = λ j low h out. elim (left_out rest p j out) [
-      | inl here ↦ absurd (omega (arith, here, low, beyond, are.count))
-      | inr gone ↦ are.listed j low h gone
+    listed = λ j h out high. elim (left_out rest p j out) [
+      | inl here ↦ absurd (omega (arith, ap (λ x. (window_at windows x).until) here, high, ended))
+      | inr gone ↦ are.listed j h gone high
     ];
     ahead = λ j h. are.ahead j (left_in rest p j h).0;
     others = are.others;
+    over = are.over;
   }
 
 -- all are taken out
-pub so_far_all : (places : FinSet nat_cmp) (position : ℕ) (old now : List (List ℕ)) → HaveSoFar places empty position old now → HaveAdded places position old now
-so_far_all places position old now are = record {
+pub so_far_all : (windows : List Window) (places : FinSet nat_cmp) (position : ℕ) (old now : List (List ℕ)) → HaveSoFar windows places empty position old now → HaveAdded windows places position old now
+so_far_all windows places position old now are = record {
   count = are.count;
-  listed = λ j low h. are.listed j low h (contains-empty nat_cmp j);
+  listed = λ j h high. are.listed j h (contains-empty nat_cmp j) high;
   others = are.others;
+  over = are.over;
 }

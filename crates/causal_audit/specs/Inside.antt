@@ -16,6 +16,7 @@ pub mod Passing
 pub mod Reaching
 pub mod Rises
 pub mod Rooms
+pub mod Scanning
 pub mod Scans
 pub mod Sharing
 pub mod Sights

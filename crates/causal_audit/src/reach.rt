@@ -1,13 +1,13 @@
-//! Which of a few deliveries reach the entries of a run, and on which of them its processes depend, all by one walk.
-ghost use Rattle.std.specs.Prelude.{◌≡◌, ◌<◌, ◌≤◌, ℕ, List, IfOk, OnOk, length, slice_index, true, vec_len};
+//! Which of a few deliveries reach the entries of a walk, and on which of them the processes depend, all by one walk.
+ghost use Rattle.std.specs.Prelude.{◌≡◌, ◌≢◌, ◌<◌, ◌≤◌, ◌↔◌, ℕ, List, IfOk, IsTrue, OnOk, length, vec_len};
 ghost use Rattle.std.specs.FinSet as set;
 ghost use Rattle.std.specs.List.{All};
 ghost use Rattle.causal_trace.specs.declared.entry.Entry.{Entry};
-ghost use Rattle.causal_trace.specs.Dependence.{is_delivery_of};
 ghost use Rattle.causal_audit.specs.Inside.Filed.{lists_in};
-ghost use Rattle.causal_audit.specs.Inside.Reaching.{AreOwnRows, HasRows, HaveAdded, HaveFirstsUntil, IsReach, SeesReach, row};
+ghost use Rattle.causal_audit.specs.Inside.Reaching.{AreOver, AreOwnRows, HasRowOf, HasRows, HaveAdded, HaveFirstsWithin, IsReach, SeesReach, TellsReached, row, window_at};
 
-use crate::lists::{add_to, empty_lists, least_in};
+use crate::lists::{add_to, empty_lists};
+use crate::scan::Window;
 use causal_holders::Holders;
 use causal_name::NoMemory;
 use causal_trace::entry::Entry;
@@ -17,84 +17,129 @@ use std::alloc::Global;
 /// As many as there may be processes.
 const PROCESSES: usize = 256;
 
-/// Of at most 256 deliveries, by their places: for each entry that was read which of them reach it, for each that is still
-/// to be read which of them it is, and for each process on which of them its present lane depends.
+/// Of at most 256 deliveries, by their places: for each entry of a walk, from the one at `start` on, which of them
+/// reach it if it was read, and which of them it is if it is still to be read; and for each process on which of them
+/// its present lane depends.
 #[derive(Drop)]
 pub struct Reach {
+    pub start: u32,
     pub reached: Vec<Holders>,
     pub present: Vec<Holders>,
 }
 
-/// The set at a row.
+/// The set at a row; the empty one where there is none.
 fn set_at(rows: &[Holders], i: usize) -> Holders
-    requires { i < length rows.now }
     ensures { result ≡ row rows.now i }
 {
-    rows[i]
-}
-
-/// Puts the place of each of these deliveries into the row of its own entry.
-fn mark_own(rows: &mut Vec<Holders>, positions: &[u32])
-    requires few { length positions.now ≤ 256 }
-    requires inside { All (λ k. k < length rows.old.items) positions.now }
-    requires none { (v : ℕ) → row rows.old.items v ≡ set.empty }
-    ensures count { length rows.new.items ≡ length rows.old.items }
-    ensures own { AreOwnRows positions.now (length positions.now) rows.new.items }
-{
-    for (place, position) in positions.iter().enumerate() {
-        rows[*position as usize].insert(place as u8);
+    match rows.get(i) {
+        Some(set) => *set,
+        None => Holders::none(),
     }
 }
 
-/// Puts a position at the end of the lists of these places.
-fn add_to_each(lists: &mut Vec<Vec<u32>>, places: Holders, position: u32) -> Result<(), NoMemory>
-    ensures { OnOk result (HaveAdded places position (lists_in lists.old.items) (lists_in lists.new.items)) }
+/// Puts the place of each of these deliveries into the row of its own entry, where that has one. The first row is of
+/// the entry at `start`.
+fn mark_own(rows: &mut Vec<Holders>, start: u32, windows: &[Window])
+    requires few { length windows.now ≤ 256 }
+    requires from { All (λ window. start ≤ window.position) windows.now }
+    requires none { (i : ℕ) → row rows.old.items i ≡ set.empty }
+    ensures count { length rows.new.items ≡ length rows.old.items }
+    ensures own { AreOwnRows windows.now start (length windows.now) rows.new.items }
 {
-    let mut rest = places;
+    for (place, window) in windows.iter().enumerate() {
+        let i = (window.position - start) as usize;
+        if i < rows.len() {
+            rows[i].insert(place as u8);
+        }
+    }
+}
+
+/// Whether the window at this place is still open for the entry at a position.
+fn is_open(windows: &[Window], place: u8, position: u32) -> bool
+    ensures { IsTrue result ↔ position < (window_at windows.now place).until }
+{
+    match windows.get(usize::from(place)) {
+        Some(window) => position < window.until,
+        None => false,
+    }
+}
+
+/// Puts a position at the end of the lists of those of these places whose windows are still open for it. A place whose
+/// window turns out to be over is noted, and passed without a test from then on.
+fn add_to_each(
+    lists: &mut Vec<Vec<u32>>,
+    over: &mut Holders,
+    windows: &[Window],
+    places: Holders,
+    position: u32,
+) -> Result<(), NoMemory>
+    requires count { vec_len lists.old ≡ length windows.now }
+    requires over { AreOver windows.now position over.old }
+    ensures over { AreOver windows.now position over.new }
+    ensures added { OnOk result
+        (HaveAdded windows.now places position (lists_in lists.old.items) (lists_in lists.new.items)) }
+{
+    let mut rest = places.minus(*over);
     while let Some(place) = rest.least() {
         rest.remove(place);
-        if usize::from(place) < lists.len() {
+        if is_open(windows, place, position) {
             add_to(lists, usize::from(place), position)?;
+        } else {
+            over.insert(place);
         }
     }
     Ok(())
 }
 
 impl Reach {
-    /// Where no entry was read of a run of so many, for the deliveries at these positions; so it is too after the entries before
-    /// the first of them, none of which they reach.
-    pub fn begin(alloc: Global, entries: u32, positions: &[u32]) -> Result<Reach, NoMemory>
-        requires few { length positions.now ≤ 256 }
-        requires inside { All (λ k. k < entries) positions.now }
-        ensures rows { IfOk result (HasRows entries) }
-        ensures begins { IfOk result (λ reach. (past : List Entry) (j : ℕ) → j < length positions.now →
-            length past ≤ slice_index positions.now j → IsReach past (slice_index positions.now j) j reach) }
+    /// Where no entry was read of a walk from `start` up to `end`, for the deliveries of these windows, none of which
+    /// stands before the walk; so it is after the entries before the walk, none of which they reach.
+    pub fn begin(alloc: Global, start: u32, end: u32, windows: &[Window]) -> Result<Reach, NoMemory>
+        requires few { length windows.now ≤ 256 }
+        requires from { All (λ window. start ≤ window.position) windows.now }
+        requires ordered { start ≤ end }
+        ensures rows { IfOk result (HasRows start end) }
+        ensures begins { IfOk result (λ reach. (past : List Entry) (j : ℕ) → length past ≡ start →
+            j < length windows.now → IsReach past (window_at windows.now j).position j reach) }
     {
-        let mut reached = vec![in alloc; Holders::none(); entries as usize]?;
-        mark_own(&mut reached, positions);
+        let mut reached = vec![in alloc; Holders::none(); (end - start) as usize]?;
+        mark_own(&mut reached, start, windows);
         let present = vec![in alloc; Holders::none(); PROCESSES]?;
-        Ok(Reach { reached, present })
+        Ok(Reach {
+            start,
+            reached,
+            present,
+        })
+    }
+
+    /// Which of the deliveries reach the event at a position that was read. None reaches one before the walk.
+    fn reaching(&self, position: u32) -> Holders
+        ensures { TellsReached self.now position result }
+    {
+        if position < self.start {
+            return Holders::none();
+        }
+        set_at(&self.reached, (position - self.start) as usize)
     }
 
     /// Takes in the entry at position t, and tells which of the deliveries newly reach its process.
-    pub fn see(&mut self, entry: &Entry, t: u32, entries: u32) -> Holders
-        requires rows { HasRows entries self.old }
-        requires within { t < entries }
-        requires send { (send : ℕ) → is_delivery_of send entry.now ≡ true → send < entries }
-        ensures rows { HasRows entries self.new }
+    pub fn see(&mut self, entry: &Entry, t: u32) -> Holders
+        requires row { HasRowOf t self.old }
+        ensures rows { (start end : ℕ) → HasRows start end self.old → HasRows start end self.new }
         ensures sees { SeesReach entry.now t self.old self.new result }
     {
+        let i = (t - self.start) as usize;
         match entry {
             Entry::Send { from, .. } => {
-                self.reached[t as usize] = set_at(&self.present, usize::from(from.0));
+                self.reached[i] = set_at(&self.present, usize::from(from.0));
                 Holders::none()
             }
             Entry::Deliver { to, send, .. } => {
                 let before = set_at(&self.present, usize::from(to.0));
-                let brought = set_at(&self.reached, *send as usize);
-                let own = set_at(&self.reached, t as usize);
+                let brought = self.reaching(*send);
+                let own = set_at(&self.reached, i);
                 let reached = own.union(before.union(brought));
-                self.reached[t as usize] = reached;
+                self.reached[i] = reached;
                 self.present[usize::from(to.0)] = reached;
                 reached.minus(before)
             }
@@ -112,32 +157,34 @@ impl Reach {
     }
 }
 
-/// For each of these deliveries, by its place, the entries below `end` by which it newly reaches a process. It reads each
-/// entry from the first of the deliveries on once.
+/// For the delivery of each of these windows, by its place, the entries below its `until` by which it newly reaches a
+/// process, as far as they stand below `end`. It reads each entry from `start` on, before which none of the deliveries
+/// stands, up to `end` once. It takes 32 bytes for each of these entries, and four for each entry of a list.
 ///
 /// # Errors
 /// `NoMemory` where memory was refused.
 pub fn firsts_of(
     alloc: Global,
     trace: &Trace,
+    start: u32,
     end: u32,
-    positions: &[u32],
+    windows: &[Window],
 ) -> Result<Vec<Vec<u32>>, NoMemory>
-    requires few { length positions.now ≤ 256 }
+    requires few { length windows.now ≤ 256 }
+    requires ordered { start ≤ end }
     requires within { end ≤ length trace.now.recording.past }
-    requires inside { All (λ k. k < length trace.now.recording.past) positions.now }
-    ensures count { IfOk result (λ lists. vec_len lists ≡ length positions.now) }
+    requires from { All (λ window. start ≤ window.position) windows.now }
+    ensures count { IfOk result (λ lists. vec_len lists ≡ length windows.now) }
     ensures firsts { IfOk result (λ lists.
-        HaveFirstsUntil trace.now.recording.past positions.now end (lists_in lists.items)) }
+        HaveFirstsWithin trace.now.recording.past windows.now end (lists_in lists.items)) }
 {
-    let len = trace.len();
     let entries = trace.entries();
-    let mut reach = Reach::begin(alloc, len, positions)?;
-    let mut lists = empty_lists(alloc, positions.len() as u32)?;
-    let start = least_in(positions, end);
+    let mut reach = Reach::begin(alloc, start, end, windows)?;
+    let mut lists = empty_lists(alloc, windows.len() as u32)?;
+    let mut over = Holders::none();
     for t in start..end {
-        let newly = reach.see(&entries[t as usize], t, len);
-        add_to_each(&mut lists, newly, t)?;
+        let newly = reach.see(&entries[t as usize], t);
+        add_to_each(&mut lists, &mut over, windows, newly, t)?;
     }
     Ok(lists)
 }

@@ -6,14 +6,13 @@ ghost use Rattle.causal_trace.specs.Past.{det_at};
 ghost use Rattle.causal_audit.specs.Breaches.{FirstBreachBy, LeastAmongBy};
 ghost use Rattle.causal_audit.specs.Inside.Filed.{lists_in};
 ghost use Rattle.causal_audit.specs.Inside.Followed.{AreFirstsBelow};
-ghost use Rattle.causal_audit.specs.Inside.Reaching.{HaveFirstsUntil};
-ghost use Rattle.causal_audit.specs.Inside.Scans.{IsScan, IsToldAmong, IsWindow, positions_of};
+ghost use Rattle.causal_audit.specs.Inside.Reaching.{HaveFirstsWithin};
+ghost use Rattle.causal_audit.specs.Inside.Scans.{IsToldAmong, IsWindow, positions_of};
 
 use crate::breach::{Breach, Surveyed, earlier};
 use crate::budget::Budget;
 use crate::changes::Changes;
 use crate::cover::Outline;
-use crate::lists::least_in;
 use crate::mentions::Mentions;
 use crate::orphans::first_orphan;
 use crate::reach::firsts_of;
@@ -21,6 +20,7 @@ use crate::turns::Turns;
 use causal_name::NoMemory;
 use causal_trace::trace::Trace;
 use std::alloc::Global;
+use std::marker::Model;
 
 /// How many deliveries are followed by one walk over the entries.
 const GROUP: usize = 256;
@@ -29,8 +29,9 @@ const GROUP: usize = 256;
 const WALKED: u32 = 8;
 
 /// What is read of a recorded run to follow the messages of a delivery: the trace, a position from which on no entry
-/// releases a process, who is down after each crash and restart, and what mentions each determinant.
-#[derive(Clone, Copy)]
+/// releases a process, who is down after each crash and restart, and what mentions each determinant. It is seen as the
+/// recording.
+#[derive(Drop)]
 pub struct Scan<'a> {
     pub trace: &'a Trace,
     pub lasting_from: u32,
@@ -38,22 +39,35 @@ pub struct Scan<'a> {
     pub mentions: &'a Mentions,
 }
 
-/// A delivery that is to be followed: the position of its entry, and an instant from which on it has no orphan any more.
+impl<'a> Model for Scan<'a> {
+    ghost use Rattle.causal_trace.specs.Rows.{Recording};
+    ghost use Rattle.causal_audit.specs.Inside.Scanning.{IsScan};
+
+    ghost Value = { Recording };
+
+    ghost view = { λ scan. scan.trace.now.recording };
+
+    ghost invariant = { IsScan };
+}
+
+/// A delivery that is to be followed: the position of its entry, and an instant from which on it has no orphan any
+/// more.
 #[derive(Clone, Copy)]
 pub struct Window {
     pub position: u32,
     pub until: u32,
 }
 
-/// The positions of these deliveries.
-fn positions_in(alloc: Global, windows: &[Window]) -> Result<Vec<u32>, NoMemory>
-    ensures { IfOk result (λ list. list.items ≡ positions_of windows.now) }
+/// The first position of these deliveries, or a bound where that is less.
+fn first_of(windows: &[Window], bound: u32) -> u32
+    ensures bound { result ≤ bound }
+    ensures first { All (λ window. result ≤ window.position) windows.now }
 {
-    let mut list = Vec::with_capacity(alloc, windows.len())?;
+    let mut first = bound;
     for window in windows {
-        list.push(window.position)?;
+        first = first.min(window.position);
     }
-    Ok(list)
+    first
 }
 
 /// An instant after which none of these deliveries has an orphan, or `end` if that comes first.
@@ -78,8 +92,8 @@ fn listed_in_all(lists: &[Vec<u32>]) -> usize {
 }
 
 impl Scan<'_> {
-    /// How the delivery of a window, if there is one at its position, first has an orphan, if it has one by the instant `end`. It
-    /// newly reaches a process by the firsts. No instant is looked at from which on it has none any more.
+    /// How the delivery of a window, if there is one at its position, first has an orphan, if it has one by the instant
+    /// `end`. It newly reaches a process by the firsts. No instant is looked at from which on it has none any more.
     fn first_breach_in(
         &self,
         f: u16,
@@ -88,12 +102,11 @@ impl Scan<'_> {
         firsts: &[u32],
         budget: &mut Budget,
     ) -> Option<Breach>
-        requires within { end ≤ length self.now.trace.now.recording.past }
-        requires scan { IsScan self.now }
-        requires window { IsWindow self.now.trace.now.recording f end window }
-        requires firsts { (d : Det) → det_at self.now.trace.now.recording.past window.position ≡ Some d →
-            AreFirstsBelow self.now.trace.now.recording.past window.position (min window.until end) firsts.now }
-        ensures { FirstBreachBy self.now.trace.now.recording f end window.position result }
+        requires within { end ≤ length self.now.past }
+        requires window { IsWindow self.now f end window }
+        requires firsts { (d : Det) → det_at self.now.past window.position ≡ Some d →
+            AreFirstsBelow self.now.past window.position (min window.until end) firsts.now }
+        ensures { FirstBreachBy self.now f end window.position result }
     {
         let k = window.position;
         if end <= k {
@@ -115,8 +128,9 @@ impl Scan<'_> {
         first_orphan(&run, &changes, f, last, k, det, budget)
     }
 
-    /// The least breach of the deliveries of a group, if it comes by the instant `end`, where the lists tell by which entries
-    /// before `last` each newly reaches a process. No instant is looked at that is later than a breach that was found.
+    /// The least breach of the deliveries of a group, if it comes by the instant `end`, where the lists tell by which
+    /// entries of its window before `last` each newly reaches a process. No instant is looked at that is later than a
+    /// breach that was found.
     fn least_of(
         &self,
         f: u16,
@@ -126,14 +140,12 @@ impl Scan<'_> {
         lists: &[Vec<u32>],
         budget: &mut Budget,
     ) -> Option<Breach>
-        requires within { end ≤ length self.now.trace.now.recording.past }
-        requires scan { IsScan self.now }
-        requires windows { All (IsWindow self.now.trace.now.recording f end) group.now }
+        requires within { end ≤ length self.now.past }
+        requires windows { All (IsWindow self.now f end) group.now }
         requires last { All (λ window. min window.until end ≤ last) group.now }
         requires count { length lists.now ≡ length group.now }
-        requires firsts { HaveFirstsUntil self.now.trace.now.recording.past (positions_of group.now) last
-            (lists_in lists.now) }
-        ensures { LeastAmongBy self.now.trace.now.recording f end (positions_of group.now) result }
+        requires firsts { HaveFirstsWithin self.now.past group.now last (lists_in lists.now) }
+        ensures { LeastAmongBy self.now f end (positions_of group.now) result }
     {
         let mut least = None;
         let mut until = end;
@@ -148,8 +160,9 @@ impl Scan<'_> {
         least
     }
 
-    /// The same, by one walk over the entries, from the first of them up to the last instant at which one may have an orphan. It
-    /// takes 32 bytes for each entry of the run, and what each delivery newly reaches.
+    /// The same, by one walk over the entries, from the first of them up to the last instant at which one may have an
+    /// orphan. It takes 32 bytes for each entry of the walk, and four for each entry by which one newly reaches a
+    /// process in its window.
     fn least_in_group(
         &self,
         alloc: Global,
@@ -158,31 +171,29 @@ impl Scan<'_> {
         group: &[Window],
         budget: &mut Budget,
     ) -> Result<Option<Breach>, NoMemory>
-        requires within { end ≤ length self.now.trace.now.recording.past }
-        requires scan { IsScan self.now }
+        requires within { end ≤ length self.now.past }
         requires few { length group.now ≤ 256 }
-        requires inside { All (λ window. window.position < length self.now.trace.now.recording.past) group.now }
-        requires windows { All (IsWindow self.now.trace.now.recording f end) group.now }
-        ensures { IfOk result (LeastAmongBy self.now.trace.now.recording f end (positions_of group.now)) }
+        requires windows { All (IsWindow self.now f end) group.now }
+        ensures { IfOk result (LeastAmongBy self.now f end (positions_of group.now)) }
     {
-        let positions = positions_in(alloc, group)?;
         let last = last_of(group, end);
-        let lists = firsts_of(alloc, self.trace, last, positions.as_slice())?;
-        let walked = last - least_in(positions.as_slice(), last);
-        budget.charge((walked / WALKED) as usize);
+        let first = first_of(group, last);
+        let lists = firsts_of(alloc, self.trace, first, last, group)?;
+        budget.charge(((last - first) / WALKED) as usize);
         budget.charge(listed_in_all(lists.as_slice()));
         Ok(self.least_of(f, end, last, group, lists.as_slice(), budget))
     }
 
-    /// The least breach, by instant and then by position, of the deliveries of these windows, if it comes by the instant `end`;
-    /// None where none of them has an orphan by then. Where the steps do not suffice nothing is told.
+    /// The least breach, by instant and then by position, of the deliveries of these windows, if it comes by the
+    /// instant `end`; None where none of them has an orphan by then. Where the steps do not suffice nothing is told.
     ///
-    /// They are followed in groups of 256: for each the entries are walked once, from the first of the group up to the last
-    /// instant at which one of it may have an orphan, or to a breach that was found. Eight entries of a walk take a step, and so
-    /// does each entry by which one of the group newly reaches a process. Then each delivery takes time as what changes for it
-    /// until it has no orphan any more: as those entries, the restarts that are looked at, which take steps, and the mentions of
-    /// its determinant, which are the caller's to count. For one group at a time it takes 32 bytes for each entry of the run and
-    /// four for each entry by which one newly reaches a process.
+    /// They are followed in groups of 256: for each the entries are walked once, from the first of the group up to the
+    /// last instant at which one of it may have an orphan, or to a breach that was found. Eight entries of a walk take
+    /// a step, and so does each entry by which one of the group newly reaches a process in its window. Then each
+    /// delivery takes time as what changes for it until it has no orphan any more: as those entries, the restarts that
+    /// are looked at, which take steps, and the mentions of its determinant, which are the caller's to count. For one
+    /// group at a time it takes 32 bytes for each entry of its walk and four for each entry by which one newly reaches
+    /// a process in its window.
     ///
     /// # Errors
     /// `NoMemory` where memory was refused.
@@ -194,11 +205,10 @@ impl Scan<'_> {
         windows: &[Window],
         budget: &mut Budget,
     ) -> Result<Surveyed, NoMemory>
-        requires within { end ≤ length self.now.trace.now.recording.past }
-        requires scan { IsScan self.now }
+        requires within { end ≤ length self.now.past }
         requires below { All (λ window. window.position < end) windows.now }
-        requires windows { All (IsWindow self.now.trace.now.recording f end) windows.now }
-        ensures { IfOk result (IsToldAmong self.now.trace.now.recording f end (positions_of windows.now)) }
+        requires windows { All (IsWindow self.now f end) windows.now }
+        ensures { IfOk result (IsToldAmong self.now f end (positions_of windows.now)) }
     {
         let mut least = None;
         let mut until = end;

@@ -1,5 +1,5 @@
--- Which of a few deliveries, by their places, reach the entries of a run, and on which of them its processes depend.
-use Rattle.std.specs.Prelude.{◌≡◌, ℕ, ◌<◌, ◌≤◌, ◌↔◌, ◌⊎◌, true, false, List, [], ◌∷◌, ◌++◌, length, Contains, Some, slice_index, slice_index_or}
+-- Which of a few deliveries, by their places, reach the entries of a walk, and on which of them its processes depend.
+use Rattle.std.specs.Prelude.{◌≡◌, ℕ, ◌+◌, ◌<◌, ◌≤◌, ◌↔◌, ◌⊎◌, true, false, List, [], ◌∷◌, ◌++◌, length, min, Contains, Some, slice_index_or}
 use Rattle.std.specs.Ordering.{nat_cmp}
 use Rattle.std.specs.FinSet.{FinSet, contains, empty}
 use Rattle.causal_name.specs.declared.Det.{Det}
@@ -9,26 +9,50 @@ use Rattle.causal_trace.specs.Rows.{AreAccepted}
 use Rattle.causal_trace.specs.Dependence.{actor, IsEventOf, Reaches, Depends}
 use Rattle.causal_audit.specs.Inside.Filed.{Ascends, list_at}
 use Rattle.causal_audit.specs.declared.reach.Reach.{Reach}
+use Rattle.causal_audit.specs.declared.scan.Window.{Window}
 
 -- the set at a row, empty where there is none
 abbrev pub row : List (FinSet nat_cmp) → ℕ → FinSet nat_cmp
 row rows i = slice_index_or rows i empty
 
--- of the delivery at k, whose place is j: the rows of the entries so far tell which of them it reaches, those ahead where it
--- stands, and the rows of the processes whose present lane depends on it
+-- the window at a place; where there is none, one that is over before the first instant
+abbrev pub window_at : List Window → ℕ → Window
+window_at windows j = slice_index_or windows j (record { position = 0; until = 0 })
+
+-- the walk begins no later than at the delivery at k, whose place is j, and row i is of the i-th entry from there: the
+-- rows of the entries so far tell which of them it reaches, those ahead where it stands, and those of the processes whose
+-- present lane depends on it
 pub record IsReach (past : List Entry) (k j : ℕ) (reach : Reach) : Type 0 where
-  pub behind : (v p l : ℕ) → IsEventOf past v p l → (contains (row reach.reached.items v) j ≡ true) ↔ Reaches past k v
-  pub ahead : (v : ℕ) → length past ≤ v → (contains (row reach.reached.items v) j ≡ true) ↔ (v ≡ k)
+  pub early : reach.start ≤ k
+  pub behind : (i p l : ℕ) → IsEventOf past (reach.start + i) p l
+      → (contains (row reach.reached.items i) j ≡ true) ↔ Reaches past k (reach.start + i)
+  pub ahead : (i : ℕ) → i < length reach.reached.items → length past ≤ reach.start + i
+      → (contains (row reach.reached.items i) j ≡ true) ↔ (reach.start + i ≡ k)
   pub depends : (p : ℕ) → (contains (row reach.present.items p) j ≡ true) ↔ Depends past k p
 
--- each row has just those of the first `count` places whose positions it is
-abbrev pub AreOwnRows : List ℕ → ℕ → List (FinSet nat_cmp) → Type 0
-AreOwnRows positions count rows = (v j : ℕ) → (contains (row rows v) j ≡ true) ↔ ((j < count) × (slice_index positions j ≡ v))
+-- each row from the one of the entry at `start` on has just those of the first `count` places whose positions it is
+abbrev pub AreOwnRows : List Window → ℕ → ℕ → List (FinSet nat_cmp) → Type 0
+AreOwnRows windows start count rows =
+    (i j : ℕ) → i < length rows
+    → (contains (row rows i) j ≡ true) ↔ ((j < count) × ((window_at windows j).position ≡ start + i))
 
--- there is a row for each of so many entries, and for each process
-pub record HasRows (entries : ℕ) (reach : Reach) : Type 0 where
-  pub reached : length reach.reached.items ≡ entries
+-- there is a row for each entry from the first of a walk up to its end, and for each process
+pub record HasRows (first end : ℕ) (reach : Reach) : Type 0 where
+  pub start : reach.start ≡ first
+  pub reached : first + length reach.reached.items ≡ end
   pub present : length reach.present.items ≡ 256
+
+-- there is a row for the entry at t, and for each process
+pub record HasRowOf (t : ℕ) (reach : Reach) : Type 0 where
+  pub from : reach.start ≤ t
+  pub reached : t < reach.start + length reach.reached.items
+  pub present : length reach.present.items ≡ 256
+
+-- of the event at v the set tells which of the deliveries reach it
+abbrev pub TellsReached : Reach → ℕ → FinSet nat_cmp → Type 0
+TellsReached reach v told =
+    (n : ℕ) (past : List Entry) (k j p l : ℕ) → AreAccepted n past → IsReach past k j reach → IsEventOf past v p l
+    → (contains told j ≡ true) ↔ Reaches past k v
 
 -- the place is among the new ones only where k reaches the next entry, and where it does, unless the process depended on k
 pub record IsNewly (past : List Entry) (e : Entry) (k j : ℕ) (newly : FinSet nat_cmp) : Type 0 where
@@ -41,20 +65,28 @@ SeesReach e t old new newly =
     (n : ℕ) (past : List Entry) (k j : ℕ) (d : Det) → n ≤ 256 → AreAccepted n (e ∷ past) → length past ≡ t
     → (k ≡ t → det_at (e ∷ past) k ≡ Some d) → IsReach past k j old → IsReach (e ∷ past) k j new × IsNewly past e k j newly
 
--- the lists of these places have one more position at their end, and the others are as they were
-pub record HaveAdded (places : FinSet nat_cmp) (position : ℕ) (old new : List (List ℕ)) : Type 0 where
+-- the windows at these places are over at the entry at t
+abbrev pub AreOver : List Window → ℕ → FinSet nat_cmp → Type 0
+AreOver windows t over = (j : ℕ) → contains over j ≡ true → (window_at windows j).until ≤ t
+
+-- the lists of those of these places whose windows are not over have the position at their end, and the others are as
+-- they were
+pub record HaveAdded (windows : List Window) (places : FinSet nat_cmp) (position : ℕ) (old new : List (List ℕ)) : Type 0 where
   pub count : length new ≡ length old
-  pub listed : (j : ℕ) → j < length old → contains places j ≡ true → list_at new j ≡ list_at old j ++ position ∷ []
+  pub listed : (j : ℕ) → contains places j ≡ true → position < (window_at windows j).until
+      → list_at new j ≡ list_at old j ++ position ∷ []
   pub others : (j : ℕ) → contains places j ≡ false → list_at new j ≡ list_at old j
+  pub over : (j : ℕ) → (window_at windows j).until ≤ position → list_at new j ≡ list_at old j
 
 -- of the events below t an ascending list has the first one of each lane that k reaches, and only such that it reaches
 pub record AreFirstsUntil (past : List Entry) (k t : ℕ) (list : List ℕ) : Type 0 where
   pub ascends : Ascends t list
   pub reached : (v : ℕ) → Contains list v → Reaches past k v
-  pub first : (v p l : ℕ) → v < t → IsEventOf past v p l → Reaches past k v → Contains list v ⊎ ((i : ℕ) × (i < v) × IsEventOf past i p l × Reaches past k i)
+  pub first : (v p l : ℕ) → v < t → IsEventOf past v p l → Reaches past k v
+      → Contains list v ⊎ ((i : ℕ) × (i < v) × IsEventOf past i p l × Reaches past k i)
 
--- the same of the list of each place at which there is a delivery
-abbrev pub HaveFirstsUntil : List Entry → List ℕ → ℕ → List (List ℕ) → Type 0
-HaveFirstsUntil past positions t lists =
-    (j : ℕ) (d : Det) → j < length positions → det_at past (slice_index positions j) ≡ Some d
-    → AreFirstsUntil past (slice_index positions j) t (list_at lists j)
+-- the same of the list of each window with a delivery, up to the end of the window or to t, if that comes first
+abbrev pub HaveFirstsWithin : List Entry → List Window → ℕ → List (List ℕ) → Type 0
+HaveFirstsWithin past windows t lists =
+    (j : ℕ) (d : Det) → j < length windows → det_at past (window_at windows j).position ≡ Some d
+    → AreFirstsUntil past (window_at windows j).position (min (window_at windows j).until t) (list_at lists j)

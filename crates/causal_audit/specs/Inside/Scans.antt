@@ -1,19 +1,10 @@
--- What a scan reads of a run, which deliveries it follows, and what it tells of them.
+-- Which deliveries a scan follows, and what it tells of them.
 use Rattle.std.specs.Prelude.{ℕ, List, map}
 use Rattle.causal_trace.specs.Rows.{Recording}
 use Rattle.causal_audit.specs.Breaches.{HasNoOrphanFrom, LeastAmongBy}
-use Rattle.causal_audit.specs.Inside.Kept.{AreMentionsKept, AreTurnsKept}
-use Rattle.causal_audit.specs.Lasting.{NoneReleasedFrom}
 use Rattle.causal_audit.specs.declared.breach.Surveyed.{Surveyed}
 use Rattle.causal_audit.specs.declared.breach.Surveyed.TheVariants.{Told, TooMany}
-use Rattle.causal_audit.specs.declared.scan.Scan.{Scan}
 use Rattle.causal_audit.specs.declared.scan.Window.{Window}
-
--- this is kept of the run
-pub record IsScan (scan : Scan) : Type 0 where
-  pub lasting : NoneReleasedFrom scan.trace.now.recording.past scan.lasting_from
-  pub turned : AreTurnsKept scan.trace.now.recording.past scan.turns.now
-  pub mentioned : AreMentionsKept scan.trace.now.recording.past scan.mentions.now
 
 -- the positions of the deliveries
 abbrev pub positions_of : List Window → List ℕ

@@ -6,5 +6,5 @@ use Rattle.causal_audit.proofs.reach.mark_own.Given as goal
 abbrev pub invariant-loop-place : goal.invariant-loop-place
 invariant-loop-place l = record {
   count : length l.rows.items ≡ length l.fn.rows.items;
-  own : AreOwnRows l.positions l.place l.rows.items;
+  own : AreOwnRows l.windows l.start l.place l.rows.items;
 }

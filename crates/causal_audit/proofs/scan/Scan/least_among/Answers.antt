@@ -13,7 +13,7 @@ use Rattle.causal_audit.proofs.scan.Scan.least_among.Goals as goal
 
 pub loop-group-init : goal.loop-group-init
 loop-group-init c =
-    let r = c.args.self.now.trace.now.recording in
+    let r = c.args.self.now in
     let same = c.into_iter-group-iterator.ensures.into_iter_gives in
     let size : chunks_size c.into_iter-group-iterator.result ≡ 256 = ap chunks_size same ∙ c.chunks-group-items.ensures.size in
     let rest : chunks_rest c.into_iter-group-iterator.result ≡ c.args.windows.now = ap chunks_rest same ∙ c.chunks-group-items.ensures.rest in
@@ -30,7 +30,7 @@ loop-group-init c =
 
 pub loop-group-preserved-in-Some-2 : goal.loop-group-preserved-in-Some-2
 loop-group-preserved-in-Some-2 c =
-    let r = c.args.self.now.trace.now.recording in
+    let r = c.args.self.now in
     let f = c.args.f in
     let end = c.args.end in
     let invariant = c.loop-group.invariant in
@@ -60,7 +60,7 @@ loop-group-preserved-in-Some-2 c =
 
 pub loop-group-preserved : goal.loop-group-preserved
 loop-group-preserved c =
-    let r = c.args.self.now.trace.now.recording in
+    let r = c.args.self.now in
     let f = c.args.f in
     let end = c.args.end in
     let invariant = c.loop-group.invariant in
@@ -88,7 +88,7 @@ loop-group-preserved c =
 
 pub least_in_group-requires-clause-windows : goal.least_in_group-requires-clause-windows
 least_in_group-requires-clause-windows c k window low u from before =
-    let r = c.args.self.now.trace.now.recording in
+    let r = c.args.self.now in
     let invariant = c.loop-group.invariant in
     let group = c.in-Some.group.now in
     let over = IsWindow r c.args.f c.args.end in
@@ -96,7 +96,7 @@ least_in_group-requires-clause-windows c k window low u from before =
 
 pub returns : goal.returns
 returns c =
-    let r = c.args.self.now.trace.now.recording in
+    let r = c.args.self.now in
     let invariant = c.loop-group.invariant in
     let done = invariant.least.0 in
     let none : chunks_rest c.loop-group.group-iterator ≡ [] = nil_from_length _ c.in-None.ensures.steps.1.0 in

@@ -1,16 +1,14 @@
-use Rattle.std.proofs.Common.{ℕ, ◌≡◌, ◌+◌, ◌++◌, ◌∷◌, ◌<◌, [], List, Vec, Global, Some, None, get_or, min, take, length, sym, ap, subst, ◌∙◌, arith}
+use Rattle.std.proofs.Common.{ℕ, ◌≡◌, ◌+◌, ◌++◌, ◌∷◌, [], List, Vec, Global, Some, None, get_or, min, take, length, sym, ap, subst, ◌∙◌, arith}
 use Rattle.std.proofs.Math.Seq.{take-length}
-use Rattle.std.proofs.lemmas.List.{get_or-map, length-map}
-use Rattle.causal_trace.specs.Past.{det_at}
+use Rattle.std.proofs.lemmas.List.{get_or-map}
 use Rattle.causal_audit.specs.Inside.Filed.{list_at, lists_in}
 use Rattle.causal_audit.specs.Inside.Followed.{AreFirstsBelow}
-use Rattle.causal_audit.specs.Inside.Reaching.{AreFirstsUntil}
 use Rattle.causal_audit.specs.Breaches.{FirstBreachBy, LeastAmongBy, horizon}
 use Rattle.causal_audit.specs.Earlier.{earlier}
 use Rattle.causal_audit.proofs.Lemmas.AmongLemmas.{among_more, among_same, horizon_more}
 use Rattle.causal_audit.specs.Inside.Scans.{positions_of}
 use Rattle.causal_audit.specs.declared.scan.Window.{Window}
-use Rattle.causal_audit.proofs.Windowed.{firsts_below, one_more, position}
+use Rattle.causal_audit.proofs.Windowed.{firsts_below, one_more}
 use Rattle.causal_audit.proofs.scan.Scan.least_of.Goals as goal
 use Rattle.causal_audit.proofs.scan.Scan.least_of.Goals.{in-Some, in_default}
 
@@ -22,7 +20,7 @@ items list = list.items
 
 pub loop-place-preserved : goal.loop-place-preserved
 loop-place-preserved c =
-    let r = c.args.self.now.trace.now.recording in
+    let r = c.args.self.now in
     let f = c.args.f in
     let end = c.args.end in
     let group = c.args.group.now in
@@ -64,24 +62,20 @@ first_breach_in-requires-clause-window c u from low = c.requires.windows c.loop-
 
 pub first_breach_in-requires-clause-firsts : goal.first_breach_in-requires-clause-firsts
 first_breach_in-requires-clause-firsts c d at =
-    let past = c.args.self.now.trace.now.recording.past in
+    let past = c.args.self.now.past in
     let group = c.args.group.now in
     let lists = c.args.lists.now in
     let i = c.loop-place.place in
     let window = get_or group i zero in
     let last = c.args.last in
     let here = c.loop-place-test.true in
-    let same : get_or (positions_of group) i 0 ≡ window.position = get_or-map position group i zero 0 here in
-    let low : i < length (positions_of group) = omega (arith, here, length-map group position) in
-    let are : AreFirstsUntil past window.position last (list_at (lists_in lists) i) =
-    subst (λ k. AreFirstsUntil past k last (list_at (lists_in lists) i)) same (c.requires.firsts i d low (ap (det_at past) same ∙ at)) in
     let is : list_at (lists_in lists) i ≡ c.as_slice-firsts.result.now =
     get_or-map items lists i c.index-lists-place.result [] (omega (arith, here, c.requires.count)) ∙ ap items (sym c.index-lists-place.is) ∙ sym c.as_slice-firsts.ensures.value in
     subst (AreFirstsBelow past window.position (min window.until c.loop-place.until)) is
-    (firsts_below past window.position last (min window.until c.loop-place.until) (list_at (lists_in lists) i) (omega (arith, c.requires.last i zero here, c.loop-place.invariant.low)) are)
+    (firsts_below past window.position (min window.until last) (min window.until c.loop-place.until) (list_at (lists_in lists) i) (omega (arith, c.requires.last i zero here, c.loop-place.invariant.low)) (c.requires.firsts i d here at))
 
 pub returns : goal.returns
 returns c =
     let group = c.args.group.now in
     let ended : c.loop-place.place ≡ length group = omega (arith, c.loop-place-test.false, c.loop-place.auto.place-end) in
-    subst (λ (list : List Window). LeastAmongBy c.args.self.now.trace.now.recording c.args.f c.args.end (positions_of list) c.loop-place.least) (ap (λ i. take i group) ended ∙ take-length group) c.loop-place.invariant.least
+    subst (λ (list : List Window). LeastAmongBy c.args.self.now c.args.f c.args.end (positions_of list) c.loop-place.least) (ap (λ i. take i group) ended ∙ take-length group) c.loop-place.invariant.least

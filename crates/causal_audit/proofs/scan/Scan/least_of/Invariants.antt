@@ -8,5 +8,5 @@ abbrev pub invariant-loop-place : goal.invariant-loop-place
 invariant-loop-place l = record {
   low : l.until ≤ l.end;
   bound : l.until ≡ horizon l.end l.least;
-  least : LeastAmongBy l.self.trace.now.recording l.f l.end (positions_of (take l.place l.group)) l.least;
+  least : LeastAmongBy l.self l.f l.end (positions_of (take l.place l.group)) l.least;
 }
