@@ -33,8 +33,7 @@ module _ (past : List Entry) (list : List ℕ) (downs : List (FinSet nat_cmp)) (
     (point : IsPartitionPoint (λ v. v < t) (λ v. t ≤ v) list passed) where
   no_turn : (s : ℕ) → ((i : ℕ) → i < passed → get_or list i 0 < s) → (v : ℕ) (e : Entry) → s ≤ v → v < t → entry_at past v ≡ Some e → is_turn e ≡ false
   no_turn s old v e late early at =
-      false_from_ne_true (is_turn e) (λ is.
-      let listed = are.turned v e at is in
+      are.turned v e at (λ listed.
       let value : get_or list listed.0 0 ≡ v = get_or_default list listed.0 0 v listed.1 ∙ listed.2 in
       elim (cases_lt listed.0 passed) [
         | inl behind ↦ let low : get_or list listed.0 0 < s = old listed.0 behind in omega (arith, low, value, late)
@@ -74,12 +73,12 @@ module _ (past : List Entry) (list : List ℕ) (downs : List (FinSet nat_cmp)) (
   pub none_restarts : (u : ℕ) → ((i v : ℕ) → passed ≤ i → i < length list → u ≤ get_or list i v) → RestartsNone past members from u
   none_restarts u rest v e late early at =
       false_from_ne_true (restarts_one members e) (λ is.
-      let listed = are.turned v e at (restarts_turn members e is) in
+      false≢true (sym (are.turned v e at (λ listed.
       let value : get_or list listed.0 0 ≡ v = get_or_default list listed.0 0 v listed.1 ∙ listed.2 in
       elim (cases_lt listed.0 passed) [
         | inl behind ↦ false≢true (sym (none listed.0 e behind (omega (arith, value, late)) (ap (entry_at past) value ∙ at)) ∙ is)
         | inr ahead ↦ let high : u ≤ get_or list listed.0 v = rest listed.0 v ahead listed.1 in omega (arith, high, listed.2, early)
-      ])
+      ])) ∙ restarts_turn members e is))
 
   module _ (x : ℕ) (there : passed < length list) (is : x ≡ get_or list passed x) where
     pub left_above : (i v : ℕ) → passed ≤ i → i < length list → x ≤ get_or list i v

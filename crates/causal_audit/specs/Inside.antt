@@ -12,6 +12,7 @@ pub mod Kinds
 pub mod Layout
 pub mod Moments
 pub mod Newly
+pub mod Outlines
 pub mod Passing
 pub mod Reaching
 pub mod Rises

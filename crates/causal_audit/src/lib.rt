@@ -24,6 +24,7 @@ mod lists;
 mod mentions;
 mod numbering;
 mod orphans;
+mod outline;
 mod reach;
 mod releases;
 mod rising;

@@ -12,10 +12,10 @@ ghost use Rattle.causal_audit.specs.Inside.Scans.{IsScan, IsToldAmong, IsWindow,
 use crate::breach::{Breach, Surveyed, earlier};
 use crate::budget::Budget;
 use crate::changes::Changes;
-use crate::cover::Outline;
 use crate::lists::least_in;
 use crate::mentions::Mentions;
 use crate::orphans::first_orphan;
+use crate::outline::Outline;
 use crate::reach::firsts_of;
 use crate::turns::Turns;
 use causal_name::NoMemory;

@@ -11,11 +11,12 @@ ghost use Rattle.causal_audit.specs.Numbers.{IsNumbered, ArePositions, ArePositi
 use crate::breach::Breach;
 use crate::budget::Budget;
 use crate::changes::Changes;
-use crate::cover::{Outline, uncovered_until};
+use crate::cover::uncovered_until;
 use crate::events::clocks_of;
 use crate::lanes::{LANES, lanes_of, write_firsts};
 use crate::mentions::{Mentions, mentions_in};
 use crate::orphans::first_orphan;
+use crate::outline::Outline;
 use crate::releases::lasting_from;
 use crate::spreads::spreads_of;
 use crate::turns::{Turns, turns_of};

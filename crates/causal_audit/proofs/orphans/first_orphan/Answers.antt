@@ -25,7 +25,7 @@ loop-t-init c =
     let r = c.args.run.now.trace.now.recording in
     let start = c.start-t.result in
     let within : start ≤ length r.past = omega (arith, c.start-t.ensures.made, det_within r.past c.args.k c.args.det c.requires.delivery) in
-    let walk = passed_down r.past c.args.run.now.turns.now start c.ahead-ahead.result.turns c.requires.turns c.ahead-ahead.ensures.passed in
+    let walk = passed_down r.past c.args.run.now.turns.now start c.ahead-ahead.result.turns c.args.run.now.turned c.ahead-ahead.ensures.passed in
     record {
       within = within;
       ahead = c.ahead-ahead.ensures.ahead;
@@ -70,7 +70,7 @@ returns-in-Some c =
     let entry = c.index-entries-change.result in
     let next = next_state r c.entries-entries.result.now c.entries-entries.ensures.value change entry below c.index-entries-change.is in
     let passed : HasPassed c.args.run.now.turns.now change c.next-next.new.self.turns = subst (λ turns. HasPassed turns change c.next-next.new.self.turns) i.passing.over c.next-next.ensures.passed in
-    let walk = passed_down r.past c.args.run.now.turns.now change c.next-next.new.self.turns c.requires.turns passed in
+    let walk = passed_down r.past c.args.run.now.turns.now change c.next-next.new.self.turns c.args.run.now.turned passed in
     let fell : Shows c.down-in-loop-t.result (λ p. is_down (instant r.past change) p) = c.down-in-loop-t.ensures r.past change (omega (arith, below)) walk.0 walk.1 in
     let told : c.next-next.result.mentioned ≡ has (mentioned_by entry) c.args.det =
     mentioned_listed r.past c.args.det lists.mentions.now c.requires.changes.mentioned c.requires.changes.only change entry
@@ -105,7 +105,7 @@ returns-then-is_over c =
     let entry = c.index-entries-change.result in
     let next = next_state r c.entries-entries.result.now c.entries-entries.ensures.value change entry below c.index-entries-change.is in
     let passed : HasPassed c.args.run.now.turns.now change c.next-next.new.self.turns = subst (λ turns. HasPassed turns change c.next-next.new.self.turns) i.passing.over c.next-next.ensures.passed in
-    let walk = passed_down r.past c.args.run.now.turns.now change c.next-next.new.self.turns c.requires.turns passed in
+    let walk = passed_down r.past c.args.run.now.turns.now change c.next-next.new.self.turns c.args.run.now.turned passed in
     let fell : Shows c.down-in-loop-t.result (λ p. is_down (instant r.past change) p) = c.down-in-loop-t.ensures r.past change (omega (arith, below)) walk.0 walk.1 in
     let told : c.next-next.result.mentioned ≡ has (mentioned_by entry) c.args.det =
     mentioned_listed r.past c.args.det lists.mentions.now c.requires.changes.mentioned c.requires.changes.only change entry
@@ -118,7 +118,7 @@ returns-then-is_over c =
     let accepted = accepted_then r.processes r.past (change + 1) formed.accepted in
     let lasting : nat_le c.args.run.now.lasting_from (change + 1) ≡ true → c.args.run.now.lasting_from ≤ change + 1 = leb-true c.args.run.now.lasting_from (change + 1) in
     let over : IsOver r.processes c.args.f r.past (change + 1) c.args.det =
-    over_from r.processes c.args.f r.past (change + 1) c.args.run.now.lasting_from c.args.det (nat_le c.args.run.now.lasting_from (change + 1)) c.requires.lasting lasting
+    over_from r.processes c.args.f r.past (change + 1) c.args.run.now.lasting_from c.args.det (nat_le c.args.run.now.lasting_from (change + 1)) c.args.run.now.lasting lasting
     (c.is_over.ensures r.processes (instant r.past (change + 1)) c.args.k c.args.det accepted seen c.if-is_over.true) in
     λ u within has. elim (cases_lt change u) [
       | inl late ↦ orphans_end r.processes c.args.f r.past c.args.k c.args.det (change + 1) u c.requires.delivery over (omega (arith, late)) (omega (arith, within, c.requires.within)) has
@@ -144,7 +144,7 @@ loop-t-preserved c =
     let entry = c.index-entries-change.result in
     let next = next_state r c.entries-entries.result.now c.entries-entries.ensures.value change entry below c.index-entries-change.is in
     let passed : HasPassed c.args.run.now.turns.now change c.next-next.new.self.turns = subst (λ turns. HasPassed turns change c.next-next.new.self.turns) i.passing.over c.next-next.ensures.passed in
-    let walk = passed_down r.past c.args.run.now.turns.now change c.next-next.new.self.turns c.requires.turns passed in
+    let walk = passed_down r.past c.args.run.now.turns.now change c.next-next.new.self.turns c.args.run.now.turned passed in
     let fell : Shows c.down-in-loop-t.result (λ p. is_down (instant r.past change) p) = c.down-in-loop-t.ensures r.past change (omega (arith, below)) walk.0 walk.1 in
     let told : c.next-next.result.mentioned ≡ has (mentioned_by entry) c.args.det =
     mentioned_listed r.past c.args.det lists.mentions.now c.requires.changes.mentioned c.requires.changes.only change entry

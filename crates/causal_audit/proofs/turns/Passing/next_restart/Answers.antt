@@ -1,10 +1,10 @@
-use Rattle.std.proofs.Common.{◌≡◌, ◌<◌, inl, inr, length, get_or, refl, sym, subst, arith, ◌∙◌}
+use Rattle.std.proofs.Common.{◌≡◌, ◌<◌, ◌≤◌, inl, inr, length, get_or, refl, sym, subst, arith, ◌∙◌}
 use Rattle.std.proofs.lemmas.Bool.{cases_lt}
 use Rattle.std.proofs.lemmas.List.{get_or_default}
 use Rattle.causal_audit.specs.Inside.Kept.{AreTurnsKept}
 use Rattle.causal_audit.specs.Inside.Passing.{HasPassed}
 use Rattle.causal_audit.proofs.Steps.{entry_read}
-use Rattle.causal_audit.proofs.Turned.{left_above, passed_one_more, early_one_more, passed_before}
+use Rattle.causal_audit.proofs.Turned.{left_above, none_restarts, passed_one_more, early_one_more, passed_before}
 use Rattle.causal_audit.proofs.turns.Passing.next_restart.Goals.{else-position-from-via-then-position-from+else-restarts_one, else-position-from-via-else-position-from}
 use Rattle.causal_audit.proofs.turns.Passing.next_restart.Goals as goal
 
@@ -57,3 +57,40 @@ loop-position-preserved c =
                 early_one_more r.past list walk.turns.now.downs.items are c.args.members c.args.from walk.passed i.none x there is (omega (arith, w.if-position-from.false))
           ];
     }
+
+pub returns-then-position-end-clause-none : goal.returns-then-position-end-clause-none
+returns-then-position-end-clause-none c =
+    let i = c.loop-position.invariant in
+    let r = c.args.trace.now.recording in
+    let walk = c.loop-position.self in
+    let list = walk.turns.now.positions.items in
+    let are : AreTurnsKept r.past walk.turns.now = subst (AreTurnsKept r.past) (sym i.over) c.requires.turns in
+    let x = c.in-Some.position.now in
+    let there : walk.passed < length list = subst (λ l. walk.passed < length l) c.deref.ensures.value c.in-Some.ensures.lookup.3.0 in
+    let is : x ≡ get_or list walk.passed x = subst (λ l. x ≡ get_or l walk.passed x) c.deref.ensures.value (c.in-Some.ensures.lookup.3.1 x) in
+    none_restarts r.past list walk.turns.now.downs.items are c.args.members c.args.from walk.passed i.none c.args.end
+    (λ j v ahead inside. let up : x ≤ get_or list j v = left_above r.past list walk.turns.now.downs.items are c.args.members c.args.from walk.passed i.none x there is j v ahead inside in omega (arith, up, c.if-position-end.true))
+
+pub returns-then-restarts_one-clause-none : goal.returns-then-restarts_one-clause-none
+returns-then-restarts_one-clause-none c =
+    let i = c.loop-position.invariant in
+    let r = c.args.trace.now.recording in
+    let walk = c.loop-position.self in
+    let list = walk.turns.now.positions.items in
+    let are : AreTurnsKept r.past walk.turns.now = subst (AreTurnsKept r.past) (sym i.over) c.requires.turns in
+    let x = c.in-Some.position.now in
+    let there : walk.passed < length list = subst (λ l. walk.passed < length l) c.deref.ensures.value c.in-Some.ensures.lookup.3.0 in
+    let is : x ≡ get_or list walk.passed x = subst (λ l. x ≡ get_or l walk.passed x) c.deref.ensures.value (c.in-Some.ensures.lookup.3.1 x) in
+    none_restarts r.past list walk.turns.now.downs.items are c.args.members c.args.from walk.passed i.none x
+    (left_above r.past list walk.turns.now.downs.items are c.args.members c.args.from walk.passed i.none x there is)
+
+pub returns-clause-none : goal.returns-clause-none
+returns-clause-none c =
+    let i = c.loop-position.invariant in
+    let r = c.args.trace.now.recording in
+    let walk = c.loop-position.self in
+    let list = walk.turns.now.positions.items in
+    let are : AreTurnsKept r.past walk.turns.now = subst (AreTurnsKept r.past) (sym i.over) c.requires.turns in
+    let beyond : length list ≤ walk.passed = subst (λ l. length l ≤ walk.passed) c.deref.ensures.value c.in_default.ensures.lookup.3 in
+    none_restarts r.past list walk.turns.now.downs.items are c.args.members c.args.from walk.passed i.none c.args.end
+    (λ j v ahead inside. absurd (omega (arith, ahead, inside, beyond)))
