@@ -27,6 +27,7 @@ mod orphans;
 mod outline;
 mod reach;
 mod releases;
+mod restarts;
 mod rising;
 pub mod room;
 mod scan;

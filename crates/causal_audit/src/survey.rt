@@ -13,7 +13,7 @@ use crate::outline::Outline;
 use crate::releases::lasting_from;
 use crate::scan::{Scan, Window};
 use crate::spreads::stays_of;
-use crate::turns::turns_of;
+use crate::turns::Turns;
 use causal_name::{Det, NoMemory};
 use causal_trace::trace::Trace;
 use std::alloc::Global;
@@ -145,7 +145,7 @@ pub fn least_surveyed(alloc: Global, trace: &Trace, f: u16, end: u32) -> Result<
 {
     let entries = trace.entries();
     let mentions = mentions_in(alloc, entries)?;
-    let turns = turns_of(alloc, entries)?;
+    let turns = Turns::of(alloc, entries)?;
     let stays = stays_of(alloc, entries)?;
     let outline = Outline {
         trace,

@@ -17,7 +17,7 @@ use Rattle.causal_trace.proofs.Lemmas.AtInstants.{accepted_then, instant_length,
 use Rattle.causal_audit.proofs.Lasting.{orphans_end, over_from}
 use Rattle.causal_audit.proofs.Steps.{entry_read, next_state, up_to_next}
 use Rattle.causal_audit.proofs.Orphaned.{not_yet, first_breach_is}
-use Rattle.causal_audit.proofs.Turned.{passing_later, passed_down}
+use Rattle.causal_audit.proofs.Turned.{passed_down}
 use Rattle.causal_audit.proofs.orphans.first_orphan.Goals as goal
 
 pub loop-t-init : goal.loop-t-init
@@ -29,7 +29,7 @@ loop-t-init c =
     record {
       within = within;
       ahead = c.ahead-ahead.ensures.ahead;
-      passing = passing_later c.args.run.now.turns.now start start c.ahead-ahead.result.turns (omega arith) c.ahead-ahead.ensures.passed;
+      turns = c.ahead-ahead.ensures.passed.over;
       sight = c.begin-sight.ensures (instant r.past start) c.args.k c.args.det (c.down.ensures r.past start within walk.0 walk.1)
           (unheard_until r.past c.args.k c.args.det c.args.changes.now.mentions.now start c.requires.changes.mentioned c.start-t.ensures.unmentioned c.start-t.ensures.made within);
       before = λ u h. not_yet r.processes c.args.f (instant r.past u) c.args.k (omega (arith, h, c.start-t.ensures.made, instant_length r.past u (omega (arith, h, within))));
@@ -69,7 +69,7 @@ returns-in-Some c =
     let below : change < length r.past = omega (arith, early, c.requires.within) in
     let entry = c.index-entries-change.result in
     let next = next_state r c.entries-entries.result.now c.entries-entries.ensures.value change entry below c.index-entries-change.is in
-    let passed : HasPassed c.args.run.now.turns.now change c.next-next.new.self.turns = subst (λ turns. HasPassed turns change c.next-next.new.self.turns) i.passing.over c.next-next.ensures.passed in
+    let passed : HasPassed c.args.run.now.turns.now change c.next-next.new.self.turns = subst (λ turns. HasPassed turns change c.next-next.new.self.turns) i.turns c.next-next.ensures.passed in
     let walk = passed_down r.past c.args.run.now.turns.now change c.next-next.new.self.turns c.args.run.now.turned passed in
     let fell : Shows c.down-in-loop-t.result (λ p. is_down (instant r.past change) p) = c.down-in-loop-t.ensures r.past change (omega (arith, below)) walk.0 walk.1 in
     let told : c.next-next.result.mentioned ≡ has (mentioned_by entry) c.args.det =
@@ -104,7 +104,7 @@ returns-then-is_over c =
     let below : change < length r.past = omega (arith, early, c.requires.within) in
     let entry = c.index-entries-change.result in
     let next = next_state r c.entries-entries.result.now c.entries-entries.ensures.value change entry below c.index-entries-change.is in
-    let passed : HasPassed c.args.run.now.turns.now change c.next-next.new.self.turns = subst (λ turns. HasPassed turns change c.next-next.new.self.turns) i.passing.over c.next-next.ensures.passed in
+    let passed : HasPassed c.args.run.now.turns.now change c.next-next.new.self.turns = subst (λ turns. HasPassed turns change c.next-next.new.self.turns) i.turns c.next-next.ensures.passed in
     let walk = passed_down r.past c.args.run.now.turns.now change c.next-next.new.self.turns c.args.run.now.turned passed in
     let fell : Shows c.down-in-loop-t.result (λ p. is_down (instant r.past change) p) = c.down-in-loop-t.ensures r.past change (omega (arith, below)) walk.0 walk.1 in
     let told : c.next-next.result.mentioned ≡ has (mentioned_by entry) c.args.det =
@@ -143,7 +143,7 @@ loop-t-preserved c =
     let below : change < length r.past = omega (arith, early, c.requires.within) in
     let entry = c.index-entries-change.result in
     let next = next_state r c.entries-entries.result.now c.entries-entries.ensures.value change entry below c.index-entries-change.is in
-    let passed : HasPassed c.args.run.now.turns.now change c.next-next.new.self.turns = subst (λ turns. HasPassed turns change c.next-next.new.self.turns) i.passing.over c.next-next.ensures.passed in
+    let passed : HasPassed c.args.run.now.turns.now change c.next-next.new.self.turns = subst (λ turns. HasPassed turns change c.next-next.new.self.turns) i.turns c.next-next.ensures.passed in
     let walk = passed_down r.past c.args.run.now.turns.now change c.next-next.new.self.turns c.args.run.now.turned passed in
     let fell : Shows c.down-in-loop-t.result (λ p. is_down (instant r.past change) p) = c.down-in-loop-t.ensures r.past change (omega (arith, below)) walk.0 walk.1 in
     let told : c.next-next.result.mentioned ≡ has (mentioned_by entry) c.args.det =
@@ -160,7 +160,7 @@ loop-t-preserved c =
     record {
       within = omega (arith, below);
       ahead = ahead_later lists t (change + 1) c.next-next.new.self (omega (arith, bounds)) (c.next-next.ensures.ahead lists i.ahead);
-      passing = passing_later c.args.run.now.turns.now change (change + 1) c.next-next.new.self.turns (omega arith) passed;
+      turns = passed.over;
       sight = seen;
       before = up_to_next (λ u. HasOrphan r.processes c.args.f (instant r.past u) c.args.k → ⊥) change none (c.in_default.ensures r.processes (instant r.past (change + 1)) c.args.det accepted long made seen);
     }

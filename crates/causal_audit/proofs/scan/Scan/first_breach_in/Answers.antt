@@ -31,7 +31,6 @@ first_orphan-requires-clause-changes c =
     let past = c.args.self.now.trace.now.recording.past in
     let mentions = c.requires.scan.mentioned in
     record {
-      mentions_ascend = subst IsNonDecreasing (sym c.list.ensures) (mentions_ascend past c.args.self.now.mentions.now.numbers (map positions c.args.self.now.mentions.now.lists.items) mentions c.in-Some.det);
       mentioned = subst (HasMentions past c.in-Some.det) (sym c.list.ensures) (mentions.mentioned c.in-Some.det);
       only = subst (AreMentionsOf past c.in-Some.det) (sym c.list.ensures) (mentions.only c.in-Some.det);
       firsts = subst (λ last. AreFirstsBelow past c.args.window.position last c.args.firsts.now) (sym c.min-last.ensures) (c.requires.firsts c.in-Some.det (sym c.in-Some.ensures));
@@ -43,3 +42,11 @@ returns c =
     let k = c.args.window.position in
     first_until r c.args.f c.args.end c.args.window.until k c.first_orphan.result c.requires.window
     (subst (λ last. FirstBreachBy r c.args.f last k c.first_orphan.result) c.min-last.ensures c.first_orphan.ensures)
+
+pub invariant_of-changes : goal.invariant_of-changes
+invariant_of-changes c =
+    let past = c.args.self.now.trace.now.recording.past in
+    record {
+      mentions_ascend = subst IsNonDecreasing (sym c.list.ensures) (mentions_ascend past c.args.self.now.mentions.now.numbers (map positions c.args.self.now.mentions.now.lists.items) c.requires.scan.mentioned c.in-Some.det);
+      firsts_ascend = (c.requires.firsts c.in-Some.det (sym c.in-Some.ensures)).ascend;
+    }
