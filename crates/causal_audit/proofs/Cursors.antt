@@ -45,7 +45,6 @@ module _ (list : List ℕ) (from passed : ℕ) (ascending : IsNonDecreasing list
 pub cursor_later : (list : List ℕ) (from to : ℕ) (cursor : _) → from ≤ to → IsCursor list from cursor → IsCursor list to cursor
 cursor_later list from to cursor up is = record {
   over = is.over;
-  ascending = is.ascending;
   passed = λ i v low. omega (arith, is.passed i v low, up);
 }
 

@@ -30,6 +30,7 @@ mod Outward
 mod Prepared
 mod ReachedFirst
 mod Reaching
+mod Restarted
 mod Risen
 mod Rooms
 mod Scanned

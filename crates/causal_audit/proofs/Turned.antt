@@ -13,7 +13,7 @@ use Rattle.causal_audit.specs.declared.turns.Passing.{Passing}
 use Rattle.causal_audit.specs.Inside.Filed.{AreTurns}
 use Rattle.causal_audit.specs.Quiet.{is_turn}
 use Rattle.causal_audit.specs.Inside.Kept.{AreTurnsKept}
-use Rattle.causal_audit.specs.Inside.Passing.{HasPassed, IsPassing}
+use Rattle.causal_audit.specs.Inside.Passing.{HasPassed}
 use Rattle.causal_audit.specs.Inside.Sights.{Shows}
 use Rattle.causal_audit.specs.Inside.Staying.{restarts_one, RestartsNone}
 use Rattle.causal_audit.proofs.Begun.{down_stays}
@@ -33,8 +33,7 @@ module _ (past : List Entry) (list : List ℕ) (downs : List (FinSet nat_cmp)) (
     (point : IsPartitionPoint (λ v. v < t) (λ v. t ≤ v) list passed) where
   no_turn : (s : ℕ) → ((i : ℕ) → i < passed → get_or list i 0 < s) → (v : ℕ) (e : Entry) → s ≤ v → v < t → entry_at past v ≡ Some e → is_turn e ≡ false
   no_turn s old v e late early at =
-      false_from_ne_true (is_turn e) (λ is.
-      let listed = are.turned v e at is in
+      are.turned v e at (λ listed.
       let value : get_or list listed.0 0 ≡ v = get_or_default list listed.0 0 v listed.1 ∙ listed.2 in
       elim (cases_lt listed.0 passed) [
         | inl behind ↦ let low : get_or list listed.0 0 < s = old listed.0 behind in omega (arith, low, value, late)
@@ -74,12 +73,12 @@ module _ (past : List Entry) (list : List ℕ) (downs : List (FinSet nat_cmp)) (
   pub none_restarts : (u : ℕ) → ((i v : ℕ) → passed ≤ i → i < length list → u ≤ get_or list i v) → RestartsNone past members from u
   none_restarts u rest v e late early at =
       false_from_ne_true (restarts_one members e) (λ is.
-      let listed = are.turned v e at (restarts_turn members e is) in
+      false≢true (sym (are.turned v e at (λ listed.
       let value : get_or list listed.0 0 ≡ v = get_or_default list listed.0 0 v listed.1 ∙ listed.2 in
       elim (cases_lt listed.0 passed) [
         | inl behind ↦ false≢true (sym (none listed.0 e behind (omega (arith, value, late)) (ap (entry_at past) value ∙ at)) ∙ is)
         | inr ahead ↦ let high : u ≤ get_or list listed.0 v = rest listed.0 v ahead listed.1 in omega (arith, high, listed.2, early)
-      ])
+      ])) ∙ restarts_turn members e is))
 
   module _ (x : ℕ) (there : passed < length list) (is : x ≡ get_or list passed x) where
     pub left_above : (i v : ℕ) → passed ≤ i → i < length list → x ≤ get_or list i v
@@ -99,36 +98,7 @@ module _ (past : List Entry) (list : List ℕ) (downs : List (FinSet nat_cmp)) (
               ap (restarts_one members) entry ∙ not_one
         ]
 
-    pub early_one_more : x < from → PassNone past list members from (passed + 1)
-    early_one_more early i y low late here =
-        elim (cases_lt i passed) [
-          | inl before ↦ none i y before late here
-          | inr last ↦
-              let same : i ≡ passed = omega (arith, low, last) in
-              let value : get_or list i 0 ≡ x = ap (λ j. get_or list j 0) same ∙ get_or_default list passed 0 x there ∙ sym is in
-              absurd (omega (arith, late, value, early))
-        ]
-
-    -- where it restarts one of these, those that were passed stand before it
-    pub passed_before : (e : Entry) → from ≤ x → entry_at past x ≡ Some e → restarts_one members e ≡ true → (i v : ℕ) → i < passed → get_or list i v < x
-    passed_before e late at one i v low =
-        elim (cases_lt (get_or list i v) x) [
-          | inl before ↦ before
-          | inr after ↦
-              let up : get_or list i v ≤ get_or list passed v = are.ascends.ascending i passed v (omega (arith, low)) there in
-              let same : get_or list i 0 ≡ x = omega (arith, up, after, is, get_or_default list passed x v there, get_or_default list i v 0 (omega (arith, low, there))) in
-              absurd (false≢true (sym (none i e low (omega (arith, same, late)) (ap (entry_at past) same ∙ at)) ∙ one))
-        ]
-
 -- ---- where a walk stands
-
--- what has passed just those below a position has passed only such below a later one
-pub passing_later : (turns : Turns) (t u : ℕ) (walk : Passing) → t ≤ u → HasPassed turns t walk → IsPassing turns u walk
-passing_later turns t u walk up has = record {
-  over = has.over;
-  inside = has.inside;
-  below = λ i v low high. let here : get_or turns.positions.items i v < t = has.point.0 i v low high in omega (arith, here, up);
-}
 
 -- who is down is told of the turns that it walks over
 pub passed_down : (past : List Entry) (turns : Turns) (t : ℕ) (walk : Passing) → AreTurnsKept past turns → HasPassed turns t walk → AreTurnsKept past walk.turns.now × HasPassed walk.turns.now t walk

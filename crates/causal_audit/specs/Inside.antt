@@ -12,11 +12,11 @@ pub mod Kinds
 pub mod Layout
 pub mod Moments
 pub mod Newly
+pub mod Outlines
 pub mod Passing
 pub mod Reaching
 pub mod Rises
 pub mod Rooms
-pub mod Scanning
 pub mod Scans
 pub mod Sharing
 pub mod Sights

@@ -1,10 +1,6 @@
 //! Where something may change for a delivery, beside the restarts: until then it newly has no orphan.
 ghost use Rattle.std.specs.Prelude.{◌≤◌};
 ghost use Rattle.std.specs.List.Sorted.{IsNonDecreasing};
-ghost use Rattle.causal_audit.specs.declared.changes.Changes.{Changes};
-ghost use Rattle.causal_audit.specs.Inside.Ahead.{AreAhead, HasNoneUntil, PassesNone, TellsNewly, TellsNext};
-ghost use Rattle.causal_audit.specs.Inside.Kept.{AreTurnsKept};
-ghost use Rattle.causal_audit.specs.Inside.Passing.{HasPassed, IsPassing};
 ghost use Rattle.causal_audit.specs.Inside.Staying.{RestartsNone};
 
 use crate::budget::Budget;
@@ -19,9 +15,11 @@ use causal_trace::trace::Trace;
 pub struct Changes<'a> {
     pub mentions: &'a [u32],
     pub firsts: &'a [u32],
+    ghost mentions_ascend: { IsNonDecreasing mentions.now },
+    ghost firsts_ascend: { IsNonDecreasing firsts.now },
 }
 
-/// The changes that are still ahead, and a walk over the crashes and restarts.
+/// The changes that are still ahead, and a place among the crashes and restarts.
 #[derive(Clone, Copy)]
 pub struct Ahead<'a> {
     pub mentions: Cursor<'a>,
@@ -30,9 +28,11 @@ pub struct Ahead<'a> {
 }
 
 impl<'a> Changes<'a> {
+    ghost use Rattle.causal_audit.specs.Inside.Ahead.{AreAhead, HasNoneUntil};
+    ghost use Rattle.causal_audit.specs.Inside.Passing.{HasPassed};
+
     /// Where the walk for the delivery at k begins: at the first mention of its determinant, or at k if that comes first.
     pub fn start(&self, k: u32) -> u32
-        requires mentions_ascend { IsNonDecreasing self.now.mentions.now }
         ensures made { result ≤ k }
         ensures unmentioned { HasNoneUntil self.now.mentions.now 0 result }
     {
@@ -44,9 +44,6 @@ impl<'a> Changes<'a> {
 
     /// Those that are not below `from`.
     pub fn ahead(&self, turns: &'a Turns, from: u32) -> Ahead<'a>
-        requires mentions_ascend { IsNonDecreasing self.now.mentions.now }
-        requires firsts_ascend { IsNonDecreasing self.now.firsts.now }
-        requires turns_ascend { IsNonDecreasing turns.now.positions.items }
         ensures ahead { AreAhead self.now from result }
         ensures passed { HasPassed turns.now from result.turns }
     {
@@ -67,6 +64,11 @@ pub struct Next {
 }
 
 impl Ahead<'_> {
+    ghost use Rattle.causal_audit.specs.declared.changes.Changes.{Changes};
+    ghost use Rattle.causal_audit.specs.Inside.Ahead.{AreAhead, PassesNone, TellsNewly, TellsNext};
+    ghost use Rattle.causal_audit.specs.Inside.Kept.{AreTurnsKept};
+    ghost use Rattle.causal_audit.specs.Inside.Passing.{HasPassed};
+
     /// The first position that is not below `from` of a change or of a restart of one of these processes, or `end` if that
     /// comes first. Those before it are passed. A step is taken for a restart.
     pub fn next(
@@ -79,7 +81,6 @@ impl Ahead<'_> {
     ) -> Next
         requires order { from ≤ end }
         requires turns { AreTurnsKept trace.now.recording.past self.old.turns.turns.now }
-        requires passing { IsPassing self.old.turns.turns.now from self.old.turns }
         ensures bounds { (from ≤ result.position) × (result.position ≤ end) }
         ensures ahead { (changes : Changes) → AreAhead changes from self.old → AreAhead changes from self.new }
         ensures passed { HasPassed self.old.turns.turns.now result.position self.new.turns }

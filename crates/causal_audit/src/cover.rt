@@ -9,8 +9,6 @@ ghost use Rattle.causal_trace.specs.Past.{det_at, has, is_stable, logs};
 ghost use Rattle.causal_audit.specs.Breaches.{HasNoOrphanFrom};
 ghost use Rattle.causal_audit.specs.Inside.Ahead.{HasNoneUntil};
 ghost use Rattle.causal_audit.specs.Inside.Changes.{AreMentionsOf, HasMentions};
-ghost use Rattle.causal_audit.specs.Inside.Kept.{AreTurnsKept};
-ghost use Rattle.causal_audit.specs.Lasting.{NoneReleasedFrom};
 ghost use Rattle.causal_audit.specs.Quiet.{mentioned_by};
 ghost use Rattle.causal_audit.specs.Inside.Sights.{Shows, ShowsDownAfter, ShowsHoldersAfter};
 ghost use Rattle.causal_audit.specs.Spread.{LastsUntil, StaysUntil};
@@ -18,21 +16,11 @@ ghost use Rattle.causal_audit.specs.Spread.{LastsUntil, StaysUntil};
 use crate::budget::Budget;
 use crate::cursor::Cursor;
 use crate::holding::holders_after;
+use crate::outline::Outline;
 use crate::sight::down_after;
-use crate::turns::Turns;
 use causal_holders::Holders;
 use causal_name::Det;
 use causal_trace::entry::Entry;
-use causal_trace::trace::Trace;
-
-/// What of a recorded run tells whether a delivery is covered: the trace, a position from which on no entry releases a
-/// process, and who is down after each crash and restart.
-#[derive(Clone, Copy)]
-pub struct Outline<'a> {
-    pub trace: &'a Trace,
-    pub lasting_from: u32,
-    pub turns: &'a Turns,
-}
 
 /// Who is down and who holds the determinant of a delivery at an instant.
 #[derive(Clone, Copy)]
@@ -133,8 +121,6 @@ pub fn uncovered_until(
     budget: &mut Budget,
 ) -> u32
     requires within { end ≤ length run.now.trace.now.recording.past }
-    requires lasting { NoneReleasedFrom run.now.trace.now.recording.past run.now.lasting_from }
-    requires turns { AreTurnsKept run.now.trace.now.recording.past run.now.turns.now }
     requires delivery { det_at run.now.trace.now.recording.past k ≡ Some det }
     requires ascending { IsNonDecreasing mentions.now }
     requires mentioned { HasMentions run.now.trace.now.recording.past det mentions.now }

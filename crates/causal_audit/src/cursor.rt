@@ -1,16 +1,18 @@
 //! A walk over an ascending list of positions.
 ghost use Rattle.std.specs.Prelude.{◌≤◌, ◌<◌, Contains, List, ℕ};
 ghost use Rattle.std.specs.List.Sorted.{IsNonDecreasing};
-ghost use Rattle.causal_audit.specs.Inside.Ahead.{IsCursor, HasNoneUntil};
 
 /// An ascending list of positions, and how many of them have been passed.
 #[derive(Clone, Copy)]
 pub struct Cursor<'a> {
     pub list: &'a [u32],
     pub passed: usize,
+    ghost ascending: { IsNonDecreasing list.now },
 }
 
 impl Cursor<'_> {
+    ghost use Rattle.causal_audit.specs.Inside.Ahead.{IsCursor, HasNoneUntil};
+
     /// A cursor that has passed the positions below `from`.
     pub fn at(list: &[u32], from: u32) -> Cursor<'_>
         requires ascending { IsNonDecreasing list.now }

@@ -5,13 +5,11 @@ ghost use Rattle.causal_trace.specs.Past.{det_at};
 ghost use Rattle.causal_audit.specs.Inside.BreachAt.{TellsBreachAt};
 ghost use Rattle.causal_audit.specs.Breaches.{FirstBreachBy};
 ghost use Rattle.causal_audit.specs.Inside.Followed.{AreFollowed, IsReachedBy};
-ghost use Rattle.causal_audit.specs.Inside.Kept.{AreTurnsKept};
-ghost use Rattle.causal_audit.specs.Lasting.{NoneReleasedFrom};
 
 use crate::breach::Breach;
 use crate::budget::Budget;
 use crate::changes::Changes;
-use crate::cover::Outline;
+use crate::outline::Outline;
 use crate::sight::Sight;
 use causal_holders::Holders;
 use causal_name::Det;
@@ -59,8 +57,6 @@ pub fn first_orphan(
     budget: &mut Budget,
 ) -> Option<Breach>
     requires within { end ≤ length run.now.trace.now.recording.past }
-    requires lasting { NoneReleasedFrom run.now.trace.now.recording.past run.now.lasting_from }
-    requires turns { AreTurnsKept run.now.trace.now.recording.past run.now.turns.now }
     requires delivery { det_at run.now.trace.now.recording.past k ≡ Some det }
     requires changes { AreFollowed run.now.trace.now.recording.past k det end changes.now }
     ensures { FirstBreachBy run.now.trace.now.recording f end k result }

@@ -12,11 +12,10 @@ ghost use Rattle.causal_audit.specs.Inside.Scans.{IsToldAmong, IsWindow, positio
 use crate::breach::{Breach, Surveyed, earlier};
 use crate::budget::Budget;
 use crate::changes::Changes;
-use crate::cover::Outline;
 use crate::mentions::Mentions;
 use crate::orphans::first_orphan;
+use crate::outline::Outline;
 use crate::reach::firsts_of;
-use crate::turns::Turns;
 use causal_name::NoMemory;
 use causal_trace::trace::Trace;
 use std::alloc::Global;
@@ -28,26 +27,23 @@ const GROUP: usize = 256;
 /// How many entries of a walk are one step.
 const WALKED: u32 = 8;
 
-/// What is read of a recorded run to follow the messages of a delivery: the trace, a position from which on no entry
-/// releases a process, who is down after each crash and restart, and what mentions each determinant. It is seen as the
-/// recording.
+/// What is read of a recorded run to follow the messages of a delivery: the outline of the run, and what mentions each
+/// determinant. It is seen as the recording.
 #[derive(Drop)]
 pub struct Scan<'a> {
-    pub trace: &'a Trace,
-    pub lasting_from: u32,
-    pub turns: &'a Turns,
+    pub outline: Outline<'a>,
     pub mentions: &'a Mentions,
 }
 
 impl<'a> Model for Scan<'a> {
     ghost use Rattle.causal_trace.specs.Rows.{Recording};
-    ghost use Rattle.causal_audit.specs.Inside.Scanning.{IsScan};
+    ghost use Rattle.causal_audit.specs.Inside.Kept.{AreMentionsKept};
 
     ghost Value = { Recording };
 
-    ghost view = { λ scan. scan.trace.now.recording };
+    ghost view = { λ scan. scan.outline.trace.now.recording };
 
-    ghost invariant = { IsScan };
+    ghost invariant = { λ scan. AreMentionsKept scan.outline.trace.now.recording.past scan.mentions.now };
 }
 
 /// A delivery that is to be followed: the position of its entry, and an instant from which on it has no orphan any
@@ -112,20 +108,15 @@ impl Scan<'_> {
         if end <= k {
             return None;
         }
-        let Some(det) = self.trace.det_at(k) else {
+        let Some(det) = self.outline.trace.det_at(k) else {
             return None;
-        };
-        let run = Outline {
-            trace: self.trace,
-            lasting_from: self.lasting_from,
-            turns: self.turns,
         };
         let changes = Changes {
             mentions: self.mentions.list(det),
             firsts,
         };
         let last = window.until.min(end);
-        first_orphan(&run, &changes, f, last, k, det, budget)
+        first_orphan(&self.outline, &changes, f, last, k, det, budget)
     }
 
     /// The least breach of the deliveries of a group, if it comes by the instant `end`, where the lists tell by which
@@ -178,7 +169,7 @@ impl Scan<'_> {
     {
         let last = last_of(group, end);
         let first = first_of(group, last);
-        let lists = firsts_of(alloc, self.trace, first, last, group)?;
+        let lists = firsts_of(alloc, self.outline.trace, first, last, group)?;
         budget.charge(((last - first) / WALKED) as usize);
         budget.charge(listed_in_all(lists.as_slice()));
         Ok(self.least_of(f, end, last, group, lists.as_slice(), budget))

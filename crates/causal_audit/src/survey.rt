@@ -7,12 +7,13 @@ ghost use Rattle.causal_audit.specs.Inside.Surveys.{AreGathered, IsSurvey};
 
 use crate::breach::Surveyed;
 use crate::budget::Budget;
-use crate::cover::{Outline, uncovered_until};
+use crate::cover::uncovered_until;
 use crate::mentions::{Mentions, mentions_in};
+use crate::outline::Outline;
 use crate::releases::lasting_from;
 use crate::scan::{Scan, Window};
 use crate::spreads::stays_of;
-use crate::turns::turns_of;
+use crate::turns::Turns;
 use causal_name::{Det, NoMemory};
 use causal_trace::trace::Trace;
 use std::alloc::Global;
@@ -20,15 +21,15 @@ use std::alloc::Global;
 /// What a survey of the deliveries reads: the outline of the run, what mentions each determinant, and how long each entry stays
 /// with its process; and for which f and up to which instant it asks.
 #[derive(Clone, Copy)]
-pub struct Survey<'a> {
-    pub outline: Outline<'a>,
+pub struct Survey<'a, 'r> {
+    pub outline: Outline<'r>,
     pub mentions: &'a Mentions,
     pub stays: &'a [u32],
     pub f: u16,
     pub end: u32,
 }
 
-impl Survey<'_> {
+impl Survey<'_, '_> {
     /// How many entries mention the determinants of the deliveries before the end, those of each counted for itself.
     fn mentions_of_all(&self) -> usize
         requires survey { IsSurvey self.now }
@@ -144,14 +145,15 @@ pub fn least_surveyed(alloc: Global, trace: &Trace, f: u16, end: u32) -> Result<
 {
     let entries = trace.entries();
     let mentions = mentions_in(alloc, entries)?;
-    let turns = turns_of(alloc, entries)?;
+    let turns = Turns::of(alloc, entries)?;
     let stays = stays_of(alloc, entries)?;
+    let outline = Outline {
+        trace,
+        lasting_from: lasting_from(entries),
+        turns: &turns,
+    };
     let survey = Survey {
-        outline: Outline {
-            trace,
-            lasting_from: lasting_from(entries),
-            turns: &turns,
-        },
+        outline,
         mentions: &mentions,
         stays: stays.as_slice(),
         f,

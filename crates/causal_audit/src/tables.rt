@@ -11,14 +11,15 @@ ghost use Rattle.causal_audit.specs.Numbers.{IsNumbered, ArePositions, ArePositi
 use crate::breach::Breach;
 use crate::budget::Budget;
 use crate::changes::Changes;
-use crate::cover::{Outline, uncovered_until};
+use crate::cover::uncovered_until;
 use crate::events::clocks_of;
 use crate::lanes::{LANES, lanes_of, write_firsts};
 use crate::mentions::{Mentions, mentions_in};
 use crate::orphans::first_orphan;
+use crate::outline::Outline;
 use crate::releases::lasting_from;
 use crate::spreads::spreads_of;
-use crate::turns::{Turns, turns_of};
+use crate::turns::Turns;
 use causal_clock::Clocks;
 use causal_name::{Det, NoMemory};
 use causal_trace::entry::Entry;
@@ -52,7 +53,7 @@ impl Model for Tables {
 
     ghost invariant = { λ a. AreTables a.trace.recording a.positions.items a.clocks.events a.lasting_from
         × AreIndexes a.trace.recording a.clocks.events a.mentions.numbers (lists_in a.mentions.lists.items)
-        a.turns.positions.items a.turns.downs.items (lists_in a.lanes.items) a.spreads.items };
+        a.turns (lists_in a.lanes.items) a.spreads.items };
 }
 
 impl Tables {
@@ -68,7 +69,7 @@ impl Tables {
         let clocks = clocks_of(alloc, trace)?;
         let lasting_from = lasting_from(entries);
         let mentions = mentions_in(alloc, entries)?;
-        let turns = turns_of(alloc, entries)?;
+        let turns = Turns::of(alloc, entries)?;
         let lanes = lanes_of(alloc, entries, &clocks)?;
         let spreads = spreads_of(alloc, entries, &clocks)?;
         let trace = trace.try_clone()?;

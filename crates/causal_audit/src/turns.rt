@@ -5,13 +5,12 @@ ghost use Rattle.causal_trace.specs.declared.entry.Entry.{Entry};
 ghost use Rattle.causal_trace.specs.Limits.{max_entries};
 ghost use Rattle.causal_trace.specs.Past.{instant, is_down};
 ghost use Rattle.causal_audit.specs.Quiet.{is_turn};
-ghost use Rattle.causal_audit.specs.Inside.Filed.{past_of};
-ghost use Rattle.causal_audit.specs.Inside.Kept.{AreTurnsKept};
-ghost use Rattle.causal_audit.specs.Inside.Passing.{HasPassed, IsPassing};
+ghost use Rattle.causal_audit.specs.Inside.Filed.{AreTurns, past_of};
 ghost use Rattle.causal_audit.specs.Inside.Sights.{Shows};
 ghost use Rattle.causal_audit.specs.Inside.Staying.{RestartsNone, restarts_one};
 
 use crate::budget::Budget;
+use crate::restarts::Restarts;
 use crate::sight::down_after;
 use causal_holders::Holders;
 use causal_name::NoMemory;
@@ -19,18 +18,25 @@ use causal_trace::entry::Entry;
 use causal_trace::trace::Trace;
 use std::alloc::Global;
 
-/// The positions of the crashes and restarts, and for each who is down after it.
+/// Of so few processes each is asked for its own next restart.
+const FEW: u32 = 8;
+
+/// The positions of the crashes and restarts, for each who is down after it, and the restarts of each process.
 #[derive(Drop)]
 pub struct Turns {
     pub positions: Vec<u32>,
     pub downs: Vec<Holders>,
+    pub restarts: Restarts,
+    ghost ascending: { IsNonDecreasing positions.items },
+    ghost counted: { length downs.items ≡ length positions.items },
 }
 
-/// A walk over the crashes and restarts of a run: how many of them have been passed.
+/// A place among the crashes and restarts of a run: how many of them have been passed.
 #[derive(Clone, Copy)]
 pub struct Passing<'a> {
     pub turns: &'a Turns,
     pub passed: usize,
+    ghost inside: { passed ≤ length turns.now.positions.items },
 }
 
 /// Whether an entry restarts one of these processes.
@@ -40,64 +46,6 @@ fn restarts_one(entry: &Entry, members: Holders) -> bool
     match entry {
         Entry::Restart { who, .. } => members.contains(who.0),
         _ => false,
-    }
-}
-
-impl Turns {
-    /// A walk over them that has passed those before position t.
-    pub fn from(&self, t: u32) -> Passing<'_>
-        requires ascending { IsNonDecreasing self.now.positions.items }
-        ensures { HasPassed self.now t result }
-    {
-        Passing {
-            turns: self,
-            passed: self.positions.partition_point(|position| *position < t),
-        }
-    }
-}
-
-impl Passing<'_> {
-    /// Who is down after those that were passed.
-    pub fn down(&self) -> Holders
-        requires { self.now.passed ≤ length self.now.turns.now.downs.items }
-        ensures { (past : List Entry) (t : ℕ) → t ≤ length past → AreTurnsKept past self.now.turns.now →
-            HasPassed self.now.turns.now t self.now → Shows result (λ p. is_down (instant past t) p) }
-    {
-        if self.passed == 0 {
-            return Holders::none();
-        }
-        self.turns.downs[self.passed - 1]
-    }
-
-    /// The first position from `from` on at which one of these processes restarts, which takes a step, or `end` if that comes
-    /// first. Crashes, and restarts of others, are passed.
-    pub fn next_restart(
-        &mut self,
-        trace: &Trace,
-        members: Holders,
-        from: u32,
-        end: u32,
-        budget: &mut Budget,
-    ) -> u32
-        requires order { from ≤ end }
-        requires turns { AreTurnsKept trace.now.recording.past self.old.turns.now }
-        requires passing { IsPassing self.old.turns.now from self.old }
-        ensures bounds { (from ≤ result) × (result ≤ end) }
-        ensures passed { HasPassed self.old.turns.now result self.new }
-        ensures none { RestartsNone trace.now.recording.past members from result }
-    {
-        let entries = trace.entries();
-        while let Some(position) = self.turns.positions.get(self.passed) {
-            if *position >= end {
-                return end;
-            }
-            if *position >= from && restarts_one(&entries[*position as usize], members) {
-                budget.charge(1);
-                return *position;
-            }
-            self.passed += 1;
-        }
-        end
     }
 }
 
@@ -113,31 +61,140 @@ fn is_turn(entry: &Entry) -> bool
 }
 
 /// Notes the position of an entry after which these processes are down, if it is a crash or a restart.
-fn note_turn(turns: &mut Turns, entry: &Entry, down: Holders, i: u32) -> Result<(), NoMemory>
+fn note_turn(
+    positions: &mut Vec<u32>,
+    downs: &mut Vec<Holders>,
+    entry: &Entry,
+    down: Holders,
+    i: u32,
+) -> Result<(), NoMemory>
     ensures { IfOk result (λ _. (past : List Entry) → length past ≡ i → Shows down (λ p. is_down (entry.now ∷ past) p) →
-        AreTurnsKept past turns.old → AreTurnsKept (entry.now ∷ past) turns.new) }
+        AreTurns past positions.old.items downs.old.items →
+        AreTurns (entry.now ∷ past) positions.new.items downs.new.items) }
 {
     if !is_turn(entry) {
         return Ok(());
     }
-    turns.positions.push(i)?;
-    turns.downs.push(down)?;
+    positions.push(i)?;
+    downs.push(down)?;
     Ok(())
 }
 
-/// The positions of the crashes and restarts, in order, and who is down after each.
-pub fn turns_of(alloc: Global, entries: &[Entry]) -> Result<Turns, NoMemory>
-    requires { length entries.now ≤ max_entries }
-    ensures { IfOk result (AreTurnsKept (past_of entries.now)) }
-{
-    let mut turns = Turns {
-        positions: Vec::new(alloc),
-        downs: Vec::new(alloc),
-    };
-    let mut down = Holders::none();
-    for (i, entry) in entries.iter().enumerate() {
-        down = down_after(down, entry);
-        note_turn(&mut turns, entry, down, i as u32)?;
+impl Turns {
+    ghost use Rattle.causal_audit.specs.Inside.Kept.{AreTurnsKept};
+    ghost use Rattle.causal_audit.specs.Inside.Passing.{HasPassed, IsPlace};
+
+    /// The positions of the crashes and restarts, in order, who is down after each, and the restarts of each process.
+    pub fn of(alloc: Global, entries: &[Entry]) -> Result<Turns, NoMemory>
+        requires { length entries.now ≤ max_entries }
+        ensures { IfOk result (AreTurnsKept (past_of entries.now)) }
+    {
+        let mut positions = Vec::new(alloc);
+        let mut downs = Vec::new(alloc);
+        let mut down = Holders::none();
+        for (i, entry) in entries.iter().enumerate() {
+            down = down_after(down, entry);
+            note_turn(&mut positions, &mut downs, entry, down, i as u32)?;
+        }
+        let restarts = Restarts::of(alloc, entries)?;
+        Ok(Turns {
+            positions,
+            downs,
+            restarts,
+        })
     }
-    Ok(turns)
+
+    /// How many of them stand before position t.
+    fn before(&self, t: u32) -> usize
+        ensures { IsPlace self.now t result }
+    {
+        self.positions.partition_point(|position| *position < t)
+    }
+
+    /// The place after those before position t.
+    pub fn from(&self, t: u32) -> Passing<'_>
+        ensures { HasPassed self.now t result }
+    {
+        Passing {
+            turns: self,
+            passed: self.before(t),
+        }
+    }
+
+    /// The first position from `from` on at which one of these processes restarts, or `end` if that comes first: the
+    /// restarts are passed one by one.
+    fn next_of_many(&self, trace: &Trace, members: Holders, from: u32, end: u32) -> u32
+        requires order { from ≤ end }
+        requires turns { AreTurnsKept trace.now.recording.past self.now }
+        ensures bounds { (from ≤ result) × (result ≤ end) }
+        ensures none { RestartsNone trace.now.recording.past members from result }
+    {
+        let entries = trace.entries();
+        let mut passed = self.before(from);
+        while let Some(position) = self.positions.get(passed) {
+            if *position >= end {
+                return end;
+            }
+            if restarts_one(&entries[*position as usize], members) {
+                return *position;
+            }
+            passed += 1;
+        }
+        end
+    }
+
+    /// The same. Where the processes are few, it is the least of their own next restarts, by a binary search for each;
+    /// else it takes time as the crashes and restarts in between.
+    fn next_restart(&self, trace: &Trace, members: Holders, from: u32, end: u32) -> u32
+        requires order { from ≤ end }
+        requires turns { AreTurnsKept trace.now.recording.past self.now }
+        ensures bounds { (from ≤ result) × (result ≤ end) }
+        ensures none { RestartsNone trace.now.recording.past members from result }
+    {
+        if members.len() <= FEW {
+            self.restarts.next_among(members, from, end)
+        } else {
+            self.next_of_many(trace, members, from, end)
+        }
+    }
+}
+
+impl Passing<'_> {
+    ghost use Rattle.causal_audit.specs.Inside.Kept.{AreTurnsKept};
+    ghost use Rattle.causal_audit.specs.Inside.Passing.{HasPassed};
+
+    /// Who is down after those that were passed.
+    pub fn down(&self) -> Holders
+        ensures { (past : List Entry) (t : ℕ) → t ≤ length past → AreTurnsKept past self.now.turns.now →
+            HasPassed self.now.turns.now t self.now → Shows result (λ p. is_down (instant past t) p) }
+    {
+        if self.passed == 0 {
+            return Holders::none();
+        }
+        self.turns.downs[self.passed - 1]
+    }
+
+    /// The first position from `from` on at which one of these processes restarts, which takes a step, or `end` if that
+    /// comes first. Crashes, and restarts of others, are passed.
+    pub fn next_restart(
+        &mut self,
+        trace: &Trace,
+        members: Holders,
+        from: u32,
+        end: u32,
+        budget: &mut Budget,
+    ) -> u32
+        requires order { from ≤ end }
+        requires turns { AreTurnsKept trace.now.recording.past self.old.turns.now }
+        ensures bounds { (from ≤ result) × (result ≤ end) }
+        ensures passed { HasPassed self.old.turns.now result self.new }
+        ensures none { RestartsNone trace.now.recording.past members from result }
+    {
+        let position = self.turns.next_restart(trace, members, from, end);
+        if position < end {
+            budget.charge(1);
+        }
+        self.passed = self.turns.before(position);
+        position
+    }
 }

@@ -1,15 +1,13 @@
 -- The changes that are still ahead in a walk over them.
 use Rattle.std.specs.Prelude.{◌≡◌, ℕ, ◌<◌, ◌≤◌, ◌↔◌, true, List, Contains, slice_index_or}
-use Rattle.std.specs.List.Sorted.{IsNonDecreasing}
 use Rattle.causal_audit.specs.declared.changes.Changes.{Changes}
 use Rattle.causal_audit.specs.declared.changes.Ahead.{Ahead}
 use Rattle.causal_audit.specs.declared.changes.Next.{Next}
 use Rattle.causal_audit.specs.declared.cursor.Cursor.{Cursor}
 
--- a cursor over an ascending list that has passed only numbers below `from`
+-- a cursor over the list that has passed only numbers below `from`
 pub record IsCursor (list : List ℕ) (from : ℕ) (cursor : Cursor) : Type 0 where
   pub over : cursor.list.now ≡ list
-  pub ascending : IsNonDecreasing list
   pub passed : (i v : ℕ) → i < cursor.passed → slice_index_or list i v < from
 
 -- from `from` on the list has no number below `next`

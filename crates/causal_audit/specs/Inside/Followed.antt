@@ -21,10 +21,9 @@ pub record AreFirstsBelow (past : List Entry) (k end : ℕ) (list : List ℕ) : 
   pub reached : (v : ℕ) → v < end → Contains list v → Reaches past k v
   pub first : HasFirstsUntil past k end list
 
--- ascending they have each position below `end` at which the determinant d of the delivery at k is mentioned, or k newly
+-- they have each position below `end` at which the determinant d of the delivery at k is mentioned, or k newly
 -- reaches a process
 pub record AreFollowed (past : List Entry) (k : ℕ) (d : Det) (end : ℕ) (changes : Changes) : Type 0 where
-  pub mentions_ascend : IsNonDecreasing changes.mentions.now
   pub mentioned : HasMentions past d changes.mentions.now
   pub only : AreMentionsOf past d changes.mentions.now
   pub firsts : AreFirstsBelow past k end changes.firsts.now

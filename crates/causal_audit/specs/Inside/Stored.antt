@@ -1,15 +1,15 @@
 -- What the tables of a recorded run keep of it.
 use Rattle.std.specs.Prelude.{ℕ, ◌+◌, ◌≤◌, List, length}
-use Rattle.std.specs.Ordering.{nat_cmp}
-use Rattle.std.specs.FinSet.{FinSet}
 use Rattle.causal_trace.specs.Limits.{max_processes, max_entries, max_restarts}
 use Rattle.causal_trace.specs.Rows.{Recording, IsWellFormed}
 use Rattle.causal_clock.specs.declared.Event.{Event}
-use Rattle.causal_audit.specs.Inside.Filed.{AreLanes, AreMentions, AreTurns, Numbers}
+use Rattle.causal_audit.specs.Inside.Filed.{AreLanes, AreMentions, Numbers}
+use Rattle.causal_audit.specs.Inside.Kept.{AreTurnsKept}
 use Rattle.causal_audit.specs.Lasting.{NoneReleasedFrom}
 use Rattle.causal_audit.specs.Numbers.{ArePositions}
 use Rattle.causal_audit.specs.Spread.{AreSpreads}
 use Rattle.causal_audit.specs.Inside.Stands.{Stands}
+use Rattle.causal_audit.specs.declared.turns.Turns.{Turns}
 
 -- the positions of its deliveries, a clock whose events stand for its entries, and a position from which on no entry
 -- releases a process
@@ -22,9 +22,9 @@ pub record AreTables (r : Recording) (positions : List ℕ) (events : List Event
 
 -- where something may change for a delivery: for each determinant the entries that mention it, the crashes and restarts
 -- with who is down after each, the events of each lane, of which there are few, and how long each event stays with its lane
-pub record AreIndexes (r : Recording) (events : List Event) (numbers : Numbers) (mentions : List (List ℕ)) (turns : List ℕ) (downs : List (FinSet nat_cmp)) (lanes : List (List ℕ)) (spreads : List ℕ) : Type 0 where
+pub record AreIndexes (r : Recording) (events : List Event) (numbers : Numbers) (mentions : List (List ℕ)) (turns : Turns) (lanes : List (List ℕ)) (spreads : List ℕ) : Type 0 where
   pub mentioned : AreMentions r.past numbers mentions
-  pub turned : AreTurns r.past turns downs
+  pub turned : AreTurnsKept r.past turns
   pub in_lanes : AreLanes r.past events lanes
   pub spread : AreSpreads r.past events spreads
   pub few : length lanes ≤ max_processes + max_restarts

@@ -17,7 +17,7 @@ use Rattle.causal_audit.proofs.Lasting.{orphans_end, none_later}
 use Rattle.causal_audit.proofs.Orphaned.{not_yet}
 use Rattle.causal_audit.proofs.Shown.{shows_none}
 use Rattle.causal_audit.proofs.Steps.{entry_read, next_state}
-use Rattle.causal_audit.proofs.Turned.{passing_later, passed_down}
+use Rattle.causal_audit.proofs.Turned.{passed_down}
 use Rattle.causal_audit.proofs.cover.uncovered_until.Goals as goal
 
 pub loop-t-init : goal.loop-t-init
@@ -26,11 +26,11 @@ loop-t-init c =
     let t = c.first_of-t.result in
     let within : t ≤ length past = omega (arith, c.first_of-t.ensures.before, det_within past c.args.k c.args.det c.requires.delivery) in
     let unheard = unheard_until past c.args.k c.args.det c.args.mentions.now t c.requires.mentioned c.first_of-t.ensures.none c.first_of-t.ensures.before within in
-    let walk = passed_down past c.args.run.now.turns.now t c.from-turns.result c.requires.turns c.from-turns.ensures in
+    let walk = passed_down past c.args.run.now.turns.now t c.from-turns.result c.args.run.now.turned c.from-turns.ensures in
     record {
       within = within;
       mentions = c.at-ahead.ensures;
-      turns = passing_later c.args.run.now.turns.now t t c.from-turns.result (omega arith) c.from-turns.ensures;
+      turns = c.from-turns.ensures.over;
       down = c.down.ensures past t within walk.0 walk.1;
       holders = rw c.none.ensures (shows_none (λ p. logs (instant past t) p c.args.det) unheard.unlogged);
       before = λ u _ early. not_yet c.args.run.now.trace.now.recording.processes c.min-most.result (instant past u) c.args.k (omega (arith, early, c.first_of-t.ensures.before, instant_length past u (omega (arith, early, within))));
@@ -96,8 +96,8 @@ returns-then-len-from c =
     let below : change < length r.past = omega (arith, low, c.if-change-end.false, c.requires.within) in
     let next : instant r.past (change + 1) ≡ c.index-entries-change.result ∷ instant r.past change = next_state r c.entries-entries.result.now c.entries-entries.ensures.value change c.index-entries-change.result below c.index-entries-change.is in
     let up : c.loop-t.t ≤ change = c.next_restart-change.ensures.bounds.0 in
-    let passed : HasPassed c.args.run.now.turns.now change c.next_restart-change.new.self = subst (λ turns. HasPassed turns change c.next_restart-change.new.self) i.turns.over c.next_restart-change.ensures.passed in
-    let walk = passed_down r.past c.args.run.now.turns.now change c.next_restart-change.new.self c.requires.turns passed in
+    let passed : HasPassed c.args.run.now.turns.now change c.next_restart-change.new.self = subst (λ turns. HasPassed turns change c.next_restart-change.new.self) i.turns c.next_restart-change.ensures.passed in
+    let walk = passed_down r.past c.args.run.now.turns.now change c.next_restart-change.new.self c.args.run.now.turned passed in
     let fell : Shows c.down-in-loop-t.result (λ p. is_down (instant r.past change) p) = c.down-in-loop-t.ensures r.past change (omega (arith, below)) walk.0 walk.1 in
     let held : Shows (difference holders c.down-in-loop-t.result) (λ p. logs (instant r.past change) p c.args.det) =
     holds_until r.processes c.min-most.result r.past formed c.args.k c.args.det c.requires.delivery c.loop-t.t change (omega (arith, below)) unmentioned down holders unrestarted i.down i.holders change up (omega arith) c.down-in-loop-t.result fell in
@@ -111,7 +111,7 @@ returns-then-len-from c =
     let legal = accepted_then r.processes r.past (change + 1) formed in
     let many : c.min-most.result < count_below r.processes (gone (instant r.past (change + 1)) c.args.det) =
     omega (arith, c.if-len-from.true, c.from.ensures, c.len.ensures.counted, ap len c.gone-then-run-t.ensures, gone_many r.processes (instant r.past (change + 1)) c.args.det legal c.see.new.self.down c.see.new.self.holders down_after holders_after) in
-    let lasting = none_later r.past c.args.run.now.lasting_from (change + 1) c.if-run-t.true c.requires.lasting in
+    let lasting = none_later r.past c.args.run.now.lasting_from (change + 1) c.if-run-t.true c.args.run.now.lasting in
     let few : (u : ℕ) → HasOrphan r.processes c.args.f (instant r.past u) c.args.k → HasOrphan r.processes c.min-most.result (instant r.past u) c.args.k =
     λ u has. of_most r.processes c.args.f c.min-most.result (instant r.past u) c.args.k (omega (arith, c.min-most.ensures, c.processes.ensures.value)) has in
     λ u from within has. elim (cases_lt change u) [
@@ -137,8 +137,8 @@ loop-t-preserved c =
     let below : change < length r.past = omega (arith, low, c.if-change-end.false, c.requires.within) in
     let next : instant r.past (change + 1) ≡ c.index-entries-change.result ∷ instant r.past change = next_state r c.entries-entries.result.now c.entries-entries.ensures.value change c.index-entries-change.result below c.index-entries-change.is in
     let up : c.loop-t.t ≤ change = c.next_restart-change.ensures.bounds.0 in
-    let passed : HasPassed c.args.run.now.turns.now change c.next_restart-change.new.self = subst (λ turns. HasPassed turns change c.next_restart-change.new.self) i.turns.over c.next_restart-change.ensures.passed in
-    let walk = passed_down r.past c.args.run.now.turns.now change c.next_restart-change.new.self c.requires.turns passed in
+    let passed : HasPassed c.args.run.now.turns.now change c.next_restart-change.new.self = subst (λ turns. HasPassed turns change c.next_restart-change.new.self) i.turns c.next_restart-change.ensures.passed in
+    let walk = passed_down r.past c.args.run.now.turns.now change c.next_restart-change.new.self c.args.run.now.turned passed in
     let fell : Shows c.down-in-loop-t.result (λ p. is_down (instant r.past change) p) = c.down-in-loop-t.ensures r.past change (omega (arith, below)) walk.0 walk.1 in
     let held : Shows (difference holders c.down-in-loop-t.result) (λ p. logs (instant r.past change) p c.args.det) =
     holds_until r.processes c.min-most.result r.past formed c.args.k c.args.det c.requires.delivery c.loop-t.t change (omega (arith, below)) unmentioned down holders unrestarted i.down i.holders change up (omega arith) c.down-in-loop-t.result fell in
@@ -152,7 +152,7 @@ loop-t-preserved c =
     record {
       within = omega (arith, below);
       mentions = cursor_later mentions c.loop-t.t (change + 1) c.next-mention.new.self (omega (arith, up)) (c.next-mention.ensures.cursor mentions i.mentions);
-      turns = passing_later c.args.run.now.turns.now change (change + 1) c.next_restart-change.new.self (omega arith) passed;
+      turns = passed.over;
       down = down_after;
       holders = holders_after;
       before = λ u from early. none u from (omega (arith, early));

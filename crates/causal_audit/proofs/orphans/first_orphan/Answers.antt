@@ -17,7 +17,7 @@ use Rattle.causal_trace.proofs.Lemmas.AtInstants.{accepted_then, instant_length,
 use Rattle.causal_audit.proofs.Lasting.{orphans_end, over_from}
 use Rattle.causal_audit.proofs.Steps.{entry_read, next_state, up_to_next}
 use Rattle.causal_audit.proofs.Orphaned.{not_yet, first_breach_is}
-use Rattle.causal_audit.proofs.Turned.{passing_later, passed_down}
+use Rattle.causal_audit.proofs.Turned.{passed_down}
 use Rattle.causal_audit.proofs.orphans.first_orphan.Goals as goal
 
 pub loop-t-init : goal.loop-t-init
@@ -25,11 +25,11 @@ loop-t-init c =
     let r = c.args.run.now.trace.now.recording in
     let start = c.start-t.result in
     let within : start ≤ length r.past = omega (arith, c.start-t.ensures.made, det_within r.past c.args.k c.args.det c.requires.delivery) in
-    let walk = passed_down r.past c.args.run.now.turns.now start c.ahead-ahead.result.turns c.requires.turns c.ahead-ahead.ensures.passed in
+    let walk = passed_down r.past c.args.run.now.turns.now start c.ahead-ahead.result.turns c.args.run.now.turned c.ahead-ahead.ensures.passed in
     record {
       within = within;
       ahead = c.ahead-ahead.ensures.ahead;
-      passing = passing_later c.args.run.now.turns.now start start c.ahead-ahead.result.turns (omega arith) c.ahead-ahead.ensures.passed;
+      turns = c.ahead-ahead.ensures.passed.over;
       sight = c.begin-sight.ensures (instant r.past start) c.args.k c.args.det (c.down.ensures r.past start within walk.0 walk.1)
           (unheard_until r.past c.args.k c.args.det c.args.changes.now.mentions.now start c.requires.changes.mentioned c.start-t.ensures.unmentioned c.start-t.ensures.made within);
       before = λ u h. not_yet r.processes c.args.f (instant r.past u) c.args.k (omega (arith, h, c.start-t.ensures.made, instant_length r.past u (omega (arith, h, within))));
@@ -69,8 +69,8 @@ returns-in-Some c =
     let below : change < length r.past = omega (arith, early, c.requires.within) in
     let entry = c.index-entries-change.result in
     let next = next_state r c.entries-entries.result.now c.entries-entries.ensures.value change entry below c.index-entries-change.is in
-    let passed : HasPassed c.args.run.now.turns.now change c.next-next.new.self.turns = subst (λ turns. HasPassed turns change c.next-next.new.self.turns) i.passing.over c.next-next.ensures.passed in
-    let walk = passed_down r.past c.args.run.now.turns.now change c.next-next.new.self.turns c.requires.turns passed in
+    let passed : HasPassed c.args.run.now.turns.now change c.next-next.new.self.turns = subst (λ turns. HasPassed turns change c.next-next.new.self.turns) i.turns c.next-next.ensures.passed in
+    let walk = passed_down r.past c.args.run.now.turns.now change c.next-next.new.self.turns c.args.run.now.turned passed in
     let fell : Shows c.down-in-loop-t.result (λ p. is_down (instant r.past change) p) = c.down-in-loop-t.ensures r.past change (omega (arith, below)) walk.0 walk.1 in
     let told : c.next-next.result.mentioned ≡ has (mentioned_by entry) c.args.det =
     mentioned_listed r.past c.args.det lists.mentions.now c.requires.changes.mentioned c.requires.changes.only change entry
@@ -104,8 +104,8 @@ returns-then-is_over c =
     let below : change < length r.past = omega (arith, early, c.requires.within) in
     let entry = c.index-entries-change.result in
     let next = next_state r c.entries-entries.result.now c.entries-entries.ensures.value change entry below c.index-entries-change.is in
-    let passed : HasPassed c.args.run.now.turns.now change c.next-next.new.self.turns = subst (λ turns. HasPassed turns change c.next-next.new.self.turns) i.passing.over c.next-next.ensures.passed in
-    let walk = passed_down r.past c.args.run.now.turns.now change c.next-next.new.self.turns c.requires.turns passed in
+    let passed : HasPassed c.args.run.now.turns.now change c.next-next.new.self.turns = subst (λ turns. HasPassed turns change c.next-next.new.self.turns) i.turns c.next-next.ensures.passed in
+    let walk = passed_down r.past c.args.run.now.turns.now change c.next-next.new.self.turns c.args.run.now.turned passed in
     let fell : Shows c.down-in-loop-t.result (λ p. is_down (instant r.past change) p) = c.down-in-loop-t.ensures r.past change (omega (arith, below)) walk.0 walk.1 in
     let told : c.next-next.result.mentioned ≡ has (mentioned_by entry) c.args.det =
     mentioned_listed r.past c.args.det lists.mentions.now c.requires.changes.mentioned c.requires.changes.only change entry
@@ -118,7 +118,7 @@ returns-then-is_over c =
     let accepted = accepted_then r.processes r.past (change + 1) formed.accepted in
     let lasting : nat_le c.args.run.now.lasting_from (change + 1) ≡ true → c.args.run.now.lasting_from ≤ change + 1 = leb-true c.args.run.now.lasting_from (change + 1) in
     let over : IsOver r.processes c.args.f r.past (change + 1) c.args.det =
-    over_from r.processes c.args.f r.past (change + 1) c.args.run.now.lasting_from c.args.det (nat_le c.args.run.now.lasting_from (change + 1)) c.requires.lasting lasting
+    over_from r.processes c.args.f r.past (change + 1) c.args.run.now.lasting_from c.args.det (nat_le c.args.run.now.lasting_from (change + 1)) c.args.run.now.lasting lasting
     (c.is_over.ensures r.processes (instant r.past (change + 1)) c.args.k c.args.det accepted seen c.if-is_over.true) in
     λ u within has. elim (cases_lt change u) [
       | inl late ↦ orphans_end r.processes c.args.f r.past c.args.k c.args.det (change + 1) u c.requires.delivery over (omega (arith, late)) (omega (arith, within, c.requires.within)) has
@@ -143,8 +143,8 @@ loop-t-preserved c =
     let below : change < length r.past = omega (arith, early, c.requires.within) in
     let entry = c.index-entries-change.result in
     let next = next_state r c.entries-entries.result.now c.entries-entries.ensures.value change entry below c.index-entries-change.is in
-    let passed : HasPassed c.args.run.now.turns.now change c.next-next.new.self.turns = subst (λ turns. HasPassed turns change c.next-next.new.self.turns) i.passing.over c.next-next.ensures.passed in
-    let walk = passed_down r.past c.args.run.now.turns.now change c.next-next.new.self.turns c.requires.turns passed in
+    let passed : HasPassed c.args.run.now.turns.now change c.next-next.new.self.turns = subst (λ turns. HasPassed turns change c.next-next.new.self.turns) i.turns c.next-next.ensures.passed in
+    let walk = passed_down r.past c.args.run.now.turns.now change c.next-next.new.self.turns c.args.run.now.turned passed in
     let fell : Shows c.down-in-loop-t.result (λ p. is_down (instant r.past change) p) = c.down-in-loop-t.ensures r.past change (omega (arith, below)) walk.0 walk.1 in
     let told : c.next-next.result.mentioned ≡ has (mentioned_by entry) c.args.det =
     mentioned_listed r.past c.args.det lists.mentions.now c.requires.changes.mentioned c.requires.changes.only change entry
@@ -160,7 +160,7 @@ loop-t-preserved c =
     record {
       within = omega (arith, below);
       ahead = ahead_later lists t (change + 1) c.next-next.new.self (omega (arith, bounds)) (c.next-next.ensures.ahead lists i.ahead);
-      passing = passing_later c.args.run.now.turns.now change (change + 1) c.next-next.new.self.turns (omega arith) passed;
+      turns = passed.over;
       sight = seen;
       before = up_to_next (λ u. HasOrphan r.processes c.args.f (instant r.past u) c.args.k → ⊥) change none (c.in_default.ensures r.processes (instant r.past (change + 1)) c.args.det accepted long made seen);
     }

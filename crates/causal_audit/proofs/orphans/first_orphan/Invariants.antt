@@ -1,8 +1,7 @@
-use Rattle.std.proofs.Common.{ℕ, ◌≤◌, ◌-◌, length}
+use Rattle.std.proofs.Common.{ℕ, ◌≡◌, ◌≤◌, ◌-◌, length}
 use Rattle.causal_trace.specs.Past.{instant}
 use Rattle.causal_trace.specs.Judgement.{HasOrphan}
 use Rattle.causal_audit.specs.Inside.Ahead.{AreAhead}
-use Rattle.causal_audit.specs.Inside.Passing.{IsPassing}
 use Rattle.causal_audit.specs.Inside.Sights.{IsSight}
 use Rattle.causal_audit.proofs.orphans.first_orphan.Given as goal
 
@@ -11,7 +10,7 @@ abbrev pub invariant-loop-t : goal.invariant-loop-t
 invariant-loop-t l = record {
   within : l.t ≤ length l.run.trace.now.recording.past;
   ahead : AreAhead l.fn.changes l.t l.ahead;
-  passing : IsPassing l.run.turns.now l.t l.ahead.turns;
+  turns : l.ahead.turns.turns.now ≡ l.run.turns.now;
   sight : IsSight (instant l.run.trace.now.recording.past l.t) l.k l.det l.sight;
   before : (u : ℕ) → u ≤ l.t → HasOrphan l.run.trace.now.recording.processes l.f (instant l.run.trace.now.recording.past u) l.k → ⊥;
 }

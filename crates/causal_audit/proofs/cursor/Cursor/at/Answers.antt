@@ -11,4 +11,4 @@ returns c =
     let point : IsPartitionPoint (λ y. ltb y c.args.from ≡ true) (λ y. ltb y c.args.from ≡ false) list c.partition_point.result =
     IsPartitionPoint-from_clause (λ y. ltb y c.args.from) list c.partition_point.result c.partition_point.ensures.partitioned
     (IsPartitionedBy-ltb (λ x. x) list c.args.from c.requires.ascending) (λ a r f' k. search rules) in
-    record { over = refl; ascending = c.requires.ascending; passed = passed_at list c.args.from c.partition_point.result point }
+    record { over = refl; passed = passed_at list c.args.from c.partition_point.result point }

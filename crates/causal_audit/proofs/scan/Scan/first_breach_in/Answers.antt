@@ -28,13 +28,11 @@ returns-in_default c t within has =
 
 pub first_orphan-requires-clause-changes : goal.first_orphan-requires-clause-changes
 first_orphan-requires-clause-changes c =
-    let scan = c.self.inside in
-    let past = scan.trace.now.recording.past in
+    let past = c.self.inside.outline.trace.now.recording.past in
     let k = c.args.window.position in
-    let mentions = c.self.invariant.mentioned in
+    let mentions = c.self.invariant in
     let made : det_at c.args.self.now.past k ≡ Some c.in-Some.det = subst (λ run. det_at run.past k ≡ Some c.in-Some.det) c.self.view_is (sym c.in-Some.ensures) in
     record {
-      mentions_ascend = subst IsNonDecreasing (sym c.list.ensures) (mentions_ascend past scan.mentions.now.numbers (map positions scan.mentions.now.lists.items) mentions c.in-Some.det);
       mentioned = subst (HasMentions past c.in-Some.det) (sym c.list.ensures) (mentions.mentioned c.in-Some.det);
       only = subst (AreMentionsOf past c.in-Some.det) (sym c.list.ensures) (mentions.only c.in-Some.det);
       firsts =
@@ -49,3 +47,14 @@ returns c =
     first_until r c.args.f c.args.end c.args.window.until k c.first_orphan.result c.requires.window
     (subst (λ last. FirstBreachBy r c.args.f last k c.first_orphan.result) c.min-last.ensures
     (subst (λ run. FirstBreachBy run c.args.f c.min-last.result k c.first_orphan.result) c.self.view_is c.first_orphan.ensures))
+
+pub invariant_of-changes : goal.invariant_of-changes
+invariant_of-changes c =
+    let scan = c.self.inside in
+    let past = scan.outline.trace.now.recording.past in
+    let k = c.args.window.position in
+    let made : det_at c.args.self.now.past k ≡ Some c.in-Some.det = subst (λ run. det_at run.past k ≡ Some c.in-Some.det) c.self.view_is (sym c.in-Some.ensures) in
+    record {
+      mentions_ascend = subst IsNonDecreasing (sym c.list.ensures) (mentions_ascend past scan.mentions.now.numbers (map positions scan.mentions.now.lists.items) c.self.invariant c.in-Some.det);
+      firsts_ascend = (c.requires.firsts c.in-Some.det made).ascend;
+    }

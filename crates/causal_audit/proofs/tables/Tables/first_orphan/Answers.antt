@@ -51,7 +51,6 @@ first_orphan-requires-clause-changes c =
     let reached : AreReached events c.args.k lanes c.entries.result c.write_firsts.new.firsts =
     subst (λ ls. AreReached events c.args.k (map positions ls) c.entries.result c.write_firsts.new.firsts) c.deref.ensures.value c.write_firsts.ensures.reached in
     record {
-      mentions_ascend = subst IsNonDecreasing (sym c.list-mentions.ensures) (mentions_ascend r.past numbers mentions indexes.mentioned c.args.det);
       mentioned = subst (HasMentions r.past c.args.det) (sym c.list-mentions.ensures) (indexes.mentioned.mentioned c.args.det);
       only = subst (AreMentionsOf r.past c.args.det) (sym c.list-mentions.ensures) (indexes.mentioned.only c.args.det);
       firsts = record {
@@ -90,3 +89,11 @@ uncovered_until-until-requires-clause-stays c =
     let inside : c.args.k < length spreads = omega (arith, det_within r.past c.args.k c.args.det at, c.self.invariant.1.spread.count) in
     let is : c.index-spread.result.now ≡ get_or spreads c.args.k 0 = c.index-spread.ensures ∙ get_or_default spreads c.args.k c.index-spread.result.now 0 inside in
     subst (StaysUntil r.past c.args.k) (sym is) (stays_until r.processes r.past kept.formed.accepted c.self.inside.clocks.events kept.stands spreads c.self.invariant.1.spread c.args.k)
+
+pub invariant_of-changes : goal.invariant_of-changes
+invariant_of-changes c =
+    let mentions = map positions c.self.inside.mentions.lists.items in
+    record {
+      mentions_ascend = subst IsNonDecreasing (sym c.list-mentions.ensures) (mentions_ascend c.self.inside.trace.recording.past c.self.inside.mentions.numbers mentions c.self.invariant.1.mentioned c.args.det);
+      firsts_ascend = c.write_firsts.ensures.ascending;
+    }

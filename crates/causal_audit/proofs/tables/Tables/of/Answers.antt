@@ -2,7 +2,8 @@ use Rattle.std.proofs.Common.{◌≡◌, ℕ, Vec, Global, List, length, map, re
 use Rattle.std.proofs.lemmas.List.{length-map, reverse-reverse}
 use Rattle.causal_trace.specs.State.{past_at}
 use Rattle.causal_trace.proofs.Lemmas.Instants.{past_whole}
-use Rattle.causal_audit.specs.Inside.Filed.{AreLanes, AreMentions, AreTurns}
+use Rattle.causal_audit.specs.Inside.Filed.{AreLanes, AreMentions}
+use Rattle.causal_audit.specs.Inside.Kept.{AreTurnsKept}
 use Rattle.causal_audit.specs.Lasting.{NoneReleasedFrom}
 use Rattle.causal_audit.specs.Numbers.{ArePositions}
 use Rattle.causal_audit.proofs.tables.Tables.of.Goals as goal
@@ -23,7 +24,7 @@ invariant_of-result c =
       },
       record {
         mentioned = subst (λ p. AreMentions p c.in_ok-mentions.mentions.numbers (map positions c.in_ok-mentions.mentions.lists.items)) whole c.in_ok-mentions.ensures;
-        turned = subst (λ p. AreTurns p c.in_ok-turns.turns.positions.items c.in_ok-turns.turns.downs.items) whole c.in_ok-turns.ensures;
+        turned = subst (λ p. AreTurnsKept p c.in_ok-turns.turns) whole c.in_ok-turns.ensures;
         in_lanes = subst (λ p. AreLanes p c.in_ok-clocks.clocks.events (map positions c.in_ok-lanes.lanes.items)) whole c.in_ok-lanes.ensures.lanes;
         spread = c.in_ok-spreads.ensures c.args.trace.now.recording c.entries-entries.ensures.formed c.entries-entries.ensures.value c.in_ok-clocks.ensures;
         few = omega (arith, c.in_ok-lanes.ensures.few, length-map c.in_ok-lanes.lanes.items positions);

@@ -6,12 +6,12 @@ use Rattle.causal_audit.specs.Inside.Filed.{AreTurns}
 use Rattle.causal_audit.specs.Inside.Sights.{Shows}
 use Rattle.causal_audit.proofs.Shown.{shows_none}
 use Rattle.causal_audit.proofs.Turned.{turns_none}
-use Rattle.causal_audit.proofs.turns.turns_of.Goals as goal
+use Rattle.causal_audit.proofs.turns.Turns.of.Goals as goal
 
 pub loop-i-init : goal.loop-i-init
 loop-i-init c = record {
   down = rw c.none-down.ensures (shows_none (λ p. is_down [] p) (λ p. refl));
-  turns = rw (c.new.ensures.items, c.new-2.ensures.items) turns_none;
+  turns = rw (c.new-positions.ensures.items, c.new-downs.ensures.items) turns_none;
 }
 
 pub loop-i-preserved : goal.loop-i-preserved
@@ -24,6 +24,6 @@ loop-i-preserved c =
     let shown : Shows c.down_after-down.result (λ p. is_down (c.index-entries-i.result ∷ before) p) = c.down_after-down.ensures before c.loop-i.invariant.down in
     record {
       down = subst (λ past. Shows c.down_after-down.result (λ p. is_down past p)) (sym next) shown;
-      turns = subst (λ past. AreTurns past c.note_turn.new.turns.positions.items c.note_turn.new.turns.downs.items) (sym next)
+      turns = subst (λ past. AreTurns past c.note_turn.new.positions.items c.note_turn.new.downs.items) (sym next)
           (c.in_ok-note_turn.ensures before (past_length entries i (omega (arith, below))) shown c.loop-i.invariant.turns);
     }
