@@ -1,4 +1,4 @@
--- A walk over the entries that may change who is down or holds a determinant, and what it tells of a delivery's orphans.
+-- A walk over the entries that may change who is down or holds a determinant, and how the determinant stands between them.
 use Rattle.std.proofs.Common.{ℕ, zero, suc, ◌≡◌, ◌<◌, ◌≤◌, ◌-◌, inl, inr, Bool, true, false, List, length, Some, refl, sym, ap, ◌∙◌, arith}
 use Rattle.std.specs.Prelude.{◌↔◌, ◌||◌, ◌==◌, Contains, if◌then◌else◌, min}
 use Rattle.std.specs.Ordering.{nat_cmp}
@@ -18,11 +18,12 @@ use Rattle.causal_audit.specs.Inside.Changes.{AreMentionsOf, HasMentions}
 use Rattle.causal_audit.specs.Laws.{gone}
 use Rattle.causal_audit.specs.Quiet.{mentioned_by}
 use Rattle.causal_audit.specs.Inside.Sights.{Shows}
+use Rattle.causal_audit.specs.Inside.Standing.{RulesOut, StandsBy}
+use Rattle.causal_audit.specs.declared.thin.Standing.{Standing}
+use Rattle.causal_audit.specs.declared.thin.Standing.TheVariants.{Kept, Thin, Bare}
 use Rattle.causal_audit.specs.Inside.Staying.{MentionsNone, RestartsNone}
-use Rattle.causal_audit.specs.Spread.{StaysUntil, LastsUntil}
 use Rattle.causal_trace.proofs.Lemmas.AtInstants.{accepted_then}
 use Rattle.causal_audit.proofs.Shown.{down_inside, logs_inside}
-use Rattle.causal_audit.proofs.Spreading.{covered}
 use Rattle.causal_audit.proofs.Staying.{difference_shown, gone_stay, holders_stay}
 
 -- ---- an orphan survives
@@ -103,7 +104,7 @@ mentioned_next past d mentions mentioned only t next none v above low found e th
 
 -- ---- until an entry mentions it or restarts one of them
 
-module _ (n f : ℕ) (past : List Entry) (formed : AreAccepted n past) (k : ℕ) (d : Det) (at : det_at past k ≡ Some d) (t next : ℕ) (within : next ≤ length past) (unmentioned : MentionsNone past d t next) where
+module _ (n : ℕ) (past : List Entry) (formed : AreAccepted n past) (d : Det) (t next : ℕ) (within : next ≤ length past) (unmentioned : MentionsNone past d t next) where
   module _ (down holders : FinSet nat_cmp) (unrestarted : RestartsNone past (union down holders) t next) (downs : Shows down (λ p. is_down (instant past t) p)) (holds : Shows holders (λ p. logs (instant past t) p d)) where
     legal : (u : ℕ) → AreAccepted n (instant past u)
     legal u = accepted_then n past u formed
@@ -123,38 +124,18 @@ module _ (n f : ℕ) (past : List Entry) (formed : AreAccepted n past) (k : ℕ)
         (λ v e above below. unmentioned v e above (omega (arith, below, low))) (λ v e above below. unrestarted v e above (omega (arith, below, low)))
         (gone_shown n (instant past t) d (legal t) down holders downs holds p ∙ here) here
 
-    module _ (spread : ℕ) (stays : StaysUntil past k spread) (lasts : LastsUntil f k d.dest.0 spread next (union down holders)) where
-      none_between : (u : ℕ) → t ≤ u → u ≤ next → HasOrphan n f (instant past u) k → ⊥
-      none_between u up low =
-          let inside : u ≤ length past = omega (arith, low, within) in
-          covered n f past k d spread u formed at stays inside (elim lasts [
-            | inl ahead ↦ inl (omega (arith, low, ahead))
-            | inr more ↦ elim more [
-              | inl many ↦
-                  inr (inl (omega (
-                    arith,
-                    many,
-                    gone_many n (instant past t) d (legal t) down holders downs holds,
-                    count_below-within n (gone (instant past t) d) (gone (instant past u) d) (λ p _ here. gone_until u up low p here),
-                  )))
-              | inr here ↦
-                  inr (inr (omega (arith, low, here.0), gone_until u up low d.dest.0 (sym (gone_shown n (instant past t) d (legal t) down holders downs holds d.dest.0) ∙ here.1)))
-            ]
-          ])
-
-      none_until : (until : ℕ) → ((u : ℕ) → until ≤ u → u < t → HasOrphan n f (instant past u) k → ⊥) → (u : ℕ) → until ≤ u → u ≤ next → HasOrphan n f (instant past u) k → ⊥
-      none_until until before u from low has =
-          elim (cases_lt u t) [
-            | inl early ↦ before u from early has
-            | inr late ↦ none_between u late low has
-          ]
-
-    -- what is noted of the stretch up to `next`: that it is covered, or an instant past it
-    pub none_from : (spread : ℕ) → StaysUntil past k spread → (until noted : ℕ) → (noted ≤ next → (noted ≡ until) × LastsUntil f k d.dest.0 spread next (union down holders))
-        → ((u : ℕ) → until ≤ u → u < t → HasOrphan n f (instant past u) k → ⊥) → (u : ℕ) → noted ≤ u → u ≤ next → HasOrphan n f (instant past u) k → ⊥
-    none_from spread stays until noted told before u from low =
-        let same = told (omega (arith, from, low)) in
-        none_until spread stays same.1 until before u (omega (arith, from, same.0)) low
+    -- so it stands as it did
+    pub stands_until : (most : ℕ) (s : Standing) → StandsBy s most d.dest.0 (union down holders) → (u : ℕ) → t ≤ u → u ≤ next → RulesOut s n most past d u
+    stands_until most Kept many u up low = λ thin.
+        omega (
+          arith,
+          thin.few,
+          many,
+          gone_many n (instant past t) d (legal t) down holders downs holds,
+          count_below-within n (gone (instant past t) d) (gone (instant past u) d) (λ p _ here. gone_until u up low p here),
+        )
+    stands_until most Thin here u up low = λ bare. false≢true (sym bare.receiver ∙ gone_until u up low d.dest.0 (sym (gone_shown n (instant past t) d (legal t) down holders downs holds d.dest.0) ∙ here))
+    stands_until most Bare here u up low = tt
 
 -- where nothing is left to come nothing mentions it
 pub none_mention : (past : List Entry) (d : Det) (mentions : List ℕ) → HasMentions past d mentions → (t next last : ℕ) → next ≤ last → HasNoneUntil mentions t last → MentionsNone past d t next

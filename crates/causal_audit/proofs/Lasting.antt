@@ -10,6 +10,7 @@ use Rattle.causal_trace.specs.declared.entry.Entry.{Entry}
 use Rattle.causal_trace.specs.declared.entry.Entry.TheVariants.{Send, Deliver, Stable, Crash, Restart, Forget}
 use Rattle.causal_trace.specs.Past.{instant, is_down, is_stable, logs, has}
 use Rattle.causal_audit.specs.Laws.{gone}
+use Rattle.causal_audit.specs.Inside.Standing.{IsThinAt}
 use Rattle.causal_audit.specs.Lasting.{may_release, NoneReleasedFrom, IsOver, IsOverAt, OrphansEnd}
 use Rattle.causal_trace.proofs.Lemmas.AtInstants.{instants_stay, one_more_instant, last_instant, instant_length, det_then}
 use Rattle.causal_audit.proofs.Lemmas.Judged.{exposed}
@@ -80,16 +81,21 @@ keeps_gone n f (e ∷ past) t d none = (
 
 -- ---- the end
 
+-- so a determinant that is over is stable, or more than f are down or hold it, at each later instant
+over_then : (n f : ℕ) (past : List Entry) (d : Det) (t u : ℕ) → IsOver n f past t d → t ≤ u → u ≤ length past → is_stable (instant past u) d ≡ false → count_below n (gone (instant past u) d) ≤ f → ⊥
+over_then n f past d t u (inl stable) up within unstable few = false≢true (sym unstable ∙ kept (λ p. is_stable p d ≡ true) past t u (keeps_stable past t d) up within stable)
+over_then n f past d t u (inr many) up within unstable few = omega (arith, few, kept (λ p. f < count_below n (gone p d)) past t u (keeps_gone n f past t d many.0) up within many.1)
+
+pub thin_ends : (n most : ℕ) (past : List Entry) (d : Det) (t u : ℕ) → IsOver n most past t d → t ≤ u → u ≤ length past → IsThinAt n most past d u → ⊥
+thin_ends n most past d t u over up within thin = over_then n most past d t u over up within thin.unstable thin.few
+
 pub orphans_end : OrphansEnd
 orphans_end n f past k d t u at over up within has =
     elim (cases_lt k u) [
       | inr ahead ↦ not_yet n f (instant past u) k (omega (arith, ahead, instant_length past u within)) has
       | inl made ↦
           let e = exposed n f (instant past u) k d (det_then past u k made within ∙ at) has in
-          elim over [
-            | inl stable ↦ false≢true (sym e.unstable ∙ kept (λ p. is_stable p d ≡ true) past t u (keeps_stable past t d) up within stable)
-            | inr many ↦ omega (arith, e.few, kept (λ p. f < count_below n (gone p d)) past t u (keeps_gone n f past t d many.0) up within many.1)
-          ]
+          over_then n f past d t u over up within e.unstable e.few
     ]
 
 -- ---- from which position on none is released

@@ -5,6 +5,8 @@ mod Begun
 mod Between
 mod Changed
 mod Covering
+mod Crashed
+mod CrashLists
 mod Cursors
 mod Dependence
 mod Effected
@@ -20,11 +22,14 @@ mod Known
 mod Lasting
 mod Legal
 mod Link
+mod Looked
 mod Mentioned
 mod Mirrored
 mod Newly
 mod Noted
 mod Numbered
+mod NumberedDets
+mod Opened
 mod Orphaned
 mod Outward
 mod Prepared
@@ -43,6 +48,7 @@ mod Staying
 mod Steps
 mod Sweeping
 mod Swept
+mod Thinned
 mod Turned
 mod Uncovered
 mod VerdictLemmas

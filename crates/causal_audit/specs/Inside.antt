@@ -1,8 +1,10 @@
 -- What models and private functions keep; no public clause cites it.
 pub mod Ahead
+pub mod AllLooks
 pub mod BreachAt
 pub mod Changes
 pub mod Courses
+pub mod Crashes
 pub mod Filed
 pub mod Firsts
 pub mod Followed
@@ -10,6 +12,7 @@ pub mod Index
 pub mod Kept
 pub mod Kinds
 pub mod Layout
+pub mod Looks
 pub mod Moments
 pub mod Newly
 pub mod Outlines
@@ -20,8 +23,11 @@ pub mod Rooms
 pub mod Scans
 pub mod Sharing
 pub mod Sights
+pub mod Standing
 pub mod Stands
 pub mod Staying
 pub mod Stored
 pub mod Surveys
 pub mod Sweeps
+pub mod Thins
+pub mod Until

@@ -1,12 +1,11 @@
 -- How long a delivery stays with its receiver, and when it has no orphan whoever depends on it.
 use Rattle.std.specs.Prelude.{◌≡◌, ℕ, ◌<◌, ◌≤◌, ◌⊎◌, true, List, [], ◌∷◌, ◌++◌, length, None, Some, slice_index_or, slice_set, min}
-use Rattle.std.specs.Ordering.{nat_cmp}
-use Rattle.std.specs.FinSet.{FinSet, contains, len}
 use Rattle.causal_name.specs.declared.Det.{Det}
+use Rattle.causal_name.specs.declared.Pid.{Pid}
 use Rattle.causal_name.specs.Sets.{count_below}
 use Rattle.causal_trace.specs.declared.entry.Entry.{Entry}
-use Rattle.causal_trace.specs.declared.entry.Entry.TheVariants.{Deliver, Send}
-use Rattle.causal_trace.specs.Past.{instant, det_at}
+use Rattle.causal_trace.specs.declared.entry.Entry.TheVariants.{Crash, Deliver, Send}
+use Rattle.causal_trace.specs.Past.{instant, entry_at, det_at}
 use Rattle.causal_trace.specs.Rows.{AreAccepted}
 use Rattle.causal_trace.specs.Dependence.{IsEventOf, Delivers, Reaches, Depends}
 use Rattle.causal_trace.specs.Judgement.{HasOrphan}
@@ -42,6 +41,17 @@ CoveredHasNone =
     (n f : ℕ) (past : List Entry) (k : ℕ) (d : Det) (spread u : ℕ) → AreAccepted n past → det_at past k ≡ Some d
     → StaysUntil past k spread → u ≤ length past → IsCoveredAt n f past k d spread u → HasOrphan n f (instant past u) k → ⊥
 
+-- the entry at position c crashes p
+abbrev pub IsCrashOf : List Entry → ℕ → ℕ → Type 0
+IsCrashOf past p c = (who : Pid) × (entry_at past c ≡ Some (Crash who)) × (who.0 ≡ p)
+
+-- once its receiver has crashed, a delivery that has not left it has no dependent any more, be the receiver up again or not
+abbrev pub CrashedHasNone : Type 0
+CrashedHasNone =
+    (n : ℕ) (past : List Entry) (k : ℕ) (d : Det) (spread c u q : ℕ) → AreAccepted n past → det_at past k ≡ Some d
+    → StaysUntil past k spread → IsCrashOf past d.dest.0 c → k < c → c < u → u ≤ spread → u ≤ length past
+    → Depends (instant past u) k q → ⊥
+
 -- the list with the position i at the place of the send that an entry delivers
 abbrev pub with_delivered : Entry → ℕ → List ℕ → List ℕ
 with_delivered (Deliver to send rsn listed) i list = slice_set list send i
@@ -50,12 +60,6 @@ with_delivered _ i list = list
 -- the first of what stands at i, once the entry is noted, and at its lane
 abbrev pub spread_at : Entry → ℕ → ℕ → List ℕ → List ℕ → ℕ
 spread_at e i lane spreads outs = min (slice_index_or (with_delivered e i spreads) i 0) (slice_index_or outs lane 0)
-
--- while just the processes of the set are down or hold the determinant, the delivery is covered at each instant up to
--- `next`: it is still to come, or they are more than f, or it has not left its receiver, which is one of them
-abbrev pub LastsUntil : ℕ → ℕ → ℕ → ℕ → ℕ → FinSet nat_cmp → Type 0
-LastsUntil f k receiver spread next set =
-    (next ≤ k) ⊎ ((f < len set) ⊎ ((next ≤ spread) × (contains set receiver ≡ true)))
 
 -- the list with the entry at position i noted, of this lane
 abbrev pub with_spread : Entry → ℕ → ℕ → List ℕ → List ℕ → List ℕ

@@ -3,7 +3,7 @@ ghost use Rattle.causal_audit.specs.Courses.{LeastUpTo};
 ghost use Rattle.causal_audit.specs.Held.{SafeIsHeld};
 ghost use Rattle.causal_audit.specs.Lasting.{OrphansEnd};
 ghost use Rattle.causal_audit.specs.Quiet.{InstantsAgree, OrphansAgree};
-ghost use Rattle.causal_audit.specs.Spread.{StaysAlone, CoveredHasNone};
+ghost use Rattle.causal_audit.specs.Spread.{StaysAlone, CoveredHasNone, CrashedHasNone};
 ghost use Rattle.causal_audit.specs.Sweep.{SweepLaw, OneNewOrphan};
 ghost use Rattle.causal_audit.specs.Laws.{OrphansAreCounted, CrashSetsContain, GoneIsCrashSet, NoOrphansCondition, VerdictsAreOne};
 
@@ -61,10 +61,12 @@ pub fn sweep_law()
 
 /// A delivery that has not left its receiver, since nothing that the receiver's lane sent from then on is delivered yet,
 /// has no dependent but its receiver. It has no orphan where the receiver is down or holds its determinant, nor where
-/// more than f processes are down or hold it: so a delivery can come to fail only after both have ended.
+/// more than f processes are down or hold it: so a delivery can come to fail only after both have ended. Nor has it one once
+/// its receiver has crashed, even if that is up again: nobody depends on it any more.
 pub fn covered_deliveries()
     ensures alone { StaysAlone }
     ensures covered { CoveredHasNone }
+    ensures crashed { CrashedHasNone }
 {}
 
 /// What a run up to one of its instants tells of its least breach, it tells of the whole run up to that instant.

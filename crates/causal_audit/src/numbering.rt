@@ -60,6 +60,14 @@ impl Numbering {
         search(self.nodes.as_slice(), from, det)
     }
 
+    /// The determinant of a number, which is below how many there are.
+    pub fn det(&self, number: usize) -> Det
+        requires { number < length self.now }
+        ensures { (d : Det) → number_of self.now d ≡ Some number → result ≡ d }
+    {
+        self.nodes[number].det
+    }
+
     /// Gives a determinant the next number.
     pub fn add(&mut self, det: Det) -> Result<(), NoMemory>
         ensures ok { OnOk result (self.new ≡ det ∷ self.old) }

@@ -11,15 +11,16 @@ ghost use Rattle.causal_audit.specs.Numbers.{IsNumbered, ArePositions, ArePositi
 use crate::breach::Breach;
 use crate::budget::Budget;
 use crate::changes::Changes;
-use crate::cover::uncovered_until;
 use crate::events::clocks_of;
 use crate::lanes::{LANES, lanes_of, write_firsts};
+use crate::look::Look;
 use crate::mentions::{Mentions, mentions_in};
 use crate::orphans::first_orphan;
 use crate::outline::Outline;
 use crate::releases::lasting_from;
 use crate::spreads::spreads_of;
 use crate::turns::Turns;
+use crate::until::uncovered_until;
 use causal_clock::Clocks;
 use causal_name::{Det, NoMemory};
 use causal_trace::entry::Entry;
@@ -137,9 +138,16 @@ impl Tables {
             turns: &self.turns,
         };
         let mentions = self.mentions.list(det);
-        let spread = self.spreads[k as usize];
+        let look = Look {
+            run,
+            mentions,
+            det,
+            // An orphan survives, so never all processes are in its crash set.
+            most: f.min(self.trace.processes() - 1),
+            end,
+        };
         let mut budget = Budget::endless();
-        let until = uncovered_until(&run, mentions, spread, f, end, k, det, &mut budget);
+        let until = uncovered_until(&look, self.spreads[k as usize], k, &mut budget);
         if until == 0 {
             return None;
         }

@@ -1,24 +1,38 @@
 -- What a survey of the deliveries of a run reads, and what it gathers.
-use Rattle.std.specs.Prelude.{◌≡◌, ℕ, ◌<◌, ◌≤◌, ◌⊎◌, List, length, Some, Contains}
+use Rattle.std.specs.Prelude.{◌≡◌, ℕ, ◌-◌, ◌<◌, ◌≤◌, ◌⊎◌, min, List, length, Some, Contains}
 use Rattle.std.specs.List.{All}
 use Rattle.std.specs.List.Sorted.{IsStrictlyIncreasing}
 use Rattle.causal_name.specs.declared.Det.{Det}
 use Rattle.causal_trace.specs.declared.entry.Entry.{Entry}
+use Rattle.causal_trace.specs.Limits.{max_entries}
 use Rattle.causal_trace.specs.Past.{det_at}
 use Rattle.causal_trace.specs.Rows.{Recording, IsWellFormed}
 use Rattle.causal_audit.specs.declared.scan.Window.{Window}
-use Rattle.causal_audit.specs.declared.survey.Survey.{Survey}
+use Rattle.causal_audit.specs.declared.mentions.Mentions.{Mentions}
+use Rattle.causal_audit.specs.Inside.Crashes.{AreCrashes}
 use Rattle.causal_audit.specs.Inside.Scans.{IsWindow, positions_of}
 use Rattle.causal_audit.specs.Breaches.{HasNoOrphanBy}
 use Rattle.causal_audit.specs.Inside.Kept.{AreMentionsKept}
 use Rattle.causal_audit.specs.Spread.{AreSpreads, acts_of}
 
+-- which run a survey is of, for which f, and up to which instant it asks
+pub record Asked : Type 0 where
+  pub run : Recording
+  pub f : ℕ
+  pub end : ℕ
+
 -- the run is well formed, and this is kept of it
-pub record IsSurvey (survey : Survey) : Type 0 where
-  pub formed : IsWellFormed survey.outline.trace.now.recording
-  pub within : survey.end ≤ length survey.outline.trace.now.recording.past
-  pub mentioned : AreMentionsKept survey.outline.trace.now.recording.past survey.mentions.now
-  pub stays : AreSpreads survey.outline.trace.now.recording.past (acts_of survey.outline.trace.now.recording.past) survey.stays.now
+pub record IsSurvey (r : Recording) (end : ℕ) (mentions : Mentions) (crashes : List (List ℕ)) (stays : List ℕ) : Type 0 where
+  pub formed : IsWellFormed r
+  pub within : end ≤ length r.past
+  pub short : length r.past ≤ max_entries
+  pub mentioned : AreMentionsKept r.past mentions
+  pub crashed : AreCrashes r.past crashes
+  pub staying : AreSpreads r.past (acts_of r.past) stays
+
+-- how many processes a crash set has at most that leaves an orphan: that survives
+abbrev pub most_of : Recording → ℕ → ℕ
+most_of r f = min f (r.processes - 1)
 
 -- the entry at position k is a delivery
 abbrev pub IsDeliveryAt : List Entry → ℕ → Type 0
@@ -33,6 +47,6 @@ pub record AreUncovered (r : Recording) (f end below : ℕ) (positions : List �
   pub others : (k : ℕ) → k < below → IsDeliveryAt r.past k → Contains positions k ⊎ HasNoOrphanBy r f k end
 
 -- they are the windows of the deliveries of the run before position `below` that the survey gathers
-pub record AreGathered (survey : Survey) (below : ℕ) (windows : List Window) : Type 0 where
-  pub uncovered : AreUncovered survey.outline.trace.now.recording survey.f survey.end below (positions_of windows)
-  pub none_later : All (IsWindow survey.outline.trace.now.recording survey.f survey.end) windows
+pub record AreGathered (asked : Asked) (below : ℕ) (windows : List Window) : Type 0 where
+  pub uncovered : AreUncovered asked.run asked.f asked.end below (positions_of windows)
+  pub none_later : All (IsWindow asked.run asked.f asked.end) windows

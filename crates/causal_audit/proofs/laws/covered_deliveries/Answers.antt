@@ -1,5 +1,6 @@
+use Rattle.causal_audit.proofs.Crashed.{crashed}
 use Rattle.causal_audit.proofs.Spreading.{alone, covered}
 use Rattle.causal_audit.proofs.laws.covered_deliveries.Goals as goal
 
 pub returns : goal.returns
-returns c = record { alone = alone; covered = covered }
+returns c = record { alone = alone; covered = covered; crashed = crashed }

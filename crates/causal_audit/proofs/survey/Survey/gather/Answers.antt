@@ -4,42 +4,42 @@ use Rattle.std.proofs.lemmas.List.{map-append}
 use Rattle.std.proofs.lemmas.List.Elements.{All-push}
 use Rattle.causal_audit.specs.declared.scan.Window.{Window}
 use Rattle.causal_audit.specs.Inside.Scans.{IsWindow, positions_of}
-use Rattle.causal_audit.specs.Inside.Surveys.{AreGathered, AreUncovered}
+use Rattle.causal_audit.specs.Inside.Surveys.{AreGathered, AreUncovered, Asked}
 use Rattle.causal_audit.proofs.Uncovered.{one_gathered, one_left_out}
 use Rattle.causal_audit.proofs.Windowed.{position}
 use Rattle.causal_audit.proofs.survey.Survey.gather.Goals as goal
 
 pub returns-in_default : goal.returns-in_default
 returns-in_default c so_far =
-    let survey = c.args.self.now in
-    let r = survey.outline.trace.now.recording in
-    let none : det_at r.past c.args.k ≡ None = sym c.det_at.ensures ∙ c.in_default.is in
+    let asked = c.args.self.now in
+    let r = asked.run in
+    let none : det_at r.past c.args.k ≡ None = subst (λ (a : Asked). det_at a.run.past c.args.k ≡ None) c.self.view_is (sym c.det_at.ensures ∙ c.in_default.is) in
     record {
-      uncovered = one_left_out r survey.f survey.end c.args.k (positions_of c.args.gathered.now.items) (λ delivery. absurd (let e : None ≡ Some delivery.0 = sym none ∙ delivery.1 in cc)) so_far.uncovered;
+      uncovered = one_left_out r asked.f asked.end c.args.k (positions_of c.args.gathered.now.items) (λ delivery. absurd (let e : None ≡ Some delivery.0 = sym none ∙ delivery.1 in cc)) so_far.uncovered;
       none_later = so_far.none_later;
     }
 
 pub returns-then-until-eq0 : goal.returns-then-until-eq0
 returns-then-until-eq0 c so_far =
-    let survey = c.args.self.now in
-    let r = survey.outline.trace.now.recording in
+    let asked = c.args.self.now in
+    let r = asked.run in
     record {
       uncovered =
-          one_left_out r survey.f survey.end c.args.k (positions_of c.args.gathered.now.items)
+          one_left_out r asked.f asked.end c.args.k (positions_of c.args.gathered.now.items)
           (λ _ u low. c.uncovered_until-until.ensures u (omega (arith, c.if-until-eq0.true)) low) so_far.uncovered;
       none_later = so_far.none_later;
     }
 
 pub returns : goal.returns
 returns c so_far =
-    let survey = c.args.self.now in
-    let r = survey.outline.trace.now.recording in
+    let asked = c.args.self.now in
+    let r = asked.run in
     let before = c.args.gathered.now.items in
     let window : Window = record { position = c.args.k; until = c.uncovered_until-until.result } in
-    subst (AreGathered survey (c.args.k + 1)) (sym c.in_ok-push.ensures.items)
+    subst (AreGathered asked (c.args.k + 1)) (sym c.in_ok-push.ensures.items)
     (record {
       uncovered =
-          subst (AreUncovered r survey.f survey.end (c.args.k + 1)) (sym (map-append position before (window ∷ [])))
-          (one_gathered r survey.f survey.end c.args.k (positions_of before) (c.in-Some.det, sym c.in-Some.ensures) so_far.uncovered);
-      none_later = All-push (IsWindow r survey.f survey.end) before window so_far.none_later c.uncovered_until-until.ensures;
+          subst (AreUncovered r asked.f asked.end (c.args.k + 1)) (sym (map-append position before (window ∷ [])))
+          (one_gathered r asked.f asked.end c.args.k (positions_of before) (c.in-Some.det, subst (λ (a : Asked). det_at a.run.past c.args.k ≡ Some c.in-Some.det) c.self.view_is (sym c.in-Some.ensures)) so_far.uncovered);
+      none_later = All-push (IsWindow r asked.f asked.end) before window so_far.none_later c.uncovered_until-until.ensures;
     })

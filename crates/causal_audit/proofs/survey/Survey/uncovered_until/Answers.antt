@@ -1,24 +1,41 @@
-use Rattle.std.proofs.Common.{Vec, Global, List, ℕ, map, arith, subst, sym}
+use Rattle.std.proofs.Common.{ℕ, ◌≡◌, ◌+◌, ◌<◌, ◌≤◌, inl, inr, List, length, get_or, Some, refl, arith}
+use Rattle.std.specs.List.{All}
 use Rattle.std.specs.List.Sorted.{IsNonDecreasing}
-use Rattle.causal_trace.proofs.Lemmas.AtInstants.{det_within}
+use Rattle.std.proofs.lemmas.Bool.{cases_lt}
+use Rattle.std.proofs.lemmas.List.Elements.{All-weaker}
+use Rattle.causal_trace.specs.Past.{det_at, instant}
+use Rattle.causal_audit.specs.Inside.AllLooks.{AreAllLooks}
+use Rattle.causal_audit.specs.Inside.Filed.{Ascends, lists_in}
+use Rattle.causal_audit.specs.Inside.Surveys.{most_of}
 use Rattle.causal_audit.proofs.Acting.{stays_with}
-use Rattle.causal_audit.proofs.Mentioned.{mentions_ascend}
+use Rattle.causal_audit.proofs.Covering.{of_most}
+use Rattle.causal_audit.proofs.Opened.{orphan_open}
 use Rattle.causal_audit.proofs.survey.Survey.uncovered_until.Goals as goal
 
-abbrev positions : Vec ℕ Global → List ℕ
-positions list = list.items
+pub first_crash-crash-requires-clause-ascending : goal.first_crash-crash-requires-clause-ascending
+first_crash-crash-requires-clause-ascending c =
+    let past = c.self.inside.outline.trace.now.recording.past in
+    All-weaker (Ascends (length past)) (λ list. IsNonDecreasing list) (λ list a. a.ascending) (lists_in c.self.inside.crashes.now) c.self.invariant.crashed.ascend
 
-pub bounds-self-k : goal.bounds-self-k
-bounds-self-k c =
-    let r = c.args.self.now.outline.trace.now.recording in
-    omega (arith, det_within r.past c.args.k c.args.det c.requires.delivery, c.requires.survey.stays.count)
-
-pub uncovered_until-requires-clause-ascending : goal.uncovered_until-requires-clause-ascending
-uncovered_until-requires-clause-ascending c =
-    let mentions = c.args.self.now.mentions.now in
-    subst IsNonDecreasing (sym c.list-mentions.ensures) (mentions_ascend c.args.self.now.outline.trace.now.recording.past mentions.numbers (map positions mentions.lists.items) c.requires.survey.mentioned c.args.det)
-
-pub uncovered_until-requires-clause-stays : goal.uncovered_until-requires-clause-stays
-uncovered_until-requires-clause-stays c =
-    let r = c.args.self.now.outline.trace.now.recording in
-    stays_with r.processes r.past c.requires.survey.formed.accepted c.args.self.now.stays.now c.requires.survey.stays c.args.k
+pub returns : goal.returns
+returns c =
+    let s = c.self.inside in
+    let r = s.outline.trace.now.recording in
+    let k = c.args.k in
+    let most = most_of r s.f in
+    let kept = c.self.invariant in
+    let formed = kept.formed.accepted in
+    let at : det_at r.past k ≡ Some c.args.det = rw (← c.self.view_is) at c.requires.delivery in
+    let looks : AreAllLooks r most s.end c.args.looks.now = rw (← c.self.view_is) at c.requires.looks in
+    let thins = c.in-Some.thins.now in
+    let found = c.in-Some.ensures r most s.end looks in
+    let first = c.first_crash-crash.ensures r.past kept.crashed in
+    rw (← c.self.view_is)
+    (λ u above low has.
+    let few = of_most r.processes s.f most (instant r.past u) k refl has in
+    elim (cases_lt k thins.from) [
+      | inl before ↦ omega (arith, above, low, c.uncovered_until.ensures.early before)
+      | inr known ↦
+          c.uncovered_until.ensures.covered found.rising u known above low
+          (orphan_open r.processes most r.past formed k c.args.det at (get_or s.stays.now k 0) (stays_with r.processes r.past formed s.stays.now kept.staying k) u (omega (arith, low, kept.within)) few s.end c.first_crash-crash.result thins low first known found)
+    ])

@@ -12,6 +12,7 @@ use Rattle.causal_audit.proofs.Lemmas.AmongLemmas.{first_until}
 use Rattle.causal_audit.proofs.Mentioned.{mentions_ascend}
 use Rattle.causal_audit.specs.Breaches.{FirstBreachBy}
 use Rattle.causal_audit.specs.Spread.{StaysUntil}
+use Rattle.causal_audit.proofs.Opened.{none_of_most}
 use Rattle.causal_audit.proofs.Spreading.{stays_until}
 use Rattle.causal_audit.proofs.tables.Tables.first_orphan.Goals as goal
 
@@ -64,21 +65,32 @@ pub returns : goal.returns
 returns c =
     let r = c.self.inside.trace.recording in
     rw (← c.self.view_is)
-    (first_until r c.args.f c.args.end c.uncovered_until-until.result c.args.k c.first_orphan.result c.uncovered_until-until.ensures
+    (first_until r c.args.f c.args.end c.uncovered_until-until.result c.args.k c.first_orphan.result
+    (none_of_most r c.args.f c.min.result c.args.k c.uncovered_until-until.result c.args.end (omega (arith, c.min.ensures, c.processes.ensures.value)) c.uncovered_until-until.ensures)
     (subst (λ last. FirstBreachBy r c.args.f last c.args.k c.first_orphan.result) c.min-last.ensures c.first_orphan.ensures))
 
 pub returns-then-until-eq0 : goal.returns-then-until-eq0
-returns-then-until-eq0 c u low = rw (← c.self.view_is) (c.uncovered_until-until.ensures u (omega (arith, c.if-until-eq0.true)) low)
+returns-then-until-eq0 c u low =
+    let r = c.self.inside.trace.recording in
+    rw (← c.self.view_is)
+    (none_of_most r c.args.f c.min.result c.args.k c.uncovered_until-until.result c.args.end (omega (arith, c.min.ensures, c.processes.ensures.value)) c.uncovered_until-until.ensures u (omega (arith, c.if-until-eq0.true)) low)
 
-pub index-spread-requires : goal.index-spread-requires
-index-spread-requires c =
+pub index-requires : goal.index-requires
+index-requires c =
     let at : det_at c.self.inside.trace.recording.past c.args.k ≡ Some c.args.det = rw (← c.self.view_is) at c.requires.delivery in
     omega (arith, det_within c.self.inside.trace.recording.past c.args.k c.args.det at, c.self.invariant.1.spread.count)
 
-pub uncovered_until-until-requires-clause-ascending : goal.uncovered_until-until-requires-clause-ascending
-uncovered_until-until-requires-clause-ascending c =
+pub uncovered_until-until-requires-clause-look : goal.uncovered_until-until-requires-clause-look
+uncovered_until-until-requires-clause-look c =
+    let past = c.self.inside.trace.recording.past in
+    let indexes = c.self.invariant.1 in
     let mentions = map positions c.self.inside.mentions.lists.items in
-    subst IsNonDecreasing (sym c.list-mentions.ensures) (mentions_ascend c.self.inside.trace.recording.past c.self.inside.mentions.numbers mentions c.self.invariant.1.mentioned c.args.det)
+    record {
+      within = rw (← c.self.view_is) at c.requires.within;
+      ascending = subst IsNonDecreasing (sym c.list-mentions.ensures) (mentions_ascend past c.self.inside.mentions.numbers mentions indexes.mentioned c.args.det);
+      mentioned = subst (HasMentions past c.args.det) (sym c.list-mentions.ensures) (indexes.mentioned.mentioned c.args.det);
+      only = subst (AreMentionsOf past c.args.det) (sym c.list-mentions.ensures) (indexes.mentioned.only c.args.det);
+    }
 
 pub uncovered_until-until-requires-clause-stays : goal.uncovered_until-until-requires-clause-stays
 uncovered_until-until-requires-clause-stays c =
@@ -87,7 +99,7 @@ uncovered_until-until-requires-clause-stays c =
     let spreads = c.self.inside.spreads.items in
     let at : det_at r.past c.args.k ≡ Some c.args.det = rw (← c.self.view_is) at c.requires.delivery in
     let inside : c.args.k < length spreads = omega (arith, det_within r.past c.args.k c.args.det at, c.self.invariant.1.spread.count) in
-    let is : c.index-spread.result.now ≡ get_or spreads c.args.k 0 = c.index-spread.ensures ∙ get_or_default spreads c.args.k c.index-spread.result.now 0 inside in
+    let is : c.index.result.now ≡ get_or spreads c.args.k 0 = c.index.ensures ∙ get_or_default spreads c.args.k c.index.result.now 0 inside in
     subst (StaysUntil r.past c.args.k) (sym is) (stays_until r.processes r.past kept.formed.accepted c.self.inside.clocks.events kept.stands spreads c.self.invariant.1.spread c.args.k)
 
 pub invariant_of-changes : goal.invariant_of-changes

@@ -1,0 +1,22 @@
+use Rattle.std.proofs.Common.{◌≡◌, ◌≤◌, length, arith}
+use Rattle.causal_trace.specs.Past.{instant, logs}
+use Rattle.causal_audit.proofs.Begun.{unheard_until}
+use Rattle.causal_audit.proofs.Shown.{shows_none}
+use Rattle.causal_audit.proofs.Turned.{passed_down}
+use Rattle.causal_audit.proofs.look.Look.start.Goals as goal
+
+pub returns-clause-stop : goal.returns-clause-stop
+returns-clause-stop c =
+    let look = c.args.self.now in
+    let past = look.run.trace.now.recording.past in
+    let t = c.first_of-t.result in
+    let within : t ≤ length past = omega (arith, c.first_of-t.ensures.before, c.requires.from, c.requires.look.within) in
+    let unheard = unheard_until past t look.det look.mentions.now t c.requires.look.mentioned c.first_of-t.ensures.none (omega arith) within in
+    let walk = passed_down past look.run.turns.now t c.from-turns.result look.run.turned c.from-turns.ensures in
+    record {
+      within = omega (arith, c.first_of-t.ensures.before, c.requires.from);
+      mentions = c.at.ensures;
+      turns = c.from-turns.ensures.over;
+      down = c.down.ensures past t within walk.0 walk.1;
+      holders = rw c.none.ensures (shows_none (λ p. logs (instant past t) p look.det) unheard.unlogged);
+    }

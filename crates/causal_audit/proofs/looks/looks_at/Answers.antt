@@ -1,0 +1,21 @@
+use Rattle.std.proofs.Common.{ℕ, Vec, Global, List, map, sym, subst}
+use Rattle.std.specs.List.Sorted.{IsNonDecreasing}
+use Rattle.causal_audit.specs.Inside.Changes.{AreMentionsOf, HasMentions}
+use Rattle.causal_audit.proofs.Mentioned.{mentions_ascend}
+use Rattle.causal_audit.proofs.NumberedDets.{looks_more}
+use Rattle.causal_audit.proofs.looks.looks_at.Goals as goal
+
+abbrev positions : Vec ℕ Global → List ℕ
+positions list = list.items
+
+pub of-requires : goal.of-requires
+of-requires c =
+    let r = c.args.run.now.trace.now.recording in
+    let mentions = c.args.mentions.now in
+    let det = c.det-det.result in
+    record {
+      within = c.requires.within;
+      ascending = subst IsNonDecreasing (sym c.list.ensures) (mentions_ascend r.past mentions.numbers (map positions mentions.lists.items) c.requires.mentioned det);
+      mentioned = subst (HasMentions r.past det) (sym c.list.ensures) (c.requires.mentioned.mentioned det);
+      only = subst (AreMentionsOf r.past det) (sym c.list.ensures) (c.requires.mentioned.only det);
+    }

@@ -1,0 +1,36 @@
+-- What a look at a determinant reads, where it stands, and what it tells.
+use Rattle.std.specs.Prelude.{◌≡◌, ℕ, ◌+◌, ◌<◌, ◌≤◌, length}
+use Rattle.std.specs.List.Sorted.{IsNonDecreasing}
+use Rattle.causal_trace.specs.Past.{instant, is_down, logs}
+use Rattle.causal_audit.specs.Inside.Ahead.{IsCursor}
+use Rattle.causal_audit.specs.Inside.Changes.{AreMentionsOf, HasMentions}
+use Rattle.causal_audit.specs.Inside.Sights.{Shows}
+use Rattle.causal_audit.specs.Inside.Standing.{IsThinAt, RulesOut}
+use Rattle.causal_audit.specs.declared.look.Look.{Look}
+use Rattle.causal_audit.specs.declared.look.Stop.{Stop}
+use Rattle.causal_audit.specs.declared.thin.Stretch.{Stretch}
+
+-- these are the mentions of the determinant, and it is looked at up to an instant of the run
+pub record IsLook (look : Look) : Type 0 where
+  pub within : look.end ≤ length look.run.trace.now.recording.past
+  pub ascending : IsNonDecreasing look.mentions.now
+  pub mentioned : HasMentions look.run.trace.now.recording.past look.det look.mentions.now
+  pub only : AreMentionsOf look.run.trace.now.recording.past look.det look.mentions.now
+
+-- a look at d has come to an instant: what is ahead of it, who is down then, and who holds d
+pub record IsStop (look : Look) (stop : Stop) : Type 0 where
+  pub within : stop.t ≤ look.end
+  pub mentions : IsCursor look.mentions.now stop.t stop.ahead
+  pub turns : stop.turns.turns.now ≡ look.run.turns.now
+  pub down : Shows stop.cover.down (λ p. is_down (instant look.run.trace.now.recording.past stop.t) p)
+  pub holders : Shows stop.cover.holders (λ p. logs (instant look.run.trace.now.recording.past stop.t) p look.det)
+
+-- a look that came to the instant t and goes on at `next` has passed this stretch: at each instant of it the determinant stands
+-- so, and after it, before `next`, it is thin no more
+pub record IsPassed (look : Look) (t next : ℕ) (s : Stretch) : Type 0 where
+  pub first : s.first ≡ t
+  pub order : t ≤ s.last
+  pub last : s.last < next
+  pub within : next ≤ look.end + 1
+  pub stands : (u : ℕ) → t ≤ u → u ≤ s.last → RulesOut s.standing look.run.trace.now.recording.processes look.most look.run.trace.now.recording.past look.det u
+  pub after : (u : ℕ) → s.last < u → u < next → IsThinAt look.run.trace.now.recording.processes look.most look.run.trace.now.recording.past look.det u → ⊥

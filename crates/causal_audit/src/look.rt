@@ -1,0 +1,126 @@
+//! A look at a determinant: how it stands at the instants of a run. It does not depend on the delivery, nor on who depends on
+//! that: deliveries that share a determinant share the look.
+ghost use Rattle.std.specs.Prelude.{◌≡◌, ◌≤◌, ◌<◌, ◌∷◌, true, List, MatchOption};
+ghost use Rattle.std.specs.List.Sorted.{IsNonDecreasing};
+ghost use Rattle.causal_trace.specs.declared.entry.Entry.{Entry};
+ghost use Rattle.causal_trace.specs.Past.{is_stable};
+ghost use Rattle.causal_audit.specs.Inside.Ahead.{HasNoneUntil};
+ghost use Rattle.causal_audit.specs.Inside.Looks.{IsLook, IsPassed, IsStop};
+
+use crate::budget::Budget;
+use crate::cover::Cover;
+use crate::cursor::Cursor;
+use crate::outline::Outline;
+use crate::thin::Stretch;
+use crate::turns::Passing;
+use causal_holders::Holders;
+use causal_name::Det;
+use causal_trace::entry::Entry;
+
+/// What is looked at: a determinant with its mentions, up to the instant `end`. It is thin where it is not stable and at most
+/// `most` processes are down or hold it.
+#[derive(Clone, Copy)]
+pub struct Look<'a> {
+    pub run: Outline<'a>,
+    pub mentions: &'a [u32],
+    pub det: Det,
+    pub most: u16,
+    pub end: u32,
+}
+
+/// The instant that a look has come to, with who is down and holds the determinant then; past the end once all is looked at.
+#[derive(Clone, Copy)]
+pub struct Stop<'a> {
+    pub t: u32,
+    pub ahead: Cursor<'a>,
+    pub turns: Passing<'a>,
+    pub cover: Cover,
+}
+
+/// The first of an ascending list of positions, or `end` if that comes first.
+fn first_of(list: &[u32], end: u32) -> u32
+    requires { IsNonDecreasing list.now }
+    ensures before { result ≤ end }
+    ensures none { HasNoneUntil list.now 0 result }
+{
+    match list.first() {
+        Some(position) => (*position).min(end),
+        None => end,
+    }
+}
+
+/// Whether an entry writes the determinant to stable storage.
+fn is_written(entry: &Entry, det: Det) -> bool
+    ensures { result ≡ true → (past : List Entry) → is_stable (entry.now ∷ past) det ≡ true }
+{
+    match entry {
+        Entry::Stable { det: written } => det == *written,
+        _ => false,
+    }
+}
+
+impl<'a> Look<'a> {
+    /// A look from the first mention on, or from an instant before the end if that comes first: until then nobody holds the
+    /// determinant.
+    pub fn start(&self, from: u32) -> Stop<'a>
+        requires look { IsLook self.now }
+        requires from { from ≤ self.now.end }
+        ensures before { result.t ≤ from }
+        ensures stop { IsStop self.now result }
+    {
+        let t = first_of(self.mentions, from);
+        let turns = self.run.turns.from(t);
+        Stop {
+            t,
+            ahead: Cursor::at(self.mentions, t),
+            turns,
+            cover: Cover {
+                down: turns.down(),
+                holders: Holders::none(),
+            },
+        }
+    }
+
+    /// The next stretch, up to the next entry that mentions the determinant or restarts one of those who were down or held it:
+    /// until then they still are or do. None where all is looked at. Each restart that it stops at takes a step; what was
+    /// stable or held by too many for good is not looked at any more.
+    pub fn next(&self, stop: &mut Stop<'a>, budget: &mut Budget) -> Option<Stretch>
+        requires look { IsLook self.now }
+        requires stop { stop.old.t ≤ self.now.end → IsStop self.now stop.old }
+        ensures stop { stop.new.t ≤ self.now.end → IsStop self.now stop.new }
+        ensures passed { MatchOption result (self.now.end < stop.old.t) (IsPassed self.now stop.old.t stop.new.t) }
+    {
+        let entries = self.run.trace.entries();
+        if stop.t > self.end {
+            return None;
+        }
+        let first = stop.t;
+        let standing = stop.cover.standing(self.most, self.det.dest.0);
+        let mention = stop.ahead.next(first, self.end);
+        let gone = stop.cover.gone();
+        let last = stop
+            .turns
+            .next_restart(self.run.trace, gone, first, mention, budget);
+        let stretch = Stretch {
+            first,
+            last,
+            standing,
+        };
+        stop.t = self.end + 1;
+        if last == self.end {
+            return Some(stretch);
+        }
+        let entry = &entries[last as usize];
+        if is_written(entry, self.det) {
+            return Some(stretch);
+        }
+        stop.cover
+            .see(stop.turns.down(), entry, self.det, mention == last);
+        let lasting = self.run.lasting_from <= last + 1;
+        if lasting && stop.cover.gone().len() > u32::from(self.most) {
+            return Some(stretch);
+        }
+        stop.t = last + 1;
+        Some(stretch)
+    }
+}
