@@ -1,5 +1,5 @@
 -- Which entries a delivery reaches, as its messages are followed.
-use Rattle.std.proofs.Common.{ℕ, ◌≡◌, ◌<◌, inl, inr, Bool, true, false, List, ◌∷◌, length, Some, refl, sym, ap, subst, ◌∙◌}
+use Rattle.std.proofs.Common.{ℕ, ◌≡◌, inl, inr, Bool, true, false, List, ◌∷◌, length, Some, refl, sym, ap, subst, ◌∙◌}
 use Rattle.std.specs.Prelude.{◌↔◌, ◌⊎◌, ◌||◌}
 use Rattle.std.proofs.lemmas.Bool.{false≢true, or_cases, eqb-true, eq-eqb}
 use Rattle.causal_name.specs.declared.Pid.{Pid}
@@ -8,7 +8,7 @@ use Rattle.causal_trace.specs.declared.entry.Entry.{Entry}
 use Rattle.causal_trace.specs.declared.entry.Entry.TheVariants.{Send, Deliver}
 use Rattle.causal_trace.specs.Past.{det_at, lane}
 use Rattle.causal_trace.specs.Rows.{AreAccepted}
-use Rattle.causal_trace.specs.Dependence.{actor, is_delivery_of, in_order, by_message, Reaches, itself, onward, Depends}
+use Rattle.causal_trace.specs.Dependence.{actor, in_order, by_message, Reaches, itself, onward, Depends}
 use Rattle.causal_trace.proofs.Lemmas.Accepted.{accepted_forward}
 use Rattle.causal_trace.proofs.Lemmas.Reached.{event_below, reaches_newest, ReachesNewest, is_newest, in_lane, through_message}
 use Rattle.causal_audit.specs.Inside.Sights.{TellsNextReach}
@@ -66,7 +66,3 @@ module _ (n : ℕ) (past : List Entry) (k : ℕ) (depends : ℕ → Bool) (are :
       how (is_newest is) = one_of own (depends to.0) brings (inl (is_own.1 (sym is)))
       how (in_lane j event reach) = one_of own (depends to.0) brings (inr (inl (ap depends same ∙ (are p).1 (known_already n past e k j p formed.1 of event reach))))
       how (through_message j is reach) = one_of own (depends to.0) brings (inr (inr (is_brought.1 (subst (Reaches past k) (sym (eqb-true send j is)) reach))))
-
--- a delivery's send stands before it
-pub send_within : (n : ℕ) (e : Entry) (past : List Entry) (send : ℕ) → AreAccepted n (e ∷ past) → is_delivery_of send e ≡ true → send < length past
-send_within n e past send formed is = accepted_forward n (e ∷ past) formed (length past) send (inr (refl, is))

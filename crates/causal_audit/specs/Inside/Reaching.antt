@@ -69,14 +69,14 @@ SeesReach e t old new newly =
 abbrev pub AreOver : List Window → ℕ → FinSet nat_cmp → Type 0
 AreOver windows t over = (j : ℕ) → contains over j ≡ true → (window_at windows j).until ≤ t
 
--- the lists of those of these places whose windows are not over have the position at their end, and the others are as
+-- the lists of those of these places whose windows are not over have the position v at their end, and the others are as
 -- they were
-pub record HaveAdded (windows : List Window) (places : FinSet nat_cmp) (position : ℕ) (old new : List (List ℕ)) : Type 0 where
+pub record HaveAdded (windows : List Window) (places : FinSet nat_cmp) (v : ℕ) (old new : List (List ℕ)) : Type 0 where
   pub count : length new ≡ length old
-  pub listed : (j : ℕ) → contains places j ≡ true → position < (window_at windows j).until
-      → list_at new j ≡ list_at old j ++ position ∷ []
+  pub listed : (j : ℕ) → contains places j ≡ true → v < (window_at windows j).until
+      → list_at new j ≡ list_at old j ++ v ∷ []
   pub others : (j : ℕ) → contains places j ≡ false → list_at new j ≡ list_at old j
-  pub over : (j : ℕ) → (window_at windows j).until ≤ position → list_at new j ≡ list_at old j
+  pub over : (j : ℕ) → (window_at windows j).until ≤ v → list_at new j ≡ list_at old j
 
 -- of the events below t an ascending list has the first one of each lane that k reaches, and only such that it reaches
 pub record AreFirstsUntil (past : List Entry) (k t : ℕ) (list : List ℕ) : Type 0 where
