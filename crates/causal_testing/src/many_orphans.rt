@@ -79,9 +79,10 @@ fn the_verdict_is_the_same(rt: HostRuntime) -> Result<(), Fail> {
     Ok(())
 }
 
-/// Process 1 delivers one message, and again in so many incarnations; each lists it as it begins and at its delivery.
+/// Process 1 delivers one message, and again in so many incarnations; each lists it as it begins and at its delivery. The last
+/// sends on to process 2, which lists it too: so two processes hold it after it has left its receiver.
 fn replayed(alloc: Global, count: u32) -> Result<Trace, TraceFault> {
-    let mut trace = Trace::new(alloc, 2)?;
+    let mut trace = Trace::new(alloc, 4)?;
     push(alloc, &mut trace, Line::Send(0, 1, 0))?;
     push(alloc, &mut trace, Line::Deliver(1, 0, 0, &[(0, 0, 1, 0)]))?;
     for _ in 0..count {
@@ -89,12 +90,19 @@ fn replayed(alloc: Global, count: u32) -> Result<Trace, TraceFault> {
         push(alloc, &mut trace, Line::Restart(1, &[(0, 0, 1, 0)]))?;
         push(alloc, &mut trace, Line::Deliver(1, 0, 0, &[(0, 0, 1, 0)]))?;
     }
+    let send = trace.len();
+    push(alloc, &mut trace, Line::Send(1, 2, 0))?;
+    push(
+        alloc,
+        &mut trace,
+        Line::Deliver(2, send, 0, &[(0, 0, 1, 0), (1, 0, 2, 0)]),
+    )?;
     Ok(trace)
 }
 
 fn replays_surveyed(alloc: Global, count: u32) -> Result<Surveyed, Fail> {
     let trace = replayed(alloc, count)?;
-    Ok(least_surveyed(alloc, &trace, 1, trace.len())?)
+    Ok(least_surveyed(alloc, &trace, 2, trace.len())?)
 }
 
 #[test]
@@ -111,7 +119,7 @@ fn where_its_steps_do_not_suffice_it_tells_nothing(rt: HostRuntime) -> Result<()
 fn then_the_deliveries_are_swept(rt: HostRuntime) -> Result<(), Fail> {
     let trace = replayed(rt.alloc(), 190)?;
     for workers in 1..=3 {
-        let said = audit(&rt, rt.alloc(), &trace, 1, workers, &OpenGate)?;
+        let said = audit(&rt, rt.alloc(), &trace, 2, workers, &OpenGate)?;
         assert_eq!(rt; said, Verdict::Accept, "{workers} workers");
     }
     Ok(())
