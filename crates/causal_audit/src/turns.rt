@@ -1,6 +1,8 @@
 //! The positions of the crashes and restarts, and who is down after each.
-ghost use Rattle.std.specs.Prelude.{◌≡◌, ◌≤◌, ◌∷◌, ℕ, List, IfOk, length};
+ghost use Rattle.std.specs.Prelude.{◌≡◌, ◌≤◌, ◌∷◌, ℕ, List, IfOk, length, true};
+ghost use Rattle.std.specs.FinSet.{FinSet};
 ghost use Rattle.std.specs.List.Sorted.{IsNonDecreasing};
+ghost use Rattle.std.specs.Ordering.{nat_cmp};
 ghost use Rattle.causal_trace.specs.declared.entry.Entry.{Entry};
 ghost use Rattle.causal_trace.specs.Limits.{max_entries};
 ghost use Rattle.causal_trace.specs.Past.{instant, is_down};
@@ -121,6 +123,17 @@ impl Turns {
         }
     }
 
+    /// Whether none of them stands from position `from` on and before `end`, so that nobody restarts there.
+    fn has_none(&self, from: u32, end: u32) -> bool
+        ensures { result ≡ true → (past : List Entry) (members : FinSet nat_cmp) → AreTurnsKept past self.now →
+            RestartsNone past members from end }
+    {
+        match self.positions.get(self.before(from)) {
+            Some(position) => *position >= end,
+            None => true,
+        }
+    }
+
     /// The first position from `from` on at which one of these processes restarts, or `end` if that comes first: the
     /// restarts are passed one by one.
     fn next_of_many(&self, trace: &Trace, members: Holders, from: u32, end: u32) -> u32
@@ -143,14 +156,18 @@ impl Turns {
         end
     }
 
-    /// The same. Where the processes are few, it is the least of their own next restarts, by a binary search for each;
-    /// else it takes time as the crashes and restarts in between.
+    /// The same. Mostly nobody crashes or restarts in between, which one binary search tells. Else, where the processes are
+    /// few, it is the least of their own next restarts, by a binary search for each, and where they are many it takes time
+    /// as the crashes and restarts in between.
     fn next_restart(&self, trace: &Trace, members: Holders, from: u32, end: u32) -> u32
         requires order { from ≤ end }
         requires turns { AreTurnsKept trace.now.recording.past self.now }
         ensures bounds { (from ≤ result) × (result ≤ end) }
         ensures none { RestartsNone trace.now.recording.past members from result }
     {
+        if self.has_none(from, end) {
+            return end;
+        }
         if members.len() <= FEW {
             self.restarts.next_among(members, from, end)
         } else {
