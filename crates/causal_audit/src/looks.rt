@@ -1,6 +1,5 @@
 //! One look at each determinant that is mentioned.
 ghost use Rattle.std.specs.Prelude.{◌≡◌, ◌≤◌, IfOk, IfSome, length};
-ghost use Rattle.causal_audit.specs.Inside.AllLooks.{AreAllLooks, IsLookOf};
 ghost use Rattle.causal_audit.specs.Inside.Kept.{AreMentionsKept};
 
 use crate::budget::Budget;
@@ -16,12 +15,14 @@ use std::alloc::Global;
 pub struct Looks<'a> {
     pub mentions: &'a Mentions,
     pub found: Vec<Thins>,
+    ghost each: { length found.items ≡ length mentions.now.numbers },
 }
 
-impl Looks<'_> {
+impl<'a> Looks<'a> {
+    ghost use Rattle.causal_audit.specs.Inside.AllLooks.{AreAllLooks, IsLookOf};
+
     /// What was found of a determinant; None where nothing mentions it.
     pub fn find(&self, det: Det) -> Option<&Thins>
-        requires { length self.now.found.items ≡ length self.now.mentions.now.numbers }
         ensures { IfSome result (λ thins. IsLookOf self.now det thins.now) }
     {
         match self.mentions.numbers.find(det) {
@@ -29,36 +30,36 @@ impl Looks<'_> {
             None => None,
         }
     }
-}
 
-/// What one look at each determinant finds, where at most `most` processes may crash; None where the steps do not suffice. All
-/// of them pass the mentions once; they take steps for the restarts that they stop at.
-pub fn looks_at<'a>(
-    alloc: Global,
-    run: &Outline<'a>,
-    mentions: &'a Mentions,
-    most: u16,
-    end: u32,
-    budget: &mut Budget,
-) -> Result<Option<Looks<'a>>, NoMemory>
-    requires within { end ≤ length run.now.trace.now.recording.past }
-    requires mentioned { AreMentionsKept run.now.trace.now.recording.past mentions.now }
-    ensures { IfOk result (λ found. IfSome found (AreAllLooks run.now.trace.now.recording most end)) }
-{
-    let mut found = Vec::with_capacity(alloc, mentions.lists.len())?;
-    for number in 0..mentions.lists.len() {
-        if budget.is_spent() {
-            return Ok(None);
+    /// What one look at each determinant finds, where at most `most` processes may crash; None where the steps do not suffice. All
+    /// of them pass the mentions once; they take steps for the restarts that they stop at.
+    pub fn of(
+        alloc: Global,
+        run: &Outline<'a>,
+        mentions: &'a Mentions,
+        most: u16,
+        end: u32,
+        budget: &mut Budget,
+    ) -> Result<Option<Looks<'a>>, NoMemory>
+        requires within { end ≤ length run.now.trace.now.recording.past }
+        requires mentioned { AreMentionsKept run.now.trace.now.recording.past mentions.now }
+        ensures { IfOk result (λ found. IfSome found (AreAllLooks run.now.trace.now.recording most end)) }
+    {
+        let mut found = Vec::with_capacity(alloc, mentions.lists.len())?;
+        for number in 0..mentions.lists.len() {
+            if budget.is_spent() {
+                return Ok(None);
+            }
+            let det = mentions.numbers.det(number);
+            let look = Look {
+                run: *run,
+                mentions: mentions.list(det),
+                det,
+                most,
+                end,
+            };
+            found.push(Thins::of(alloc, &look, budget)?)?;
         }
-        let det = mentions.numbers.det(number);
-        let look = Look {
-            run: *run,
-            mentions: mentions.list(det),
-            det,
-            most,
-            end,
-        };
-        found.push(Thins::of(alloc, &look, budget)?)?;
+        Ok(Some(Looks { mentions, found }))
     }
-    Ok(Some(Looks { mentions, found }))
 }

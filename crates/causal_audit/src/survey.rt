@@ -9,7 +9,7 @@ ghost use Rattle.causal_audit.specs.Inside.Surveys.{AreGathered, most_of};
 use crate::breach::Surveyed;
 use crate::budget::Budget;
 use crate::crashes::{crashes_in, first_crash};
-use crate::looks::{Looks, looks_at};
+use crate::looks::Looks;
 use crate::mentions::{Mentions, mentions_in};
 use crate::outline::Outline;
 use crate::releases::lasting_from;
@@ -113,7 +113,7 @@ impl Survey<'_, '_> {
         let mut budget = Budget::of(trace);
         // An orphan survives, so never all processes are in its crash set.
         let most = self.f.min(trace.processes() - 1);
-        let Some(looks) = looks_at(
+        let Some(looks) = Looks::of(
             alloc,
             &self.outline,
             self.mentions,

@@ -15,7 +15,6 @@ AreLooksBelow r most end numbers m found =
 
 -- for each determinant that is mentioned
 pub record AreAllLooks (r : Recording) (most end : ℕ) (looks : Looks) : Type 0 where
-  pub count : length looks.found.items ≡ length looks.mentions.now.numbers
   pub found : AreLooksBelow r most end looks.mentions.now.numbers (length looks.found.items) looks.found.items
 
 -- this was found of the determinant

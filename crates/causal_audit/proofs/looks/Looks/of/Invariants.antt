@@ -1,6 +1,6 @@
 use Rattle.std.proofs.Common.{◌≡◌, length}
 use Rattle.causal_audit.specs.Inside.AllLooks.{AreLooksBelow}
-use Rattle.causal_audit.proofs.looks.looks_at.Given as goal
+use Rattle.causal_audit.proofs.looks.Looks.of.Given as goal
 
 -- those of the numbers so far
 abbrev pub invariant-loop-number : goal.invariant-loop-number
