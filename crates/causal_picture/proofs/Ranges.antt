@@ -1,7 +1,7 @@
 -- Consecutive numbers, counted up.
-use Rattle.std.proofs.Common.{◌≡◌, ℕ, ◌+◌, ◌-◌, ◌<◌, List, [], ◌∷◌, ◌++◌, suc, refl, sym, ap, ◌∙◌, append_assoc, arith}
+use Rattle.std.proofs.Common.{◌≡◌, ℕ, ◌+◌, ◌-◌, ◌<◌, List, [], ◌∷◌, ◌++◌, suc, refl, append_assoc, arith}
 use Rattle.std.specs.Prelude.{Option, Some, None}
-use Rattle.std.specs.List.{range_with_len, filter_map}
+use Rattle.std.specs.List.{range_with_len, filter_map, flat_map}
 
 -- the numbers from k up to an end begin with k
 pub range_first : (k end : ℕ) → k < end → range_with_len k (end - k) ≡ k ∷ range_with_len (k + 1) (end - (k + 1))
@@ -20,3 +20,10 @@ pub passed-some : {X : Type 0} (h : ℕ → Option X) (ms more all : List X) (x 
 passed-some h ms more all x k end less some added before =
     let now : ms ++ filter_map h (k ∷ range_with_len (k + 1) (end - (k + 1))) ≡ all = rw (range_first k end less) at before in
     rw (added, append_assoc) (rw some at now)
+
+-- the text of one more number has been written
+pub written-number : (f : ℕ → List ℕ) (whole before after : List ℕ) (k end : ℕ) → k < end → after ≡ before ++ f k
+    → whole ≡ before ++ flat_map f (range_with_len k (end - k)) → whole ≡ after ++ flat_map f (range_with_len (k + 1) (end - (k + 1)))
+written-number f whole before after k end less more is =
+    let now : whole ≡ before ++ flat_map f (k ∷ range_with_len (k + 1) (end - (k + 1))) = rw (range_first k end less) at is in
+    rw (more, append_assoc) now

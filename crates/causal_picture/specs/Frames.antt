@@ -1,5 +1,5 @@
 -- What stands around the events.
-use Rattle.std.specs.Prelude.{ℕ, ◌+◌, ◌-◌, zero, suc, Bool, if◌then◌else◌, ◌==◌, List, [], ◌++◌, codes, decimal}
+use Rattle.std.specs.Prelude.{ℕ, ◌+◌, ◌-◌, Bool, if◌then◌else◌, ◌==◌, List, [], ◌++◌, codes, decimal}
 use Rattle.causal_picture.specs.declared.marks.Mark.{Mark}
 use Rattle.causal_picture.specs.declared.stretch.Stretch.{Stretch}
 use Rattle.causal_picture.specs.Layout.{width_of, height_of, right_of, bottom_of, y_of}

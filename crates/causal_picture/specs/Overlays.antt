@@ -1,5 +1,5 @@
 -- What is drawn over the events.
-use Rattle.std.specs.Prelude.{ℕ, ◌-◌, Bool, ◌&&◌, nat_le, nat_lt, if◌then◌else◌, List, ◌++◌, codes, decimal, flat_map, Option, None}
+use Rattle.std.specs.Prelude.{ℕ, ◌-◌, Bool, ◌&&◌, nat_le, nat_lt, if◌then◌else◌, List, [], ◌∷◌, ◌++◌, codes, decimal, flat_map, Option, None}
 use Rattle.std.specs.List.{filter_map}
 use Rattle.std.specs.Option.{option_map}
 use Rattle.causal_trace.specs.declared.entry.Entry.{Entry}
@@ -8,6 +8,7 @@ use Rattle.causal_picture.specs.declared.marks.Mark.{Mark}
 use Rattle.causal_picture.specs.declared.stretch.Stretch.{Stretch}
 use Rattle.causal_picture.specs.Layout.{x_of, x_of_instant, y_of, bottom_of}
 use Rattle.causal_picture.specs.Marks.{mark_at, process_of}
+use Rattle.causal_picture.specs.declared.shapes.Shape.TheVariants.{Halo}
 use Rattle.causal_picture.specs.Shapes.{shape_text, upright_text}
 
 -- whether the entry at a position is one of a stretch
@@ -39,7 +40,7 @@ polyline_text points stroke = codes "<polyline points='" ++ (corners_text points
 
 -- a ring about a place
 unfoldable pub ring_text : Point → List ℕ
-ring_text p = shape_text p.x p.y (codes "d='M-9 0a9 9 0 1 0 18 0a9 9 0 1 0-18 0z' fill='none' stroke='#d55e00' stroke-width='2'")
+ring_text p = shape_text p.x p.y Halo
 
 abbrev pub rings_text : List Point → List ℕ
 rings_text points = flat_map ring_text points
@@ -64,6 +65,11 @@ unfoldable pub instant_label : ℕ → ℕ → ℕ → List ℕ
 instant_label x y instant =
     codes "<text x='" ++ (decimal x ++ (codes "' y='" ++ (decimal y ++ (codes "' dy='14' text-anchor='middle' fill='#0072b2'>instant " ++ (decimal instant
     ++ codes "</text>\n</g>\n")))))
+
+-- the same, where some of it is shown
+abbrev pub shown_chain : List Point → List ℕ
+shown_chain [] = []
+shown_chain (p ∷ ps) = chain_text (p ∷ ps)
 
 -- the instant: a vertical line between the entries before and after it
 unfoldable pub instant_text : Stretch → ℕ → ℕ → List ℕ

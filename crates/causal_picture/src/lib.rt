@@ -4,14 +4,18 @@
 //! Begin at [`picture_of`]; a [`Focus`] says what is shown beside the run itself.
 #![tactic(auto)]
 
+mod down;
 pub mod focus;
 mod frame;
 mod layout;
+mod legend;
 mod marked;
 pub mod marks;
 mod overlay;
+pub mod picture;
 mod shapes;
 pub mod stretch;
 mod titles;
 
 pub use focus::Focus;
+pub use picture::picture_of;

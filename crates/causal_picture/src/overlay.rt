@@ -4,7 +4,7 @@ ghost use Rattle.causal_picture.specs.Overlays as overlays;
 
 use crate::layout::{bottom_of, x_of, x_of_instant, y_of};
 use crate::marks::mark_at;
-use crate::shapes::{push_shape, push_upright};
+use crate::shapes::{Shape, push_shape, push_upright};
 use crate::stretch::Stretch;
 use causal_name::NoMemory;
 use causal_trace::Trace;
@@ -77,12 +77,7 @@ fn push_corners(out: &mut String, points: &[Point]) -> Result<(), AllocError>
 fn push_ring(out: &mut String, point: &Point) -> Result<(), AllocError>
     ensures { OnOk result (string_bytes out.new ≡ string_bytes out.old ++ overlays.ring_text point.now) }
 {
-    push_shape(
-        out,
-        point.x,
-        point.y,
-        "d='M-9 0a9 9 0 1 0 18 0a9 9 0 1 0-18 0z' fill='none' stroke='#d55e00' stroke-width='2'",
-    )
+    push_shape(out, point.x, point.y, Shape::Halo)
 }
 
 fn push_rings(out: &mut String, points: &[Point]) -> Result<(), AllocError>
@@ -125,7 +120,7 @@ fn push_chain_line(out: &mut String, points: &[Point]) -> Result<(), AllocError>
 /// The chain: a thick line from entry to entry, and a ring about each. It takes no pointer, so that the titles of the events
 /// below can still be read.
 #[tactic(auto, unfolding(crate::specs::Overlays::chain_text))]
-pub fn push_chain(out: &mut String, points: &[Point]) -> Result<(), AllocError>
+fn push_chain(out: &mut String, points: &[Point]) -> Result<(), AllocError>
     ensures { OnOk result (string_bytes out.new ≡ string_bytes out.old ++ overlays.chain_text points.now) }
 {
     push_chain_title(out)?;
@@ -179,4 +174,15 @@ pub fn push_instant(
     push_instant_title(out, instant)?;
     push_instant_line(out, x, bottom)?;
     push_instant_label(out, x, bottom, instant)
+}
+
+/// The chain, where some of it is shown.
+pub fn push_shown_chain(out: &mut String, points: &[Point]) -> Result<(), AllocError>
+    ensures { OnOk result (string_bytes out.new ≡ string_bytes out.old ++ overlays.shown_chain points.now) }
+{
+    if points.is_empty() {
+        Ok(())
+    } else {
+        push_chain(out, points)
+    }
 }

@@ -6,32 +6,71 @@ ghost use Rattle.causal_picture.specs.Shapes as shapes;
 use crate::marks::Event;
 use std::alloc::AllocError;
 
-/// How an event is drawn about the origin, as the attributes of a path: a send as an open dot, a delivery as a full one, a
-/// crash as a cross, a restart as a ring, a stable determinant as a square, a forgetting as a triangle.
-pub fn shape_of(event: &Event) -> &'static str
-    ensures { result.now ≡ shapes.shape_of event.now }
+/// What stands at a place: one form for each kind of event, and those of the focus.
+#[derive(Clone, Copy, Debug)]
+pub enum Shape {
+    OpenDot,
+    Dot,
+    Square,
+    Cross,
+    Ring,
+    Triangle,
+    Halo,
+    Shade,
+}
+
+impl Shape {
+    /// How it is drawn about the origin, as the attributes of a path.
+    fn attributes(self) -> &'static str
+        ensures { result.now ≡ shapes.attributes_of self }
+    {
+        match self {
+            Shape::OpenDot => {
+                "d='M-4.5 0a4.5 4.5 0 1 0 9 0a4.5 4.5 0 1 0-9 0z' fill='white' stroke='#222' stroke-width='1.5'"
+            }
+            Shape::Dot => "d='M-5 0a5 5 0 1 0 10 0a5 5 0 1 0-10 0z' fill='#222'",
+            Shape::Square => "d='M-4-4H4V4H-4z' fill='#0072b2'",
+            Shape::Cross => "d='M-7-7L7 7M-7 7L7-7' fill='none' stroke='#c00000' stroke-width='3'",
+            Shape::Ring => {
+                "d='M-7 0a7 7 0 1 0 14 0a7 7 0 1 0-14 0z' fill='white' stroke='#008060' stroke-width='3'"
+            }
+            Shape::Triangle => "d='M0-6L6 4H-6z' fill='#a0549b'",
+            Shape::Halo =>
+                "d='M-9 0a9 9 0 1 0 18 0a9 9 0 1 0-18 0z' fill='none' stroke='#d55e00' stroke-width='2'",
+            Shape::Shade => "d='M-9-9H9V9H-9z' fill='#ffe3b3'",
+        }
+    }
+}
+
+/// The shape of an event: a send is an open dot, a delivery a full one, a stable determinant a square, a crash a cross, a
+/// restart a ring, a forgetting a triangle.
+pub fn shape_of(event: &Event) -> Shape
+    ensures { result ≡ shapes.shape_of event.now }
 {
     match event {
-        Event::Send { .. } => {
-            "d='M-4.5 0a4.5 4.5 0 1 0 9 0a4.5 4.5 0 1 0-9 0z' fill='white' stroke='#222' stroke-width='1.5'"
-        }
-        Event::Delivery { .. } => "d='M-5 0a5 5 0 1 0 10 0a5 5 0 1 0-10 0z' fill='#222'",
-        Event::Stable { .. } => "d='M-4-4H4V4H-4z' fill='#0072b2'",
-        Event::Crash { .. } =>
-            "d='M-7-7L7 7M-7 7L7-7' fill='none' stroke='#c00000' stroke-width='3'",
-        Event::Restart { .. } => {
-            "d='M-7 0a7 7 0 1 0 14 0a7 7 0 1 0-14 0z' fill='white' stroke='#008060' stroke-width='3'"
-        }
-        Event::Forget { .. } => "d='M0-6L6 4H-6z' fill='#cc79a7'",
+        Event::Send { .. } => Shape::OpenDot,
+        Event::Delivery { .. } => Shape::Dot,
+        Event::Stable { .. } => Shape::Square,
+        Event::Crash { .. } => Shape::Cross,
+        Event::Restart { .. } => Shape::Ring,
+        Event::Forget { .. } => Shape::Triangle,
     }
 }
 
 /// A path with these attributes, about a place.
-#[tactic(auto, unfolding(crate::specs::Shapes::shape_text))]
-pub fn push_shape(out: &mut String, x: u64, y: u32, shape: &str) -> Result<(), AllocError>
-    ensures { OnOk result (string_bytes out.new ≡ string_bytes out.old ++ shapes.shape_text x y shape.now) }
+#[tactic(auto, unfolding(crate::specs::Shapes::path_text))]
+fn push_path(out: &mut String, x: u64, y: u32, attributes: &str) -> Result<(), AllocError>
+    ensures { OnOk result (string_bytes out.new ≡ string_bytes out.old ++ shapes.path_text x y attributes.now) }
 {
-    write!(out, "<path transform='translate({x},{y})' {shape}/>\n")
+    write!(out, "<path transform='translate({x},{y})' {attributes}/>\n")
+}
+
+/// A shape at a place.
+#[tactic(auto, unfolding(crate::specs::Shapes::shape_text))]
+pub fn push_shape(out: &mut String, x: u64, y: u32, shape: Shape) -> Result<(), AllocError>
+    ensures { OnOk result (string_bytes out.new ≡ string_bytes out.old ++ shapes.shape_text x y shape) }
+{
+    push_path(out, x, y, shape.attributes())
 }
 
 /// A level line.
