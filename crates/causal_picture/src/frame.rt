@@ -1,4 +1,5 @@
-//! What stands around the events: the head of the picture, the processes' lines, the marks where the run is cut, the legend.
+//! What stands around the events: the head of the picture, the processes' lines, the marks where the run is cut, the
+//! legend.
 ghost use Rattle.std.specs.Prelude.{◌≡◌, ◌≤◌, ◌+◌, ◌++◌, OnOk, string_bytes};
 ghost use Rattle.causal_picture.specs.Frames as frames;
 
@@ -47,7 +48,8 @@ fn push_description(
     )
 }
 
-/// A white ground, and the head of an arrow: its tip stands before the end of the arrow's line, outside of the delivery's dot.
+/// A white ground, and the head of an arrow: its tip stands before the end of the arrow's line, outside of the
+/// delivery's dot.
 #[tactic(auto, unfolding(crate::specs::Frames::ground_text))]
 fn push_ground(out: &mut String) -> Result<(), AllocError>
     ensures { OnOk result (string_bytes out.new ≡ string_bytes out.old ++ frames.ground_text) }
@@ -128,8 +130,8 @@ fn push_dotted(out: &mut String, right: u64, y: u32) -> Result<(), AllocError>
     push_level(out, 80, right, y, "stroke='#999' stroke-dasharray='1 5'")
 }
 
-/// The line of a process: dotted, and solid while the process is up, as far as that begins before the stretch. It is solid
-/// again from each restart on, which is drawn with the restart.
+/// The line of a process: dotted, and solid while the process is up, as far as that begins before the stretch. It is
+/// solid again from each restart on, which is drawn with the restart.
 #[tactic(auto, unfolding(crate::specs::Frames::process_text))]
 pub fn push_process(
     out: &mut String,
@@ -176,7 +178,8 @@ fn push_cut_label(
     x: u64,
     anchor: &str,
 ) -> Result<(), AllocError>
-    ensures { OnOk result (string_bytes out.new ≡ string_bytes out.old ++ frames.cut_label hidden side.now x anchor.now) }
+    ensures { OnOk result (string_bytes out.new ≡
+        string_bytes out.old ++ frames.cut_label hidden side.now x anchor.now) }
 {
     write!(
         out,

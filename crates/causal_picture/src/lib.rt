@@ -1,5 +1,5 @@
-//! A recorded run's space-time diagram, as the text of a picture in SVG 1.1: a line for each process from left to right, marks
-//! for what happens there, and arrows for messages (Lamport 1978).
+//! A recorded run's space-time diagram, as the text of a picture in SVG 1.1: a line for each process from left to
+//! right, marks for what happens there, and arrows for messages (Lamport 1978).
 //!
 //! Begin at [`picture_of`]; a [`Focus`] says what is shown beside the run itself.
 #![tactic(auto)]

@@ -53,8 +53,8 @@ pub fn push_up(out: &mut String, from: u64, to: u64, y: u32) -> Result<(), Alloc
     push_level(out, from, to, y, "stroke='#222' stroke-width='1.5'")
 }
 
-/// The arrow of a delivery: from the entry that sends its message, or from the left end of the sender's line where that stands
-/// before the stretch.
+/// The arrow of a delivery: from the entry that sends its message, or from the left end of the sender's line where
+/// that stands before the stretch.
 fn push_arrow(
     out: &mut String,
     stretch: Stretch,

@@ -92,7 +92,8 @@ fn push_rings(out: &mut String, points: &[Point]) -> Result<(), AllocError>
 /// A line from point to point.
 #[tactic(auto, unfolding(crate::specs::Overlays::polyline_text))]
 fn push_polyline(out: &mut String, points: &[Point], stroke: &str) -> Result<(), AllocError>
-    ensures { OnOk result (string_bytes out.new ≡ string_bytes out.old ++ overlays.polyline_text points.now stroke.now) }
+    ensures { OnOk result (string_bytes out.new ≡
+        string_bytes out.old ++ overlays.polyline_text points.now stroke.now) }
 {
     out.push_str("<polyline points='")?;
     push_corners(out, points)?;
@@ -117,8 +118,8 @@ fn push_chain_line(out: &mut String, points: &[Point]) -> Result<(), AllocError>
     )
 }
 
-/// The chain: a thick line from entry to entry, and a ring about each. It takes no pointer, so that the titles of the events
-/// below can still be read.
+/// The chain: a thick line from entry to entry, and a ring about each. It takes no pointer, so that the titles of the
+/// events below can still be read.
 #[tactic(auto, unfolding(crate::specs::Overlays::chain_text))]
 fn push_chain(out: &mut String, points: &[Point]) -> Result<(), AllocError>
     ensures { OnOk result (string_bytes out.new ≡ string_bytes out.old ++ overlays.chain_text points.now) }

@@ -121,7 +121,8 @@ fn push_close(
     entries: u32,
 ) -> Result<(), AllocError>
     requires { stretch.first + stretch.count ≤ entries }
-    ensures { OnOk result (string_bytes out.new ≡ string_bytes out.old ++ pictures.close_text stretch processes entries) }
+    ensures { OnOk result (string_bytes out.new ≡
+        string_bytes out.old ++ pictures.close_text stretch processes entries) }
 {
     let bottom = bottom_of(processes);
     push_cuts(out, stretch, processes, entries)?;
@@ -168,9 +169,9 @@ fn push_picture(
     Ok(())
 }
 
-/// The space-time diagram of a recorded run, as the text of a picture in SVG 1.1. All processes are shown, one below the other,
-/// and at most 200 entries ([`stretch_around`]); where the run is cut, a mark says how many entries are hidden there. Each entry
-/// shown has a title that begins with the line on which it stands in the trace's text.
+/// The space-time diagram of a recorded run, as the text of a picture in SVG 1.1. All processes are shown, one below
+/// the other, and at most 200 entries ([`stretch_around`]); where the run is cut, a mark says how many entries are
+/// hidden there. Each entry shown has a title that begins with the line on which it stands in the trace's text.
 ///
 /// It takes time as the entries and the chain; the text is as long as the processes, the entries shown and the chain.
 ///

@@ -1,5 +1,5 @@
-//! The parts that marks are drawn of. What is written between the tags and in the attributes is numbers and the words that
-//! stand here, so nothing in it needs escaping. Attributes stand in single quotes.
+//! The parts that marks are drawn of. What is written between the tags and in the attributes is numbers and the words
+//! that stand here, so nothing in it needs escaping. Attributes stand in single quotes.
 ghost use Rattle.std.specs.Prelude.{◌≡◌, ◌≤◌, ◌++◌, OnOk, string_bytes};
 ghost use Rattle.causal_picture.specs.Shapes as shapes;
 
@@ -42,8 +42,8 @@ impl Shape {
     }
 }
 
-/// The shape of an event: a send is an open dot, a delivery a full one, a stable determinant a square, a crash a cross, a
-/// restart a ring, a forgetting a triangle.
+/// The shape of an event: a send is an open dot, a delivery a full one, a stable determinant a square, a crash a
+/// cross, a restart a ring, a forgetting a triangle.
 pub fn shape_of(event: &Event) -> Shape
     ensures { result ≡ shapes.shape_of event.now }
 {

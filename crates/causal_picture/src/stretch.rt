@@ -19,8 +19,9 @@ pub struct Stretch {
     pub count: u32,
 }
 
-/// The entries that a picture of the trace shows: all where they are at most 200. Of more, 200 are shown: the first ones where
-/// there is no focus, else those that end at the instant, or at most 10 entries after it where that hides none of the chain.
+/// The entries that a picture of the trace shows: all where they are at most 200. Of more, 200 are shown: the first
+/// ones where there is no focus, else those that end at the instant, or at most 10 entries after it where that hides
+/// none of the chain.
 pub fn stretch_around(trace: &Trace, focus: Option<&Focus<'_>>) -> Stretch
     ensures value { result ≡ stretches.stretch_around (length trace.now.recording.past) (option_copied focus.entry) }
     ensures within { result.first + result.count ≤ length trace.now.recording.past }

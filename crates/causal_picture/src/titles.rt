@@ -71,8 +71,8 @@ fn push_event(out: &mut String, event: &Event) -> Result<(), AllocError>
     }
 }
 
-/// `<title>line 6: process 1 delivers message 0 of process 0</title>`: the entry at position k stands on line k + 2 of the
-/// trace's text.
+/// `<title>line 6: process 1 delivers message 0 of process 0</title>`: the entry at position k stands on line k + 2 of
+/// the trace's text.
 #[tactic(auto, unfolding(crate::specs::Titles::title_text))]
 pub fn push_title(out: &mut String, mark: &Mark) -> Result<(), AllocError>
     ensures { OnOk result (string_bytes out.new ≡ string_bytes out.old ++ titles.title_text mark.now) }
