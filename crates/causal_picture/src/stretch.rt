@@ -1,5 +1,5 @@
 //! Which entries a picture shows.
-ghost use Rattle.std.specs.Prelude.{◌≡◌, ◌≤◌, ◌+◌, IfSome, length};
+ghost use Rattle.std.specs.Prelude.{◌≡◌, ◌≤◌, ◌+◌, IfSome, length, max};
 ghost use Rattle.std.specs.Option.{option_copied};
 ghost use Rattle.causal_picture.specs.Stretches as stretches;
 
@@ -26,6 +26,8 @@ pub fn stretch_around(trace: &Trace, focus: Option<&Focus<'_>>) -> Stretch
     ensures value { result ≡ stretches.stretch_around (length trace.now.recording.past) (option_copied focus.entry) }
     ensures reaches { IfSome (option_copied focus.entry)
         (λ f. stretches.instant_of (length trace.now.recording.past) f ≤ result.first + result.count) }
+    ensures soon { IfSome (option_copied focus.entry)
+        (λ f. result.first + result.count ≤ max result.count (stretches.instant_of (length trace.now.recording.past) f + 10)) }
     ensures within { result.first + result.count ≤ length trace.now.recording.past }
 {
     let entries = trace.len();
