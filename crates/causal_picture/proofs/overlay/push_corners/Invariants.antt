@@ -1,0 +1,7 @@
+use Rattle.std.proofs.Common.{◌≡◌, ◌++◌, drop, string_bytes}
+use Rattle.causal_picture.specs.Overlays.{corners_text}
+use Rattle.causal_picture.proofs.overlay.push_corners.Given as goal
+
+-- what is written, and what the points that are left add
+abbrev pub invariant-loop-point : goal.invariant-loop-point
+invariant-loop-point l = string_bytes l.fn.out ++ corners_text l.points ≡ string_bytes l.out ++ corners_text (drop l.point-index l.points)

@@ -1,0 +1,11 @@
+pub mod Drawn
+pub mod Frames
+pub mod Inside
+pub mod Layout
+pub mod Legends
+pub mod Marks
+pub mod Overlays
+pub mod Pictures
+pub mod Shapes
+pub mod Stretches
+pub mod Titles

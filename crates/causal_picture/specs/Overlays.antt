@@ -1,0 +1,79 @@
+-- What is drawn over the events.
+use Rattle.std.specs.Prelude.{ℕ, ◌-◌, Bool, ◌&&◌, nat_le, nat_lt, if◌then◌else◌, List, [], ◌∷◌, ◌++◌, codes, decimal, flat_map, Option, None}
+use Rattle.std.specs.List.{filter_map}
+use Rattle.std.specs.Option.{option_map}
+use Rattle.causal_trace.specs.declared.entry.Entry.{Entry}
+use Rattle.causal_picture.specs.declared.overlay.Point.{Point}
+use Rattle.causal_picture.specs.declared.marks.Mark.{Mark}
+use Rattle.causal_picture.specs.declared.stretch.Stretch.{Stretch}
+use Rattle.causal_picture.specs.Layout.{x_of, x_of_instant, y_of, bottom_of}
+use Rattle.causal_picture.specs.Marks.{mark_at, process_of}
+use Rattle.causal_picture.specs.declared.shapes.Shape.TheVariants.{Halo}
+use Rattle.causal_picture.specs.Shapes.{shape_text, upright_text}
+
+-- whether the entry at a position is one of a stretch
+abbrev pub is_within : Stretch → ℕ → Bool
+is_within s position = nat_le s.first position && nat_lt (position - s.first) s.count
+
+-- where an event stands
+abbrev pub point_of : Stretch → Mark → Point
+point_of s m = record { x = x_of s m.position; y = y_of (process_of m.event).0 }
+
+-- where the entry at a position stands, if it is shown
+abbrev pub point_at : List Entry → Stretch → ℕ → Option Point
+point_at past s position = if is_within s position then option_map (point_of s) (mark_at past position) else None
+
+-- where the entries of a chain stand that are shown
+abbrev pub points_of : List Entry → Stretch → List ℕ → List Point
+points_of past s chain = filter_map (point_at past s) chain
+
+-- a corner of a line
+abbrev pub corner_text : Point → List ℕ
+corner_text p = decimal p.x ++ (codes "," ++ (decimal p.y ++ codes " "))
+
+abbrev pub corners_text : List Point → List ℕ
+corners_text points = flat_map corner_text points
+
+-- a line from point to point
+unfoldable pub polyline_text : List Point → List ℕ → List ℕ
+polyline_text points stroke = codes "<polyline points='" ++ (corners_text points ++ (codes "' fill='none' " ++ (stroke ++ codes "/>\n")))
+
+-- a ring about a place
+unfoldable pub ring_text : Point → List ℕ
+ring_text p = shape_text p.x p.y Halo
+
+abbrev pub rings_text : List Point → List ℕ
+rings_text points = flat_map ring_text points
+
+unfoldable pub chain_title : List ℕ
+chain_title = codes "<g pointer-events='none'><title>chain</title>\n"
+
+unfoldable pub chain_line : List Point → List ℕ
+chain_line points = polyline_text points (codes "stroke='#d55e00' stroke-width='4' stroke-opacity='0.75'")
+
+-- the chain: a thick line from entry to entry, and a ring about each
+unfoldable pub chain_text : List Point → List ℕ
+chain_text points = chain_title ++ (chain_line points ++ (rings_text points ++ codes "</g>\n"))
+
+unfoldable pub instant_title : ℕ → List ℕ
+instant_title instant = codes "<g><title>instant " ++ (decimal instant ++ codes "</title>\n")
+
+unfoldable pub instant_line : ℕ → ℕ → List ℕ
+instant_line x bottom = upright_text x bottom (codes "stroke='#0072b2' stroke-width='2' stroke-dasharray='7 4'")
+
+unfoldable pub instant_label : ℕ → ℕ → ℕ → List ℕ
+instant_label x y instant =
+    codes "<text x='" ++ (decimal x ++ (codes "' y='" ++ (decimal y ++ (codes "' dy='14' text-anchor='middle' fill='#0072b2'>instant " ++ (decimal instant
+    ++ codes "</text>\n</g>\n")))))
+
+-- the same, where some of it is shown
+abbrev pub shown_chain : List Point → List ℕ
+shown_chain [] = []
+shown_chain (p ∷ ps) = chain_text (p ∷ ps)
+
+-- the instant: a vertical line between the entries before and after it
+unfoldable pub instant_text : Stretch → ℕ → ℕ → List ℕ
+instant_text s processes instant =
+    instant_title instant
+    ++ (instant_line (x_of_instant s instant) (bottom_of processes)
+    ++ instant_label (x_of_instant s instant) (bottom_of processes) instant)

@@ -1,0 +1,59 @@
+-- The parts that marks are drawn of. Only numbers stand among the words here, so nothing needs escaping.
+use Rattle.std.specs.Prelude.{ℕ, ◌+◌, ◌-◌, ◌/◌, List, ◌++◌, codes, decimal}
+use Rattle.causal_picture.specs.declared.marks.Event.{Event}
+use Rattle.causal_picture.specs.declared.shapes.Shape.{Shape}
+use Rattle.causal_picture.specs.declared.shapes.Shape.TheVariants.{OpenDot, Dot, Square, Cross, Ring, Triangle, Halo, Shade}
+use Rattle.causal_picture.specs.declared.marks.Event.TheVariants.{Send, Delivery, Stable, Crash, Restart, Forget}
+
+-- How a shape is drawn about the origin, as the attributes of a path.
+abbrev pub attributes_of : Shape → List ℕ
+attributes_of OpenDot = codes "d='M-4.5 0a4.5 4.5 0 1 0 9 0a4.5 4.5 0 1 0-9 0z' fill='white' stroke='#222' stroke-width='1.5'"
+attributes_of Dot = codes "d='M-5 0a5 5 0 1 0 10 0a5 5 0 1 0-10 0z' fill='#222'"
+attributes_of Square = codes "d='M-4-4H4V4H-4z' fill='#0072b2'"
+attributes_of Cross = codes "d='M-7-7L7 7M-7 7L7-7' fill='none' stroke='#c00000' stroke-width='3'"
+attributes_of Ring = codes "d='M-7 0a7 7 0 1 0 14 0a7 7 0 1 0-14 0z' fill='white' stroke='#008060' stroke-width='3'"
+attributes_of Triangle = codes "d='M0-6L6 4H-6z' fill='#a0549b'"
+attributes_of Halo = codes "d='M-9 0a9 9 0 1 0 18 0a9 9 0 1 0-18 0z' fill='none' stroke='#d55e00' stroke-width='2'"
+attributes_of Shade = codes "d='M-9-9H9V9H-9z' fill='#ffe3b3'"
+
+-- the shape of an event
+abbrev pub shape_of : Event → Shape
+shape_of (Send from to ssn) = OpenDot
+shape_of (Delivery det send) = Dot
+shape_of (Stable det) = Square
+shape_of (Crash who) = Cross
+shape_of (Restart who) = Ring
+shape_of (Forget who count) = Triangle
+
+-- a path with these attributes, about a place
+unfoldable pub path_text : ℕ → ℕ → List ℕ → List ℕ
+path_text x y attributes =
+    codes "<path transform='translate(" ++ (decimal x ++ (codes "," ++ (decimal y ++ (codes ")' " ++ (attributes ++ codes "/>\n")))))
+
+-- a shape at a place
+unfoldable pub shape_text : ℕ → ℕ → Shape → List ℕ
+shape_text x y shape = path_text x y (attributes_of shape)
+
+-- a level line
+unfoldable pub level_text : ℕ → ℕ → ℕ → List ℕ → List ℕ
+level_text from to y stroke =
+    codes "<path d='M" ++ (decimal from ++ (codes " " ++ (decimal y ++ (codes "H" ++ (decimal to ++ (codes "' fill='none' " ++ (stroke ++ codes "/>\n")))))))
+
+-- an upright line, from above the processes' lines to the bottom
+unfoldable pub upright_text : ℕ → ℕ → List ℕ → List ℕ
+upright_text x bottom stroke = codes "<path d='M" ++ (decimal x ++ (codes " 42V" ++ (decimal bottom ++ (codes "' fill='none' " ++ (stroke ++ codes "/>\n")))))
+
+-- what ends an arrow
+abbrev pub arrow_end : List ℕ
+arrow_end = codes "' fill='none' stroke='#555' marker-end='url(#arrowhead)'/>\n"
+
+-- an arrow from one process's line to another's
+unfoldable pub straight_text : ℕ → ℕ → ℕ → ℕ → List ℕ
+straight_text from_x from_y to_x to_y =
+    codes "<path d='M" ++ (decimal from_x ++ (codes " " ++ (decimal from_y ++ (codes "L" ++ (decimal to_x ++ (codes " " ++ (decimal to_y ++ arrow_end)))))))
+
+-- an arrow from a process's line to itself, bent upwards
+unfoldable pub bent_text : ℕ → ℕ → ℕ → List ℕ
+bent_text from_x to_x y =
+    codes "<path d='M" ++ (decimal from_x ++ (codes " " ++ (decimal y ++ (codes "Q" ++ (decimal ((from_x + to_x) / 2) ++ (codes " " ++ (decimal (y - 30)
+    ++ (codes " " ++ (decimal to_x ++ (codes " " ++ (decimal y ++ arrow_end)))))))))))

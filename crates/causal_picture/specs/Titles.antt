@@ -1,0 +1,48 @@
+-- What the marks are called.
+use Rattle.std.specs.Prelude.{ℕ, ◌+◌, List, ◌++◌, codes, decimal}
+use Rattle.causal_name.specs.declared.Pid.{Pid}
+use Rattle.causal_name.specs.declared.Det.{Det}
+use Rattle.causal_picture.specs.declared.marks.Event.{Event}
+use Rattle.causal_picture.specs.declared.marks.Event.TheVariants.{Send, Delivery, Stable, Crash, Restart, Forget}
+use Rattle.causal_picture.specs.declared.marks.Mark.{Mark}
+
+-- `process 1 sends message 0 to process 2`
+abbrev pub send_title : Pid → Pid → ℕ → List ℕ
+send_title from to ssn =
+    codes "process " ++ (decimal from.0 ++ (codes " sends message " ++ (decimal ssn ++ (codes " to process " ++ decimal to.0))))
+
+-- `process 1 delivers message 0 of process 0`
+abbrev pub delivery_title : Det → List ℕ
+delivery_title d =
+    codes "process " ++ (decimal d.dest.0 ++ (codes " delivers message " ++ (decimal d.ssn ++ (codes " of process " ++ decimal d.source.0))))
+
+-- `delivery 0 of process 1, of message 0 of process 0, is in stable storage`
+abbrev pub stable_title : Det → List ℕ
+stable_title d =
+    codes "delivery " ++ (decimal d.rsn ++ (codes " of process " ++ (decimal d.dest.0 ++ (codes ", of message " ++ (decimal d.ssn
+    ++ (codes " of process " ++ (decimal d.source.0 ++ codes ", is in stable storage")))))))
+
+-- `process 1 crashes`, or what else it does
+abbrev pub turn_title : Pid → List ℕ → List ℕ
+turn_title who does = codes "process " ++ (decimal who.0 ++ (codes " " ++ does))
+
+-- `process 1 forgets 3 determinants`
+abbrev pub forget_title : Pid → ℕ → List ℕ
+forget_title who count = codes "process " ++ (decimal who.0 ++ (codes " forgets " ++ (decimal count ++ codes " determinants")))
+
+-- what happens
+abbrev pub event_title : Event → List ℕ
+event_title (Send from to ssn) = send_title from to ssn
+event_title (Delivery det send) = delivery_title det
+event_title (Stable det) = stable_title det
+event_title (Crash who) = turn_title who (codes "crashes")
+event_title (Restart who) = turn_title who (codes "restarts")
+event_title (Forget who count) = forget_title who count
+
+-- the line of the trace's text on which the entry at a position stands: line 1 is the header, and lines count from 1
+abbrev pub line_of : ℕ → ℕ
+line_of position = position + 2
+
+-- `line 6: process 1 delivers message 0 of process 0`, as the title of what is drawn
+unfoldable pub title_text : Mark → List ℕ
+title_text m = codes "<title>line " ++ (decimal (line_of m.position) ++ (codes ": " ++ (event_title m.event ++ codes "</title>\n")))

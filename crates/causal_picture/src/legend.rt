@@ -1,0 +1,54 @@
+//! What the shapes mean, below the rows.
+ghost use Rattle.std.specs.Prelude.{◌≡◌, ◌++◌, OnOk, string_bytes};
+ghost use Rattle.causal_picture.specs.Legends as legends;
+
+use crate::shapes::{Shape, push_shape};
+use std::alloc::AllocError;
+
+#[tactic(auto, unfolding(crate::specs::Legends::label_text))]
+fn push_label(out: &mut String, x: u64, y: u32, label: &str) -> Result<(), AllocError>
+    ensures { OnOk result (string_bytes out.new ≡ string_bytes out.old ++ legends.label_text x y label.now) }
+{
+    write!(
+        out,
+        "<text x='{x}' y='{y}' dx='16' dy='4' fill='#222'>{label}</text>\n"
+    )
+}
+
+/// A shape, and what it means.
+#[tactic(auto, unfolding(crate::specs::Legends::key_text))]
+fn push_key(out: &mut String, x: u64, y: u32, shape: Shape, label: &str) -> Result<(), AllocError>
+    ensures { OnOk result (string_bytes out.new ≡ string_bytes out.old ++ legends.key_text x y shape label.now) }
+{
+    push_shape(out, x, y, shape)?;
+    push_label(out, x, y, label)
+}
+
+#[tactic(auto, unfolding(crate::specs::Legends::upper_text))]
+fn push_upper(out: &mut String, y: u32) -> Result<(), AllocError>
+    ensures { OnOk result (string_bytes out.new ≡ string_bytes out.old ++ legends.upper_text y) }
+{
+    push_key(out, 90, y, Shape::OpenDot, "send")?;
+    push_key(out, 190, y, Shape::Dot, "delivery")?;
+    push_key(out, 290, y, Shape::Cross, "crash")?;
+    push_key(out, 390, y, Shape::Ring, "restart")
+}
+
+#[tactic(auto, unfolding(crate::specs::Legends::lower_text))]
+fn push_lower(out: &mut String, y: u32) -> Result<(), AllocError>
+    ensures { OnOk result (string_bytes out.new ≡ string_bytes out.old ++ legends.lower_text y) }
+{
+    push_key(out, 90, y, Shape::Square, "stable")?;
+    push_key(out, 190, y, Shape::Triangle, "forgetting")?;
+    push_key(out, 290, y, Shape::Halo, "chain")?;
+    push_key(out, 390, y, Shape::Shade, "crash set")
+}
+
+/// Two rows of shapes with what they mean.
+#[tactic(auto, unfolding(crate::specs::Legends::legend_text))]
+pub fn push_legend(out: &mut String, upper: u32, lower: u32) -> Result<(), AllocError>
+    ensures { OnOk result (string_bytes out.new ≡ string_bytes out.old ++ legends.legend_text upper lower) }
+{
+    push_upper(out, upper)?;
+    push_lower(out, lower)
+}

@@ -1,0 +1,189 @@
+//! What is drawn over the events: the chain and the instant.
+ghost use Rattle.std.specs.Prelude.{◌≡◌, ◌++◌, IfOk, OnOk, string_bytes};
+ghost use Rattle.causal_picture.specs.Overlays as overlays;
+
+use crate::layout::{bottom_of, x_of, x_of_instant, y_of};
+use crate::marks::mark_at;
+use crate::shapes::{Shape, push_shape, push_upright};
+use crate::stretch::Stretch;
+use causal_name::NoMemory;
+use causal_trace::Trace;
+use std::alloc::{AllocError, Global};
+
+/// A place in the picture.
+#[derive(Clone, Copy, Debug)]
+pub struct Point {
+    pub x: u64,
+    pub y: u32,
+}
+
+/// Whether the entry at a position is one of a stretch.
+fn is_within(stretch: Stretch, position: u32) -> bool
+    ensures { result ≡ overlays.is_within stretch position }
+{
+    stretch.first <= position && position - stretch.first < stretch.count
+}
+
+/// Where the entry at a position stands, if it is shown.
+fn point_at(trace: &Trace, stretch: Stretch, position: u32) -> Option<Point>
+    ensures { result ≡ overlays.point_at trace.now.recording.past stretch position }
+{
+    if !is_within(stretch, position) {
+        return None;
+    }
+    let mark = mark_at(trace, position)?;
+    Some(Point {
+        x: x_of(stretch, position),
+        y: y_of(u16::from(mark.event.process().0)),
+    })
+}
+
+/// Where the entries of a chain stand that are shown.
+pub fn points_of(
+    alloc: Global,
+    trace: &Trace,
+    stretch: Stretch,
+    chain: &[u32],
+) -> Result<Vec<Point>, NoMemory>
+    ensures { IfOk result (λ found. found.items ≡ overlays.points_of trace.now.recording.past stretch chain.now) }
+{
+    let mut points = Vec::new(alloc);
+    for position in chain {
+        if let Some(point) = point_at(trace, stretch, *position) {
+            points.push(point)?;
+        }
+    }
+    Ok(points)
+}
+
+fn push_corner(out: &mut String, point: &Point) -> Result<(), AllocError>
+    ensures { OnOk result (string_bytes out.new ≡ string_bytes out.old ++ overlays.corner_text point.now) }
+{
+    let x = point.x;
+    let y = point.y;
+    write!(out, "{x},{y} ")
+}
+
+fn push_corners(out: &mut String, points: &[Point]) -> Result<(), AllocError>
+    ensures { OnOk result (string_bytes out.new ≡ string_bytes out.old ++ overlays.corners_text points.now) }
+{
+    for point in points {
+        push_corner(out, point)?;
+    }
+    Ok(())
+}
+
+#[tactic(auto, unfolding(crate::specs::Overlays::ring_text))]
+fn push_ring(out: &mut String, point: &Point) -> Result<(), AllocError>
+    ensures { OnOk result (string_bytes out.new ≡ string_bytes out.old ++ overlays.ring_text point.now) }
+{
+    push_shape(out, point.x, point.y, Shape::Halo)
+}
+
+fn push_rings(out: &mut String, points: &[Point]) -> Result<(), AllocError>
+    ensures { OnOk result (string_bytes out.new ≡ string_bytes out.old ++ overlays.rings_text points.now) }
+{
+    for point in points {
+        push_ring(out, point)?;
+    }
+    Ok(())
+}
+
+/// A line from point to point.
+#[tactic(auto, unfolding(crate::specs::Overlays::polyline_text))]
+fn push_polyline(out: &mut String, points: &[Point], stroke: &str) -> Result<(), AllocError>
+    ensures { OnOk result (string_bytes out.new ≡
+        string_bytes out.old ++ overlays.polyline_text points.now stroke.now) }
+{
+    out.push_str("<polyline points='")?;
+    push_corners(out, points)?;
+    write!(out, "' fill='none' {stroke}/>\n")
+}
+
+#[tactic(auto, unfolding(crate::specs::Overlays::chain_title))]
+fn push_chain_title(out: &mut String) -> Result<(), AllocError>
+    ensures { OnOk result (string_bytes out.new ≡ string_bytes out.old ++ overlays.chain_title) }
+{
+    out.push_str("<g pointer-events='none'><title>chain</title>\n")
+}
+
+#[tactic(auto, unfolding(crate::specs::Overlays::chain_line))]
+fn push_chain_line(out: &mut String, points: &[Point]) -> Result<(), AllocError>
+    ensures { OnOk result (string_bytes out.new ≡ string_bytes out.old ++ overlays.chain_line points.now) }
+{
+    push_polyline(
+        out,
+        points,
+        "stroke='#d55e00' stroke-width='4' stroke-opacity='0.75'",
+    )
+}
+
+/// The chain: a thick line from entry to entry, and a ring about each. It takes no pointer, so that the titles of the
+/// events below can still be read.
+#[tactic(auto, unfolding(crate::specs::Overlays::chain_text))]
+fn push_chain(out: &mut String, points: &[Point]) -> Result<(), AllocError>
+    ensures { OnOk result (string_bytes out.new ≡ string_bytes out.old ++ overlays.chain_text points.now) }
+{
+    push_chain_title(out)?;
+    push_chain_line(out, points)?;
+    push_rings(out, points)?;
+    out.push_str("</g>\n")
+}
+
+#[tactic(auto, unfolding(crate::specs::Overlays::instant_title))]
+fn push_instant_title(out: &mut String, instant: u32) -> Result<(), AllocError>
+    ensures { OnOk result (string_bytes out.new ≡ string_bytes out.old ++ overlays.instant_title instant) }
+{
+    write!(out, "<g><title>instant {instant}</title>\n")
+}
+
+#[tactic(auto, unfolding(crate::specs::Overlays::instant_label))]
+fn push_instant_label(out: &mut String, x: u64, y: u32, instant: u32) -> Result<(), AllocError>
+    ensures { OnOk result (string_bytes out.new ≡ string_bytes out.old ++ overlays.instant_label x y instant) }
+{
+    write!(
+        out,
+        "<text x='{x}' y='{y}' dy='14' text-anchor='middle' fill='#0072b2'>instant {instant}</text>\n</g>\n"
+    )
+}
+
+#[tactic(auto, unfolding(crate::specs::Overlays::instant_line))]
+fn push_instant_line(out: &mut String, x: u64, bottom: u32) -> Result<(), AllocError>
+    ensures { OnOk result (string_bytes out.new ≡ string_bytes out.old ++ overlays.instant_line x bottom) }
+{
+    push_upright(
+        out,
+        x,
+        bottom,
+        "stroke='#0072b2' stroke-width='2' stroke-dasharray='7 4'",
+    )
+}
+
+/// The instant: a vertical line between the entries before and after it.
+#[tactic(auto, unfolding(crate::specs::Overlays::instant_text))]
+pub fn push_instant(
+    out: &mut String,
+    stretch: Stretch,
+    processes: u16,
+    instant: u32,
+) -> Result<(), AllocError>
+    ensures { OnOk result (string_bytes out.new ≡
+        string_bytes out.old ++ overlays.instant_text stretch processes instant) }
+{
+    let x = x_of_instant(stretch, instant);
+    let bottom = bottom_of(processes);
+    push_instant_title(out, instant)?;
+    push_instant_line(out, x, bottom)?;
+    push_instant_label(out, x, bottom, instant)
+}
+
+/// The chain, where some of it is shown.
+pub fn push_shown_chain(out: &mut String, points: &[Point]) -> Result<(), AllocError>
+    ensures { OnOk result (string_bytes out.new ≡ string_bytes out.old ++ overlays.shown_chain points.now) }
+{
+    if points.is_empty() {
+        Ok(())
+    } else {
+        push_chain(out, points)
+    }
+}

@@ -1,0 +1,128 @@
+//! The parts that marks are drawn of. What is written between the tags and in the attributes is numbers and the words
+//! that stand here, so nothing in it needs escaping. Attributes stand in single quotes.
+ghost use Rattle.std.specs.Prelude.{◌≡◌, ◌≤◌, ◌++◌, OnOk, string_bytes};
+ghost use Rattle.causal_picture.specs.Shapes as shapes;
+
+use crate::marks::Event;
+use std::alloc::AllocError;
+
+/// What stands at a place: one form for each kind of event, and those of the focus.
+#[derive(Clone, Copy, Debug)]
+pub enum Shape {
+    OpenDot,
+    Dot,
+    Square,
+    Cross,
+    Ring,
+    Triangle,
+    Halo,
+    Shade,
+}
+
+impl Shape {
+    /// How it is drawn about the origin, as the attributes of a path.
+    fn attributes(self) -> &'static str
+        ensures { result.now ≡ shapes.attributes_of self }
+    {
+        match self {
+            Shape::OpenDot => {
+                "d='M-4.5 0a4.5 4.5 0 1 0 9 0a4.5 4.5 0 1 0-9 0z' fill='white' stroke='#222' stroke-width='1.5'"
+            }
+            Shape::Dot => "d='M-5 0a5 5 0 1 0 10 0a5 5 0 1 0-10 0z' fill='#222'",
+            Shape::Square => "d='M-4-4H4V4H-4z' fill='#0072b2'",
+            Shape::Cross => "d='M-7-7L7 7M-7 7L7-7' fill='none' stroke='#c00000' stroke-width='3'",
+            Shape::Ring => {
+                "d='M-7 0a7 7 0 1 0 14 0a7 7 0 1 0-14 0z' fill='white' stroke='#008060' stroke-width='3'"
+            }
+            Shape::Triangle => "d='M0-6L6 4H-6z' fill='#a0549b'",
+            Shape::Halo =>
+                "d='M-9 0a9 9 0 1 0 18 0a9 9 0 1 0-18 0z' fill='none' stroke='#d55e00' stroke-width='2'",
+            Shape::Shade => "d='M-9-9H9V9H-9z' fill='#ffe3b3'",
+        }
+    }
+}
+
+/// The shape of an event: a send is an open dot, a delivery a full one, a stable determinant a square, a crash a
+/// cross, a restart a ring, a forgetting a triangle.
+pub fn shape_of(event: &Event) -> Shape
+    ensures { result ≡ shapes.shape_of event.now }
+{
+    match event {
+        Event::Send { .. } => Shape::OpenDot,
+        Event::Delivery { .. } => Shape::Dot,
+        Event::Stable { .. } => Shape::Square,
+        Event::Crash { .. } => Shape::Cross,
+        Event::Restart { .. } => Shape::Ring,
+        Event::Forget { .. } => Shape::Triangle,
+    }
+}
+
+/// A path with these attributes, about a place.
+#[tactic(auto, unfolding(crate::specs::Shapes::path_text))]
+fn push_path(out: &mut String, x: u64, y: u32, attributes: &str) -> Result<(), AllocError>
+    ensures { OnOk result (string_bytes out.new ≡ string_bytes out.old ++ shapes.path_text x y attributes.now) }
+{
+    write!(out, "<path transform='translate({x},{y})' {attributes}/>\n")
+}
+
+/// A shape at a place.
+#[tactic(auto, unfolding(crate::specs::Shapes::shape_text))]
+pub fn push_shape(out: &mut String, x: u64, y: u32, shape: Shape) -> Result<(), AllocError>
+    ensures { OnOk result (string_bytes out.new ≡ string_bytes out.old ++ shapes.shape_text x y shape) }
+{
+    push_path(out, x, y, shape.attributes())
+}
+
+/// A level line.
+#[tactic(auto, unfolding(crate::specs::Shapes::level_text))]
+pub fn push_level(
+    out: &mut String,
+    from: u64,
+    to: u64,
+    y: u32,
+    stroke: &str,
+) -> Result<(), AllocError>
+    ensures { OnOk result (string_bytes out.new ≡ string_bytes out.old ++ shapes.level_text from to y stroke.now) }
+{
+    write!(out, "<path d='M{from} {y}H{to}' fill='none' {stroke}/>\n")
+}
+
+/// An upright line, from above the processes' lines to the bottom.
+#[tactic(auto, unfolding(crate::specs::Shapes::upright_text))]
+pub fn push_upright(out: &mut String, x: u64, bottom: u32, stroke: &str) -> Result<(), AllocError>
+    ensures { OnOk result (string_bytes out.new ≡ string_bytes out.old ++ shapes.upright_text x bottom stroke.now) }
+{
+    write!(out, "<path d='M{x} 42V{bottom}' fill='none' {stroke}/>\n")
+}
+
+/// An arrow from one process's line to another's.
+#[tactic(auto, unfolding(crate::specs::Shapes::straight_text))]
+pub fn push_straight(
+    out: &mut String,
+    from_x: u64,
+    from_y: u32,
+    to_x: u64,
+    to_y: u32,
+) -> Result<(), AllocError>
+    ensures { OnOk result (string_bytes out.new ≡
+        string_bytes out.old ++ shapes.straight_text from_x from_y to_x to_y) }
+{
+    write!(
+        out,
+        "<path d='M{from_x} {from_y}L{to_x} {to_y}' fill='none' stroke='#555' marker-end='url(#arrowhead)'/>\n"
+    )
+}
+
+/// An arrow from a process's line to itself, bent upwards.
+#[tactic(auto, unfolding(crate::specs::Shapes::bent_text))]
+pub fn push_bent(out: &mut String, from_x: u64, to_x: u64, y: u32) -> Result<(), AllocError>
+    requires { 30 ≤ y }
+    ensures { OnOk result (string_bytes out.new ≡ string_bytes out.old ++ shapes.bent_text from_x to_x y) }
+{
+    let middle = from_x.midpoint(to_x);
+    let above = y - 30;
+    write!(
+        out,
+        "<path d='M{from_x} {y}Q{middle} {above} {to_x} {y}' fill='none' stroke='#555' marker-end='url(#arrowhead)'/>\n"
+    )
+}

@@ -1,0 +1,91 @@
+//! What the marks are called, for whoever points at one or has the picture read out.
+ghost use Rattle.std.specs.Prelude.{◌≡◌, ◌++◌, OnOk, string_bytes};
+ghost use Rattle.causal_picture.specs.Titles as titles;
+
+use crate::marks::{Event, Mark};
+use causal_name::{Det, Pid};
+use std::alloc::AllocError;
+
+/// `process 1 sends message 0 to process 2`.
+fn push_send(out: &mut String, from: Pid, to: Pid, ssn: u32) -> Result<(), AllocError>
+    ensures { OnOk result (string_bytes out.new ≡ string_bytes out.old ++ titles.send_title from to ssn) }
+{
+    let Pid(from) = from;
+    let Pid(to) = to;
+    write!(out, "process {from} sends message {ssn} to process {to}")
+}
+
+/// `process 1 delivers message 0 of process 0`.
+fn push_delivery(out: &mut String, det: Det) -> Result<(), AllocError>
+    ensures { OnOk result (string_bytes out.new ≡ string_bytes out.old ++ titles.delivery_title det) }
+{
+    let Pid(dest) = det.dest;
+    let Pid(source) = det.source;
+    let ssn = det.ssn;
+    write!(
+        out,
+        "process {dest} delivers message {ssn} of process {source}"
+    )
+}
+
+/// `delivery 0 of process 1, of message 0 of process 0, is in stable storage`.
+fn push_stable(out: &mut String, det: Det) -> Result<(), AllocError>
+    ensures { OnOk result (string_bytes out.new ≡ string_bytes out.old ++ titles.stable_title det) }
+{
+    let Pid(dest) = det.dest;
+    let Pid(source) = det.source;
+    let ssn = det.ssn;
+    let rsn = det.rsn;
+    write!(
+        out,
+        "delivery {rsn} of process {dest}, of message {ssn} of process {source}, is in stable storage"
+    )
+}
+
+/// `process 1 crashes`, or what else it does.
+fn push_turn(out: &mut String, who: Pid, does: &str) -> Result<(), AllocError>
+    ensures { OnOk result (string_bytes out.new ≡ string_bytes out.old ++ titles.turn_title who does.now) }
+{
+    let Pid(who) = who;
+    write!(out, "process {who} {does}")
+}
+
+/// `process 1 forgets 3 determinants`.
+fn push_forget(out: &mut String, who: Pid, count: usize) -> Result<(), AllocError>
+    ensures { OnOk result (string_bytes out.new ≡ string_bytes out.old ++ titles.forget_title who count) }
+{
+    let Pid(who) = who;
+    write!(out, "process {who} forgets {count} determinants")
+}
+
+fn push_event(out: &mut String, event: &Event) -> Result<(), AllocError>
+    ensures { OnOk result (string_bytes out.new ≡ string_bytes out.old ++ titles.event_title event.now) }
+{
+    match event {
+        Event::Send { from, to, ssn } => push_send(out, *from, *to, *ssn),
+        Event::Delivery { det, .. } => push_delivery(out, *det),
+        Event::Stable { det } => push_stable(out, *det),
+        Event::Crash { who } => push_turn(out, *who, "crashes"),
+        Event::Restart { who } => push_turn(out, *who, "restarts"),
+        Event::Forget { who, count } => push_forget(out, *who, *count),
+    }
+}
+
+/// `<title>line 6: process 1 delivers message 0 of process 0</title>`: the entry at position k stands on line k + 2 of
+/// the trace's text.
+#[tactic(auto, unfolding(crate::specs::Titles::title_text))]
+pub fn push_title(out: &mut String, mark: &Mark) -> Result<(), AllocError>
+    ensures { OnOk result (string_bytes out.new ≡ string_bytes out.old ++ titles.title_text mark.now) }
+{
+    let line = line_of(mark.position);
+    write!(out, "<title>line {line}: ")?;
+    push_event(out, &mark.event)?;
+    out.push_str("</title>\n")
+}
+
+/// The line of the trace's text on which the entry at a position stands: line 1 is the header, and lines count from 1.
+pub fn line_of(position: u32) -> u64
+    ensures { result ≡ titles.line_of position }
+{
+    u64::from(position) + 2
+}
