@@ -2,8 +2,17 @@
 //! orphan comes to depend on the delivery. Begin at [`Explanation`].
 #![tactic(auto)]
 
+pub mod chain;
+pub mod down;
+pub mod explaining;
 pub mod explanation;
+mod holdings;
+mod standing;
+mod ways;
 
+pub use chain::shortest_chain;
+pub use down::down_since;
+pub use explaining::explain;
 pub use explanation::{Down, Explanation, Holding, Loss};
 
 #[cfg(test)]
