@@ -1,0 +1,9 @@
+mod ChainLemmas
+mod ComingLemmas
+mod EachLemmas
+mod OrphanLemmas
+mod SinceLemmas
+mod StandingLemmas
+mod Told
+mod WalkLemmas
+mod WayLemmas

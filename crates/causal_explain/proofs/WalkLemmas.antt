@@ -1,0 +1,47 @@
+-- The steps by which an event is reached, gone back from the last.
+use Rattle.std.proofs.Common.{ℕ, ◌≡◌, ◌+◌, ◌-◌, ◌<◌, List, [], ◌∷◌, ◌++◌, length, reverse, refl, ap, subst, ◌∙◌, arith}
+use Rattle.std.proofs.lemmas.List.{reverse-append}
+use Rattle.causal_trace.specs.declared.entry.Entry.{Entry}
+use Rattle.causal_trace.specs.Agree.{IsPath}
+use Rattle.causal_trace.specs.Dependence.{DirectlyPrecedes}
+use Rattle.causal_explain.specs.Inside.Ways.{IsLeast, IsWalk}
+use Rattle.causal_explain.proofs.ComingLemmas.{comes_nowhere}
+
+-- of so many steps in all these were gone back, to this position
+pub record IsWalkedBack (past : List Entry) (i last total gone position : ℕ) (chain : List ℕ) : Type 0 where
+  pub rest : List ℕ
+  pub reversed : reverse chain ≡ position ∷ rest
+  pub path : IsPath past position rest last
+  pub steps : length rest ≡ gone
+  pub left : ℕ
+  pub in_all : left + gone ≡ total
+  pub fewest : IsLeast past i position left
+
+pub walk_begun : (past : List Entry) (i last total : ℕ) → IsLeast past i last total → IsWalkedBack past i last total 0 last (last ∷ [])
+walk_begun past i last total h = record { rest = []; reversed = refl; path = refl; steps = refl; left = total; in_all = omega arith; fewest = h }
+
+pub walk_more : (past : List Entry) (i last total gone position : ℕ) (chain : List ℕ) (next : ℕ) → gone < total → IsWalkedBack past i last total gone position chain
+    → ((n : ℕ) → IsLeast past i position (n + 1) → DirectlyPrecedes past next position × IsLeast past i next n) → IsWalkedBack past i last total (gone + 1) next (chain ++ next ∷ [])
+walk_more past i last total gone position chain next below h back =
+    let n = h.left - 1 in
+    let one_more : h.left ≡ n + 1 = omega (arith, below, h.in_all) in
+    let before = back n (subst (IsLeast past i position) one_more h.fewest) in
+    record {
+      rest = position ∷ h.rest;
+      reversed = reverse-append chain (next ∷ []) ∙ ap (λ xs. next ∷ xs) h.reversed;
+      path = (before.0, h.path);
+      steps = omega (arith, h.steps);
+      left = n;
+      in_all = omega (arith, h.in_all, one_more);
+      fewest = before.1;
+    }
+
+pub walk_over : (past : List Entry) (i last total gone position : ℕ) (chain : List ℕ) → gone ≡ total → IsWalkedBack past i last total gone position chain → IsWalk past i last total (reverse chain)
+walk_over past i last total gone position chain over h =
+    let here : position ≡ i = comes_nowhere past i position h.left (omega (arith, h.in_all, over)) h.fewest.comes in
+    record {
+      rest = h.rest;
+      begins = h.reversed ∙ ap (λ x. x ∷ h.rest) here;
+      path = subst (λ x. IsPath past x h.rest last) here h.path;
+      steps = h.steps ∙ over;
+    }

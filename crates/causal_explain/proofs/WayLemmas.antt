@@ -1,0 +1,237 @@
+-- The nearest of some events, and the way to each, with one more entry.
+use Rattle.std.proofs.Common.{ℕ, ◌≡◌, ◌+◌, ◌<◌, ◌≤◌, inl, inr, Bool, true, false, List, [], ◌∷◌, ◌++◌, length, get_or, reverse, replicate, Option, Some, None, refl, sym, subst, ◌∙◌, arith}
+use Rattle.std.specs.Prelude.{◌⊎◌, ◌==◌, nat_lt, slice_set, if◌then◌else◌, IfSome}
+use Rattle.std.specs.Option.{is_some}
+use Rattle.std.proofs.lemmas.Bool.{false≢true, cond-true, cond-false, eq-eqb, ne_eqb, eqb-true}
+use Rattle.std.proofs.lemmas.Bool.Decides.{eqb_tells, nat_tests}
+use Rattle.std.proofs.lemmas.List.{length-append, length-replicate, length-set, get_or-replicate, get_or-set_other, get_or-set_same}
+use Rattle.std.proofs.Math.ListN.{get_or-append}
+use Rattle.std.proofs.Math.Seq.{get_or-append_seam}
+use Rattle.causal_name.specs.declared.Det.{Det}
+use Rattle.causal_name.specs.declared.Pid.{Pid}
+use Rattle.causal_trace.specs.declared.entry.Entry.{Entry}
+use Rattle.causal_trace.specs.declared.entry.Entry.TheVariants.{Deliver, Restart}
+use Rattle.causal_trace.specs.Past.{lane}
+use Rattle.causal_trace.specs.State.{past_at}
+use Rattle.causal_trace.proofs.Lemmas.AtInstants.{at_instant}
+use Rattle.causal_trace.proofs.Lemmas.Instants.{instant_past}
+use Rattle.causal_trace.specs.Dependence.{AreForward, actor, DirectlyPrecedes, IsEventOf}
+use Rattle.causal_trace.proofs.Lemmas.Reached.{event_below, event_lane}
+use Rattle.causal_explain.specs.declared.ways.Reached.{Reached}
+use Rattle.causal_explain.specs.declared.ways.Way.{Way}
+use Rattle.causal_explain.specs.Inside.Ways.{AreNearest, AreWays, Comes, at_once, onward, IsLeast, IsWay, Nearest, PrecedesNext, TellsWay, nearer}
+use Rattle.causal_explain.proofs.ComingLemmas.{comes_more, comes_old, comes_within, comes_few, comes_newest, next_preceded, precedes_more, ComesNewest, is_newest, through}
+
+module _ (past : List Entry) (i : ℕ) (A B C : ℕ → Type 0) (either : (k : ℕ) → C k → A k ⊎ B k) (one : (k : ℕ) → A k → C k) (other : (k : ℕ) → B k → C k) where
+  -- the nearer of the nearest of two kinds is the nearest of both
+  pub nearest_of_both : (a b : Option Reached) → Nearest past i A a → Nearest past i B b → Nearest past i C (nearer a b)
+  nearest_of_both None None h g = λ k n is c. elim (either k is) [ inl in_a ↦ h k n in_a c | inr in_b ↦ g k n in_b c ]
+  nearest_of_both None (Some b) h g = (other b.position g.0, g.1, λ k n is c. elim (either k is) [ inl in_a ↦ absurd (h k n in_a c) | inr in_b ↦ g.2 k n in_b c ])
+  nearest_of_both (Some a) None h g = (one a.position h.0, h.1, λ k n is c. elim (either k is) [ inl in_a ↦ h.2 k n in_a c | inr in_b ↦ absurd (g k n in_b c) ])
+  nearest_of_both (Some a) (Some b) h g = chosen (nat_lt b.steps a.steps) refl
+    where
+      chosen : (x : Bool) → nat_lt b.steps a.steps ≡ x → Nearest past i C (if x then Some b else Some a)
+      chosen true is = (
+        other b.position g.0,
+        g.1,
+        λ k n kind c. elim (either k kind) [
+          | inl in_a ↦ let far = h.2 k n in_a c in let lower : b.steps < a.steps = grind (arith, nat_tests) in omega (arith, far, lower)
+          | inr in_b ↦ g.2 k n in_b c
+        ],
+      )
+      chosen false is = (
+        one a.position h.0,
+        h.1,
+        λ k n kind c. elim (either k kind) [
+          | inl in_a ↦ h.2 k n in_a c
+          | inr in_b ↦ let far = g.2 k n in_b c in let lower : a.steps ≤ b.steps = grind (arith, nat_tests) in omega (arith, far, lower)
+        ],
+      )
+
+-- the nearest of earlier events is still the nearest with one more entry
+pub nearest_still : (e : Entry) (past : List Entry) (i : ℕ) (A B : ℕ → Type 0) → AreForward (e ∷ past) → ((k : ℕ) → A k → k < length past) → ((k : ℕ) → A k → B k) → ((k : ℕ) → B k → A k)
+    → (found : Option Reached) → Nearest past i A found → Nearest (e ∷ past) i B found
+nearest_still e past i A B forward within to from None h = λ k n is c. h k n (from k is) (comes_old e past i k n forward (within k (from k is)) c)
+nearest_still e past i A B forward within to from (Some x) h = (
+  to x.position h.0,
+  comes_more e past i x.position x.steps h.1,
+  λ k n is c. h.2 k n (from k is) (comes_old e past i k n forward (within k (from k is)) c),
+)
+
+-- the nearest is reached by fewer steps than there are entries
+pub nearest_few : (past : List Entry) (i : ℕ) (A : ℕ → Type 0) (x : Reached) → AreForward past → Nearest past i A (Some x) → x.steps < length past
+nearest_few past i A x forward h = omega (arith, comes_few past i x.position x.steps forward h.1, comes_within past i x.position x.steps h.1)
+
+-- of a process that the entry does not concern the nearest event stays
+pub lane_still : (e : Entry) (past : List Entry) (i p : ℕ) (found : Option Reached) → AreForward (e ∷ past) → (actor e ≡ Some p → ⊥) → lane (e ∷ past) p ≡ lane past p
+    → Nearest past i (λ k. IsEventOf past k p (lane past p)) found → Nearest (e ∷ past) i (λ k. IsEventOf (e ∷ past) k p (lane (e ∷ past) p)) found
+lane_still e past i p found forward other same h =
+    nearest_still e past i (λ k. IsEventOf past k p (lane past p)) (λ k. IsEventOf (e ∷ past) k p (lane (e ∷ past) p)) forward (λ k at. event_below past k p (lane past p) at)
+    (λ k at. inl (subst (IsEventOf past k p) (sym same) at))
+    (λ k at. older k at) found h
+  where
+    older : (k : ℕ) → IsEventOf (e ∷ past) k p (lane (e ∷ past) p) → IsEventOf past k p (lane past p)
+    older k (inl at) = subst (IsEventOf past k p) same at
+    older k (inr at) = absurd (other at.1)
+
+-- of the process of an event it is the nearer of that before and the event
+pub lane_joined : (e : Entry) (past : List Entry) (i p : ℕ) (before reached : Option Reached) → AreForward (e ∷ past) → actor e ≡ Some p → lane (e ∷ past) p ≡ lane past p
+    → Nearest past i (λ k. IsEventOf past k p (lane past p)) before → Nearest (e ∷ past) i (λ k. k ≡ length past) reached
+    → Nearest (e ∷ past) i (λ k. IsEventOf (e ∷ past) k p (lane (e ∷ past) p)) (nearer before reached)
+lane_joined e past i p before reached forward who same h new =
+    nearest_of_both (e ∷ past) i (λ k. IsEventOf past k p (lane past p)) (λ k. k ≡ length past) (λ k. IsEventOf (e ∷ past) k p (lane (e ∷ past) p)) either
+    (λ k at. inl (subst (IsEventOf past k p) (sym same) at)) (λ k here. inr (here, who, sym same)) before reached
+    (nearest_still e past i (λ k. IsEventOf past k p (lane past p)) (λ k. IsEventOf past k p (lane past p)) forward (λ k at. event_below past k p (lane past p) at) (λ k at. at) (λ k at. at) before h) new
+  where
+    either : (k : ℕ) → IsEventOf (e ∷ past) k p (lane (e ∷ past) p) → IsEventOf past k p (lane past p) ⊎ (k ≡ length past)
+    either k (inl at) = inl (subst (IsEventOf past k p) same at)
+    either k (inr at) = inr at.0
+
+-- a new lane has no event yet
+pub lane_empty : (e : Entry) (past : List Entry) (i p : ℕ) → actor e ≡ None → lane (e ∷ past) p ≡ lane past p + 1 → Nearest (e ∷ past) i (λ k. IsEventOf (e ∷ past) k p (lane (e ∷ past) p)) None
+lane_empty e past i p none more = λ k n at c. no_event k at
+  where
+    no_event : (k : ℕ) → IsEventOf (e ∷ past) k p (lane (e ∷ past) p) → ⊥
+    no_event k (inl at) = omega (arith, event_lane past k p (lane (e ∷ past) p) at, more)
+    no_event k (inr at) = let x : None ≡ Some p = sym none ∙ at.1 in cc
+
+-- the lanes, where that of one process is set
+pub lanes_changed : (e : Entry) (past : List Entry) (i : ℕ) (lanes : List (Option Reached)) (q : ℕ) (found : Option Reached) → q < length lanes → AreForward (e ∷ past)
+    → ((p : ℕ) → (p ≡ q → ⊥) → (actor e ≡ Some p → ⊥) × (lane (e ∷ past) p ≡ lane past p)) → Nearest (e ∷ past) i (λ k. IsEventOf (e ∷ past) k q (lane (e ∷ past) q)) found
+    → AreNearest past i lanes → AreNearest (e ∷ past) i (slice_set lanes q found)
+lanes_changed e past i lanes q found within forward others own h = λ p below. elim (eqb_tells p q) [
+  | inl here ↦
+      subst (λ x. Nearest (e ∷ past) i (λ k. IsEventOf (e ∷ past) k x (lane (e ∷ past) x)) (get_or (slice_set lanes q found) x None)) (sym here.1)
+      (subst (Nearest (e ∷ past) i (λ k. IsEventOf (e ∷ past) k q (lane (e ∷ past) q))) (sym (get_or-set_same lanes q found None within)) own)
+  | inr apart ↦
+      subst (Nearest (e ∷ past) i (λ k. IsEventOf (e ∷ past) k p (lane (e ∷ past) p))) (sym (get_or-set_other lanes q p found None apart.1))
+      (lane_still e past i p (get_or lanes p None) forward (others p apart.1).0 (others p apart.1).1 (h p (omega (arith, below, length-set lanes q found))))
+]
+
+-- and where none is
+pub lanes_still : (e : Entry) (past : List Entry) (i : ℕ) (lanes : List (Option Reached)) → AreForward (e ∷ past) → actor e ≡ None → ((p : ℕ) → lane (e ∷ past) p ≡ lane past p)
+    → AreNearest past i lanes → AreNearest (e ∷ past) i lanes
+lanes_still e past i lanes forward none same h = λ p below. lane_still e past i p (get_or lanes p None) forward (λ is. let x : None ≡ Some p = sym none ∙ is in cc) (same p) (h p below)
+
+module _ (e : Entry) (past : List Entry) (i : ℕ) (forward : AreForward (e ∷ past)) where
+  -- the event itself is come to by no step
+  pub way_to_itself : (v : ℕ) → length past ≡ v → v ≡ i → is_some (actor e) ≡ true → IsWay (e ∷ past) i v (record { steps = 0; before = i })
+  way_to_itself v here own event = record {
+    fewest = record { comes = begins (actor e) refl event; least = λ m c. omega arith };
+    last = λ m is. absurd (omega (arith, is));
+  }
+    where
+      begins : (a : Option ℕ) → actor e ≡ a → is_some a ≡ true → Comes (e ∷ past) i v 0
+      begins None is some = absurd (false≢true some)
+      begins (Some p) is some = at_once p (lane past p) (inr (sym own ∙ sym here, is, refl)) own refl
+
+  -- another event by one step from the nearest that directly precedes it
+  pub way_through : (v : ℕ) → length past ≡ v → (i ≡ length past → is_some (actor e) ≡ true → ⊥) → (x : Reached) → Nearest past i (PrecedesNext e past) (Some x)
+      → IsWay (e ∷ past) i v (record { steps = x.steps + 1; before = x.position })
+  way_through v here other x h = record {
+    fewest = record {
+      comes = onward x.position x.steps comes precedes refl;
+      least = λ n c. farther n (comes_newest e past i v n forward (sym here) c);
+    };
+    last = λ m is. (precedes, subst (Comes (e ∷ past) i x.position) (let same : x.steps ≡ m = omega (arith, is) in same) comes);
+  }
+    where
+      comes : Comes (e ∷ past) i x.position x.steps
+      comes = comes_more e past i x.position x.steps h.1
+
+      precedes : DirectlyPrecedes (e ∷ past) x.position v
+      precedes = subst (λ y. DirectlyPrecedes (e ∷ past) x.position y) here (next_preceded e past x.position h.0)
+
+      farther : (n : ℕ) → ComesNewest e past i n → x.steps + 1 ≤ n
+      farther n (is_newest is event none) = absurd (other is event)
+      farther n (through j m kind c is) = let far = h.2 j m kind c in omega (arith, far, is)
+
+  -- and what is preceded by nothing that is come to is not come to
+  pub no_way : (v : ℕ) → length past ≡ v → (i ≡ length past → is_some (actor e) ≡ true → ⊥) → Nearest past i (PrecedesNext e past) None → (n : ℕ) → Comes (e ∷ past) i v n → ⊥
+  no_way v here other h n c = none n (comes_newest e past i v n forward (sym here) c)
+    where
+      none : (n : ℕ) → ComesNewest e past i n → ⊥
+      none n (is_newest is event zero) = other is event
+      none n (through j m kind c is) = h j m kind c
+
+-- an event of q brings it in where it is nearer
+pub lanes_joined : (e : Entry) (past : List Entry) (i : ℕ) (lanes : List (Option Reached)) (q : ℕ) (reached : Option Reached) → q < length lanes → AreForward (e ∷ past)
+    → actor e ≡ Some q → ((p : ℕ) → lane (e ∷ past) p ≡ lane past p) → Nearest (e ∷ past) i (λ k. k ≡ length past) reached
+    → AreNearest past i lanes → AreNearest (e ∷ past) i (slice_set lanes q (nearer (get_or lanes q None) reached))
+lanes_joined e past i lanes q reached within forward who same new h =
+    lanes_changed e past i lanes q (nearer (get_or lanes q None) reached) within forward
+    (λ p apart. (λ is. apart (let x : Some p ≡ Some q = sym is ∙ who in cc), same p))
+    (lane_joined e past i q (get_or lanes q None) reached forward who (same q) (h q within) new) h
+
+-- a restart of q empties its lane
+pub lanes_restarted : (past : List Entry) (i : ℕ) (lanes : List (Option Reached)) (who : Pid) (listed : List Det) → who.0 < length lanes → AreForward (Restart who listed ∷ past)
+    → AreNearest past i lanes → AreNearest (Restart who listed ∷ past) i (slice_set lanes who.0 None)
+lanes_restarted past i lanes who listed within forward h =
+    lanes_changed (Restart who listed) past i lanes who.0 None within forward
+    (λ p apart. (λ is. let x : None ≡ Some p = is in cc, cond-false (who.0 == p) _ _ (ne_eqb who.0 p (λ same. apart (sym same)))))
+    (lane_empty (Restart who listed) past i who.0 refl (cond-true (who.0 == who.0) _ _ (eq-eqb who.0 who.0 refl))) h
+
+-- the nearest that directly precedes a delivery is of its lane, or its send
+pub nearest_delivered : (past : List Entry) (i : ℕ) (to : Pid) (send rsn : ℕ) (listed : List Det) (a b : Option Reached) → Nearest past i (λ k. IsEventOf past k to.0 (lane past to.0)) a
+    → Nearest past i (λ k. k ≡ send) b → Nearest past i (PrecedesNext (Deliver to send rsn listed) past) (nearer a b)
+nearest_delivered past i to send rsn listed a b h g =
+    nearest_of_both past i (λ k. IsEventOf past k to.0 (lane past to.0)) (λ k. k ≡ send) (PrecedesNext (Deliver to send rsn listed) past) either
+    (λ k at. inl (to.0, refl, at)) (λ k is. inr (eq-eqb send k (sym is))) a b h g
+  where
+    either : (k : ℕ) → PrecedesNext (Deliver to send rsn listed) past k → IsEventOf past k to.0 (lane past to.0) ⊎ (k ≡ send)
+    either k (inl at) = inl (let same : at.0 ≡ to.0 = let x : Some to.0 ≡ Some at.0 = at.1 in cc in subst (λ p. IsEventOf past k p (lane past p)) same at.2)
+    either k (inr is) = inr (sym (eqb-true send k is))
+
+-- a way is still one with one more entry
+way_still : (e : Entry) (past : List Entry) (i k : ℕ) (found : Option Way) → AreForward (e ∷ past) → k < length past → TellsWay past i k found → TellsWay (e ∷ past) i k found
+way_still e past i k None forward below h = λ n c. h n (comes_old e past i k n forward below c)
+way_still e past i k (Some w) forward below h = record {
+  fewest = record {
+    comes = comes_more e past i k w.steps h.fewest.comes;
+    least = λ n c. h.fewest.least n (comes_old e past i k n forward below c);
+  };
+  last = λ m is. let before = h.last m is in (precedes_more e past w.before k before.0, comes_more e past i w.before m before.1);
+}
+
+-- the ways to one entry more
+pub ways_more : (e : Entry) (past : List Entry) (i : ℕ) (ways : List (Option Way)) (way : Option Way) → AreForward (e ∷ past) → TellsWay (e ∷ past) i (length past) way
+    → AreWays past i ways → AreWays (e ∷ past) i (ways ++ way ∷ [])
+ways_more e past i ways way forward new h = record {
+  count = omega (arith, length-append ways (way ∷ []), h.count);
+  each = λ k below. elim (eqb_tells k (length past)) [
+    | inl here ↦
+        subst (λ x. TellsWay (e ∷ past) i x (get_or (ways ++ way ∷ []) x None)) (sym here.1)
+        (subst (λ x. TellsWay (e ∷ past) i (length past) (get_or (ways ++ way ∷ []) x None)) h.count
+        (subst (TellsWay (e ∷ past) i (length past)) (sym (get_or-append_seam ways way [] None)) new))
+    | inr apart ↦
+        let low : k < length past = let ne : k ≡ length past → ⊥ = apart.1 in omega (arith, below) in
+        subst (TellsWay (e ∷ past) i k) (sym (get_or-append ways (way ∷ []) None k (omega (arith, low, h.count))))
+        (way_still e past i k (get_or ways k None) forward low (h.each k low))
+  ];
+}
+
+-- to no entry there is a way
+pub ways_none : (i : ℕ) → AreWays [] i []
+ways_none i = record { count = refl; each = λ k below. absurd (omega (arith, below)) }
+
+-- and nothing is come to
+pub lanes_none : (i n : ℕ) → AreNearest [] i (replicate n None)
+lanes_none i n = λ p below. subst (Nearest [] i (λ k. IsEventOf [] k p 0)) (sym (get_or-replicate n p None None (omega (arith, below, length-replicate {A = Option Reached} n None)))) (λ k m at c. absurd at)
+
+-- the nearest is reached by few steps
+pub nearest_below : (past : List Entry) (i : ℕ) (A : ℕ → Type 0) (n : ℕ) (found : Option Reached) → AreForward past → length past ≡ n → Nearest past i A found → IfSome found (λ x. x.steps < n)
+nearest_below past i A n None forward long h = tt
+nearest_below past i A n (Some x) forward long h = omega (arith, nearest_few past i A x forward h, long)
+
+-- from an event one step back
+pub step_back : (past : List Entry) (i k n : ℕ) (w : Way) → IsWay past i k w → IsLeast past i k (n + 1) → DirectlyPrecedes past w.before k × IsLeast past i w.before n
+step_back past i k n w h fewest =
+    let same : w.steps ≡ n + 1 = omega (arith, h.fewest.least (n + 1) fewest.comes, fewest.least w.steps h.fewest.comes) in
+    let before = h.last n same in (
+      before.0,
+      record { comes = before.1; least = λ m c. let more = fewest.least (m + 1) (onward w.before m c before.0 refl) in omega (arith, more) },
+    )
+
+-- deliveries of a run are forward at each of its instants
+pub forward_at : (es : List Entry) (t : ℕ) → t ≤ length es → AreForward (reverse es) → AreForward (past_at es t)
+forward_at es t within h = subst AreForward (instant_past es t within) (at_instant AreForward (λ e past k j i d. k j i (inl d)) (reverse es) t h)

@@ -1,0 +1,28 @@
+use Rattle.std.proofs.Common.{◌≡◌, length, refl, subst, arith}
+use Rattle.causal_trace.specs.Past.{is_down}
+use Rattle.causal_explain.specs.declared.explanation.Down.{Down}
+use Rattle.causal_explain.specs.Since.{AreDown, HoldsSince}
+use Rattle.causal_explain.proofs.EachLemmas.{tells_one, tells_skipped}
+use Rattle.causal_explain.proofs.SinceLemmas.{holds_now}
+use Rattle.causal_explain.proofs.down.down_in.Goals.{in-Some+in_ok-push, in_default}
+use Rattle.causal_explain.proofs.down.down_in.Goals as goal
+
+pub loop-p-preserved : goal.loop-p-preserved
+loop-p-preserved c past stand =
+    let p = c.loop-p.p in
+    let standing = stand p c.loop-p-test.true in
+    let so_far = c.loop-p.invariant past stand in
+    elim c.match-since.branch [
+      | in-Some+in_ok-push w ↦
+          let right = w.in-Some.ensures past (λ state. is_down state p) standing in
+          rw (w.down-is, w.in_ok-push.ensures.items)
+          (tells_one p (λ q. is_down past q) (λ (x : Down). x.process) (λ (x : Down). HoldsSince past (λ state. is_down state x.process) x.since) c.loop-p.down.items _ so_far refl (holds_now past (λ state. is_down state p) w.in-Some.since right) right)
+      | in_default w ↦
+          rw w.down-is
+          (tells_skipped p (λ q. is_down past q) (λ (x : Down). x.process) (λ (x : Down). HoldsSince past (λ state. is_down state x.process) x.since) c.loop-p.down.items so_far (w.in_default.ensures past (λ state. is_down state p) standing))
+    ]
+
+pub returns : goal.returns
+returns c past stand =
+    let ended : c.loop-p.p ≡ length c.args.standings.now = omega (arith, c.loop-p-test.false, c.loop-p.auto) in
+    subst (λ n. AreDown n past c.loop-p.down.items) ended (c.loop-p.invariant past stand)

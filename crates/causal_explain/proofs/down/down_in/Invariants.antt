@@ -1,0 +1,10 @@
+use Rattle.std.proofs.Common.{List}
+use Rattle.causal_trace.specs.declared.entry.Entry.{Entry}
+use Rattle.causal_trace.specs.Past.{is_down}
+use Rattle.causal_explain.specs.Inside.Standings.{AreStandings}
+use Rattle.causal_explain.specs.Since.{AreDown}
+use Rattle.causal_explain.proofs.down.down_in.Given as goal
+
+-- of the processes so far
+abbrev pub invariant-loop-p : goal.invariant-loop-p
+invariant-loop-p l = (past : List Entry) → AreStandings past (λ p state. is_down state p) l.standings → AreDown l.p past l.down.items

@@ -1,0 +1,30 @@
+use Rattle.std.proofs.Common.{◌≡◌, length, take, subst, arith}
+use Rattle.std.proofs.lemmas.List.{length-take}
+use Rattle.causal_trace.specs.Past.{instant, logs}
+use Rattle.causal_explain.specs.Inside.Standings.{AreStandings}
+use Rattle.causal_explain.specs.Since.{AreHoldings, AreLosses}
+use Rattle.causal_explain.proofs.StandingLemmas.{stand_first}
+use Rattle.causal_explain.proofs.Told.{first_entries}
+use Rattle.causal_explain.proofs.holdings.held_at.Goals as goal
+
+pub returns-clause-holders : goal.returns-clause-holders
+returns-clause-holders c =
+    let r = c.args.trace.now.recording in
+    let past = instant r.past c.args.end in
+    let n = c.processes.result in
+    let standings = c.transfers_in-transfers.result in
+    let stand : AreStandings past (λ p state. logs state p c.args.det) standings =
+    subst (λ x. AreStandings x (λ p state. logs state p c.args.det) standings) (first_entries r c.entries.result.now c.args.end c.entries.ensures.value c.requires) c.transfers_in-transfers.ensures in
+    let count : length (take n standings) ≡ r.processes = omega (arith, length-take n standings, c.transfers_in-transfers.type_inv, c.processes.ensures.value, c.processes.ensures.formed.count) in
+    subst (λ m. AreHoldings m past c.args.det c.in_ok-holders.holders.items) count (c.in_ok-holders.ensures past c.args.det (stand_first past (λ p state. logs state p c.args.det) standings n stand))
+
+pub returns-clause-losses : goal.returns-clause-losses
+returns-clause-losses c =
+    let r = c.args.trace.now.recording in
+    let past = instant r.past c.args.end in
+    let n = c.processes.result in
+    let standings = c.transfers_in-transfers.result in
+    let stand : AreStandings past (λ p state. logs state p c.args.det) standings =
+    subst (λ x. AreStandings x (λ p state. logs state p c.args.det) standings) (first_entries r c.entries.result.now c.args.end c.entries.ensures.value c.requires) c.transfers_in-transfers.ensures in
+    let count : length (take n standings) ≡ r.processes = omega (arith, length-take n standings, c.transfers_in-transfers.type_inv, c.processes.ensures.value, c.processes.ensures.formed.count) in
+    subst (λ m. AreLosses m past c.args.det c.in_ok-losses.losses.items) count (c.in_ok-losses.ensures past c.args.det (stand_first past (λ p state. logs state p c.args.det) standings n stand))

@@ -1,0 +1,22 @@
+use Rattle.std.proofs.Common.{◌<◌, length, subst, arith}
+use Rattle.causal_explain.specs.Inside.Standings.{TellsChange}
+use Rattle.causal_explain.proofs.StandingLemmas.{stand_unchanged, stand_changed}
+use Rattle.causal_explain.proofs.standing.note.Goals as goal
+
+pub returns-in-Nothing : goal.returns-in-Nothing
+returns-in-Nothing c test e past is change h =
+    stand_unchanged e past test c.args.standings.now (subst (TellsChange test e) c.in-Nothing.is change past) h
+
+pub returns-in-Begins : goal.returns-in-Begins
+returns-in-Begins c test e past is change h =
+    let q = c.in-Begins.process in
+    let told = subst (TellsChange test e) c.in-Begins.is change past in
+    let within : q < length c.args.standings.now = omega arith in
+    stand_changed e past test c.args.standings.now q c.begun.result within told.1 (c.begun.ensures (test q) e past is told.0 (h q within)) h
+
+pub returns-in-Ends : goal.returns-in-Ends
+returns-in-Ends c test e past is change h =
+    let q = c.in-Ends.process in
+    let told = subst (TellsChange test e) c.in-Ends.is change past in
+    let within : q < length c.args.standings.now = omega arith in
+    stand_changed e past test c.args.standings.now q c.ended.result within told.1 (c.ended.ensures (test q) e past is told.0 (h q within)) h

@@ -1,0 +1,11 @@
+use Rattle.std.proofs.Common.{List, ℕ}
+use Rattle.causal_trace.specs.declared.entry.Entry.{Entry}
+use Rattle.causal_explain.specs.Inside.Ways.{AreWays, IsLeast}
+use Rattle.causal_explain.proofs.WalkLemmas.{IsWalkedBack}
+use Rattle.causal_explain.proofs.ways.walk_to.Given as goal
+
+-- so many steps were gone back
+abbrev pub invariant-loop : goal.invariant-loop
+invariant-loop l =
+    (past : List Entry) (i : ℕ) → AreWays past i l.ways → IsLeast past i l.fn.nearest.position l.fn.nearest.steps
+    → IsWalkedBack past i l.fn.nearest.position l.fn.nearest.steps l.counter l.position l.chain.items

@@ -1,0 +1,3 @@
+-- What private functions keep; no public clause cites it.
+pub mod Standings
+pub mod Ways

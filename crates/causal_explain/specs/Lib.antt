@@ -1,0 +1,4 @@
+pub mod Chains
+pub mod Explanations
+pub mod Inside
+pub mod Since

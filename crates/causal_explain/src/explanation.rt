@@ -1,0 +1,53 @@
+//! What tells how a delivery comes to have an orphan. Positions are those of entries, from 0, and instant t is the state
+//! after the first t of them.
+use causal_holders::Holders;
+use causal_name::Det;
+
+/// A process whose volatile log has the determinant.
+#[derive(Clone, Copy, Debug, PartialEq, Eq)]
+pub struct Holding {
+    pub process: u8,
+    /// The position of the delivery or restart since which it has it.
+    pub since: u32,
+}
+
+/// A process whose volatile log had the determinant, and has it no longer.
+#[derive(Clone, Copy, Debug, PartialEq, Eq)]
+pub struct Loss {
+    pub process: u8,
+    /// The position of the crash or forgetting by which it last lost it.
+    pub lost: u32,
+}
+
+/// A process that is down.
+#[derive(Clone, Copy, Debug, PartialEq, Eq)]
+pub struct Down {
+    pub process: u8,
+    /// The position of the crash since which it is.
+    pub since: u32,
+}
+
+/// How a delivery comes to have an orphan at an instant.
+#[derive(Debug, Drop, PartialEq, Eq)]
+pub struct Explanation {
+    /// The position of the delivery.
+    pub delivery: u32,
+    /// Its determinant, which is not stable at the instant.
+    pub det: Det,
+    pub instant: u32,
+    /// The crash set under which it has the orphan.
+    pub crash: Holders,
+    /// The process that is the orphan.
+    pub orphan: u8,
+    /// Those that hold the determinant at the instant, ascending.
+    pub holders: Vec<Holding>,
+    /// Those that held it at an earlier instant and do not now, ascending.
+    pub losses: Vec<Loss>,
+    /// Those that are down at the instant, ascending.
+    pub down: Vec<Down>,
+    /// Positions of sends and deliveries, from the delivery to an event of the orphan's present lane, each of which directly
+    /// precedes the next; no such list is shorter.
+    pub chain: Vec<u32>,
+    /// The first delivery on the chain whose list lacks the determinant, if there is one.
+    pub unlisted: Option<u32>,
+}

@@ -1,0 +1,36 @@
+//! Why a verdict on a recorded run is so: who holds the determinant and who lost it, who is down, and over which entries an
+//! orphan comes to depend on the delivery. Begin at [`Explanation`].
+#![tactic(auto)]
+
+pub mod chain;
+pub mod down;
+pub mod explaining;
+pub mod explanation;
+mod holdings;
+mod standing;
+mod ways;
+
+pub use chain::shortest_chain;
+pub use down::down_since;
+pub use explaining::explain;
+pub use explanation::{Down, Explanation, Holding, Loss};
+
+#[cfg(test)]
+mod tests {
+    use super::Down;
+    use std::rt::HostRuntime;
+
+    #[test]
+    fn down_is_equal(rt: HostRuntime) {
+        let down = Down {
+            process: 1,
+            since: 2,
+        };
+        assert!(rt;
+            down == Down {
+                process: 1,
+                since: 2
+            }
+        );
+    }
+}
