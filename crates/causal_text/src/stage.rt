@@ -18,7 +18,7 @@ use std::alloc::Global;
 pub(crate) const MAX_TEXT: usize = 33_554_432;
 
 // a line that has more bytes is looked at before a tree is built of it
-const LONG: usize = 65_536;
+const LONG: usize = 262_144;
 
 /// No line, a trace that goes on, or a trace with its end line.
 #[derive(Drop)]

@@ -400,12 +400,15 @@ const LONG: [(&str, &str, &str, &str); 14] = [
     ),
 ];
 
+// how many bytes of repeated parts make a line long
+const REPEATED: usize = 270_000;
+
 // a text whose third line repeats a part so often that it is long
 fn long_line(alloc: Global, begin: &str, unit: &str, end: &str) -> Result<String, Fail> {
     let mut text = String::new(alloc);
     text.push_str(SENT)?;
     text.push_str(begin)?;
-    for _i in 0..70_000 {
+    for _i in 0..REPEATED / unit.len().max(1) + 1 {
         text.push_str(unit)?;
     }
     text.push_str(end)?;
