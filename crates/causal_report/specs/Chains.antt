@@ -1,0 +1,55 @@
+-- A chain of dependence, as text.
+use Rattle.std.specs.Prelude.{ℕ, ◌==◌, if◌then◌else◌, List, ◌++◌, codes, decimal, flat_map, Option, Some, None}
+use Rattle.causal_trace.specs.Rows.{Recording}
+use Rattle.causal_report.specs.declared.event.Event.{Event}
+use Rattle.causal_report.specs.declared.event.Event.TheVariants.{Send, Delivery, Other}
+use Rattle.causal_report.specs.Events.{event_at}
+use Rattle.causal_report.specs.Places.{line_at}
+
+-- the event at a position: which process sends which message, or delivers that of which line
+unfoldable pub chain_line : ℕ → Event → List ℕ
+chain_line position (Send from to ssn) =
+    codes "chain line=" ++ (decimal (line_at position) ++ (codes " process=" ++ (decimal from
+    ++ (codes ": process " ++ (decimal from ++ (codes " sends message " ++ (decimal ssn
+    ++ (codes " to process " ++ (decimal to ++ codes "\n")))))))))
+chain_line position (Delivery to send) =
+    codes "chain line=" ++ (decimal (line_at position) ++ (codes " process=" ++ (decimal to
+    ++ (codes ": process " ++ (decimal to ++ (codes " delivers what line " ++ (decimal (line_at send)
+    ++ codes " sends\n")))))))
+chain_line position Other = codes "chain line=" ++ (decimal (line_at position) ++ codes ": no event\n")
+
+-- a line for each event of the chain
+abbrev pub chain_text : Recording → List ℕ → List ℕ
+chain_text r chain = flat_map (λ position. chain_line position (event_at r position)) chain
+
+-- that on this line is no delivery
+unfoldable pub no_delivery_line : ℕ → List ℕ
+no_delivery_line line = codes "unlisted line=" ++ (decimal line ++ codes ": no delivery\n")
+
+-- a delivery that does not list its own determinant
+unfoldable pub unlogged_line : ℕ → Event → List ℕ
+unlogged_line position (Delivery to send) =
+    codes "unlisted line=" ++ (decimal (line_at position) ++ (codes " send=" ++ (decimal (line_at send)
+    ++ (codes " process=" ++ (decimal to ++ (codes ": process " ++ (decimal to
+    ++ (codes " delivers what line " ++ (decimal (line_at send)
+    ++ codes " sends, and does not log the determinant\n")))))))))
+unlogged_line position _ = no_delivery_line (line_at position)
+
+-- a delivery whose message did not bring the determinant along
+unfoldable pub unlisted_line : ℕ → Event → List ℕ
+unlisted_line position (Delivery to send) =
+    codes "unlisted line=" ++ (decimal (line_at position) ++ (codes " send=" ++ (decimal (line_at send)
+    ++ (codes " process=" ++ (decimal to ++ (codes ": the message that line " ++ (decimal (line_at send)
+    ++ (codes " sends comes to process " ++ (decimal to ++ codes " without the determinant\n")))))))))
+unlisted_line position _ = no_delivery_line (line_at position)
+
+-- that no delivery lacks it
+unfoldable pub listed_line : List ℕ
+listed_line = codes "listed: each delivery of the chain lists the determinant\n"
+
+-- the first delivery of a chain that does not list the determinant of that at `delivery`; None where each does
+abbrev pub unlisted_text : Recording → ℕ → Option ℕ → List ℕ
+unlisted_text r delivery None = listed_line
+unlisted_text r delivery (Some position) =
+    if position == delivery then unlogged_line position (event_at r position)
+    else unlisted_line position (event_at r position)

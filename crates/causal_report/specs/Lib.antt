@@ -1,0 +1,6 @@
+pub mod Inside
+pub mod Places
+pub mod Events
+pub mod Excesses
+pub mod Chains
+pub mod Explanations

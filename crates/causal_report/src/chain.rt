@@ -1,0 +1,108 @@
+//! A chain of dependence, as text.
+ghost use Rattle.std.specs.Prelude.{OnOk};
+ghost use Rattle.causal_report.specs.Inside.Added.{Adds};
+ghost use Rattle.causal_report.specs.Chains as chains;
+
+use crate::event::{Event, event_at};
+use crate::place::line_at;
+use causal_trace::trace::Trace;
+use std::alloc::AllocError;
+
+/// Adds a line for each event of a chain.
+pub(crate) fn push_chain(out: &mut String, trace: &Trace, chain: &[u32]) -> Result<(), AllocError>
+    ensures { OnOk result (Adds out.old out.new (chains.chain_text trace.now.recording chain.now)) }
+{
+    for position in chain {
+        push_event(out, *position, event_at(trace, *position))?;
+    }
+    Ok(())
+}
+
+fn push_event(out: &mut String, position: u32, event: Event) -> Result<(), AllocError>
+    ensures { OnOk result (Adds out.old out.new (chains.chain_line position event)) }
+{
+    let line = line_at(position);
+    match event {
+        Event::Send { from, to, ssn } => write!(
+            out,
+            "chain line={line} process={from}: process {from} sends message {ssn} to process {to}\n"
+        ),
+        Event::Delivery { to, send } => {
+            let send = line_at(send);
+            write!(
+                out,
+                "chain line={line} process={to}: process {to} delivers what line {send} sends\n"
+            )
+        }
+        Event::Other => write!(out, "chain line={line}: no event\n"),
+    }
+}
+
+/// Adds the line that tells which delivery of a chain does not list the determinant of the one at `delivery`.
+pub(crate) fn push_unlisted(
+    out: &mut String,
+    trace: &Trace,
+    delivery: u32,
+    unlisted: Option<u32>,
+) -> Result<(), AllocError>
+    ensures { OnOk result (Adds out.old out.new (chains.unlisted_text trace.now.recording delivery unlisted)) }
+{
+    let Some(position) = unlisted else {
+        return push_listed(out);
+    };
+    let event = event_at(trace, position);
+    if position == delivery {
+        push_unlogged(out, position, event)
+    } else {
+        push_unlisted_at(out, position, event)
+    }
+}
+
+#[tactic(auto, unfolding(crate::specs::Chains::listed_line))]
+fn push_listed(out: &mut String) -> Result<(), AllocError>
+    ensures { OnOk result (Adds out.old out.new chains.listed_line) }
+{
+    out.push_str("listed: each delivery of the chain lists the determinant\n")
+}
+
+/// Adds the line of a delivery that does not list its own determinant.
+fn push_unlogged(out: &mut String, position: u32, event: Event) -> Result<(), AllocError>
+    ensures { OnOk result (Adds out.old out.new (chains.unlogged_line position event)) }
+{
+    let line = line_at(position);
+    match event {
+        Event::Delivery { to, send } => {
+            let send = line_at(send);
+            write!(
+                out,
+                "unlisted line={line} send={send} process={to}: \
+                 process {to} delivers what line {send} sends, and does not log the determinant\n"
+            )
+        }
+        _ => push_no_delivery(out, line),
+    }
+}
+
+/// Adds the line of a delivery that does not list the determinant of another one.
+fn push_unlisted_at(out: &mut String, position: u32, event: Event) -> Result<(), AllocError>
+    ensures { OnOk result (Adds out.old out.new (chains.unlisted_line position event)) }
+{
+    let line = line_at(position);
+    match event {
+        Event::Delivery { to, send } => {
+            let send = line_at(send);
+            write!(
+                out,
+                "unlisted line={line} send={send} process={to}: \
+                 the message that line {send} sends comes to process {to} without the determinant\n"
+            )
+        }
+        _ => push_no_delivery(out, line),
+    }
+}
+
+fn push_no_delivery(out: &mut String, line: u64) -> Result<(), AllocError>
+    ensures { OnOk result (Adds out.old out.new (chains.no_delivery_line line)) }
+{
+    write!(out, "unlisted line={line}: no delivery\n")
+}

@@ -1,0 +1,41 @@
+//! How too many processes come to be down, as text.
+ghost use Rattle.std.specs.Prelude.{◌≡◌, OnOk, IfOk};
+ghost use Rattle.causal_report.specs.Inside.Added.{Adds};
+ghost use Rattle.causal_report.specs.Excesses.{down_line, excess_text};
+
+use crate::place::line_at;
+use causal_explain::Down;
+use causal_name::NoMemory;
+use std::alloc::{AllocError, Global};
+
+/// A line for each process that is down, in their order: the line of the trace since which it is.
+///
+/// # Errors
+/// `NoMemory` where memory was refused.
+pub fn excess_text(alloc: Global, down: &[Down]) -> Result<Vec<u8>, NoMemory>
+    ensures { IfOk result (λ text. text.items ≡ excess_text down.now) }
+{
+    let mut out = String::new(alloc);
+    push_downs(&mut out, down)?;
+    Ok(out.into_bytes())
+}
+
+/// Adds a line for each process that is down.
+pub(crate) fn push_downs(out: &mut String, downs: &[Down]) -> Result<(), AllocError>
+    ensures { OnOk result (Adds out.old out.new (excess_text downs.now)) }
+{
+    for down in downs {
+        push_down(out, down)?;
+    }
+    Ok(())
+}
+
+fn push_down(out: &mut String, down: &Down) -> Result<(), AllocError>
+    ensures { OnOk result (Adds out.old out.new (down_line down.now)) }
+{
+    let (process, line) = (down.process, line_at(down.since));
+    write!(
+        out,
+        "down process={process} line={line}: process {process} is down since its crash at line {line}\n"
+    )
+}

@@ -1,0 +1,163 @@
+//! How a delivery comes to have an orphan, as text.
+ghost use Rattle.std.specs.Prelude.{◌≡◌, OnOk, IfOk};
+ghost use Rattle.causal_report.specs.Inside.Added.{Adds};
+ghost use Rattle.causal_report.specs.Explanations as told;
+
+use crate::chain::{push_chain, push_unlisted};
+use crate::excess::push_downs;
+use crate::place::{line_at, line_before};
+use causal_explain::{Explanation, Holding, Loss};
+use causal_holders::Holders;
+use causal_name::{Det, NoMemory};
+use causal_trace::trace::Trace;
+use std::alloc::{AllocError, Global};
+
+/// What tells how a delivery comes to have an orphan, one fact a line, in this order: the delivery; that its determinant
+/// is not stable; who holds it, who lost it and who is down, each with the line of the entry that made it so; the crash set;
+/// the chain by which the orphan depends on the delivery; the first delivery on it that does not list the determinant; and
+/// the orphan.
+///
+/// # Errors
+/// `NoMemory` where memory was refused.
+pub fn explanation_text(
+    alloc: Global,
+    trace: &Trace,
+    explanation: &Explanation,
+) -> Result<Vec<u8>, NoMemory>
+    ensures { IfOk result (λ text. text.items ≡ told.explanation_text trace.now.recording explanation.now) }
+{
+    let mut out = String::new(alloc);
+    push_explanation(&mut out, trace, explanation)?;
+    Ok(out.into_bytes())
+}
+
+fn push_explanation(
+    out: &mut String,
+    trace: &Trace,
+    explanation: &Explanation,
+) -> Result<(), AllocError>
+    ensures { OnOk result (Adds out.old out.new (told.explanation_text trace.now.recording explanation.now)) }
+{
+    push_delivery(out, explanation.delivery, &explanation.det)?;
+    push_unstable(out, explanation.instant)?;
+    push_holders(out, explanation.holders.as_slice())?;
+    push_losses(out, explanation.losses.as_slice())?;
+    push_downs(out, explanation.down.as_slice())?;
+    push_crash(out, explanation.crash)?;
+    push_chain(out, trace, explanation.chain.as_slice())?;
+    push_unlisted(out, trace, explanation.delivery, explanation.unlisted)?;
+    push_orphan(out, explanation.orphan)
+}
+
+fn push_delivery(out: &mut String, delivery: u32, det: &Det) -> Result<(), AllocError>
+    ensures { OnOk result (Adds out.old out.new (told.delivery_line delivery det.now)) }
+{
+    push_place(out, delivery, det)?;
+    push_message(out, det)
+}
+
+fn push_place(out: &mut String, delivery: u32, det: &Det) -> Result<(), AllocError>
+    ensures { OnOk result (Adds out.old out.new (told.place_words delivery det.now)) }
+{
+    let line = line_at(delivery);
+    let (source, ssn, dest, rsn) = (det.source.0, det.ssn, det.dest.0, det.rsn);
+    write!(
+        out,
+        "delivery line={line} process={dest} source={source} ssn={ssn} rsn={rsn}: "
+    )
+}
+
+fn push_message(out: &mut String, det: &Det) -> Result<(), AllocError>
+    ensures { OnOk result (Adds out.old out.new (told.message_sentence det.now)) }
+{
+    let (source, ssn, dest, rsn) = (det.source.0, det.ssn, det.dest.0, det.rsn);
+    write!(
+        out,
+        "process {dest} delivers message {ssn} of process {source}, as its delivery {rsn}\n"
+    )
+}
+
+fn push_unstable(out: &mut String, instant: u32) -> Result<(), AllocError>
+    ensures { OnOk result (Adds out.old out.new (told.unstable_line instant)) }
+{
+    let line = line_before(instant);
+    write!(
+        out,
+        "unstable line={line}: up to line {line} nothing writes its determinant to stable storage\n"
+    )
+}
+
+fn push_holders(out: &mut String, holders: &[Holding]) -> Result<(), AllocError>
+    ensures { OnOk result (Adds out.old out.new (told.holders_text holders.now)) }
+{
+    if holders.is_empty() {
+        return push_no_holder(out);
+    }
+    for holding in holders {
+        push_holder(out, holding)?;
+    }
+    Ok(())
+}
+
+#[tactic(auto, unfolding(crate::specs::Explanations::no_holder_line))]
+fn push_no_holder(out: &mut String) -> Result<(), AllocError>
+    ensures { OnOk result (Adds out.old out.new told.no_holder_line) }
+{
+    out.push_str("holder process=-: no process has the determinant in its log\n")
+}
+
+fn push_holder(out: &mut String, holding: &Holding) -> Result<(), AllocError>
+    ensures { OnOk result (Adds out.old out.new (told.holder_line holding.now)) }
+{
+    let (process, line) = (holding.process, line_at(holding.since));
+    write!(
+        out,
+        "holder process={process} line={line}: process {process} has the determinant in its log since line {line}\n"
+    )
+}
+
+fn push_losses(out: &mut String, losses: &[Loss]) -> Result<(), AllocError>
+    ensures { OnOk result (Adds out.old out.new (told.losses_text losses.now)) }
+{
+    for loss in losses {
+        push_loss(out, loss)?;
+    }
+    Ok(())
+}
+
+fn push_loss(out: &mut String, loss: &Loss) -> Result<(), AllocError>
+    ensures { OnOk result (Adds out.old out.new (told.loss_line loss.now)) }
+{
+    let (process, line) = (loss.process, line_at(loss.lost));
+    write!(
+        out,
+        "loss process={process} line={line}: process {process} lost the determinant from its log at line {line}\n"
+    )
+}
+
+fn push_crash(out: &mut String, crash: Holders) -> Result<(), AllocError>
+    ensures { OnOk result (Adds out.old out.new (told.crash_text crash)) }
+{
+    for process in crash.iter() {
+        push_member(out, process)?;
+    }
+    Ok(())
+}
+
+fn push_member(out: &mut String, process: u8) -> Result<(), AllocError>
+    ensures { OnOk result (Adds out.old out.new (told.member_line process)) }
+{
+    write!(
+        out,
+        "crash process={process}: process {process} is in the crash set, under which nobody has the determinant\n"
+    )
+}
+
+fn push_orphan(out: &mut String, process: u8) -> Result<(), AllocError>
+    ensures { OnOk result (Adds out.old out.new (told.orphan_line process)) }
+{
+    write!(
+        out,
+        "orphan process={process}: process {process} depends on the delivery by this chain, and lacks its determinant\n"
+    )
+}
