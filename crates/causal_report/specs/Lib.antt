@@ -4,3 +4,4 @@ pub mod Events
 pub mod Excesses
 pub mod Chains
 pub mod Explanations
+pub mod Reasons

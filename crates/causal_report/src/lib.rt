@@ -9,6 +9,8 @@ mod event;
 pub mod excess;
 pub mod explained;
 mod place;
+pub mod reason;
 
 pub use excess::excess_text;
 pub use explained::explanation_text;
+pub use reason::reason_text;

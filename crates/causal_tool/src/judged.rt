@@ -59,7 +59,8 @@ pub fn audit_from<I: Read, G: Gate + Sync, R: Threads + Wait>(
     }
 }
 
-fn fault_of(fault: ReaderFault) -> StreamFault
+/// Why there is no verdict, where a reading tells why there is no trace.
+pub(crate) fn fault_of(fault: ReaderFault) -> StreamFault
     ensures told { (text : List ℕ) → TellsOf text fault → TellsFirstFault text result }
     ensures alone { result ≡ StreamFault.NoWorker → ⊥ }
 {

@@ -1,17 +1,19 @@
 //! Audits the recorded run, or runs the script, that it reads on standard input.
 //!
-//! Begin at [`audit_and_tell`] in `stream`, the work of `audit`, and at [`run_stream`] in `script`, the work of `run`: both go
-//! from any reader to any writer, and their clauses are what the program promises. `main` adds the words of the command line
-//! (`words`) and the exit status (`ended`).
+//! Begin at [`audit_and_tell`] in `stream`, the work of `audit`, at [`explain_and_tell`] in `reasoned`, that of `explain`, and at
+//! [`run_and_tell`] in `script`, that of `run`: all go from any reader to any writer, and their clauses are what the program
+//! promises. `main` adds the words of the command line (`words`) and the exit status (`ended`).
 #![tactic(auto)]
 
 mod ended;
 mod judged;
 mod reading;
+mod reasoned;
 mod script;
 mod stream;
 mod words;
 
+use crate::reasoned::explain_and_tell;
 use crate::script::run_and_tell;
 use crate::stream::{Told, audit_and_tell};
 use crate::words::{Asked, Refused};
@@ -56,6 +58,16 @@ fn main(rt: HostRuntime) -> ExitCode {
             ),
         ),
         Ok(Asked::Audit { .. }) => ExitCode::from(3),
+        Ok(Asked::Explain { faults }) => told(
+            &rt,
+            explain_and_tell(
+                &rt,
+                rt.alloc(),
+                &mut rt.reader(),
+                &mut io::writer(&rt),
+                faults,
+            ),
+        ),
         Ok(Asked::Run) => told(
             &rt,
             run_and_tell(&rt, rt.alloc(), &mut rt.reader(), &mut io::writer(&rt)),

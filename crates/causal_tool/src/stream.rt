@@ -73,10 +73,10 @@ pub fn audit_and_tell<R: Threads + Wait, I: Read, O: Write, G: Gate + Sync>(
 
 /// The line that answers a text, how the program ends that writes it, and the fault that it tells.
 #[derive(Drop)]
-struct Answer {
-    ended: Ended,
-    line: Vec<u8>,
-    fault: Option<TextFault>,
+pub(crate) struct Answer {
+    pub ended: Ended,
+    pub line: Vec<u8>,
+    pub fault: Option<TextFault>,
 }
 
 fn answered<I: Read, G: Gate + Sync, R: Threads + Wait>(
@@ -111,7 +111,8 @@ fn answered<I: Read, G: Gate + Sync, R: Threads + Wait>(
     }
 }
 
-fn ended_of(verdict: Verdict) -> Ended
+/// How the program ends that writes the line of a verdict.
+pub(crate) fn ended_of(verdict: Verdict) -> Ended
     ensures accepted { verdict ≡ Verdict.Accept → result ≡ Ended.Accepted }
     ensures breached { verdict ≢ Verdict.Accept → result ≡ Ended.Breached }
 {

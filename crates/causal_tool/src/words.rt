@@ -85,6 +85,8 @@ Example:
 pub enum Asked {
     /// An audit for at most so many processes that are down at once, by so many workers.
     Audit { faults: u16, workers: u32 },
+    /// The same audit by one worker, and why its verdict is so.
+    Explain { faults: u16 },
     /// The trace of a script's run.
     Run,
 }
@@ -164,6 +166,11 @@ pub fn parsed<'a, S: AsStr>(alloc: Global, words: &'a [S]) -> Result<Option<Aske
                 _ => Ok(None),
             }
         }
+        Some(("explain", given)) => Ok(
+            given
+                .get_one::<u16>("faults")
+                .map(|faults| Asked::Explain { faults }),
+        ),
         Some(("run", _)) => Ok(Some(Asked::Run)),
         _ => Ok(None),
     }
