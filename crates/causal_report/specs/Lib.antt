@@ -5,3 +5,4 @@ pub mod Excesses
 pub mod Chains
 pub mod Explanations
 pub mod Reasons
+pub mod Drawings

@@ -1,16 +1,18 @@
-//! Why a verdict on a recorded run is so, as text: one fact a line, with the lines of the trace's text.
+//! Why a verdict on a recorded run is so: as text, one fact a line, with the lines of the trace's text, and as a picture.
 //!
-//! Begin at [`explanation_text`], for a delivery that has an orphan; [`excess_text`] is for too many processes that are
-//! down. Both take time and memory as their texts are long.
+//! Begin at [`reason_text`] and [`drawing_of`]. The text is that of [`explanation_text`] for a delivery that has an orphan, and
+//! that of [`excess_text`] for too many processes that are down; both take time and memory as their texts are long.
 #![tactic(auto)]
 
 mod chain;
+pub mod drawing;
 mod event;
 pub mod excess;
 pub mod explained;
 mod place;
 pub mod reason;
 
+pub use drawing::drawing_of;
 pub use excess::excess_text;
 pub use explained::explanation_text;
 pub use reason::reason_text;

@@ -18,6 +18,8 @@ mod logs;
 mod many_orphans;
 pub mod numbers;
 #[cfg(test)]
+mod pictures;
+#[cfg(test)]
 mod plain_audits;
 #[cfg(test)]
 mod random_audits;

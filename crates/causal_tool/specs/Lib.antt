@@ -1,6 +1,6 @@
 pub mod Inside
 pub mod Endings
-pub mod Explained
+pub mod Shown
 pub mod Judgements
 pub mod Reasons
 pub mod Runs

@@ -1,6 +1,6 @@
 //! Audits the recorded run, or runs the script, that it reads on standard input.
 //!
-//! Begin at [`audit_and_tell`] in `stream`, the work of `audit`, at [`explain_and_tell`] in `reasoned`, that of `explain`, and at
+//! Begin at [`audit_and_tell`] in `stream`, the work of `audit`, at [`show_and_tell`] in `shown`, that of `explain` and `draw`, and at
 //! [`run_and_tell`] in `script`, that of `run`: all go from any reader to any writer, and their clauses are what the program
 //! promises. `main` adds the words of the command line (`words`) and the exit status (`ended`).
 #![tactic(auto)]
@@ -8,13 +8,13 @@
 mod ended;
 mod judged;
 mod reading;
-mod reasoned;
 mod script;
+mod shown;
 mod stream;
 mod words;
 
-use crate::reasoned::explain_and_tell;
 use crate::script::run_and_tell;
+use crate::shown::show_and_tell;
 use crate::stream::{Told, audit_and_tell};
 use crate::words::{Asked, Refused};
 use causal_text::TextFault;
@@ -58,14 +58,15 @@ fn main(rt: HostRuntime) -> ExitCode {
             ),
         ),
         Ok(Asked::Audit { .. }) => ExitCode::from(3),
-        Ok(Asked::Explain { faults }) => told(
+        Ok(Asked::Show { view, faults }) => told(
             &rt,
-            explain_and_tell(
+            show_and_tell(
                 &rt,
                 rt.alloc(),
                 &mut rt.reader(),
                 &mut io::writer(&rt),
                 faults,
+                view,
             ),
         ),
         Ok(Asked::Run) => told(

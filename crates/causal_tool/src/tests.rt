@@ -2,6 +2,7 @@
 mod cut;
 mod forged;
 mod reading;
+mod reasons;
 mod running;
 mod scripts;
 mod traces;
@@ -333,11 +334,26 @@ fn words_that_ask_for_a_run(rt: HostRuntime) -> Result<(), Fail> {
 }
 
 // words after the program's name, and how they are refused
-const REFUSED: [(&[&str], ErrorKind, Refused); 17] = [
+const REFUSED: [(&[&str], ErrorKind, Refused); 20] = [
     (&[], ErrorKind::MissingSubcommand, Refused::Status(3)),
     (
         &["audit"],
         ErrorKind::MissingRequiredArgument,
+        Refused::Status(3),
+    ),
+    (
+        &["explain"],
+        ErrorKind::MissingRequiredArgument,
+        Refused::Status(3),
+    ),
+    (
+        &["explain", "--faults", "1", "--workers", "2"],
+        ErrorKind::UnknownArgument,
+        Refused::Status(3),
+    ),
+    (
+        &["draw", "--faults", "65536"],
+        ErrorKind::ValueValidation,
         Refused::Status(3),
     ),
     (

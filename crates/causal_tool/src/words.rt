@@ -4,8 +4,9 @@ ghost use Rattle.clap.specs.Values.{kind_of};
 ghost use Rattle.causal_tool.specs.Inside.Refusals.{refusal};
 
 use crate::ended::Ended;
+use crate::shown::View;
 use clap::error::ErrorKind;
-use clap::{Arg, Command, Error, value_parser};
+use clap::{Arg, ArgMatches, Command, Error, value_parser};
 use std::alloc::{AllocError, Global};
 use std::convert::AsStr;
 use std::rt::Env;
@@ -80,13 +81,41 @@ Exit status:
 Example:
   causal_tool audit --faults 1 < trace.jsonl";
 
+/// What the help of `explain` says after its options.
+const REASONS: &str = "\
+Answers on standard output: the line that `audit` prints, and below it, one fact a line,
+  for `exceeded`, of each process that is down the line of its crash
+  for `orphan`, the delivery and its determinant, who has that in its log and who lost it, who
+      is down, the chain of events by which the orphan comes to depend on the delivery, and
+      the delivery on it whose list lacks the determinant first
+
+Exit status: as that of `audit`
+
+Example:
+  causal_tool explain --faults 1 < trace.jsonl";
+
+/// What the help of `draw` says after its options.
+const PICTURES: &str = "\
+Answers on standard output:
+  a space-time diagram in SVG: a line for each process, marks for what happens there, and
+      arrows for messages; with the verdict's instant, the processes of its crash set or those
+      that are down, and the chain of events by which the orphan comes to depend on the
+      delivery; at most 200 entries, those about the instant
+  fault line=L KIND
+      the text is no trace: its first fault is at line L
+
+Exit status: as that of `audit`
+
+Example:
+  causal_tool draw --faults 1 < trace.jsonl > picture.svg";
+
 /// What the command line asks for.
 #[derive(Clone, Copy, Debug, PartialEq, Eq)]
 pub enum Asked {
     /// An audit for at most so many processes that are down at once, by so many workers.
     Audit { faults: u16, workers: u32 },
-    /// The same audit by one worker, and why its verdict is so.
-    Explain { faults: u16 },
+    /// The same audit by one worker, and what shows why its verdict is so.
+    Show { view: View, faults: u16 },
     /// The trace of a script's run.
     Run,
 }
@@ -166,24 +195,31 @@ pub fn parsed<'a, S: AsStr>(alloc: Global, words: &'a [S]) -> Result<Option<Aske
                 _ => Ok(None),
             }
         }
-        Some(("explain", given)) => Ok(
-            given
-                .get_one::<u16>("faults")
-                .map(|faults| Asked::Explain { faults }),
-        ),
+        Some(("explain", given)) => Ok(shown(given, View::Reason)),
+        Some(("draw", given)) => Ok(shown(given, View::Picture)),
         Some(("run", _)) => Ok(Some(Asked::Run)),
         _ => Ok(None),
     }
 }
 
-fn command<'a>(alloc: Global) -> Result<Command<'a>, AllocError> {
-    let faults = Arg::new(alloc, "faults")
+/// What is asked for where a verdict is to be shown.
+fn shown(given: &ArgMatches, view: View) -> Option<Asked> {
+    let faults = given.get_one::<u16>("faults")?;
+    Some(Asked::Show { view, faults })
+}
+
+/// The option of how many processes may be down at once.
+fn faults<'a>(alloc: Global) -> Arg<'a> {
+    Arg::new(alloc, "faults")
         .long("faults")
         .value_name("F")
         .help("How many processes may be down at once [0 to 65535]")
         .required(true)
         .allow_negative_numbers(true)
-        .value_parser(value_parser!(u16));
+        .value_parser(value_parser!(u16))
+}
+
+fn command<'a>(alloc: Global) -> Result<Command<'a>, AllocError> {
     let workers = Arg::new(alloc, "workers")
         .long("workers")
         .value_name("W")
@@ -194,8 +230,16 @@ fn command<'a>(alloc: Global) -> Result<Command<'a>, AllocError> {
     let audit = Command::new(alloc, "audit")
         .about("Audits the trace on standard input")
         .after_help(ANSWERS)
-        .arg(faults)?
+        .arg(faults(alloc))?
         .arg(workers)?;
+    let explain = Command::new(alloc, "explain")
+        .about("Audits the trace on standard input, and tells why the verdict is so")
+        .after_help(REASONS)
+        .arg(faults(alloc))?;
+    let draw = Command::new(alloc, "draw")
+        .about("Audits the trace on standard input, and draws it with the verdict")
+        .after_help(PICTURES)
+        .arg(faults(alloc))?;
     let run = Command::new(alloc, "run")
         .about("Runs the script on standard input and prints its trace")
         .after_help(SCRIPTS);
@@ -206,5 +250,7 @@ fn command<'a>(alloc: Global) -> Result<Command<'a>, AllocError> {
         .version("1.0.0")
         .subcommand_required(true)
         .subcommand(audit)?
+        .subcommand(explain)?
+        .subcommand(draw)?
         .subcommand(run)
 }

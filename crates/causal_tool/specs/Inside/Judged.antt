@@ -1,0 +1,12 @@
+-- What is judged of a recording, before it is known of which text it is.
+use Rattle.std.specs.Prelude.{◌≡◌, ℕ, length}
+use Rattle.causal_trace.specs.Past.{deliveries_in}
+use Rattle.causal_trace.specs.Rows.{Recording}
+use Rattle.causal_audit.specs.Verdicts.{IsVerdict}
+use Rattle.causal_workers.specs.declared.judged.Judged.{Judged}
+
+-- the recording is judged so for f
+pub record IsJudgedSo (r : Recording) (f : ℕ) (judged : Judged) : Type 0 where
+  pub verdict : IsVerdict r f judged.verdict
+  pub entries : judged.entries ≡ length r.past
+  pub deliveries : judged.deliveries ≡ deliveries_in r.past
