@@ -54,6 +54,12 @@ def recorded_in_the_format():
 
 
 # what running a script prints, and its status; a trace stands in a file
+# What the program shows of a trace, which stands beside it: by which command, of which trace and for which f.
+SHOWN = {
+    "orphan.svg": ("draw", "orphan.jsonl", 1),
+    "orphan.txt": ("explain", "orphan.jsonl", 1),
+}
+
 RUNS = {
     "replay.script": (bytes_of("replay.jsonl").decode(), 0),
     "stopped.script": ("refused line=6 MustReplay 2 0\n", 2),
@@ -75,6 +81,10 @@ def wrong_runs(program):
     return wrong
 
 
+def shown_by(program, word, trace, f):
+    return subprocess.run([program, word, "--faults", str(f)], input=bytes_of(trace), capture_output=True).stdout
+
+
 def main():
     given = argparse.ArgumentParser(description=__doc__.split("\n\n")[0])
     given.add_argument("--program")
@@ -86,6 +96,8 @@ def main():
         if program:
             ended = subprocess.run([program, "audit", "--faults", str(f)], input=text, capture_output=True)
             answers["program"] = ended.stdout.decode().rstrip("\n"), ended.returncode
+            ended = subprocess.run([program, "explain", "--faults", str(f)], input=text, capture_output=True)
+            answers["program's first line of why"] = ended.stdout.decode().split("\n")[0], ended.returncode
         for who, said in answers.items():
             count += 1
             if said != (answer, status):
@@ -99,6 +111,11 @@ def main():
     if recorded_in_the_format() != text_of("recorded.jsonl"):
         wrong += 1
         print("recorded.jsonl is not the worked recording of docs/FORMAT.md")
+    for shown, (word, trace, f) in SHOWN.items() if program else ():
+        count += 1
+        if shown_by(program, word, trace, f) != bytes_of(shown):
+            wrong += 1
+            print(f"{shown} is not what `{word}` shows of {trace} for {f}")
     print(f"examples: {count} answers, {wrong} wrong")
     sys.exit(1 if wrong or not count else 0)
 

@@ -1,0 +1,10 @@
+use Rattle.std.proofs.Common.{refl}
+use Rattle.std.proofs.lemmas.Result.{IfOk-weaker}
+use Rattle.causal_report.proofs.drawing.drawing_of.Goals as goal
+
+pub returns-in-Exceeded : goal.returns-in-Exceeded
+returns-in-Exceeded c =
+    rw c.in-Exceeded.is
+    (IfOk-weaker c.picture_of-in-Exceeded.result _ _
+    (λ text same. record { focus = _; at_instant = refl; crashed = refl; linked = refl; pictured = same })
+    c.picture_of-in-Exceeded.ensures)
