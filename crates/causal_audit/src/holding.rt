@@ -10,6 +10,7 @@ use causal_name::Det;
 use causal_trace::entry::Entry;
 
 /// Who holds the determinant after an entry that mentions it.
+#[inline(always)]
 fn holders_mentioned(holders: Holders, entry: &Entry, det: Det) -> Holders
     ensures { ShowsHoldersAfter (has (mentioned_by entry.now) det ≡ true) entry.now det holders result }
 {
@@ -22,6 +23,7 @@ fn holders_mentioned(holders: Holders, entry: &Entry, det: Det) -> Holders
 }
 
 /// Who holds the determinant after an entry that does not mention it.
+#[inline(always)]
 fn holders_unmentioned(holders: Holders, entry: &Entry, det: Det) -> Holders
     ensures { ShowsHoldersAfter (has (mentioned_by entry.now) det ≡ false) entry.now det holders result }
 {
@@ -32,6 +34,7 @@ fn holders_unmentioned(holders: Holders, entry: &Entry, det: Det) -> Holders
 }
 
 /// Who holds the determinant after one more entry, which mentions it or does not: its list is not searched.
+#[inline(always)]
 pub fn holders_after(holders: Holders, entry: &Entry, det: Det, mentioned: bool) -> Holders
     ensures { ShowsHoldersAfter (mentioned ≡ has (mentioned_by entry.now) det) entry.now det holders result }
 {
