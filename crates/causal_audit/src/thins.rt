@@ -4,7 +4,7 @@ ghost use Rattle.causal_name.specs.declared.Det.{Det};
 ghost use Rattle.causal_trace.specs.declared.entry.Entry.{Entry};
 ghost use Rattle.causal_trace.specs.Limits.{max_entries};
 ghost use Rattle.causal_audit.specs.Inside.Looks.{IsLook, IsPassed};
-ghost use Rattle.causal_audit.specs.Inside.Thins.{AreFound, AreRising, AreThins, IsInOne, MayBeOpen};
+ghost use Rattle.causal_audit.specs.Inside.Thins.{AreFound, AreRising, AreThins, EndsBy, MayBeOpen};
 
 use crate::budget::Budget;
 use crate::look::Look;
@@ -72,7 +72,7 @@ impl Thins {
     /// The last instant up to `bound` at which the determinant may be bare; 0 where there is none.
     fn last_bare(&self, bound: u32) -> u32
         ensures bound { result ≤ bound }
-        ensures last { AreRising self.now.bare.items → (u : ℕ) → u ≤ bound → IsInOne self.now.bare.items u → u ≤ result }
+        ensures last { EndsBy self.now.bare.items bound result }
     {
         let passed = self.bare.partition_point(|stretch| stretch.first <= bound);
         if passed == 0 {

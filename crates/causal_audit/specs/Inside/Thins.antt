@@ -18,6 +18,10 @@ pub record AreRising (stretches : List Stretch) : Type 0 where
   pub firsts : IsNonDecreasingBy (λ (s : Stretch). s.first) stretches
   pub lasts : IsNonDecreasingBy (λ (s : Stretch). s.last) stretches
 
+-- where the stretches ascend, no instant up to `bound` that lies in one of them comes after `last`
+abbrev pub EndsBy : List Stretch → ℕ → ℕ → Type 0
+EndsBy stretches bound last = AreRising stretches → (u : ℕ) → u ≤ bound → IsInOne stretches u → u ≤ last
+
 -- of the instants after the first mention and before t, d is thin at none after the last one that was found, and bare only in
 -- the stretches, which ascend up to t
 pub record AreThins (n most : ℕ) (past : List Entry) (d : Det) (t : ℕ) (thins : Thins) : Type 0 where
