@@ -85,6 +85,18 @@ def shown_by(program, word, trace, f):
     return subprocess.run([program, word, "--faults", str(f)], input=bytes_of(trace), capture_output=True).stdout
 
 
+def closest(text, f):
+    """What `explain` has to tell below the verdict of a trace that is accepted for f, up to its sentence: of the least number of
+    faults for which the plain model finds an orphan, the lines of the delivery and of the last entry before the instant."""
+    for g in range(f + 1, traces.read(text).n + 1):
+        words = traces.audited(text, g)[0].split()
+        if words[0] == "orphan":
+            told = dict(word.split("=") for word in words[1:])
+            line, last = int(told["delivery"]) + 2, int(told["instant"]) + 1
+            return f"closest faults={g} line={line} until={last} orphan={told['orphan']}"
+    return "closest faults=-"
+
+
 def main():
     given = argparse.ArgumentParser(description=__doc__.split("\n\n")[0])
     given.add_argument("--program")
@@ -97,7 +109,12 @@ def main():
             ended = subprocess.run([program, "audit", "--faults", str(f)], input=text, capture_output=True)
             answers["program"] = ended.stdout.decode().rstrip("\n"), ended.returncode
             ended = subprocess.run([program, "explain", "--faults", str(f)], input=text, capture_output=True)
-            answers["program's first line of why"] = ended.stdout.decode().split("\n")[0], ended.returncode
+            told = ended.stdout.decode().split("\n")
+            answers["program's first line of why"] = told[0], ended.returncode
+            count += status == 0
+            if status == 0 and told[1].split(":")[0] != closest(text, f):
+                wrong += 1
+                print(f"{trace} for {f}: {closest(text, f)!r} by the model, the program says {told[1]!r}")
         for who, said in answers.items():
             count += 1
             if said != (answer, status):

@@ -1,6 +1,8 @@
 mod ChainLemmas
+mod ClosestLemmas
 mod ComingLemmas
 mod EachLemmas
+mod NumberLemmas
 mod OrphanLemmas
 mod SinceLemmas
 mod StandingLemmas

@@ -1,4 +1,5 @@
 pub mod Chains
+pub mod Closest
 pub mod Explanations
 pub mod Inside
 pub mod Since

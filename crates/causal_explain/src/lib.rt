@@ -3,6 +3,7 @@
 #![tactic(auto)]
 
 pub mod chain;
+pub mod closest;
 pub mod down;
 pub mod explaining;
 pub mod explanation;
@@ -11,6 +12,7 @@ mod standing;
 mod ways;
 
 pub use chain::shortest_chain;
+pub use closest::{Closest, closest_failure};
 pub use down::down_since;
 pub use explaining::explain;
 pub use explanation::{Down, Explanation, Holding, Loss};

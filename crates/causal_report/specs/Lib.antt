@@ -3,6 +3,7 @@ pub mod Places
 pub mod Events
 pub mod Excesses
 pub mod Chains
+pub mod Closest
 pub mod Explanations
 pub mod Reasons
 pub mod Drawings

@@ -1,10 +1,12 @@
 //! Why a verdict on a recorded run is so: as text, one fact a line, with the lines of the trace's text, and as a picture.
 //!
-//! Begin at [`reason_text`] and [`drawing_of`]. The text is that of [`explanation_text`] for a delivery that has an orphan, and
-//! that of [`excess_text`] for too many processes that are down; both take time and memory as their texts are long.
+//! Begin at [`reason_text`] and [`drawing_of`]. The text is that of [`explanation_text`] for a delivery that has an orphan,
+//! that of [`excess_text`] for too many processes that are down, and that of [`closest_text`] for a trace that is accepted; each
+//! takes time and memory as its text is long.
 #![tactic(auto)]
 
 mod chain;
+pub mod closest;
 pub mod drawing;
 mod event;
 pub mod excess;
@@ -12,6 +14,7 @@ pub mod explained;
 mod place;
 pub mod reason;
 
+pub use closest::closest_text;
 pub use drawing::drawing_of;
 pub use excess::excess_text;
 pub use explained::explanation_text;

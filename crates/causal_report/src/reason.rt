@@ -1,27 +1,37 @@
 //! Why a verdict on a trace is so, as text.
-ghost use Rattle.std.specs.Prelude.{◌≡◌, ℕ, IfOk};
+ghost use Rattle.std.specs.Prelude.{IfOk};
 ghost use Rattle.causal_audit.specs.Verdicts.{IsVerdict};
 ghost use Rattle.causal_report.specs.Reasons.{IsReason};
 
+use crate::closest::closest_text;
 use crate::excess::excess_text;
 use crate::explained::explanation_text;
 use causal_audit::{Breach, Verdict};
-use causal_explain::{down_since, explain};
+use causal_explain::{closest_failure, down_since, explain};
 use causal_name::NoMemory;
 use causal_trace::trace::Trace;
 use std::alloc::Global;
 
-/// What tells why the verdict on a trace is so: of more than f processes that are down each, with the line since which it
-/// is; of a delivery with an orphan how it comes to have it. Of a trace that is accepted there is nothing to tell.
+/// What tells why the verdict on a trace for f is so: of more than f processes that are down each, with the line since
+/// which it is; of a delivery with an orphan how it comes to have it; of a trace that is accepted which delivery comes
+/// closest to failing, and so for which greater numbers of faults it would be accepted.
 ///
 /// # Errors
 /// `NoMemory` where memory was refused.
-pub fn reason_text(alloc: Global, trace: &Trace, verdict: Verdict) -> Result<Vec<u8>, NoMemory>
-    requires { (f : ℕ) × IsVerdict trace.now.recording f verdict }
+pub fn reason_text(
+    alloc: Global,
+    trace: &Trace,
+    f: u16,
+    verdict: Verdict,
+) -> Result<Vec<u8>, NoMemory>
+    requires { IsVerdict trace.now.recording f verdict }
     ensures { IfOk result (λ text. IsReason trace.now.recording verdict text.items) }
 {
     match verdict {
-        Verdict::Accept => Ok(Vec::new(alloc)),
+        Verdict::Accept => {
+            let closest = closest_failure(alloc, trace, f)?;
+            closest_text(alloc, closest)
+        }
         Verdict::Exceeded { instant, .. } => {
             let down = down_since(alloc, trace, instant)?;
             excess_text(alloc, down.as_slice())

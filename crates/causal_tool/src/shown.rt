@@ -154,7 +154,7 @@ fn reasoned(alloc: Global, trace: &Trace, f: u16, judged: &Judged) -> Result<Vec
     ensures { IfOk result (λ text. IsShowing View.Reason trace.now.recording f judged.now text.items) }
 {
     let mut text = verdict_line(alloc, f, judged)?;
-    let reason = reason_text(alloc, trace, judged.verdict)?;
+    let reason = reason_text(alloc, trace, f, judged.verdict)?;
     text.extend_from_slice(reason.as_slice())?;
     Ok(text)
 }

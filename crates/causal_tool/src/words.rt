@@ -84,6 +84,8 @@ Example:
 /// What the help of `explain` says after its options.
 const REASONS: &str = "\
 Answers on standard output: the line that `audit` prints, and below it, one fact a line,
+  for `accept`, the least number of faults for which a delivery has an orphan, that delivery and
+      its orphan
   for `exceeded`, of each process that is down the line of its crash
   for `orphan`, the delivery and its determinant, who has that in its log and who lost it, who
       is down, the chain of events by which the orphan comes to depend on the delivery, and

@@ -17,7 +17,7 @@ struct Reason {
     out: &'static str,
 }
 
-const REASONS: [Reason; 5] = [
+const REASONS: [Reason; 9] = [
     Reason {
         name: "a message passed on without its past",
         text: r#"["trace",1,3]
@@ -92,10 +92,63 @@ down process=2 line=4: process 2 is down since its crash at line 4
 "#,
     },
     Reason {
-        name: "a ring that is safe",
+        name: "a ring that is safe for one more too",
         text: RING,
         f: 0,
-        out: "accept f=0 entries=6 deliveries=3\n",
+        out: "accept f=0 entries=6 deliveries=3\n\
+              closest faults=2 line=3 until=7 orphan=0: \
+              for f=2 the delivery of line 3 has an orphan, process 0, once line 7 is read; \
+              for a smaller f none has one\n",
+    },
+    Reason {
+        name: "the same, asked for all that it is safe for",
+        text: RING,
+        f: 1,
+        out: "accept f=1 entries=6 deliveries=3\n\
+              closest faults=2 line=3 until=7 orphan=0: \
+              for f=2 the delivery of line 3 has an orphan, process 0, once line 7 is read; \
+              for a smaller f none has one\n",
+    },
+    Reason {
+        name: "a ring of which a later delivery comes closer to failing",
+        text: r#"["trace",1,3]
+["send",0,1,0]
+["deliver",1,0,0,[[0,0,1,0]]]
+["send",1,2,0]
+["deliver",2,2,0,[[0,0,1,0],[1,0,2,0]]]
+["send",2,0,0]
+["deliver",0,4,0,[[1,0,2,0],[2,0,0,0]]]
+["send",0,1,1]
+["deliver",1,6,1,[[0,1,1,1]]]
+["end",8]
+"#,
+        f: 0,
+        out: "accept f=0 entries=8 deliveries=4\n\
+              closest faults=1 line=7 until=9 orphan=1: \
+              for f=1 the delivery of line 7 has an orphan, process 1, once line 9 is read; \
+              for a smaller f none has one\n",
+    },
+    Reason {
+        name: "determinants that go wherever their deliveries do",
+        text: r#"["trace",1,3]
+["send",0,1,0]
+["deliver",1,0,0,[[0,0,1,0]]]
+["send",1,2,0]
+["deliver",2,2,0,[[0,0,1,0],[1,0,2,0]]]
+["end",4]
+"#,
+        f: 1,
+        out: "accept f=1 entries=4 deliveries=2\n\
+              closest faults=-: no delivery has an orphan, whatever f is\n",
+    },
+    Reason {
+        name: "more faults than processes",
+        text: r#"["trace",1,1]
+["end",0]
+"#,
+        f: 65_535,
+        out: "accept f=65535 entries=0 deliveries=0\n\
+              closest faults=-: no delivery has an orphan, whatever f is\n",
     },
 ];
 
@@ -126,19 +179,22 @@ fn whole_reasons(rt: HostRuntime) {
     }
 }
 
-// The verdict's line comes first, as the audit prints it, and nothing else where the trace is accepted.
+// The verdict's line comes first, as the audit prints it. Just where the trace is accepted, what comes closest to
+// failing stands below it, and of these short ones it is told.
 #[test]
 fn the_verdict_first(rt: HostRuntime) {
     for judged in &JUDGED {
         for (f, line) in judged.lines {
             let (_, out) = shown(&rt, judged.text, *f, View::Reason);
             assert!(rt; out.starts_with(line.as_bytes()), "{}", judged.name);
+            let why = &out.as_slice()[line.len()..];
             assert_eq!(rt;
-                out.len() == line.len(),
+                why.starts_with(b"closest faults="),
                 line.starts_with("accept"),
                 "{}",
                 judged.name
             );
+            assert!(rt; !why.starts_with(b"closest faults=?"), "{}", judged.name);
         }
     }
 }

@@ -1,0 +1,120 @@
+-- Orphans for one number of faults and for another, and what a survey finds.
+use Rattle.std.proofs.Common.{ℕ, ◌≡◌, ◌<◌, ◌≤◌, inl, inr, Bool, true, List, length, Some, None, refl, arith}
+use Rattle.std.specs.Ordering.{nat_cmp}
+use Rattle.std.specs.FinSet.{FinSet, contains, len}
+use Rattle.std.proofs.lemmas.Bool.{cases_lt}
+use Rattle.causal_name.specs.Sets.{count_below}
+use Rattle.causal_holders.proofs.Lemmas.Counting.{count_below-le, members_counted}
+use Rattle.causal_trace.specs.declared.entry.Entry.{Entry}
+use Rattle.causal_trace.specs.Past.{instant, deliveries_in}
+use Rattle.causal_trace.specs.Rows.{Recording}
+use Rattle.causal_trace.specs.Judgement.{IsCrashSet, HasOrphan, IsSafeTrace}
+use Rattle.causal_audit.specs.declared.breach.Breach.{Breach}
+use Rattle.causal_audit.specs.declared.breach.Surveyed.{Surveyed}
+use Rattle.causal_audit.specs.declared.breach.Surveyed.TheVariants.{Told, TooMany}
+use Rattle.causal_audit.specs.Breaches.{IsLeastBreach, IsSurveyed}
+use Rattle.causal_explain.specs.declared.closest.Closest.{Closest}
+use Rattle.causal_explain.specs.declared.closest.Closest.TheVariants.{Never, At, Untold}
+use Rattle.causal_explain.specs.Closest.{HasNoOrphan, IsClosest, Leaves}
+use Rattle.causal_explain.specs.Inside.Narrowing.{Finds}
+use Rattle.causal_explain.proofs.NumberLemmas.{has_number}
+use Rattle.causal_explain.proofs.OrphanLemmas.{delivered_in}
+
+-- a crash set is one for more faults
+crash_more : (n f g : ℕ) (past : List Entry) (crash : ℕ → Bool) → f ≤ g → IsCrashSet n f past crash → IsCrashSet n g past crash
+crash_more n f g past crash more h = record { down = h.down; few = omega (arith, h.few, more) }
+
+-- an orphan is one for more faults
+orphan_more : (n f g : ℕ) (past : List Entry) (k : ℕ) → f ≤ g → HasOrphan n f past k → HasOrphan n g past k
+orphan_more n f g past k more h =
+    record { crash = h.crash; orphan = h.orphan; may_crash = crash_more n f g past h.crash more h.may_crash; is_orphan = h.is_orphan }
+
+-- and for as many as there are processes
+orphan_all : (n f : ℕ) (past : List Entry) (k : ℕ) → HasOrphan n f past k → HasOrphan n n past k
+orphan_all n f past k h =
+    record { crash = h.crash; orphan = h.orphan; may_crash = record { down = h.may_crash.down; few = count_below-le n h.crash }; is_orphan = h.is_orphan }
+
+-- where none has one for some number, none has one for a smaller number
+pub none_fewer : (r : Recording) (f g : ℕ) → f ≤ g → HasNoOrphan r g → HasNoOrphan r f
+none_fewer r f g fewer none k t within has = none k t within (orphan_more r.processes f g (instant r.past t) k fewer has)
+
+-- where none has one for as many as there are processes, none ever has
+pub none_ever : (r : Recording) → HasNoOrphan r r.processes → (f : ℕ) → HasNoOrphan r f
+none_ever r none f k t within has = none k t within (orphan_all r.processes f (instant r.past t) k has)
+
+-- where a run is safe, none has one
+pub safe_none : (r : Recording) (f : ℕ) → IsSafeTrace r f → HasNoOrphan r f
+safe_none r f safe k t within has = (safe t within).no_orphan k has
+
+-- and where none has one for a greater number, the run is safe for that too
+safe_more : (r : Recording) (f g : ℕ) → IsSafeTrace r f → f ≤ g → HasNoOrphan r g → IsSafeTrace r g
+safe_more r f g safe more none t within = record { few_down = omega (arith, (safe t within).few_down, more); no_orphan = λ k. none k t within }
+
+-- a breach is no end of safety where fewer may crash than its number
+breached : (r : Recording) (faults : ℕ) (b : Breach) → IsLeastBreach r faults 0 (deliveries_in r.past) b → (g : ℕ) → faults ≤ g → HasNoOrphan r g → ⊥
+breached r faults b h g more none =
+    let least = h.first.least in
+    none b.delivery b.instant h.first.within
+    (orphan_more r.processes faults g (instant r.past b.instant) b.delivery more
+    (record { crash = contains b.crash; orphan = b.orphan; may_crash = least.may_crash; is_orphan = least.is_orphan }))
+
+-- what the closest failure leaves to safety
+pub leaves : (r : Recording) (f : ℕ) → IsSafeTrace r f → (c : Closest) → IsClosest r c → Leaves r f c
+leaves r f safe Never h = λ g more. safe_more r f g safe more (h g)
+leaves r f safe Untold h = tt
+leaves r f safe (At faults breach) h =
+    let never : (g : ℕ) → faults ≤ g → HasNoOrphan r g → ⊥ = breached r faults breach h.least in (
+      elim (cases_lt f faults) [ inl low ↦ low | inr high ↦ absurd (never f high (safe_none r f safe)) ],
+      λ g more. (
+        λ safe_then. elim (cases_lt g faults) [ inl low ↦ low | inr high ↦ absurd (never g high (safe_none r g safe_then)) ],
+        λ low. safe_more r f g safe more (h.fewer g low),
+      ),
+    )
+
+counted : (n : ℕ) (c : FinSet nat_cmp) → ((q : ℕ) → contains c q ≡ true → q < n) → len c ≡ count_below n (contains c)
+counted n c inside = members_counted n c (contains c) (record { process = inside; member = λ p below. refl })
+
+-- a least breach is one for as many faults as its crash set has processes
+by_itself : (r : Recording) (g : ℕ) (b : Breach) → IsLeastBreach r g 0 (deliveries_in r.past) b → (len b.crash ≤ g) × IsLeastBreach r (len b.crash) 0 (deliveries_in r.past) b
+by_itself r g b h =
+    let n = r.processes in
+    let f = len b.crash in
+    let least = h.first.least in
+    let same : len b.crash ≡ count_below n (contains b.crash) = counted n b.crash least.process in
+    let fewer : f ≤ g = omega (arith, same, least.may_crash.few) in (
+      fewer,
+      record {
+        number = h.number;
+        least_from = h.least_from;
+        below_to = h.below_to;
+        numbered = h.numbered;
+        first = record {
+          within = h.first.within;
+          delivery = h.first.delivery;
+          before = λ t early has. h.first.before t early (orphan_more n f g (instant r.past t) b.delivery fewer has);
+          least = record {
+            process = least.process;
+            may_crash = record { down = least.may_crash.down; few = omega (arith, same) };
+            is_orphan = least.is_orphan;
+            least_set = λ other q may is. least.least_set other q (crash_more n f g (instant r.past b.instant) other fewer may) is;
+            least_orphan = least.least_orphan;
+          };
+        };
+        least = λ i k t low high numbered in_time has. h.least i k t low high numbered in_time (orphan_more n f g (instant r.past t) k fewer has);
+      },
+    )
+
+-- what a survey tells of a breach is found, up to whichever instant it looks
+pub finds_breach : (r : Recording) (f end : ℕ) (b : Breach) → f < 65536 → IsSurveyed r f end (Told (Some b)) → Finds r f (Told (Some b))
+finds_breach r f end b small told =
+    let itself = by_itself r f b told.1 in
+    (itself.0, record { few = omega (arith, itself.0, small); least = itself.1 })
+
+-- and what a survey of the whole run tells is
+pub finds : (r : Recording) (f : ℕ) (told : Surveyed) → f < 65536 → IsSurveyed r f (length r.past) told → Finds r f told
+finds r f (Told None) small none = λ k t within has.
+    let at = delivered_in r.past t k has.is_orphan.det within has.is_orphan.delivered in
+    let n = has_number r.past k has.is_orphan.det at in
+    none n.0 k t (omega arith) n.1 n.2 within has
+finds r f (Told (Some b)) small told = finds_breach r f (length r.past) b small told
+finds r f TooMany small told = tt

@@ -1,0 +1,48 @@
+-- A delivery has a number among the deliveries.
+use Rattle.std.proofs.Common.{ℕ, ◌≡◌, ◌+◌, ◌<◌, ◌≤◌, inl, inr, true, List, [], ◌∷◌, length, Some, None, refl, sym, ◌∙◌, arith}
+use Rattle.std.specs.Prelude.{◌==◌}
+use Rattle.std.proofs.lemmas.Bool.{false≢true, cond-true, cond-false}
+use Rattle.std.proofs.lemmas.Bool.Decides.{eqb_tells}
+use Rattle.causal_name.specs.declared.Det.{Det}
+use Rattle.causal_trace.specs.declared.entry.Entry.{Entry}
+use Rattle.causal_trace.specs.declared.entry.Entry.TheVariants.{Send, Deliver, Stable, Crash, Restart, Forget}
+use Rattle.causal_trace.specs.Past.{det_at, det_of, deliveries_in}
+use Rattle.causal_audit.specs.Numbers.{is_delivery, IsNumbered}
+
+-- an entry with a determinant is a delivery
+delivers : (past : List Entry) (e : Entry) (d : Det) → det_of past e ≡ Some d → is_delivery e ≡ true
+delivers past (Send from to ssn) d h = absurd (let x : None ≡ Some d = h in cc)
+delivers past (Deliver to send rsn listed) d h = refl
+delivers past (Stable det) d h = absurd (let x : None ≡ Some d = h in cc)
+delivers past (Crash who) d h = absurd (let x : None ≡ Some d = h in cc)
+delivers past (Restart who listed) d h = absurd (let x : None ≡ Some d = h in cc)
+delivers past (Forget who listed) d h = absurd (let x : None ≡ Some d = h in cc)
+
+one_more : (e : Entry) (past : List Entry) → is_delivery e ≡ true → deliveries_in (e ∷ past) ≡ deliveries_in past + 1
+one_more (Send from to ssn) past h = absurd (false≢true h)
+one_more (Deliver to send rsn listed) past h = refl
+one_more (Stable det) past h = absurd (false≢true h)
+one_more (Crash who) past h = absurd (false≢true h)
+one_more (Restart who listed) past h = absurd (false≢true h)
+one_more (Forget who listed) past h = absurd (false≢true h)
+
+no_fewer : (e : Entry) (past : List Entry) → deliveries_in past ≤ deliveries_in (e ∷ past)
+no_fewer (Send from to ssn) past = omega arith
+no_fewer (Deliver to send rsn listed) past = omega arith
+no_fewer (Stable det) past = omega arith
+no_fewer (Crash who) past = omega arith
+no_fewer (Restart who listed) past = omega arith
+no_fewer (Forget who listed) past = omega arith
+
+-- what has a determinant has a number
+pub has_number : (past : List Entry) (k : ℕ) (d : Det) → det_at past k ≡ Some d → (i : ℕ) × (i < deliveries_in past) × IsNumbered past i k
+has_number [] k d at = absurd (let x : None ≡ Some d = at in cc)
+has_number (e ∷ past) k d at =
+    elim (eqb_tells k (length past)) [
+      | inl here ↦
+          let is : is_delivery e ≡ true = delivers past e d (sym (cond-true (k == length past) (det_of past e) (det_at past k) here.0) ∙ at) in
+          (deliveries_in past, omega (arith, one_more e past is), inr (here.1, is, refl))
+      | inr there ↦
+          let old : (i : ℕ) × (i < deliveries_in past) × IsNumbered past i k = has_number past k d (sym (cond-false (k == length past) (det_of past e) (det_at past k) there.0) ∙ at) in
+          (old.0, omega (arith, old.1, no_fewer e past), inl old.2)
+    ]

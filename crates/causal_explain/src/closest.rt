@@ -1,0 +1,97 @@
+//! Which delivery of a run comes closest to failing, as more processes may be down at once.
+ghost use Rattle.std.specs.Prelude.{◌≡◌, ◌<◌, IfOk};
+ghost use Rattle.std.specs.FinSet.{len};
+ghost use Rattle.causal_trace.specs.Judgement.{IsSafeTrace};
+ghost use Rattle.causal_explain.specs.Closest.{HasNoOrphan, IsClosest, Leaves};
+ghost use Rattle.causal_explain.specs.Inside.Narrowing.{Finds, FailsByItself};
+
+use causal_audit::{Breach, Surveyed, least_surveyed};
+use causal_name::NoMemory;
+use causal_trace::trace::Trace;
+use std::alloc::Global;
+
+/// How many of the first entries are looked at before the others: a run that fails for as many faults as it has
+/// processes mostly does so among them.
+const BEGINNING: u32 = 4_096;
+
+/// Which delivery of a run comes closest to failing. A delivery fails for so many faults where it has an orphan at
+/// some instant, under a crash set of at most so many processes.
+#[derive(Clone, Copy, Debug, PartialEq, Eq)]
+pub enum Closest {
+    /// No delivery fails, for any number of faults.
+    Never,
+    /// `faults` is the least number of faults for which a delivery fails, and of those that fail for it this is the
+    /// first, by instant and then by position.
+    At { faults: u16, breach: Breach },
+    /// Too many deliveries would have to be looked at one by one; nothing is known.
+    Untold,
+}
+
+/// Which delivery of a run that is safe for f comes closest to failing, and so for which greater numbers of faults the
+/// run is safe too.
+///
+/// At most ten surveys of the run tell it (`causal_audit::least_surveyed`), often one of its first 4,096 entries alone.
+///
+/// # Errors
+/// `NoMemory` where memory was refused.
+pub fn closest_failure(alloc: Global, trace: &Trace, f: u16) -> Result<Closest, NoMemory>
+    requires { IsSafeTrace trace.now.recording f }
+    ensures closest { IfOk result (IsClosest trace.now.recording) }
+    ensures safe { IfOk result (Leaves trace.now.recording f) }
+{
+    // More faults than there are processes allow no more crash sets.
+    match found_early(alloc, trace, trace.processes())? {
+        Surveyed::Told(None) => Ok(Closest::Never),
+        Surveyed::Told(Some(breach)) => narrowed(alloc, trace, f, breach),
+        Surveyed::TooMany => Ok(Closest::Untold),
+    }
+}
+
+/// What a survey of the whole run finds.
+fn found(alloc: Global, trace: &Trace, f: u16) -> Result<Surveyed, NoMemory>
+    ensures { IfOk result (Finds trace.now.recording f) }
+{
+    least_surveyed(alloc, trace, f, trace.len())
+}
+
+/// What is found by a survey of the first entries, or else of the whole run.
+fn found_early(alloc: Global, trace: &Trace, f: u16) -> Result<Surveyed, NoMemory>
+    ensures { IfOk result (Finds trace.now.recording f) }
+{
+    let beginning = BEGINNING.min(trace.len());
+    match least_surveyed(alloc, trace, f, beginning)? {
+        Surveyed::Told(Some(breach)) => Ok(Surveyed::Told(Some(breach))),
+        _ => found(alloc, trace, f),
+    }
+}
+
+/// How many processes are in the crash set of a breach.
+fn faults_of(breach: &Breach) -> u16
+    requires { len breach.now.crash < 65536 }
+    ensures { result ≡ len breach.now.crash }
+{
+    breach.crash.len() as u16
+}
+
+/// The closest failure, where no delivery fails for f and a breach is known. The least number of faults is above f and
+/// at most that of the breach's crash set, and each survey halves what lies between.
+fn narrowed(alloc: Global, trace: &Trace, f: u16, breach: Breach) -> Result<Closest, NoMemory>
+    requires none { HasNoOrphan trace.now.recording f }
+    requires fails { FailsByItself trace.now.recording breach }
+    ensures { IfOk result (IsClosest trace.now.recording) }
+{
+    let mut low = u32::from(f);
+    let mut least = breach;
+    while low + 1 < least.crash.len() {
+        let middle = low + (least.crash.len() - low) / 2;
+        match found(alloc, trace, middle as u16)? {
+            Surveyed::Told(None) => low = middle,
+            Surveyed::Told(Some(earlier)) => least = earlier,
+            Surveyed::TooMany => return Ok(Closest::Untold),
+        }
+    }
+    Ok(Closest::At {
+        faults: faults_of(&least),
+        breach: least,
+    })
+}

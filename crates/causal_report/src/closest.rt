@@ -1,0 +1,81 @@
+//! Which delivery comes closest to failing, as text.
+ghost use Rattle.std.specs.Prelude.{◌≡◌, OnOk, IfOk};
+ghost use Rattle.causal_report.specs.Inside.Added.{Adds};
+ghost use Rattle.causal_report.specs.Closest as told;
+
+use crate::place::{line_at, line_before};
+use causal_audit::Breach;
+use causal_explain::Closest;
+use causal_name::NoMemory;
+use std::alloc::{AllocError, Global};
+
+/// A line that tells which delivery of a run comes closest to failing: for how many faults, the lines of the delivery
+/// and of the last entry before the instant, and the orphan; or that none ever fails, or that it is not told.
+///
+/// # Errors
+/// `NoMemory` where memory was refused.
+pub fn closest_text(alloc: Global, closest: Closest) -> Result<Vec<u8>, NoMemory>
+    ensures { IfOk result (λ text. text.items ≡ told.closest_text closest) }
+{
+    let mut out = String::new(alloc);
+    push_closest(&mut out, closest)?;
+    Ok(out.into_bytes())
+}
+
+fn push_closest(out: &mut String, closest: Closest) -> Result<(), AllocError>
+    ensures { OnOk result (Adds out.old out.new (told.closest_text closest)) }
+{
+    match closest {
+        Closest::Never => push_never(out),
+        Closest::At { faults, breach } => push_failure(out, faults, &breach),
+        Closest::Untold => push_untold(out),
+    }
+}
+
+#[tactic(auto, unfolding(crate::specs::Closest::never_line))]
+fn push_never(out: &mut String) -> Result<(), AllocError>
+    ensures { OnOk result (Adds out.old out.new told.never_line) }
+{
+    out.push_str("closest faults=-: no delivery has an orphan, whatever f is\n")
+}
+
+#[tactic(auto, unfolding(crate::specs::Closest::untold_line))]
+fn push_untold(out: &mut String) -> Result<(), AllocError>
+    ensures { OnOk result (Adds out.old out.new told.untold_line) }
+{
+    out.push_str(
+        "closest faults=?: not told, since too many deliveries would have to be looked at one by one\n",
+    )
+}
+
+fn push_failure(out: &mut String, faults: u16, breach: &Breach) -> Result<(), AllocError>
+    ensures { OnOk result (Adds out.old out.new (told.failure_line faults breach.now)) }
+{
+    push_words(out, faults, breach)?;
+    push_sentence(out, faults, breach)
+}
+
+fn push_words(out: &mut String, faults: u16, breach: &Breach) -> Result<(), AllocError>
+    ensures { OnOk result (Adds out.old out.new (told.failure_words faults breach.now)) }
+{
+    let line = line_at(breach.delivery);
+    let last = line_before(breach.instant);
+    let orphan = breach.orphan;
+    write!(
+        out,
+        "closest faults={faults} line={line} until={last} orphan={orphan}: "
+    )
+}
+
+fn push_sentence(out: &mut String, faults: u16, breach: &Breach) -> Result<(), AllocError>
+    ensures { OnOk result (Adds out.old out.new (told.failure_sentence faults breach.now)) }
+{
+    let line = line_at(breach.delivery);
+    let last = line_before(breach.instant);
+    let orphan = breach.orphan;
+    write!(
+        out,
+        "for f={faults} the delivery of line {line} has an orphan, process {orphan}, once line {last} is read; \
+         for a smaller f none has one\n"
+    )
+}
