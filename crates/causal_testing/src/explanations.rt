@@ -1,12 +1,13 @@
 //! What tells why a random run has an orphan, beside plain programs that read the entries over for each answer.
-ghost use Rattle.std.specs.Prelude.{◌≡◌, ℕ, IfOk};
+ghost use Rattle.std.specs.Prelude.{◌≡◌, ◌≤◌, ℕ, IfOk, length};
 ghost use Rattle.causal_audit.specs.Verdicts.{IsVerdict};
+ghost use Rattle.causal_audit.specs.declared.verdict.Verdict.{Verdict};
 
 mod plain;
 
 use crate::random_audits::{Walk, trace_of};
 use causal_audit::{Breach, Tables, Verdict, judge, least_between};
-use causal_explain::{Down, Explanation, Holding, Loss, explain};
+use causal_explain::{Down, Explanation, Holding, Loss, down_since, explain, shortest_chain};
 use causal_holders::Holders;
 use causal_name::{Det, NoMemory};
 use causal_trace::entry::Entry;
@@ -16,11 +17,12 @@ use plain::{Question, Way, answered, det_at, fewest, first_lacking, is_stable, l
 use std::alloc::Global;
 use std::test::Fail;
 
-/// How many orphans were explained, and how many of the explanations are wrong; how many chains have more than two
-/// events, how many processes lost a determinant, and how often each delivery of the chain lists it.
+/// How many orphans were explained, how often too many were down, and how much of what is told is wrong; how many chains have
+/// more than two events, how often a process lost a determinant, and how often each delivery of the chain lists it.
 #[derive(Clone, Copy)]
 struct Counts {
     explained: u32,
+    exceeded: u32,
     wrong: u32,
     long: u32,
     lost: u32,
@@ -29,6 +31,7 @@ struct Counts {
 
 const NONE: Counts = Counts {
     explained: 0,
+    exceeded: 0,
     wrong: 0,
     long: 0,
     lost: 0,
@@ -76,22 +79,25 @@ fn tells_logs(
 }
 
 /// Whether those that are down are told, each with its last crash.
-fn tells_down(
-    alloc: Global,
-    entries: &[Entry],
-    n: u16,
-    told: &Explanation,
-) -> Result<bool, NoMemory> {
+fn tells_down(alloc: Global, entries: &[Entry], n: u16, told: &[Down]) -> Result<bool, NoMemory> {
     let down = answered(alloc, Question::IsDown, entries, n, true)?;
-    Ok(are_down(told.down.as_slice(), down.as_slice()))
+    Ok(are_down(told, down.as_slice()))
+}
+
+/// Whether a chain of the fewest events is told, or that there is none.
+fn is_shortest(alloc: Global, way: Way<'_>, told: Option<&[u32]>) -> Result<bool, NoMemory> {
+    let events = fewest(alloc, way)?;
+    Ok(match told {
+        Some(chain) => leads(way, chain) && events == Some(chain.len()),
+        None => events.is_none(),
+    })
 }
 
 /// Whether a chain of the fewest events leads from the delivery to the orphan's present lane.
 fn tells_chain(alloc: Global, entries: &[Entry], told: &Explanation) -> Result<bool, NoMemory> {
     let lanes = lanes_of(alloc, entries)?;
     let way = Way::new(entries, lanes.as_slice(), told.delivery, told.orphan);
-    let chain = told.chain.as_slice();
-    Ok(leads(way, chain) && fewest(alloc, way)? == Some(chain.len()))
+    is_shortest(alloc, way, Some(told.chain.as_slice()))
 }
 
 /// The least crash set under which nobody has the determinant: those that hold it and those that are down.
@@ -126,7 +132,7 @@ fn is_right(alloc: Global, trace: &Trace, told: &Explanation) -> Result<bool, No
     Ok(
         tells_loss(entries, told)
             && tells_logs(alloc, entries, n, told)?
-            && tells_down(alloc, entries, n, told)?
+            && tells_down(alloc, entries, n, told.down.as_slice())?
             && tells_chain(alloc, entries, told)?,
     )
 }
@@ -176,7 +182,40 @@ fn verdict_on(alloc: Global, trace: &Trace, f: u16) -> Result<Verdict, NoMemory>
     Ok(judge(&tables, f))
 }
 
-/// Explains the verdict, if it is an orphan.
+/// Tells who is down at an instant, and compares it with these and with what the plain programs say.
+fn down_explained(
+    alloc: Global,
+    trace: &Trace,
+    instant: u32,
+    down: Holders,
+    counts: &mut Counts,
+) -> Result<(), NoMemory>
+    requires { instant ≤ length trace.now.recording.past }
+{
+    let told = down_since(alloc, trace, instant)?;
+    let entries = trace.entries().get(..instant as usize).unwrap_or(&[]);
+    let right = least_crash_set(&[], told.as_slice()) == down
+        && tells_down(alloc, entries, trace.processes(), told.as_slice())?;
+    counts.exceeded = counts.exceeded.saturating_add(1);
+    counts.wrong = counts.wrong.saturating_add(u32::from(!right));
+    Ok(())
+}
+
+/// Explains how a delivery has an orphan, and compares that with what the plain programs say.
+fn orphan_explained(
+    alloc: Global,
+    trace: &Trace,
+    breach: Breach,
+    counts: &mut Counts,
+) -> Result<(), NoMemory>
+    requires { (f : ℕ) × IsVerdict trace.now.recording f
+        (Verdict.Orphan breach.instant breach.delivery breach.crash breach.orphan) }
+{
+    let told = explain(alloc, trace, &breach)?;
+    compare(alloc, trace, &told, breach, counts)
+}
+
+/// Explains a verdict, if it is no acceptance.
 fn verdict_explained(
     alloc: Global,
     trace: &Trace,
@@ -185,23 +224,24 @@ fn verdict_explained(
 ) -> Result<(), NoMemory>
     requires { (f : ℕ) × IsVerdict trace.now.recording f verdict }
 {
-    let Verdict::Orphan {
-        instant,
-        delivery,
-        crash,
-        orphan,
-    } = verdict
-    else {
-        return Ok(());
-    };
-    let breach = Breach {
-        instant,
-        delivery,
-        crash,
-        orphan,
-    };
-    let told = explain(alloc, trace, &breach)?;
-    compare(alloc, trace, &told, breach, counts)
+    match verdict {
+        Verdict::Accept => Ok(()),
+        Verdict::Exceeded { instant, down } => down_explained(alloc, trace, instant, down, counts),
+        Verdict::Orphan {
+            instant,
+            delivery,
+            crash,
+            orphan,
+        } => {
+            let breach = Breach {
+                instant,
+                delivery,
+                crash,
+                orphan,
+            };
+            orphan_explained(alloc, trace, breach, counts)
+        }
+    }
 }
 
 /// Explains the verdicts on a trace for each f up to the greatest that is given.
@@ -253,6 +293,44 @@ fn breaches_explained(
     Ok(())
 }
 
+/// How many chains there are between events and processes, and between how many there is none, and how many answers are wrong.
+#[derive(Clone, Copy)]
+struct Chains {
+    some: u32,
+    none: u32,
+    wrong: u32,
+}
+
+/// Tells the shortest chain from an entry to a process's present lane at the end of a trace, and compares it.
+fn chain_compared(
+    alloc: Global,
+    trace: &Trace,
+    way: Way<'_>,
+    from: u32,
+    process: u8,
+    found: &mut Chains,
+) -> Result<(), NoMemory> {
+    let told = shortest_chain(alloc, trace, trace.len(), from, process)?;
+    let chain = told.as_ref().map(|chain| chain.as_slice());
+    let right = is_shortest(alloc, way, chain)?;
+    found.some = found.some.saturating_add(u32::from(chain.is_some()));
+    found.none = found.none.saturating_add(u32::from(chain.is_none()));
+    found.wrong = found.wrong.saturating_add(u32::from(!right));
+    Ok(())
+}
+
+/// The same of each entry of a trace and each of four processes.
+fn chains_compared(alloc: Global, trace: &Trace, found: &mut Chains) -> Result<(), NoMemory> {
+    let lanes = lanes_of(alloc, trace.entries())?;
+    for from in 0..trace.len() {
+        for process in 0..4 {
+            let way = Way::new(trace.entries(), lanes.as_slice(), from, process);
+            chain_compared(alloc, trace, way, from, process, found)?;
+        }
+    }
+    Ok(())
+}
+
 /// Random traces of n processes: the first that does something, how many traces, and after how many tries each.
 #[derive(Clone, Copy)]
 struct Sample {
@@ -289,13 +367,30 @@ fn breaches_of(alloc: Global, sample: Sample, f: u16) -> Result<Counts, TraceFau
     Ok(counts)
 }
 
+/// Tells the chains of these traces.
+fn chains_of(alloc: Global, sample: Sample) -> Result<Chains, TraceFault> {
+    let mut walk = Walk::new(sample.seed, sample.first);
+    let mut found = Chains {
+        some: 0,
+        none: 0,
+        wrong: 0,
+    };
+    for _ in 0..sample.traces {
+        let trace = trace_of(alloc, &mut walk, sample.n, sample.tries)?;
+        if chains_compared(alloc, &trace, &mut found).is_err() {
+            return Err(TraceFault::NoMemory);
+        }
+    }
+    Ok(found)
+}
+
 /// Whether enough orphans were explained, and enough of each kind.
 fn are_varied(counts: Counts) -> bool {
     counts.explained > 100 && counts.long > 20 && counts.lost > 50 && counts.listed > 30
 }
 
 #[test]
-fn each_orphan_is_explained(rt: HostRuntime) -> Result<(), Fail> {
+fn each_verdict_is_explained(rt: HostRuntime) -> Result<(), Fail> {
     for (n, seed) in [(2, 17), (3, 4_711), (4, 606)] {
         let sample = Sample {
             seed,
@@ -307,6 +402,7 @@ fn each_orphan_is_explained(rt: HostRuntime) -> Result<(), Fail> {
         let counts = verdicts_of(rt.alloc(), sample, n + 1)?;
         assert_eq!(rt; counts.wrong, 0, "with {n} processes");
         assert!(rt; are_varied(counts), "with {n} processes");
+        assert!(rt; counts.exceeded > 100, "with {n} processes");
     }
     Ok(())
 }
@@ -341,5 +437,20 @@ fn orphans_of_greater_processes_are_explained(rt: HostRuntime) -> Result<(), Fai
     let counts = verdicts_of(rt.alloc(), sample, 3)?;
     assert_eq!(rt; counts.wrong, 0);
     assert!(rt; counts.explained > 10);
+    Ok(())
+}
+
+#[test]
+fn each_chain_is_a_shortest_one(rt: HostRuntime) -> Result<(), Fail> {
+    let sample = Sample {
+        seed: 3,
+        first: 0,
+        n: 4,
+        traces: 30,
+        tries: 80,
+    };
+    let found = chains_of(rt.alloc(), sample)?;
+    assert_eq!(rt; found.wrong, 0);
+    assert!(rt; found.some > 500 && found.none > 500);
     Ok(())
 }

@@ -255,10 +255,11 @@ fn shows_from(
     let text = picture_of(alloc, trace, focus)?;
     let marks = beginnings(alloc, text.as_slice())?;
     let end = first.saturating_add(200).min(trace.len());
-    Ok(are_marks_of(alloc, marks.as_slice(), trace, first, end)?)
+    let shown = end.saturating_sub(first) as usize;
+    Ok(marks.len() == shown && are_marks_of(alloc, marks.as_slice(), trace, first, end)?)
 }
 
-/// The same of an instant, and of a chain that begins at this entry.
+/// The same, where the picture shows an instant and a chain too.
 fn shows_around(
     alloc: Global,
     trace: &Trace,
