@@ -446,11 +446,11 @@ fn each_chain_is_a_shortest_one(rt: HostRuntime) -> Result<(), Fail> {
         seed: 3,
         first: 0,
         n: 4,
-        traces: 30,
-        tries: 80,
+        traces: 20,
+        tries: 50,
     };
     let found = chains_of(rt.alloc(), sample)?;
     assert_eq!(rt; found.wrong, 0);
-    assert!(rt; found.some > 500 && found.none > 500);
+    assert!(rt; found.some > 100 && found.none > 500);
     Ok(())
 }
