@@ -23,6 +23,8 @@ SHAPES = {
     "orphaned": "256 processes, of which one depends on the first delivery, which nobody lists, from then on",
     "shared": "256 processes; nearly all lists name the same determinants, so that each is held in many lanes",
     "released": "a determinant is forgotten and listed in turn, while very many deliveries of it and others stand",
+    "forgotten": "256 processes; a message goes from each to the next one, and the last entry forgets the first delivery's determinant, "
+    "on which the last process depends by a chain over all",
 }
 LINES = {
     "objects": "one line of objects with an empty name",
@@ -176,6 +178,33 @@ def released(part, rng):
     return 2, entries
 
 
+def forgotten(part, rng):
+    """The last process sends to the one before it, which delivers and answers, so that both hold the determinant; from there a
+    message goes down to process 0, each list naming the delivery before it. Process 0 then delivers to itself, with long lists,
+    until the last process forgets."""
+    limit, left = MAX_ENTRIES // part, MAX_LISTED // part
+    n = min(256, limit // 4)
+    first, answer = (n - 1, 0, n - 2, 0), (n - 2, 0, n - 1, 0)
+    entries = [("send", n - 1, n - 2, 0), ("deliver", n - 2, 0, 0, [first], first)]
+    entries += [("send", n - 2, n - 1, 0), ("deliver", n - 1, 2, 0, [first, answer], answer)]
+    carried = []
+    for p in range(n - 2, 0, -1):
+        ssn = 1 if p == n - 2 else 0
+        det = (p, ssn, p - 1, 0)
+        entries.append(("send", p, p - 1, ssn))
+        entries.append(("deliver", p - 1, len(entries) - 1, 0, [*carried, det], det))
+        carried = [det]
+    left -= sum(len(entry[4]) for entry in entries if entry[0] == "deliver") + 1
+    rounds = (limit - 1 - len(entries)) // 2
+    dets = [(0, i, 0, i + 1) for i in range(rounds)]
+    for i, det in enumerate(dets):
+        listed = dets[max(0, i + 1 - max(1, left // (rounds - i))) : i + 1]
+        entries += [("send", 0, 0, i), ("deliver", 0, len(entries), i + 1, listed, det)]
+        left -= len(listed)
+    entries.append(("forget", n - 1, [first]))
+    return n, entries
+
+
 MAKERS = {
     "colliding": lambda part, rng: self_deliveries(part, rng, True),
     "scattered": lambda part, rng: self_deliveries(part, rng, False),
@@ -186,15 +215,18 @@ MAKERS = {
     "orphaned": orphaned,
     "shared": shared,
     "released": released,
+    "forgotten": forgotten,
 }
 
 
 def answer_of(shape, f, entries):
     """What the auditor has to answer, and the status with which it ends."""
-    if shape != "orphaned":
-        return generate.answer_of("safe", f, entries)
     first = generate.deliveries_of(entries)[0]
-    return f"orphan f={f} instant={first + 1} delivery={first} crash=- orphan={entries[first][1]}", 1
+    if shape == "orphaned":
+        return f"orphan f={f} instant={first + 1} delivery={first} crash=- orphan={entries[first][1]}", 1
+    if shape == "forgotten" and f == 1:
+        return f"orphan f={f} instant={len(entries)} delivery={first} crash={entries[first][1]} orphan=0", 1
+    return generate.answer_of("safe", f, entries)
 
 
 def text_of(n, entries):

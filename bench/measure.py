@@ -4,7 +4,6 @@
 Nothing here fails for being slow. The status is 1 where an answer is not the one that the generator foretells.
 """
 import argparse
-import concurrent.futures
 import os
 import platform
 import re
@@ -16,8 +15,10 @@ import time
 import generate
 import hostile
 import runtime_log
+from texts import make_inputs, path_of
 from measure_runtime import measure_runtime
-from timed import HERE, INPUTS, LIMIT, SLOW, measure, measure_in_turn, target_line
+from measure_shown import measure_shown
+from timed import HERE, INPUTS, LIMIT, SLOW, measure, measure_in_turn, ratio, target_line
 
 TOP = os.path.dirname(HERE)
 RESULTS = os.path.join(HERE, "RESULTS.md")
@@ -128,35 +129,6 @@ def plan():
     return rows
 
 
-def path_of(text):
-    return os.path.join(INPUTS, "-".join(map(str, text)).replace(" ", "_") + ".jsonl")
-
-
-def make_input(text):
-    shape, variant, f, seed = text
-    if variant == "hostile":
-        written, about = hostile.make(shape, f, 1, seed)
-    else:
-        written, about = generate.make(shape, variant, f, 1, seed)
-    with open(path_of(text[:3]), "w") as file:
-        file.write(written)
-    return text[:3], about
-
-
-def make_group(texts):
-    return [make_input(text) for text in texts]
-
-
-def make_inputs(rows, seed):
-    """The inputs, by two processes. Hostile texts of one shape are made by the same one, which makes them once."""
-    os.makedirs(INPUTS, exist_ok=True)
-    groups = {}
-    for text in dict.fromkeys((*row[:3], seed) for row in rows):
-        groups.setdefault(text[:2] if text[1] == "hostile" else text, []).append(text)
-    with concurrent.futures.ProcessPoolExecutor(2) as pool:
-        return dict(each for group in pool.map(make_group, groups.values()) for each in group)
-
-
 def output_of(command, otherwise):
     try:
         return subprocess.run(command, cwd=TOP, capture_output=True, text=True, check=True).stdout.strip()
@@ -255,11 +227,6 @@ def earlier_walls(this_machine):
 def own_size(about):
     """What a trace takes that is held as plainly as can be, in bytes: 40 for an entry and 12 for a listed determinant."""
     return 40 * about["entries"] + 12 * about["listed"]
-
-
-def ratio(measured, yardstick):
-    """How many times the yardstick's processor seconds a command takes; at least so many where it was stopped."""
-    return (LIMIT if measured.over else measured.least_processor()) / yardstick.least_processor()
 
 
 def worst(rows, value_of):
@@ -430,7 +397,9 @@ def facts_of(part, given, load, start):
         "Time taken": f"{time.monotonic() - start:.0f} s",
     }
     if part != "audit":
-        del facts["Yardsticks"], facts["Seed"]
+        del facts["Yardsticks"]
+    if part not in ("audit", "shown"):
+        del facts["Seed"]
     return "\n".join(f"- {name}: {value}" for name, value in facts.items())
 
 
@@ -444,16 +413,17 @@ def sections_there():
     return {name: text.strip("\n") for name, text in (part.split("\n", 1) for part in parts)}
 
 
-def earlier_runtime():
-    """The runtime's section that is there, if it is of such a machine."""
-    text = sections_there().get("Runtime", "")
+def earlier(name):
+    """The section that is there, if it is of such a machine."""
+    text = sections_there().get(name, "")
     return text if f"- Machine: {machine()}\n" in text else ""
 
 
-SECTIONS = {"runtime": "Runtime", "log": "The runtime's log", "audit": "Audit"}
+SECTIONS = {"runtime": "Runtime", "log": "The runtime's log", "shown": "Why a verdict is so", "audit": "Audit"}
 MEASURES = {
-    "runtime": lambda given, start: measure_runtime(given, earlier_runtime()),
+    "runtime": lambda given, start: measure_runtime(given, earlier("Runtime")),
     "log": lambda given, start: runtime_log.section(),
+    "shown": lambda given, start: measure_shown(given, earlier("Why a verdict is so")),
     "audit": measure_audit,
 }
 

@@ -115,6 +115,11 @@ def measure_in_turn(runs, is_met=lambda measured: True):
     return measured
 
 
+def ratio(measured, yardstick):
+    """How many times the yardstick's processor seconds a command takes; at least so many where it was stopped."""
+    return (LIMIT if measured.over else measured.least_processor()) / yardstick.least_processor()
+
+
 def target_line(name, value, bound, over=False):
     if value is None:
         return f"| {name} | {bound:.1f} | not measured | no |"

@@ -11,6 +11,8 @@ mod cores;
 #[cfg(test)]
 mod entries;
 #[cfg(test)]
+mod explanations;
+#[cfg(test)]
 mod holders;
 #[cfg(test)]
 mod logs;

@@ -1,12 +1,14 @@
 //! Pictures, read by a small reader of XML of these tests' own: whether each tag is closed where it has to be, whether each
-//! attribute is quoted, and how many entries have a mark.
+//! attribute is quoted, and which entries have a mark.
 use crate::random_audits::{Walk, trace_of};
 use crate::text::RING;
 use causal_holders::Holders;
+use causal_name::{Det, Pid};
 use causal_picture::{Focus, picture_of};
 use causal_text::read_trace;
+use causal_trace::entry::Entry;
 use causal_trace::trace::Trace;
-use std::alloc::Global;
+use std::alloc::{AllocError, Global};
 use std::test::Fail;
 
 /// Whether this stands between two quoted values, or before the first: blanks, letters and an equals sign, last.
@@ -141,6 +143,169 @@ fn random_traces_pictured(rt: HostRuntime) -> Result<(), Fail> {
         assert!(rt;
             is_pictured(rt.alloc(), &trace, Some(&focus))?,
             "seed {seed}"
+        );
+    }
+    Ok(())
+}
+
+/// Adds what the delivery of a message is called: the message is that of the entry at the position `send`.
+fn push_delivery(out: &mut String, trace: &Trace, to: Pid, send: u32) -> Result<(), AllocError> {
+    let Some(Entry::Send { from, ssn, .. }) = trace.entry(send) else {
+        return Ok(());
+    };
+    let (to, from) = (to.0, from.0);
+    write!(out, "process {to} delivers message {ssn} of process {from}")
+}
+
+/// Adds what the writing of a determinant to stable storage is called.
+fn push_stable(out: &mut String, det: Det) -> Result<(), AllocError> {
+    let (source, ssn, dest, rsn) = (det.source.0, det.ssn, det.dest.0, det.rsn);
+    write!(
+        out,
+        "delivery {rsn} of process {dest}, of message {ssn} of process {source}, is in stable storage"
+    )
+}
+
+/// Adds what an entry is called.
+fn push_words(out: &mut String, trace: &Trace, entry: &Entry) -> Result<(), AllocError> {
+    match entry {
+        Entry::Send {
+            from: Pid(from),
+            to: Pid(to),
+            ssn,
+        } => write!(out, "process {from} sends message {ssn} to process {to}"),
+        Entry::Deliver { to, send, .. } => push_delivery(out, trace, *to, *send),
+        Entry::Stable { det } => push_stable(out, *det),
+        Entry::Crash { who: Pid(who) } => write!(out, "process {who} crashes"),
+        Entry::Restart { who: Pid(who), .. } => write!(out, "process {who} restarts"),
+        Entry::Forget {
+            who: Pid(who),
+            listed,
+        } => {
+            let count = listed.as_slice().len();
+            write!(out, "process {who} forgets {count} determinants")
+        }
+    }
+}
+
+/// Adds the line with which the mark of the entry at a position begins: the header is line 1 of the trace's text, and the entry
+/// at position 0 line 2.
+fn push_beginning(out: &mut String, trace: &Trace, position: u32) -> Result<(), AllocError> {
+    let line = u64::from(position) + 2;
+    write!(out, "<g><title>line {line}: ")?;
+    if let Some(entry) = trace.entry(position) {
+        push_words(out, trace, entry)?;
+    }
+    out.push_str("</title>")
+}
+
+/// The lines of a picture with which the marks of entries begin.
+fn beginnings(alloc: Global, text: &[u8]) -> Result<Vec<&[u8]>, AllocError> {
+    let mut found = Vec::new(alloc);
+    for line in text.split(|byte| *byte == b'\n') {
+        if line.starts_with(b"<g><title>line ") {
+            found.push(line)?;
+        }
+    }
+    Ok(found)
+}
+
+/// How many of these marks have the title of the entry at a position.
+fn titled(
+    alloc: Global,
+    marks: &[&[u8]],
+    trace: &Trace,
+    position: u32,
+) -> Result<usize, AllocError> {
+    let mut beginning = String::new(alloc);
+    push_beginning(&mut beginning, trace, position)?;
+    Ok(
+        marks
+            .iter()
+            .filter(|mark| **mark == beginning.as_bytes())
+            .count(),
+    )
+}
+
+/// Whether just one of these marks has the title of each entry from a position on and below another, and none that of another
+/// entry.
+fn are_marks_of(
+    alloc: Global,
+    marks: &[&[u8]],
+    trace: &Trace,
+    first: u32,
+    end: u32,
+) -> Result<bool, AllocError> {
+    let mut right = true;
+    for position in 0..trace.len() {
+        let shown = first <= position && position < end;
+        let wanted = if shown { 1 } else { 0 };
+        right = titled(alloc, marks, trace, position)? == wanted && right;
+    }
+    Ok(right)
+}
+
+/// Whether the picture of a trace shows the entries from a position on, up to the 200th of them, and no others.
+fn shows_from(
+    alloc: Global,
+    trace: &Trace,
+    focus: Option<&Focus<'_>>,
+    first: u32,
+) -> Result<bool, Fail> {
+    let text = picture_of(alloc, trace, focus)?;
+    let marks = beginnings(alloc, text.as_slice())?;
+    let end = first.saturating_add(200).min(trace.len());
+    let shown = end.saturating_sub(first) as usize;
+    Ok(marks.len() == shown && are_marks_of(alloc, marks.as_slice(), trace, first, end)?)
+}
+
+/// The same, where the picture shows an instant and a chain too.
+fn shows_around(
+    alloc: Global,
+    trace: &Trace,
+    instant: u32,
+    chain: &[u32],
+    first: u32,
+) -> Result<bool, Fail> {
+    let focus = Focus {
+        instant,
+        crash: Holders::none(),
+        chain,
+    };
+    shows_from(alloc, trace, Some(&focus), first)
+}
+
+#[test]
+fn each_entry_shown_has_one_mark_with_its_title(rt: HostRuntime) -> Result<(), Fail> {
+    for (seed, tries) in [(4, 40), (5, 120), (6, 240)] {
+        let trace = trace_of(rt.alloc(), &mut Walk::new(seed, 0), 4, tries)?;
+        let middle = trace.len() / 2;
+        assert!(rt; trace.len() > 10 && trace.len() <= 200, "seed {seed}");
+        assert!(rt; shows_from(rt.alloc(), &trace, None, 0)?, "seed {seed}");
+        assert!(rt;
+            shows_around(rt.alloc(), &trace, middle, &[], 0)?,
+            "seed {seed}"
+        );
+    }
+    Ok(())
+}
+
+// Of a longer run 200 entries are shown: 190 before the instant and 10 from it on, or fewer where the chain begins earlier.
+#[test]
+fn each_entry_shown_of_a_longer_run(rt: HostRuntime) -> Result<(), Fail> {
+    let trace = trace_of(rt.alloc(), &mut Walk::new(7, 0), 4, 800)?;
+    assert!(rt; trace.len() > 260);
+    assert!(rt; shows_from(rt.alloc(), &trace, None, 0)?);
+    for (instant, chain, first) in [
+        (50, [].as_slice(), 0),
+        (230, &[], 40),
+        (230, &[33, 200], 33),
+        (230, &[100], 40),
+        (230, &[9], 30),
+    ] {
+        assert!(rt;
+            shows_around(rt.alloc(), &trace, instant, chain, first)?,
+            "instant {instant}"
         );
     }
     Ok(())

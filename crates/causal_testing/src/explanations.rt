@@ -1,0 +1,456 @@
+//! What tells why a random run has an orphan, beside plain programs that read the entries over for each answer.
+ghost use Rattle.std.specs.Prelude.{◌≡◌, ◌≤◌, ℕ, IfOk, length};
+ghost use Rattle.causal_audit.specs.Verdicts.{IsVerdict};
+ghost use Rattle.causal_audit.specs.declared.verdict.Verdict.{Verdict};
+
+mod plain;
+
+use crate::random_audits::{Walk, trace_of};
+use causal_audit::{Breach, Tables, Verdict, judge, least_between};
+use causal_explain::{Down, Explanation, Holding, Loss, down_since, explain, shortest_chain};
+use causal_holders::Holders;
+use causal_name::{Det, NoMemory};
+use causal_trace::entry::Entry;
+use causal_trace::fault::TraceFault;
+use causal_trace::trace::Trace;
+use plain::{Question, Way, answered, det_at, fewest, first_lacking, is_stable, lanes_of, leads};
+use std::alloc::Global;
+use std::test::Fail;
+
+/// How many orphans were explained, how often too many were down, and how much of what is told is wrong; how many chains have
+/// more than two events, how often a process lost a determinant, and how often each delivery of the chain lists it.
+#[derive(Clone, Copy)]
+struct Counts {
+    explained: u32,
+    exceeded: u32,
+    wrong: u32,
+    long: u32,
+    lost: u32,
+    listed: u32,
+}
+
+const NONE: Counts = Counts {
+    explained: 0,
+    exceeded: 0,
+    wrong: 0,
+    long: 0,
+    lost: 0,
+    listed: 0,
+};
+
+fn are_holders(told: &[Holding], plain: &[(u8, u32)]) -> bool {
+    let mut same = told.len() == plain.len();
+    for (one, other) in told.iter().zip(plain) {
+        same = same && (one.process, one.since) == *other;
+    }
+    same
+}
+
+fn are_losses(told: &[Loss], plain: &[(u8, u32)]) -> bool {
+    let mut same = told.len() == plain.len();
+    for (one, other) in told.iter().zip(plain) {
+        same = same && (one.process, one.lost) == *other;
+    }
+    same
+}
+
+fn are_down(told: &[Down], plain: &[(u8, u32)]) -> bool {
+    let mut same = told.len() == plain.len();
+    for (one, other) in told.iter().zip(plain) {
+        same = same && (one.process, one.since) == *other;
+    }
+    same
+}
+
+/// Whether those that hold the determinant and those that lost it are told, each with the entry that made it so.
+fn tells_logs(
+    alloc: Global,
+    entries: &[Entry],
+    n: u16,
+    told: &Explanation,
+) -> Result<bool, NoMemory> {
+    let question = Question::Logs(told.det);
+    let holders = answered(alloc, question, entries, n, true)?;
+    let losses = answered(alloc, question, entries, n, false)?;
+    Ok(
+        are_holders(told.holders.as_slice(), holders.as_slice())
+            && are_losses(told.losses.as_slice(), losses.as_slice()),
+    )
+}
+
+/// Whether those that are down are told, each with its last crash.
+fn tells_down(alloc: Global, entries: &[Entry], n: u16, told: &[Down]) -> Result<bool, NoMemory> {
+    let down = answered(alloc, Question::IsDown, entries, n, true)?;
+    Ok(are_down(told, down.as_slice()))
+}
+
+/// Whether a chain of the fewest events is told, or that there is none.
+fn is_shortest(alloc: Global, way: Way<'_>, told: Option<&[u32]>) -> Result<bool, NoMemory> {
+    let events = fewest(alloc, way)?;
+    Ok(match told {
+        Some(chain) => leads(way, chain) && events == Some(chain.len()),
+        None => events.is_none(),
+    })
+}
+
+/// Whether a chain of the fewest events leads from the delivery to the orphan's present lane.
+fn tells_chain(alloc: Global, entries: &[Entry], told: &Explanation) -> Result<bool, NoMemory> {
+    let lanes = lanes_of(alloc, entries)?;
+    let way = Way::new(entries, lanes.as_slice(), told.delivery, told.orphan);
+    is_shortest(alloc, way, Some(told.chain.as_slice()))
+}
+
+/// The least crash set under which nobody has the determinant: those that hold it and those that are down.
+fn least_crash_set(holders: &[Holding], down: &[Down]) -> Holders {
+    let mut set = Holders::none();
+    for holding in holders {
+        set.insert(holding.process);
+    }
+    for down in down {
+        set.insert(down.process);
+    }
+    set
+}
+
+/// Whether the delivery, its determinant, the crash set and the first delivery of the chain without it are told.
+fn tells_loss(entries: &[Entry], told: &Explanation) -> bool {
+    let crash = least_crash_set(told.holders.as_slice(), told.down.as_slice());
+    let lacking = first_lacking(entries, told.chain.as_slice(), told.det);
+    det_at(entries, told.delivery) == Some(told.det)
+        && !is_stable(entries, told.det)
+        && told.crash == crash
+        && !crash.contains(told.orphan)
+        && told.unlisted == lacking
+}
+
+/// Whether all that is told is what the plain programs say.
+fn is_right(alloc: Global, trace: &Trace, told: &Explanation) -> Result<bool, NoMemory> {
+    let Some(entries) = trace.entries().get(..told.instant as usize) else {
+        return Ok(false);
+    };
+    let n = trace.processes();
+    Ok(
+        tells_loss(entries, told)
+            && tells_logs(alloc, entries, n, told)?
+            && tells_down(alloc, entries, n, told.down.as_slice())?
+            && tells_chain(alloc, entries, told)?,
+    )
+}
+
+/// Counts an explanation.
+fn count(counts: &mut Counts, right: bool, told: &Explanation) {
+    counts.explained = counts.explained.saturating_add(1);
+    counts.wrong = counts.wrong.saturating_add(u32::from(!right));
+    counts.long = counts.long.saturating_add(u32::from(told.chain.len() > 2));
+    counts.lost = counts
+        .lost
+        .saturating_add(u32::from(!told.losses.is_empty()));
+    counts.listed = counts
+        .listed
+        .saturating_add(u32::from(told.unlisted.is_none()));
+}
+
+/// Whether an explanation is of this breach.
+fn is_of(told: &Explanation, breach: Breach) -> bool {
+    let explained = Breach {
+        instant: told.instant,
+        delivery: told.delivery,
+        crash: told.crash,
+        orphan: told.orphan,
+    };
+    explained == breach
+}
+
+/// Compares the explanation of a breach with what the plain programs say of it.
+fn compare(
+    alloc: Global,
+    trace: &Trace,
+    told: &Explanation,
+    breach: Breach,
+    counts: &mut Counts,
+) -> Result<(), NoMemory> {
+    let right = is_of(told, breach) && is_right(alloc, trace, told)?;
+    count(counts, right, told);
+    Ok(())
+}
+
+/// The verdict on a trace for so many failures.
+fn verdict_on(alloc: Global, trace: &Trace, f: u16) -> Result<Verdict, NoMemory>
+    ensures { IfOk result (IsVerdict trace.now.recording f) }
+{
+    let tables = Tables::of(alloc, trace)?;
+    Ok(judge(&tables, f))
+}
+
+/// Tells who is down at an instant, and compares it with these and with what the plain programs say.
+fn down_explained(
+    alloc: Global,
+    trace: &Trace,
+    instant: u32,
+    down: Holders,
+    counts: &mut Counts,
+) -> Result<(), NoMemory>
+    requires { instant ≤ length trace.now.recording.past }
+{
+    let told = down_since(alloc, trace, instant)?;
+    let entries = trace.entries().get(..instant as usize).unwrap_or(&[]);
+    let right = least_crash_set(&[], told.as_slice()) == down
+        && tells_down(alloc, entries, trace.processes(), told.as_slice())?;
+    counts.exceeded = counts.exceeded.saturating_add(1);
+    counts.wrong = counts.wrong.saturating_add(u32::from(!right));
+    Ok(())
+}
+
+/// Explains how a delivery has an orphan, and compares that with what the plain programs say.
+fn orphan_explained(
+    alloc: Global,
+    trace: &Trace,
+    breach: Breach,
+    counts: &mut Counts,
+) -> Result<(), NoMemory>
+    requires { (f : ℕ) × IsVerdict trace.now.recording f
+        (Verdict.Orphan breach.instant breach.delivery breach.crash breach.orphan) }
+{
+    let told = explain(alloc, trace, &breach)?;
+    compare(alloc, trace, &told, breach, counts)
+}
+
+/// Explains a verdict, if it is no acceptance.
+fn verdict_explained(
+    alloc: Global,
+    trace: &Trace,
+    verdict: Verdict,
+    counts: &mut Counts,
+) -> Result<(), NoMemory>
+    requires { (f : ℕ) × IsVerdict trace.now.recording f verdict }
+{
+    match verdict {
+        Verdict::Accept => Ok(()),
+        Verdict::Exceeded { instant, down } => down_explained(alloc, trace, instant, down, counts),
+        Verdict::Orphan {
+            instant,
+            delivery,
+            crash,
+            orphan,
+        } => {
+            let breach = Breach {
+                instant,
+                delivery,
+                crash,
+                orphan,
+            };
+            orphan_explained(alloc, trace, breach, counts)
+        }
+    }
+}
+
+/// Explains the verdicts on a trace for each f up to the greatest that is given.
+fn verdicts_explained(
+    alloc: Global,
+    trace: &Trace,
+    most: u16,
+    counts: &mut Counts,
+) -> Result<(), NoMemory> {
+    for f in 0..=most {
+        let verdict = verdict_on(alloc, trace, f)?;
+        verdict_explained(alloc, trace, verdict, counts)?;
+    }
+    Ok(())
+}
+
+/// Explains how the delivery of number i first has an orphan, if it has one.
+fn breach_explained(
+    alloc: Global,
+    trace: &Trace,
+    tables: &Tables,
+    f: u16,
+    i: u32,
+    counts: &mut Counts,
+) -> Result<(), NoMemory>
+    requires { tables.now ≡ trace.now.recording }
+{
+    if i >= tables.deliveries() {
+        return Ok(());
+    }
+    let Some(breach) = least_between(tables, f, i, i + 1) else {
+        return Ok(());
+    };
+    let told = explain(alloc, trace, &breach)?;
+    compare(alloc, trace, &told, breach, counts)
+}
+
+/// Explains how each delivery of a trace first has an orphan.
+fn breaches_explained(
+    alloc: Global,
+    trace: &Trace,
+    f: u16,
+    counts: &mut Counts,
+) -> Result<(), NoMemory> {
+    let tables = Tables::of(alloc, trace)?;
+    for i in 0..tables.deliveries() {
+        breach_explained(alloc, trace, &tables, f, i, counts)?;
+    }
+    Ok(())
+}
+
+/// How many chains there are between events and processes, and between how many there is none, and how many answers are wrong.
+#[derive(Clone, Copy)]
+struct Chains {
+    some: u32,
+    none: u32,
+    wrong: u32,
+}
+
+/// Tells the shortest chain from an entry to a process's present lane at the end of a trace, and compares it.
+fn chain_compared(
+    alloc: Global,
+    trace: &Trace,
+    way: Way<'_>,
+    from: u32,
+    process: u8,
+    found: &mut Chains,
+) -> Result<(), NoMemory> {
+    let told = shortest_chain(alloc, trace, trace.len(), from, process)?;
+    let chain = told.as_ref().map(|chain| chain.as_slice());
+    let right = is_shortest(alloc, way, chain)?;
+    found.some = found.some.saturating_add(u32::from(chain.is_some()));
+    found.none = found.none.saturating_add(u32::from(chain.is_none()));
+    found.wrong = found.wrong.saturating_add(u32::from(!right));
+    Ok(())
+}
+
+/// The same of each entry of a trace and each of four processes.
+fn chains_compared(alloc: Global, trace: &Trace, found: &mut Chains) -> Result<(), NoMemory> {
+    let lanes = lanes_of(alloc, trace.entries())?;
+    for from in 0..trace.len() {
+        for process in 0..4 {
+            let way = Way::new(trace.entries(), lanes.as_slice(), from, process);
+            chain_compared(alloc, trace, way, from, process, found)?;
+        }
+    }
+    Ok(())
+}
+
+/// Random traces of n processes: the first that does something, how many traces, and after how many tries each.
+#[derive(Clone, Copy)]
+struct Sample {
+    seed: u64,
+    first: u8,
+    n: u16,
+    traces: u32,
+    tries: u32,
+}
+
+/// Explains the verdicts on these traces for each f up to the greatest that is given.
+fn verdicts_of(alloc: Global, sample: Sample, most: u16) -> Result<Counts, TraceFault> {
+    let mut walk = Walk::new(sample.seed, sample.first);
+    let mut counts = NONE;
+    for _ in 0..sample.traces {
+        let trace = trace_of(alloc, &mut walk, sample.n, sample.tries)?;
+        if verdicts_explained(alloc, &trace, most, &mut counts).is_err() {
+            return Err(TraceFault::NoMemory);
+        }
+    }
+    Ok(counts)
+}
+
+/// Explains how each delivery of these traces first has an orphan.
+fn breaches_of(alloc: Global, sample: Sample, f: u16) -> Result<Counts, TraceFault> {
+    let mut walk = Walk::new(sample.seed, sample.first);
+    let mut counts = NONE;
+    for _ in 0..sample.traces {
+        let trace = trace_of(alloc, &mut walk, sample.n, sample.tries)?;
+        if breaches_explained(alloc, &trace, f, &mut counts).is_err() {
+            return Err(TraceFault::NoMemory);
+        }
+    }
+    Ok(counts)
+}
+
+/// Tells the chains of these traces.
+fn chains_of(alloc: Global, sample: Sample) -> Result<Chains, TraceFault> {
+    let mut walk = Walk::new(sample.seed, sample.first);
+    let mut found = Chains {
+        some: 0,
+        none: 0,
+        wrong: 0,
+    };
+    for _ in 0..sample.traces {
+        let trace = trace_of(alloc, &mut walk, sample.n, sample.tries)?;
+        if chains_compared(alloc, &trace, &mut found).is_err() {
+            return Err(TraceFault::NoMemory);
+        }
+    }
+    Ok(found)
+}
+
+/// Whether enough orphans were explained, and enough of each kind.
+fn are_varied(counts: Counts) -> bool {
+    counts.explained > 100 && counts.long > 20 && counts.lost > 50 && counts.listed > 30
+}
+
+#[test]
+fn each_verdict_is_explained(rt: HostRuntime) -> Result<(), Fail> {
+    for (n, seed) in [(2, 17), (3, 4_711), (4, 606)] {
+        let sample = Sample {
+            seed,
+            first: 0,
+            n,
+            traces: 300,
+            tries: 40,
+        };
+        let counts = verdicts_of(rt.alloc(), sample, n + 1)?;
+        assert_eq!(rt; counts.wrong, 0, "with {n} processes");
+        assert!(rt; are_varied(counts), "with {n} processes");
+        assert!(rt; counts.exceeded > 100, "with {n} processes");
+    }
+    Ok(())
+}
+
+#[test]
+fn each_breach_is_explained(rt: HostRuntime) -> Result<(), Fail> {
+    for (n, seed, f) in [(2, 23, 1), (3, 99, 1), (4, 1_234, 2), (4, 8, 3)] {
+        let sample = Sample {
+            seed,
+            first: 0,
+            n,
+            traces: 40,
+            tries: 120,
+        };
+        let counts = breaches_of(rt.alloc(), sample, f)?;
+        assert_eq!(rt; counts.wrong, 0, "with {n} processes");
+        assert!(rt; are_varied(counts), "with {n} processes");
+    }
+    Ok(())
+}
+
+// The processes that do something have the numbers from 252 to 255.
+#[test]
+fn orphans_of_greater_processes_are_explained(rt: HostRuntime) -> Result<(), Fail> {
+    let sample = Sample {
+        seed: 52,
+        first: 252,
+        n: 256,
+        traces: 20,
+        tries: 40,
+    };
+    let counts = verdicts_of(rt.alloc(), sample, 3)?;
+    assert_eq!(rt; counts.wrong, 0);
+    assert!(rt; counts.explained > 10);
+    Ok(())
+}
+
+#[test]
+fn each_chain_is_a_shortest_one(rt: HostRuntime) -> Result<(), Fail> {
+    let sample = Sample {
+        seed: 3,
+        first: 0,
+        n: 4,
+        traces: 20,
+        tries: 50,
+    };
+    let found = chains_of(rt.alloc(), sample)?;
+    assert_eq!(rt; found.wrong, 0);
+    assert!(rt; found.some > 100 && found.none > 500);
+    Ok(())
+}
