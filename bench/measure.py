@@ -419,12 +419,12 @@ def earlier(name):
     return text if f"- Machine: {machine()}\n" in text else ""
 
 
-SECTIONS = {"runtime": "Runtime", "log": "The runtime's log", "shown": "Why a verdict is so", "audit": "Audit"}
+SECTIONS = {"runtime": "Runtime", "log": "The runtime's log", "audit": "Audit", "shown": "Why a verdict is so"}
 MEASURES = {
     "runtime": lambda given, start: measure_runtime(given, earlier("Runtime")),
     "log": lambda given, start: runtime_log.section(),
-    "shown": lambda given, start: measure_shown(given, earlier("Why a verdict is so")),
     "audit": measure_audit,
+    "shown": lambda given, start: measure_shown(given, earlier("Why a verdict is so")),
 }
 
 
