@@ -1,5 +1,5 @@
 -- What a picture shows of each entry.
-use Rattle.std.specs.Prelude.{ℕ, List, length, Option, Some}
+use Rattle.std.specs.Prelude.{◌≡◌, ℕ, List, length, map, Option, Some}
 use Rattle.std.specs.List.{filter_map, range_with_len}
 use Rattle.std.specs.Option.{option_map, option_and_then}
 use Rattle.causal_name.specs.declared.Pid.{Pid}
@@ -40,3 +40,7 @@ mark_at past position = option_map (λ what. record { position = position; event
 -- the events of a stretch's entries, in their order
 abbrev pub marks_of : List Entry → Stretch → List Mark
 marks_of past s = filter_map (mark_at past) (range_with_len s.first s.count)
+
+-- these are marks of all its entries, one of each, in their order
+abbrev pub ShowsEach : Stretch → List Mark → Type 0
+ShowsEach s marks = map (λ (m : Mark). m.position) marks ≡ range_with_len s.first s.count

@@ -1,5 +1,6 @@
 -- Which entries a picture shows.
-use Rattle.std.specs.Prelude.{ℕ, ◌+◌, ◌-◌, min, max, List, fold, Option, Some, None}
+use Rattle.std.specs.Prelude.{ℕ, ◌+◌, ◌-◌, ◌<◌, ◌≤◌, min, max, List, fold, Option, Some, None}
+use Rattle.std.specs.List.{All}
 use Rattle.causal_picture.specs.declared.focus.Focus.{Focus}
 use Rattle.causal_picture.specs.declared.stretch.Stretch.{Stretch}
 use Rattle.causal_picture.specs.declared.stretch.TheConstants.{MOST_SHOWN, AFTER_INSTANT}
@@ -26,3 +27,12 @@ first_shown entries (Some f) = first_around entries f
 -- the entries shown, of so many
 abbrev pub stretch_around : ℕ → Option Focus → Stretch
 stretch_around entries focus = record { first = first_shown entries focus; count = min entries MOST_SHOWN }
+
+-- where a position is before the instant, and so near that both may be shown, it is shown
+abbrev pub IsNearShown : ℕ → Focus → Stretch → ℕ → Type 0
+IsNearShown entries f s k =
+    k < instant_of entries f → instant_of entries f ≤ k + MOST_SHOWN → (s.first ≤ k) × (k < s.first + s.count)
+
+-- so is each of the chain
+abbrev pub ShowsChain : ℕ → Focus → Stretch → Type 0
+ShowsChain entries f s = All (IsNearShown entries f s) f.chain.now

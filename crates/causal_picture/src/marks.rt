@@ -1,6 +1,7 @@
 //! What a picture shows of each entry.
 ghost use Rattle.std.specs.Prelude.{◌≡◌, ◌≤◌, ◌+◌, IfOk, length};
 ghost use Rattle.causal_trace.specs.Past.{message_at};
+ghost use Rattle.causal_trace.specs.Rows.{IsWellFormed};
 ghost use Rattle.causal_picture.specs.Marks as marks;
 
 use crate::stretch::Stretch;
@@ -46,13 +47,14 @@ impl Event {
     }
 }
 
-/// The events of the stretch's entries, in their order.
+/// The events of the stretch's entries, one of each, in their order.
 ///
 /// # Errors
 /// `NoMemory` where memory was refused.
 pub fn marks_of(alloc: Global, trace: &Trace, stretch: Stretch) -> Result<Vec<Mark>, NoMemory>
     requires { stretch.first + stretch.count ≤ length trace.now.recording.past }
-    ensures { IfOk result (λ found. found.items ≡ marks.marks_of trace.now.recording.past stretch) }
+    ensures value { IfOk result (λ found. found.items ≡ marks.marks_of trace.now.recording.past stretch) }
+    ensures each { IfOk result (λ found. marks.ShowsEach stretch found.items) }
 {
     let mut marks = Vec::new(alloc);
     let end = end_of(trace, stretch);
@@ -67,7 +69,8 @@ pub fn marks_of(alloc: Global, trace: &Trace, stretch: Stretch) -> Result<Vec<Ma
 /// The position after a stretch.
 fn end_of(trace: &Trace, stretch: Stretch) -> u32
     requires { stretch.first + stretch.count ≤ length trace.now.recording.past }
-    ensures { result ≡ stretch.first + stretch.count }
+    ensures value { result ≡ stretch.first + stretch.count }
+    ensures formed { IsWellFormed trace.now.recording }
 {
     let _entries = trace.len();
     stretch.first + stretch.count

@@ -28,6 +28,8 @@ pub fn stretch_around(trace: &Trace, focus: Option<&Focus<'_>>) -> Stretch
         (λ f. stretches.instant_of (length trace.now.recording.past) f ≤ result.first + result.count) }
     ensures soon { IfSome (option_copied focus.entry)
         (λ f. result.first + result.count ≤ max result.count (stretches.instant_of (length trace.now.recording.past) f + 10)) }
+    ensures chain { IfSome (option_copied focus.entry)
+        (λ f. stretches.ShowsChain (length trace.now.recording.past) f result) }
     ensures within { result.first + result.count ≤ length trace.now.recording.past }
 {
     let entries = trace.len();

@@ -1,6 +1,7 @@
-use Rattle.std.proofs.Common.{sym, ap, ◌∙◌}
+use Rattle.std.proofs.Common.{◌≡◌, sym, ap, ◌∙◌, rules}
 use Rattle.causal_picture.specs.Marks.{mark_at, marks_of}
 use Rattle.causal_picture.proofs.Ranges.{passed-none, passed-some}
+use Rattle.causal_picture.proofs.Supplied.{each_shown}
 use Rattle.causal_picture.proofs.marks.marks_of.Goals as goal
 use Rattle.causal_picture.proofs.marks.marks_of.Goals.{in-Some+in_ok-push, in_default}
 
@@ -16,3 +17,11 @@ loop-position-preserved c =
           (passed-none (mark_at past) c.loop-position.marks.items (marks_of past c.args.stretch) c.loop-position.position c.end_of-end.result c.loop-position-test.true
           (sym c.mark_at.ensures ∙ w.in_default.is) c.loop-position.invariant)
     ]
+
+pub returns-clause-each : goal.returns-clause-each
+returns-clause-each c =
+    let recording = c.args.trace.now.recording in
+    let marks = c.loop-position.marks.items in
+    let value : marks ≡ marks_of recording.past c.args.stretch = search rules in
+    each_shown recording.processes recording.past c.args.stretch marks c.end_of-end.ensures.formed.accepted
+    c.requires value
