@@ -1,7 +1,6 @@
 -- What is known where the walk of a delivery begins.
 use Rattle.std.proofs.Common.{ℕ, zero, suc, ◌≡◌, ◌+◌, ◌-◌, ◌<◌, ◌≤◌, Bool, true, false, List, ◌∷◌, length, Some, refl, sym, ap, subst, ◌∙◌, arith}
 use Rattle.std.specs.Prelude.{◌||◌, ◌&&◌, ◌==◌, not}
-use Rattle.std.proofs.lemmas.Bool.{false_from_ne_true}
 use Rattle.causal_name.specs.declared.Det.{Det}
 use Rattle.causal_trace.specs.declared.entry.Entry.{Entry}
 use Rattle.causal_trace.specs.declared.entry.Entry.TheVariants.{Send, Deliver, Stable, Crash, Restart, Forget}
@@ -69,4 +68,4 @@ unheard_until past k d mentions t mentioned none early within = record {
 }
   where
     unmentioned : (v : ℕ) (e : Entry) → v < t → entry_at past v ≡ Some e → has (mentioned_by e) d ≡ false
-    unmentioned v e below at = false_from_ne_true (has (mentioned_by e) d) (λ is. none v (omega arith) below (mentioned v e at is))
+    unmentioned v e below at = mentioned v e at (none v (omega arith) below)

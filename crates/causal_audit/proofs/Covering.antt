@@ -4,7 +4,7 @@ use Rattle.std.specs.Prelude.{◌↔◌, ◌||◌, ◌==◌, Contains, if◌then
 use Rattle.std.specs.Ordering.{nat_cmp}
 use Rattle.std.specs.Cmp.{nat_cmp_total}
 use Rattle.std.specs.FinSet.{FinSet, contains, union, difference, len, contains-union}
-use Rattle.std.proofs.lemmas.Bool.{cases_lt, or_cases, or_right, false≢true, eq-eqb, false_from_ne_true}
+use Rattle.std.proofs.lemmas.Bool.{cases_lt, or_cases, or_right, false≢true, eq-eqb}
 use Rattle.std.proofs.lemmas.Bool.Decides.{eqb_tells}
 use Rattle.causal_name.specs.declared.Det.{Det}
 use Rattle.causal_name.specs.Sets.{count_below}
@@ -78,7 +78,7 @@ beyond change mention low apart =
     ]
 
 pub unmentioned_at : (past : List Entry) (d : Det) (mentions : List ℕ) → HasMentions past d mentions → (t next : ℕ) → HasNoneUntil mentions t next → (v : ℕ) → t ≤ v → v < next → (e : Entry) → entry_at past v ≡ Some e → has (mentioned_by e) d ≡ false
-unmentioned_at past d mentions mentioned t next none v above below e there = false_from_ne_true (has (mentioned_by e) d) (λ is. none v above below (mentioned v e there is))
+unmentioned_at past d mentions mentioned t next none v above below e there = mentioned v e there (none v above below)
 
 -- whether an entry mentions the determinant is told by the list of its mentions
 pub mentioned_listed : (past : List Entry) (d : Det) (mentions : List ℕ) → HasMentions past d mentions → AreMentionsOf past d mentions → (v : ℕ) (e : Entry) → entry_at past v ≡ Some e → (told : Bool) → (told ≡ true) ↔ Contains mentions v → told ≡ has (mentioned_by e) d
@@ -87,7 +87,7 @@ mentioned_listed past d mentions mentioned only v e there true same =
     let is : Some of.0 ≡ Some e = sym of.1 ∙ there in
     let one : of.0 ≡ e = cc is in
     sym (ap (λ x. has (mentioned_by x) d) (sym one) ∙ of.2)
-mentioned_listed past d mentions mentioned only v e there false same = sym (false_from_ne_true (has (mentioned_by e) d) (λ is. false≢true (same.1 (mentioned v e there is))))
+mentioned_listed past d mentions mentioned only v e there false same = sym (mentioned v e there (λ listed. false≢true (same.1 listed)))
 
 -- whether an entry mentions the determinant is told by the next mention
 pub mentioned_next : (past : List Entry) (d : Det) (mentions : List ℕ) → HasMentions past d mentions → AreMentionsOf past d mentions → (t next : ℕ) → HasNoneUntil mentions t next

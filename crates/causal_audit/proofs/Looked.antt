@@ -15,7 +15,7 @@ use Rattle.causal_audit.specs.declared.look.Stop.{Stop}
 use Rattle.causal_audit.specs.declared.thin.Stretch.{Stretch}
 use Rattle.causal_audit.specs.declared.turns.Passing.{Passing}
 use Rattle.causal_audit.specs.Inside.Ahead.{HasNoneUntil, IsCursor}
-use Rattle.causal_audit.specs.Inside.Looks.{IsLook, IsPassed, IsStop}
+use Rattle.causal_audit.specs.Inside.Looks.{IsPassed, IsStop}
 use Rattle.causal_audit.specs.Inside.Passing.{HasPassed}
 use Rattle.causal_audit.specs.Inside.Sights.{Shows, ShowsDownAfter, ShowsHoldersAfter}
 use Rattle.causal_audit.specs.Inside.Standing.{IsThinAt, StandsBy}
@@ -26,7 +26,7 @@ use Rattle.causal_audit.proofs.Covering.{gone_many, holds_until, mentioned_next,
 use Rattle.causal_audit.proofs.Cursors.{cursor_later}
 use Rattle.causal_audit.proofs.Lasting.{none_later, thin_ends}
 
-module _ (look : Look) (is : IsLook look) (formed : AreAccepted look.run.trace.now.recording.processes look.run.trace.now.recording.past) (stop : Stop) (at : IsStop look stop) (mention change : ℕ) (up : stop.t ≤ change) (low : change ≤ mention) (early : mention ≤ look.end)
+module _ (look : Look) (formed : AreAccepted look.run.trace.now.recording.processes look.run.trace.now.recording.past) (stop : Stop) (at : IsStop look stop) (mention change : ℕ) (up : stop.t ≤ change) (low : change ≤ mention) (early : mention ≤ look.end)
     (none : HasNoneUntil look.mentions.now stop.t mention) (unrestarted : RestartsNone look.run.trace.now.recording.past (union stop.cover.down stop.cover.holders) stop.t change) where
   abbrev pub past : List Entry
   past = look.run.trace.now.recording.past
@@ -35,10 +35,10 @@ module _ (look : Look) (is : IsLook look) (formed : AreAccepted look.run.trace.n
   n = look.run.trace.now.recording.processes
 
   within : change ≤ length past
-  within = omega (arith, low, early, is.within)
+  within = omega (arith, low, early, look.within)
 
   unmentioned : MentionsNone past look.det stop.t change
-  unmentioned = none_mention past look.det look.mentions.now is.mentioned stop.t change mention low none
+  unmentioned = none_mention past look.det look.mentions.now look.mentioned stop.t change mention low none
 
   -- the stretch up to the next change is passed
   pub passed_to : (s : Stretch) (next : ℕ) → s.first ≡ stop.t → s.last ≡ change → StandsBy s.standing look.most look.det.dest.0 (union stop.cover.down stop.cover.holders) → change < next → next ≤ look.end + 1
@@ -59,7 +59,7 @@ module _ (look : Look) (is : IsLook look) (formed : AreAccepted look.run.trace.n
     -- where it writes the determinant to stable storage, that is thin no more
     pub written : ((p : List Entry) → is_stable (e ∷ p) look.det ≡ true) → (u : ℕ) → change < u → u < look.end + 1 → IsThinAt n look.most past look.det u → ⊥
     written writes u above under =
-        thin_ends n look.most past look.det (change + 1) u (inl (ap (λ x. is_stable x look.det) next ∙ writes (instant past change))) (omega (arith, above)) (omega (arith, under, is.within))
+        thin_ends n look.most past look.det (change + 1) u (inl (ap (λ x. is_stable x look.det) next ∙ writes (instant past change))) (omega (arith, above)) (omega (arith, under, look.within))
 
     module _ (ahead : Cursor) (cursor : IsCursor look.mentions.now stop.t ahead) (found : mention < look.end → Contains look.mentions.now mention) (turns : Passing) (passed : HasPassed look.run.turns.now change turns)
         (fell : FinSet nat_cmp) (falls : Shows fell (λ p. is_down (instant past change) p)) (cover : Cover) (down_after : ShowsDownAfter e fell cover.down)
@@ -69,7 +69,7 @@ module _ (look : Look) (is : IsLook look) (formed : AreAccepted look.run.trace.n
 
       told : (mention == change) ≡ has (mentioned_by e) look.det
       told =
-          mentioned_next past look.det look.mentions.now is.mentioned is.only stop.t mention none change up low
+          mentioned_next past look.det look.mentions.now look.mentioned look.only stop.t mention none change up low
           (λ same. subst (Contains look.mentions.now) same (found (omega (arith, same, below)))) e there
 
       holders_then : Shows cover.holders (λ p. logs (instant past (change + 1)) p look.det)
@@ -96,4 +96,4 @@ module _ (look : Look) (is : IsLook look) (formed : AreAccepted look.run.trace.n
             none_later past look.run.lasting_from (change + 1) lasting look.run.lasting,
             omega (arith, many, gone_many n (instant past (change + 1)) look.det (accepted_then n past (change + 1) formed) cover.down cover.holders down_then holders_then),
           ))
-          (omega (arith, above)) (omega (arith, under, is.within))
+          (omega (arith, above)) (omega (arith, under, look.within))

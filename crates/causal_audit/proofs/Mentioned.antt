@@ -6,7 +6,7 @@ use Rattle.std.specs.List.Sorted.{IsNonDecreasing}
 use Rattle.std.specs.Option.{option_map_or}
 use Rattle.std.proofs.Math.ListN.{get_or-append}
 use Rattle.std.proofs.Math.Seq.{get_or-append_seam}
-use Rattle.std.proofs.lemmas.Bool.{cases_lt, false≢true, eq-eqb, ne_eqb, eqb-true, and_parts, or_cases, cases_Bool, cond-true, cond-false}
+use Rattle.std.proofs.lemmas.Bool.{cases_lt, false≢true, eq-eqb, ne_eqb, eqb-true, and_parts, or_cases, cases_Bool, cond-true, cond-false, false_from_ne_true}
 use Rattle.std.proofs.lemmas.Bool.Decides.{eqb_tells}
 use Rattle.std.proofs.lemmas.List.{get_or_past}
 use Rattle.std.proofs.lemmas.List.Elements.{All-push}
@@ -133,7 +133,7 @@ pub mentions_more : (past : List Entry) (dets : List Det) (numbers : Numbers) (l
 mentions_more past dets numbers lists det m at there are =
     record {
       ascend = added_ascend lists m (length past) there are.ascend;
-      mentioned = λ d v e is mentions. keeps_of (number_of numbers d) lists m (length past) v there (are.mentioned d v e is mentions);
+      mentioned = λ d v e is unlisted. are.mentioned d v e is (λ listed. unlisted (keeps_of (number_of numbers d) lists m (length past) v there listed));
       noted = λ d listed. elim (or_cases (has dets d) (same_det d det) (sym (has_more dets det d) ∙ listed)) [
         | inl before ↦ keeps_of (number_of numbers d) lists m (length past) (length past) there (are.noted d before)
         | inr now ↦
@@ -179,12 +179,13 @@ mentions_begun past numbers lists are = record {
 pub mentions_done : (e : Entry) (past : List Entry) (numbers : Numbers) (lists : List (List ℕ)) → AreMentionsWith past (mentioned_by e) numbers lists → AreMentions (e ∷ past) numbers lists
 mentions_done e past numbers lists are = record {
   ascend = let more : length past + 1 ≡ length (e ∷ past) = omega arith in subst (λ n. All (Ascends n) lists) more are.ascend;
-  mentioned = λ d v x at listed. elim (eqb_tells v (length past)) [
+  mentioned = λ d v x at unlisted. elim (eqb_tells v (length past)) [
     | inl newest ↦
         let is : Some e ≡ Some x = sym (cond-true (v == length past) (Some e) (entry_at past v) newest.0) ∙ at in
         let it : e ≡ x = cc is in
-        subst (λ w. Contains (mentions_of numbers lists d) w) (sym newest.1) (are.noted d (ap (λ y. has (mentioned_by y) d) it ∙ listed))
-    | inr older ↦ are.mentioned d v x (sym (cond-false (v == length past) (Some e) (entry_at past v) older.0) ∙ at) listed
+        false_from_ne_true (has (mentioned_by x) d)
+        (λ listed. unlisted (subst (λ w. Contains (mentions_of numbers lists d) w) (sym newest.1) (are.noted d (ap (λ y. has (mentioned_by y) d) it ∙ listed))))
+    | inr older ↦ are.mentioned d v x (sym (cond-false (v == length past) (Some e) (entry_at past v) older.0) ∙ at) unlisted
   ];
   only = λ d v listed. elim (are.only d v listed) [
     | inl before ↦

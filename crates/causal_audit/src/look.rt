@@ -1,11 +1,12 @@
 //! A look at a determinant: how it stands at the instants of a run. It does not depend on the delivery, nor on who depends on
 //! that: deliveries that share a determinant share the look.
-ghost use Rattle.std.specs.Prelude.{◌≡◌, ◌≤◌, ◌<◌, ◌∷◌, true, List, MatchOption};
+ghost use Rattle.std.specs.Prelude.{◌≡◌, ◌≤◌, ◌<◌, ◌∷◌, true, length, List, MatchOption};
 ghost use Rattle.std.specs.List.Sorted.{IsNonDecreasing};
 ghost use Rattle.causal_trace.specs.declared.entry.Entry.{Entry};
 ghost use Rattle.causal_trace.specs.Past.{is_stable};
 ghost use Rattle.causal_audit.specs.Inside.Ahead.{HasNoneUntil};
-ghost use Rattle.causal_audit.specs.Inside.Looks.{IsLook, IsPassed, IsStop};
+ghost use Rattle.causal_audit.specs.Inside.Changes.{AreMentionsOf, HasMentions};
+ghost use Rattle.causal_audit.specs.Inside.Outlines.{AreMentionsOf-prop};
 
 use crate::budget::Budget;
 use crate::cover::Cover;
@@ -17,8 +18,8 @@ use causal_holders::Holders;
 use causal_name::Det;
 use causal_trace::entry::Entry;
 
-/// What is looked at: a determinant with its mentions, up to the instant `end`. It is thin where it is not stable and at most
-/// `most` processes are down or hold it.
+/// What is looked at: a determinant with its mentions, up to the instant `end` of the run. It is thin where it is not
+/// stable and at most `most` processes are down or hold it.
 #[derive(Clone, Copy)]
 pub struct Look<'a> {
     pub run: Outline<'a>,
@@ -26,6 +27,10 @@ pub struct Look<'a> {
     pub det: Det,
     pub most: u16,
     pub end: u32,
+    ghost within: { end ≤ length run.trace.now.recording.past },
+    ghost ascending: { IsNonDecreasing mentions.now },
+    ghost mentioned: { HasMentions run.trace.now.recording.past det mentions.now },
+    ghost only: { AreMentionsOf run.trace.now.recording.past det mentions.now } by { AreMentionsOf-prop _ _ _ },
 }
 
 /// The instant that a look has come to, with who is down and holds the determinant then; past the end once all is looked at.
@@ -60,11 +65,12 @@ fn is_written(entry: &Entry, det: Det) -> bool
 }
 
 impl<'a> Look<'a> {
+    ghost use Rattle.causal_audit.specs.Inside.Looks.{IsPassed, IsStop};
+
     /// A look from the first mention on, or from an instant before the end if that comes first: until then nobody holds the
     /// determinant.
     pub fn start(&self, from: u32) -> Stop<'a>
-        requires look { IsLook self.now }
-        requires from { from ≤ self.now.end }
+        requires { from ≤ self.now.end }
         ensures before { result.t ≤ from }
         ensures stop { IsStop self.now result }
     {
@@ -85,8 +91,7 @@ impl<'a> Look<'a> {
     /// until then they still are or do. None where all is looked at. Each restart that it stops at takes a step; what was
     /// stable or held by too many for good is not looked at any more.
     pub fn next(&self, stop: &mut Stop<'a>, budget: &mut Budget) -> Option<Stretch>
-        requires look { IsLook self.now }
-        requires stop { stop.old.t ≤ self.now.end → IsStop self.now stop.old }
+        requires { stop.old.t ≤ self.now.end → IsStop self.now stop.old }
         ensures stop { stop.new.t ≤ self.now.end → IsStop self.now stop.new }
         ensures passed { MatchOption result (self.now.end < stop.old.t) (IsPassed self.now stop.old.t stop.new.t) }
     {

@@ -3,7 +3,7 @@ ghost use Rattle.std.specs.Prelude.{◌≡◌, ◌+◌, ◌≤◌, ◌<◌, ℕ,
 ghost use Rattle.causal_name.specs.declared.Det.{Det};
 ghost use Rattle.causal_trace.specs.declared.entry.Entry.{Entry};
 ghost use Rattle.causal_trace.specs.Limits.{max_entries};
-ghost use Rattle.causal_audit.specs.Inside.Looks.{IsLook, IsPassed};
+ghost use Rattle.causal_audit.specs.Inside.Looks.{IsPassed};
 ghost use Rattle.causal_audit.specs.Inside.Thins.{AreFound, AreRising, AreThins, EndsBy, MayBeOpen};
 
 use crate::budget::Budget;
@@ -58,7 +58,6 @@ impl Thins {
     /// What a look at a determinant finds from its first mention on. It takes time as its mentions, and as the restarts that it
     /// stops at.
     pub fn of(alloc: Global, look: &Look<'_>, budget: &mut Budget) -> Result<Thins, NoMemory>
-        requires { IsLook look.now }
         ensures { IfOk result (AreFound look.now (look.now.end + 1)) }
     {
         let mut stop = look.start(look.end);

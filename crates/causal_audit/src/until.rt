@@ -3,7 +3,6 @@ ghost use Rattle.std.specs.Prelude.{◌≡◌, ◌≤◌, Some};
 ghost use Rattle.causal_trace.specs.Limits.{max_entries};
 ghost use Rattle.causal_trace.specs.Past.{det_at};
 ghost use Rattle.causal_audit.specs.Breaches.{HasNoOrphanFrom};
-ghost use Rattle.causal_audit.specs.Inside.Looks.{IsLook};
 ghost use Rattle.causal_audit.specs.Inside.Until.{MayBeIn};
 ghost use Rattle.causal_audit.specs.Spread.{StaysUntil};
 
@@ -30,7 +29,6 @@ impl Stretch {
 /// An instant from which on the delivery at k, whose determinant is looked at, is covered up to the end of the look; 0 where it
 /// is covered throughout. It stays with its receiver up to `spread`. Each restart that the look stops at takes a step.
 pub fn uncovered_until(look: &Look<'_>, spread: u32, k: u32, budget: &mut Budget) -> u32
-    requires look { IsLook look.now }
     requires delivery { det_at look.now.run.trace.now.recording.past k ≡ Some look.now.det }
     requires stays { StaysUntil look.now.run.trace.now.recording.past k spread }
     ensures { HasNoOrphanFrom look.now.run.trace.now.recording look.now.most k result look.now.end }

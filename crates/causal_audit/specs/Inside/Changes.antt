@@ -5,9 +5,10 @@ use Rattle.causal_trace.specs.declared.entry.Entry.{Entry}
 use Rattle.causal_trace.specs.Past.{entry_at, has}
 use Rattle.causal_audit.specs.Quiet.{is_turn, mentioned_by}
 
--- the list has the position of each entry that mentions d
+-- an entry whose position is not in the list does not mention d
 abbrev pub HasMentions : List Entry → Det → List ℕ → Type 0
-HasMentions past d list = (v : ℕ) (e : Entry) → entry_at past v ≡ Some e → has (mentioned_by e) d ≡ true → Contains list v
+HasMentions past d list =
+    (v : ℕ) (e : Entry) → entry_at past v ≡ Some e → (Contains list v → ⊥) → has (mentioned_by e) d ≡ false
 
 -- each position of the list is that of an entry that mentions d
 abbrev pub AreMentionsOf : List Entry → Det → List ℕ → Type 0

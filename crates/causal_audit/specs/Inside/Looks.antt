@@ -1,21 +1,12 @@
--- What a look at a determinant reads, where it stands, and what it tells.
-use Rattle.std.specs.Prelude.{◌≡◌, ℕ, ◌+◌, ◌<◌, ◌≤◌, length}
-use Rattle.std.specs.List.Sorted.{IsNonDecreasing}
+-- Where a look at a determinant stands, and what it tells.
+use Rattle.std.specs.Prelude.{◌≡◌, ℕ, ◌+◌, ◌<◌, ◌≤◌}
 use Rattle.causal_trace.specs.Past.{instant, is_down, logs}
 use Rattle.causal_audit.specs.Inside.Ahead.{IsCursor}
-use Rattle.causal_audit.specs.Inside.Changes.{AreMentionsOf, HasMentions}
 use Rattle.causal_audit.specs.Inside.Sights.{Shows}
 use Rattle.causal_audit.specs.Inside.Standing.{IsThinAt, RulesOut}
 use Rattle.causal_audit.specs.declared.look.Look.{Look}
 use Rattle.causal_audit.specs.declared.look.Stop.{Stop}
 use Rattle.causal_audit.specs.declared.thin.Stretch.{Stretch}
-
--- these are the mentions of the determinant, and it is looked at up to an instant of the run
-pub record IsLook (look : Look) : Type 0 where
-  pub within : look.end ≤ length look.run.trace.now.recording.past
-  pub ascending : IsNonDecreasing look.mentions.now
-  pub mentioned : HasMentions look.run.trace.now.recording.past look.det look.mentions.now
-  pub only : AreMentionsOf look.run.trace.now.recording.past look.det look.mentions.now
 
 -- a look at d has come to an instant: what is ahead of it, who is down then, and who holds d
 pub record IsStop (look : Look) (stop : Stop) : Type 0 where

@@ -13,7 +13,7 @@ loop-stretch-init c =
       within = omega (arith, c.start-stop.ensures.before, c.min.ensures);
       stop = λ _. c.start-stop.ensures.stop;
       before = λ u _ early has.
-          not_yet r.processes look.most _ c.args.k (omega (arith, early, c.start-stop.ensures.before, c.min.ensures, instant_length r.past u (omega (arith, early, c.start-stop.ensures.before, c.min.ensures, c.requires.look.within)))) has;
+          not_yet r.processes look.most _ c.args.k (omega (arith, early, c.start-stop.ensures.before, c.min.ensures, instant_length r.past u (omega (arith, early, c.start-stop.ensures.before, c.min.ensures, look.within)))) has;
     }
 
 pub loop-stretch-preserved : goal.loop-stretch-preserved
@@ -28,7 +28,7 @@ loop-stretch-preserved c =
       within = passed.within;
       stop = c.in-Some.ensures.stop;
       before = λ u from below has.
-          let inside : u ≤ length r.past = omega (arith, below, passed.within, c.requires.look.within) in
+          let inside : u ≤ length r.past = omega (arith, below, passed.within, look.within) in
           elim (cases_lt s.last u) [
             | inl after ↦ passed.after u after below (orphan_thin r.processes look.most r.past formed c.args.k look.det c.requires.delivery c.args.spread c.requires.stays u inside has)
             | inr low ↦

@@ -12,7 +12,7 @@ use Rattle.causal_audit.proofs.Turned.{passed_down}
 use Rattle.causal_audit.proofs.look.Look.next.Goals as goal
 
 pub overflow_add-stop : goal.overflow_add-stop
-overflow_add-stop c = omega (arith, c.requires.look.within, c.entries-entries.ensures.few)
+overflow_add-stop c = omega (arith, c.args.self.now.within, c.entries-entries.ensures.few)
 
 pub returns-then-last-self-clause-passed : goal.returns-then-last-self-clause-passed
 returns-then-last-self-clause-passed c =
@@ -21,7 +21,7 @@ returns-then-last-self-clause-passed c =
     let stop = c.args.stop.now in
     let mention = c.next-mention.result in
     let change = c.next_restart-last.result in
-    let at = c.requires.stop (omega (arith, c.if-stop-self.false)) in
+    let at = c.requires (omega (arith, c.if-stop-self.false)) in
     let formed = c.entries-entries.ensures.formed.accepted in
     let up : stop.t ≤ change = c.next_restart-last.ensures.bounds.0 in
     let low : change ≤ mention = c.next_restart-last.ensures.bounds.1 in
@@ -29,7 +29,7 @@ returns-then-last-self-clause-passed c =
     let none : HasNoneUntil look.mentions.now stop.t mention = c.next-mention.ensures.none look.mentions.now at.mentions in
     let unrestarted : RestartsNone r.past (union stop.cover.down stop.cover.holders) stop.t change = subst (λ s. RestartsNone r.past s stop.t change) c.gone-gone.ensures c.next_restart-last.ensures.none in
     let s : Stretch = record { first = stop.t; last = change; standing = c.standing-standing.result } in
-    passed_to look c.requires.look formed stop at mention change up low early none unrestarted s (look.end + 1) refl refl c.standing-standing.ensures (omega (arith, low, early)) (omega arith)
+    passed_to look formed stop at mention change up low early none unrestarted s (look.end + 1) refl refl c.standing-standing.ensures (omega (arith, low, early)) (omega arith)
     (λ u above under. absurd (omega (arith, above, under, c.if-last-self.true)))
 
 pub returns-then-is_written-clause-passed : goal.returns-then-is_written-clause-passed
@@ -39,7 +39,7 @@ returns-then-is_written-clause-passed c =
     let stop = c.args.stop.now in
     let mention = c.next-mention.result in
     let change = c.next_restart-last.result in
-    let at = c.requires.stop (omega (arith, c.if-stop-self.false)) in
+    let at = c.requires (omega (arith, c.if-stop-self.false)) in
     let formed = c.entries-entries.ensures.formed.accepted in
     let up : stop.t ≤ change = c.next_restart-last.ensures.bounds.0 in
     let low : change ≤ mention = c.next_restart-last.ensures.bounds.1 in
@@ -49,11 +49,11 @@ returns-then-is_written-clause-passed c =
     let s : Stretch = record { first = stop.t; last = change; standing = c.standing-standing.result } in
     let e = c.index-entries-last.result in
     let below : change < look.end = omega (arith, low, early, c.if-last-self.false) in
-    let inside : change < length r.past = omega (arith, below, c.requires.look.within) in
+    let inside : change < length r.past = omega (arith, below, c.args.self.now.within) in
     let there = entry_read r c.entries-entries.result.now c.entries-entries.ensures.value change e inside c.index-entries-last.is in
     let next = next_state r c.entries-entries.result.now c.entries-entries.ensures.value change e inside c.index-entries-last.is in
-    passed_to look c.requires.look formed stop at mention change up low early none unrestarted s (look.end + 1) refl refl c.standing-standing.ensures (omega (arith, low, early)) (omega arith)
-    (written look c.requires.look formed stop at mention change up low early none unrestarted e below there next (c.is_written.ensures c.if-is_written.true))
+    passed_to look formed stop at mention change up low early none unrestarted s (look.end + 1) refl refl c.standing-standing.ensures (omega (arith, low, early)) (omega arith)
+    (written look formed stop at mention change up low early none unrestarted e below there next (c.is_written.ensures c.if-is_written.true))
 
 pub returns-then-len-from-clause-passed : goal.returns-then-len-from-clause-passed
 returns-then-len-from-clause-passed c =
@@ -62,7 +62,7 @@ returns-then-len-from-clause-passed c =
     let stop = c.args.stop.now in
     let mention = c.next-mention.result in
     let change = c.next_restart-last.result in
-    let at = c.requires.stop (omega (arith, c.if-stop-self.false)) in
+    let at = c.requires (omega (arith, c.if-stop-self.false)) in
     let formed = c.entries-entries.ensures.formed.accepted in
     let up : stop.t ≤ change = c.next_restart-last.ensures.bounds.0 in
     let low : change ≤ mention = c.next_restart-last.ensures.bounds.1 in
@@ -72,14 +72,14 @@ returns-then-len-from-clause-passed c =
     let s : Stretch = record { first = stop.t; last = change; standing = c.standing-standing.result } in
     let e = c.index-entries-last.result in
     let below : change < look.end = omega (arith, low, early, c.if-last-self.false) in
-    let inside : change < length r.past = omega (arith, below, c.requires.look.within) in
+    let inside : change < length r.past = omega (arith, below, c.args.self.now.within) in
     let there = entry_read r c.entries-entries.result.now c.entries-entries.ensures.value change e inside c.index-entries-last.is in
     let next = next_state r c.entries-entries.result.now c.entries-entries.ensures.value change e inside c.index-entries-last.is in
     let turns : HasPassed look.run.turns.now change c.next_restart-last.new.self = subst (λ ts. HasPassed ts change c.next_restart-last.new.self) at.turns c.next_restart-last.ensures.passed in
     let walk = passed_down r.past look.run.turns.now change c.next_restart-last.new.self look.run.turned turns in
     let fell : Shows c.down.result (λ p. is_down (instant r.past change) p) = c.down.ensures r.past change (omega (arith, inside)) walk.0 walk.1 in
-    passed_to look c.requires.look formed stop at mention change up low early none unrestarted s (look.end + 1) refl refl c.standing-standing.ensures (omega (arith, low, early)) (omega arith)
-    (over look c.requires.look formed stop at mention change up low early none unrestarted e below there next c.next-mention.new.self (c.next-mention.ensures.cursor look.mentions.now at.mentions) (c.next-mention.ensures.found look.mentions.now at.mentions) c.next_restart-last.new.self turns c.down.result fell c.see.new.self c.see.ensures.down c.see.ensures.holders c.if-lasting.true
+    passed_to look formed stop at mention change up low early none unrestarted s (look.end + 1) refl refl c.standing-standing.ensures (omega (arith, low, early)) (omega arith)
+    (over look formed stop at mention change up low early none unrestarted e below there next c.next-mention.new.self (c.next-mention.ensures.cursor look.mentions.now at.mentions) (c.next-mention.ensures.found look.mentions.now at.mentions) c.next_restart-last.new.self turns c.down.result fell c.see.new.self c.see.ensures.down c.see.ensures.holders c.if-lasting.true
     (omega (arith, c.if-len-from.true, c.from.ensures, ap len c.gone.ensures)))
 
 pub returns-clause-stop : goal.returns-clause-stop
@@ -89,7 +89,7 @@ returns-clause-stop c later =
     let stop = c.args.stop.now in
     let mention = c.next-mention.result in
     let change = c.next_restart-last.result in
-    let at = c.requires.stop (omega (arith, c.if-stop-self.false)) in
+    let at = c.requires (omega (arith, c.if-stop-self.false)) in
     let formed = c.entries-entries.ensures.formed.accepted in
     let up : stop.t ≤ change = c.next_restart-last.ensures.bounds.0 in
     let low : change ≤ mention = c.next_restart-last.ensures.bounds.1 in
@@ -98,13 +98,13 @@ returns-clause-stop c later =
     let unrestarted : RestartsNone r.past (union stop.cover.down stop.cover.holders) stop.t change = subst (λ s. RestartsNone r.past s stop.t change) c.gone-gone.ensures c.next_restart-last.ensures.none in
     let e = c.index-entries-last.result in
     let below : change < look.end = omega (arith, low, early, c.if-last-self.false) in
-    let inside : change < length r.past = omega (arith, below, c.requires.look.within) in
+    let inside : change < length r.past = omega (arith, below, c.args.self.now.within) in
     let there = entry_read r c.entries-entries.result.now c.entries-entries.ensures.value change e inside c.index-entries-last.is in
     let next = next_state r c.entries-entries.result.now c.entries-entries.ensures.value change e inside c.index-entries-last.is in
     let turns : HasPassed look.run.turns.now change c.next_restart-last.new.self = subst (λ ts. HasPassed ts change c.next_restart-last.new.self) at.turns c.next_restart-last.ensures.passed in
     let walk = passed_down r.past look.run.turns.now change c.next_restart-last.new.self look.run.turned turns in
     let fell : Shows c.down.result (λ p. is_down (instant r.past change) p) = c.down.ensures r.past change (omega (arith, inside)) walk.0 walk.1 in
-    onward_stop look c.requires.look formed stop at mention change up low early none unrestarted e below there next c.next-mention.new.self (c.next-mention.ensures.cursor look.mentions.now at.mentions) (c.next-mention.ensures.found look.mentions.now at.mentions) c.next_restart-last.new.self turns c.down.result fell c.see.new.self c.see.ensures.down c.see.ensures.holders _ refl refl refl refl
+    onward_stop look formed stop at mention change up low early none unrestarted e below there next c.next-mention.new.self (c.next-mention.ensures.cursor look.mentions.now at.mentions) (c.next-mention.ensures.found look.mentions.now at.mentions) c.next_restart-last.new.self turns c.down.result fell c.see.new.self c.see.ensures.down c.see.ensures.holders _ refl refl refl refl
 
 pub returns-clause-passed : goal.returns-clause-passed
 returns-clause-passed c =
@@ -113,7 +113,7 @@ returns-clause-passed c =
     let stop = c.args.stop.now in
     let mention = c.next-mention.result in
     let change = c.next_restart-last.result in
-    let at = c.requires.stop (omega (arith, c.if-stop-self.false)) in
+    let at = c.requires (omega (arith, c.if-stop-self.false)) in
     let formed = c.entries-entries.ensures.formed.accepted in
     let up : stop.t ≤ change = c.next_restart-last.ensures.bounds.0 in
     let low : change ≤ mention = c.next_restart-last.ensures.bounds.1 in
@@ -121,5 +121,5 @@ returns-clause-passed c =
     let none : HasNoneUntil look.mentions.now stop.t mention = c.next-mention.ensures.none look.mentions.now at.mentions in
     let unrestarted : RestartsNone r.past (union stop.cover.down stop.cover.holders) stop.t change = subst (λ s. RestartsNone r.past s stop.t change) c.gone-gone.ensures c.next_restart-last.ensures.none in
     let s : Stretch = record { first = stop.t; last = change; standing = c.standing-standing.result } in
-    passed_to look c.requires.look formed stop at mention change up low early none unrestarted s (change + 1) refl refl c.standing-standing.ensures (omega arith) (omega (arith, low, early))
+    passed_to look formed stop at mention change up low early none unrestarted s (change + 1) refl refl c.standing-standing.ensures (omega arith) (omega (arith, low, early))
     (λ u above under. absurd (omega (arith, above, under)))

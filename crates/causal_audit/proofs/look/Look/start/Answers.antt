@@ -10,11 +10,11 @@ returns-clause-stop c =
     let look = c.args.self.now in
     let past = look.run.trace.now.recording.past in
     let t = c.first_of-t.result in
-    let within : t ≤ length past = omega (arith, c.first_of-t.ensures.before, c.requires.from, c.requires.look.within) in
-    let unheard = unheard_until past t look.det look.mentions.now t c.requires.look.mentioned c.first_of-t.ensures.none (omega arith) within in
+    let within : t ≤ length past = omega (arith, c.first_of-t.ensures.before, c.requires, look.within) in
+    let unheard = unheard_until past t look.det look.mentions.now t look.mentioned c.first_of-t.ensures.none (omega arith) within in
     let walk = passed_down past look.run.turns.now t c.from-turns.result look.run.turned c.from-turns.ensures in
     record {
-      within = omega (arith, c.first_of-t.ensures.before, c.requires.from);
+      within = omega (arith, c.first_of-t.ensures.before, c.requires);
       mentions = c.at.ensures;
       turns = c.from-turns.ensures.over;
       down = c.down.ensures past t within walk.0 walk.1;

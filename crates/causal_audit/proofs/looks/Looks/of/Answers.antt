@@ -8,8 +8,8 @@ use Rattle.causal_audit.proofs.looks.Looks.of.Goals as goal
 abbrev positions : Vec ℕ Global → List ℕ
 positions list = list.items
 
-pub of-requires : goal.of-requires
-of-requires c =
+pub invariant_of-look : goal.invariant_of-look
+invariant_of-look c =
     let r = c.args.run.now.trace.now.recording in
     let mentions = c.args.mentions.now in
     let det = c.det-det.result in

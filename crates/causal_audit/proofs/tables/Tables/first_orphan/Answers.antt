@@ -80,8 +80,8 @@ index-requires c =
     let at : det_at c.self.inside.trace.recording.past c.args.k ≡ Some c.args.det = rw (← c.self.view_is) at c.requires.delivery in
     omega (arith, det_within c.self.inside.trace.recording.past c.args.k c.args.det at, c.self.invariant.1.spread.count)
 
-pub uncovered_until-until-requires-clause-look : goal.uncovered_until-until-requires-clause-look
-uncovered_until-until-requires-clause-look c =
+pub invariant_of-look : goal.invariant_of-look
+invariant_of-look c =
     let past = c.self.inside.trace.recording.past in
     let indexes = c.self.invariant.1 in
     let mentions = map positions c.self.inside.mentions.lists.items in
