@@ -54,7 +54,6 @@ pub fn lanes_of(
     ensures few { IfOk result (λ lanes. vec_len lanes ≤ LANES) }
 {
     let mut lanes = empty_lists(alloc, clocks.lanes())?;
-    let _count = clocks.len();
     for (i, entry) in entries.iter().enumerate() {
         note_event(&mut lanes, entry, clocks.lane(i as u32), i as u32)?;
     }

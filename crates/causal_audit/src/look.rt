@@ -3,7 +3,9 @@
 ghost use Rattle.std.specs.Prelude.{◌≡◌, ◌≤◌, ◌<◌, ◌∷◌, true, length, List, MatchOption};
 ghost use Rattle.std.specs.List.Sorted.{IsNonDecreasing};
 ghost use Rattle.causal_trace.specs.declared.entry.Entry.{Entry};
+ghost use Rattle.causal_trace.specs.Limits.{max_entries};
 ghost use Rattle.causal_trace.specs.Past.{is_stable};
+ghost use Rattle.causal_trace.specs.Rows.{IsWellFormed};
 ghost use Rattle.causal_audit.specs.Inside.Ahead.{HasNoneUntil};
 ghost use Rattle.causal_audit.specs.Inside.Changes.{AreMentionsOf, HasMentions};
 ghost use Rattle.causal_audit.specs.Inside.Outlines.{AreMentionsOf-prop};
@@ -92,6 +94,8 @@ impl<'a> Look<'a> {
     /// stable or held by too many for good is not looked at any more.
     pub fn next(&self, stop: &mut Stop<'a>, budget: &mut Budget) -> Option<Stretch>
         requires { stop.old.t ≤ self.now.end → IsStop self.now stop.old }
+        ensures formed { IsWellFormed self.now.run.trace.now.recording }
+        ensures short { self.now.end ≤ max_entries }
         ensures stop { stop.new.t ≤ self.now.end → IsStop self.now stop.new }
         ensures passed { MatchOption result (self.now.end < stop.old.t) (IsPassed self.now stop.old.t stop.new.t) }
     {

@@ -46,7 +46,6 @@ pub fn spreads_of(alloc: Global, entries: &[Entry], clocks: &Clocks) -> Result<V
     let end = entries.len() as u32;
     let mut spreads = vec![in alloc; end; entries.len()]?;
     let mut outs = [end; LANES];
-    let _lanes = clocks.lanes();
     let mut i = end;
     while i > 0 {
         i -= 1;

@@ -33,7 +33,6 @@ pub fn uncovered_until(look: &Look<'_>, spread: u32, k: u32, budget: &mut Budget
     requires stays { StaysUntil look.now.run.trace.now.recording.past k spread }
     ensures { HasNoOrphanFrom look.now.run.trace.now.recording look.now.most k result look.now.end }
 {
-    let _entries = look.run.trace.entries();
     let mut stop = look.start(k.min(look.end));
     let mut until = 0;
     while let Some(stretch) = look.next(&mut stop, budget) {

@@ -72,8 +72,7 @@ fn end_of(trace: &Trace, stretch: Stretch) -> u32
     ensures value { result ≡ stretch.first + stretch.count }
     ensures formed { IsWellFormed trace.now.recording }
 {
-    let _entries = trace.len();
-    stretch.first + stretch.count
+    trace.len().min(stretch.first + stretch.count)
 }
 
 /// The event of the entry at a position.

@@ -28,7 +28,7 @@ loop-i-preserved c =
     c.note_spread.ensures.spreads in
     let outs : c.note_spread.new.outs ≡ slice_set c.loop-i.outs c.lane-lane.result first =
     c.note_spread.ensures.outs in
-    let inside : c.lane-lane.result < length c.loop-i.outs = omega (arith, c.lane-lane.ensures.within, c.lanes-lanes.ensures.counted, c.lanes-lanes.ensures.few, c.loop-i.invariant.lanes) in
+    let inside : c.lane-lane.result < length c.loop-i.outs = omega (arith, c.lane-lane.ensures.within, c.lane-lane.ensures.few, c.loop-i.invariant.lanes) in
     record {
       within = omega (arith, below);
       count = omega (arith, ap length written, length-set (with_delivered e i c.loop-i.spreads.items) i first, noted_length e i c.loop-i.spreads.items, c.loop-i.invariant.count);

@@ -20,7 +20,7 @@ pub loop-stretch-preserved : goal.loop-stretch-preserved
 loop-stretch-preserved c =
     let look = c.args.look.now in
     let r = look.run.trace.now.recording in
-    let formed = c.entries-entries.ensures.formed.accepted in
+    let formed = c.in-Some.ensures.formed.accepted in
     let s = c.in-Some.stretch in
     let passed = c.in-Some.ensures.passed in
     let told = c.uncovered_until-until.ensures in
