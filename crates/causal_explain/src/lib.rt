@@ -1,5 +1,5 @@
 //! Why a verdict on a recorded run is so: who holds the determinant and who lost it, who is down, and over which entries an
-//! orphan comes to depend on the delivery. Begin at [`Explanation`].
+//! orphan comes to depend on the delivery. Begin at [`Explanation`]; for a run that is accepted, at [`Closest`].
 #![tactic(auto)]
 
 pub mod chain;

@@ -182,21 +182,23 @@ fn whole_reasons(rt: HostRuntime) {
 // The verdict's line comes first, as the audit prints it. Just where the trace is accepted, what comes closest to
 // failing stands below it, and of these short ones it is told.
 #[test]
-fn the_verdict_first(rt: HostRuntime) {
+fn the_verdict_first(rt: HostRuntime) -> Result<(), Fail> {
     for judged in &JUDGED {
         for (f, line) in judged.lines {
             let (_, out) = shown(&rt, judged.text, *f, View::Reason);
             assert!(rt; out.starts_with(line.as_bytes()), "{}", judged.name);
-            let why = &out.as_slice()[line.len()..];
+            let closest = format!(in rt.alloc(); "{line}closest faults=")?;
             assert_eq!(rt;
-                why.starts_with(b"closest faults="),
+                out.starts_with(closest.as_bytes()),
                 line.starts_with("accept"),
                 "{}",
                 judged.name
             );
-            assert!(rt; !why.starts_with(b"closest faults=?"), "{}", judged.name);
+            let untold = format!(in rt.alloc(); "{line}closest faults=?")?;
+            assert!(rt; !out.starts_with(untold.as_bytes()), "{}", judged.name);
         }
     }
+    Ok(())
 }
 
 #[test]
