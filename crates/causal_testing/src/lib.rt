@@ -7,6 +7,8 @@ mod audits;
 #[cfg(test)]
 mod clocks;
 #[cfg(test)]
+mod closest_failures;
+#[cfg(test)]
 mod cores;
 #[cfg(test)]
 mod entries;
