@@ -122,8 +122,8 @@ def plan():
     rows += [(shape, "hostile", f, 1) for shape in hostile.SHAPES for f in ("1", "0")]
     rows += [(shape, "hostile", "1", 1) for shape in hostile.LINES]
     rows += [(shape, "safe", "1", 1) for shape in shapes if shape != "lists"]
-    rows += [(shape, "safe", "1", workers) for shape in shapes for workers in (2, 4)]
     rows += [(shape, "safe", f, 1) for f in FAULTS if f != "1" for shape in shapes]
+    rows += [(shape, "safe", "1", workers) for shape in shapes for workers in (2, 4)]
     for variant in ("breach", "stable"):
         rows += [(shape, variant, f, 1) for f in FAULTS for shape in shapes]
     return rows

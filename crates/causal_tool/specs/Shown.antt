@@ -6,7 +6,7 @@ use Rattle.causal_audit.specs.declared.verdict.Verdict.TheVariants.{Accept}
 use Rattle.causal_report.specs.Drawings.{IsDrawing}
 use Rattle.causal_report.specs.Reasons.{IsReason}
 use Rattle.causal_tool.specs.declared.ended.Ended.{Ended}
-use Rattle.causal_tool.specs.declared.ended.Ended.TheVariants.{Accepted, Breached, Faulted, ReadFault, WriteFault, NoMemory, NoWorker}
+use Rattle.causal_tool.specs.declared.ended.Ended.TheVariants.{Accepted, Breached, ReadFault, WriteFault, NoMemory, NoWorker}
 use Rattle.causal_tool.specs.declared.shown.View.{View}
 use Rattle.causal_tool.specs.declared.shown.View.TheVariants.{Reason, Picture}
 use Rattle.causal_tool.specs.Streams.{IsAnswer}

@@ -41,7 +41,8 @@ pub fn show_and_tell<R: Threads + Wait, I: Read, O: Write>(
     f: u16,
     view: View,
 ) -> Told<TextFault>
-    ensures writes { ShowsFor view (I.remaining input.old) f result.ended (O.contents output.old) (O.contents output.new) }
+    ensures writes { ShowsFor view (I.remaining input.old) f result.ended
+        (O.contents output.old) (O.contents output.new) }
     ensures fault { NamesFirstFault (I.remaining input.old) result.fault }
     ensures alone { result.ended ≢ Ended.NoWorker }
 {
