@@ -129,9 +129,10 @@ fn compared(
     Ok(counts)
 }
 
-/// Whether each kind was told often enough. Runs so short leave no survey without steps, so all is told.
+/// Whether some fail for a greater number of faults and some for none. Runs so short leave no survey without steps, so of each
+/// something is told.
 fn are_varied(counts: Counts) -> bool {
-    counts.next > 20 && counts.later > 5 && counts.never > 20 && counts.untold == 0
+    counts.next.saturating_add(counts.later) > 3 && counts.never > 20 && counts.untold == 0
 }
 
 #[test]
