@@ -122,11 +122,16 @@ def plan():
     rows += [(shape, "hostile", f, 1) for shape in hostile.SHAPES for f in ("1", "0")]
     rows += [(shape, "hostile", "1", 1) for shape in hostile.LINES]
     rows += [(shape, "safe", "1", 1) for shape in shapes if shape != "lists"]
-    rows += [(shape, "safe", f, 1) for f in FAULTS if f != "1" for shape in shapes]
     rows += [(shape, "safe", "1", workers) for shape in shapes for workers in (2, 4)]
     for variant in ("breach", "stable"):
         rows += [(shape, variant, f, 1) for f in FAULTS for shape in shapes]
     return rows
+
+
+def plan_of_faults():
+    """The same for other numbers of faults, beside one row for one: of the shapes that cost most."""
+    shapes = ("long", "star", "restarts", "lists")
+    return [("lists", "safe", "1", 1)] + [(shape, "safe", f, 1) for shape in shapes for f in ("0", "n", "3")]
 
 
 def output_of(command, otherwise):
@@ -371,9 +376,8 @@ def audit_section(rows, before):
     )
 
 
-def measure_audit(given, start):
-    """The section on the audit, and what was answered wrongly."""
-    rows = plan()
+def measure_audit(given, start, rows):
+    """The section on the audit by these rows, and what was answered wrongly."""
     abouts = make_inputs(rows, given.seed)
     rows = [Row(abouts[row[:3]], row[3]) for row in rows]
     for row in rows:
@@ -396,9 +400,9 @@ def facts_of(part, given, load, start):
         "Seed": given.seed,
         "Time taken": f"{time.monotonic() - start:.0f} s",
     }
-    if part != "audit":
+    if part not in ("audit", "faults"):
         del facts["Yardsticks"]
-    if part not in ("audit", "shown"):
+    if part not in ("audit", "faults", "shown"):
         del facts["Seed"]
     return "\n".join(f"- {name}: {value}" for name, value in facts.items())
 
@@ -419,11 +423,18 @@ def earlier(name):
     return text if f"- Machine: {machine()}\n" in text else ""
 
 
-SECTIONS = {"runtime": "Runtime", "log": "The runtime's log", "audit": "Audit", "shown": "Why a verdict is so"}
+SECTIONS = {
+    "runtime": "Runtime",
+    "log": "The runtime's log",
+    "audit": "Audit",
+    "faults": "Audit for other numbers of faults",
+    "shown": "Why a verdict is so",
+}
 MEASURES = {
     "runtime": lambda given, start: measure_runtime(given, earlier("Runtime")),
     "log": lambda given, start: runtime_log.section(),
-    "audit": measure_audit,
+    "audit": lambda given, start: measure_audit(given, start, plan()),
+    "faults": lambda given, start: measure_audit(given, time.monotonic(), plan_of_faults()),
     "shown": lambda given, start: measure_shown(given, earlier("Why a verdict is so")),
 }
 
