@@ -74,8 +74,8 @@ event_told : (past : List Entry) (x : Entry) → IsSupplied past x → (what : E
 event_told past (Send from to ssn) h = (shown.Send from to ssn, refl)
 event_told past (Deliver to send rsn listed) h =
     elim (entry_at past send) as (λ o. option_map_or (is_send_to to.0) o false ≡ true
-        → (what : Event)
-        × (option_map (λ m. shown.Delivery (det_from to rsn m) send) (option_and_then message_sent o) ≡ Some what)) [
+    → (what : Event)
+    × (option_map (λ m. shown.Delivery (det_from to rsn m) send) (option_and_then message_sent o) ≡ Some what)) [
       | None ↦ λ k. absurd (false≢true k)
       | Some e ↦ λ k. delivery_told to send rsn e k
     ] h
@@ -91,7 +91,7 @@ mark_there n past all k h =
     let at = supplied_at n past all k h in
     let what = event_told past at.0 at.2 in
     let told : option_and_then (event_of past) (entry_at past k) ≡ Some what.0 =
-        ap (option_and_then (event_of past)) at.1 ∙ what.1 in
+    ap (option_and_then (event_of past)) at.1 ∙ what.1 in
     let mark : Event → Mark = λ e. record { position = k; event = e } in
     (record { position = k; event = what.0 }, ap (option_map mark) told, refl)
 
@@ -103,7 +103,7 @@ positions_shown h a (suc c) each =
     let first = each a (omega arith) (omega arith) in
     let own : first.0.position ≡ a = first.2 in
     let rest : map (λ (m : Mark). m.position) (filter_map h (range_with_len (a + 1) c)) ≡ range_with_len (a + 1) c =
-        positions_shown h (a + 1) c (λ k low high. each k (omega arith) (omega arith)) in
+    positions_shown h (a + 1) c (λ k low high. each k (omega arith) (omega arith)) in
     rw (first.1, own, rest) refl
 
 -- so the marks of a stretch are those of its entries, one of each
