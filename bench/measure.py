@@ -129,9 +129,9 @@ def plan():
 
 
 def plan_of_faults():
-    """The same for other numbers of faults, beside one row for one: of the shapes that cost most."""
-    shapes = ("long", "star", "restarts", "lists")
-    return [("lists", "safe", "1", 1)] + [(shape, "safe", f, 1) for shape in shapes for f in ("0", "n", "3")]
+    """The same for other numbers of faults, beside one row for one: those that cost most come first."""
+    order = ["lists", "restarts", "star", "long", "gossip", "ring", "chain", "bytes"]
+    return [("lists", "safe", "1", 1)] + [(shape, "safe", f, 1) for f in ("n", "3", "0") for shape in order]
 
 
 def output_of(command, otherwise):
