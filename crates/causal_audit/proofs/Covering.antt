@@ -10,7 +10,7 @@ use Rattle.causal_name.specs.declared.Det.{Det}
 use Rattle.causal_name.specs.Sets.{count_below}
 use Rattle.causal_holders.proofs.Lemmas.Counting.{count_below-le, count_below-within, members_counted}
 use Rattle.causal_trace.specs.declared.entry.Entry.{Entry}
-use Rattle.causal_trace.specs.Past.{instant, entry_at, det_at, has, is_down, logs}
+use Rattle.causal_trace.specs.Past.{instant, entry_at, has, is_down, logs}
 use Rattle.causal_trace.specs.Rows.{AreAccepted}
 use Rattle.causal_trace.specs.Judgement.{HasOrphan}
 use Rattle.causal_audit.specs.Inside.Ahead.{HasNoneUntil}

@@ -1,13 +1,12 @@
 -- A delivery that has not left its receiver, and whose receiver has crashed since.
-use Rattle.std.proofs.Common.{ℕ, ◌≡◌, ◌+◌, ◌<◌, ◌≤◌, inl, inr, Bool, true, false, cond, List, ◌∷◌, length, Some, refl, sym, ap, subst, ◌∙◌, arith}
+use Rattle.std.proofs.Common.{ℕ, ◌≡◌, ◌+◌, ◌<◌, ◌≤◌, inl, inr, Bool, true, false, cond, List, ◌∷◌, refl, sym, ap, subst, ◌∙◌, arith}
 use Rattle.std.specs.Prelude.{◌⊎◌, ◌==◌, ◌||◌, not, ◌&&◌}
 use Rattle.std.proofs.lemmas.Bool.{false≢true, eq-eqb}
 use Rattle.std.proofs.lemmas.Bool.Decides.{eqb_tells}
-use Rattle.causal_name.specs.declared.Det.{Det}
 use Rattle.causal_trace.specs.declared.entry.Entry.{Entry}
 use Rattle.causal_trace.specs.declared.entry.Entry.TheVariants.{Send, Deliver, Stable, Crash, Restart, Forget}
 use Rattle.causal_trace.specs.Past.{instant, is_down, lane}
-use Rattle.causal_trace.specs.Dependence.{Depends, IsEventOf}
+use Rattle.causal_trace.specs.Dependence.{IsEventOf}
 use Rattle.causal_trace.proofs.Lemmas.AtInstants.{instant_length, det_then}
 use Rattle.causal_trace.proofs.Lemmas.Happened.{event_once}
 use Rattle.causal_trace.proofs.Lemmas.Reached.{event_below, event_lane}

@@ -2,5 +2,6 @@
 pub mod AmongLemmas
 pub mod Judged
 pub mod LeastLemmas
+pub mod NumberLemmas
 pub mod OneVerdict
 pub mod UpTo

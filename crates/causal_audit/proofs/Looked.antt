@@ -1,9 +1,8 @@
 -- One step of a look at a determinant.
-use Rattle.std.proofs.Common.{ℕ, ◌≡◌, ◌+◌, ◌<◌, ◌≤◌, inl, inr, true, List, ◌∷◌, length, get_or, Some, refl, sym, ap, subst, ◌∙◌, arith}
+use Rattle.std.proofs.Common.{ℕ, ◌≡◌, ◌+◌, ◌<◌, ◌≤◌, inl, inr, true, List, ◌∷◌, length, Some, sym, ap, subst, ◌∙◌, arith}
 use Rattle.std.specs.Prelude.{◌==◌, Contains}
 use Rattle.std.specs.Ordering.{nat_cmp}
 use Rattle.std.specs.FinSet.{FinSet, difference, len, union}
-use Rattle.causal_name.specs.Sets.{count_below}
 use Rattle.causal_trace.specs.declared.entry.Entry.{Entry}
 use Rattle.causal_trace.specs.Past.{instant, entry_at, has, is_down, is_stable, logs}
 use Rattle.causal_trace.specs.Rows.{AreAccepted}
@@ -20,7 +19,6 @@ use Rattle.causal_audit.specs.Inside.Passing.{HasPassed}
 use Rattle.causal_audit.specs.Inside.Sights.{Shows, ShowsDownAfter, ShowsHoldersAfter}
 use Rattle.causal_audit.specs.Inside.Standing.{IsThinAt, StandsBy}
 use Rattle.causal_audit.specs.Inside.Staying.{MentionsNone, RestartsNone}
-use Rattle.causal_audit.specs.Laws.{gone}
 use Rattle.causal_audit.specs.Quiet.{mentioned_by}
 use Rattle.causal_audit.proofs.Covering.{gone_many, holds_until, mentioned_next, none_mention, stands_until}
 use Rattle.causal_audit.proofs.Cursors.{cursor_later}

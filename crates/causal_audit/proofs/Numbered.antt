@@ -16,27 +16,12 @@ use Rattle.causal_trace.proofs.Lemmas.Accepted.{delivers_sent}
 use Rattle.causal_audit.specs.Numbers.{is_delivery, IsNumbered, ArePositions}
 use Rattle.causal_trace.proofs.Lemmas.AtInstants.{instants_stay, one_more_instant}
 use Rattle.causal_audit.proofs.Legal.{sent_is}
+use Rattle.causal_audit.proofs.Lemmas.NumberLemmas.{no_fewer, one_more}
 
 pub numbered_place : (past : List Entry) (i k : ℕ) → IsNumbered past i k → k < length past
 numbered_place [] i k n = absurd n
 numbered_place (e ∷ past) i k (inl n) = omega (arith, numbered_place past i k n)
 numbered_place (e ∷ past) i k (inr n) = omega (arith, n.0)
-
-one_more : (e : Entry) (past : List Entry) → is_delivery e ≡ true → deliveries_in (e ∷ past) ≡ deliveries_in past + 1
-one_more (Send from to ssn) past h = absurd (false≢true h)
-one_more (Deliver to send rsn listed) past h = refl
-one_more (Stable det) past h = absurd (false≢true h)
-one_more (Crash who) past h = absurd (false≢true h)
-one_more (Restart who listed) past h = absurd (false≢true h)
-one_more (Forget who listed) past h = absurd (false≢true h)
-
-no_fewer : (e : Entry) (past : List Entry) → deliveries_in past ≤ deliveries_in (e ∷ past)
-no_fewer (Send from to ssn) past = omega arith
-no_fewer (Deliver to send rsn listed) past = omega arith
-no_fewer (Stable det) past = omega arith
-no_fewer (Crash who) past = omega arith
-no_fewer (Restart who listed) past = omega arith
-no_fewer (Forget who listed) past = omega arith
 
 pub deliveries_few : (past : List Entry) → deliveries_in past ≤ length past
 deliveries_few [] = omega arith
@@ -68,28 +53,7 @@ numbered_order (e ∷ past) i m j k (inl a) (inr b) h = omega (arith, numbered_p
 numbered_order (e ∷ past) i m j k (inr a) (inl b) h = absurd (omega (arith, numbered_below past m k b, a.2, h))
 numbered_order (e ∷ past) i m j k (inr a) (inr b) h = omega (arith, a.0, b.0)
 
-delivers : (past : List Entry) (e : Entry) (d : Det) → det_of past e ≡ Some d → is_delivery e ≡ true
-delivers past (Send from to ssn) d h = absurd (let x : None ≡ Some d = h in cc)
-delivers past (Deliver to send rsn listed) d h = refl
-delivers past (Stable det) d h = absurd (let x : None ≡ Some d = h in cc)
-delivers past (Crash who) d h = absurd (let x : None ≡ Some d = h in cc)
-delivers past (Restart who listed) d h = absurd (let x : None ≡ Some d = h in cc)
-delivers past (Forget who listed) d h = absurd (let x : None ≡ Some d = h in cc)
-
--- a delivery with a determinant has a number
-pub has_number : (past : List Entry) (k : ℕ) (d : Det) → det_at past k ≡ Some d → (i : ℕ) × (i < deliveries_in past) × IsNumbered past i k
-has_number [] k d at = absurd (let x : None ≡ Some d = at in cc)
-has_number (e ∷ past) k d at =
-    elim (eqb_tells k (length past)) [
-      | inl here ↦
-          let is : is_delivery e ≡ true = delivers past e d (sym (cond-true (k == length past) (det_of past e) (det_at past k) here.0) ∙ at) in
-          (deliveries_in past, omega (arith, one_more e past is), inr (here.1, is, refl))
-      | inr there ↦
-          let old : (i : ℕ) × (i < deliveries_in past) × IsNumbered past i k = has_number past k d (sym (cond-false (k == length past) (det_of past e) (det_at past k) there.0) ∙ at) in
-          (old.0, omega (arith, old.1, no_fewer e past), inl old.2)
-    ]
-
--- and it has the same number at each later instant
+-- a delivery has the same number at each later instant
 pub numbered_later : (past : List Entry) (t i k : ℕ) → t ≤ length past → IsNumbered (instant past t) i k → IsNumbered past i k
 numbered_later [] t i k within n = elsewhere (0 - t) n
   where

@@ -1,5 +1,5 @@
 -- Where a delivery has an orphan its determinant is thin.
-use Rattle.std.proofs.Common.{ℕ, ◌≡◌, ◌+◌, ◌-◌, ◌<◌, ◌≤◌, inl, inr, Bool, true, false, List, length, Some, sym, subst, ◌∙◌, arith}
+use Rattle.std.proofs.Common.{ℕ, ◌≡◌, ◌+◌, ◌-◌, ◌<◌, ◌≤◌, inl, inr, List, length, Some, ◌∙◌, arith}
 use Rattle.std.specs.Prelude.{min}
 use Rattle.std.proofs.lemmas.Bool.{cases_lt, false_from_ne_true}
 use Rattle.causal_name.specs.declared.Det.{Det}
@@ -8,14 +8,12 @@ use Rattle.causal_trace.specs.Past.{det_at, instant}
 use Rattle.causal_trace.specs.Rows.{AreAccepted, Recording}
 use Rattle.causal_trace.specs.Judgement.{HasOrphan}
 use Rattle.causal_trace.proofs.Lemmas.AtInstants.{det_then, instant_length}
-use Rattle.causal_audit.specs.declared.look.Look.{Look}
 use Rattle.causal_audit.specs.declared.thin.Standing.{Standing}
 use Rattle.causal_audit.specs.declared.thin.Standing.TheVariants.{Kept, Thin, Bare}
 use Rattle.causal_audit.specs.declared.thin.Stretch.{Stretch}
 use Rattle.causal_audit.specs.declared.thins.Thins.{Thins}
 use Rattle.causal_audit.specs.Breaches.{HasNoOrphanFrom}
 use Rattle.causal_audit.specs.Inside.Crashes.{IsFirstCrash}
-use Rattle.causal_audit.specs.Inside.Looks.{IsPassed}
 use Rattle.causal_audit.specs.Inside.Standing.{IsBareAt, IsThinAt, RulesOut}
 use Rattle.causal_audit.specs.Inside.Thins.{AreThins, MayBeOpen}
 use Rattle.causal_audit.specs.Inside.Until.{IsLeftBy, MayBeIn}

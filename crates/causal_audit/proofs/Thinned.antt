@@ -1,8 +1,8 @@
 -- What a look finds, stretch by stretch, and what it tells of a delivery.
-use Rattle.std.proofs.Common.{ℕ, ◌≡◌, ◌+◌, ◌-◌, ◌<◌, ◌≤◌, inl, inr, List, [], ◌∷◌, ◌++◌, length, get_or, refl, sym, subst, ◌∙◌, arith}
-use Rattle.std.specs.Prelude.{◌⊎◌, Contains, min}
+use Rattle.std.proofs.Common.{ℕ, ◌≡◌, ◌-◌, ◌<◌, ◌≤◌, inl, inr, List, [], ◌∷◌, ◌++◌, length, get_or, sym, subst, arith}
+use Rattle.std.specs.Prelude.{◌⊎◌, min}
 use Rattle.std.specs.List.{All}
-use Rattle.std.specs.List.Sorted.{IsNonDecreasingBy, IsPartitionPoint}
+use Rattle.std.specs.List.Sorted.{IsPartitionPoint}
 use Rattle.std.proofs.lemmas.Bool.{cases_lt}
 use Rattle.std.proofs.lemmas.List.{get_or_default}
 use Rattle.std.proofs.lemmas.List.Elements.{All-push, All-weaker, Contains-append_left, Contains-push}
@@ -10,12 +10,10 @@ use Rattle.std.proofs.lemmas.List.Sorted.{IsNonDecreasingBy-push}
 use Rattle.causal_name.specs.declared.Det.{Det}
 use Rattle.causal_trace.specs.declared.entry.Entry.{Entry}
 use Rattle.causal_audit.specs.declared.look.Look.{Look}
-use Rattle.causal_audit.specs.declared.thin.Standing.{Standing}
-use Rattle.causal_audit.specs.declared.thin.Standing.TheVariants.{Kept, Thin, Bare}
 use Rattle.causal_audit.specs.declared.thin.Stretch.{Stretch}
 use Rattle.causal_audit.specs.declared.thins.Thins.{Thins}
 use Rattle.causal_audit.specs.Inside.Looks.{IsPassed}
-use Rattle.causal_audit.specs.Inside.Standing.{IsBareAt, IsThinAt, RulesOut}
+use Rattle.causal_audit.specs.Inside.Standing.{IsBareAt, IsThinAt}
 use Rattle.causal_audit.specs.Inside.Thins.{AreFound, AreRising, AreThins, IsInOne}
 
 -- where nothing is looked at nothing is found

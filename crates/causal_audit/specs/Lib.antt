@@ -5,6 +5,7 @@ pub mod Held
 pub mod Inside
 pub mod Lasting
 pub mod Laws
+pub mod Named
 pub mod Numbers
 pub mod Quiet
 pub mod Spread

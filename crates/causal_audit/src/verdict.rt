@@ -1,4 +1,7 @@
 //! What an audit says of a recorded run.
+ghost use Rattle.std.specs.Prelude.{◌≡◌, IfSome};
+
+use crate::breach::Breach;
 use causal_holders::Holders;
 
 /// The verdict on a trace for f. Instants count entries: instant t is the state after the first t of them.
@@ -19,4 +22,29 @@ pub enum Verdict {
         crash: Holders,
         orphan: u8,
     },
+}
+
+impl Verdict {
+    ghost use Rattle.causal_audit.specs.Named.{breach_of};
+
+    /// How the delivery that it names has an orphan; None where it names none.
+    pub fn breach(self) -> Option<Breach>
+        ensures value { result ≡ breach_of self }
+        ensures orphan { IfSome result (λ b. self ≡ Verdict.Orphan b.instant b.delivery b.crash b.orphan) }
+    {
+        match self {
+            Verdict::Orphan {
+                instant,
+                delivery,
+                crash,
+                orphan,
+            } => Some(Breach {
+                instant,
+                delivery,
+                crash,
+                orphan,
+            }),
+            Verdict::Accept | Verdict::Exceeded { .. } => None,
+        }
+    }
 }

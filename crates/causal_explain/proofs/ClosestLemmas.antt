@@ -17,7 +17,7 @@ use Rattle.causal_explain.specs.declared.closest.Closest.{Closest}
 use Rattle.causal_explain.specs.declared.closest.Closest.TheVariants.{Never, At, Untold}
 use Rattle.causal_explain.specs.Closest.{HasNoOrphan, IsClosest, Leaves}
 use Rattle.causal_explain.specs.Inside.Narrowing.{Finds}
-use Rattle.causal_explain.proofs.NumberLemmas.{has_number}
+use Rattle.causal_audit.proofs.Lemmas.NumberLemmas.{has_number}
 use Rattle.causal_explain.proofs.OrphanLemmas.{delivered_in}
 
 -- a crash set is one for more faults

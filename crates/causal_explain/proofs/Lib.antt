@@ -2,7 +2,6 @@ mod ChainLemmas
 mod ClosestLemmas
 mod ComingLemmas
 mod EachLemmas
-mod NumberLemmas
 mod OrphanLemmas
 mod SinceLemmas
 mod StandingLemmas

@@ -40,7 +40,6 @@ pub fn drawing_of(alloc: Global, trace: &Trace, verdict: Verdict) -> Result<Vec<
     ensures { IfOk result (λ text. IsDrawing trace.now.recording verdict text.items) }
 {
     match verdict {
-        Verdict::Accept => picture_of(alloc, trace, None),
         Verdict::Exceeded { instant, down } => {
             let focus = Focus {
                 instant,
@@ -49,19 +48,9 @@ pub fn drawing_of(alloc: Global, trace: &Trace, verdict: Verdict) -> Result<Vec<
             };
             picture_of(alloc, trace, Some(&focus))
         }
-        Verdict::Orphan {
-            instant,
-            delivery,
-            crash,
-            orphan,
-        } => {
-            let breach = Breach {
-                instant,
-                delivery,
-                crash,
-                orphan,
-            };
-            breach_drawing(alloc, trace, &breach)
-        }
+        _ => match verdict.breach() {
+            Some(breach) => breach_drawing(alloc, trace, &breach),
+            None => picture_of(alloc, trace, None),
+        },
     }
 }

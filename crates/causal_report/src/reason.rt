@@ -6,7 +6,7 @@ ghost use Rattle.causal_report.specs.Reasons.{IsReason};
 use crate::closest::closest_text;
 use crate::excess::excess_text;
 use crate::explained::explanation_text;
-use causal_audit::{Breach, Verdict};
+use causal_audit::Verdict;
 use causal_explain::{closest_failure, down_since, explain};
 use causal_name::NoMemory;
 use causal_trace::trace::Trace;
@@ -28,28 +28,19 @@ pub fn reason_text(
     ensures { IfOk result (λ text. IsReason trace.now.recording verdict text.items) }
 {
     match verdict {
-        Verdict::Accept => {
-            let closest = closest_failure(alloc, trace, f)?;
-            closest_text(alloc, closest)
-        }
         Verdict::Exceeded { instant, .. } => {
             let down = down_since(alloc, trace, instant)?;
             excess_text(alloc, down.as_slice())
         }
-        Verdict::Orphan {
-            instant,
-            delivery,
-            crash,
-            orphan,
-        } => {
-            let breach = Breach {
-                instant,
-                delivery,
-                crash,
-                orphan,
-            };
-            let explanation = explain(alloc, trace, &breach)?;
-            explanation_text(alloc, trace, &explanation)
-        }
+        _ => match verdict.breach() {
+            Some(breach) => {
+                let explanation = explain(alloc, trace, &breach)?;
+                explanation_text(alloc, trace, &explanation)
+            }
+            None => {
+                let closest = closest_failure(alloc, trace, f)?;
+                closest_text(alloc, closest)
+            }
+        },
     }
 }

@@ -2,7 +2,7 @@
 ghost use Rattle.causal_audit.specs.Verdicts.{IsVerdict};
 
 use crate::random_audits::{Walk, trace_of};
-use causal_audit::{Breach, Verdict};
+use causal_audit::Verdict;
 use causal_explain::{Closest, closest_failure};
 use causal_name::NoMemory;
 use causal_plain::judge;
@@ -32,23 +32,8 @@ const NONE: Counts = Counts {
 
 /// How a verdict fails for so many faults, if it names an orphan.
 fn failing(verdict: Verdict, faults: u16) -> Option<Closest> {
-    match verdict {
-        Verdict::Orphan {
-            instant,
-            delivery,
-            crash,
-            orphan,
-        } => {
-            let breach = Breach {
-                instant,
-                delivery,
-                crash,
-                orphan,
-            };
-            Some(Closest::At { faults, breach })
-        }
-        _ => None,
-    }
+    let breach = verdict.breach()?;
+    Some(Closest::At { faults, breach })
 }
 
 /// What has to be told of a trace that is accepted for f: how its verdict fails for the least number of faults for which it does,

@@ -225,22 +225,11 @@ fn verdict_explained(
     requires { (f : ℕ) × IsVerdict trace.now.recording f verdict }
 {
     match verdict {
-        Verdict::Accept => Ok(()),
         Verdict::Exceeded { instant, down } => down_explained(alloc, trace, instant, down, counts),
-        Verdict::Orphan {
-            instant,
-            delivery,
-            crash,
-            orphan,
-        } => {
-            let breach = Breach {
-                instant,
-                delivery,
-                crash,
-                orphan,
-            };
-            orphan_explained(alloc, trace, breach, counts)
-        }
+        _ => match verdict.breach() {
+            Some(breach) => orphan_explained(alloc, trace, breach, counts),
+            None => Ok(()),
+        },
     }
 }
 
@@ -421,6 +410,34 @@ fn each_breach_is_explained(rt: HostRuntime) -> Result<(), Fail> {
         assert_eq!(rt; counts.wrong, 0, "with {n} processes");
         assert!(rt; are_varied(counts), "with {n} processes");
     }
+    Ok(())
+}
+
+// A verdict names a breach where a delivery has an orphan, and nowhere else.
+#[test]
+fn verdicts_name_their_breaches(rt: HostRuntime) -> Result<(), Fail> {
+    let mut crash = Holders::none();
+    crash.insert(1);
+    crash.insert(3);
+    let orphan = Verdict::Orphan {
+        instant: 9,
+        delivery: 4,
+        crash,
+        orphan: 2,
+    };
+    let breach = Breach {
+        instant: 9,
+        delivery: 4,
+        crash,
+        orphan: 2,
+    };
+    assert_eq!(rt; orphan.breach(), Some(breach));
+    assert_eq!(rt; Verdict::Accept.breach(), None);
+    let exceeded = Verdict::Exceeded {
+        instant: 9,
+        down: crash,
+    };
+    assert_eq!(rt; exceeded.breach(), None);
     Ok(())
 }
 

@@ -14,7 +14,8 @@ use Rattle.causal_audit.specs.Numbers.{IsNumbered}
 use Rattle.causal_audit.specs.Breaches.{FirstBreachBy, IsFirstBreach, HasNoOrphanBy, HasNoOrphanFrom, IsLeastAmong, LeastAmongBy, LeastBreachBy, horizon}
 use Rattle.causal_audit.proofs.Lemmas.LeastLemmas.{before_least, not_before_least}
 use Rattle.causal_audit.proofs.Newly.{numbered_some}
-use Rattle.causal_audit.proofs.Numbered.{has_number, numbered_later, numbered_below}
+use Rattle.causal_audit.proofs.Lemmas.NumberLemmas.{has_number}
+use Rattle.causal_audit.proofs.Numbered.{numbered_later, numbered_below}
 
 module _ (r : Recording) (f : ℕ) where
   -- the first breach of a delivery is no later than any of its orphans

@@ -1,5 +1,5 @@
 -- Whether a delivery may be uncovered in a stretch.
-use Rattle.std.specs.Prelude.{◌≡◌, ℕ, ◌<◌, ◌≤◌}
+use Rattle.std.specs.Prelude.{ℕ, ◌<◌, ◌≤◌}
 use Rattle.causal_audit.specs.declared.thin.Standing.{Standing}
 use Rattle.causal_audit.specs.declared.thin.Standing.TheVariants.{Kept, Thin, Bare}
 use Rattle.causal_audit.specs.declared.thin.Stretch.{Stretch}

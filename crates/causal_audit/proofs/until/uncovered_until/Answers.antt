@@ -1,4 +1,4 @@
-use Rattle.std.proofs.Common.{ℕ, ◌<◌, ◌≤◌, inl, inr, length, arith}
+use Rattle.std.proofs.Common.{◌≤◌, inl, inr, length, arith}
 use Rattle.std.proofs.lemmas.Bool.{cases_lt}
 use Rattle.causal_trace.proofs.Lemmas.AtInstants.{instant_length}
 use Rattle.causal_audit.proofs.Opened.{orphan_in, orphan_thin}

@@ -5,6 +5,6 @@ use Rattle.causal_report.proofs.drawing.drawing_of.Goals as goal
 pub returns-in-Exceeded : goal.returns-in-Exceeded
 returns-in-Exceeded c =
     rw c.in-Exceeded.is
-    (IfOk-weaker c.picture_of-in-Exceeded.result _ _
+    (IfOk-weaker c.picture_of.result _ _
     (λ text same. record { focus = _; at_instant = refl; crashed = refl; linked = refl; pictured = same })
-    c.picture_of-in-Exceeded.ensures)
+    c.picture_of.ensures)

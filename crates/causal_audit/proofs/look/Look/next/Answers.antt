@@ -1,4 +1,4 @@
-use Rattle.std.proofs.Common.{◌≡◌, ◌+◌, ◌<◌, ◌≤◌, length, refl, ap, subst, sym, ◌∙◌, arith}
+use Rattle.std.proofs.Common.{◌+◌, ◌<◌, ◌≤◌, length, refl, ap, subst, arith}
 use Rattle.std.specs.FinSet.{len, union}
 use Rattle.causal_trace.specs.Past.{instant, is_down}
 use Rattle.causal_audit.specs.declared.thin.Stretch.{Stretch}

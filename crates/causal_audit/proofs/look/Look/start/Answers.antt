@@ -1,4 +1,4 @@
-use Rattle.std.proofs.Common.{◌≡◌, ◌≤◌, length, arith}
+use Rattle.std.proofs.Common.{◌≤◌, length, arith}
 use Rattle.causal_trace.specs.Past.{instant, logs}
 use Rattle.causal_audit.proofs.Begun.{unheard_until}
 use Rattle.causal_audit.proofs.Shown.{shows_none}

@@ -1,4 +1,4 @@
-use Rattle.std.proofs.Common.{ℕ, ◌≡◌, ◌+◌, ◌<◌, length, get_or, Some, sym, subst, ◌∙◌, arith}
+use Rattle.std.proofs.Common.{◌≡◌, ◌+◌, ◌<◌, length, Some, sym, subst, ◌∙◌, arith}
 use Rattle.causal_audit.specs.Inside.Filed.{number_of}
 use Rattle.causal_audit.specs.Inside.Thins.{AreThins}
 use Rattle.causal_audit.proofs.Mentioned.{number_below}

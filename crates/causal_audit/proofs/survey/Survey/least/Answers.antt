@@ -6,7 +6,6 @@ use Rattle.causal_audit.specs.declared.breach.Surveyed.{Surveyed}
 use Rattle.causal_audit.specs.declared.breach.Surveyed.TheVariants.{Told, TooMany}
 use Rattle.causal_audit.specs.Breaches.{IsSurveyed}
 use Rattle.causal_audit.specs.Inside.Scans.{IsToldAmong, IsWindow, positions_of}
-use Rattle.causal_audit.specs.Inside.Surveys.{AreGathered}
 use Rattle.causal_audit.proofs.Lemmas.AmongLemmas.{among_all}
 use Rattle.causal_audit.proofs.Uncovered.{any_other}
 use Rattle.causal_audit.proofs.Windowed.{of_positions}

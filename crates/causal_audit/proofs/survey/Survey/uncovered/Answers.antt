@@ -1,4 +1,4 @@
-use Rattle.std.proofs.Common.{◌≡◌, arith, sym, subst}
+use Rattle.std.proofs.Common.{sym, subst}
 use Rattle.std.proofs.lemmas.List.Elements.{All-nil}
 use Rattle.causal_audit.specs.Inside.Scans.{IsWindow}
 use Rattle.causal_audit.specs.Inside.Surveys.{AreGathered}

@@ -1,5 +1,4 @@
-use Rattle.std.proofs.Common.{ℕ, ◌≡◌, ◌<◌, ◌≤◌, refl, sym, subst, arith}
-use Rattle.causal_trace.specs.declared.entry.Entry.{Entry}
+use Rattle.std.proofs.Common.{ℕ, ◌≤◌, refl, subst, arith}
 use Rattle.causal_audit.specs.declared.thin.Standing.TheVariants.{Kept}
 use Rattle.causal_audit.specs.Inside.Standing.{RulesOut}
 use Rattle.causal_audit.proofs.Thinned.{none_more, one_more}

@@ -1,4 +1,4 @@
-use Rattle.std.proofs.Common.{◌≤◌, arith}
+use Rattle.std.proofs.Common.{arith}
 use Rattle.causal_audit.proofs.thins.Thins.of.Goals as goal
 
 pub loop-stretch-init : goal.loop-stretch-init

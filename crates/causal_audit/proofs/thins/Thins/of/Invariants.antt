@@ -1,4 +1,4 @@
-use Rattle.std.proofs.Common.{ℕ, ◌≡◌, ◌+◌, ◌-◌, ◌≤◌}
+use Rattle.std.proofs.Common.{◌+◌, ◌-◌, ◌≤◌}
 use Rattle.causal_audit.specs.Inside.Looks.{IsStop}
 use Rattle.causal_audit.specs.Inside.Thins.{AreFound}
 use Rattle.causal_audit.proofs.thins.Thins.of.Given as goal

@@ -1,6 +1,4 @@
-use Rattle.std.proofs.Common.{ℕ, ◌≡◌, ◌<◌, ◌≤◌, List, length, get_or, Some, subst, arith}
-use Rattle.std.specs.FinSet.{FinSet}
-use Rattle.std.specs.Ordering.{nat_cmp}
+use Rattle.std.proofs.Common.{◌≡◌, ◌<◌, ◌≤◌, length, get_or, subst, arith}
 use Rattle.std.proofs.lemmas.Bool.{leb-true}
 use Rattle.causal_audit.proofs.Turned.{left_above, none_restarts, PassNone}
 use Rattle.causal_audit.proofs.turns.Turns.has_none.Goals as goal

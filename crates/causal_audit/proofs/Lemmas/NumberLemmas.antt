@@ -1,4 +1,4 @@
--- A delivery has a number among the deliveries.
+-- Deliveries are counted, and each has a number.
 use Rattle.std.proofs.Common.{ℕ, ◌≡◌, ◌+◌, ◌<◌, ◌≤◌, inl, inr, true, List, [], ◌∷◌, length, Some, None, refl, sym, ◌∙◌, arith}
 use Rattle.std.specs.Prelude.{◌==◌}
 use Rattle.std.proofs.lemmas.Bool.{false≢true, cond-true, cond-false}
@@ -9,7 +9,25 @@ use Rattle.causal_trace.specs.declared.entry.Entry.TheVariants.{Send, Deliver, S
 use Rattle.causal_trace.specs.Past.{det_at, det_of, deliveries_in}
 use Rattle.causal_audit.specs.Numbers.{is_delivery, IsNumbered}
 
--- an entry with a determinant is a delivery
+-- with a delivery there is one more of them
+pub one_more : (e : Entry) (past : List Entry) → is_delivery e ≡ true → deliveries_in (e ∷ past) ≡ deliveries_in past + 1
+one_more (Send from to ssn) past h = absurd (false≢true h)
+one_more (Deliver to send rsn listed) past h = refl
+one_more (Stable det) past h = absurd (false≢true h)
+one_more (Crash who) past h = absurd (false≢true h)
+one_more (Restart who listed) past h = absurd (false≢true h)
+one_more (Forget who listed) past h = absurd (false≢true h)
+
+-- and with any entry there are no fewer
+pub no_fewer : (e : Entry) (past : List Entry) → deliveries_in past ≤ deliveries_in (e ∷ past)
+no_fewer (Send from to ssn) past = omega arith
+no_fewer (Deliver to send rsn listed) past = omega arith
+no_fewer (Stable det) past = omega arith
+no_fewer (Crash who) past = omega arith
+no_fewer (Restart who listed) past = omega arith
+no_fewer (Forget who listed) past = omega arith
+
+-- what has a determinant is a delivery
 delivers : (past : List Entry) (e : Entry) (d : Det) → det_of past e ≡ Some d → is_delivery e ≡ true
 delivers past (Send from to ssn) d h = absurd (let x : None ≡ Some d = h in cc)
 delivers past (Deliver to send rsn listed) d h = refl
@@ -18,23 +36,7 @@ delivers past (Crash who) d h = absurd (let x : None ≡ Some d = h in cc)
 delivers past (Restart who listed) d h = absurd (let x : None ≡ Some d = h in cc)
 delivers past (Forget who listed) d h = absurd (let x : None ≡ Some d = h in cc)
 
-one_more : (e : Entry) (past : List Entry) → is_delivery e ≡ true → deliveries_in (e ∷ past) ≡ deliveries_in past + 1
-one_more (Send from to ssn) past h = absurd (false≢true h)
-one_more (Deliver to send rsn listed) past h = refl
-one_more (Stable det) past h = absurd (false≢true h)
-one_more (Crash who) past h = absurd (false≢true h)
-one_more (Restart who listed) past h = absurd (false≢true h)
-one_more (Forget who listed) past h = absurd (false≢true h)
-
-no_fewer : (e : Entry) (past : List Entry) → deliveries_in past ≤ deliveries_in (e ∷ past)
-no_fewer (Send from to ssn) past = omega arith
-no_fewer (Deliver to send rsn listed) past = omega arith
-no_fewer (Stable det) past = omega arith
-no_fewer (Crash who) past = omega arith
-no_fewer (Restart who listed) past = omega arith
-no_fewer (Forget who listed) past = omega arith
-
--- what has a determinant has a number
+-- a delivery with a determinant has a number
 pub has_number : (past : List Entry) (k : ℕ) (d : Det) → det_at past k ≡ Some d → (i : ℕ) × (i < deliveries_in past) × IsNumbered past i k
 has_number [] k d at = absurd (let x : None ≡ Some d = at in cc)
 has_number (e ∷ past) k d at =
