@@ -18,12 +18,12 @@ import runtime_log
 from texts import make_inputs, path_of
 from measure_runtime import measure_runtime
 from measure_shown import measure_shown
-from timed import HERE, INPUTS, LIMIT, SLOW, measure, measure_in_turn, ratio, target_line
+from timed import HERE, INPUTS, LIMIT, SLOW, TURNS, measure, measure_in_turn, ratio, ratio_in_turn, target_line
 
 TOP = os.path.dirname(HERE)
 RESULTS = os.path.join(HERE, "RESULTS.md")
 KIT_JSON = os.path.join(HERE, "out", "json_lines")
-FAULTS = ("0", "1", "3", "n")
+FAULTS = ("0", "1", "2", "8", "n")
 READ_AIM = 1.3  # reading and checking / the kit's JSON reader
 FULL_AIM = 1.6  # the whole audit / the same, where a million determinants are listed
 LEAN_AIM = 3.0  # the same where few are
@@ -69,22 +69,6 @@ def lists_many(about):
     return about["listed"] > generate.MAX_LISTED * 0.9
 
 
-def aims_met(about, runs):
-    """Whether the ratios of a row's runs are what is asked of them: reading, the kit's JSON reader and the whole audit, as far
-    as they are run."""
-    if not os.path.exists(KIT_JSON):
-        return True
-    read, kit = runs[:2]
-    if ratio(read, kit) > READ_AIM:
-        return False
-    if len(runs) == 2:
-        return True
-    full = runs[2]
-    if (about["shape"], about["f_word"]) in EARLY and ratio(full, read) > EARLY_AIM:
-        return False
-    return ratio(full, kit) <= (FULL_AIM if lists_many(about) else LEAN_AIM)
-
-
 def measure_row(row, program, path):
     about = row.about
     command = [program, "audit", "--faults", str(about["f"]), "--workers", str(row.workers)]
@@ -102,7 +86,7 @@ def measure_row(row, program, path):
         runs.append(([KIT_JSON], unjudged))
     if not is_line:
         runs.append((command, path))
-    row.read, *others = measure_in_turn(runs, lambda measured: aims_met(about, measured))
+    row.read, *others = measure_in_turn(runs)
     row.full = row.read if is_line else others.pop()
     kit = others
     if row.read.over or any(each.over for each in kit):
@@ -131,7 +115,7 @@ def plan():
 def plan_of_faults():
     """The same for other numbers of faults, beside one row for one: those that cost most come first."""
     order = ["lists", "restarts", "star", "long", "gossip", "ring", "chain", "bytes"]
-    return [("lists", "safe", "1", 1)] + [(shape, "safe", f, 1) for f in ("n", "3", "0") for shape in order]
+    return [("lists", "safe", "1", 1)] + [(shape, "safe", f, 1) for f in ("n", "8", "2", "0") for shape in order]
 
 
 def output_of(command, otherwise):
@@ -203,7 +187,7 @@ def columns(row, before):
         if row.kit is not None:
             cells["kit JSON s"] = f"{row.kit.least_processor():.3f}"
             cells["kit JSON peak MB"] = f"{row.kit.peak / 1e3:.1f}"
-            cells["read / kit"] = f"{ratio(read, row.kit):.2f}"
+            cells["read / kit"] = f"{ratio_in_turn(read, row.kit):.2f}"
             cells["whole / kit"] = f"{whole(row):.2f}"
     if row.key() in before and not full.over:
         cells["wall / last"] = f"{full.best() / before[row.key()]:.2f}"
@@ -259,8 +243,8 @@ def targets(rows):
         if (row.about["variant"], row.about["f_word"]) != ("safe", "1"):
             continue
         name = f"reading and checking `{row.key()[0]}` / the kit's JSON reader"
-        lines.append(target_line(name, ratio(row.read, row.kit), READ_AIM))
-    value, trace = worst(compared, lambda row: ratio(row.read, row.kit))
+        lines.append(target_line(name, ratio_in_turn(row.read, row.kit), READ_AIM))
+    value, trace = worst(compared, lambda row: ratio_in_turn(row.read, row.kit))
     lines.append(target_line(f"the same at worst, of all rows: `{trace}`", value, READ_AIM))
     # a fault keeps no trace
     kept = [row for row in compared if row.about["status"] != 2]
@@ -271,7 +255,7 @@ def targets(rows):
 
 def whole(row):
     """How long the whole audit takes, as a ratio to the kit's JSON reader on the same text."""
-    return ratio(row.full, row.kit)
+    return ratio_in_turn(row.full, row.kit)
 
 
 def audit_targets(rows):
@@ -304,7 +288,7 @@ def hostile_targets(rows):
         row = found.get((f"{shape} hostile", f, "1"))
         if row:
             lines.append(target_line(f"`{shape} hostile` for f = {f}, told at an early instant: whole audit / reading",
-                                     ratio(row.full, row.read), EARLY_AIM, row.full.over))
+                                     ratio_in_turn(row.full, row.read), EARLY_AIM, row.full.over))
     for shape in hostile.LINES:
         row = found.get((f"{shape} hostile", "1", "1"))
         if row:
@@ -333,9 +317,10 @@ ABOUT = """\
 Every trace stands at a limit. *f* is the `--faults` of the run, for which the trace was made (`n`: as many as there are
 processes). No run is safe for f = 0 in which a process crashes, so there the right answer is `exceeded`.
 
-Each time is the best of some runs: of one worker's five to fifteen, in turn with *read* and *kit JSON* (up to sixty where a
-ratio stands above its target, since what else the machine does only lengthens a time), and otherwise of three to five. *wall* is told with how much longer the longest was; all other times, and the ratios, are processor seconds (the
-system's part included), which the machine's other work lengthens less. `once` stands beside a run of more than {slow:.0f} seconds,
+Each time is the best of some runs: of one worker's {turns}, in turn with *read* and *kit JSON*, and otherwise of three to five.
+*wall* is told with how much longer the longest was; all other times, and the ratios, are processor seconds (the system's part
+included), which the machine's other work lengthens less. A ratio to *kit JSON* is the median of the turns' own ratios: the
+machine's speed changes within a minute, so the best times of two commands can come from different moments. `once` stands beside a run of more than {slow:.0f} seconds,
 and `over {limit:.0f}` where it was stopped after {limit:.0f} seconds without an answer. *wall*, *processor*, *peak*, *MB/s* and *entries/s*
 are of a whole run of the program. *read* is a run on the same text with a wrong number in its end line, which is read whole
 and each entry checked, but not judged; *judge* is the difference. *wc -l*, *Python JSON* and *kit JSON* are the yardsticks on the same bytes: a count of the lines, and
@@ -370,6 +355,7 @@ def audit_section(rows, before):
         shapes="\n".join(f"- `{name}`: {text}." for name, text in generate.SHAPES.items()),
         variants="; ".join(f"`{name}`: {text}" for name, text in generate.VARIANTS.items()),
         hostile="\n".join(f"- `{name} hostile`: {text}." for name, text in {**hostile.SHAPES, **hostile.LINES}.items()),
+        turns=TURNS,
         slow=SLOW,
         limit=LIMIT,
         table=table_of(rows, before),

@@ -2,6 +2,7 @@
 import os
 import shutil
 import signal
+import statistics
 import subprocess
 import threading
 import time
@@ -11,7 +12,7 @@ INPUTS = os.path.join(HERE, "inputs")
 TIME = shutil.which("time")
 LIMIT = 20.0  # seconds that one run may take
 SLOW = 5.0  # a run that takes so long is not repeated
-MOST = 60  # how often runs that are compared are repeated at most
+TURNS = 15  # how often runs that are compared are repeated
 
 
 class Measured:
@@ -92,20 +93,11 @@ def measure(command, path):
     return measured
 
 
-def is_enough(measured, is_met):
-    """Whether runs that are compared were repeated often enough: five to fifteen times, and further where the least times so
-    far do not meet what is asked of them. What else the machine does can only lengthen a time, never shorten it."""
-    times = len(measured[0].walls)
-    if times < 5 or (times < 15 and sum(sum(each.walls) for each in measured) < 2.0):
-        return False
-    return times >= MOST or is_met(measured)
-
-
-def measure_in_turn(runs, is_met=lambda measured: True):
+def measure_in_turn(runs):
     """Runs whose times are compared, one after the other and again, so that a change of the machine's speed meets all of
-    them: five to fifteen times each, up to sixty where what is asked of them is not met yet, or once where one is slow."""
+    them: so many times each whatever they show, or once where one is slow."""
     measured = [Measured() for _ in runs]
-    while not is_enough(measured, is_met):
+    for _ in range(TURNS):
         for each, (command, path) in zip(measured, runs):
             once(command, path, each)
             if each.over:
@@ -116,8 +108,17 @@ def measure_in_turn(runs, is_met=lambda measured: True):
 
 
 def ratio(measured, yardstick):
-    """How many times the yardstick's processor seconds a command takes; at least so many where it was stopped."""
+    """How many times the yardstick's processor seconds a command takes, the least of each; at least so many where it was
+    stopped."""
     return (LIMIT if measured.over else measured.least_processor()) / yardstick.least_processor()
+
+
+def ratio_in_turn(measured, yardstick):
+    """The same of runs in turn: the median of the turns' own ratios. The machine's speed changes within a minute, so the least
+    times of two commands can come from moments of different speed; those of one turn stand side by side."""
+    if measured.over:
+        return ratio(measured, yardstick)
+    return statistics.median(one / other for one, other in zip(measured.processor, yardstick.processor))
 
 
 def target_line(name, value, bound, over=False):

@@ -1,5 +1,5 @@
 //! Which delivery of a run comes closest to failing, as more processes may be down at once.
-ghost use Rattle.std.specs.Prelude.{◌≡◌, ◌<◌, IfOk};
+ghost use Rattle.std.specs.Prelude.{◌≡◌, ◌+◌, ◌<◌, IfOk};
 ghost use Rattle.std.specs.FinSet.{len};
 ghost use Rattle.causal_trace.specs.Judgement.{IsSafeTrace};
 ghost use Rattle.causal_explain.specs.Closest.{HasNoOrphan, IsClosest, Leaves};
@@ -30,7 +30,8 @@ pub enum Closest {
 /// Which delivery of a run that is safe for f comes closest to failing, and so for which greater numbers of faults the
 /// run is safe too.
 ///
-/// At most ten surveys of the run tell it (`causal_audit::least_surveyed`), often one of its first 4,096 entries alone.
+/// At most eighteen surveys of the run tell it (`causal_audit::least_surveyed`), mostly one of its first 4,096 entries and at most one
+/// of the others.
 ///
 /// # Errors
 /// `NoMemory` where memory was refused.
@@ -73,8 +74,24 @@ fn faults_of(breach: &Breach) -> u16
     breach.crash.len() as u16
 }
 
+/// The number of faults that is asked for next, of those between two: the greatest, since in most runs the breach that is known
+/// has the least crash set, or the one in the middle.
+fn asked(low: u32, high: u32, greatest: bool) -> u32
+    requires between { low + 1 < high }
+    requires few { high < 65536 }
+    ensures above { low < result }
+    ensures below { result < high }
+    ensures few { result < 65536 }
+{
+    if greatest {
+        high - 1
+    } else {
+        low + (high - low) / 2
+    }
+}
+
 /// The closest failure, where no delivery fails for f and a breach is known. The least number of faults is above f and
-/// at most that of the breach's crash set, and each survey halves what lies between.
+/// at most that of the breach's crash set, and each second survey halves what lies between.
 fn narrowed(alloc: Global, trace: &Trace, f: u16, breach: Breach) -> Result<Closest, NoMemory>
     requires none { HasNoOrphan trace.now.recording f }
     requires fails { FailsByItself trace.now.recording breach }
@@ -82,10 +99,12 @@ fn narrowed(alloc: Global, trace: &Trace, f: u16, breach: Breach) -> Result<Clos
 {
     let mut low = u32::from(f);
     let mut least = breach;
+    let mut greatest = true;
     while low + 1 < least.crash.len() {
-        let middle = low + (least.crash.len() - low) / 2;
-        match found(alloc, trace, middle as u16)? {
-            Surveyed::Told(None) => low = middle,
+        let asked = asked(low, least.crash.len(), greatest);
+        greatest = !greatest;
+        match found(alloc, trace, asked as u16)? {
+            Surveyed::Told(None) => low = asked,
             Surveyed::Told(Some(earlier)) => least = earlier,
             Surveyed::TooMany => return Ok(Closest::Untold),
         }

@@ -1,24 +1,25 @@
 //! Which delivery of a random run comes closest to failing, beside plain audits for one number of faults after the other.
 ghost use Rattle.causal_audit.specs.Verdicts.{IsVerdict};
 
-use crate::random_audits::{Walk, trace_of};
+use crate::entries::{ascending, of_own};
+use crate::random_audits::{Walk, push, sending, sent_at, trace_of};
 use causal_audit::Verdict;
 use causal_explain::{Closest, closest_failure};
-use causal_name::NoMemory;
+use causal_holders::Holders;
+use causal_name::{Det, NoMemory};
 use causal_plain::judge;
+use causal_trace::entry::{Dets, Entry};
 use causal_trace::fault::TraceFault;
 use causal_trace::trace::Trace;
 use std::alloc::Global;
 use std::test::Fail;
 
-/// How often a delivery fails for one fault more, for several more, and for no number, of how much nothing is told, and how much of
-/// what is told is wrong.
+/// How often a delivery fails for one fault more, for several more, and for no number, and how much of what is told is wrong.
 #[derive(Clone, Copy)]
 struct Counts {
     next: u32,
     later: u32,
     never: u32,
-    untold: u32,
     wrong: u32,
 }
 
@@ -26,7 +27,6 @@ const NONE: Counts = Counts {
     next: 0,
     later: 0,
     never: 0,
-    untold: 0,
     wrong: 0,
 };
 
@@ -48,13 +48,12 @@ fn foretold(alloc: Global, trace: &Trace, f: u16) -> Result<Closest, NoMemory> {
     Ok(Closest::Never)
 }
 
-/// Counts what is told of a trace that is accepted for f.
+/// Counts what has to be told of a trace that is accepted for f, and whether it is.
 fn count(counts: &mut Counts, f: u16, told: Closest, foretold: Closest) {
-    let kind = match told {
+    let kind = match foretold {
         Closest::At { faults, .. } if faults == f.saturating_add(1) => &mut counts.next,
         Closest::At { .. } => &mut counts.later,
-        Closest::Never => &mut counts.never,
-        Closest::Untold => &mut counts.untold,
+        _ => &mut counts.never,
     };
     *kind = kind.saturating_add(1);
     counts.wrong = counts.wrong.saturating_add(u32::from(told != foretold));
@@ -96,41 +95,145 @@ fn compare_each(
 }
 
 /// The same of random traces of n processes, after so many tries each.
-fn compared(
+fn compare_random(
     alloc: Global,
-    seed: u64,
+    walk: &mut Walk,
     n: u16,
-    traces: u32,
     tries: u32,
-) -> Result<Counts, TraceFault> {
-    let mut walk = Walk::new(seed, 0);
-    let mut counts = NONE;
-    for _ in 0..traces {
-        let trace = trace_of(alloc, &mut walk, n, tries)?;
-        if compare_each(alloc, &trace, n.saturating_add(1), &mut counts).is_err() {
+    counts: &mut Counts,
+) -> Result<(), TraceFault> {
+    for _ in 0..100 {
+        let trace = trace_of(alloc, walk, n, tries)?;
+        if compare_each(alloc, &trace, n.saturating_add(1), counts).is_err() {
             return Err(TraceFault::NoMemory);
         }
     }
-    Ok(counts)
+    Ok(())
 }
 
-/// Whether some fail for a greater number of faults and some for none. Runs so short leave no survey without steps, so of each
-/// something is told.
-fn are_varied(counts: Counts) -> bool {
-    counts.next.saturating_add(counts.later) > 3 && counts.never > 20 && counts.untold == 0
+/// Who lists a determinant.
+fn holders(trace: &Trace, det: Det) -> Holders {
+    let mut holders = Holders::none();
+    for entry in trace.entries() {
+        match entry {
+            Entry::Deliver { to, listed, .. } if listed.as_slice().contains(&det) => holders.insert(
+                to.0,
+            ),
+            _ => {}
+        }
+    }
+    holders
+}
+
+/// The determinants so far and this one, but half of those that more than `faults` processes hold.
+fn listed(
+    alloc: Global,
+    walk: &mut Walk,
+    trace: &Trace,
+    faults: u32,
+    own: Det,
+) -> Result<Dets, NoMemory> {
+    let mut dets = of_own(alloc, Some(own))?;
+    for k in 0..trace.len() {
+        let Some(det) = trace.det_at(k) else { continue };
+        if holders(trace, det).len() <= faults || walk.tosses_head() {
+            dets.push(det)?;
+        }
+    }
+    ascending(dets)
+}
+
+/// The delivery of the message of the last entry, which is a send.
+fn delivery(
+    alloc: Global,
+    walk: &mut Walk,
+    trace: &Trace,
+    faults: u32,
+) -> Result<Option<Entry>, NoMemory> {
+    let send = trace.len().saturating_sub(1);
+    let Some((to, message)) = sent_at(trace, send) else {
+        return Ok(None);
+    };
+    let rsn = walk.rsn(to);
+    let own = Det {
+        source: message.source,
+        ssn: message.ssn,
+        dest: to,
+        rsn,
+    };
+    let listed = listed(alloc, walk, trace, faults, own)?;
+    Ok(Some(Entry::Deliver {
+        to,
+        send,
+        rsn,
+        listed,
+    }))
+}
+
+/// Pushes a random send and its delivery.
+fn exchange(
+    alloc: Global,
+    walk: &mut Walk,
+    trace: &mut Trace,
+    faults: u32,
+) -> Result<(), TraceFault> {
+    let sent = sending(walk, trace.processes());
+    push(walk, trace, sent)?;
+    match delivery(alloc, walk, trace, faults) {
+        Ok(Some(delivered)) => push(walk, trace, delivered),
+        Ok(None) => Ok(()),
+        Err(_) => Err(TraceFault::NoMemory),
+    }
+}
+
+/// A trace of four processes in which none crashes, and each delivery comes right after its send. It lists all determinants but
+/// some of those that more than `faults` processes hold: so no crash of so many makes an orphan, and one of more mostly does.
+fn made_for(alloc: Global, walk: &mut Walk, faults: u32) -> Result<Trace, TraceFault> {
+    walk.begin();
+    let mut trace = Trace::new(alloc, 4)?;
+    for _ in 0..10 {
+        exchange(alloc, walk, &mut trace, faults)?;
+    }
+    Ok(trace)
+}
+
+/// The same of traces that are made for each number of faults up to three.
+fn compare_made(alloc: Global, walk: &mut Walk, counts: &mut Counts) -> Result<(), TraceFault> {
+    for faults in 0..=3 {
+        let trace = made_for(alloc, walk, faults)?;
+        if compare_each(alloc, &trace, faults as u16, counts).is_err() {
+            return Err(TraceFault::NoMemory);
+        }
+    }
+    Ok(())
 }
 
 #[test]
 fn closest_failures_of_random_runs(rt: HostRuntime) -> Result<(), Fail> {
-    let mut all = NONE;
+    let mut counts = NONE;
     for (n, seed, tries) in [(3, 29, 12), (3, 5_150, 20), (4, 777, 16)] {
-        let counts = compared(rt.alloc(), seed, n, 100, tries)?;
+        let mut walk = Walk::new(seed, 0);
+        compare_random(rt.alloc(), &mut walk, n, tries, &mut counts)?;
         assert_eq!(rt; counts.wrong, 0, "with {n} processes and {tries} tries");
-        all.next = all.next.saturating_add(counts.next);
-        all.later = all.later.saturating_add(counts.later);
-        all.never = all.never.saturating_add(counts.never);
-        all.untold = all.untold.saturating_add(counts.untold);
     }
-    assert!(rt; are_varied(all));
+    assert!(rt; counts.next > 0 && counts.never > 0);
+    Ok(())
+}
+
+// A run that is made for three faults is accepted for 0 to 3: of so many runs four times so many answers are asked for, and of the
+// others as many as the faults that they are made for, and one.
+#[test]
+fn closest_failures_of_runs_made_for_some_faults(rt: HostRuntime) -> Result<(), Fail> {
+    let mut counts = NONE;
+    let mut walk = Walk::new(1_978, 0);
+    for _ in 0..25 {
+        compare_made(rt.alloc(), &mut walk, &mut counts)?;
+    }
+    let told = counts
+        .next
+        .saturating_add(counts.later)
+        .saturating_add(counts.never);
+    assert_eq!(rt; (told, counts.wrong), (250, 0));
+    assert!(rt; counts.next > 0 && counts.later > 0 && counts.never > 0);
     Ok(())
 }

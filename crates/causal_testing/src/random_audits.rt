@@ -32,6 +32,22 @@ impl Walk {
         }
     }
 
+    /// Begins a new trace: no process has sent or delivered anything.
+    pub(crate) fn begin(&mut self) {
+        self.sends = [0; 4];
+        self.deliveries = [0; 4];
+    }
+
+    /// Whether a coin falls on its head.
+    pub(crate) fn tosses_head(&mut self) -> bool {
+        self.numbers.below(2) == 0
+    }
+
+    /// The next receive sequence number of a process.
+    pub(crate) fn rsn(&self, p: Pid) -> u32 {
+        right(self, &self.deliveries, p)
+    }
+
     /// The place of a process among those that do something.
     fn place(&self, p: Pid) -> usize {
         usize::from(p.0.wrapping_sub(self.first))
@@ -76,7 +92,7 @@ fn listed(
 }
 
 /// The receiver of the send at a position, and its message.
-fn sent_at(trace: &Trace, send: u32) -> Option<(Pid, MsgName)> {
+pub(crate) fn sent_at(trace: &Trace, send: u32) -> Option<(Pid, MsgName)> {
     match trace.entry(send) {
         Some(Entry::Send { from, to, ssn }) => Some((
             *to,
@@ -129,7 +145,7 @@ fn some_place(walk: &mut Walk, trace: &Trace) -> u32 {
 }
 
 /// The next send of some process.
-fn sending(walk: &mut Walk, n: u16) -> Entry {
+pub(crate) fn sending(walk: &mut Walk, n: u16) -> Entry {
     let from = process(walk, n);
     Entry::Send {
         from,
@@ -193,6 +209,11 @@ fn step(alloc: Global, walk: &mut Walk, trace: &mut Trace) -> Result<(), TraceFa
     let Ok(entry) = entry(alloc, walk, trace) else {
         return Err(TraceFault::NoMemory);
     };
+    push(walk, trace, entry)
+}
+
+/// Pushes an entry, which may be refused, and counts it.
+pub(crate) fn push(walk: &mut Walk, trace: &mut Trace, entry: Entry) -> Result<(), TraceFault> {
     let (sender, receiver, restarted) = match &entry {
         Entry::Send { from, .. } => (Some(*from), None, None),
         Entry::Deliver { to, .. } => (None, Some(*to), None),
@@ -216,8 +237,7 @@ pub(crate) fn trace_of(
     n: u16,
     tries: u32,
 ) -> Result<Trace, TraceFault> {
-    walk.sends = [0; 4];
-    walk.deliveries = [0; 4];
+    walk.begin();
     let mut trace = Trace::new(alloc, n)?;
     for _ in 0..tries {
         step(alloc, walk, &mut trace)?;
