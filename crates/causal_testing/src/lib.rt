@@ -9,6 +9,8 @@ mod clocks;
 #[cfg(test)]
 mod closest_failures;
 #[cfg(test)]
+mod commands;
+#[cfg(test)]
 mod cores;
 #[cfg(test)]
 mod entries;

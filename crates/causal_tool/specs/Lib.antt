@@ -1,7 +1,1 @@
 pub mod Inside
-pub mod Endings
-pub mod Shown
-pub mod Judgements
-pub mod Reasons
-pub mod Runs
-pub mod Streams

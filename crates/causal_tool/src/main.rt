@@ -1,22 +1,15 @@
 //! Audits the recorded run, or runs the script, that it reads on standard input.
 //!
-//! Begin at [`audit_and_tell`] in `stream`, the work of `audit`, at [`show_and_tell`] in `shown`, that of `explain` and `draw`, and at
-//! [`run_and_tell`] in `script`, that of `run`: all go from any reader to any writer, and their clauses are what the program
-//! promises. `main` adds the words of the command line (`words`) and the exit status (`ended`).
+//! The work is that of `causal_commands`: [`audit_and_tell`] of `audit`, [`show_and_tell`] of `explain` and `draw`, and
+//! [`run_and_tell`] of `run`. All go from any reader to any writer, and their clauses are what the program promises. `main` adds the
+//! words of the command line (`words`), the standard streams and the exit status.
 #![tactic(auto)]
 
-mod ended;
-mod judged;
-mod reading;
-mod script;
-mod shown;
-mod stream;
 mod words;
 
-use crate::script::run_and_tell;
-use crate::shown::show_and_tell;
-use crate::stream::{Told, audit_and_tell};
 use crate::words::{Asked, Refused};
+pub use causal_commands::audit_stream;
+use causal_commands::{Told, audit_and_tell, run_and_tell, show_and_tell};
 use causal_text::TextFault;
 use causal_workers::OpenGate;
 use std::fmt::Display;

@@ -3,8 +3,7 @@ ghost use Rattle.std.specs.Prelude.{◌≡◌, Bool};
 ghost use Rattle.clap.specs.Values.{kind_of};
 ghost use Rattle.causal_tool.specs.Inside.Refusals.{refusal};
 
-use crate::ended::Ended;
-use crate::shown::View;
+use causal_commands::{Ended, View};
 use clap::error::ErrorKind;
 use clap::{Arg, ArgMatches, Command, Error, value_parser};
 use std::alloc::{AllocError, Global};

@@ -2,7 +2,7 @@
 use Rattle.std.specs.Prelude.{Bool, true, false}
 use Rattle.clap.specs.declared.error.kind.ErrorKind.{ErrorKind}
 use Rattle.clap.specs.declared.error.kind.ErrorKind.TheVariants.{OutOfMemory, DisplayHelp, DisplayVersion}
-use Rattle.causal_tool.specs.declared.ended.Ended.TheVariants.{NoMemory, WriteFault}
+use Rattle.causal_commands.specs.declared.ended.Ended.TheVariants.{NoMemory, WriteFault}
 use Rattle.causal_tool.specs.declared.words.Refused.{Refused}
 use Rattle.causal_tool.specs.declared.words.Refused.TheVariants.{Status, Ended}
 

@@ -1,0 +1,22 @@
+-- The answer to a trace's text, before it is written.
+use Rattle.std.specs.Prelude.{ℕ, List, Option, IfSome, ⊤}
+use Rattle.causal_commands.specs.declared.ended.Ended.{Ended}
+use Rattle.causal_commands.specs.declared.ended.Ended.TheVariants.{ReadFault, NoMemory, NoWorker}
+use Rattle.causal_commands.specs.declared.shown.View.{View}
+use Rattle.causal_commands.specs.Shown.{IsReply}
+use Rattle.causal_commands.specs.Streams.{IsAnswer}
+
+-- the line answers the text that a reader gives, where its bytes are known
+abbrev pub IsAnswerFor : Option (List ℕ) → ℕ → Ended → List ℕ → Type 0
+IsAnswerFor given f ended line = IfSome given (λ text. IsAnswer text f ended line)
+
+-- this replies to it, and shows why the verdict is so
+abbrev pub IsReplyFor : View → Option (List ℕ) → ℕ → Ended → List ℕ → Type 0
+IsReplyFor view given f ended out = IfSome given (λ text. IsReply view text f ended out)
+
+-- an ending that writes nothing
+abbrev pub IsSilent : Ended → Type 0
+IsSilent ReadFault = ⊤
+IsSilent NoMemory = ⊤
+IsSilent NoWorker = ⊤
+IsSilent _ = ⊥

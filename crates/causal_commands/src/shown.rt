@@ -1,0 +1,161 @@
+//! The program's work of showing why a verdict is so, over any reader and writer: as text, or as a picture.
+ghost use Rattle.std.specs.Prelude.{◌≡◌, ◌≢◌, IfOk, IfErr, IfSome, Err};
+ghost use Rattle.causal_audit.specs.Verdicts.{IsVerdict};
+ghost use Rattle.causal_commands.specs.Shown.{ShowsFor, IsShown, IsShowing};
+ghost use Rattle.causal_commands.specs.Judgements.{TellsFirstFault};
+ghost use Rattle.causal_commands.specs.Streams.{NamesFirstFault};
+ghost use Rattle.causal_commands.specs.Inside.Answers.{IsReplyFor, IsSilent};
+ghost use Rattle.causal_commands.specs.Inside.Judged.{IsJudgedSo};
+
+use crate::ended::Ended;
+use crate::judged::{StreamFault, fault_of};
+use crate::stream::{Answer, Told, ended_of};
+use causal_name::NoMemory;
+use causal_report::{drawing_of, reason_text};
+use causal_text::{TextFault, fault_line, read_from, write_whole};
+use causal_trace::trace::Trace;
+use causal_workers::{Judged, OpenGate, judge_trace, verdict_line};
+use std::alloc::Global;
+use std::io::{Read, Write};
+use std::sync::Wait;
+use std::thread::Threads;
+
+/// What is shown of a trace and its verdict.
+#[derive(Clone, Copy, Debug, PartialEq, Eq)]
+pub enum View {
+    /// The line of the verdict, and below it what tells why it is so.
+    Reason,
+    /// A space-time diagram.
+    Picture,
+}
+
+/// Reads the text of a trace, audits it for f by one worker, and writes what the view shows of it; or the line of the text's
+/// first fault. Where the reader or the writer fails, or memory is refused, the answer says so. There is no `NoWorker`.
+///
+/// The text is read in pieces of 4,096 bytes, up to its end or to the piece with its first fault.
+pub fn show_and_tell<R: Threads + Wait, I: Read, O: Write>(
+    rt: &R,
+    alloc: Global,
+    input: &mut I,
+    output: &mut O,
+    f: u16,
+    view: View,
+) -> Told<TextFault>
+    ensures writes { ShowsFor view (I.remaining input.old) f result.ended
+        (O.contents output.old) (O.contents output.new) }
+    ensures fault { NamesFirstFault (I.remaining input.old) result.fault }
+    ensures alone { result.ended ≢ Ended.NoWorker }
+{
+    let answer = match answered(rt, alloc, input, f, view) {
+        Ok(answer) => answer,
+        Err(ended) => return Told { ended, fault: None },
+    };
+    let ended = match write_whole(answer.line.as_slice(), output) {
+        Ok(()) => answer.ended,
+        Err(_) => Ended::WriteFault,
+    };
+    Told {
+        ended,
+        fault: answer.fault,
+    }
+}
+
+fn answered<I: Read, R: Threads + Wait>(
+    rt: &R,
+    alloc: Global,
+    input: &mut I,
+    f: u16,
+    view: View,
+) -> Result<Answer, Ended>
+    ensures ok { IfOk result (λ answer. IsReplyFor view (I.remaining input.old) f answer.ended answer.line.items) }
+    ensures fault { IfOk result (λ answer. NamesFirstFault (I.remaining input.old) answer.fault) }
+    ensures whole { IfOk result (λ answer. answer.ended ≢ Ended.NoWorker) }
+    ensures err { IfErr result IsSilent }
+    ensures alone { result ≢ Err Ended.NoWorker }
+{
+    let (ended, line, fault) = match shown_from(rt, alloc, input, f, view) {
+        Ok(shown) => (ended_of(shown.judged.verdict), Ok(shown.text), None),
+        Err(StreamFault::Text(fault)) => (Ended::Faulted, fault_line(alloc, &fault), Some(fault)),
+        Err(StreamFault::Read) => return Err(Ended::ReadFault),
+        Err(_) => return Err(Ended::NoMemory),
+    };
+    match line {
+        Ok(line) => Ok(Answer { ended, line, fault }),
+        Err(NoMemory) => Err(Ended::NoMemory),
+    }
+}
+
+/// The verdict on a trace, and what is shown of both.
+#[derive(Drop)]
+pub(crate) struct Shown {
+    pub judged: Judged,
+    pub text: Vec<u8>,
+}
+
+fn shown_from<I: Read, R: Threads + Wait>(
+    rt: &R,
+    alloc: Global,
+    input: &mut I,
+    f: u16,
+    view: View,
+) -> Result<Shown, StreamFault>
+    ensures ok { IfOk result (λ shown. IfSome (I.remaining input.old)
+        (λ text. IsShown view text f shown.judged shown.text.items)) }
+    ensures err { IfErr result (λ fault. IfSome (I.remaining input.old) (λ text. TellsFirstFault text fault)) }
+    ensures alone { result ≢ Err StreamFault.NoWorker }
+{
+    let trace = match read_from(alloc, input) {
+        Ok(trace) => trace,
+        Err(fault) => return Err(fault_of(fault)),
+    };
+    match shown_of(rt, alloc, &trace, f, view) {
+        Ok(shown) => Ok(shown),
+        Err(NoMemory) => Err(StreamFault::NoMemory),
+    }
+}
+
+/// The verdict on a trace by one worker, of which there is no want, and what is shown of both.
+fn shown_of<R: Threads + Wait>(
+    rt: &R,
+    alloc: Global,
+    trace: &Trace,
+    f: u16,
+    view: View,
+) -> Result<Shown, NoMemory>
+    ensures judged { IfOk result (λ shown. IsJudgedSo trace.now.recording f shown.judged) }
+    ensures shown { IfOk result (λ shown. IsShowing view trace.now.recording f shown.judged shown.text.items) }
+{
+    let Ok(judged) = judge_trace(rt, alloc, trace, f, 1, &OpenGate) else {
+        return Err(NoMemory);
+    };
+    let text = showing(alloc, trace, f, &judged, view)?;
+    Ok(Shown { judged, text })
+}
+
+/// What the view shows of a trace that is judged so.
+fn showing(
+    alloc: Global,
+    trace: &Trace,
+    f: u16,
+    judged: &Judged,
+    view: View,
+) -> Result<Vec<u8>, NoMemory>
+    requires { IsVerdict trace.now.recording f judged.now.verdict }
+    ensures { IfOk result (λ text. IsShowing view trace.now.recording f judged.now text.items) }
+{
+    match view {
+        View::Reason => reasoned(alloc, trace, f, judged),
+        View::Picture => drawing_of(alloc, trace, judged.verdict),
+    }
+}
+
+/// The line of a verdict, and below it why it is so.
+fn reasoned(alloc: Global, trace: &Trace, f: u16, judged: &Judged) -> Result<Vec<u8>, NoMemory>
+    requires { IsVerdict trace.now.recording f judged.now.verdict }
+    ensures { IfOk result (λ text. IsShowing View.Reason trace.now.recording f judged.now text.items) }
+{
+    let mut text = verdict_line(alloc, f, judged)?;
+    let reason = reason_text(alloc, trace, f, judged.verdict)?;
+    text.extend_from_slice(reason.as_slice())?;
+    Ok(text)
+}
