@@ -430,7 +430,7 @@ def words():
     words.add_argument("--program", default=os.path.join(TOP, "crates/causal_tool/out/causal_tool"))
     words.add_argument("--only", choices=SECTIONS, help="one part; the other's results stay as they are")
     words.add_argument("--seed", type=int, default=1)
-    words.add_argument("--seconds", type=float, default=530, help="no row of the audit is begun after so many seconds (530)")
+    words.add_argument("--seconds", type=float, default=1000, help="no row of the audit is begun after so many seconds (1000)")
     words.add_argument("--core-seconds", type=int, default=2, help="how long a core delivers at most (2)")
     words.add_argument("--part", type=int, default=1, help="scripts and calls of the runtime are divided by this (1)")
     words.add_argument("--commit", help="the commit of the program, if it is not the one that is checked out")
