@@ -1,18 +1,13 @@
 -- The determinant of a number.
-use Rattle.std.proofs.Common.{ℕ, ◌≡◌, ◌+◌, ◌<◌, inl, inr, List, [], ◌∷◌, ◌++◌, length, map, get_or, reverse, Some, None, sym, ap, subst, ◌∙◌, arith}
+use Rattle.std.proofs.Common.{ℕ, ◌≡◌, ◌<◌, inl, inr, List, [], ◌∷◌, length, map, get_or, reverse, Some, None, sym, ap, ◌∙◌, arith}
 use Rattle.std.proofs.Math.ListN.{get_or-append}
 use Rattle.std.proofs.Math.Seq.{get_or-append_seam}
-use Rattle.std.proofs.lemmas.Bool.{cases_Bool, cases_lt, cond-true, cond-false}
+use Rattle.std.proofs.lemmas.Bool.{cases_Bool, cond-true, cond-false}
 use Rattle.std.proofs.lemmas.List.{length-map, length-reverse, reverse-append}
 use Rattle.causal_name.specs.declared.Det.{Det}
 use Rattle.causal_name.specs.Names.{same_det}
 use Rattle.causal_audit.specs.Inside.Filed.{number_of}
-use Rattle.causal_audit.specs.Inside.Thins.{AreThins}
-use Rattle.causal_audit.specs.Inside.AllLooks.{AreLooksBelow}
-use Rattle.causal_trace.specs.Rows.{Recording}
-use Rattle.causal_audit.specs.Inside.Filed.{Numbers}
 use Rattle.causal_audit.specs.declared.numbering.Node.{Node}
-use Rattle.causal_audit.specs.declared.thins.Thins.{Thins}
 use Rattle.causal_audit.proofs.Mentioned.{number_below, same_is}
 
 abbrev dets : List Node → List Det
@@ -34,18 +29,4 @@ node_of (node ∷ older) d m x at =
           let inside : m < length (reverse older) = omega (arith, number_below (dets older) d m old, length-map older (λ (node : Node). node.det), length-reverse older) in
           ap (λ (y : Node). y.det) (ap (λ xs. get_or xs m x) (reverse-append (node ∷ []) older) ∙ get_or-append (reverse older) (node ∷ []) x m inside)
           ∙ node_of older d m x old
-    ]
-
--- ---- looks, by the numbers of the determinants
-
-pub looks_more : (r : Recording) (most end : ℕ) (numbers : Numbers) (m : ℕ) (found : List Thins) (det : Det) (thins : Thins) → length found ≡ m → ((d : Det) → number_of numbers d ≡ Some m → det ≡ d)
-    → AreThins r.processes most r.past det (end + 1) thins → AreLooksBelow r most end numbers m found → AreLooksBelow r most end numbers (m + 1) (found ++ thins ∷ [])
-looks_more r most end numbers m found det thins size only new before d i x low at =
-    elim (cases_lt i m) [
-      | inl old ↦ subst (AreThins r.processes most r.past d (end + 1)) (sym (get_or-append found (thins ∷ []) x i (omega (arith, old, size)))) (before d i x old at)
-      | inr last ↦
-          let here : i ≡ length found = omega (arith, last, low, size) in
-          let same : det ≡ d = only d (at ∙ ap (λ j. Some j) (here ∙ size)) in
-          subst (AreThins r.processes most r.past d (end + 1)) (sym (ap (λ j. get_or (found ++ thins ∷ []) j x) here ∙ get_or-append_seam found thins [] x))
-          (subst (λ y. AreThins r.processes most r.past y (end + 1) thins) same new)
     ]
