@@ -30,8 +30,8 @@ pub enum Closest {
 /// Which delivery of a run that is safe for f comes closest to failing, and so for which greater numbers of faults the
 /// run is safe too.
 ///
-/// At most eighteen surveys of the run tell it (`causal_audit::least_surveyed`), mostly one of its first 4,096 entries and at most one
-/// of the others.
+/// At most eighteen surveys of the run tell it (`causal_audit::least_surveyed`): one of its first 4,096 entries, and of the whole run
+/// one where the breach that it finds has the least crash set, and none where no set could be smaller.
 ///
 /// # Errors
 /// `NoMemory` where memory was refused.

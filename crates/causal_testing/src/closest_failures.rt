@@ -187,7 +187,7 @@ fn exchange(
 }
 
 /// A trace of four processes in which none crashes, and each delivery comes right after its send. It lists all determinants but
-/// some of those that more than `faults` processes hold: so no crash of so many makes an orphan, and one of more mostly does.
+/// some of those that more than `faults` processes hold: so no crash of so many makes an orphan, and one of more may.
 fn made_for(alloc: Global, walk: &mut Walk, faults: u32) -> Result<Trace, TraceFault> {
     walk.begin();
     let mut trace = Trace::new(alloc, 4)?;
@@ -220,8 +220,8 @@ fn closest_failures_of_random_runs(rt: HostRuntime) -> Result<(), Fail> {
     Ok(())
 }
 
-// A run that is made for three faults is accepted for 0 to 3: of so many runs four times so many answers are asked for, and of the
-// others as many as the faults that they are made for, and one.
+// A run that is made for F faults is accepted for 0 to F, and so calls for F + 1 answers: 25 runs for each F from 0 to 3 call
+// for 250.
 #[test]
 fn closest_failures_of_runs_made_for_some_faults(rt: HostRuntime) -> Result<(), Fail> {
     let mut counts = NONE;
