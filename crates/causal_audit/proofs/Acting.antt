@@ -13,7 +13,8 @@ use Rattle.causal_trace.specs.Dependence.{actor, IsEventOf}
 use Rattle.causal_trace.proofs.Lemmas.Reached.{event_below}
 use Rattle.causal_clock.specs.declared.Event.{Event}
 use Rattle.causal_clock.specs.Timeline.{lane_of}
-use Rattle.causal_audit.specs.Spread.{acting, acts_of, AreSpreads, StaysUntil}
+use Rattle.causal_audit.specs.Spread.{StaysUntil}
+use Rattle.causal_audit.specs.Inside.Spreads.{acting, acts_of, AreSpreads}
 use Rattle.causal_audit.proofs.Spreading.{stays_or_left}
 
 acts_count : (past : List Entry) → length (acts_of past) ≡ length past

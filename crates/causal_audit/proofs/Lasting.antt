@@ -11,7 +11,8 @@ use Rattle.causal_trace.specs.declared.entry.Entry.TheVariants.{Send, Deliver, S
 use Rattle.causal_trace.specs.Past.{instant, is_down, is_stable, logs, has}
 use Rattle.causal_audit.specs.Laws.{gone}
 use Rattle.causal_audit.specs.Inside.Standing.{IsThinAt}
-use Rattle.causal_audit.specs.Lasting.{may_release, NoneReleasedFrom, IsOver, IsOverAt, OrphansEnd}
+use Rattle.causal_audit.specs.Lasting.{may_release, NoneReleasedFrom, IsOver, OrphansEnd}
+use Rattle.causal_audit.specs.Inside.Releases.{IsOverAt}
 use Rattle.causal_trace.proofs.Lemmas.AtInstants.{instants_stay, one_more_instant, last_instant, instant_length, det_then}
 use Rattle.causal_audit.proofs.Lemmas.Judged.{exposed}
 use Rattle.causal_audit.proofs.Orphaned.{not_yet}

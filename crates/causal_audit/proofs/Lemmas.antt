@@ -1,5 +1,4 @@
 -- What crates above may cite of this crate's proofs.
-pub mod AmongLemmas
 pub mod Judged
 pub mod LeastLemmas
 pub mod NumberLemmas

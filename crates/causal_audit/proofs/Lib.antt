@@ -1,5 +1,6 @@
 pub mod Lemmas
 mod Acting
+mod AmongLemmas
 mod Begins
 mod Begun
 mod Between
@@ -18,6 +19,7 @@ mod Following
 mod Gathered
 mod HeldOutside
 mod Indexed
+mod Joined
 mod Known
 mod Lasting
 mod Legal

@@ -12,7 +12,7 @@ use Rattle.causal_audit.specs.declared.thin.Standing.{Standing}
 use Rattle.causal_audit.specs.declared.thin.Standing.TheVariants.{Kept, Thin, Bare}
 use Rattle.causal_audit.specs.declared.thin.Stretch.{Stretch}
 use Rattle.causal_audit.specs.declared.thins.Thins.{Thins}
-use Rattle.causal_audit.specs.Breaches.{HasNoOrphanFrom}
+use Rattle.causal_audit.specs.Inside.Among.{HasNoOrphanFrom}
 use Rattle.causal_audit.specs.Inside.Crashes.{IsFirstCrash}
 use Rattle.causal_audit.specs.Inside.Standing.{IsBareAt, IsThinAt, RulesOut}
 use Rattle.causal_audit.specs.Inside.Thins.{AreThins, MayBeOpen}

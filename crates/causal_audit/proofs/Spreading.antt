@@ -15,7 +15,8 @@ use Rattle.causal_trace.proofs.Lemmas.Reached.{event_below}
 use Rattle.causal_clock.specs.declared.Event.{Event}
 use Rattle.causal_clock.specs.Timeline.{lane_of}
 use Rattle.causal_audit.specs.Laws.{gone}
-use Rattle.causal_audit.specs.Spread.{StaysUntil, AreSpreads, StaysAlone, CoveredHasNone}
+use Rattle.causal_audit.specs.Spread.{StaysUntil, StaysAlone, CoveredHasNone}
+use Rattle.causal_audit.specs.Inside.Spreads.{AreSpreads}
 use Rattle.causal_audit.specs.Inside.Stands.{Stands}
 use Rattle.causal_trace.proofs.Lemmas.Happened.{event_once}
 use Rattle.causal_trace.proofs.Lemmas.AtInstants.{instant_length, det_then}

@@ -11,7 +11,7 @@ use Rattle.causal_name.specs.declared.Det.{Det}
 use Rattle.causal_trace.specs.Past.{det_at, instant}
 use Rattle.causal_trace.specs.Rows.{Recording}
 use Rattle.causal_trace.proofs.Lemmas.AtInstants.{instant_length}
-use Rattle.causal_audit.specs.Breaches.{HasNoOrphanBy}
+use Rattle.causal_audit.specs.Inside.Among.{HasNoOrphanBy}
 use Rattle.causal_audit.specs.Inside.Surveys.{AreUncovered, IsDeliveryAt}
 use Rattle.causal_audit.proofs.Orphaned.{not_yet}
 

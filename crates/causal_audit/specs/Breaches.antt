@@ -1,5 +1,5 @@
 -- The first instant at which a delivery has an orphan, and the first at which too many processes are down.
-use Rattle.std.specs.Prelude.{◌≡◌, ℕ, ◌<◌, ◌≤◌, Contains, List, length, Option, Some, None, MatchOption}
+use Rattle.std.specs.Prelude.{◌≡◌, ℕ, ◌<◌, ◌≤◌, length, Option, Some, None, MatchOption}
 use Rattle.causal_trace.specs.Past.{instant, is_down, deliveries_in}
 use Rattle.causal_trace.specs.Rows.{Recording}
 use Rattle.causal_trace.specs.Judgement.{HasOrphan}
@@ -58,18 +58,6 @@ abbrev pub deciding : ℕ → Option Excess → ℕ
 deciding entries None = entries
 deciding entries (Some x) = x.instant
 
--- the last instant at which a breach can still come first: that of the least breach so far, or `end`
-abbrev pub horizon : ℕ → Option Breach → ℕ
-horizon end None = end
-horizon end (Some b) = b.instant
-
--- the first breach of the delivery at position k, if it comes by the instant `end`; None where it has an orphan at no
--- instant by then
-abbrev pub FirstBreachBy : Recording → ℕ → ℕ → ℕ → Option Breach → Type 0
-FirstBreachBy r f end k found = MatchOption found
-    ((t : ℕ) → t ≤ end → HasOrphan r.processes f (instant r.past t) k → ⊥)
-    (λ b. (b.instant ≤ end) × IsFirstBreach r f k b)
-
 -- of the deliveries numbered from `from` and below `to`, the least breach by instant, then by position, if it comes by the
 -- instant `end`; None where none of them has an orphan by then
 abbrev pub LeastBreachBy : Recording → ℕ → ℕ → ℕ → ℕ → Option Breach → Type 0
@@ -77,34 +65,12 @@ LeastBreachBy r f end from to found = MatchOption found
     ((i k t : ℕ) → from ≤ i → i < to → IsNumbered r.past i k → t ≤ end → HasOrphan r.processes f (instant r.past t) k → ⊥)
     (λ b. (b.instant ≤ end) × IsLeastBreach r f from to b)
 
--- of the deliveries at these positions the one that first has an orphan has it so: no other has one earlier, nor at that
--- instant at a lower position
-pub record IsLeastAmong (r : Recording) (f : ℕ) (positions : List ℕ) (b : Breach) : Type 0 where
-  pub among : Contains positions b.delivery
-  pub first : IsFirstBreach r f b.delivery b
-  pub least : (k t : ℕ) → Contains positions k → t ≤ length r.past → HasOrphan r.processes f (instant r.past t) k → (b.instant ≤ t) × (b.instant ≡ t → b.delivery ≤ k)
-
--- of the deliveries at these positions the least breach by instant, then by position, if it comes by the instant `end`; None
--- where none of them has an orphan by then
-abbrev pub LeastAmongBy : Recording → ℕ → ℕ → List ℕ → Option Breach → Type 0
-LeastAmongBy r f end positions found = MatchOption found
-    ((k t : ℕ) → Contains positions k → t ≤ end → HasOrphan r.processes f (instant r.past t) k → ⊥)
-    (λ b. (b.instant ≤ end) × IsLeastAmong r f positions b)
-
 -- the verdict is that of every run whose first excess is this one, and whose least breach is the other, as far as the last
 -- instant that can decide
 abbrev pub Decides : Option Excess → Option Breach → Verdict → Type 0
 Decides excess breach verdict =
     (r : Recording) (f : ℕ) → FirstExcess r f excess
     → LeastBreachBy r f (deciding (length r.past) excess) 0 (deliveries_in r.past) breach → IsVerdict r f verdict
-
--- the delivery at position k has no orphan up to the instant `end`
-abbrev pub HasNoOrphanBy : Recording → ℕ → ℕ → ℕ → Type 0
-HasNoOrphanBy r f k end = (u : ℕ) → u ≤ end → HasOrphan r.processes f (instant r.past u) k → ⊥
-
--- nor has it one from the instant `from` on
-abbrev pub HasNoOrphanFrom : Recording → ℕ → ℕ → ℕ → ℕ → Type 0
-HasNoOrphanFrom r f k from end = (u : ℕ) → from ≤ u → u ≤ end → HasOrphan r.processes f (instant r.past u) k → ⊥
 
 -- what a survey tells is the least breach of all deliveries by the instant `end`; of a run with too many deliveries to look
 -- at nothing is known

@@ -1,6 +1,7 @@
 -- What models and private functions keep; no public clause cites it.
 pub mod Ahead
 pub mod AllLooks
+pub mod Among
 pub mod BreachAt
 pub mod Changes
 pub mod Courses
@@ -17,12 +18,15 @@ pub mod Moments
 pub mod Newly
 pub mod Outlines
 pub mod Passing
+pub mod Positions
 pub mod Reaching
+pub mod Releases
 pub mod Rises
 pub mod Rooms
 pub mod Scans
 pub mod Sharing
 pub mod Sights
+pub mod Spreads
 pub mod Standing
 pub mod Stands
 pub mod Staying

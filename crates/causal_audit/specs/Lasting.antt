@@ -19,10 +19,6 @@ abbrev pub NoneReleasedFrom : List Entry → ℕ → Type 0
 NoneReleasedFrom [] t = Unit {0}
 NoneReleasedFrom (e ∷ past) t = NoneReleasedFrom past t × (t ≤ length past → may_release e ≡ false)
 
--- at this state d is stable, or more than f processes are down or hold it, where `lasting` tells that none is released
-abbrev pub IsOverAt : ℕ → ℕ → List Entry → Det → Bool → Type 0
-IsOverAt n f past d lasting = (is_stable past d ≡ true) ⊎ ((lasting ≡ true) × (f < count_below n (gone past d)))
-
 -- at the instant t d is stable, or more than f processes are down or hold it, and none is released from there on
 abbrev pub IsOver : ℕ → ℕ → List Entry → ℕ → Det → Type 0
 IsOver n f past t d = (is_stable (instant past t) d ≡ true) ⊎ (NoneReleasedFrom past t × (f < count_below n (gone (instant past t) d)))
@@ -32,7 +28,3 @@ abbrev pub OrphansEnd : Type 0
 OrphansEnd =
     (n f : ℕ) (past : List Entry) (k : ℕ) (d : Det) (t u : ℕ) → det_at past k ≡ Some d → IsOver n f past t d
     → t ≤ u → u ≤ length past → HasOrphan n f (instant past u) k → ⊥
-
--- from `after` on none is released with one more entry, where from `before` on none was without it
-abbrev pub LastsAfter : Entry → ℕ → ℕ → ℕ → Type 0
-LastsAfter e i before after = (past : List Entry) → length past ≡ i → NoneReleasedFrom past before → NoneReleasedFrom (e ∷ past) after

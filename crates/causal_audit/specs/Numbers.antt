@@ -18,7 +18,3 @@ IsNumbered (e ∷ past) i k = IsNumbered past i k ⊎ ((k ≡ length past) × (i
 pub record ArePositions (past : List Entry) (positions : List ℕ) : Type 0 where
   pub count : length positions ≡ deliveries_in past
   pub each : (i : ℕ) → i < length positions → IsNumbered past i (slice_index positions i)
-
--- `after` has the positions of all deliveries with one more entry, at position i, where `before` has them without it
-abbrev pub ArePositionsAfter : Entry → ℕ → List ℕ → List ℕ → Type 0
-ArePositionsAfter e i before after = (past : List Entry) → length past ≡ i → ArePositions past before → ArePositions (e ∷ past) after

@@ -1,27 +1,20 @@
 -- How long a delivery stays with its receiver, and when it has no orphan whoever depends on it.
-use Rattle.std.specs.Prelude.{◌≡◌, ℕ, ◌<◌, ◌≤◌, ◌⊎◌, true, List, [], ◌∷◌, ◌++◌, length, None, Some, slice_index_or, slice_set, min}
+use Rattle.std.specs.Prelude.{◌≡◌, ℕ, ◌<◌, ◌≤◌, ◌⊎◌, true, List, length, Some}
 use Rattle.causal_name.specs.declared.Det.{Det}
 use Rattle.causal_name.specs.declared.Pid.{Pid}
 use Rattle.causal_name.specs.Sets.{count_below}
 use Rattle.causal_trace.specs.declared.entry.Entry.{Entry}
-use Rattle.causal_trace.specs.declared.entry.Entry.TheVariants.{Crash, Deliver, Send}
+use Rattle.causal_trace.specs.declared.entry.Entry.TheVariants.{Crash}
 use Rattle.causal_trace.specs.Past.{instant, entry_at, det_at}
 use Rattle.causal_trace.specs.Rows.{AreAccepted}
-use Rattle.causal_trace.specs.Dependence.{IsEventOf, Delivers, Reaches, Depends}
+use Rattle.causal_trace.specs.Dependence.{IsEventOf, Reaches, Depends}
 use Rattle.causal_trace.specs.Judgement.{HasOrphan}
-use Rattle.causal_clock.specs.declared.Event.{Event}
-use Rattle.causal_clock.specs.Timeline.{lane_of}
 use Rattle.causal_audit.specs.Laws.{gone}
 
 -- the events before position `spread` that k reaches are of k's own lane
 abbrev pub StaysUntil : List Entry → ℕ → ℕ → Type 0
 StaysUntil past k spread =
     (v p l : ℕ) → v < spread → IsEventOf past k p l → Reaches past k v → IsEventOf past v p l
-
--- for each event a position, before which no send of its lane from it on is delivered
-pub record AreSpreads (past : List Entry) (events : List Event) (spreads : List ℕ) : Type 0 where
-  pub count : length spreads ≡ length past
-  pub each : (k s j : ℕ) → k < length past → k ≤ s → lane_of events s ≡ lane_of events k → Delivers past j s → slice_index_or spreads k 0 ≤ j
 
 -- at the instant u the delivery is still to come, or more than f processes are down or hold its determinant, or it has not
 -- left its receiver, which is down or holds its determinant
@@ -51,27 +44,3 @@ CrashedHasNone =
     (n : ℕ) (past : List Entry) (k : ℕ) (d : Det) (spread c u q : ℕ) → AreAccepted n past → det_at past k ≡ Some d
     → StaysUntil past k spread → IsCrashOf past d.dest.0 c → k < c → c < u → u ≤ spread → u ≤ length past
     → Depends (instant past u) k q → ⊥
-
--- the list with the position i at the place of the send that an entry delivers
-abbrev pub with_delivered : Entry → ℕ → List ℕ → List ℕ
-with_delivered (Deliver to send rsn listed) i list = slice_set list send i
-with_delivered _ i list = list
-
--- the first of what stands at i, once the entry is noted, and at its lane
-abbrev pub spread_at : Entry → ℕ → ℕ → List ℕ → List ℕ → ℕ
-spread_at e i lane spreads outs = min (slice_index_or (with_delivered e i spreads) i 0) (slice_index_or outs lane 0)
-
--- the list with the entry at position i noted, of this lane
-abbrev pub with_spread : Entry → ℕ → ℕ → List ℕ → List ℕ → List ℕ
-with_spread e i lane spreads outs = slice_set (with_delivered e i spreads) i (spread_at e i lane spreads outs)
-
--- the process of a send or a delivery; of another entry any
-abbrev pub acting : Entry → ℕ
-acting (Send from to ssn) = from.0
-acting (Deliver to send rsn listed) = to.0
-acting _ = 0
-
--- an event for each entry, whose lane is the process
-abbrev pub acts_of : List Entry → List Event
-acts_of [] = []
-acts_of (e ∷ past) = acts_of past ++ record { lane = acting e; send = None } ∷ []

@@ -1,7 +1,8 @@
 //! The verdict on a recorded run.
 ghost use Rattle.std.specs.Prelude.{◌≡◌, ◌≤◌, ◌<◌, ℕ, length};
 ghost use Rattle.causal_trace.specs.Past.{deliveries_in};
-ghost use Rattle.causal_audit.specs.Breaches.{Decides, DecidesWhole, FirstBreach, FirstBreachBy, FirstExcess, LeastBreach, LeastBreachBy, deciding, horizon};
+ghost use Rattle.causal_audit.specs.Breaches.{Decides, DecidesWhole, FirstBreach, FirstExcess, LeastBreach, LeastBreachBy, deciding};
+ghost use Rattle.causal_audit.specs.Inside.Among.{FirstBreachBy, horizon};
 ghost use Rattle.causal_audit.specs.Numbers.{IsNumbered};
 ghost use Rattle.causal_audit.specs.Verdicts.{IsVerdict};
 ghost use Rattle.causal_audit.specs.declared.verdict.Verdict.{Verdict};

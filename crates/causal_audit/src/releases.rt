@@ -3,7 +3,8 @@ ghost use Rattle.std.specs.Prelude.{◌≡◌, ◌<◌, ◌≤◌, length};
 ghost use Rattle.causal_trace.specs.declared.entry.Entry.{Entry};
 ghost use Rattle.causal_trace.specs.Limits.{max_entries};
 ghost use Rattle.causal_audit.specs.Inside.Filed.{past_of};
-ghost use Rattle.causal_audit.specs.Lasting.{LastsAfter, NoneReleasedFrom, may_release};
+ghost use Rattle.causal_audit.specs.Lasting.{NoneReleasedFrom, may_release};
+ghost use Rattle.causal_audit.specs.Inside.Releases.{LastsAfter};
 
 use causal_trace::entry::Entry;
 

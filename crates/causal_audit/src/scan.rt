@@ -3,7 +3,7 @@ ghost use Rattle.std.specs.Prelude.{◌≡◌, ◌≤◌, ◌<◌, IfOk, length,
 ghost use Rattle.std.specs.List.{All};
 ghost use Rattle.causal_name.specs.declared.Det.{Det};
 ghost use Rattle.causal_trace.specs.Past.{det_at};
-ghost use Rattle.causal_audit.specs.Breaches.{FirstBreachBy, LeastAmongBy};
+ghost use Rattle.causal_audit.specs.Inside.Among.{FirstBreachBy, LeastAmongBy};
 ghost use Rattle.causal_audit.specs.Inside.Filed.{lists_in};
 ghost use Rattle.causal_audit.specs.Inside.Followed.{AreFirstsBelow};
 ghost use Rattle.causal_audit.specs.Inside.Reaching.{HaveFirstsWithin};

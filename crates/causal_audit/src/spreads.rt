@@ -2,7 +2,7 @@
 //! it is told of its process, which is no longer.
 ghost use Rattle.std.specs.Prelude.{◌≡◌, ◌≤◌, ◌<◌, IfOk, length, slice_set};
 ghost use Rattle.causal_trace.specs.Limits.{max_entries};
-ghost use Rattle.causal_audit.specs.Spread.{acting, spread_at, with_delivered, with_spread};
+ghost use Rattle.causal_audit.specs.Inside.Spreads.{acting, spread_at, with_delivered, with_spread};
 ghost use Rattle.causal_audit.specs.Inside.Stands.{SpreadsOf, StaysOf};
 
 use crate::lanes::LANES;

@@ -2,7 +2,8 @@
 //! clock.
 ghost use Rattle.std.specs.Prelude.{◌≡◌, ◌+◌, ◌≤◌, ◌<◌, IfOk, OnOk, Some, length};
 ghost use Rattle.causal_trace.specs.Past.{det_at};
-ghost use Rattle.causal_audit.specs.Breaches.{HasNoOrphanFrom, IsSurveyed};
+ghost use Rattle.causal_audit.specs.Breaches.{IsSurveyed};
+ghost use Rattle.causal_audit.specs.Inside.Among.{HasNoOrphanFrom};
 ghost use Rattle.causal_audit.specs.Inside.AllLooks.{AreAllLooks};
 ghost use Rattle.causal_audit.specs.Inside.Surveys.{AreGathered, most_of};
 

@@ -4,9 +4,10 @@ ghost use Rattle.causal_trace.specs.declared.entry.Entry.{Entry};
 ghost use Rattle.causal_trace.specs.Limits.{max_entries};
 ghost use Rattle.causal_trace.specs.Past.{deliveries_in, det_at};
 ghost use Rattle.causal_trace.specs.Rows.{IsWellFormed};
-ghost use Rattle.causal_audit.specs.Breaches.{FirstBreachBy};
+ghost use Rattle.causal_audit.specs.Inside.Among.{FirstBreachBy};
 ghost use Rattle.causal_audit.specs.Inside.Filed.{past_of};
-ghost use Rattle.causal_audit.specs.Numbers.{IsNumbered, ArePositions, ArePositionsAfter};
+ghost use Rattle.causal_audit.specs.Numbers.{IsNumbered, ArePositions};
+ghost use Rattle.causal_audit.specs.Inside.Positions.{ArePositionsAfter};
 
 use crate::breach::Breach;
 use crate::budget::Budget;
@@ -174,7 +175,7 @@ fn note(positions: &mut Vec<u32>, entry: &Entry, i: u32) -> Result<(), NoMemory>
 }
 
 /// The positions of the deliveries, in order.
-pub fn positions_of(alloc: Global, entries: &[Entry]) -> Result<Vec<u32>, NoMemory>
+pub(crate) fn positions_of(alloc: Global, entries: &[Entry]) -> Result<Vec<u32>, NoMemory>
     requires { length entries.now ≤ max_entries }
     ensures { IfOk result (λ positions. ArePositions (past_of entries.now) positions.items) }
 {

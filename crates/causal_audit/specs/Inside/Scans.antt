@@ -1,7 +1,7 @@
 -- Which deliveries a scan follows, and what it tells of them.
 use Rattle.std.specs.Prelude.{ℕ, List, map}
 use Rattle.causal_trace.specs.Rows.{Recording}
-use Rattle.causal_audit.specs.Breaches.{HasNoOrphanFrom, LeastAmongBy}
+use Rattle.causal_audit.specs.Inside.Among.{HasNoOrphanFrom, LeastAmongBy}
 use Rattle.causal_audit.specs.declared.breach.Surveyed.{Surveyed}
 use Rattle.causal_audit.specs.declared.breach.Surveyed.TheVariants.{Told, TooMany}
 use Rattle.causal_audit.specs.declared.scan.Window.{Window}

@@ -11,7 +11,7 @@ use Rattle.causal_trace.specs.Judgement.{HasOrphan}
 use Rattle.causal_trace.specs.Dependence.{actor, Reaches, Depends}
 use Rattle.causal_audit.specs.declared.sight.Sight.{Sight}
 use Rattle.causal_audit.specs.declared.sight.Exposed.{Exposed}
-use Rattle.causal_audit.specs.Lasting.{IsOverAt}
+use Rattle.causal_audit.specs.Inside.Releases.{IsOverAt}
 use Rattle.causal_audit.specs.Quiet.{mentioned_by}
 use Rattle.causal_audit.specs.Verdicts.{IsLeastOrphan}
 

@@ -7,7 +7,7 @@ use Rattle.causal_trace.specs.State.{entries_of}
 use Rattle.causal_trace.specs.Dependence.{IsEventOf, Delivers}
 use Rattle.causal_clock.specs.declared.Event.{Event}
 use Rattle.causal_clock.specs.Timeline.{Timeline, lane_of, send_of}
-use Rattle.causal_audit.specs.Spread.{AreSpreads, acts_of}
+use Rattle.causal_audit.specs.Inside.Spreads.{AreSpreads, acts_of}
 
 -- the clock has an event for each entry, at its position: two sends or deliveries are of one lane of the clock exactly
 -- where they are of one lane of one process, and an event receives just what the delivery at its position delivers

@@ -7,7 +7,7 @@ use Rattle.causal_audit.specs.Inside.Filed.{AreLanes, AreMentions, Numbers}
 use Rattle.causal_audit.specs.Inside.Kept.{AreTurnsKept}
 use Rattle.causal_audit.specs.Lasting.{NoneReleasedFrom}
 use Rattle.causal_audit.specs.Numbers.{ArePositions}
-use Rattle.causal_audit.specs.Spread.{AreSpreads}
+use Rattle.causal_audit.specs.Inside.Spreads.{AreSpreads}
 use Rattle.causal_audit.specs.Inside.Stands.{Stands}
 use Rattle.causal_audit.specs.declared.turns.Turns.{Turns}
 

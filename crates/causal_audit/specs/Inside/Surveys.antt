@@ -11,9 +11,9 @@ use Rattle.causal_audit.specs.declared.scan.Window.{Window}
 use Rattle.causal_audit.specs.declared.mentions.Mentions.{Mentions}
 use Rattle.causal_audit.specs.Inside.Crashes.{AreCrashes}
 use Rattle.causal_audit.specs.Inside.Scans.{IsWindow, positions_of}
-use Rattle.causal_audit.specs.Breaches.{HasNoOrphanBy}
+use Rattle.causal_audit.specs.Inside.Among.{HasNoOrphanBy}
 use Rattle.causal_audit.specs.Inside.Kept.{AreMentionsKept}
-use Rattle.causal_audit.specs.Spread.{AreSpreads, acts_of}
+use Rattle.causal_audit.specs.Inside.Spreads.{AreSpreads, acts_of}
 
 -- which run a survey is of, for which f, and up to which instant it asks
 pub record Asked : Type 0 where

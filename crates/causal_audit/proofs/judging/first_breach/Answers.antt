@@ -1,6 +1,6 @@
 use Rattle.std.proofs.Common.{subst}
-use Rattle.causal_audit.specs.Breaches.{FirstBreachBy}
-use Rattle.causal_audit.proofs.Lemmas.LeastLemmas.{first_whole}
+use Rattle.causal_audit.specs.Inside.Among.{FirstBreachBy}
+use Rattle.causal_audit.proofs.Joined.{first_whole}
 use Rattle.causal_audit.proofs.judging.first_breach.Goals as goal
 
 pub returns : goal.returns

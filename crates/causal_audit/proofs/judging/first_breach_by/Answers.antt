@@ -1,5 +1,5 @@
 use Rattle.std.proofs.Common.{◌≡◌, sym, ◌∙◌, subst}
-use Rattle.causal_audit.specs.Breaches.{FirstBreachBy}
+use Rattle.causal_audit.specs.Inside.Among.{FirstBreachBy}
 use Rattle.causal_audit.proofs.Numbered.{numbered_one, numbered_det}
 use Rattle.causal_audit.proofs.judging.first_breach_by.Goals as goal
 

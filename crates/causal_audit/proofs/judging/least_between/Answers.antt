@@ -1,6 +1,6 @@
 use Rattle.std.proofs.Common.{subst}
 use Rattle.causal_audit.specs.Breaches.{LeastBreachBy}
-use Rattle.causal_audit.proofs.Lemmas.LeastLemmas.{least_whole}
+use Rattle.causal_audit.proofs.Joined.{least_whole}
 use Rattle.causal_audit.proofs.judging.least_between.Goals as goal
 
 pub returns : goal.returns

@@ -1,6 +1,7 @@
 use Rattle.std.proofs.Common.{◌≡◌, ◌+◌, ◌≤◌, arith, subst}
-use Rattle.causal_audit.specs.Breaches.{LeastBreachBy, horizon}
-use Rattle.causal_audit.proofs.Lemmas.LeastLemmas.{least_joined, least_one, horizon_within, settled}
+use Rattle.causal_audit.specs.Breaches.{LeastBreachBy}
+use Rattle.causal_audit.specs.Inside.Among.{horizon}
+use Rattle.causal_audit.proofs.Joined.{least_joined, least_one, horizon_within, settled}
 use Rattle.causal_audit.proofs.judging.least_by.Goals as goal
 
 pub first_breach_by-requires-clause-within : goal.first_breach_by-requires-clause-within

@@ -2,7 +2,7 @@ use Rattle.std.proofs.Common.{◌≡◌, ◌+◌, ◌-◌, ◌<◌, length, Some
 use Rattle.std.specs.Prelude.{slice_set}
 use Rattle.std.proofs.lemmas.List.{length-set}
 use Rattle.causal_trace.specs.Past.{entry_at}
-use Rattle.causal_audit.specs.Spread.{acts_of, spread_at, with_delivered}
+use Rattle.causal_audit.specs.Inside.Spreads.{acts_of, spread_at, with_delivered}
 use Rattle.causal_audit.proofs.Acting.{act_at}
 use Rattle.causal_audit.proofs.Outward.{AreSpreadsFrom, noted_length, spreads_begun, spreads_next}
 use Rattle.causal_audit.proofs.Steps.{how_many, entry_read}

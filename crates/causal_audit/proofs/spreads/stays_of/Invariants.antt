@@ -1,7 +1,7 @@
 use Rattle.std.proofs.Common.{◌≡◌, ◌≤◌, length}
 use Rattle.causal_trace.specs.Rows.{Recording, IsWellFormed}
 use Rattle.causal_trace.specs.State.{entries_of}
-use Rattle.causal_audit.specs.Spread.{acts_of}
+use Rattle.causal_audit.specs.Inside.Spreads.{acts_of}
 use Rattle.causal_audit.proofs.Outward.{AreSpreadsFrom}
 use Rattle.causal_audit.proofs.spreads.stays_of.Given as goal
 

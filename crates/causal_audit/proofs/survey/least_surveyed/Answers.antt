@@ -6,7 +6,7 @@ use Rattle.causal_audit.specs.Inside.Crashes.{AreCrashes}
 use Rattle.causal_audit.specs.Inside.Filed.{lists_in}
 use Rattle.causal_audit.specs.Inside.Kept.{AreMentionsKept, AreTurnsKept}
 use Rattle.causal_audit.specs.Lasting.{NoneReleasedFrom}
-use Rattle.causal_audit.specs.Spread.{AreSpreads, acts_of}
+use Rattle.causal_audit.specs.Inside.Spreads.{AreSpreads, acts_of}
 use Rattle.causal_audit.proofs.survey.least_surveyed.Goals as goal
 
 pub invariant_of-outline : goal.invariant_of-outline

@@ -1,9 +1,9 @@
 use Rattle.std.proofs.Common.{ℕ, ◌≡◌, ◌≤◌, ◌<◌, List, Vec, Global, length, map, min, None, Some, sym, subst, ◌∙◌, arith}
 use Rattle.std.specs.List.Sorted.{IsNonDecreasing}
-use Rattle.causal_audit.specs.Breaches.{FirstBreachBy}
+use Rattle.causal_audit.specs.Inside.Among.{FirstBreachBy}
 use Rattle.causal_audit.specs.Inside.Changes.{AreMentionsOf, HasMentions}
 use Rattle.causal_audit.specs.Inside.Followed.{AreFirstsBelow}
-use Rattle.causal_audit.proofs.Lemmas.AmongLemmas.{first_until}
+use Rattle.causal_audit.proofs.AmongLemmas.{first_until}
 use Rattle.causal_audit.proofs.Mentioned.{mentions_ascend}
 use Rattle.causal_trace.specs.Past.{det_at, instant}
 use Rattle.causal_trace.proofs.Lemmas.AtInstants.{det_then, det_within, instant_length}

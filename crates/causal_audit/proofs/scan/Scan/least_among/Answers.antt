@@ -2,9 +2,9 @@ use Rattle.std.proofs.Common.{◌≡◌, ◌++◌, ◌<◌, [], List, Some, None
 use Rattle.std.proofs.lemmas.List.{map-append, nil_from_length}
 use Rattle.std.specs.List.{All}
 use Rattle.std.specs.Slice.Iter.{chunks_rest, chunks_size}
-use Rattle.causal_audit.proofs.Lemmas.AmongLemmas.{among_joined, among_none, horizon_more, joined_same}
+use Rattle.causal_audit.proofs.AmongLemmas.{among_joined, among_none, horizon_more, joined_same}
 use Rattle.causal_audit.proofs.Sifted.{all_left, all_right}
-use Rattle.causal_audit.specs.Breaches.{LeastAmongBy, horizon}
+use Rattle.causal_audit.specs.Inside.Among.{LeastAmongBy, horizon}
 use Rattle.causal_audit.specs.Earlier.{earlier}
 use Rattle.causal_audit.specs.Inside.Scans.{IsWindow, positions_of}
 use Rattle.causal_audit.specs.declared.scan.Window.{Window}

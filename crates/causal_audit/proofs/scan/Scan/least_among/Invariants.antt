@@ -1,7 +1,7 @@
 use Rattle.std.proofs.Common.{◌≡◌, ◌≤◌, ◌<◌, ◌++◌, List}
 use Rattle.std.specs.List.{All}
 use Rattle.std.specs.Slice.Iter.{chunks_rest, chunks_size}
-use Rattle.causal_audit.specs.Breaches.{LeastAmongBy, horizon}
+use Rattle.causal_audit.specs.Inside.Among.{LeastAmongBy, horizon}
 use Rattle.causal_audit.specs.declared.scan.Window.{Window}
 use Rattle.causal_audit.specs.Inside.Scans.{IsWindow, positions_of}
 use Rattle.causal_audit.proofs.scan.Scan.least_among.Given as goal

@@ -3,9 +3,9 @@ use Rattle.std.proofs.Math.Seq.{take-length}
 use Rattle.std.proofs.lemmas.List.{get_or-map}
 use Rattle.causal_audit.specs.Inside.Filed.{list_at, lists_in}
 use Rattle.causal_audit.specs.Inside.Followed.{AreFirstsBelow}
-use Rattle.causal_audit.specs.Breaches.{FirstBreachBy, LeastAmongBy, horizon}
+use Rattle.causal_audit.specs.Inside.Among.{FirstBreachBy, LeastAmongBy, horizon}
 use Rattle.causal_audit.specs.Earlier.{earlier}
-use Rattle.causal_audit.proofs.Lemmas.AmongLemmas.{among_more, among_same, horizon_more}
+use Rattle.causal_audit.proofs.AmongLemmas.{among_more, among_same, horizon_more}
 use Rattle.causal_audit.specs.Inside.Scans.{positions_of}
 use Rattle.causal_audit.specs.declared.scan.Window.{Window}
 use Rattle.causal_audit.proofs.Windowed.{firsts_below, one_more}

@@ -1,5 +1,5 @@
 use Rattle.std.proofs.Common.{◌≡◌, ◌≤◌, take}
-use Rattle.causal_audit.specs.Breaches.{LeastAmongBy, horizon}
+use Rattle.causal_audit.specs.Inside.Among.{LeastAmongBy, horizon}
 use Rattle.causal_audit.specs.Inside.Scans.{positions_of}
 use Rattle.causal_audit.proofs.scan.Scan.least_of.Given as goal
 

@@ -6,7 +6,7 @@ use Rattle.causal_audit.specs.declared.breach.Surveyed.{Surveyed}
 use Rattle.causal_audit.specs.declared.breach.Surveyed.TheVariants.{Told, TooMany}
 use Rattle.causal_audit.specs.Breaches.{IsSurveyed}
 use Rattle.causal_audit.specs.Inside.Scans.{IsToldAmong, IsWindow, positions_of}
-use Rattle.causal_audit.proofs.Lemmas.AmongLemmas.{among_all}
+use Rattle.causal_audit.proofs.AmongLemmas.{among_all}
 use Rattle.causal_audit.proofs.Uncovered.{any_other}
 use Rattle.causal_audit.proofs.Windowed.{of_positions}
 use Rattle.causal_audit.proofs.survey.Survey.least.Goals as goal

@@ -8,9 +8,9 @@ use Rattle.causal_audit.specs.Inside.Changes.{AreMentionsOf, HasMentions}
 use Rattle.causal_audit.specs.Inside.Filed.{Ascends, AreFirsts, AreReached, list_at}
 use Rattle.causal_audit.proofs.Firsts.{firsts_listed, firsts_reached}
 use Rattle.causal_trace.proofs.Lemmas.AtInstants.{det_within}
-use Rattle.causal_audit.proofs.Lemmas.AmongLemmas.{first_until}
+use Rattle.causal_audit.proofs.AmongLemmas.{first_until}
 use Rattle.causal_audit.proofs.Mentioned.{mentions_ascend}
-use Rattle.causal_audit.specs.Breaches.{FirstBreachBy}
+use Rattle.causal_audit.specs.Inside.Among.{FirstBreachBy}
 use Rattle.causal_audit.specs.Spread.{StaysUntil}
 use Rattle.causal_audit.proofs.Opened.{none_of_most}
 use Rattle.causal_audit.proofs.Spreading.{stays_until}

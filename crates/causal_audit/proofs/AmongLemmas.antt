@@ -11,8 +11,9 @@ use Rattle.causal_trace.specs.Judgement.{HasOrphan}
 use Rattle.causal_audit.specs.declared.breach.Breach.{Breach}
 use Rattle.causal_audit.specs.Earlier.{comes_before, earlier}
 use Rattle.causal_audit.specs.Numbers.{IsNumbered}
-use Rattle.causal_audit.specs.Breaches.{FirstBreachBy, IsFirstBreach, HasNoOrphanBy, HasNoOrphanFrom, IsLeastAmong, LeastAmongBy, LeastBreachBy, horizon}
-use Rattle.causal_audit.proofs.Lemmas.LeastLemmas.{before_least, not_before_least}
+use Rattle.causal_audit.specs.Breaches.{IsFirstBreach, LeastBreachBy}
+use Rattle.causal_audit.specs.Inside.Among.{FirstBreachBy, HasNoOrphanBy, HasNoOrphanFrom, IsLeastAmong, LeastAmongBy, horizon}
+use Rattle.causal_audit.proofs.Joined.{before_least, not_before_least}
 use Rattle.causal_audit.proofs.Newly.{numbered_some}
 use Rattle.causal_audit.proofs.Lemmas.NumberLemmas.{has_number}
 use Rattle.causal_audit.proofs.Numbered.{numbered_later, numbered_below}

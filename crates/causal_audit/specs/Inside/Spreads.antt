@@ -1,0 +1,36 @@
+-- How long each event stays with its lane, as it is noted entry by entry.
+use Rattle.std.specs.Prelude.{◌≡◌, ℕ, ◌<◌, ◌≤◌, List, [], ◌∷◌, ◌++◌, length, None, slice_index_or, slice_set, min}
+use Rattle.causal_trace.specs.declared.entry.Entry.{Entry}
+use Rattle.causal_trace.specs.declared.entry.Entry.TheVariants.{Deliver, Send}
+use Rattle.causal_trace.specs.Dependence.{Delivers}
+use Rattle.causal_clock.specs.declared.Event.{Event}
+use Rattle.causal_clock.specs.Timeline.{lane_of}
+
+-- for each event a position, before which no send of its lane from it on is delivered
+pub record AreSpreads (past : List Entry) (events : List Event) (spreads : List ℕ) : Type 0 where
+  pub count : length spreads ≡ length past
+  pub each : (k s j : ℕ) → k < length past → k ≤ s → lane_of events s ≡ lane_of events k → Delivers past j s → slice_index_or spreads k 0 ≤ j
+
+-- the list with the position i at the place of the send that an entry delivers
+abbrev pub with_delivered : Entry → ℕ → List ℕ → List ℕ
+with_delivered (Deliver to send rsn listed) i list = slice_set list send i
+with_delivered _ i list = list
+
+-- the first of what stands at i, once the entry is noted, and at its lane
+abbrev pub spread_at : Entry → ℕ → ℕ → List ℕ → List ℕ → ℕ
+spread_at e i lane spreads outs = min (slice_index_or (with_delivered e i spreads) i 0) (slice_index_or outs lane 0)
+
+-- the list with the entry at position i noted, of this lane
+abbrev pub with_spread : Entry → ℕ → ℕ → List ℕ → List ℕ → List ℕ
+with_spread e i lane spreads outs = slice_set (with_delivered e i spreads) i (spread_at e i lane spreads outs)
+
+-- the process of a send or a delivery; of another entry any
+abbrev pub acting : Entry → ℕ
+acting (Send from to ssn) = from.0
+acting (Deliver to send rsn listed) = to.0
+acting _ = 0
+
+-- an event for each entry, whose lane is the process
+abbrev pub acts_of : List Entry → List Event
+acts_of [] = []
+acts_of (e ∷ past) = acts_of past ++ record { lane = acting e; send = None } ∷ []
