@@ -1,8 +1,11 @@
 //! Verdicts and lines that were worked out by hand, for several numbers of workers, and that two workers run together.
+use crate::entries::{Line, push};
 use causal_audit::Verdict;
 use causal_holders::Holders;
 use causal_text::{TextFault, TextKind, read_trace};
+use causal_trace::trace::Trace;
 use causal_workers::{AuditTextFault, Gate, Judged, OpenGate, audit, audit_text, verdict_line};
+use std::alloc::Global;
 use std::sync::atomic::{AtomicU64, Ordering};
 use std::test::Fail;
 use std::thread;
@@ -140,6 +143,38 @@ fn a_trace_is_audited(rt: HostRuntime) -> Result<(), Fail> {
             |_| "no verdict",
         )?;
         assert_eq!(rt; found, orphan, "{workers} workers");
+    }
+    Ok(())
+}
+
+/// The trace of a text, and so many entries more, by which process 0 forgets nothing.
+fn followed(alloc: Global, text: &str, more: u32) -> Result<Trace, Fail> {
+    let mut trace = read_trace(alloc, text.as_bytes())?;
+    for _ in 0..more {
+        push(alloc, &mut trace, Line::Forget(0, &[]))?;
+    }
+    Ok(trace)
+}
+
+// The instant that decides comes after the sixteenth that is surveyed first, at its end and in it.
+#[test]
+fn a_verdict_stays_however_long_the_run_goes_on(rt: HostRuntime) -> Result<(), Fail> {
+    let orphan = Verdict::Orphan {
+        instant: 5,
+        delivery: 4,
+        crash: Holders::none(),
+        orphan: 3,
+    };
+    let mut down = Holders::none();
+    down.insert(1);
+    down.insert(2);
+    let exceeded = Verdict::Exceeded { instant: 8, down };
+    for more in 0..160 {
+        for (text, verdict) in [(LATER_FIRST, orphan), (RING_CRASHED, exceeded)] {
+            let trace = followed(rt.alloc(), text, more)?;
+            let found = audit(&rt, rt.alloc(), &trace, 1, 2, &OpenGate)?;
+            assert_eq!(rt; found, verdict, "{more} more entries");
+        }
     }
     Ok(())
 }

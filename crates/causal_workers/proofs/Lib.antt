@@ -1,4 +1,5 @@
 mod BeginningLemmas
 mod Commas
+mod EarlyLemmas
 mod JudgementLemmas
 mod PartLemmas

@@ -43,13 +43,14 @@ impl From<NoMemory> for AuditFault {
 
 /// The verdict on a trace for f, by 1 to 64 workers: the same for every number of them. Worker 0 is the calling thread,
 /// and begins when all others have been started. Each worker calls the gate's `enter` once with its number, also where
-/// no delivery is left for it. Before the others are started the calling thread judges a beginning of the run alone; where a
-/// delivery has an orphan in it the workers judge that beginning, and what comes after is not prepared. Else it surveys the
-/// run; where that tells the least breach, no delivery is left for the workers.
+/// no delivery is left for it. Before the others are started the calling thread surveys a beginning of the run, and where
+/// that does not suffice the whole run; where a survey tells the least breach, no delivery is left for the workers. Else it
+/// judges a beginning alone; where a delivery has an orphan in it the workers judge that beginning, and what comes after is not
+/// prepared.
 ///
 /// # Errors
-/// `NoMemory` where the memory for a course, for the rooms or for the list of workers was refused; then no worker was
-/// started. `NoWorker` where a worker could not be started, after those that were started ended; never with one worker.
+/// `NoMemory` where the memory for a beginning, a survey, a course, the rooms or the list of workers was refused; then no worker
+/// was started. `NoWorker` where a worker could not be started, after those that were started ended; never with one worker.
 #[tactic(auto, using(causal_audit::proofs::Lemmas::OneVerdict::one_verdict))]
 pub fn audit<G: Gate + Sync, R: Threads + Wait>(
     rt: &R,

@@ -7,12 +7,14 @@
 //! [`verdict_line`] prints what they answer.
 #![tactic(auto)]
 
+mod beginning;
 pub mod divided;
 pub mod gate;
 pub mod judged;
 pub mod line;
 mod part;
 mod prepared;
+mod surveyed;
 
 pub use divided::{AuditFault, audit};
 pub use gate::{Gate, OpenGate};

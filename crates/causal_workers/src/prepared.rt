@@ -3,13 +3,11 @@ ghost use Rattle.std.specs.Prelude.{◌≡◌, ◌≤◌, IfOk, None, length};
 ghost use Rattle.std.specs.Bool.{OnTrue};
 ghost use Rattle.causal_workers.specs.Inside.Beginnings.{HasBreach, TellsBy};
 
-use causal_audit::{Breach, Course, Room, Surveyed, least_surveyed, least_swept};
+use crate::surveyed::{BEGINNING, surveyed_by};
+use causal_audit::{Breach, Course, Room, Surveyed, least_swept};
 use causal_name::NoMemory;
 use causal_trace::trace::Trace;
 use std::alloc::Global;
-
-/// Which part of the entries is judged first: one of so many.
-const BEGINNING: u32 = 16;
 
 /// What is prepared of a run: the breach that is known already, if there is one, and the course whose deliveries the workers
 /// judge. The earlier of that breach and theirs is the least of the run.
@@ -25,7 +23,7 @@ pub fn prepared_by(alloc: Global, trace: &Trace, f: u16, end: u32) -> Result<Pre
     requires { end ≤ length trace.now.recording.past }
     ensures { IfOk result (λ prepared. TellsBy trace.now.recording f end prepared.known prepared.course) }
 {
-    match least_surveyed(alloc, trace, f, end)? {
+    match surveyed_by(alloc, trace, f, end)? {
         Surveyed::Told(known) => {
             let course = Course::of(alloc, trace, 0)?;
             Ok(Prepared { known, course })
