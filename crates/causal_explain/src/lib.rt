@@ -16,23 +16,3 @@ pub use closest::{Closest, closest_failure};
 pub use down::down_since;
 pub use explaining::explain;
 pub use explanation::{Down, Explanation, Holding, Loss};
-
-#[cfg(test)]
-mod tests {
-    use super::Down;
-    use std::rt::HostRuntime;
-
-    #[test]
-    fn down_is_equal(rt: HostRuntime) {
-        let down = Down {
-            process: 1,
-            since: 2,
-        };
-        assert!(rt;
-            down == Down {
-                process: 1,
-                since: 2
-            }
-        );
-    }
-}

@@ -471,3 +471,17 @@ fn each_chain_is_a_shortest_one(rt: HostRuntime) -> Result<(), Fail> {
     assert!(rt; found.some > 100 && found.none > 500);
     Ok(())
 }
+
+#[test]
+fn down_is_equal(rt: HostRuntime) {
+    let down = Down {
+        process: 1,
+        since: 2,
+    };
+    assert!(rt;
+        down == Down {
+            process: 1,
+            since: 2
+        }
+    );
+}

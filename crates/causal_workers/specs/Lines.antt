@@ -1,5 +1,5 @@
 -- How a verdict prints.
-use Rattle.std.specs.Prelude.{◌≡◌, ℕ, List, [], ◌∷◌, ◌++◌, codes, map}
+use Rattle.std.specs.Prelude.{ℕ, List, [], ◌∷◌, ◌++◌, codes}
 use Rattle.std.specs.Fmt.{decimal}
 use Rattle.std.specs.List.{join_by}
 use Rattle.std.specs.Ordering.{nat_cmp}
@@ -13,10 +13,6 @@ use Rattle.causal_workers.specs.declared.judged.Judged.{Judged}
 abbrev pub joined_by_commas : List ℕ → List ℕ
 joined_by_commas [] = codes "-"
 joined_by_commas (p ∷ ps) = join_by decimal (codes ",") (p ∷ ps)
-
--- where the texts are those of numbers, the line has them joined by commas
-abbrev pub JoinsNumbers : List (List ℕ) → List ℕ → Type 0
-JoinsNumbers texts line = (ps : List ℕ) → texts ≡ map decimal ps → line ≡ joined_by_commas ps
 
 -- the processes of a set, ascending
 unfoldable pub set_text : FinSet nat_cmp → List ℕ

@@ -4,6 +4,7 @@ ghost use Rattle.std.specs.Fmt.{decimal};
 ghost use Rattle.std.specs.String.{string_bytes};
 ghost use Rattle.causal_holders.specs.Members.{ascending};
 ghost use Rattle.causal_workers.specs.Lines as lines;
+ghost use Rattle.causal_workers.specs.Inside.Joined.{JoinsNumbers};
 
 use crate::judged::Judged;
 use causal_audit::Verdict;
@@ -76,7 +77,7 @@ fn set_text(alloc: Global, processes: Holders) -> Result<String, AllocError>
 
 /// Numbers joined by commas; `-` where there is none.
 fn joined(alloc: Global, numbers: &[String]) -> Result<String, AllocError>
-    ensures { IfOk result (λ line. lines.JoinsNumbers (map string_bytes numbers.now) (string_bytes line)) }
+    ensures { IfOk result (λ line. JoinsNumbers (map string_bytes numbers.now) (string_bytes line)) }
 {
     if numbers.is_empty() {
         format!(in alloc; "-")
