@@ -6,9 +6,11 @@ use causal_text::{TextFault, TextKind, read_trace};
 use causal_trace::trace::Trace;
 use causal_workers::{AuditTextFault, Gate, Judged, OpenGate, audit, audit_text, verdict_line};
 use std::alloc::Global;
+use std::sync::Wait;
 use std::sync::atomic::{AtomicU64, Ordering};
 use std::test::Fail;
 use std::thread;
+use std::thread::Threads;
 
 /// A message goes once round three processes.
 const RING: &str = r#"["trace",1,3]
@@ -156,25 +158,48 @@ fn followed(alloc: Global, text: &str, more: u32) -> Result<Trace, Fail> {
     Ok(trace)
 }
 
+/// Whether two workers say so of the trace of a text and so many entries more.
+fn is_told<R: Threads + Wait>(
+    rt: &R,
+    alloc: Global,
+    text: &str,
+    more: u32,
+    verdict: &Verdict,
+) -> Result<bool, Fail> {
+    let trace = followed(alloc, text, more)?;
+    let found = audit(rt, alloc, &trace, 1, 2, &OpenGate)?;
+    Ok(found == *verdict)
+}
+
 // The instant that decides comes after the sixteenth that is surveyed first, at its end and in it.
 #[test]
-fn a_verdict_stays_however_long_the_run_goes_on(rt: HostRuntime) -> Result<(), Fail> {
+fn an_orphan_is_told_however_long_the_run_goes_on(rt: HostRuntime) -> Result<(), Fail> {
     let orphan = Verdict::Orphan {
         instant: 5,
         delivery: 4,
         crash: Holders::none(),
         orphan: 3,
     };
+    for more in 0..160 {
+        assert!(rt;
+            is_told(&rt, rt.alloc(), LATER_FIRST, more, &orphan)?,
+            "{more} more entries"
+        );
+    }
+    Ok(())
+}
+
+#[test]
+fn an_excess_is_told_however_long_the_run_goes_on(rt: HostRuntime) -> Result<(), Fail> {
     let mut down = Holders::none();
     down.insert(1);
     down.insert(2);
     let exceeded = Verdict::Exceeded { instant: 8, down };
     for more in 0..160 {
-        for (text, verdict) in [(LATER_FIRST, orphan), (RING_CRASHED, exceeded)] {
-            let trace = followed(rt.alloc(), text, more)?;
-            let found = audit(&rt, rt.alloc(), &trace, 1, 2, &OpenGate)?;
-            assert_eq!(rt; found, verdict, "{more} more entries");
-        }
+        assert!(rt;
+            is_told(&rt, rt.alloc(), RING_CRASHED, more, &exceeded)?,
+            "{more} more entries"
+        );
     }
     Ok(())
 }
