@@ -77,13 +77,14 @@ module _ (look : Look) (formed : AreAccepted look.run.trace.now.recording.proces
           (holds_until n past formed look.det stop.t change within unmentioned stop.cover.down stop.cover.holders unrestarted at.down at.holders change up (omega arith) fell falls))
 
       -- the look goes on after it
-      pub onward_stop : (new : Stop) → new.t ≡ change + 1 → new.ahead ≡ ahead → new.turns ≡ turns → new.cover ≡ cover → IsStop look new
-      onward_stop new t_is ahead_is turns_is cover_is = record {
+      pub onward_stop : (new : Stop) → new.t ≡ change + 1 → new.ahead ≡ ahead → new.turns ≡ turns → new.cover ≡ cover → StandsBy new.standing look.most look.det.dest.0 (union cover.down cover.holders) → IsStop look new
+      onward_stop new t_is ahead_is turns_is cover_is stands = record {
         within = omega (arith, t_is, below);
         mentions = subst (λ x. IsCursor look.mentions.now new.t x) (sym ahead_is) (cursor_later look.mentions.now stop.t new.t ahead (omega (arith, t_is, up)) cursor);
         turns = subst (λ x. x.turns.now ≡ look.run.turns.now) (sym turns_is) passed.over;
         down = subst (λ x. Shows x.down (λ p. is_down (instant past new.t) p)) (sym cover_is) (subst (λ u. Shows cover.down (λ p. is_down (instant past u) p)) (sym t_is) down_then);
         holders = subst (λ x. Shows x.holders (λ p. logs (instant past new.t) p look.det)) (sym cover_is) (subst (λ u. Shows cover.holders (λ p. logs (instant past u) p look.det)) (sym t_is) holders_then);
+        stands = subst (λ x. StandsBy new.standing look.most look.det.dest.0 (union x.down x.holders)) (sym cover_is) stands;
       }
 
       -- and ends where too many are down or hold it for good

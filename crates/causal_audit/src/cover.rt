@@ -29,8 +29,8 @@ impl Cover {
     }
 
     /// How a determinant of this receiver stands while these are down and hold it, where at most so many may crash.
-    pub fn standing(self, most: u16, receiver: u8) -> Standing
-        ensures { StandsBy result most receiver (set.union self.down self.holders) }
+    pub fn standing(&self, most: u16, receiver: u8) -> Standing
+        ensures { StandsBy result most receiver (set.union self.now.down self.now.holders) }
     {
         let gone = self.gone();
         if gone.len() > u32::from(most) {

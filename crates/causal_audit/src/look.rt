@@ -14,7 +14,7 @@ use crate::budget::Budget;
 use crate::cover::Cover;
 use crate::cursor::Cursor;
 use crate::outline::Outline;
-use crate::thin::Stretch;
+use crate::thin::{Standing, Stretch};
 use crate::turns::Passing;
 use causal_holders::Holders;
 use causal_name::Det;
@@ -35,13 +35,15 @@ pub struct Look<'a> {
     ghost only: { AreMentionsOf run.trace.now.recording.past det mentions.now } by { AreMentionsOf-prop _ _ _ },
 }
 
-/// The instant that a look has come to, with who is down and holds the determinant then; past the end once all is looked at.
+/// The instant that a look has come to, with who is down and holds the determinant then, and how it stands by that; past the end
+/// once all is looked at.
 #[derive(Clone, Copy)]
 pub struct Stop<'a> {
     pub t: u32,
     pub ahead: Cursor<'a>,
     pub turns: Passing<'a>,
     pub cover: Cover,
+    pub standing: Standing,
 }
 
 /// The first of an ascending list of positions, or `end` if that comes first.
@@ -78,14 +80,17 @@ impl<'a> Look<'a> {
     {
         let t = first_of(self.mentions, from);
         let turns = self.run.turns.from(t);
+        let cover = Cover {
+            down: turns.down(),
+            holders: Holders::none(),
+        };
+        let standing = cover.standing(self.most, self.det.dest.0);
         Stop {
             t,
             ahead: Cursor::at(self.mentions, t),
             turns,
-            cover: Cover {
-                down: turns.down(),
-                holders: Holders::none(),
-            },
+            cover,
+            standing,
         }
     }
 
@@ -104,7 +109,7 @@ impl<'a> Look<'a> {
             return None;
         }
         let first = stop.t;
-        let standing = stop.cover.standing(self.most, self.det.dest.0);
+        let standing = stop.standing;
         let mention = stop.ahead.next(first, self.end);
         let gone = stop.cover.gone();
         let last = stop
@@ -125,8 +130,9 @@ impl<'a> Look<'a> {
         }
         stop.cover
             .see(stop.turns.down(), entry, self.det, mention == last);
+        stop.standing = stop.cover.standing(self.most, self.det.dest.0);
         let lasting = self.run.lasting_from <= last + 1;
-        if lasting && stop.cover.gone().len() > u32::from(self.most) {
+        if lasting && stop.standing.is_kept() {
             return Some(stretch);
         }
         stop.t = last + 1;

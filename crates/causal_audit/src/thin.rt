@@ -1,4 +1,5 @@
 //! How a determinant stands through a stretch of instants.
+ghost use Rattle.std.specs.Prelude.{◌≡◌, true};
 
 /// Who keeps a determinant that is not stable.
 #[derive(Clone, Copy, Debug)]
@@ -9,6 +10,17 @@ pub enum Standing {
     Thin,
     /// They are so few, and its receiver is none of them, or it is not known to be.
     Bare,
+}
+
+impl Standing {
+    ghost use Rattle.causal_audit.specs.declared.thin.Standing.TheVariants.{Kept};
+
+    /// Whether more processes keep it than may crash.
+    pub fn is_kept(self) -> bool
+        ensures { result ≡ true → self ≡ Kept }
+    {
+        matches!(self, Standing::Kept)
+    }
 }
 
 /// The instants from `first` to `last`, and how a determinant stands at these at least.

@@ -11,7 +11,8 @@ use Rattle.causal_protocol.specs.Steps.{Steps}
 use Rattle.causal_shared.specs.declared.item.Item.{Item}
 use Rattle.causal_shared.specs.declared.item.KeptSeat.{KeptSeat}
 use Rattle.causal_shared.specs.Limits.{max_items}
-use Rattle.causal_shared.specs.History.{instant, cut, IsStep, next_first, AllLegal, items_of, last_of, IsHistory, item_at, FitsHistory, AllKept, Shows, Keeps, kept_after, count_at, fresh_seat, Held, Holds, Sees}
+use Rattle.causal_shared.specs.History.{instant, cut, IsStep, next_first, AllLegal, items_of, last_of, IsHistory, Shows, kept_after, count_at, fresh_seat, Held, Holds, Sees}
+use Rattle.causal_shared.specs.Inside.Keeping.{item_at, FitsHistory, AllKept, Keeps}
 use Rattle.causal_shared.proofs.Lists.{slice_get-append, slice_get-append_seam, slice_get-set_same, slice_get-set_other, slice_get-snoc, slice_get-last}
 use Rattle.causal_trace.specs.Past.{det_at}
 use Rattle.causal_protocol.specs.declared.request.Request.{Request}

@@ -9,7 +9,8 @@ use Rattle.causal_shared.specs.declared.item.Item.{Item}
 use Rattle.causal_shared.specs.declared.item.KeptSeat.{KeptSeat}
 use Rattle.causal_shared.specs.Limits.{max_items}
 use Rattle.causal_trace.specs.declared.entry.Entry.{Entry}
-use Rattle.causal_shared.specs.History.{instant, item_at, Shows, Held, Keeps, Holds, count_at}
+use Rattle.causal_shared.specs.History.{instant, Shows, Held, Holds, count_at}
+use Rattle.causal_shared.specs.Inside.Keeping.{item_at, Keeps}
 use Rattle.causal_protocol.specs.Telling.{told_entries}
 use Rattle.causal_shared.specs.Locked.{told, ItemCall, IsSnapshot}
 use Rattle.causal_shared.specs.declared.fault.LockedFault.{LockedFault}

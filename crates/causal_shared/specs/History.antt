@@ -1,6 +1,6 @@
 -- A history of calls over a run of the core.
-use Rattle.std.specs.Prelude.{◌≡◌, ℕ, ◌+◌, ◌-◌, ◌≤◌, ◌<◌, ◌==◌, List, [], ◌∷◌, ◌++◌, length, take, drop, reverse}
-use Rattle.std.specs.Prelude.{count_by, slice_get, slice_set, filter, unwrap_or, option_map, IfSome, Option, Some, None}
+use Rattle.std.specs.Prelude.{◌≡◌, ℕ, ◌+◌, ◌-◌, ◌≤◌, ◌==◌, List, [], ◌∷◌, ◌++◌, length, take, drop, reverse}
+use Rattle.std.specs.Prelude.{count_by, slice_get, slice_set, filter, unwrap_or, option_map, Option, Some, None}
 use Rattle.causal_trace.specs.declared.entry.Entry.{Entry}
 use Rattle.causal_protocol.specs.declared.request.Request.{Request}
 use Rattle.causal_protocol.specs.declared.request.Reply.{Reply}
@@ -69,30 +69,9 @@ pub record IsHistory (r : Run) (items : List Item) : Type 0 where
   pub legal : AllLegal r items
   pub numbered : (seat k : ℕ) (item : Item) → slice_get (items_of seat items) k ≡ Some item → item.call ≡ k
 
-abbrev pub item_at : List Item → Option ℕ → Option Item
-item_at items None = None
-item_at items (Some place) = slice_get items place
-
--- what is kept of a seat fits the history
-pub record FitsHistory (r : Run) (items : List Item) (seat : ℕ) (kept : KeptSeat) : Type 0 where
-  pub count : kept.count ≡ length (items_of seat items)
-  pub seen : kept.seen ≤ instant r
-  pub placed : IfSome kept.last (λ place. place < length items)
-  pub last : item_at items kept.last ≡ last_of (items_of seat items)
-
--- what is kept of each seat does
-abbrev pub AllKept : Run → List Item → List KeptSeat → Type 0
-AllKept r items seats = (seat : ℕ) (kept : KeptSeat) → slice_get seats seat ≡ Some kept → FitsHistory r items seat kept
-
 -- the entries have the delivery that an item tells, at the item's place
 abbrev pub Shows : List Entry → Item → Type 0
 Shows past item = (d : Delivered) → item.reply ≡ Told.Delivered d → det_at past item.first ≡ Some d.det
-
--- the history and what is kept of the seats fit the run
-pub record Keeps (r : Run) (items : List Item) (seats : List KeptSeat) : Type 0 where
-  pub legal : IsHistory r items
-  pub kept : AllKept r items seats
-  pub shown : (k : ℕ) (item : Item) → slice_get items k ≡ Some item → Shows r.recording.past item
 
 -- what is kept of a seat after its item at this place, with so many entries seen
 abbrev pub kept_after : Item → ℕ → ℕ → KeptSeat

@@ -3,8 +3,8 @@ ghost use Rattle.std.specs.Prelude.{◌≡◌, ◌+◌, ◌<◌, ◌≤◌, ◌�
 ghost use Rattle.std.specs.Prelude.{vec_len, vec_capacity, IfOk, IfErr, OnOk, OnErr, IsTrue};
 ghost use Rattle.std.specs.Option.{option_copied};
 ghost use Rattle.causal_core.specs.CoreView.{run_of};
-ghost use Rattle.causal_shared.specs.History.{Keeps, IsHistory, Holds, Sees};
-ghost use Rattle.causal_shared.specs.History.{instant, count_at, with_kept, item_at};
+ghost use Rattle.causal_shared.specs.History.{IsHistory, Holds, Sees, instant, count_at, with_kept};
+ghost use Rattle.causal_shared.specs.Inside.Keeping.{Keeps, item_at};
 ghost use Rattle.causal_shared.specs.Inside.Noting.{GoesOn};
 ghost use Rattle.causal_shared.specs.Limits.{max_items, max_seats};
 ghost use Rattle.causal_protocol.specs.Steps.{told_restart as restart_says};

@@ -1,16 +1,14 @@
 //! Audits the recorded run, or runs the script, that it reads on standard input.
 //!
 //! The work is that of `causal_commands`: [`audit_and_tell`] of `audit`, [`show_and_tell`] of `explain` and `draw`, and
-//! [`run_and_tell`] of `run`. All go from any reader to any writer, and their clauses are what the program promises. `main` adds the
-//! words of the command line (`words`), the standard streams and the exit status.
+//! [`run_and_tell`] of `run`. All go from any reader to any writer, and their clauses are what the program promises. What the words
+//! of the command line ask for is told by `causal_words`. `main` adds the standard streams and the exit status.
 #![tactic(auto)]
 
-mod words;
-
-use crate::words::{Asked, Refused};
 pub use causal_commands::audit_stream;
 use causal_commands::{Told, audit_and_tell, run_and_tell, show_and_tell};
 use causal_text::TextFault;
+use causal_words::{Asked, Refused, read_words};
 use causal_workers::OpenGate;
 use std::fmt::Display;
 use std::io;
@@ -32,7 +30,7 @@ fn told<F: Display + Drop>(rt: &HostRuntime, told: Told<F>) -> ExitCode {
 }
 
 fn main(rt: HostRuntime) -> ExitCode {
-    match words::read_words(&rt) {
+    match read_words(&rt) {
         Ok(
             Asked::Audit {
                 faults,
@@ -70,6 +68,3 @@ fn main(rt: HostRuntime) -> ExitCode {
         Err(Refused::Ended(ended)) => told::<TextFault>(&rt, Told { ended, fault: None }),
     }
 }
-
-#[cfg(test)]
-mod tests;

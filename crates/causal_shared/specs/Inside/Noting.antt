@@ -4,7 +4,8 @@ use Rattle.causal_protocol.specs.Run.{Run}
 use Rattle.causal_protocol.specs.Steps.{Steps}
 use Rattle.causal_shared.specs.declared.item.Item.{Item}
 use Rattle.causal_shared.specs.declared.item.KeptSeat.{KeptSeat}
-use Rattle.causal_shared.specs.History.{instant, count_at, Shows, Keeps}
+use Rattle.causal_shared.specs.History.{instant, count_at, Shows}
+use Rattle.causal_shared.specs.Inside.Keeping.{Keeps}
 
 -- where the item tells the step to this run, what the lock keeps goes on from what was there to what is there now
 abbrev pub GoesOn : Run → Item → List Item → List KeptSeat → List Item → List KeptSeat → Type 0

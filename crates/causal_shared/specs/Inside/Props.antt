@@ -8,7 +8,8 @@ use Rattle.causal_protocol.specs.Run.{Run}
 use Rattle.causal_protocol.proofs.Lemmas.StepProps.{LegalStep-prop}
 use Rattle.causal_shared.specs.declared.item.Item.{Item}
 use Rattle.causal_shared.specs.declared.item.KeptSeat.{KeptSeat}
-use Rattle.causal_shared.specs.History.{IsStep, AllLegal, IsHistory, AllKept, Keeps}
+use Rattle.causal_shared.specs.History.{IsStep, AllLegal, IsHistory}
+use Rattle.causal_shared.specs.Inside.Keeping.{AllKept, Keeps}
 
 pub IsStep-prop : (old : Run) (request : Request) (reply : Reply) (new : Run) → IsProp (IsStep old request reply new)
 IsStep-prop old request reply new = Prim.hlevel (props, LegalStep-prop)

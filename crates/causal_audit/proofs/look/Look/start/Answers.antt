@@ -19,4 +19,5 @@ returns-clause-stop c =
       turns = c.from-turns.ensures.over;
       down = c.down.ensures past t within walk.0 walk.1;
       holders = rw c.none.ensures (shows_none (λ p. logs (instant past t) p look.det) unheard.unlogged);
+      stands = c.standing-standing.ensures;
     }

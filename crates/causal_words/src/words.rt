@@ -1,7 +1,7 @@
 //! The command line.
 ghost use Rattle.std.specs.Prelude.{◌≡◌, Bool};
 ghost use Rattle.clap.specs.Values.{kind_of};
-ghost use Rattle.causal_tool.specs.Inside.Refusals.{refusal};
+ghost use Rattle.causal_words.specs.Inside.Refusals.{refusal};
 
 use causal_commands::{Ended, View};
 use clap::error::ErrorKind;
