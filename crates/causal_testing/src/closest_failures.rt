@@ -1,13 +1,13 @@
 //! Which delivery of a random run comes closest to failing, beside plain audits for one number of faults after the other.
 ghost use Rattle.causal_audit.specs.Verdicts.{IsVerdict};
 
-use crate::entries::{ascending, of_own};
 use crate::random_audits::{Walk, push, sending, sent_at, trace_of};
 use causal_audit::Verdict;
 use causal_explain::{Closest, closest_failure};
 use causal_holders::Holders;
 use causal_name::{Det, NoMemory};
 use causal_plain::judge;
+use causal_samples::{ascending, of_own};
 use causal_trace::entry::{Dets, Entry};
 use causal_trace::fault::TraceFault;
 use causal_trace::trace::Trace;

@@ -1,7 +1,7 @@
 //! Runs with many deliveries that a survey has to follow, and one in which its steps do not suffice.
-use crate::entries::{Line, push};
 use causal_audit::{Breach, Surveyed, Verdict, least_surveyed};
 use causal_holders::Holders;
+use causal_samples::{Line, push};
 use causal_trace::fault::TraceFault;
 use causal_trace::trace::Trace;
 use causal_workers::{OpenGate, audit};

@@ -1,10 +1,9 @@
 //! The audit and the plain program beside it give the same verdict on small random traces, for each f.
-use crate::entries::{ascending, of_own};
-use crate::numbers::Numbers;
 use causal_audit::{
     Course, Room, Surveyed, Tables, Verdict, judge, least_between, least_surveyed, least_swept,
 };
 use causal_name::{Det, MsgName, NoMemory, Pid};
+use causal_samples::{Numbers, ascending, of_own};
 use causal_trace::entry::{Dets, Entry};
 use causal_trace::fault::TraceFault;
 use causal_trace::trace::Trace;

@@ -1,5 +1,4 @@
 //! Texts whose reading was worked out by hand.
-use crate::entries;
 use causal_trace::fault::TraceFault;
 use causal_trace::trace::Trace;
 use std::alloc::Global;
@@ -20,7 +19,7 @@ pub(crate) const RING: &str = r#"["trace",1,3]
 
 /// The trace that it spells, pushed entry by entry.
 fn ring(alloc: Global) -> Result<Trace, TraceFault> {
-    entries::traced(alloc, 3, &entries::RING)
+    causal_samples::traced(alloc, 3, &causal_samples::RING)
 }
 
 fn is_the_ring(alloc: Global, trace: &Trace) -> Result<bool, Fail> {

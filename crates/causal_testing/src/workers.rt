@@ -1,7 +1,7 @@
 //! Verdicts and lines that were worked out by hand, for several numbers of workers, and that two workers run together.
-use crate::entries::{Line, push};
 use causal_audit::Verdict;
 use causal_holders::Holders;
+use causal_samples::{Line, push};
 use causal_text::{TextFault, TextKind, read_trace};
 use causal_trace::trace::Trace;
 use causal_workers::{AuditTextFault, Gate, Judged, OpenGate, audit, audit_text, verdict_line};

@@ -1,6 +1,6 @@
 //! Whole texts.
 use super::{RING, is_the_ring, ring};
-use crate::entries::{Line, det, push};
+use causal_samples::{Line, det, push};
 use causal_text::{fault_line, read_trace, text_of};
 use causal_trace::trace::Trace;
 use std::alloc::Global;

@@ -1,8 +1,8 @@
 //! Random calls, about half of them refused; what they have recorded can be pushed entry by entry, and is accepted.
 use super::*;
-use crate::numbers::Numbers;
 use causal_audit::Verdict;
 use causal_log::MemStable;
+use causal_samples::Numbers;
 use causal_trace::trace::Trace;
 use causal_verdict::audited;
 use std::test::Fail;

@@ -1,7 +1,7 @@
 //! Eight seats on eight threads that ask for what comes up.
 use super::*;
-use crate::numbers::Numbers;
 use crate::verdicts::is_accepted;
+use causal_samples::Numbers;
 use std::test::Fail;
 use std::thread;
 use std::thread::Threads;

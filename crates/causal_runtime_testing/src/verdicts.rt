@@ -1,12 +1,12 @@
 //! Cores of the kinds of process that come with the runtime, audited after crashes, flushes and forgetting.
 use crate::cores::scripts::{SCRIPTS, Script};
-use crate::entries::RING;
 use crate::runtime::*;
 use causal_audit::{Tables, Verdict, judge};
 use causal_core::Core;
 use causal_holders::Holders;
 use causal_log::MemStable;
 use causal_name::{NoMemory, Pid};
+use causal_samples::RING;
 use causal_verdict::audited;
 use std::alloc::Global;
 use std::test::Fail;

@@ -1,9 +1,9 @@
 //! Cores for tests, and calls of them that carry no contract of their own, so that the tests above are proved at little cost.
-use crate::entries::{Fields, det};
 use causal_core::{Core, CoreFault, Reply, StartFault};
 use causal_log::Stable;
 use causal_name::{Det, MsgName, NoMemory, Pid};
 use causal_process::{Echo, Process, Ring, Tally};
+use causal_samples::{Fields, det};
 use std::alloc::Global;
 
 pub(crate) type Boxed = Box<dyn Process + Send>;

@@ -1,11 +1,11 @@
 //! Scripts with the traces that they have to record, faults of memory and of stores, the limit on entries, and random
 //! calls, on cores of the kinds of process that come with the runtime.
-use crate::entries::{Fields, det};
 use crate::runtime::*;
 use causal_core::{Core, CoreFault, Delivered, FlushFault, Reply, Restarted, StartFault};
 use causal_log::Stable;
 use causal_name::{MsgName, NoMemory, Pid};
 use causal_process::Ring;
+use causal_samples::{Fields, det};
 use std::alloc::Global;
 
 pub(crate) mod doubles;

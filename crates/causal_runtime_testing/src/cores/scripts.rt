@@ -1,7 +1,7 @@
 //! Scripts of three processes: what they record, entry by entry, or where they are refused.
 use super::*;
-use crate::entries::{Line, traced};
 use causal_log::MemStable;
+use causal_samples::{Line, traced};
 use causal_trace::trace::Trace;
 use std::test::Fail;
 

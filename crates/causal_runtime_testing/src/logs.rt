@@ -1,8 +1,8 @@
 //! Each call once, on values worked out by hand: logs and the batches that they choose, and the two stores.
-use crate::entries::{Fields, det};
 use causal_holders::Holders;
 use causal_log::{Batch, FailingStore, Item, Known, Log, MemStable, PutFault, Stable};
 use causal_name::{Det, MsgName, NoMemory, Pid, Slot};
+use causal_samples::{Fields, det};
 use std::alloc::Global;
 use std::test::Fail;
 

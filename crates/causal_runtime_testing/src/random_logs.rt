@@ -1,9 +1,9 @@
 //! A log of 256 processes and a plain one, a map that is read as a whole for each answer, say the same after calls drawn at
 //! random.
-use crate::numbers::Numbers;
 use causal_holders::Holders;
 use causal_log::{Batch, Item, Known, Log};
 use causal_name::{Det, NoMemory, Pid, Slot};
+use causal_samples::Numbers;
 use std::alloc::Global;
 use std::collections::BTreeMap;
 use std::test::Fail;

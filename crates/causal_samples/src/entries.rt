@@ -1,4 +1,6 @@
 //! Entries of a trace, written short, and the traces of them.
+ghost use Rattle.std.specs.Prelude.{◌≡◌};
+
 use causal_name::{Det, NoMemory, Pid};
 use causal_trace::entry::{Dets, Entry};
 use causal_trace::fault::TraceFault;
@@ -6,11 +8,11 @@ use causal_trace::trace::Trace;
 use std::alloc::Global;
 
 /// Sender, send sequence number, receiver and receive sequence number.
-pub(crate) type Fields = (u8, u32, u8, u32);
+pub type Fields = (u8, u32, u8, u32);
 
 /// An entry, in the order of the fields of its text.
 #[derive(Clone, Copy)]
-pub(crate) enum Line<'a> {
+pub enum Line<'a> {
     Send(u8, u8, u32),
     Deliver(u8, u32, u32, &'a [Fields]),
     Stable(Fields),
@@ -20,7 +22,7 @@ pub(crate) enum Line<'a> {
 }
 
 /// A message goes round 0, 1, 2 and back to 0; each lists its own delivery and the one before it.
-pub(crate) const RING: [Line<'static>; 6] = [
+pub const RING: [Line<'static>; 6] = [
     Line::Send(0, 1, 0),
     Line::Deliver(1, 0, 0, &[(0, 0, 1, 0)]),
     Line::Send(1, 2, 0),
@@ -29,7 +31,11 @@ pub(crate) const RING: [Line<'static>; 6] = [
     Line::Deliver(0, 4, 0, &[(1, 0, 2, 0), (2, 0, 0, 0)]),
 ];
 
-pub(crate) fn det(fields: Fields) -> Det {
+/// The determinant of these fields.
+pub fn det(fields: Fields) -> Det
+    ensures message { (result.source.0 ≡ fields.0) × (result.ssn ≡ fields.1) }
+    ensures delivery { (result.dest.0 ≡ fields.2) × (result.rsn ≡ fields.3) }
+{
     Det {
         source: Pid(fields.0),
         ssn: fields.1,
@@ -79,16 +85,12 @@ fn entry(alloc: Global, line: Line<'_>) -> Result<Entry, TraceFault> {
 }
 
 /// Pushes one entry.
-pub(crate) fn push(alloc: Global, trace: &mut Trace, line: Line<'_>) -> Result<(), TraceFault> {
+pub fn push(alloc: Global, trace: &mut Trace, line: Line<'_>) -> Result<(), TraceFault> {
     trace.push(entry(alloc, line)?)
 }
 
 /// Pushes these entries, up to the first that is refused.
-pub(crate) fn push_all(
-    alloc: Global,
-    trace: &mut Trace,
-    lines: &[Line<'_>],
-) -> Result<(), TraceFault> {
+pub fn push_all(alloc: Global, trace: &mut Trace, lines: &[Line<'_>]) -> Result<(), TraceFault> {
     for line in lines {
         push(alloc, trace, *line)?;
     }
@@ -96,14 +98,14 @@ pub(crate) fn push_all(
 }
 
 /// The trace of n processes with these entries.
-pub(crate) fn traced(alloc: Global, n: u16, lines: &[Line<'_>]) -> Result<Trace, TraceFault> {
+pub fn traced(alloc: Global, n: u16, lines: &[Line<'_>]) -> Result<Trace, TraceFault> {
     let mut trace = Trace::new(alloc, n)?;
     push_all(alloc, &mut trace, lines)?;
     Ok(trace)
 }
 
 /// A list of one determinant or of none.
-pub(crate) fn of_own(alloc: Global, own: Option<Det>) -> Result<Vec<Det>, NoMemory> {
+pub fn of_own(alloc: Global, own: Option<Det>) -> Result<Vec<Det>, NoMemory> {
     let mut dets = Vec::new(alloc);
     if let Some(det) = own {
         dets.push(det)?;
@@ -112,7 +114,7 @@ pub(crate) fn of_own(alloc: Global, own: Option<Det>) -> Result<Vec<Det>, NoMemo
 }
 
 /// The list of these determinants, ascending and each once.
-pub(crate) fn ascending(mut dets: Vec<Det>) -> Result<Dets, NoMemory> {
+pub fn ascending(mut dets: Vec<Det>) -> Result<Dets, NoMemory> {
     dets.sort()?;
     dets.dedup();
     Ok(Dets::new(dets))
