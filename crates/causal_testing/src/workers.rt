@@ -171,7 +171,7 @@ fn is_told<R: Threads + Wait>(
     Ok(found == *verdict)
 }
 
-// The instant that decides comes after the sixteenth that is surveyed first, at its end and in it.
+// The instant that decides comes after the sixty-fourth that is surveyed first, at its end and in it.
 #[test]
 fn an_orphan_is_told_however_long_the_run_goes_on(rt: HostRuntime) -> Result<(), Fail> {
     let orphan = Verdict::Orphan {
@@ -180,7 +180,7 @@ fn an_orphan_is_told_however_long_the_run_goes_on(rt: HostRuntime) -> Result<(),
         crash: Holders::none(),
         orphan: 3,
     };
-    for more in 0..160 {
+    for more in 0..400 {
         assert!(rt;
             is_told(&rt, rt.alloc(), LATER_FIRST, more, &orphan)?,
             "{more} more entries"
@@ -195,7 +195,7 @@ fn an_excess_is_told_however_long_the_run_goes_on(rt: HostRuntime) -> Result<(),
     down.insert(1);
     down.insert(2);
     let exceeded = Verdict::Exceeded { instant: 8, down };
-    for more in 0..160 {
+    for more in 0..600 {
         assert!(rt;
             is_told(&rt, rt.alloc(), RING_CRASHED, more, &exceeded)?,
             "{more} more entries"

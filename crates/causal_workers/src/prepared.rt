@@ -3,11 +3,14 @@ ghost use Rattle.std.specs.Prelude.{◌≡◌, ◌≤◌, IfOk, None, length};
 ghost use Rattle.std.specs.Bool.{OnTrue};
 ghost use Rattle.causal_workers.specs.Inside.Beginnings.{HasBreach, TellsBy};
 
-use crate::surveyed::{BEGINNING, surveyed_by};
+use crate::surveyed::surveyed_by;
 use causal_audit::{Breach, Course, Room, Surveyed, least_swept};
 use causal_name::NoMemory;
 use causal_trace::trace::Trace;
 use std::alloc::Global;
+
+/// Which part of the entries is judged alone first: one of so many.
+const BEGINNING: u32 = 16;
 
 /// What is prepared of a run: the breach that is known already, if there is one, and the course whose deliveries the workers
 /// judge. The earlier of that breach and theirs is the least of the run.

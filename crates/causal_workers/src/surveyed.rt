@@ -9,11 +9,11 @@ use causal_trace::Trace;
 use std::alloc::Global;
 
 /// Which part of the entries is looked at first: one of so many.
-pub const BEGINNING: u32 = 16;
+const BEGINNING: u32 = 64;
 
-/// What a survey tells of a run by the instant `end`. A survey prepares all entries of its trace, so that of a sixteenth is asked
-/// first: where it tells a breach, or that there is none by `end`, no later entry is looked at. Any other run costs the copy of
-/// that sixteenth and its survey more.
+/// What a survey tells of a run by the instant `end`. A survey prepares all entries of its trace, so that a sixty-fourth is
+/// asked first: where it tells a breach, or that there is none by `end`, no later entry is looked at. Any other run costs the copy of
+/// that beginning and its survey more.
 ///
 /// # Errors
 /// `NoMemory` where memory was refused.
