@@ -107,15 +107,19 @@ def plan():
     rows += [(shape, "hostile", "1", 1) for shape in hostile.LINES]
     rows += [(shape, "safe", "1", 1) for shape in shapes if shape != "lists"]
     rows += [(shape, "safe", "1", workers) for shape in shapes for workers in (2, 4)]
-    for variant in ("breach", "stable"):
-        rows += [(shape, variant, f, 1) for f in FAULTS for shape in shapes]
-    return rows
+    return rows + [(shape, "breach", f, 1) for f in FAULTS for shape in shapes]
 
 
 def plan_of_faults():
     """The same for other numbers of faults, beside one row for one: those that cost most come first."""
     order = ["lists", "restarts", "star", "long", "gossip", "ring", "chain", "bytes"]
     return [("lists", "safe", "1", 1)] + [(shape, "safe", f, 1) for f in ("n", "8", "2", "0") for shape in order]
+
+
+def plan_of_stable():
+    """The same where each determinant is stable at once, for all numbers of faults: those that cost most come first."""
+    order = ["lists", "long", "bytes", "restarts", "star", "gossip", "ring", "chain"]
+    return [("lists", "safe", "1", 1)] + [(shape, "stable", f, 1) for f in reversed(FAULTS) for shape in order]
 
 
 def output_of(command, otherwise):
@@ -386,9 +390,9 @@ def facts_of(part, given, load, start):
         "Seed": given.seed,
         "Time taken": f"{time.monotonic() - start:.0f} s",
     }
-    if part not in ("audit", "faults"):
+    if part not in ("audit", "faults", "stable"):
         del facts["Yardsticks"]
-    if part not in ("audit", "faults", "shown"):
+    if part not in ("audit", "faults", "stable", "shown"):
         del facts["Seed"]
     return "\n".join(f"- {name}: {value}" for name, value in facts.items())
 
@@ -414,6 +418,7 @@ SECTIONS = {
     "log": "The runtime's log",
     "audit": "Audit",
     "faults": "Audit for other numbers of faults",
+    "stable": "Audit where each determinant is stable at once",
     "shown": "Why a verdict is so",
 }
 MEASURES = {
@@ -421,6 +426,7 @@ MEASURES = {
     "log": lambda given, start: runtime_log.section(),
     "audit": lambda given, start: measure_audit(given, start, plan()),
     "faults": lambda given, start: measure_audit(given, time.monotonic(), plan_of_faults()),
+    "stable": lambda given, start: measure_audit(given, time.monotonic(), plan_of_stable()),
     "shown": lambda given, start: measure_shown(given, earlier("Why a verdict is so")),
 }
 
