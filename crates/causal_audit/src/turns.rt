@@ -1,8 +1,7 @@
 //! The positions of the crashes and restarts, and who is down after each.
 ghost use Rattle.std.specs.Prelude.{◌≡◌, ◌≤◌, ◌∷◌, ℕ, List, IfOk, length, true};
-ghost use Rattle.std.specs.FinSet.{FinSet};
+ghost use Rattle.std.specs.Bool.{OnTrue};
 ghost use Rattle.std.specs.List.Sorted.{IsNonDecreasing};
-ghost use Rattle.std.specs.Ordering.{nat_cmp};
 ghost use Rattle.causal_trace.specs.declared.entry.Entry.{Entry};
 ghost use Rattle.causal_trace.specs.Limits.{max_entries};
 ghost use Rattle.causal_trace.specs.Past.{instant, is_down};
@@ -84,7 +83,7 @@ fn note_turn(
 
 impl Turns {
     ghost use Rattle.causal_audit.specs.Inside.Kept.{AreTurnsKept};
-    ghost use Rattle.causal_audit.specs.Inside.Passing.{HasPassed, IsPlace};
+    ghost use Rattle.causal_audit.specs.Inside.Passing.{AreAhead, AreBehind, HasPassed, IsPlace};
 
     /// The positions of the crashes and restarts, in order, who is down after each, and the restarts of each process.
     pub fn of(alloc: Global, entries: &[Entry]) -> Result<Turns, NoMemory>
@@ -123,14 +122,33 @@ impl Turns {
         }
     }
 
-    /// Whether none of them stands from position `from` on and before `end`, so that nobody restarts there.
-    fn has_none(&self, from: u32, end: u32) -> bool
-        ensures { result ≡ true → (past : List Entry) (members : FinSet nat_cmp) → AreTurnsKept past self.now →
-            RestartsNone past members from end }
+    /// Whether all but the first so many stand from position t on.
+    fn are_ahead(&self, passed: usize, t: u32) -> bool
+        ensures { OnTrue result (AreAhead self.now t passed) }
     {
-        match self.positions.get(self.before(from)) {
-            Some(position) => *position >= end,
+        match self.positions.get(passed) {
+            Some(position) => *position >= t,
             None => true,
+        }
+    }
+
+    /// Whether the first so many stand before position t.
+    fn are_behind(&self, passed: usize, t: u32) -> bool
+        requires { passed ≤ length self.now.positions.items }
+        ensures { OnTrue result (AreBehind self.now t passed) }
+    {
+        passed == 0 || self.positions[passed - 1] < t
+    }
+
+    /// How many of them stand before position t, as a rule so many as are given. Else a binary search tells.
+    fn near(&self, passed: usize, t: u32) -> usize
+        requires { passed ≤ length self.now.positions.items }
+        ensures { IsPlace self.now t result }
+    {
+        if self.are_behind(passed, t) && self.are_ahead(passed, t) {
+            passed
+        } else {
+            self.before(t)
         }
     }
 
@@ -156,16 +174,24 @@ impl Turns {
         end
     }
 
-    /// The same. Mostly nobody crashes or restarts in between, which one binary search tells. Else, where the processes are
-    /// few, it is the least of their own next restarts, by a binary search for each, and where they are many it takes time
-    /// as the crashes and restarts in between.
-    fn next_restart(&self, trace: &Trace, members: Holders, from: u32, end: u32) -> u32
+    /// The same, where so many stand before `from`. Mostly nobody crashes or restarts in between, which a look at the next
+    /// of them tells. Else, where the processes are few, it is the least of their own next restarts, by a binary search for
+    /// each, and where they are many it takes time as the crashes and restarts in between.
+    fn next_restart(
+        &self,
+        trace: &Trace,
+        members: Holders,
+        passed: usize,
+        from: u32,
+        end: u32,
+    ) -> u32
         requires order { from ≤ end }
         requires turns { AreTurnsKept trace.now.recording.past self.now }
+        requires place { IsPlace self.now from passed }
         ensures bounds { (from ≤ result) × (result ≤ end) }
         ensures none { RestartsNone trace.now.recording.past members from result }
     {
-        if self.has_none(from, end) {
+        if self.are_ahead(passed, end) {
             return end;
         }
         if members.len() <= FEW {
@@ -192,7 +218,7 @@ impl Passing<'_> {
     }
 
     /// The first position from `from` on at which one of these processes restarts, which takes a step, or `end` if that
-    /// comes first. Crashes, and restarts of others, are passed.
+    /// comes first. Crashes, and restarts of others, are passed. Where none of them all stands in between nothing is searched.
     pub fn next_restart(
         &mut self,
         trace: &Trace,
@@ -207,11 +233,12 @@ impl Passing<'_> {
         ensures passed { HasPassed self.old.turns.now result self.new }
         ensures none { RestartsNone trace.now.recording.past members from result }
     {
-        let position = self.turns.next_restart(trace, members, from, end);
+        let passed = self.turns.near(self.passed, from);
+        let position = self.turns.next_restart(trace, members, passed, from, end);
         if position < end {
             budget.charge(1);
         }
-        self.passed = self.turns.before(position);
+        self.passed = self.turns.near(passed, position);
         position
     }
 }

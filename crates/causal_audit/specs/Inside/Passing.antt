@@ -1,8 +1,17 @@
 -- A place among the crashes and restarts of a run.
 use Rattle.std.specs.Prelude.{◌≡◌, ℕ, ◌<◌, ◌≤◌, length}
+use Rattle.std.specs.List.{AllWithin}
 use Rattle.std.specs.List.Sorted.{IsPartitionPoint}
 use Rattle.causal_audit.specs.declared.turns.Turns.{Turns}
 use Rattle.causal_audit.specs.declared.turns.Passing.{Passing}
+
+-- the first so many stand before position t
+abbrev pub AreBehind : Turns → ℕ → ℕ → Type 0
+AreBehind turns t passed = AllWithin (λ v. v < t) turns.positions.items 0 passed
+
+-- all but the first so many stand from position t on
+abbrev pub AreAhead : Turns → ℕ → ℕ → Type 0
+AreAhead turns t passed = AllWithin (λ v. t ≤ v) turns.positions.items passed (length turns.positions.items)
 
 -- just so many of them stand before position t
 pub record IsPlace (turns : Turns) (t passed : ℕ) : Type 0 where
