@@ -1,6 +1,7 @@
 #!/usr/bin/env python3
 """Makes traces and texts that someone chose to make an auditor slow, without any code of the product. What the auditor has
-to answer is known from how each was made, and the same command makes the same bytes.
+to answer is known from how each was made, or, where an early instant is unsafe, from a plain reader that judges instant by
+instant from the definitions. The same command makes the same bytes.
 
     hostile.py SHAPE F [--part 8] [--seed 1]
 """
@@ -11,6 +12,7 @@ import sys
 
 import generate
 from generate import MAX_BYTES, MAX_ENTRIES, MAX_LISTED, MAX_RESTARTS
+from reader import first_breach
 
 SHAPES = {
     "colliding": "one process delivers to itself in an order for which the determinants collide in the hash of the kit's "
@@ -219,8 +221,14 @@ MAKERS = {
 }
 
 
-def answer_of(shape, f, entries):
+# For so many faults and more an early instant is unsafe: each of these runs logs for fewer.
+EARLY_FROM = {"down": 3, "shared": 2, "forgotten": 2}
+
+
+def answer_of(shape, f, n, entries):
     """What the auditor has to answer, and the status with which it ends."""
+    if f >= EARLY_FROM.get(shape, f + 1):
+        return first_breach(n, entries, f), 1
     first = generate.deliveries_of(entries)[0]
     if shape == "orphaned":
         return f"orphan f={f} instant={first + 1} delivery={first} crash=- orphan={entries[first][1]}", 1
@@ -256,13 +264,14 @@ def made(shape, part, seed):
 
 def make(shape, f_word, part=1, seed=1):
     """The text and what is known of it."""
-    f = int(f_word)
     if shape in LINES:
+        f = int(f_word)
         text = one_line(shape, MAX_BYTES // part)
         about = {"processes": 0, "entries": 0, "deliveries": 0, "listed": 0, "answer": "fault line=1 Form", "status": 2}
     else:
         text, n, entries = made(shape, part, seed)
-        answer, status = answer_of(shape, f, entries)
+        f = generate.f_of(f_word, n)
+        answer, status = answer_of(shape, f, n, entries)
         about = {
             "processes": n,
             "entries": len(entries),
@@ -278,7 +287,7 @@ def make(shape, f_word, part=1, seed=1):
 def main():
     words = argparse.ArgumentParser(description=__doc__.split("\n")[0])
     words.add_argument("shape", choices=[*SHAPES, *LINES])
-    words.add_argument("f", help="0 or 1")
+    words.add_argument("f", help="0, 1, 2, .. or n for the number of processes; a number for a line")
     words.add_argument("--part", type=int, default=1, help="every limit is divided by this (1)")
     words.add_argument("--seed", type=int, default=1)
     given = words.parse_args()

@@ -28,7 +28,14 @@ READ_AIM = 1.3  # reading and checking / the kit's JSON reader
 FULL_AIM = 1.6  # the whole audit / the same, where a million determinants are listed
 LEAN_AIM = 3.0  # the same where few are
 EARLY_AIM = 1.3  # the whole audit / reading, where the answer is told at an early instant
-EARLY = (("early", "0"), ("down", "0"), ("orphaned", "0"), ("orphaned", "1"))
+# For how many faults a hostile trace is unsafe at an early instant.
+EARLY = {
+    "early": ("0",),
+    "down": ("0", "8", "n"),
+    "orphaned": FAULTS,
+    "shared": ("2", "8", "n"),
+    "forgotten": ("2", "8", "n"),
+}
 
 
 def misended(path, about):
@@ -120,6 +127,12 @@ def plan_of_stable():
     """The same where each determinant is stable at once, for all numbers of faults: those that cost most come first."""
     order = ["lists", "long", "bytes", "restarts", "star", "gossip", "ring", "chain"]
     return [("lists", "safe", "1", 1)] + [(shape, "stable", f, 1) for f in reversed(FAULTS) for shape in order]
+
+
+def plan_of_hostile():
+    """The same of the traces that were made to be slow: those that cost most come first."""
+    order = ["released", "replayed", "colliding", "scattered", "late", "early", "down", "shared", "forgotten", "orphaned"]
+    return [("lists", "safe", "1", 1)] + [(shape, "hostile", f, 1) for f in ("n", "8", "2") for shape in order]
 
 
 def output_of(command, otherwise):
@@ -288,7 +301,7 @@ def hostile_targets(rows):
     if colliding and scattered:
         lines.append(target_line("colliding determinants / the same in a random order",
                                  ratio(colliding.full, scattered.full), 1.3, colliding.full.over))
-    for shape, f in EARLY:
+    for shape, f in ((shape, f) for shape, some in EARLY.items() for f in some):
         row = found.get((f"{shape} hostile", f, "1"))
         if row:
             lines.append(target_line(f"`{shape} hostile` for f = {f}, told at an early instant: whole audit / reading",
@@ -390,9 +403,9 @@ def facts_of(part, given, load, start):
         "Seed": given.seed,
         "Time taken": f"{time.monotonic() - start:.0f} s",
     }
-    if part not in ("audit", "faults", "stable"):
+    if part not in AUDITS:
         del facts["Yardsticks"]
-    if part not in ("audit", "faults", "stable", "shown"):
+    if part not in (*AUDITS, "shown"):
         del facts["Seed"]
     return "\n".join(f"- {name}: {value}" for name, value in facts.items())
 
@@ -413,20 +426,20 @@ def earlier(name):
     return text if f"- Machine: {machine()}\n" in text else ""
 
 
+AUDITS = {"audit": plan, "faults": plan_of_faults, "stable": plan_of_stable, "hostile": plan_of_hostile}
 SECTIONS = {
     "runtime": "Runtime",
     "log": "The runtime's log",
     "audit": "Audit",
     "faults": "Audit for other numbers of faults",
     "stable": "Audit where each determinant is stable at once",
+    "hostile": "Audit of hostile traces for other numbers of faults",
     "shown": "Why a verdict is so",
 }
 MEASURES = {
     "runtime": lambda given, start: measure_runtime(given, earlier("Runtime")),
     "log": lambda given, start: runtime_log.section(),
-    "audit": lambda given, start: measure_audit(given, start, plan()),
-    "faults": lambda given, start: measure_audit(given, time.monotonic(), plan_of_faults()),
-    "stable": lambda given, start: measure_audit(given, time.monotonic(), plan_of_stable()),
+    **{part: lambda given, start, made=made: measure_audit(given, start, made()) for part, made in AUDITS.items()},
     "shown": lambda given, start: measure_shown(given, earlier("Why a verdict is so")),
 }
 
@@ -436,7 +449,8 @@ def words():
     words.add_argument("--program", default=os.path.join(TOP, "crates/causal_tool/out/causal_tool"))
     words.add_argument("--only", choices=SECTIONS, help="one part; the other's results stay as they are")
     words.add_argument("--seed", type=int, default=1)
-    words.add_argument("--seconds", type=float, default=1000, help="no row of the audit is begun after so many seconds (1000)")
+    words.add_argument("--seconds", type=float, default=1000,
+                       help="no row of a section of the audit is begun after so many seconds of it (1000)")
     words.add_argument("--core-seconds", type=int, default=2, help="how long a core delivers at most (2)")
     words.add_argument("--part", type=int, default=1, help="scripts and calls of the runtime are divided by this (1)")
     words.add_argument("--commit", help="the commit of the program, if it is not the one that is checked out")
@@ -446,12 +460,11 @@ def words():
 
 def main():
     given = words()
-    start = time.monotonic()
     sections, wrong = sections_there(), []
     for part, name in SECTIONS.items():
         if given.only in (None, part):
             began, load = time.monotonic(), os.getloadavg()[0]
-            text, found = MEASURES[part](given, start)
+            text, found = MEASURES[part](given, began)
             sections[name] = facts_of(part, given, load, began) + "\n\n" + text.strip("\n")
             wrong += found
     written = HEAD + "".join(f"\n## {name}\n\n{sections[name].strip()}\n" for name in SECTIONS.values() if name in sections)
