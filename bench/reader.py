@@ -1,5 +1,5 @@
-"""A plain reader of traces, which judges each instant from the definitions. It shares no code with the product, and with the
-generators the limits alone. It is slow: at each instant it looks at all determinants.
+"""A plain reader of traces, which judges each instant from the definitions. It shares no code with the product; of the
+generators it takes the limits, and how a line is spelled. It is slow: at each instant it looks at all determinants.
 """
 import json
 
