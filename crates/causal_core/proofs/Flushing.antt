@@ -146,13 +146,21 @@ unfolding rows
 flush_short r p none =
     let short : is_long r (length (unwritten r p)) ≡ false = when_false _ _ (row_none (rows r (Ask.Flush p)) none 2 _ refl) in grind (arith, nat_tests, short)
 
-part : (reason : Option CoreFault) (done all : ℕ) → reason ≡ None → done ≤ all → IsPart reason done all
-part None done all is h = h
-part (Some fault) done all is h = absurd (let e : Some fault ≡ None = is in cc)
+part : (fault : CoreFault) (done all : ℕ) → flush_reason_of fault ≡ None → done < all → IsPart fault done all
+part Why.NoMemory done all is h = omega (arith, h)
+part Why.StoreFault done all is h = h
+part Why.NoProcess done all is h = absurd (let e : Some Why.NoProcess ≡ None = is in cc)
+part Why.Down done all is h = absurd (let e : Some Why.Down ≡ None = is in cc)
+part Why.NotDown done all is h = absurd (let e : Some Why.NotDown ≡ None = is in cc)
+part Why.OverFaults done all is h = absurd (let e : Some Why.OverFaults ≡ None = is in cc)
+part (Why.MustReplay m) done all is h = absurd (let e : Some (Why.MustReplay m) ≡ None = is in cc)
+part Why.NotAvailable done all is h = absurd (let e : Some Why.NotAvailable ≡ None = is in cc)
+part Why.AlreadyDelivered done all is h = absurd (let e : Some Why.AlreadyDelivered ≡ None = is in cc)
+part Why.Full done all is h = absurd (let e : Some Why.Full ≡ None = is in cc)
 
 -- a flush that nothing stands against is a legal step
 pub flush_steps : (r mid next : Run) (p : Pid) (dets : List Det) (told : Result ℕ FlushFault) → mid ≡ r → first_fault r (Ask.Flush p) ≡ None → dets ≡ unwritten r p → next ≡ extended mid (Ask.Flush p) (map Stable (take (written told) dets))
-    → IfOk told (λ count. count ≡ length dets) → IfErr told (λ f. f.done ≤ length dets) → IfErr told (λ f. flush_reason_of f.fault ≡ None) → Steps r (Ask.Flush p) (told_flush told) next
+    → IfOk told (λ count. count ≡ length dets) → IfErr told (λ f. f.done < length dets) → IfErr told (λ f. flush_reason_of f.fault ≡ None) → Steps r (Ask.Flush p) (told_flush told) next
 unfolding LegalStep
 flush_steps r mid next p dets (Ok count) same none is run all part_of why = record {
   appended = map Stable (take count dets);
@@ -162,17 +170,8 @@ flush_steps r mid next p dets (Ok count) same none is run all part_of why = reco
 flush_steps r mid next p dets (Err f) same none is run all part_of why = record {
   appended = map Stable (take f.done dets);
   grown = run ∙ ap (λ x. extended x (Ask.Flush p) (map Stable (take f.done dets))) same;
-  legal = (none ∙ sym why, part (flush_reason_of f.fault) f.done (length (unwritten r p)) why (subst (λ ds. f.done ≤ length ds) is part_of), ap (λ ds. map Stable (take f.done ds)) is);
+  legal = (none ∙ sym why, part f.fault f.done (length (unwritten r p)) why (subst (λ ds. f.done < length ds) is part_of), ap (λ ds. map Stable (take f.done ds)) is);
 }
-
--- and so is one that is refused
-pub flush_refused : (r next : Run) (p : Pid) (fault : CoreFault) → next ≡ r → first_fault r (Ask.Flush p) ≡ flush_reason_of fault → Steps r (Ask.Flush p) (Told.FlushRefused (record { fault = fault; done = 0 })) next
-unfolding LegalStep
-flush_refused r next p fault same reason = record { appended = []; grown = same; legal = (reason, nothing (flush_reason_of fault) (length (unwritten r p)), refl) }
-  where
-    nothing : (reason : Option CoreFault) (all : ℕ) → IsPart reason 0 all
-    nothing None all = omega arith
-    nothing (Some fault) all = refl
 
 -- no row of a flush tells a fault of the store
 never_store : (a b c : Bool) → first_of (when a Why.NoProcess ∷ when b Why.Down ∷ when c Why.Full ∷ []) ≡ Some Why.StoreFault → ⊥
@@ -188,7 +187,7 @@ no_store r p h = never_store (not (nat_lt p.0 r.recording.processes)) (is_none (
 pub refusal_stores : (r : Run) (p : Pid) (fault : CoreFault) → first_fault r (Ask.Flush p) ≡ reason_of fault → fault ≡ Why.StoreFault → ⊥
 refusal_stores r p fault h is = no_store r p (h ∙ ap reason_of is)
 
-pub flush_reason : (r : Run) (p : Pid) (fault : CoreFault) → first_fault r (Ask.Flush p) ≡ reason_of fault → first_fault r (Ask.Flush p) ≡ flush_reason_of fault
+flush_reason : (r : Run) (p : Pid) (fault : CoreFault) → first_fault r (Ask.Flush p) ≡ reason_of fault → first_fault r (Ask.Flush p) ≡ flush_reason_of fault
 flush_reason r p Why.NoMemory h = h
 flush_reason r p Why.StoreFault h = absurd (no_store r p h)
 flush_reason r p Why.NoProcess h = h
@@ -199,3 +198,24 @@ flush_reason r p (Why.MustReplay m) h = h
 flush_reason r p Why.NotAvailable h = h
 flush_reason r p Why.AlreadyDelivered h = h
 flush_reason r p Why.Full h = h
+
+nothing : (r : Run) (p : Pid) (fault : CoreFault) → first_fault r (Ask.Flush p) ≡ reason_of fault → (all : ℕ) → IsPart fault 0 all
+nothing r p Why.NoMemory h all = omega arith
+nothing r p Why.StoreFault h all = absurd (no_store r p h)
+nothing r p Why.NoProcess h all = refl
+nothing r p Why.Down h all = refl
+nothing r p Why.NotDown h all = refl
+nothing r p Why.OverFaults h all = refl
+nothing r p (Why.MustReplay m) h all = refl
+nothing r p Why.NotAvailable h all = refl
+nothing r p Why.AlreadyDelivered h all = refl
+nothing r p Why.Full h all = refl
+
+-- a flush that is refused is a legal step too
+pub flush_refused : (r next : Run) (p : Pid) (fault : CoreFault) → next ≡ r → first_fault r (Ask.Flush p) ≡ reason_of fault → Steps r (Ask.Flush p) (Told.FlushRefused (record { fault = fault; done = 0 })) next
+unfolding LegalStep
+flush_refused r next p fault same reason = record {
+  appended = [];
+  grown = same;
+  legal = (flush_reason r p fault reason, nothing r p fault reason (length (unwritten r p)), refl);
+}

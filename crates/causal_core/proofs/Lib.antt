@@ -14,6 +14,7 @@ mod Gathers
 mod Legal
 mod Listing
 mod Making
+mod Members
 mod Receiving
 mod RefusedRequests
 mod Replaying

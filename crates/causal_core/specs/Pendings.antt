@@ -1,9 +1,10 @@
 -- The messages that a process may deliver, but for what is named for its next delivery.
-use Rattle.std.specs.Prelude.{ℕ, ◌+◌, Bool, not, nat_lt, ◌&&◌, List, [], ◌∷◌, ◌++◌, length, map, filter, Option, is_none, is_some}
-use Rattle.std.specs.List.{range_with_len}
+use Rattle.std.specs.Prelude.{◌≡◌, ℕ, ◌+◌, Bool, not, nat_lt, ◌&&◌, List, [], ◌∷◌, ◌++◌, length, map, filter, Option, is_none, is_some}
+use Rattle.std.specs.List.{list_any, range_with_len}
 use Rattle.std.specs.Option.{option_map_or}
 use Rattle.causal_name.specs.declared.Pid.{Pid}
 use Rattle.causal_name.specs.declared.MsgName.{MsgName}
+use Rattle.causal_name.specs.Names.{same_message}
 use Rattle.causal_protocol.specs.declared.request.CoreFault.{CoreFault}
 use Rattle.causal_protocol.specs.declared.request.CoreFault.TheVariants as Why
 use Rattle.causal_protocol.specs.Memory.{Memory, Memories, at}
@@ -27,6 +28,10 @@ names_from p (m ∷ ms) = names_sent p m ++ names_from (p + 1) ms
 -- of all that is kept, by sender and number, what is pending for q
 abbrev pub pending_in : Memories → Pid → List MsgName
 pending_in ms q = filter (is_pending ms q) (names_from 0 ms)
+
+-- pending for q are the messages that are kept for q and that q's present lane has not received, and no others
+abbrev pub PendingAreThese : Type 0
+PendingAreThese = (ms : Memories) (q : Pid) (m : MsgName) → list_any (same_message m) (pending_in ms q) ≡ is_pending ms q m
 
 -- what stands against asking for it
 abbrev pub pending_fault : Run → Pid → Option CoreFault

@@ -69,7 +69,7 @@ fn write_all<S: Stable>(
     requires stored { IsStored (S.contents store.old) held.old.run.recording.past }
     ensures run { held.new.run ≡ flushed held.old.run p (take (written result) dets.now) }
     ensures ok { IfOk result (λ count. count ≡ length dets.now) }
-    ensures part { IfErr result (λ f. f.done ≤ length dets.now) }
+    ensures part { IfErr result (λ f. f.done < length dets.now) }
     ensures why { IfErr result (λ f. flush_reason_of f.fault ≡ None) }
     ensures fault { IfErr result (TellsFailure (S.faults store.old) (S.faults store.new)) }
     ensures stored { IsStored (S.contents store.new) held.new.run.recording.past }

@@ -23,6 +23,7 @@ mod give;
 mod grow;
 pub mod grown;
 mod insertion;
+pub mod laws;
 mod named;
 pub mod pending;
 mod receive;

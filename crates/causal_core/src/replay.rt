@@ -1,6 +1,7 @@
 //! The deliveries that are named, one after the other.
-ghost use Rattle.std.specs.Prelude.{◌≤◌, ◌<◌, IfOk, IfErr, OnErr};
+ghost use Rattle.std.specs.Prelude.{◌≡◌, ◌≤◌, ◌<◌, IfOk, IfErr, OnErr, Err};
 ghost use Rattle.causal_core.specs.CoreView.{run_of, state_of, IsUnchanged};
+ghost use Rattle.causal_core.specs.View.{naming};
 ghost use Rattle.causal_core.specs.Replays.{Ends, RefusesNamed, Replayed, Redelivered};
 
 use crate::runtime::Core;
@@ -32,7 +33,7 @@ impl<S: Stable> Core<S> {
     /// ends where none is named, and where a delivery is refused.
     ///
     /// # Errors
-    /// `NoProcess`, `Down`; else where the first delivery is refused, and nothing has changed, its fault.
+    /// `NoProcess`, `Down`, also for a limit of 0; else where the first delivery is refused, and nothing has changed, its fault.
     pub fn replay(&mut self, p: Pid, limit: u32) -> Result<u32, CoreFault>
         requires { p.0 < 256 }
         ensures ok { IfOk result (λ count. Replayed answers p count (state_of self.old) (state_of self.new)) }
@@ -40,6 +41,7 @@ impl<S: Stable> Core<S> {
         ensures ends { IfOk result (λ count. Ends p limit count (run_of self.new)) }
         ensures refused { OnErr result (IsUnchanged answers (state_of self.old) (state_of self.new)) }
         ensures fault { IfErr result (λ fault. RefusesNamed (run_of self.old) p fault) }
+        ensures none { limit ≡ 0 → IfErr result (λ fault. naming (run_of self.old) p ≡ Err fault) }
     {
         if let Err(fault) = self.named(p) {
             return Err(fault);

@@ -305,6 +305,28 @@ module _ (n f : ℕ) (past : List Entry) (ms : Memories) (who : Pid) (low : who.
       let forward = no_delivery (Crash who) past (λ i. refl) s.forward in
       next_sound n f (Crash who) past ms left_memories s forward (keeps_crash n f past ms left_memories who is_crashed forward s.facts) crash_fits
 
+-- what a process gathers is what survives
+module _ (n f : ℕ) (past : List Entry) (ms : Memories) (who : Pid) (s : IsSound n f past ms) where
+  under : (r : ℕ) → r < length ms → r < n
+  under r h = omega (arith, h, s.fit.count)
+
+  pub gathered_survivors : (d : Det) → has_entry d (gathered_log ms (stable_set past) who) ≡ survives n past d
+  gathered_survivors d = same_answer _ _ forth back
+    where
+      forth : has_entry d (gathered_log ms (stable_set past) who) ≡ true → survives n past d ≡ true
+      forth h =
+          elim (Logging.gathered_found ms (stable_set past) who d h) [
+            | inl stored ↦ survives_stable n past d (sym (Choices.stable_has past d) ∙ stored)
+            | inr some ↦ survives_log n past some.0 d (under some.0 some.1) (sym (s.facts.logged some.0 d (under some.0 some.1)) ∙ some.2)
+          ]
+
+      back : survives n past d ≡ true → has_entry d (gathered_log ms (stable_set past) who) ≡ true
+      back h =
+          elim (survives_found n past d h) [
+            | inl stable ↦ Logging.gathered_stored ms (stable_set past) who d (Choices.stable_has past d ∙ stable)
+            | inr held ↦ Logging.gathered_logged ms (stable_set past) who d held.0 (s.facts.logged held.0 d held.1 ∙ held.2)
+          ]
+
 -- a restart
 module _ (n f : ℕ) (past : List Entry) (ms : Memories) (who : Pid) (listed : List Det) (low : who.0 < n) (down : at ms who.0 ≡ None) (lists : (d : Det) → has listed d ≡ has_entry d (gathered_log ms (stable_set past) who)) (s : IsSound n f past ms) where
   abbrev gathered : LogMap
@@ -316,25 +338,8 @@ module _ (n f : ℕ) (past : List Entry) (ms : Memories) (who : Pid) (listed : L
   bound : who.0 < length ms
   bound = omega (arith, low, s.fit.count)
 
-  under : (r : ℕ) → r < length ms → r < n
-  under r h = omega (arith, h, s.fit.count)
-
   lists_survivors : (d : Det) → has listed d ≡ survives n past d
-  lists_survivors d = lists d ∙ same_answer _ _ forth back
-    where
-      forth : has_entry d gathered ≡ true → survives n past d ≡ true
-      forth h =
-          elim (Logging.gathered_found ms (stable_set past) who d h) [
-            | inl stored ↦ survives_stable n past d (sym (Choices.stable_has past d) ∙ stored)
-            | inr some ↦ survives_log n past some.0 d (under some.0 some.1) (sym (s.facts.logged some.0 d (under some.0 some.1)) ∙ some.2)
-          ]
-
-      back : survives n past d ≡ true → has_entry d gathered ≡ true
-      back h =
-          elim (survives_found n past d h) [
-            | inl stable ↦ Logging.gathered_stored ms (stable_set past) who d (Choices.stable_has past d ∙ stable)
-            | inr held ↦ Logging.gathered_logged ms (stable_set past) who d held.0 (s.facts.logged held.0 d held.1 ∙ held.2)
-          ]
+  lists_survivors d = lists d ∙ gathered_survivors n f past ms who s d
 
   nothing_there : (tells : LogMap → Bool) → tells fin.empty ≡ false → (p : ℕ) → who.0 ≡ p → tells (log_at ms p) ≡ false
   nothing_there tells lacks p is = ap tells (log_none ms p (ap (at ms) (sym is) ∙ down)) ∙ lacks
@@ -359,7 +364,7 @@ module _ (n f : ℕ) (past : List Entry) (ms : Memories) (who : Pid) (listed : L
         is.1,
         elim (Logging.gathered_holder ms (stable_set past) who d q (ap (tells_holder d q) (sym is.2) ∙ h)) [
           | inl mine ↦ inl mine
-          | inr some ↦ inr (some.0, under some.0 some.1, some.2)
+          | inr some ↦ inr (some.0, under n f past ms who s some.0 some.1, some.2)
         ],
       )
       | inr other ↦ inl (ap (tells_holder d q) (sym other.1) ∙ h)
@@ -375,7 +380,7 @@ module _ (n f : ℕ) (past : List Entry) (ms : Memories) (who : Pid) (listed : L
     marked = λ p d h. elim (set_cases ms who.0 (Some (fresh gathered)) p bound) [
       | inl is ↦ elim (Logging.gathered_mark ms (stable_set past) who d (ap (tells_stable d) (sym is.2) ∙ h)) [
         | inl stored ↦ inr (inl (sym (Choices.stable_has past d) ∙ stored))
-        | inr some ↦ inr (inr (some.0, under some.0 some.1, some.2))
+        | inr some ↦ inr (inr (some.0, under n f past ms who s some.0 some.1, some.2))
       ]
       | inr other ↦ inl (ap (tells_stable d) (sym other.1) ∙ h)
     ];

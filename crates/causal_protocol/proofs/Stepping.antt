@@ -203,6 +203,18 @@ module _ (r : Run) (s : IsRun r) where
       by (Ask.Flush p) = s
       by (Ask.Forget p) = s
 
+none_written : (fault reason : CoreFault) (done all : ℕ) → flush_reason_of fault ≡ Some reason → IsPart fault done all → done ≡ 0
+none_written Why.NoMemory reason done all is part = absurd (let e : None ≡ Some reason = is in cc)
+none_written Why.StoreFault reason done all is part = absurd (let e : None ≡ Some reason = is in cc)
+none_written Why.NoProcess reason done all is part = part
+none_written Why.Down reason done all is part = part
+none_written Why.NotDown reason done all is part = part
+none_written Why.OverFaults reason done all is part = part
+none_written (Why.MustReplay m) reason done all is part = part
+none_written Why.NotAvailable reason done all is part = part
+none_written Why.AlreadyDelivered reason done all is part = part
+none_written Why.Full reason done all is part = part
+
 legal_kept : (r : Run) (request : Request) (reply : Reply) (appended : List Entry) → LegalStep r request reply appended → IsRun r → IsRun (extended r request appended)
 unfolding LegalStep
 legal_kept r (Ask.Deliver q source ssn) (Told.Delivered d) appended h s = delivers r s q source ssn d.first d.det d.sends appended h.0 h.3 h.4
@@ -212,11 +224,12 @@ legal_kept r (Ask.Crash p) (Told.Refused fault) appended h s = nothing_appended 
 legal_kept r (Ask.Restart p) (Told.Restarted d) appended h s = restarts_kept r s p d.sends appended h.0 h.3 h.4
 legal_kept r (Ask.Restart p) (Told.Refused fault) appended h s = nothing_appended r s (Ask.Restart p) appended h.1
 legal_kept r (Ask.Flush p) (Told.Flushed count) appended h s = flushes r s p (unwritten r p) appended h.0 (λ d x. x) h.2
-legal_kept r (Ask.Flush p) (Told.FlushRefused f) appended h s = by (flush_reason_of f.fault) refl h.1
+legal_kept r (Ask.Flush p) (Told.FlushRefused f) appended h s = by (flush_reason_of f.fault) refl
   where
-    by : (reason : Option CoreFault) → flush_reason_of f.fault ≡ reason → IsPart reason f.done (length (unwritten r p)) → IsRun (extended r (Ask.Flush p) appended)
-    by None is part = flushes r s p (take f.done (unwritten r p)) appended (h.0 ∙ is) (has_taken f.done (unwritten r p)) h.2
-    by (Some fault) is part = nothing_appended r s (Ask.Flush p) appended (h.2 ∙ ap (λ k. map Stable (take k (unwritten r p))) part)
+    by : (reason : Option CoreFault) → flush_reason_of f.fault ≡ reason → IsRun (extended r (Ask.Flush p) appended)
+    by None is = flushes r s p (take f.done (unwritten r p)) appended (h.0 ∙ is) (has_taken f.done (unwritten r p)) h.2
+    by (Some fault) is =
+        nothing_appended r s (Ask.Flush p) appended (h.2 ∙ ap (λ k. map Stable (take k (unwritten r p))) (none_written f.fault fault f.done (length (unwritten r p)) is h.1))
 legal_kept r (Ask.Forget p) (Told.Forgotten count) appended h s = forgets r s p appended h.0 h.2
 legal_kept r (Ask.Forget p) (Told.Refused fault) appended h s = nothing_appended r s (Ask.Forget p) appended h.1
 legal_kept r request reply appended h s = absurd h

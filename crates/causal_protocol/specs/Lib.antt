@@ -7,4 +7,5 @@ pub mod Steps
 pub mod Telling
 pub mod Sight
 pub mod Kept
+pub mod Listed
 pub mod Runs

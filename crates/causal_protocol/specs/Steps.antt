@@ -1,6 +1,6 @@
 -- What one call of the runtime does to a run: it appends one entry with the sends of that step, or the stable entries of one
 -- flush, or nothing.
-use Rattle.std.specs.Prelude.{◌≡◌, ℕ, ◌+◌, ◌≤◌, true, nat_lt, List, [], ◌∷◌, ◌++◌, length, replicate, drop, take, map, Option, None, Some, Result, Ok, Err}
+use Rattle.std.specs.Prelude.{◌≡◌, ℕ, ◌+◌, ◌<◌, ◌≤◌, true, nat_lt, List, [], ◌∷◌, ◌++◌, length, replicate, drop, take, map, Option, None, Some, Result, Ok, Err}
 use Rattle.std.specs.List.{list_all, filter_map}
 use Rattle.causal_name.specs.declared.Pid.{Pid}
 use Rattle.causal_name.specs.declared.MsgName.{MsgName}
@@ -75,10 +75,12 @@ flush_reason_of Why.NoMemory = None
 flush_reason_of Why.StoreFault = None
 flush_reason_of fault = Some fault
 
--- how many of so many a flush may have written before it stopped: none where a reason stood against it
-abbrev pub IsPart : Option CoreFault → ℕ → ℕ → Type 0
-IsPart None done all = done ≤ all
-IsPart (Some fault) done all = done ≡ 0
+-- how many of so many a flush may have written before it stopped for this: not all, where the store failed; none, where a
+-- reason stood against it
+abbrev pub IsPart : CoreFault → ℕ → ℕ → Type 0
+IsPart Why.NoMemory done all = done ≤ all
+IsPart Why.StoreFault done all = done < all
+IsPart fault done all = done ≡ 0
 
 -- One call of the runtime, told so, appends these entries, in this order.
 unfoldable pub LegalStep : Run → Request → Reply → List Entry → Type 0
@@ -100,7 +102,7 @@ LegalStep r (Ask.Flush p) (Told.Flushed count) appended =
     (first_fault r (Ask.Flush p) ≡ None) × (count ≡ length (unwritten r p)) × (appended ≡ map Stable (unwritten r p))
 LegalStep r (Ask.Flush p) (Told.FlushRefused f) appended =
     (first_fault r (Ask.Flush p) ≡ flush_reason_of f.fault)
-    × IsPart (flush_reason_of f.fault) f.done (length (unwritten r p))
+    × IsPart f.fault f.done (length (unwritten r p))
     × (appended ≡ map Stable (take f.done (unwritten r p)))
 LegalStep r (Ask.Flush p) reply appended = ⊥
 LegalStep r (Ask.Forget p) (Told.Forgotten count) appended =

@@ -2,6 +2,7 @@
 ghost use Rattle.causal_protocol.specs.Runs.{OpeningsAreRuns, StepsKeepRuns, RefusalsChangeNothing, RepliesTellEntries, IfKept, IfMade};
 ghost use Rattle.causal_protocol.specs.Runs.{IsSafeRun, HasSingleSlots, HasDeliveredSurvivors, After};
 ghost use Rattle.causal_protocol.specs.Runs.{IsDelivery, IsCrash, IsRestart, IsFlush, IsForgetting};
+ghost use Rattle.causal_protocol.specs.Listed.{DeliveriesListThese, RestartsListSurvivors};
 ghost use Rattle.causal_protocol.specs.Kept.{FewAreDown, HoldersHold, NamedHold, MarksAreTrue, DependentsHold, MessagesCarry, ReceiversFind, SendersFind};
 
 /// Each run that the runtime makes is safe at each of its instants for its number of failures (no crash that this number
@@ -29,6 +30,13 @@ pub fn steps_keep_runs()
 pub fn replies_are_true()
     ensures refused { RefusalsChangeNothing }
     ensures entries { RepliesTellEntries }
+{}
+
+/// A delivery lists its own determinant and what the message carries; a restart lists what survives, in the log of a process
+/// that is up or in stable storage. Neither lists anything else.
+pub fn lists_have_these()
+    ensures delivery { DeliveriesListThese }
+    ensures restart { IfKept RestartsListSurvivors }
 {}
 
 /// Each delivery keeps each of the eight facts; so does its refusal.

@@ -1,10 +1,11 @@
 -- The value behind the lock as callers see it.
-use Rattle.std.specs.Prelude.{◌≡◌, ℕ, List, [], length, replicate, Option, Some, None, Result, Ok, Err}
+use Rattle.std.specs.Prelude.{◌≡◌, ⊤, ℕ, List, [], length, replicate, Option, Some, None, Result, Ok, Err}
 use Rattle.causal_trace.specs.Judgement.{IsSafeTrace}
 use Rattle.causal_process.specs.declared.message.Input.{Input}
 use Rattle.causal_process.specs.declared.message.Outgoing.{Outgoing}
 use Rattle.causal_protocol.specs.Run.{Run}
-use Rattle.causal_core.specs.CoreView.{CoreState, run_of, state_of}
+use Rattle.causal_core.specs.CoreView.{CoreState, run_of, state_of, store_of}
+use Rattle.causal_core.specs.Flushes.{TellsFailure}
 use Rattle.causal_protocol.specs.declared.request.Request.{Request}
 use Rattle.causal_protocol.specs.declared.request.Reply.{Reply}
 use Rattle.causal_protocol.specs.declared.request.Reply.TheVariants.{Restarted as Again, Refused, FlushRefused}
@@ -23,6 +24,15 @@ held_of l = record { run = run_of l.core; history = l.history.items; seats = l.s
 -- its core: the run, the bodies of the kept messages, and the boxes
 abbrev pub state_under : {S B : Type 0} {Has : _} → Locked S B Has → CoreState B
 state_under l = state_of l.core
+
+-- its core's store
+abbrev pub store_under : {S B : Type 0} {Has : _} → Locked S B Has → S
+store_under l = store_of l.core
+
+-- where a flush tells a fault of the store, the store failed, by its counts of faults before and after
+abbrev pub TellsFaults : ℕ → ℕ → LockedFault → Type 0
+TellsFaults old new (Flush f) = TellsFailure old new f
+TellsFaults old new fault = ⊤
 
 -- what an item tells of a refusal: the core's; or no item was made, since the call could not be recorded
 abbrev pub told_fault : LockedFault → Option Reply

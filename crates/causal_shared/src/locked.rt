@@ -101,8 +101,8 @@ fn restart_reply(answer: &Result<Restarted, Refused>) -> Reply
 }
 
 impl<S: Stable> Locked<S> {
-    ghost use Rattle.causal_shared.specs.Locked.{held_of, state_under, opened_over, told, told_restart};
-    ghost use Rattle.causal_shared.specs.Locked.{Records, AnswersAs, IsSnapshot, IsSafeSnapshot};
+    ghost use Rattle.causal_shared.specs.Locked.{held_of, state_under, store_under, opened_over, told, told_restart};
+    ghost use Rattle.causal_shared.specs.Locked.{Records, AnswersAs, TellsFaults, IsSnapshot, IsSafeSnapshot};
     ghost use Rattle.causal_core.specs.CoreView.{state_of, IsUnchanged, Delivers, Crashes};
     ghost use Rattle.causal_core.specs.Boxes.{SameAnswers};
     ghost use Rattle.causal_core.specs.Restarts.{Restarts};
@@ -321,6 +321,7 @@ impl<S: Stable> Locked<S> {
         requires call { call ≡ count_at (held_of self.old).seats seat }
         requires room { length (held_of self.old).history < max_items }
         ensures item { Records self.old self.new seat call (Ask.Flush p) (told Told.Flushed result) }
+        ensures fault { IfErr result (TellsFaults (S.faults (store_under self.old)) (S.faults (store_under self.new))) }
         ensures bodies { (state_under self.new).bodies ≡ (state_under self.old).bodies }
         ensures boxes { SameAnswers answers (state_under self.old).slots (state_under self.new).slots }
     {

@@ -1,5 +1,5 @@
 -- A legal step has one proof at most.
-use Rattle.std.specs.Prelude.{ℕ, List, Option, None, Some}
+use Rattle.std.specs.Prelude.{ℕ, List}
 use Rattle.std.proofs.Props.{props}
 use Rattle.causal_trace.specs.declared.entry.Entry.{Entry}
 use Rattle.causal_protocol.specs.declared.request.Request.{Request}
@@ -7,13 +7,15 @@ use Rattle.causal_protocol.specs.declared.request.Request.TheVariants as Ask
 use Rattle.causal_protocol.specs.declared.request.Reply.{Reply}
 use Rattle.causal_protocol.specs.declared.request.Reply.TheVariants as Told
 use Rattle.causal_protocol.specs.declared.request.CoreFault.{CoreFault}
+use Rattle.causal_protocol.specs.declared.request.CoreFault.TheVariants as Why
 use Rattle.causal_protocol.specs.Run.{Run}
 use Rattle.causal_protocol.specs.Steps.{LegalStep, IsPart}
 
 -- that a count is a part has one proof at most
-pub IsPart-prop : (reason : Option CoreFault) (done all : ℕ) → IsProp (IsPart reason done all)
-IsPart-prop None done all = Prim.hlevel props
-IsPart-prop (Some fault) done all = Prim.hlevel props
+pub IsPart-prop : (fault : CoreFault) (done all : ℕ) → IsProp (IsPart fault done all)
+IsPart-prop Why.NoMemory done all = Prim.hlevel props
+IsPart-prop Why.StoreFault done all = Prim.hlevel props
+IsPart-prop fault done all = Prim.hlevel props
 
 -- so has that a step is legal
 pub LegalStep-prop : (r : Run) (request : Request) (reply : Reply) (appended : List Entry) → IsProp (LegalStep r request reply appended)

@@ -1,5 +1,5 @@
 -- What a legal step appends, by number: as many entries as its reply tells, and as many stable ones as it has writers.
-use Rattle.std.proofs.Common.{◌≡◌, ◌≤◌, ◌+◌, ◌∙◌, sym, refl, ap, ℕ, zero, suc, List, [], ◌∷◌, length, take, drop, map, count_by, cond, length-take, arith, Some, None, Option}
+use Rattle.std.proofs.Common.{◌≡◌, ◌≤◌, ◌+◌, ◌∙◌, sym, refl, ap, ℕ, zero, suc, List, [], ◌∷◌, length, take, drop, map, count_by, cond, length-take, arith}
 use Rattle.std.specs.Prelude.{replicate}
 use Rattle.std.proofs.lemmas.List.{length-map}
 use Rattle.std.proofs.lemmas.List.Sums.{sum_by-append}
@@ -12,9 +12,10 @@ use Rattle.causal_protocol.specs.declared.request.Request.TheVariants as Ask
 use Rattle.causal_protocol.specs.declared.request.Reply.{Reply}
 use Rattle.causal_protocol.specs.declared.request.Reply.TheVariants as Told
 use Rattle.causal_protocol.specs.declared.request.CoreFault.{CoreFault}
+use Rattle.causal_protocol.specs.declared.request.CoreFault.TheVariants as Why
 use Rattle.causal_protocol.specs.Run.{Run}
 use Rattle.causal_protocol.specs.Refusals.{unwritten, forgettable}
-use Rattle.causal_protocol.specs.Steps.{LegalStep, IsPart, AreSends, pushed, sends_of, forget_entries, writers_of, flush_reason_of}
+use Rattle.causal_protocol.specs.Steps.{LegalStep, IsPart, AreSends, pushed, sends_of, forget_entries, writers_of}
 use Rattle.causal_protocol.specs.Runs.{RepliesTellEntries}
 use Rattle.causal_protocol.specs.Telling.{is_written, told_entries, one_for_some}
 
@@ -63,9 +64,17 @@ written-step r request reply es legal = absurd legal
 length-first : (e : Entry) (es : List Entry) (number : ℕ) → es ≡ e ∷ drop 1 es → length (drop 1 es) ≡ number → length es ≡ 1 + number
 length-first e es number is count = let one : length es ≡ length (e ∷ drop 1 es) = ap length is in omega (arith, one, count)
 
-IsPart-le : (reason : Option CoreFault) (done all : ℕ) → IsPart reason done all → done ≤ all
-IsPart-le None done all part = part
-IsPart-le (Some fault) done all part = omega (arith, part)
+IsPart-le : (fault : CoreFault) (done all : ℕ) → IsPart fault done all → done ≤ all
+IsPart-le Why.NoMemory done all part = part
+IsPart-le Why.StoreFault done all part = omega (arith, part)
+IsPart-le Why.NoProcess done all part = omega (arith, part)
+IsPart-le Why.Down done all part = omega (arith, part)
+IsPart-le Why.NotDown done all part = omega (arith, part)
+IsPart-le Why.OverFaults done all part = omega (arith, part)
+IsPart-le (Why.MustReplay m) done all part = omega (arith, part)
+IsPart-le Why.NotAvailable done all part = omega (arith, part)
+IsPart-le Why.AlreadyDelivered done all part = omega (arith, part)
+IsPart-le Why.Full done all part = omega (arith, part)
 
 length-part : (done : ℕ) (ds : List Det) → done ≤ length ds → length (map Stable (take done ds)) ≡ done
 length-part done ds le = omega (arith, length-map (take done ds) Stable, length-take done ds, le)
@@ -84,7 +93,7 @@ told_entries-is r (Ask.Crash p) (Told.Refused fault) es legal = ap length legal.
 told_entries-is r (Ask.Restart p) (Told.Restarted d) es legal = length-first _ es d.sends legal.3 legal.4.count
 told_entries-is r (Ask.Restart p) (Told.Refused fault) es legal = ap length legal.1
 told_entries-is r (Ask.Flush p) (Told.Flushed count) es legal = ap length legal.2 ∙ (length-map (unwritten r p) Stable ∙ sym legal.1)
-told_entries-is r (Ask.Flush p) (Told.FlushRefused f) es legal = ap length legal.2 ∙ length-part f.done (unwritten r p) (IsPart-le (flush_reason_of f.fault) f.done (length (unwritten r p)) legal.1)
+told_entries-is r (Ask.Flush p) (Told.FlushRefused f) es legal = ap length legal.2 ∙ length-part f.done (unwritten r p) (IsPart-le f.fault f.done (length (unwritten r p)) legal.1)
 told_entries-is r (Ask.Forget p) (Told.Forgotten count) es legal = ap length legal.2 ∙ (length-forget p (forgettable r p) ∙ ap one_for_some (sym legal.1))
 told_entries-is r (Ask.Forget p) (Told.Refused fault) es legal = ap length legal.1
 told_entries-is r request reply es legal = absurd legal

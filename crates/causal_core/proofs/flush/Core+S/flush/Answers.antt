@@ -7,12 +7,12 @@ use Rattle.causal_protocol.specs.Run.{memories_of}
 use Rattle.causal_protocol.specs.Steps.{told_flush}
 use Rattle.causal_protocol.proofs.Lemmas.Carried.{step_carried}
 use Rattle.causal_core.specs.Inside.Memories.{log_at}
-use Rattle.causal_core.proofs.Flushing.{flush_up, flush_below, flush_short, flush_steps, flush_refused, flush_reason, refusal_stores, unwritten_logged}
+use Rattle.causal_core.proofs.Flushing.{flush_up, flush_below, flush_short, flush_steps, flush_refused, refusal_stores, unwritten_logged}
 use Rattle.causal_core.proofs.flush.Core+S.flush.Goals as goal
 
 pub returns-in-Err-clause-step : goal.returns-in-Err-clause-step
 returns-in-Err-clause-step g c =
-    flush_refused c.args.self.now.held.run c.prepare_flush.new.self.run c.args.p c.in-Err.fault c.prepare_flush.ensures.run (flush_reason c.args.self.now.held.run c.args.p c.in-Err.fault c.in-Err.ensures.refused)
+    flush_refused c.args.self.now.held.run c.prepare_flush.new.self.run c.args.p c.in-Err.fault c.prepare_flush.ensures.run c.in-Err.ensures.refused
 
 pub returns-in-Err-clause-fault : goal.returns-in-Err-clause-fault
 returns-in-Err-clause-fault g c = λ is. absurd (refusal_stores c.args.self.now.held.run c.args.p c.in-Err.fault c.in-Err.ensures.refused is)
