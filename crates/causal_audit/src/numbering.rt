@@ -21,7 +21,8 @@ pub struct Node {
 /// Determinants by their numbers. Each sender has a list of heads by the numbers of its messages; a head leads to the
 /// newest of the message's determinants, and each of these to the next older one.
 ///
-/// In a recorded run a message has at most one determinant for each lane of its receiver: a search passes over no more.
+/// In a recorded run a message has at most one determinant for each lane of all processes: a search passes over no more.
+/// A sender that came up again may send the same name to another receiver.
 #[derive(Drop)]
 pub struct Numbering {
     heads: Vec<Vec<Option<usize>>>,

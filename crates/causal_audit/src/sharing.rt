@@ -72,8 +72,8 @@ impl Firsts {
     }
 
     /// Notes deliveries with these determinants, which are the first ones, and tells for each the first with its own. It
-    /// takes time as the deliveries, and for each as the determinants of its message: at most one for each lane of the
-    /// receiver.
+    /// takes time as the deliveries, and for each as the determinants of its message: at most one for each lane of all
+    /// processes.
     pub fn note_each(&mut self, alloc: Global, dets: &[Det]) -> Result<Vec<u32>, NoMemory>
         requires few { length dets.now ≤ max_entries }
         requires none { (d : Det) → first_of self.old d ≡ None }

@@ -11,7 +11,8 @@ use std::alloc::Global;
 
 /// The verdict on a trace for f: the first instant that is not safe, and how it fails, or that there is none.
 ///
-/// It lists every crash set, so its time and memory grow as 2 to the number of processes.
+/// It lists every crash set: its time and memory grow as the number of sets of at most f processes with those among
+/// them that are down.
 ///
 /// # Errors
 /// `NoMemory` where memory was refused.
