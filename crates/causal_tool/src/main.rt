@@ -31,12 +31,7 @@ fn told<F: Display + Drop>(rt: &HostRuntime, told: Told<F>) -> ExitCode {
 
 fn main(rt: HostRuntime) -> ExitCode {
     match read_words(&rt) {
-        Ok(
-            Asked::Audit {
-                faults,
-                workers: workers @ 1..=64,
-            },
-        ) => told(
+        Ok(Asked::Audit { faults, workers }) => told(
             &rt,
             audit_and_tell(
                 &rt,
@@ -48,7 +43,6 @@ fn main(rt: HostRuntime) -> ExitCode {
                 &OpenGate,
             ),
         ),
-        Ok(Asked::Audit { .. }) => ExitCode::from(3),
         Ok(Asked::Show { view, faults }) => told(
             &rt,
             show_and_tell(

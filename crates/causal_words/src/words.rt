@@ -1,7 +1,8 @@
 //! The command line.
-ghost use Rattle.std.specs.Prelude.{◌≡◌, Bool};
+ghost use Rattle.std.specs.Prelude.{◌≡◌, Bool, IfOk, IfSome};
 ghost use Rattle.clap.specs.Values.{kind_of};
 ghost use Rattle.causal_words.specs.Inside.Refusals.{refusal};
+ghost use Rattle.causal_words.specs.Words.{HasWorkers};
 
 use causal_commands::{Ended, View};
 use clap::error::ErrorKind;
@@ -65,7 +66,8 @@ Answers, as one line on standard output:
   exceeded f=F instant=T down=P,..
       after T entries more than F processes are down
   orphan f=F instant=T delivery=K crash=P,.. orphan=P
-      after T entries a crash of these loses the delivery of entry K, on which P depends
+      after T entries a crash of these (-: of none) loses the delivery of entry K, on which
+      P depends; entries count from 0
   fault line=L KIND
       the text is no trace: its first fault is at line L
 
@@ -132,7 +134,9 @@ pub enum Refused {
 
 /// Reads the command line. What `clap` has to say is printed: help on standard output, a fault of the words on standard
 /// error. Arguments that are no text are misused words too.
-pub fn read_words<R: Env + Print + Eprint + AllocGlobal>(rt: &R) -> Result<Asked, Refused> {
+pub fn read_words<R: Env + Print + Eprint + AllocGlobal>(rt: &R) -> Result<Asked, Refused>
+    ensures { IfOk result HasWorkers }
+{
     let words = match env::args(rt) {
         Ok(args) => args.collect::<Vec<String>>(rt.alloc()),
         Err(error) if error.kind() == io::ErrorKind::OutOfMemory => {
@@ -184,7 +188,9 @@ pub(crate) fn refusal(kind: ErrorKind, printed: bool) -> Refused
 }
 
 /// What these words ask for, the first of which is the program's name. None where no words of the program's are among them.
-pub fn parsed<'a, S: AsStr>(alloc: Global, words: &'a [S]) -> Result<Option<Asked>, Error> {
+pub fn parsed<'a, S: AsStr>(alloc: Global, words: &'a [S]) -> Result<Option<Asked>, Error>
+    ensures { IfOk result (λ asked. IfSome asked HasWorkers) }
+{
     let matches = command(alloc)?.try_get_matches_from(words)?;
     match matches.subcommand() {
         Some(("audit", given)) => {
@@ -192,7 +198,9 @@ pub fn parsed<'a, S: AsStr>(alloc: Global, words: &'a [S]) -> Result<Option<Aske
                 given.get_one::<u16>("faults"),
                 given.get_one::<u32>("workers"),
             ) {
-                (Some(faults), Some(workers)) => Ok(Some(Asked::Audit { faults, workers })),
+                (Some(faults), Some(workers @ 1..=64)) => {
+                    Ok(Some(Asked::Audit { faults, workers }))
+                }
                 _ => Ok(None),
             }
         }
@@ -204,7 +212,9 @@ pub fn parsed<'a, S: AsStr>(alloc: Global, words: &'a [S]) -> Result<Option<Aske
 }
 
 /// What is asked for where a verdict is to be shown.
-fn shown(given: &ArgMatches, view: View) -> Option<Asked> {
+fn shown(given: &ArgMatches, view: View) -> Option<Asked>
+    ensures { IfSome result HasWorkers }
+{
     let faults = given.get_one::<u16>("faults")?;
     Some(Asked::Show { view, faults })
 }
