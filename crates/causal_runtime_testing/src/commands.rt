@@ -7,10 +7,11 @@ mod running;
 mod scripts;
 mod traces;
 
-use self::traces::{FAULTY, JUDGED, RING};
+use self::traces::{FAULTY, JUDGED};
 use causal_audit::verdict::Verdict;
 use causal_commands::{Ended, audit_and_tell, audit_stream};
 use causal_holders::Holders;
+use causal_samples::texts::RING;
 use causal_workers::{Judged, OpenGate, verdict_line};
 use std::io;
 use std::io::{Error, Read, Write};

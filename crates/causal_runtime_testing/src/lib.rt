@@ -15,6 +15,8 @@ mod runs;
 #[cfg(test)]
 mod runtime;
 #[cfg(test)]
+mod script_texts;
+#[cfg(test)]
 mod scripts;
 #[cfg(test)]
 mod seats;

@@ -1,15 +1,21 @@
-//! A log of 256 processes and a plain one, a map that is read as a whole for each answer, say the same after calls drawn at
-//! random.
+//! A log of 256 processes and a plain one, a map that is read as a whole for each answer, say the same at and after calls drawn
+//! at random.
 use causal_holders::Holders;
 use causal_log::{Batch, Item, Known, Log};
-use causal_name::{Det, NoMemory, Pid, Slot};
+use causal_name::{Det, MsgName, NoMemory, Pid, Slot};
 use causal_samples::Numbers;
 use std::alloc::Global;
 use std::collections::BTreeMap;
 use std::test::Fail;
 
-/// How many calls are drawn.
-const CALLS: u32 = 60;
+/// Where the numbers begin from which calls are drawn: for each a log of its own.
+const SEEDS: [u64; 4] = [17, 1_984, 2_026, 77_777];
+
+/// How often a log's calls are drawn, and what is stable then dropped.
+const ROUNDS: u32 = 4;
+
+/// How many deliveries a round draws, and as many other calls.
+const CALLS: u32 = 20;
 
 type Plain = BTreeMap<Det, Known>;
 
@@ -17,14 +23,63 @@ fn process(numbers: &mut Numbers) -> Pid {
     Pid(numbers.below(256) as u8)
 }
 
-/// One of few determinants, so that calls meet.
+/// One of 32 determinants, of which eight share each slot, so that calls meet.
 fn drawn(numbers: &mut Numbers) -> Det {
-    let source = process(numbers);
     Det {
-        source,
+        source: Pid(255 - numbers.below(4) as u8),
         ssn: numbers.below(2),
-        dest: Pid(255 - source.0),
+        dest: Pid(numbers.below(2) as u8),
         rsn: numbers.below(2),
+    }
+}
+
+/// One of the slots of these determinants, or now and then one that none of them fills.
+fn drawn_slot(numbers: &mut Numbers) -> Slot {
+    Slot {
+        dest: Pid(numbers.below(2) as u8),
+        rsn: numbers.below(3),
+    }
+}
+
+/// Whether all answers were alike, and how often a call met what it was drawn for.
+#[derive(Clone, Copy)]
+struct Tally {
+    alike: bool,
+    /// How many determinants were marked that were there, and how many that were not.
+    marked: u32,
+    missed: u32,
+    /// How many slots were asked for that two determinants or more filled.
+    contested: u32,
+}
+
+impl Tally {
+    /// What is known before the first call.
+    fn none() -> Tally {
+        Tally {
+            alike: true,
+            marked: 0,
+            missed: 0,
+            contested: 0,
+        }
+    }
+
+    /// Takes in whether one more answer was alike.
+    fn note(&mut self, alike: bool) {
+        self.alike = self.alike && alike;
+    }
+
+    /// Takes in that a determinant was marked that was there or not.
+    fn note_mark(&mut self, there: bool) {
+        if there {
+            self.marked = self.marked.saturating_add(1);
+        } else {
+            self.missed = self.missed.saturating_add(1);
+        }
+    }
+
+    /// Whether all was alike, and calls met what they were drawn for: of 80 calls about half mark, mostly what is there.
+    fn is_telling(&self) -> bool {
+        self.alike && self.marked >= 20 && self.missed >= 2 && self.contested >= 40
     }
 }
 
@@ -124,7 +179,7 @@ fn learn_delivery(plain: &mut Plain, batch: &Batch, it: Arrival) -> Result<(), N
     learn(plain, it.own, &[it.me], false)
 }
 
-/// A delivery to both, which says whether the batch was foretold.
+/// A delivery to both, which says whether the batch was foretold, and is a plain log's.
 fn deliver(
     alloc: Global,
     numbers: &mut Numbers,
@@ -134,13 +189,27 @@ fn deliver(
     let it = drawn_arrival(numbers);
     let batch = sent(alloc, numbers, it.from)?;
     learn_delivery(plain, &batch, it)?;
-    foretells(alloc, log, &batch, it)
+    Ok(foretells(alloc, log, &batch, it)? && choose_alike(alloc, log, plain, it.f)?)
 }
 
-/// A call of both that is no delivery.
-fn call(numbers: &mut Numbers, log: &mut Log, plain: &mut Plain) -> Result<(), NoMemory> {
+/// Marks a determinant in both, and tells whether a plain log has it and whether both say so.
+fn mark(log: &mut Log, plain: &mut Plain, det: Det) -> Result<(bool, bool), NoMemory> {
+    let there = plain.contains_key(&det);
+    if there {
+        learn(plain, det, &[], true)?;
+    }
+    Ok((there, log.mark_stable(det) == there))
+}
+
+/// A call of both that is no delivery: every second one marks.
+fn call(
+    numbers: &mut Numbers,
+    log: &mut Log,
+    plain: &mut Plain,
+    tally: &mut Tally,
+) -> Result<(), NoMemory> {
     let (det, me) = (drawn(numbers), process(numbers));
-    match numbers.below(3) {
+    match numbers.below(4) {
         0 => {
             log.add_own(det, me)?;
             learn(plain, det, &[me], false)
@@ -150,9 +219,9 @@ fn call(numbers: &mut Numbers, log: &mut Log, plain: &mut Plain) -> Result<(), N
             learn(plain, det, &[me], true)
         }
         _ => {
-            if log.mark_stable(det) {
-                learn(plain, det, &[], true)?;
-            }
+            let (there, alike) = mark(log, plain, det)?;
+            tally.note_mark(there);
+            tally.note(alike);
             Ok(())
         }
     }
@@ -179,14 +248,27 @@ fn choose_alike(alloc: Global, log: &Log, plain: &Plain, f: u16) -> Result<bool,
     chooses(alloc, log, f, carried.as_slice())
 }
 
-/// Whether both name the same message for a slot.
-fn name_alike(log: &Log, plain: &Plain, slot: Slot) -> bool {
+/// The message of the least determinant of a plain log that fills a slot, and how many do.
+fn named(plain: &Plain, slot: Slot) -> (Option<MsgName>, u32) {
+    let mut least = None;
+    let mut count = 0_u32;
     for det in plain.keys() {
         if det.slot() == slot {
-            return log.for_slot(slot.dest, slot.rsn) == Some(det.message());
+            least = least.or(Some(det.message()));
+            count = count.saturating_add(1);
         }
     }
-    log.for_slot(slot.dest, slot.rsn).is_none()
+    (least, count)
+}
+
+/// Asks both for the message of a slot.
+fn name(numbers: &mut Numbers, log: &Log, plain: &Plain, tally: &mut Tally) {
+    let slot = drawn_slot(numbers);
+    let (least, count) = named(plain, slot);
+    tally.note(log.for_slot(slot.dest, slot.rsn) == least);
+    if count > 1 {
+        tally.contested = tally.contested.saturating_add(1);
+    }
 }
 
 /// Whether a log shows just a plain one's entries at its places.
@@ -254,35 +336,45 @@ fn all_alike(alloc: Global, log: &Log, plain: &Plain) -> Result<bool, NoMemory> 
     )
 }
 
-/// Makes the calls that are drawn; whether each delivery and each name was alike.
-fn go_alike(
+/// Makes the calls of a round.
+fn go_round(
     alloc: Global,
     numbers: &mut Numbers,
     log: &mut Log,
     plain: &mut Plain,
-) -> Result<bool, NoMemory> {
-    let mut alike = true;
+    tally: &mut Tally,
+) -> Result<(), NoMemory> {
     for _ in 0..CALLS {
-        alike = deliver(alloc, numbers, log, plain)? && alike;
-        call(numbers, log, plain)?;
-        alike = name_alike(log, plain, drawn(numbers).slot()) && alike;
+        tally.note(deliver(alloc, numbers, log, plain)?);
+        call(numbers, log, plain, tally)?;
+        name(numbers, log, plain, tally);
     }
-    Ok(alike)
+    Ok(())
 }
 
 /// Whether both choose the same, however many may fail.
 fn choices_alike(alloc: Global, log: &Log, plain: &Plain) -> Result<bool, NoMemory> {
     let mut alike = true;
-    for f in [0, 1, 2, 3, 255, 256] {
+    for f in [0, 1, 2, 3, 8, 255, 256] {
         alike = choose_alike(alloc, log, plain, f)? && alike;
     }
     Ok(alike)
 }
 
-/// Whether a log drops just what is stable.
-fn drops_what_is_stable(log: &mut Log) -> bool {
-    let marked = log.stable_len();
-    log.drop_stable() == marked && log.stable_len() == 0
+/// Takes out of a plain log what is stable: how many these were.
+fn drop_plainly(alloc: Global, plain: &mut Plain) -> Result<usize, NoMemory> {
+    let stable = listed(alloc, plain, Which::Stable)?;
+    for det in stable.as_slice() {
+        plain.remove(det);
+    }
+    Ok(stable.len())
+}
+
+/// Whether both drop as many as are stable, and show the same of what is left.
+fn drop_alike(alloc: Global, log: &mut Log, plain: &mut Plain) -> Result<bool, NoMemory> {
+    let dropped = drop_plainly(alloc, plain)?;
+    let count = log.drop_stable();
+    Ok(count as usize == dropped && show_alike(log, plain) && all_alike(alloc, log, plain)?)
 }
 
 /// Whether both show the same after these calls, also once the log is sorted.
@@ -292,24 +384,45 @@ fn show_alike_sorted(alloc: Global, log: &mut Log, plain: &Plain) -> Result<bool
     Ok(before && show_alike(log, plain))
 }
 
-/// Whether both are alike at each call, as they show their entries, in what they choose, and in what they drop.
-fn are_alike(
+/// Whether both are alike as they show their entries, in what they choose, and in what they drop.
+fn end_alike(
     alloc: Global,
     log: &mut Log,
     plain: &mut Plain,
-) -> Result<(bool, bool, bool, bool), NoMemory> {
-    let mut numbers = Numbers { state: 17 };
-    let called = go_alike(alloc, &mut numbers, log, plain)?;
+) -> Result<(bool, bool, bool), NoMemory> {
     let shown = show_alike_sorted(alloc, log, plain)?;
     let chosen = choices_alike(alloc, log, plain)?;
-    Ok((called, shown, chosen, drops_what_is_stable(log)))
+    Ok((shown, chosen, drop_alike(alloc, log, plain)?))
+}
+
+/// Makes the calls of all rounds, and compares both after each.
+fn go_rounds(
+    alloc: Global,
+    seed: u64,
+    log: &mut Log,
+    plain: &mut Plain,
+) -> Result<Tally, NoMemory> {
+    let mut numbers = Numbers { state: seed };
+    let mut tally = Tally::none();
+    for _ in 0..ROUNDS {
+        go_round(alloc, &mut numbers, log, plain, &mut tally)?;
+        tally.note(end_alike(alloc, log, plain)? == (true, true, true));
+    }
+    Ok(tally)
+}
+
+/// What comes of a new log and a new plain one.
+fn tally_of(alloc: Global, seed: u64) -> Result<Tally, NoMemory> {
+    let mut log = Log::new(alloc);
+    let mut plain = BTreeMap::new(alloc);
+    go_rounds(alloc, seed, &mut log, &mut plain)
 }
 
 #[test]
 fn of_256_processes_like_a_plain_one(rt: HostRuntime) -> Result<(), Fail> {
-    let mut log = Log::new(rt.alloc());
-    let mut plain = BTreeMap::new(rt.alloc());
-    let alike = are_alike(rt.alloc(), &mut log, &mut plain)?;
-    assert_eq!(rt; alike, (true, true, true, true));
+    for seed in SEEDS {
+        let tally = tally_of(rt.alloc(), seed)?;
+        assert!(rt; tally.is_telling(), "from {seed}");
+    }
     Ok(())
 }

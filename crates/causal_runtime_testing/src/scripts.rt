@@ -1,4 +1,5 @@
 //! Scripts whose reading was worked out by hand, and each line that tells a fault.
+use crate::script_texts::{FLUSHED, FORGETTING, REPLAY, TWO_CRASHES};
 use causal_name::{MsgName, Pid};
 use causal_protocol::request::{CoreFault, Request};
 use causal_script::{
@@ -33,28 +34,6 @@ fn flush(p: u8) -> Request {
 fn forget(p: u8) -> Request {
     Request::Forget { p: Pid(p) }
 }
-
-const TWO_COME_UP: &str = "start ring 3 2 2
-deliver 1 0 0
-deliver 2 1 0
-deliver 0 2 0
-crash 0
-crash 1
-restart 0
-restart 1
-deliver 1 0 0
-deliver 0 2 0";
-
-const FORGETTING: &str = "start tally 3 1
-deliver 0 2 0
-deliver 2 0 0
-flush 0
-forget 0
-crash 0
-restart 0
-forget 0
-deliver 0 2 0
-";
 
 // the text spells these requests, on the lines from 2 on
 fn check_commands(
@@ -95,13 +74,7 @@ fn a_message_goes_round_a_ring(rt: HostRuntime) {
         restart(1),
         deliver(1, 0, 0),
     ];
-    check_commands(
-        &rt,
-        alloc,
-        "start ring 3 1 2\ndeliver 1 0 0\ndeliver 2 1 0\ndeliver 0 2 0\ncrash 1\nrestart 1\ndeliver 1 0 0\n",
-        (Kind::Ring, 3, 1, 2),
-        &round,
-    );
+    check_commands(&rt, alloc, REPLAY, (Kind::Ring, 3, 1, 2), &round);
     check_commands(
         &rt,
         alloc,
@@ -132,7 +105,7 @@ fn two_crash_in_a_ring(rt: HostRuntime) {
     check_commands(
         &rt,
         alloc,
-        TWO_COME_UP,
+        TWO_CRASHES,
         (Kind::Ring, 3, 2, 2),
         &[
             deliver(1, 0, 0),
@@ -162,7 +135,7 @@ fn a_tally_crashes_flushes_and_forgets(rt: HostRuntime) {
     check_commands(
         &rt,
         alloc,
-        "start tally 3 1\ndeliver 0 2 0\ndeliver 2 0 0\nflush 2\nflush 2\nflush 0\n",
+        FLUSHED,
         (Kind::Tally, 3, 1, 0),
         &[first, second, flush(2), flush(2), flush(0)],
     );

@@ -1,6 +1,6 @@
 //! A trace that is cut after each of its bytes.
-use super::traces::REPLAYED;
 use causal_commands::{Ended, audit_stream};
+use causal_samples::texts::RING_REPLAYED;
 use causal_workers::OpenGate;
 use std::test::Fail;
 
@@ -8,7 +8,7 @@ use std::test::Fail;
 // After whole lines the end line is missing in the next one.
 #[test]
 fn cut_after_each_byte(rt: HostRuntime) -> Result<(), Fail> {
-    let text = REPLAYED.as_bytes();
+    let text = RING_REPLAYED.as_bytes();
     let (mut line, mut begins) = (1u32, true);
     for (cut, next) in text.iter().enumerate() {
         let whole = *next == b'\n';

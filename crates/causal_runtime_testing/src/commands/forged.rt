@@ -1,7 +1,7 @@
 //! A trace of a crash and a restart, forged.
 use super::answers;
-use super::traces::REPLAYED;
 use causal_commands::Ended;
+use causal_samples::texts::RING_REPLAYED;
 use std::test::Fail;
 
 const REPLAYED_LINE: &str = "accept f=1 entries=10 deliveries=4\n";
@@ -38,7 +38,7 @@ const FORGED: [(usize, &str, Ended, &str); 4] = [
 fn forged_lists(rt: HostRuntime) -> Result<(), Fail> {
     for (place, forged, ended, line) in FORGED {
         let mut text = String::new(rt.alloc());
-        for (i, own) in REPLAYED.lines().enumerate() {
+        for (i, own) in RING_REPLAYED.lines().enumerate() {
             text.push_str(if i == place { forged } else { own })?;
             text.push_str("\n")?;
         }

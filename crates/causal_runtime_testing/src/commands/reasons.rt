@@ -1,7 +1,10 @@
-//! What the program shows of a verdict: whole texts, worked out by hand from the definitions, and the ends of pictures.
-use super::traces::{FAULTY, JUDGED, RING};
+//! What the program shows of a verdict: whole texts, worked out by hand from the definitions, the ends of pictures, and where by their
+//! layout they show the verdict.
+use super::traces::{FAULTY, JUDGED};
 use super::{Drip, Narrow};
 use causal_commands::{Ended, View, show_and_tell};
+use causal_samples::texts;
+use std::alloc::Global;
 use std::process::Abort;
 use std::sync::Wait;
 use std::test::Fail;
@@ -18,13 +21,7 @@ struct Reason {
 const REASONS: [Reason; 9] = [
     Reason {
         name: "a message passed on without its past",
-        text: r#"["trace",1,3]
-["send",0,1,0]
-["deliver",1,0,0,[[0,0,1,0]]]
-["send",1,2,0]
-["deliver",2,2,0,[[1,0,2,0]]]
-["end",4]
-"#,
+        text: texts::PASSED_ON_BARE,
         f: 1,
         out: r#"orphan f=1 instant=4 delivery=1 crash=1 orphan=2
 delivery line=3 process=1 source=0 ssn=0 rsn=0: process 1 delivers message 0 of process 0, as its delivery 0
@@ -40,11 +37,7 @@ orphan process=2: process 2 depends on the delivery by this chain, and lacks its
     },
     Reason {
         name: "a delivery that nobody logged",
-        text: r#"["trace",1,2]
-["send",0,1,0]
-["deliver",1,0,0,[]]
-["end",2]
-"#,
+        text: texts::UNLOGGED,
         f: 0,
         out: r#"orphan f=0 instant=2 delivery=1 crash=- orphan=1
 delivery line=3 process=1 source=0 ssn=0 rsn=0: process 1 delivers message 0 of process 0, as its delivery 0
@@ -91,7 +84,7 @@ down process=2 line=4: process 2 is down since its crash at line 4
     },
     Reason {
         name: "a ring that is safe for one more too",
-        text: RING,
+        text: texts::RING,
         f: 0,
         out: "accept f=0 entries=6 deliveries=3\n\
               closest faults=2 line=3 until=7 orphan=0: \
@@ -100,7 +93,7 @@ down process=2 line=4: process 2 is down since its crash at line 4
     },
     Reason {
         name: "the same, asked for all that it is safe for",
-        text: RING,
+        text: texts::RING,
         f: 1,
         out: "accept f=1 entries=6 deliveries=3\n\
               closest faults=2 line=3 until=7 orphan=0: \
@@ -128,22 +121,14 @@ down process=2 line=4: process 2 is down since its crash at line 4
     },
     Reason {
         name: "determinants that go wherever their deliveries do",
-        text: r#"["trace",1,3]
-["send",0,1,0]
-["deliver",1,0,0,[[0,0,1,0]]]
-["send",1,2,0]
-["deliver",2,2,0,[[0,0,1,0],[1,0,2,0]]]
-["end",4]
-"#,
+        text: texts::PASSED_ON,
         f: 1,
         out: "accept f=1 entries=4 deliveries=2\n\
               closest faults=-: no delivery has an orphan, whatever f is\n",
     },
     Reason {
         name: "more faults than processes",
-        text: r#"["trace",1,1]
-["end",0]
-"#,
+        text: texts::EMPTY,
         f: 65_535,
         out: "accept f=65535 entries=0 deliveries=0\n\
               closest faults=-: no delivery has an orphan, whatever f is\n",
@@ -231,14 +216,127 @@ fn pictures_from_head_to_end(rt: HostRuntime) {
     }
 }
 
+/// A text, how many processes may be down at once, and the lines of the picture that show the verdict.
+struct Drawn {
+    name: &'static str,
+    text: &'static str,
+    f: u16,
+    lines: &'static str,
+}
+
+/// By the layout process p has its line at 64 + 40 p, the entry at position k stands at 110 + 30 k, the instant t at 95 + 30 t, and what
+/// stands below three rows begins at 170.
+const DRAWN: [Drawn; 5] = [
+    Drawn {
+        name: "1 may crash, and 2 depends on its delivery by positions 1, 2 and 3",
+        text: texts::PASSED_ON_BARE,
+        f: 1,
+        lines: "\
+            <path d='M0 104H520' fill='none' stroke='#ffe3b3' stroke-width='34'/>\n\
+            <polyline points='140,104 170,104 200,144 ' fill='none' stroke='#d55e00' stroke-width='4' stroke-opacity='0.75'/>\n\
+            <path d='M215 42V170' fill='none' stroke='#0072b2' stroke-width='2' stroke-dasharray='7 4'/>\n",
+    },
+    Drawn {
+        name: "1 and 2 may crash, and 0 depends on the delivery of 1 by all that follows in the ring",
+        text: texts::RING,
+        f: 2,
+        lines: "\
+            <path d='M0 104H520' fill='none' stroke='#ffe3b3' stroke-width='34'/>\n\
+            <path d='M0 144H520' fill='none' stroke='#ffe3b3' stroke-width='34'/>\n\
+            <polyline points='140,104 170,104 200,144 230,144 260,64 ' fill='none' stroke='#d55e00' stroke-width='4' stroke-opacity='0.75'/>\n\
+            <path d='M275 42V170' fill='none' stroke='#0072b2' stroke-width='2' stroke-dasharray='7 4'/>\n",
+    },
+    Drawn {
+        name: "1 and 2 are down after 8 entries",
+        text: texts::RING_CRASHED,
+        f: 1,
+        lines: "\
+            <path d='M0 104H520' fill='none' stroke='#ffe3b3' stroke-width='34'/>\n\
+            <path d='M0 144H520' fill='none' stroke='#ffe3b3' stroke-width='34'/>\n\
+            <path d='M335 42V170' fill='none' stroke='#0072b2' stroke-width='2' stroke-dasharray='7 4'/>\n",
+    },
+    Drawn {
+        name: "a message passed on, and no fault",
+        text: texts::PASSED_ON_BARE,
+        f: 0,
+        lines: "",
+    },
+    Drawn {
+        name: "a ring, and one fault",
+        text: texts::RING,
+        f: 1,
+        lines: "",
+    },
+];
+
+/// How the lines of a picture end that show a verdict: the shade behind a process, the chain, and the instant.
+const OF_VERDICT: [&str; 3] = [
+    " stroke='#ffe3b3' stroke-width='34'/>",
+    " stroke='#d55e00' stroke-width='4' stroke-opacity='0.75'/>",
+    " stroke='#0072b2' stroke-width='2' stroke-dasharray='7 4'/>",
+];
+
+/// The lines of a picture that show the verdict.
+fn lines_of_verdict(alloc: Global, picture: &[u8]) -> Result<Vec<u8>, Fail> {
+    let mut lines = Vec::new(alloc);
+    for line in picture.split(|byte| *byte == b'\n') {
+        if OF_VERDICT.iter().any(|end| line.ends_with(end.as_bytes())) {
+            lines.extend_from_slice(line)?;
+            lines.push(b'\n')?;
+        }
+    }
+    Ok(lines)
+}
+
+#[test]
+fn pictures_show_the_verdict(rt: HostRuntime) -> Result<(), Fail> {
+    for drawn in &DRAWN {
+        let (_, out) = shown(&rt, drawn.text, drawn.f, View::Picture);
+        let lines = lines_of_verdict(rt.alloc(), out.as_slice())?;
+        assert!(rt;
+            lines.as_slice() == drawn.lines.as_bytes(),
+            "{}",
+            drawn.name
+        );
+    }
+    Ok(())
+}
+
+/// The text of a run in which process 1 delivers one message, and again in 190 incarnations, of which the last sends on to process 2.
+fn repeated(alloc: Global) -> Result<String, Fail> {
+    let mut text = String::new(alloc);
+    text.push_str("[\"trace\",1,3]\n[\"send\",0,1,0]\n[\"deliver\",1,0,0,[[0,0,1,0]]]\n")?;
+    for _ in 0..190 {
+        text.push_str(
+            "[\"crash\",1]\n[\"restart\",1,[[0,0,1,0]]]\n[\"deliver\",1,0,0,[[0,0,1,0]]]\n",
+        )?;
+    }
+    text.push_str(
+        "[\"send\",1,2,0]\n[\"deliver\",2,572,0,[[0,0,1,0],[1,0,2,0]]]\n[\"end\",574]\n",
+    )?;
+    Ok(text)
+}
+
+// Each of its 191 deliveries on process 1 would have to be looked at one by one, and 382 entries mention their determinant.
+#[test]
+fn a_closest_failure_that_is_not_told(rt: HostRuntime) -> Result<(), Fail> {
+    let text = repeated(rt.alloc())?;
+    let (ended, out) = shown(&rt, text.as_str(), 1, View::Reason);
+    assert_eq!(rt; ended, Ended::Accepted);
+    let want = "accept f=1 entries=574 deliveries=192\n\
+        closest faults=?: not told, since too many deliveries would have to be looked at one by one\n";
+    assert!(rt; out.as_slice() == want.as_bytes());
+    Ok(())
+}
+
 #[test]
 fn a_reader_and_a_writer_that_fail(rt: HostRuntime) {
-    let mut cut = Drip::new(RING, 1, RING.len() / 2);
+    let mut cut = Drip::new(texts::RING, 1, texts::RING.len() / 2);
     let mut output = Vec::new(rt.alloc());
     let told = show_and_tell(&rt, rt.alloc(), &mut cut, &mut output, 0, View::Reason);
     assert_eq!(rt; told.ended, Ended::ReadFault);
     assert!(rt; output.is_empty());
-    let mut input = RING.as_bytes();
+    let mut input = texts::RING.as_bytes();
     let mut narrow = Narrow {
         taken: Vec::new(rt.alloc()),
         fails_at: 6,

@@ -1,8 +1,9 @@
 //! What the program prints for a script, and how it ends, where readers and writers give and take little, or fail.
-use super::scripts::{ACCEPTED, PRINTED, REPLAY};
-use super::traces::REPLAYED;
+use super::scripts::{ACCEPTED, PRINTED};
 use super::{Drip, Narrow, Spaces};
+use crate::script_texts::REPLAY;
 use causal_commands::{Ended, audit_stream, run_and_tell, run_stream};
+use causal_samples::texts::RING_REPLAYED;
 use causal_workers::OpenGate;
 use std::process::Abort;
 use std::sync::Wait;
@@ -98,7 +99,7 @@ fn reads_byte_by_byte(rt: HostRuntime) {
         run_stream(&rt, rt.alloc(), &mut input, &mut printed),
         Ended::Ran
     );
-    assert!(rt; printed.as_slice() == REPLAYED.as_bytes());
+    assert!(rt; printed.as_slice() == RING_REPLAYED.as_bytes());
 }
 
 // One call for each byte, and one more that tells the end.
@@ -144,7 +145,7 @@ fn writer_fails<R: AllocGlobal + Abort + Wait>(
 #[test]
 fn writer_fails_at_each_call(rt: HostRuntime) {
     for with_error in [true, false] {
-        writer_fails(&rt, REPLAY, Ended::Ran, REPLAYED, with_error);
+        writer_fails(&rt, REPLAY, Ended::Ran, RING_REPLAYED, with_error);
         writer_fails(
             &rt,
             "start ring 3 1 2\nrestart 1\n",

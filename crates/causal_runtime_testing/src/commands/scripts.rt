@@ -1,6 +1,7 @@
 //! Scripts, and what the program prints for each. The answers were worked out by hand from the definitions.
-use super::traces::REPLAYED;
+use crate::script_texts;
 use causal_commands::Ended;
+use causal_samples::texts;
 
 /// A script, how its run ends, and what is printed.
 pub(super) struct Printed {
@@ -17,89 +18,34 @@ pub(super) struct Accepted {
     pub line: &'static str,
 }
 
-/// A message goes round a ring of three. Its second receiver then crashes, restarts, and delivers and sends again what it
-/// had.
-pub(super) const REPLAY: &str = "start ring 3 1 2
-deliver 1 0 0
-deliver 2 1 0
-deliver 0 2 0
-crash 1
-restart 1
-deliver 1 0 0
-";
-
-const TALLY: &str = "start tally 3 1
-deliver 0 2 0
-deliver 2 0 0
-crash 0
-restart 0
-deliver 0 2 0
-";
-
-const FLUSHED: &str = "start tally 3 1
-deliver 0 2 0
-deliver 2 0 0
-flush 2
-flush 2
-flush 0
-";
-
-const FORGOTTEN: &str = "start tally 3 1
-deliver 0 2 0
-deliver 2 0 0
-flush 0
-forget 0
-crash 0
-restart 0
-forget 0
-deliver 0 2 0
-";
-
-const TWO_CRASHES: &str = "start ring 3 2 2
-deliver 1 0 0
-deliver 2 1 0
-deliver 0 2 0
-crash 0
-crash 1
-restart 0
-restart 1
-deliver 1 0 0
-deliver 0 2 0
-";
-
-const ECHO: &str = "start echo 2 1 1
-deliver 1 0 0
-deliver 0 1 1
-";
-
 pub(super) const ACCEPTED: [Accepted; 6] = [
     Accepted {
-        script: REPLAY,
+        script: script_texts::REPLAY,
         f: 1,
         line: "accept f=1 entries=10 deliveries=4\n",
     },
     Accepted {
-        script: TALLY,
+        script: script_texts::TALLY,
         f: 1,
         line: "accept f=1 entries=9 deliveries=3\n",
     },
     Accepted {
-        script: FLUSHED,
+        script: script_texts::FLUSHED,
         f: 1,
         line: "accept f=1 entries=8 deliveries=2\n",
     },
     Accepted {
-        script: FORGOTTEN,
+        script: script_texts::FORGETTING,
         f: 1,
         line: "accept f=1 entries=12 deliveries=3\n",
     },
     Accepted {
-        script: TWO_CRASHES,
+        script: script_texts::TWO_CRASHES,
         f: 2,
         line: "accept f=2 entries=14 deliveries=5\n",
     },
     Accepted {
-        script: ECHO,
+        script: script_texts::ECHO,
         f: 1,
         line: "accept f=1 entries=5 deliveries=2\n",
     },
@@ -117,13 +63,13 @@ pub(super) const PRINTED: [Printed; 22] = [
     },
     Printed {
         name: "a replay in a ring",
-        script: REPLAY,
+        script: script_texts::REPLAY,
         ended: Ended::Ran,
-        output: REPLAYED,
+        output: texts::RING_REPLAYED,
     },
     Printed {
         name: "a replay of a tally",
-        script: TALLY,
+        script: script_texts::TALLY,
         ended: Ended::Ran,
         output: r#"["trace",1,3]
 ["send",1,0,0]
@@ -152,7 +98,7 @@ deliver 0 1 0
     },
     Printed {
         name: "what is stable is not flushed again, but by another process",
-        script: FLUSHED,
+        script: script_texts::FLUSHED,
         ended: Ended::Ran,
         output: r#"["trace",1,3]
 ["send",1,0,0]
@@ -220,27 +166,13 @@ deliver 0 1 0
     },
     Printed {
         name: "a replay after forgetting",
-        script: FORGOTTEN,
+        script: script_texts::FORGETTING,
         ended: Ended::Ran,
-        output: r#"["trace",2,3]
-["send",1,0,0]
-["send",2,0,0]
-["deliver",0,1,0,[[2,0,0,0]]]
-["send",0,2,0]
-["deliver",2,3,0,[[0,0,2,0],[2,0,0,0]]]
-["stable",[2,0,0,0]]
-["forget",0,[[2,0,0,0]]]
-["crash",0]
-["restart",0,[[0,0,2,0],[2,0,0,0]]]
-["forget",0,[[2,0,0,0]]]
-["deliver",0,1,0,[[2,0,0,0]]]
-["send",0,2,0]
-["end",12]
-"#,
+        output: texts::TALLY_FORGETTING,
     },
     Printed {
         name: "two processes down at once",
-        script: TWO_CRASHES,
+        script: script_texts::TWO_CRASHES,
         ended: Ended::Ran,
         output: r#"["trace",1,3]
 ["send",0,1,0]
@@ -262,7 +194,7 @@ deliver 0 1 0
     },
     Printed {
         name: "an echo",
-        script: ECHO,
+        script: script_texts::ECHO,
         ended: Ended::Ran,
         output: r#"["trace",1,2]
 ["send",0,1,0]

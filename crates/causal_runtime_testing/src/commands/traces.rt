@@ -1,4 +1,5 @@
 //! Traces, and what the program answers to each for some f. The answers were worked out by hand from the definitions.
+use causal_samples::texts;
 
 /// A text, how many processes may be down at once, and the line of the verdict.
 pub(super) struct Verdicts {
@@ -14,39 +15,10 @@ pub(super) struct Fault {
     pub line: &'static str,
 }
 
-/// A message that goes once round three processes.
-pub(super) const RING: &str = r#"["trace",1,3]
-["send",0,1,0]
-["deliver",1,0,0,[[0,0,1,0]]]
-["send",1,2,0]
-["deliver",2,2,0,[[0,0,1,0],[1,0,2,0]]]
-["send",2,0,0]
-["deliver",0,4,0,[[1,0,2,0],[2,0,0,0]]]
-["end",6]
-"#;
-
-/// A message goes round a ring of three. Its second receiver then crashes, restarts with what the others know of it, and
-/// delivers and sends again what it had.
-pub(super) const REPLAYED: &str = r#"["trace",1,3]
-["send",0,1,0]
-["deliver",1,0,0,[[0,0,1,0]]]
-["send",1,2,0]
-["deliver",2,2,0,[[0,0,1,0],[1,0,2,0]]]
-["send",2,0,0]
-["deliver",0,4,0,[[1,0,2,0],[2,0,0,0]]]
-["crash",1]
-["restart",1,[[0,0,1,0],[1,0,2,0],[2,0,0,0]]]
-["deliver",1,0,0,[[0,0,1,0]]]
-["send",1,2,0]
-["end",10]
-"#;
-
 pub(super) const JUDGED: [Verdicts; 27] = [
     Verdicts {
         name: "no entries",
-        text: r#"["trace",1,1]
-["end",0]
-"#,
+        text: texts::EMPTY,
         lines: &[(0, "accept f=0 entries=0 deliveries=0\n")],
     },
     Verdicts {
@@ -63,11 +35,7 @@ pub(super) const JUDGED: [Verdicts; 27] = [
     },
     Verdicts {
         name: "one delivery that nobody logged",
-        text: r#"["trace",1,2]
-["send",0,1,0]
-["deliver",1,0,0,[]]
-["end",2]
-"#,
+        text: texts::UNLOGGED,
         lines: &[(0, "orphan f=0 instant=2 delivery=1 crash=- orphan=1\n")],
     },
     Verdicts {
@@ -82,13 +50,7 @@ pub(super) const JUDGED: [Verdicts; 27] = [
     },
     Verdicts {
         name: "a message passed on without its past",
-        text: r#"["trace",1,3]
-["send",0,1,0]
-["deliver",1,0,0,[[0,0,1,0]]]
-["send",1,2,0]
-["deliver",2,2,0,[[1,0,2,0]]]
-["end",4]
-"#,
+        text: texts::PASSED_ON_BARE,
         lines: &[
             (0, "accept f=0 entries=4 deliveries=2\n"),
             (1, "orphan f=1 instant=4 delivery=1 crash=1 orphan=2\n"),
@@ -96,13 +58,7 @@ pub(super) const JUDGED: [Verdicts; 27] = [
     },
     Verdicts {
         name: "a message passed on with its past",
-        text: r#"["trace",1,3]
-["send",0,1,0]
-["deliver",1,0,0,[[0,0,1,0]]]
-["send",1,2,0]
-["deliver",2,2,0,[[0,0,1,0],[1,0,2,0]]]
-["end",4]
-"#,
+        text: texts::PASSED_ON,
         lines: &[
             (1, "accept f=1 entries=4 deliveries=2\n"),
             (2, "accept f=2 entries=4 deliveries=2\n"),
@@ -111,7 +67,7 @@ pub(super) const JUDGED: [Verdicts; 27] = [
     },
     Verdicts {
         name: "a ring",
-        text: RING,
+        text: texts::RING,
         lines: &[
             (0, "accept f=0 entries=6 deliveries=3\n"),
             (1, "accept f=1 entries=6 deliveries=3\n"),
@@ -176,17 +132,7 @@ pub(super) const JUDGED: [Verdicts; 27] = [
     },
     Verdicts {
         name: "a ring with two crashes",
-        text: r#"["trace",1,3]
-["send",0,1,0]
-["deliver",1,0,0,[[0,0,1,0]]]
-["send",1,2,0]
-["deliver",2,2,0,[[0,0,1,0],[1,0,2,0]]]
-["send",2,0,0]
-["deliver",0,4,0,[[1,0,2,0],[2,0,0,0]]]
-["crash",1]
-["crash",2]
-["end",8]
-"#,
+        text: texts::RING_CRASHED,
         lines: &[(1, "exceeded f=1 instant=8 down=1,2\n")],
     },
     Verdicts {
@@ -236,15 +182,7 @@ pub(super) const JUDGED: [Verdicts; 27] = [
     },
     Verdicts {
         name: "an orphan at once among others",
-        text: r#"["trace",1,4]
-["send",0,1,0]
-["deliver",1,0,0,[[0,0,1,0]]]
-["send",1,2,0]
-["send",0,3,1]
-["deliver",3,3,0,[]]
-["deliver",2,2,0,[[1,0,2,0]]]
-["end",6]
-"#,
+        text: texts::ORPHAN_AT_ONCE,
         lines: &[
             (0, "orphan f=0 instant=5 delivery=4 crash=- orphan=3\n"),
             (1, "orphan f=1 instant=5 delivery=4 crash=- orphan=3\n"),
@@ -252,15 +190,7 @@ pub(super) const JUDGED: [Verdicts; 27] = [
     },
     Verdicts {
         name: "two deliveries fail at one instant",
-        text: r#"["trace",1,3]
-["send",0,1,0]
-["send",0,1,1]
-["deliver",1,0,0,[[0,0,1,0]]]
-["deliver",1,1,1,[[0,1,1,1]]]
-["send",1,2,0]
-["deliver",2,4,0,[[1,0,2,0]]]
-["end",6]
-"#,
+        text: texts::TIE,
         lines: &[(1, "orphan f=1 instant=6 delivery=2 crash=1 orphan=2\n")],
     },
     Verdicts {
@@ -294,19 +224,7 @@ pub(super) const JUDGED: [Verdicts; 27] = [
     },
     Verdicts {
         name: "a crash, a restart and a replay",
-        text: r#"["trace",1,3]
-["send",0,1,0]
-["deliver",1,0,0,[[0,0,1,0]]]
-["send",1,2,0]
-["deliver",2,2,0,[[0,0,1,0],[1,0,2,0]]]
-["send",2,0,0]
-["deliver",0,4,0,[[1,0,2,0],[2,0,0,0]]]
-["crash",1]
-["restart",1,[[0,0,1,0],[1,0,2,0],[2,0,0,0]]]
-["deliver",1,0,0,[[0,0,1,0]]]
-["send",1,2,0]
-["end",10]
-"#,
+        text: texts::RING_REPLAYED,
         lines: &[(1, "accept f=1 entries=10 deliveries=4\n")],
     },
     Verdicts {
@@ -379,16 +297,7 @@ pub(super) const JUDGED: [Verdicts; 27] = [
     },
     Verdicts {
         name: "a ring that forgets",
-        text: r#"["trace",2,3]
-["send",0,1,0]
-["deliver",1,0,0,[[0,0,1,0]]]
-["send",1,2,0]
-["deliver",2,2,0,[[0,0,1,0],[1,0,2,0]]]
-["send",2,0,0]
-["deliver",0,4,0,[[1,0,2,0],[2,0,0,0]]]
-["forget",1,[[0,0,1,0]]]
-["end",7]
-"#,
+        text: texts::RING_FORGETTING,
         lines: &[
             (0, "accept f=0 entries=7 deliveries=3\n"),
             (1, "orphan f=1 instant=7 delivery=1 crash=2 orphan=0\n"),
@@ -430,10 +339,7 @@ pub(super) const FAULTY: [Fault; 7] = [
     },
     Fault {
         name: "no end line",
-        text: r#"["trace",1,2]
-["send",0,1,0]
-["deliver",1,0,0,[[0,0,1,0]]]
-"#,
+        text: texts::DELIVERED,
         line: "fault line=4 Cut\n",
     },
     Fault {
@@ -464,12 +370,7 @@ pub(super) const FAULTY: [Fault; 7] = [
     },
     Fault {
         name: "a message delivered twice",
-        text: r#"["trace",1,2]
-["send",0,1,0]
-["deliver",1,0,0,[[0,0,1,0]]]
-["deliver",1,0,1,[[0,0,1,1]]]
-["end",3]
-"#,
+        text: texts::DOUBLED,
         line: "fault line=4 Doubled\n",
     },
     Fault {

@@ -1,12 +1,22 @@
-//! A trace that runs full.
+//! Traces that run full: of entries, and of restarts.
 use super::doubles::Flood;
 use super::*;
 use causal_log::MemStable;
 use std::test::Fail;
 
-/// Delivers to process 0 its own messages in turn, up to the first that is refused: how many came before it, and its fault.
-fn deliver_all(core: &mut Core<MemStable>, limit: u32) -> Option<(u32, CoreFault)> {
-    for ssn in 0..limit {
+/// A process that answers each of its messages by eight, and so many beside it that send nothing.
+fn flooded(alloc: Global, quiet: u8) -> Result<Vec<Boxed>, NoMemory> {
+    let mut boxes: Vec<Boxed> = Vec::new(alloc);
+    boxes.push(Box::new(alloc, Flood { me: Pid(0) })?)?;
+    for me in 1..=quiet {
+        boxes.push(process(alloc, Kind::Ring(0), u16::from(me), me)?)?;
+    }
+    Ok(boxes)
+}
+
+/// Delivers to process 0 its own messages in turn, from one up to before another: the first that is refused, and its fault.
+fn deliver_all(core: &mut Core<MemStable>, from: u32, to: u32) -> Option<(u32, CoreFault)> {
+    for ssn in from..to {
         if let Err(fault) = core.deliver(Pid(0), Pid(0), ssn) {
             return Some((ssn, fault));
         }
@@ -17,11 +27,91 @@ fn deliver_all(core: &mut Core<MemStable>, limit: u32) -> Option<(u32, CoreFault
 // The beginning records eight entries and each step nine, so that after 7,280 deliveries eight are left.
 #[test]
 fn a_trace_runs_full(rt: HostRuntime) -> Result<(), Fail> {
-    let mut boxes: Vec<Boxed> = Vec::new(rt.alloc());
-    boxes.push(Box::new(rt.alloc(), Flood { me: Pid(0) })?)?;
+    let boxes = flooded(rt.alloc(), 0)?;
     let mut core = started(rt.alloc(), 0, boxes, MemStable::new(rt.alloc()))?;
-    let refused = deliver_all(&mut core, 10_000);
+    let refused = deliver_all(&mut core, 0, 10_000);
     assert_eq!(rt; refused, Some((7_280, CoreFault::Full)));
     assert_eq!(rt; recorded(&core), 65_528);
+    Ok(())
+}
+
+/// Delivers so many messages from one on, and tells whether a flush then writes a determinant for each.
+fn deliver_and_flush(core: &mut Core<MemStable>, from: u32, count: u32) -> bool {
+    deliver_all(core, from, from.saturating_add(count)).is_none() && core.flush(Pid(0)) == Ok(count)
+}
+
+/// How many deliveries come before each flush but the last.
+const BATCH: u32 = 64;
+
+/// Delivers 102 batches and one of four, flushes each, and delivers 23 messages more, which are 6,555 in all.
+fn fills(core: &mut Core<MemStable>) -> bool {
+    let mut first = 0_u32;
+    for _ in 0..102 {
+        if !deliver_and_flush(core, first, BATCH) {
+            return false;
+        }
+        first = first.saturating_add(BATCH);
+    }
+    deliver_and_flush(core, first, 4) && deliver_all(core, 6_532, 6_555).is_none()
+}
+
+/// What is answered where no entry is left, while process 1 is down and one more may be.
+const FULL: [(Call, Reply); 5] = [
+    (Call::Deliver(0, 0, 6_555), Reply::Refused(CoreFault::Full)),
+    (Call::Crash(0), Reply::Refused(CoreFault::Full)),
+    (Call::Restart(1), Reply::Refused(CoreFault::Full)),
+    (
+        Call::Flush(0),
+        Reply::FlushRefused(FlushFault {
+            fault: CoreFault::Full,
+            done: 0,
+        }),
+    ),
+    (Call::Forget(0), Reply::Refused(CoreFault::Full)),
+];
+
+// The beginning records eight entries, the crash one, 6,555 deliveries nine each, and the flushes of 6,532 of these one each:
+// that is 65,536. What process 0 has not flushed is 23 determinants, and what it could forget is the others.
+#[test]
+fn no_entry_is_left(rt: HostRuntime) -> Result<(), Fail> {
+    let boxes = flooded(rt.alloc(), 1)?;
+    let mut core = started(rt.alloc(), 2, boxes, MemStable::new(rt.alloc()))?;
+    let crashed = (Call::Crash(1), Reply::Crashed { first: 8 });
+    assert!(rt; are_answered(rt.alloc(), &mut core, Kind::Ring(0), &[crashed])?);
+    assert!(rt; fills(&mut core));
+    assert_eq!(rt; recorded(&core), 65_536);
+    assert!(rt; are_answered(rt.alloc(), &mut core, Kind::Ring(0), &FULL)?);
+    assert_eq!(rt; recorded(&core), 65_536);
+    Ok(())
+}
+
+/// Crashes and restarts process 0 in turn, up to the first call that is refused: how many restarts came before it, and its
+/// fault.
+fn restart_all(
+    alloc: Global,
+    core: &mut Core<MemStable>,
+    limit: u32,
+) -> Result<Option<(u32, CoreFault)>, NoMemory> {
+    for made in 0..limit {
+        let refused = run(
+            alloc,
+            core,
+            Kind::Tally,
+            &[Call::Crash(0), Call::Restart(0)],
+        )?;
+        if let Some((_call, fault)) = refused {
+            return Ok(Some((made, fault)));
+        }
+    }
+    Ok(None)
+}
+
+// Process 0 of a tally sends nothing when it begins, so that 192 crashes and restarts and one more crash are all the entries.
+#[test]
+fn restarts_run_out(rt: HostRuntime) -> Result<(), Fail> {
+    let mut core = begun(rt.alloc(), Kind::Tally, 1, 1, MemStable::new(rt.alloc()))?;
+    let refused = restart_all(rt.alloc(), &mut core, 1_000)?;
+    assert_eq!(rt; refused, Some((192, CoreFault::Full)));
+    assert_eq!(rt; recorded(&core), 385);
     Ok(())
 }

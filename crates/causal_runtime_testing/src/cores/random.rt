@@ -58,11 +58,36 @@ fn some_call(walk: &mut Numbers, core: &Core<MemStable>, n: u8) -> Call {
     }
 }
 
-/// How many calls were refused, and how many deliveries a replay made.
+/// How many calls were refused, how many deliveries and restarts were made, and how many deliveries a replay made.
 #[derive(Clone, Copy)]
 struct Counts {
     refused: u32,
+    delivered: u32,
+    restarted: u32,
     replayed: u32,
+}
+
+impl Counts {
+    fn none() -> Counts {
+        Counts {
+            refused: 0,
+            delivered: 0,
+            restarted: 0,
+            replayed: 0,
+        }
+    }
+
+    /// Counts an answer.
+    fn count(&mut self, reply: Reply) {
+        match reply {
+            Reply::Refused(_) | Reply::FlushRefused(_) => {
+                self.refused = self.refused.saturating_add(1);
+            }
+            Reply::Delivered(_) => self.delivered = self.delivered.saturating_add(1),
+            Reply::Restarted(_) => self.restarted = self.restarted.saturating_add(1),
+            _ => {}
+        }
+    }
 }
 
 /// Now and then a replay: how many deliveries it makes.
@@ -83,14 +108,10 @@ fn walked(
     calls: u32,
 ) -> Result<Counts, NoMemory> {
     let mut walk = Numbers { state: 2_026 };
-    let mut counts = Counts {
-        refused: 0,
-        replayed: 0,
-    };
+    let mut counts = Counts::none();
     for _ in 0..calls {
         let call = some_call(&mut walk, core, n);
-        let fault = fault_of(asked(alloc, core, kind, call)?);
-        counts.refused = counts.refused.saturating_add(u32::from(fault.is_some()));
+        counts.count(asked(alloc, core, kind, call)?);
         let made = some_replay(&mut walk, core, n);
         counts.replayed = counts.replayed.saturating_add(made);
     }
@@ -138,24 +159,30 @@ fn random_calls(alloc: Global, kind: Kind, n: u8, f: u16) -> Result<(Counts, boo
     }
 }
 
-/// Whether about half of the calls were refused, and some deliveries replayed, unless no failure is allowed.
-fn is_mixed(counts: Counts, f: u16) -> bool {
-    counts.refused > 200 && (f == 0 || counts.refused < 700 && counts.replayed > 0)
-}
-
-const KINDS: [(Kind, u8); 4] = [
-    (Kind::Ring(255), 3),
-    (Kind::Ring(200), 1),
-    (Kind::Echo(255), 4),
-    (Kind::Tally, 5),
+/// A kind of process, how many there are, and how many deliveries are made at least: where none may fail, and where some may.
+///
+/// Where none may fail, about 400 of the 800 calls deliver what there is. That is a message for each count of a ring down to 0,
+/// and in a tally four numbers and four totals; two pairs that echo two counts each have more than so many calls deliver.
+const KINDS: [(Kind, u8, u32, u32); 4] = [
+    (Kind::Ring(255), 3, 256, 50),
+    (Kind::Ring(200), 1, 201, 150),
+    (Kind::Echo(255), 4, 300, 100),
+    (Kind::Tally, 5, 8, 40),
 ];
+
+/// Whether some hundred calls were refused, and where some may fail, others restarted a process and replayed its deliveries.
+fn is_mixed(counts: Counts, f: u16) -> bool {
+    let recovers = counts.refused < 700 && counts.restarted >= 12 && counts.replayed > 0;
+    counts.refused > 200 && (f == 0 || recovers)
+}
 
 #[test]
 fn what_random_calls_record_is_accepted(rt: HostRuntime) -> Result<(), Fail> {
-    for (k, (kind, n)) in KINDS.iter().enumerate() {
-        for f in [1, 3, 0] {
+    for (k, (kind, n, calm, stormy)) in KINDS.iter().enumerate() {
+        for (f, least) in [(1, *stormy), (3, *stormy), (0, *calm)] {
             let (counts, sound) = random_calls(rt.alloc(), *kind, *n, f)?;
             assert!(rt; sound && is_mixed(counts, f), "kind {k} for {f}");
+            assert!(rt; counts.delivered >= least, "kind {k} for {f}");
         }
     }
     Ok(())

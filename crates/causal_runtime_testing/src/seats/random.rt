@@ -2,6 +2,8 @@
 use super::*;
 use crate::verdicts::is_accepted;
 use causal_samples::Numbers;
+use causal_trace::entry::Entry;
+use causal_trace::trace::Trace;
 use std::test::Fail;
 use std::thread;
 use std::thread::Threads;
@@ -14,6 +16,9 @@ const CALLS: u32 = 300;
 
 /// How often each seat looks for a call that makes an item.
 const TURNS: u32 = 10_000;
+
+/// How many deliveries the trace has at least: fewer than end the count of any process.
+const ENOUGH: u32 = 100;
 
 /// Whether the call was recorded: it was answered, or the core refused it.
 fn is_recorded<A: Drop>(answer: Result<A, SharedFault>) -> bool {
@@ -105,14 +110,79 @@ fn seats_of(alloc: Global, all: Vec<Done>) -> Option<Vec<Seat>> {
     Some(seats)
 }
 
+/// Brings up whatever is down.
+fn restart_all<R: Wait>(rt: &R, alloc: Global, shared: &Shared<MemStable>, seat: &mut Seat) {
+    for p in 0..SEATS {
+        restart(rt, alloc, shared, seat, Pid(p));
+    }
+}
+
+/// How many deliveries there have been.
+fn deliveries<R: Wait>(rt: &R, shared: &Shared<MemStable>, seat: &mut Seat) -> Option<u32> {
+    let shown = shared.snapshot(rt, seat).ok()?;
+    Some(shown.trace.deliveries())
+}
+
+/// Delivers until there have been enough deliveries; tells whether there were.
+fn deliver_enough<R: Wait>(rt: &R, shared: &Shared<MemStable>, seat: &mut Seat) -> bool {
+    let Some(mut made) = deliveries(rt, shared, seat) else {
+        return false;
+    };
+    let mut numbers = Numbers {
+        state: u64::from(SEATS),
+    };
+    for _ in 0..TURNS {
+        if made >= ENOUGH {
+            return true;
+        }
+        let q = Pid((numbers.below(256) as u8) % SEATS);
+        made = made.saturating_add(u32::from(deliver_first(rt, shared, seat, q)));
+    }
+    false
+}
+
+/// Brings up what the threads have left down, and delivers where they have not delivered enough.
+fn close<R: Wait>(
+    rt: &R,
+    alloc: Global,
+    shared: &Shared<MemStable>,
+    mut seats: Vec<Seat>,
+) -> Option<Vec<Seat>> {
+    let mut seat = seats.pop()?;
+    restart_all(rt, alloc, shared, &mut seat);
+    if !deliver_enough(rt, shared, &mut seat) {
+        return None;
+    }
+    seats.push(seat).ok()?;
+    Some(seats)
+}
+
+fn crashes(trace: &Trace) -> u32 {
+    let mut crashes = 0_u32;
+    for entry in trace.entries() {
+        crashes = crashes.saturating_add(u32::from(matches!(entry, Entry::Crash { .. })));
+    }
+    crashes
+}
+
+/// Whether a trace shows enough deliveries, a crash and a restart.
+fn is_eventful(trace: &Trace) -> bool {
+    trace.deliveries() >= ENOUGH && crashes(trace) > 0 && trace.restarts() > 0
+}
+
+// The first call of all that asks for a crash is never refused, and each seat asks for one in the first hundred of its turns,
+// which are 300 at least. So in whatever order the threads call, a process crashes, and it comes up again at the latest once
+// they are done.
 #[test]
 fn seats_call_at_random(rt: HostRuntime) -> Result<(), Fail> {
     let core = begun(rt.alloc(), Kind::Echo(200), SEATS, 2).ok_or("not begun")?;
     let (shared, seats) = opened(rt.alloc(), core, u32::from(SEATS), 7).ok_or("not opened")?;
     let done = called(&rt, rt.alloc(), &shared, seats).ok_or("no memory")?;
     let seats = seats_of(rt.alloc(), done).ok_or("too few calls")?;
+    let seats = close(&rt, rt.alloc(), &shared, seats).ok_or("too few deliveries")?;
     let end = finish(shared, seats).ok().ok_or("not finished")?;
-    assert!(rt; end.history.as_slice().len() >= 2_400);
+    assert!(rt; end.history.as_slice().len() >= 2_408);
+    assert!(rt; is_eventful(end.core.trace()));
     assert!(rt; is_accepted(rt.alloc(), &end.core)?);
     Ok(())
 }
