@@ -1,14 +1,18 @@
 #!/usr/bin/env python3
-"""Checks that the answers in examples/README.md and docs/FORMAT.md are those of the traces and scripts that stand here: by the plain
-models of the auditor and of the runtime (trials/traces.py, trials/scripts.py), and with --program also by the program.
+"""Checks that the answers in examples/README.md and docs/FORMAT.md are those of the traces and scripts that stand here, by the plain
+models of the auditor and of the runtime (trials/traces.py, trials/scripts.py): each row of the table, and both answers to the worked
+recording, of which the second is to one list that is forged. With --program the program has to give those of the table too. Of the
+picture that stands here it checks what follows from the layout of pictures.
 
     examples/check.py [--program crates/causal_tool/out/causal_tool]
 """
 import argparse
+import json
 import os
 import re
 import subprocess
 import sys
+import xml.etree.ElementTree
 
 HERE = os.path.dirname(os.path.abspath(__file__))
 TOP = os.path.dirname(HERE)
@@ -44,22 +48,81 @@ def text_of(trace):
     return subprocess.run([sys.executable, os.path.join(HERE, script), *words], capture_output=True, check=True).stdout
 
 
+def worked_recording():
+    """What docs/FORMAT.md says of its worked recording."""
+    with open(os.path.join(TOP, "docs", "FORMAT.md")) as page:
+        return page.read().split("### A worked recording")[1].split("\n## ")[0]
+
+
 def recorded_in_the_format():
     """The worked recording of docs/FORMAT.md, as a text."""
-    with open(os.path.join(TOP, "docs", "FORMAT.md")) as page:
-        part = page.read().split("### A worked recording")[1].split("\n## ")[0]
+    part = worked_recording()
     lines = re.findall(r"\| `(\[.*\])` \|$", part, re.M)
     header, end = re.search(r'With `(\["trace".*?\])`', part)[1], re.search(r'`(\["end".*?\])`', part)[1]
     return "".join(line + "\n" for line in [header, *lines, end]).encode()
 
 
-# what running a script prints, and its status; a trace stands in a file
+def without(text, process, det):
+    """The text with a determinant taken out of what the process lists at its only delivery."""
+    lines = [json.loads(line) for line in text.decode().splitlines()]
+    (delivery,) = [line for line in lines if line[:2] == ["deliver", process]]
+    delivery[4].remove(det)
+    return "".join(json.dumps(line, separators=(",", ":")) + "\n" for line in lines).encode()
+
+
+def wrong_in_the_format():
+    """Tells what docs/FORMAT.md says of its worked recording, and of the one that it forges, and the model does not; and gives how many
+    answers there are and how many are wrong."""
+    part, text = " ".join(worked_recording().split()), recorded_in_the_format()
+    wrong = int(text != text_of("recorded.jsonl"))
+    if wrong:
+        print("recorded.jsonl is not the worked recording of docs/FORMAT.md")
+    answer = re.search(r"the audit answers `(accept .*?)`", part)[1]
+    process, det, forged = re.search(r"Had (\d+) left `(\[.*?\])` [^`]*`((?:accept|exceeded|orphan) .*?)`", part).groups()
+    answers = {answer: text, forged: without(text, int(process), json.loads(det))}
+    for said, judged in answers.items():
+        told = traces.audited(judged, int(re.search(r" f=(\d+) ", said)[1]))[0]
+        if told != said:
+            wrong += 1
+            print(f"docs/FORMAT.md: the page has {said!r}, the model says {told!r}")
+    return len(answers), wrong
+
+
 # What the program shows of a trace, which stands beside it: by which command, of which trace and for which f.
 SHOWN = {
     "orphan.svg": ("draw", "orphan.jsonl", 1),
     "orphan.txt": ("explain", "orphan.jsonl", 1),
 }
 
+# Where things stand in the picture, by the layout (crates/causal_picture/specs/Layout.antt): the first process at 64 and each 40 below
+# the one before it, from 80 to 230, and its shade from edge to edge; the first entry at 110 and each 30 to the right of the one before
+# it; the instant in the middle after the fourth, down to 50 + 3 * 40.
+ROWS = ["80 64H230", "80 104H230", "80 144H230"]
+SHADED = ["0 104H520"]
+INSTANT = ["215 42V170"]
+CHAIN = ["140,104 170,104 200,144"]
+
+
+def wrong_in_the_picture():
+    """Tells where orphan.svg, which has to be XML, is not as the layout has it, and gives how often: three processes with a line each,
+    of which the crash set of the answer is shaded, one dashed line at the instant 4, and the chain from line 3 by line 4 to line 5."""
+    root = xml.etree.ElementTree.fromstring(bytes_of("orphan.svg"))
+    name = "{http://www.w3.org/2000/svg}"
+    paths = [path.attrib for path in root.iter(name + "path") if "transform" not in path.attrib]
+    solid = [path["d"][1:] for path in paths if path.get("stroke-width") == "1.5" and "stroke-dasharray" not in path]
+    shaded = [path["d"][1:] for path in paths if path.get("stroke-width") == "34"]
+    dashed = [path["d"][1:] for path in paths if path.get("stroke-dasharray") == "7 4"]
+    chain = [line.attrib["points"].strip() for line in root.iter(name + "polyline")]
+    facts = {"lines": (solid, ROWS), "shade": (shaded, SHADED), "instant": (dashed, INSTANT), "chain": (chain, CHAIN)}
+    wrong = 0
+    for fact, (shown, wanted) in facts.items():
+        if shown != wanted:
+            wrong += 1
+            print(f"orphan.svg: the {fact} at {shown}, by the layout {wanted}")
+    return wrong
+
+
+# What running a script prints, and its status; a trace stands in a file.
 RUNS = {
     "replay.script": (bytes_of("replay.jsonl").decode(), 0),
     "stopped.script": ("refused line=6 MustReplay 2 0\n", 2),
@@ -125,9 +188,8 @@ def main():
     if unmet:
         wrong += len(unmet)
         print(f"no row for {', '.join(sorted(unmet))}")
-    if recorded_in_the_format() != text_of("recorded.jsonl"):
-        wrong += 1
-        print("recorded.jsonl is not the worked recording of docs/FORMAT.md")
+    answers, mistaken = wrong_in_the_format()
+    count, wrong = count + answers, wrong + mistaken + wrong_in_the_picture()
     for shown, (word, trace, f) in SHOWN.items() if program else ():
         count += 1
         if shown_by(program, word, trace, f) != bytes_of(shown):
