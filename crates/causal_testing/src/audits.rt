@@ -1,10 +1,10 @@
 //! The steps of a judgement, on traces that were judged by hand. The verdicts on many more stand with the program's tests.
-use crate::text::RING;
 use causal_audit::{
     Breach, Excess, Surveyed, Tables, Verdict, decided, earlier, first_breach, first_excess, judge,
     least_between, least_surveyed,
 };
 use causal_holders::Holders;
+use causal_samples::texts::{ORPHAN_AT_ONCE, RING, RING_CRASHED};
 use causal_text::read_trace;
 use std::alloc::Global;
 use std::test::Fail;
@@ -61,17 +61,6 @@ fn excess(instant: u32, down: &[u8]) -> Excess {
     }
 }
 
-/// The second of three deliveries is in no log.
-const UNLOGGED: &str = r#"["trace",1,4]
-["send",0,1,0]
-["deliver",1,0,0,[[0,0,1,0]]]
-["send",1,2,0]
-["send",0,3,1]
-["deliver",3,3,0,[]]
-["deliver",2,2,0,[[1,0,2,0]]]
-["end",6]
-"#;
-
 fn has_the_deliveries(tables: &Tables) -> bool {
     tables.entries() == 6
         && tables.deliveries() == 3
@@ -94,7 +83,7 @@ fn has_the_unlogged(tables: &Tables) -> bool {
 
 #[test]
 fn each_delivery_is_judged_by_itself(rt: HostRuntime) -> Result<(), Fail> {
-    let tables = tables_of(rt.alloc(), UNLOGGED)?;
+    let tables = tables_of(rt.alloc(), ORPHAN_AT_ONCE)?;
     assert!(rt; has_the_deliveries(&tables) && has_the_unlogged(&tables));
     Ok(())
 }
@@ -118,19 +107,6 @@ fn a_chain_of_messages_orphans(rt: HostRuntime) -> Result<(), Fail> {
     Ok(())
 }
 
-/// After the message has gone round, two processes crash.
-const CRASHED: &str = r#"["trace",1,3]
-["send",0,1,0]
-["deliver",1,0,0,[[0,0,1,0]]]
-["send",1,2,0]
-["deliver",2,2,0,[[0,0,1,0],[1,0,2,0]]]
-["send",2,0,0]
-["deliver",0,4,0,[[1,0,2,0],[2,0,0,0]]]
-["crash",1]
-["crash",2]
-["end",8]
-"#;
-
 fn has_the_excess(tables: &Tables) -> bool {
     first_excess(tables, 1) == Some(excess(8, &[1, 2]))
         && first_excess(tables, 2).is_none()
@@ -139,7 +115,7 @@ fn has_the_excess(tables: &Tables) -> bool {
 
 #[test]
 fn too_many_are_down(rt: HostRuntime) -> Result<(), Fail> {
-    let tables = tables_of(rt.alloc(), CRASHED)?;
+    let tables = tables_of(rt.alloc(), RING_CRASHED)?;
     assert!(rt; has_the_excess(&tables));
     Ok(())
 }

@@ -1,13 +1,14 @@
-//! Which delivery of a random run comes closest to failing, beside plain audits for one number of faults after the other.
+//! Which delivery of a random run comes closest to failing, beside plain audits for one number of faults after the other; and a run
+//! of which it is not told.
 ghost use Rattle.causal_audit.specs.Verdicts.{IsVerdict};
 
-use crate::random_audits::{Walk, push, sending, sent_at, trace_of};
-use causal_audit::Verdict;
+use crate::random_walks::{Walk, push, sending, sent_at};
+use causal_audit::{Tables, Verdict};
 use causal_explain::{Closest, closest_failure};
 use causal_holders::Holders;
-use causal_name::{Det, NoMemory};
+use causal_name::{Det, NoMemory, Pid};
 use causal_plain::judge;
-use causal_samples::{ascending, of_own};
+use causal_samples::{Line, ascending, of_own, push_all, traced};
 use causal_trace::entry::{Dets, Entry};
 use causal_trace::fault::TraceFault;
 use causal_trace::trace::Trace;
@@ -37,9 +38,9 @@ fn failing(verdict: Verdict, faults: u16) -> Option<Closest> {
 }
 
 /// What has to be told of a trace that is accepted for f: how its verdict fails for the least number of faults for which it does,
-/// by an audit for each number up to that of the processes.
+/// by an audit for each number from f + 1 to that of the processes.
 fn foretold(alloc: Global, trace: &Trace, f: u16) -> Result<Closest, NoMemory> {
-    for faults in f..=trace.processes() {
+    for faults in f.saturating_add(1)..=trace.processes() {
         let verdict = judge(alloc, trace, faults)?;
         if let Some(closest) = failing(verdict, faults) {
             return Ok(closest);
@@ -59,28 +60,27 @@ fn count(counts: &mut Counts, f: u16, told: Closest, foretold: Closest) {
     counts.wrong = counts.wrong.saturating_add(u32::from(told != foretold));
 }
 
-/// Compares what is told of a trace with this verdict for f, if it is accepted.
-fn compare(
-    alloc: Global,
-    trace: &Trace,
-    f: u16,
-    verdict: Verdict,
-    counts: &mut Counts,
-) -> Result<(), NoMemory>
+/// What is told of a trace with this verdict for f, if it is accepted.
+fn told(alloc: Global, trace: &Trace, f: u16, verdict: Verdict) -> Result<Option<Closest>, NoMemory>
     requires { IsVerdict trace.now.recording f verdict }
 {
     match verdict {
-        Verdict::Accept => {
-            let told = closest_failure(alloc, trace, f)?;
-            let foretold = foretold(alloc, trace, f)?;
-            count(counts, f, told, foretold);
-            Ok(())
-        }
-        _ => Ok(()),
+        Verdict::Accept => Ok(Some(closest_failure(alloc, trace, f)?)),
+        _ => Ok(None),
     }
 }
 
-/// The same for each f up to the greatest that is given.
+/// Compares what is told of a trace for f with what has to be told, if it is accepted.
+fn compare(alloc: Global, trace: &Trace, f: u16, counts: &mut Counts) -> Result<(), NoMemory> {
+    let verdict = judge(alloc, trace, f)?;
+    if let Some(told) = told(alloc, trace, f, verdict)? {
+        let foretold = foretold(alloc, trace, f)?;
+        count(counts, f, told, foretold);
+    }
+    Ok(())
+}
+
+/// The same for each f up to the greatest that is given. For as many as there are processes no crash set would be left to add.
 fn compare_each(
     alloc: Global,
     trace: &Trace,
@@ -88,25 +88,7 @@ fn compare_each(
     counts: &mut Counts,
 ) -> Result<(), NoMemory> {
     for f in 0..=most {
-        let verdict = judge(alloc, trace, f)?;
-        compare(alloc, trace, f, verdict, counts)?;
-    }
-    Ok(())
-}
-
-/// The same of random traces of n processes, after so many tries each.
-fn compare_random(
-    alloc: Global,
-    walk: &mut Walk,
-    n: u16,
-    tries: u32,
-    counts: &mut Counts,
-) -> Result<(), TraceFault> {
-    for _ in 0..100 {
-        let trace = trace_of(alloc, walk, n, tries)?;
-        if compare_each(alloc, &trace, n.saturating_add(1), counts).is_err() {
-            return Err(TraceFault::NoMemory);
-        }
+        compare(alloc, trace, f, counts)?;
     }
     Ok(())
 }
@@ -186,54 +168,183 @@ fn exchange(
     }
 }
 
-/// A trace of four processes in which none crashes, and each delivery comes right after its send. It lists all determinants but
-/// some of those that more than `faults` processes hold: so no crash of so many makes an orphan, and one of more may.
-fn made_for(alloc: Global, walk: &mut Walk, faults: u32) -> Result<Trace, TraceFault> {
+/// The receiver of the last entry, if that is a delivery.
+fn last_receiver(trace: &Trace) -> Option<Pid> {
+    match trace.entries().last() {
+        Some(Entry::Deliver { to, .. }) => Some(*to),
+        _ => None,
+    }
+}
+
+/// All determinants so far.
+fn gathered(alloc: Global, trace: &Trace) -> Result<Dets, NoMemory> {
+    let mut dets = Vec::new(alloc);
+    for k in 0..trace.len() {
+        if let Some(det) = trace.det_at(k) {
+            dets.push(det)?;
+        }
+    }
+    ascending(dets)
+}
+
+/// The last receiver crashes, and comes back with all determinants so far.
+fn come_back(alloc: Global, walk: &mut Walk, trace: &mut Trace) -> Result<(), TraceFault> {
+    let Some(who) = last_receiver(trace) else {
+        return Ok(());
+    };
+    push(walk, trace, Entry::Crash { who })?;
+    match gathered(alloc, trace) {
+        Ok(listed) => push(walk, trace, Entry::Restart { who, listed }),
+        Err(_) => Err(TraceFault::NoMemory),
+    }
+}
+
+/// The last delivery becomes stable.
+fn settle(walk: &mut Walk, trace: &mut Trace) -> Result<(), TraceFault> {
+    match trace.det_at(trace.len().saturating_sub(1)) {
+        Some(det) => push(walk, trace, Entry::Stable { det }),
+        None => Ok(()),
+    }
+}
+
+/// After the second exchange its delivery becomes stable, and after the fourth the receiver crashes and comes back.
+fn happen(
+    alloc: Global,
+    walk: &mut Walk,
+    trace: &mut Trace,
+    number: u32,
+) -> Result<(), TraceFault> {
+    match number {
+        2 => settle(walk, trace),
+        4 => come_back(alloc, walk, trace),
+        _ => Ok(()),
+    }
+}
+
+/// A trace of four processes, in which each delivery comes right after its send. It lists all determinants but some of those that
+/// more than `faults` processes hold: so no crash of so many makes an orphan, and one of more may. If it is eventful, one process
+/// crashes and comes back.
+fn made_for(
+    alloc: Global,
+    walk: &mut Walk,
+    faults: u32,
+    eventful: bool,
+) -> Result<Trace, TraceFault> {
     walk.begin();
     let mut trace = Trace::new(alloc, 4)?;
-    for _ in 0..10 {
+    for number in 1..=10 {
         exchange(alloc, walk, &mut trace, faults)?;
+        if eventful {
+            happen(alloc, walk, &mut trace, number)?;
+        }
     }
     Ok(trace)
 }
 
-/// The same of traces that are made for each number of faults up to three.
-fn compare_made(alloc: Global, walk: &mut Walk, counts: &mut Counts) -> Result<(), TraceFault> {
+/// The same of traces that are made for each number of faults up to three, for each f below the number of processes.
+fn compare_made(
+    alloc: Global,
+    walk: &mut Walk,
+    eventful: bool,
+    counts: &mut Counts,
+) -> Result<(), TraceFault> {
     for faults in 0..=3 {
-        let trace = made_for(alloc, walk, faults)?;
-        if compare_each(alloc, &trace, faults as u16, counts).is_err() {
+        let trace = made_for(alloc, walk, faults, eventful)?;
+        if compare_each(alloc, &trace, 3, counts).is_err() {
             return Err(TraceFault::NoMemory);
         }
     }
     Ok(())
 }
 
-#[test]
-fn closest_failures_of_random_runs(rt: HostRuntime) -> Result<(), Fail> {
-    let mut counts = NONE;
-    for (n, seed, tries) in [(3, 29, 12), (3, 5_150, 20), (4, 777, 16)] {
-        let mut walk = Walk::new(seed, 0);
-        compare_random(rt.alloc(), &mut walk, n, tries, &mut counts)?;
-        assert_eq!(rt; counts.wrong, 0, "with {n} processes and {tries} tries");
-    }
-    assert!(rt; counts.next > 0 && counts.never > 0);
-    Ok(())
+/// How many answers there were.
+fn answers(counts: Counts) -> u32 {
+    counts
+        .next
+        .saturating_add(counts.later)
+        .saturating_add(counts.never)
 }
 
-// A run that is made for F faults is accepted for 0 to F, and so calls for F + 1 answers: 25 runs for each F from 0 to 3 call
-// for 250.
+/// Whether enough of the answers are of each kind.
+fn are_varied(counts: Counts) -> bool {
+    counts.next > 9 && counts.later > 5 && counts.never > 40
+}
+
+// A run that is made for F faults is accepted for 0 to F, and so calls for F + 1 answers: 12 runs for each F from 0 to 3 call
+// for 120 at least.
 #[test]
 fn closest_failures_of_runs_made_for_some_faults(rt: HostRuntime) -> Result<(), Fail> {
     let mut counts = NONE;
     let mut walk = Walk::new(1_978, 0);
-    for _ in 0..25 {
-        compare_made(rt.alloc(), &mut walk, &mut counts)?;
+    for _ in 0..12 {
+        compare_made(rt.alloc(), &mut walk, false, &mut counts)?;
     }
-    let told = counts
-        .next
-        .saturating_add(counts.later)
-        .saturating_add(counts.never);
-    assert_eq!(rt; (told, counts.wrong), (250, 0));
-    assert!(rt; counts.next > 0 && counts.later > 0 && counts.never > 0);
+    assert_eq!(rt; counts.wrong, 0);
+    assert!(rt; answers(counts) >= 120 && are_varied(counts));
+    Ok(())
+}
+
+// One process of these is down for a while, so a run that is made for F faults is accepted for 1 to F: 12 runs for each F call for
+// 72 answers at least.
+#[test]
+fn closest_failures_of_runs_with_a_crash(rt: HostRuntime) -> Result<(), Fail> {
+    let mut counts = NONE;
+    let mut walk = Walk::new(29, 0);
+    for _ in 0..12 {
+        compare_made(rt.alloc(), &mut walk, true, &mut counts)?;
+    }
+    assert_eq!(rt; counts.wrong, 0);
+    assert!(rt; answers(counts) >= 72 && are_varied(counts));
+    Ok(())
+}
+
+/// Process 1 delivers a message and logs it.
+const DELIVERED: [Line<'static>; 2] = [
+    Line::Send(0, 1, 0),
+    Line::Deliver(1, 0, 0, &[(0, 0, 1, 0)]),
+];
+
+/// It crashes, restarts with that and delivers the message again.
+const AGAIN: [Line<'static>; 3] = [
+    Line::Crash(1),
+    Line::Restart(1, &[(0, 0, 1, 0)]),
+    Line::Deliver(1, 0, 0, &[(0, 0, 1, 0)]),
+];
+
+/// Process 1 delivers one message, and again in so many incarnations; the last sends on to process 2, which lists that delivery
+/// too.
+fn repeated(alloc: Global, count: u32) -> Result<Trace, TraceFault> {
+    let mut trace = traced(alloc, 3, &DELIVERED)?;
+    for _ in 0..count {
+        push_all(alloc, &mut trace, &AGAIN)?;
+    }
+    let send = trace.len();
+    let passed = [
+        Line::Send(1, 2, 0),
+        Line::Deliver(2, send, 0, &[(0, 0, 1, 0), (1, 0, 2, 0)]),
+    ];
+    push_all(alloc, &mut trace, &passed)?;
+    Ok(trace)
+}
+
+/// What is told of that run for f, if it is accepted.
+fn told_of_repeated(alloc: Global, count: u32, f: u16) -> Result<Option<Closest>, Fail> {
+    let trace = repeated(alloc, count)?;
+    let tables = Tables::of(alloc, &trace)?;
+    let verdict = causal_audit::judge(&tables, f);
+    Ok(told(alloc, &trace, f, verdict)?)
+}
+
+// Whoever depends on a delivery of this run lists it, so none ever has an orphan. Each of 191 deliveries with one determinant may
+// have to be followed, since two processes hold it at most, and 382 entries mention it: more steps than the run has.
+#[test]
+fn too_many_deliveries_to_tell(rt: HostRuntime) -> Result<(), Fail> {
+    for f in [1, 2] {
+        assert_eq!(rt; told_of_repeated(rt.alloc(), 10, f)?, Some(Closest::Never));
+        assert_eq!(rt;
+            told_of_repeated(rt.alloc(), 190, f)?,
+            Some(Closest::Untold)
+        );
+    }
     Ok(())
 }

@@ -5,7 +5,7 @@ ghost use Rattle.causal_audit.specs.declared.verdict.Verdict.{Verdict};
 
 mod plain;
 
-use crate::random_audits::{Walk, trace_of};
+use crate::random_walks::{Walk, trace_of};
 use causal_audit::{Breach, Tables, Verdict, judge, least_between};
 use causal_explain::{Down, Explanation, Holding, Loss, down_since, explain, shortest_chain};
 use causal_holders::Holders;
@@ -470,18 +470,4 @@ fn each_chain_is_a_shortest_one(rt: HostRuntime) -> Result<(), Fail> {
     assert_eq!(rt; found.wrong, 0);
     assert!(rt; found.some > 100 && found.none > 500);
     Ok(())
-}
-
-#[test]
-fn down_is_equal(rt: HostRuntime) {
-    let down = Down {
-        process: 1,
-        since: 2,
-    };
-    assert!(rt;
-        down == Down {
-            process: 1,
-            since: 2
-        }
-    );
 }

@@ -19,14 +19,24 @@ mod pictures;
 #[cfg(test)]
 mod plain_audits;
 #[cfg(test)]
+mod raised;
+#[cfg(test)]
 mod random_audits;
+#[cfg(test)]
+mod random_runs;
 #[cfg(test)]
 mod random_traces;
 #[cfg(test)]
+mod random_walks;
+#[cfg(test)]
 mod random_workers;
+#[cfg(test)]
+mod swept_runs;
 #[cfg(test)]
 mod text;
 #[cfg(test)]
 mod traces;
+#[cfg(test)]
+mod variety;
 #[cfg(test)]
 mod workers;

@@ -1,10 +1,10 @@
 //! Pictures, read by a small reader of XML of these tests' own: whether each tag is closed where it has to be, whether each
-//! attribute is quoted, and which entries have a mark.
-use crate::random_audits::{Walk, trace_of};
-use crate::text::RING;
+//! attribute is quoted, and which entries have a mark; and what a focus adds, line by line.
+use crate::random_walks::{Walk, trace_of};
 use causal_holders::Holders;
 use causal_name::{Det, Pid};
 use causal_picture::{Focus, picture_of};
+use causal_samples::texts::RING;
 use causal_text::read_trace;
 use causal_trace::entry::Entry;
 use causal_trace::trace::Trace;
@@ -308,5 +308,52 @@ fn each_entry_shown_of_a_longer_run(rt: HostRuntime) -> Result<(), Fail> {
             "instant {instant}"
         );
     }
+    Ok(())
+}
+
+/// How the lines of a picture end that a focus adds: the shade behind a process, the chain, and the instant.
+const OF_FOCUS: [&str; 3] = [
+    " stroke='#ffe3b3' stroke-width='34'/>",
+    " stroke='#d55e00' stroke-width='4' stroke-opacity='0.75'/>",
+    " stroke='#0072b2' stroke-width='2' stroke-dasharray='7 4'/>",
+];
+
+/// The lines that a focus adds to the picture of a trace.
+fn added(alloc: Global, trace: &Trace, focus: Option<&Focus<'_>>) -> Result<Vec<u8>, Fail> {
+    let text = picture_of(alloc, trace, focus)?;
+    let mut lines = Vec::new(alloc);
+    for line in text.as_slice().split(|byte| *byte == b'\n') {
+        if OF_FOCUS.iter().any(|end| line.ends_with(end.as_bytes())) {
+            lines.extend_from_slice(line)?;
+            lines.push(b'\n')?;
+        }
+    }
+    Ok(lines)
+}
+
+/// By the layout the lines of processes 0 and 2 stand at 64 and 144, those of positions 0 and 3 at 110 and 200, the instant after
+/// the last of six entries at 275, below 3 rows at 170. There is no process 7, no position 77, and no instant 9.
+const ADDED: &str = "\
+    <path d='M0 64H520' fill='none' stroke='#ffe3b3' stroke-width='34'/>\n\
+    <path d='M0 144H520' fill='none' stroke='#ffe3b3' stroke-width='34'/>\n\
+    <polyline points='110,64 200,144 ' fill='none' stroke='#d55e00' stroke-width='4' stroke-opacity='0.75'/>\n\
+    <path d='M275 42V170' fill='none' stroke='#0072b2' stroke-width='2' stroke-dasharray='7 4'/>\n";
+
+#[test]
+fn a_focus_adds_what_it_names(rt: HostRuntime) -> Result<(), Fail> {
+    let ring = read_trace(rt.alloc(), RING.as_bytes())?;
+    let mut crash = Holders::none();
+    for process in [0, 2, 7] {
+        crash.insert(process);
+    }
+    let chain = [0, 3, 77];
+    let focus = Focus {
+        instant: 9,
+        crash,
+        chain: &chain,
+    };
+    let shown = added(rt.alloc(), &ring, Some(&focus))?;
+    assert!(rt; shown.as_slice() == ADDED.as_bytes());
+    assert!(rt; added(rt.alloc(), &ring, None)?.is_empty());
     Ok(())
 }

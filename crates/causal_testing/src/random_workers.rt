@@ -1,5 +1,6 @@
 //! Whatever the number of workers, an audit gives the verdict of `judge`.
-use crate::random_audits::{Walk, trace_of};
+use crate::random_runs::{LIVELY, STEADY, run_of};
+use crate::random_walks::Walk;
 use causal_audit::{Tables, judge};
 use causal_trace::trace::Trace;
 use causal_workers::{AuditFault, OpenGate, audit};
@@ -45,8 +46,22 @@ fn agreeing_for_each<R: Threads + Wait>(
 #[test]
 fn workers_say_what_one_says(rt: HostRuntime) -> Result<(), Fail> {
     let mut walk = Walk::new(404, 0);
-    for k in 0..100 {
-        let trace = trace_of(rt.alloc(), &mut walk, 3, 48)?;
+    for k in 0..60 {
+        let trace = run_of(rt.alloc(), &mut walk, 3, 48, LIVELY)?;
+        assert_eq!(rt;
+            agreeing_for_each(&rt, rt.alloc(), &trace)?,
+            20,
+            "trace {k}"
+        );
+    }
+    Ok(())
+}
+
+#[test]
+fn workers_say_what_one_says_of_longer_runs(rt: HostRuntime) -> Result<(), Fail> {
+    let mut walk = Walk::new(405, 0);
+    for k in 0..40 {
+        let trace = run_of(rt.alloc(), &mut walk, 4, 120, STEADY)?;
         assert_eq!(rt;
             agreeing_for_each(&rt, rt.alloc(), &trace)?,
             20,

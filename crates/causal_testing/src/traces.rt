@@ -1,6 +1,6 @@
 //! Traces pushed by hand.
 use causal_name::{MsgName, Pid};
-use causal_samples::{Line, RING, det, push, push_all, traced};
+use causal_samples::{Fields, Line, RING, det, push, push_all, traced};
 use causal_trace::entry::Entry;
 use causal_trace::fault::TraceFault;
 use causal_trace::trace::Trace;
@@ -116,6 +116,59 @@ fn restarted(alloc: Global) -> Result<bool, TraceFault> {
 #[test]
 fn lanes_run_out(rt: HostRuntime) {
     assert!(rt; restarted(rt.alloc()) == Ok(true));
+}
+
+/// The determinants of the first messages that process 0 sends itself, each delivered once it is sent.
+fn first_dets(alloc: Global, count: u32) -> Result<Vec<Fields>, TraceFault> {
+    let mut dets = Vec::new(alloc);
+    for k in 0..count {
+        dets.push((0, k, 0, k))?;
+    }
+    Ok(dets)
+}
+
+/// Sends these messages and delivers each at once; its delivery lists it.
+fn deliver_each(alloc: Global, trace: &mut Trace, dets: &[Fields]) -> Result<(), TraceFault> {
+    for fields in dets {
+        let send = trace.len();
+        push(alloc, trace, Line::Send(0, 0, fields.1))?;
+        push(alloc, trace, Line::Deliver(0, send, fields.3, &[*fields]))?;
+    }
+    Ok(())
+}
+
+/// Delivers these messages, and then forgets all of them so often.
+fn list_often(
+    alloc: Global,
+    trace: &mut Trace,
+    dets: &[Fields],
+    times: u32,
+) -> Result<(), TraceFault> {
+    deliver_each(alloc, trace, dets)?;
+    for _ in 0..times {
+        push(alloc, trace, Line::Forget(0, dets))?;
+    }
+    Ok(())
+}
+
+/// Whether a trace takes no entry that lists a determinant, and still one that lists none.
+fn lists_no_more(alloc: Global, trace: &mut Trace) -> Result<bool, TraceFault> {
+    let one = push(alloc, trace, Line::Forget(0, &[(0, 0, 0, 0)]));
+    push(alloc, trace, Line::Forget(0, &[]))?;
+    Ok(one == Err(TraceFault::TooLong) && (trace.len(), trace.listed()) == (3_072, 1_048_576))
+}
+
+/// 1,024 deliveries list one determinant each, and 1,023 entries 1,024 each: these are 1,048,576 in all.
+fn listed(alloc: Global) -> Result<bool, TraceFault> {
+    let mut trace = Trace::new(alloc, 1)?;
+    let dets = first_dets(alloc, 1_024)?;
+    list_often(alloc, &mut trace, dets.as_slice(), 1_023)?;
+    lists_no_more(alloc, &mut trace)
+}
+
+#[test]
+fn determinants_run_out(rt: HostRuntime) {
+    assert!(rt; listed(rt.alloc()) == Ok(true));
 }
 
 /// Reserves room for two entries and pushes them.

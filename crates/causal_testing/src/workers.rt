@@ -1,6 +1,8 @@
 //! Verdicts and lines that were worked out by hand, for several numbers of workers, and that two workers run together.
+use crate::swept_runs::{HALF, Loss, losing, lost};
 use causal_audit::Verdict;
 use causal_holders::Holders;
+use causal_samples::texts::{DELIVERED, DOUBLED, EMPTY, ORPHAN_AT_ONCE, RING, RING_CRASHED, TIE};
 use causal_samples::{Line, push};
 use causal_text::{TextFault, TextKind, read_trace};
 use causal_trace::trace::Trace;
@@ -11,54 +13,6 @@ use std::sync::atomic::{AtomicU64, Ordering};
 use std::test::Fail;
 use std::thread;
 use std::thread::Threads;
-
-/// A message goes once round three processes.
-const RING: &str = r#"["trace",1,3]
-["send",0,1,0]
-["deliver",1,0,0,[[0,0,1,0]]]
-["send",1,2,0]
-["deliver",2,2,0,[[0,0,1,0],[1,0,2,0]]]
-["send",2,0,0]
-["deliver",0,4,0,[[1,0,2,0],[2,0,0,0]]]
-["end",6]
-"#;
-
-/// The ring, and then two processes crash.
-const RING_CRASHED: &str = r#"["trace",1,3]
-["send",0,1,0]
-["deliver",1,0,0,[[0,0,1,0]]]
-["send",1,2,0]
-["deliver",2,2,0,[[0,0,1,0],[1,0,2,0]]]
-["send",2,0,0]
-["deliver",0,4,0,[[1,0,2,0],[2,0,0,0]]]
-["crash",1]
-["crash",2]
-["end",8]
-"#;
-
-/// The second delivery has an orphan at once. The first has one later, and only where a process may crash.
-const LATER_FIRST: &str = r#"["trace",1,4]
-["send",0,1,0]
-["deliver",1,0,0,[[0,0,1,0]]]
-["send",1,2,0]
-["send",0,3,1]
-["deliver",3,3,0,[]]
-["deliver",2,2,0,[[1,0,2,0]]]
-["end",6]
-"#;
-
-/// Two deliveries have an orphan first at the same instant.
-const TIE: &str = r#"["trace",1,3]
-["send",0,1,0]
-["send",0,1,1]
-["deliver",1,0,0,[[0,0,1,0]]]
-["deliver",1,1,1,[[0,1,1,1]]]
-["send",1,2,0]
-["deliver",2,4,0,[[1,0,2,0]]]
-["end",6]
-"#;
-
-const EMPTY: &str = "[\"trace\",1,1]\n[\"end\",0]\n";
 
 const JUDGED: [(&str, u16, &[u32], &str); 8] = [
     (EMPTY, 0, &[1, 2, 64], "accept f=0 entries=0 deliveries=0\n"),
@@ -87,13 +41,13 @@ const JUDGED: [(&str, u16, &[u32], &str); 8] = [
         "exceeded f=1 instant=8 down=1,2\n",
     ),
     (
-        LATER_FIRST,
+        ORPHAN_AT_ONCE,
         0,
         &[1, 2, 3],
         "orphan f=0 instant=5 delivery=4 crash=- orphan=3\n",
     ),
     (
-        LATER_FIRST,
+        ORPHAN_AT_ONCE,
         1,
         &[1, 2, 3],
         "orphan f=1 instant=5 delivery=4 crash=- orphan=3\n",
@@ -182,7 +136,7 @@ fn an_orphan_is_told_however_long_the_run_goes_on(rt: HostRuntime) -> Result<(),
     };
     for more in 0..400 {
         assert!(rt;
-            is_told(&rt, rt.alloc(), LATER_FIRST, more, &orphan)?,
+            is_told(&rt, rt.alloc(), ORPHAN_AT_ONCE, more, &orphan)?,
             "{more} more entries"
         );
     }
@@ -206,14 +160,10 @@ fn an_excess_is_told_however_long_the_run_goes_on(rt: HostRuntime) -> Result<(),
 
 #[test]
 fn a_text_with_a_fault_gets_no_verdict(rt: HostRuntime) {
-    let cut = "[\"trace\",1,2]\n[\"send\",0,1,0]\n[\"deliver\",1,0,0,[[0,0,1,0]]]\n";
-    let doubled = r#"["trace",1,2]
-["send",0,1,0]
-["deliver",1,0,0,[[0,0,1,0]]]
-["deliver",1,0,1,[[0,0,1,1]]]
-["end",3]
-"#;
-    for (text, line, kind) in [(cut, 4, TextKind::Cut), (doubled, 4, TextKind::Doubled)] {
+    for (text, line, kind) in [
+        (DELIVERED, 4, TextKind::Cut),
+        (DOUBLED, 4, TextKind::Doubled),
+    ] {
         let found = audit_text(&rt, rt.alloc(), text.as_bytes(), 0, 2, &OpenGate);
         assert_eq!(rt; found, Err(AuditTextFault::Text(TextFault { line, kind })));
     }
@@ -271,20 +221,36 @@ impl Gate for Meeting {
     }
 }
 
+/// Whether two workers meet, each enters once, and their audit gives this verdict.
+fn have_met<R: Threads + Wait>(
+    rt: &R,
+    alloc: Global,
+    trace: &Trace,
+    f: u16,
+    verdict: Verdict,
+) -> Result<bool, Fail> {
+    let gate = Meeting::new();
+    let found = audit(rt, alloc, trace, f, 2, &gate)?;
+    Ok(
+        gate.missed.load(Ordering::SeqCst) == 0
+            && gate.first.load(Ordering::SeqCst) == 1
+            && gate.second.load(Ordering::SeqCst) == 1
+            && gate.strangers.load(Ordering::SeqCst) == 0
+            && found == verdict,
+    )
+}
+
 #[test]
 fn audit_workers_overlap(rt: HostRuntime) -> Result<(), Fail> {
     let trace = read_trace(rt.alloc(), RING.as_bytes()).map_err(|_| "no trace")?;
-    let gate = Meeting::new();
-    let found = audit(&rt, rt.alloc(), &trace, 1, 2, &gate).map_err(|_| "no verdict")?;
-    assert_eq!(rt;
-        gate.missed.load(Ordering::SeqCst),
-        0,
-        "the workers did not meet"
-    );
-    assert_eq!(rt; gate.first.load(Ordering::SeqCst), 1);
-    assert_eq!(rt; gate.second.load(Ordering::SeqCst), 1);
-    assert_eq!(rt; gate.strangers.load(Ordering::SeqCst), 0);
-    assert_eq!(rt; found, Verdict::Accept);
+    assert!(rt; have_met(&rt, rt.alloc(), &trace, 1, Verdict::Accept)?);
+    Ok(())
+}
+
+#[test]
+fn workers_overlap_that_have_deliveries_to_sweep(rt: HostRuntime) -> Result<(), Fail> {
+    let trace = losing(rt.alloc(), HALF, &[Loss::Last, Loss::First])?;
+    assert!(rt; have_met(&rt, rt.alloc(), &trace, 2, lost(HALF, Loss::Last))?);
     Ok(())
 }
 
@@ -309,28 +275,51 @@ impl Gate for Counting {
     }
 }
 
+/// The numbers of workers, and the bits of all of each.
+const ENTERED: [(u32, u64); 3] = [(1, 1), (5, 31), (64, u64::MAX)];
+
+/// Whether each of so many workers enters once, and nobody else, and their audit gives this verdict.
+fn have_entered<R: Threads + Wait>(
+    rt: &R,
+    alloc: Global,
+    trace: &Trace,
+    f: u16,
+    entered: (u32, u64),
+    verdict: Verdict,
+) -> Result<bool, Fail> {
+    let gate = Counting {
+        entered: AtomicU64::new(0),
+        again: AtomicU64::new(0),
+        strangers: AtomicU64::new(0),
+    };
+    let (workers, all) = entered;
+    let found = audit(rt, alloc, trace, f, workers.clamp(1, 64), &gate)?;
+    Ok(
+        gate.entered.load(Ordering::SeqCst) == all
+            && gate.again.load(Ordering::SeqCst) == 0
+            && gate.strangers.load(Ordering::SeqCst) == 0
+            && found == verdict,
+    )
+}
+
 #[test]
 fn each_worker_enters_once_also_without_work(rt: HostRuntime) -> Result<(), Fail> {
     let trace = read_trace(rt.alloc(), RING.as_bytes()).map_err(|_| "no trace")?;
-    for (workers, all) in [(1, 1), (5, 31), (64, u64::MAX)] {
-        let gate = Counting {
-            entered: AtomicU64::new(0),
-            again: AtomicU64::new(0),
-            strangers: AtomicU64::new(0),
-        };
-        let found = audit(&rt, rt.alloc(), &trace, 1, workers, &gate).map_err(|_| "no verdict")?;
-        assert_eq!(rt; found, Verdict::Accept);
-        assert_eq!(rt;
-            gate.entered.load(Ordering::SeqCst),
-            all,
-            "{workers} workers"
-        );
-        assert_eq!(rt; gate.again.load(Ordering::SeqCst), 0, "{workers} workers");
-        assert_eq!(rt;
-            gate.strangers.load(Ordering::SeqCst),
-            0,
-            "{workers} workers"
-        );
+    for entered in ENTERED {
+        let met = have_entered(&rt, rt.alloc(), &trace, 1, entered, Verdict::Accept)?;
+        let (workers, _) = entered;
+        assert!(rt; met, "{workers} workers");
+    }
+    Ok(())
+}
+
+#[test]
+fn each_worker_enters_once_that_has_deliveries_to_sweep(rt: HostRuntime) -> Result<(), Fail> {
+    let trace = losing(rt.alloc(), HALF, &[Loss::Last, Loss::First])?;
+    for entered in ENTERED {
+        let met = have_entered(&rt, rt.alloc(), &trace, 2, entered, lost(HALF, Loss::Last))?;
+        let (workers, _) = entered;
+        assert!(rt; met, "{workers} workers");
     }
     Ok(())
 }

@@ -1,5 +1,6 @@
 //! Texts that come from a reader, and go to a writer.
-use super::{RING, is_the_ring, ring};
+use super::{is_the_ring, ring};
+use causal_samples::texts::{DELIVERED, RING};
 use causal_text::{
     Progress, ReaderFault, TextFault, TextKind, TraceReader, WriteCause, WriteFault, read_from,
     write_trace,
@@ -87,13 +88,7 @@ fn pieces_of_any_size(rt: HostRuntime) -> Result<(), Fail> {
     Ok(())
 }
 
-// a message that is sent and delivered
-const DELIVERED: &str = r#"["trace",1,2]
-["send",0,1,0]
-["deliver",1,0,0,[[0,0,1,0]]]
-"#;
-
-// what follows those lines, and the fault that is told
+// what follows a message that is sent and delivered, and the fault that is told
 const AFTER_DELIVERED: [(&str, u32, TextKind); 3] = [
     ("", 4, TextKind::Cut),
     (r#"["end",1]"#, 4, TextKind::Count),

@@ -1,5 +1,6 @@
 //! Whole texts.
-use super::{RING, is_the_ring, ring};
+use super::{is_the_ring, ring};
+use causal_samples::texts::{DELIVERED, RING, RING_FORGETTING, TALLY_FORGETTING};
 use causal_samples::{Line, det, push};
 use causal_text::{fault_line, read_trace, text_of};
 use causal_trace::trace::Trace;
@@ -180,13 +181,7 @@ fn whole_texts(rt: HostRuntime) -> Result<(), Fail> {
     check_after(&rt, rt.alloc(), "", &WHOLE)
 }
 
-// a message that is sent and delivered
-const DELIVERED: &str = r#"["trace",1,2]
-["send",0,1,0]
-["deliver",1,0,0,[[0,0,1,0]]]
-"#;
-
-// what follows those three lines, and the fault that is told; nothing where they spell a trace
+// what follows a message that is sent and delivered, and the fault that is told; nothing where they spell a trace
 const AFTER_DELIVERED: [(&str, &str); 7] = [
     ("", "fault line=4 Cut\n"),
     (r#"["end",1]"#, "fault line=4 Count\n"),
@@ -218,18 +213,6 @@ fn another_layout_is_the_same_trace(rt: HostRuntime) -> Result<(), Fail> {
     Ok(())
 }
 
-// the ring, and then 1 forgets what it delivered
-const FORGETS: &str = r#"["trace",2,3]
-["send",0,1,0]
-["deliver",1,0,0,[[0,0,1,0]]]
-["send",1,2,0]
-["deliver",2,2,0,[[0,0,1,0],[1,0,2,0]]]
-["send",2,0,0]
-["deliver",0,4,0,[[1,0,2,0],[2,0,0,0]]]
-["forget",1,[[0,0,1,0]]]
-["end",7]
-"#;
-
 fn spells_forgetting(alloc: Global, text: &[u8]) -> Result<bool, Fail> {
     let mut pushed = ring(alloc)?;
     push(alloc, &mut pushed, Line::Forget(1, &[(0, 0, 1, 0)]))?;
@@ -238,13 +221,13 @@ fn spells_forgetting(alloc: Global, text: &[u8]) -> Result<bool, Fail> {
 
 #[test]
 fn the_second_version_forgets(rt: HostRuntime) -> Result<(), Fail> {
-    assert!(rt; spells_forgetting(rt.alloc(), FORGETS.as_bytes())?);
+    assert!(rt; spells_forgetting(rt.alloc(), RING_FORGETTING.as_bytes())?);
     Ok(())
 }
 
 #[test]
 fn the_first_version_forgets_nothing(rt: HostRuntime) -> Result<(), Fail> {
-    let first = FORGETS.replace(rt.alloc(), "[\"trace\",2", "[\"trace\",1")?;
+    let first = RING_FORGETTING.replace(rt.alloc(), "[\"trace\",2", "[\"trace\",1")?;
     check_told(&rt, rt.alloc(), first.as_str(), "fault line=8 Form\n")
 }
 
@@ -332,21 +315,7 @@ const CANONICAL: [&str; 4] = [
     "[\"trace\",1,64]\n[\"end\",0]\n",
     "[\"trace\",2,65]\n[\"end\",0]\n",
     "[\"trace\",2,2]\n[\"forget\",1,[]]\n[\"end\",1]\n",
-    r#"["trace",2,3]
-["send",1,0,0]
-["send",2,0,0]
-["deliver",0,1,0,[[2,0,0,0]]]
-["send",0,2,0]
-["deliver",2,3,0,[[0,0,2,0],[2,0,0,0]]]
-["stable",[2,0,0,0]]
-["forget",0,[[2,0,0,0]]]
-["crash",0]
-["restart",0,[[0,0,2,0],[2,0,0,0]]]
-["forget",0,[[2,0,0,0]]]
-["deliver",0,1,0,[[2,0,0,0]]]
-["send",0,2,0]
-["end",12]
-"#,
+    TALLY_FORGETTING,
 ];
 
 #[test]
