@@ -155,16 +155,17 @@ fn what_is_forgotten_by_all_orphans(rt: HostRuntime) -> Result<(), Fail> {
     Ok(())
 }
 
+/// What a survey tells of the trace that a text spells, but of its last entries, of which there are so many.
+fn surveyed(alloc: Global, text: &str, last: u32) -> Result<Surveyed, Fail> {
+    let trace = read_trace(alloc, text.as_bytes())?;
+    Ok(least_surveyed(alloc, &trace, 0, trace.len().saturating_sub(last))?)
+}
+
 #[test]
 fn a_survey_tells_the_least_breach(rt: HostRuntime) -> Result<(), Fail> {
-    let trace = read_trace(rt.alloc(), FORGOTTEN.as_bytes())?;
-    let end = trace.len();
     let found = Surveyed::Told(Some(breach(8, 1, &[], 0)));
-    assert_eq!(rt; least_surveyed(rt.alloc(), &trace, 0, end)?, found);
-    assert_eq!(rt;
-        least_surveyed(rt.alloc(), &trace, 0, end.saturating_sub(1))?,
-        Surveyed::Told(None)
-    );
+    assert_eq!(rt; surveyed(rt.alloc(), FORGOTTEN, 0)?, found);
+    assert_eq!(rt; surveyed(rt.alloc(), FORGOTTEN, 1)?, Surveyed::Told(None));
     Ok(())
 }
 

@@ -2,13 +2,15 @@
 //! of which it is not told.
 ghost use Rattle.causal_audit.specs.Verdicts.{IsVerdict};
 
+use crate::explanations::verdict_on;
+use crate::many_orphans::replayed;
 use crate::random_walks::{Walk, push, sending, sent_at};
-use causal_audit::{Tables, Verdict};
+use causal_audit::Verdict;
 use causal_explain::{Closest, closest_failure};
 use causal_holders::Holders;
 use causal_name::{Det, NoMemory, Pid};
 use causal_plain::judge;
-use causal_samples::{Line, ascending, of_own, push_all, traced};
+use causal_samples::{ascending, of_own};
 use causal_trace::entry::{Dets, Entry};
 use causal_trace::fault::TraceFault;
 use causal_trace::trace::Trace;
@@ -298,40 +300,10 @@ fn closest_failures_of_runs_with_a_crash(rt: HostRuntime) -> Result<(), Fail> {
     Ok(())
 }
 
-/// Process 1 delivers a message and logs it.
-const DELIVERED: [Line<'static>; 2] = [
-    Line::Send(0, 1, 0),
-    Line::Deliver(1, 0, 0, &[(0, 0, 1, 0)]),
-];
-
-/// It crashes, restarts with that and delivers the message again.
-const AGAIN: [Line<'static>; 3] = [
-    Line::Crash(1),
-    Line::Restart(1, &[(0, 0, 1, 0)]),
-    Line::Deliver(1, 0, 0, &[(0, 0, 1, 0)]),
-];
-
-/// Process 1 delivers one message, and again in so many incarnations; the last sends on to process 2, which lists that delivery
-/// too.
-fn repeated(alloc: Global, count: u32) -> Result<Trace, TraceFault> {
-    let mut trace = traced(alloc, 3, &DELIVERED)?;
-    for _ in 0..count {
-        push_all(alloc, &mut trace, &AGAIN)?;
-    }
-    let send = trace.len();
-    let passed = [
-        Line::Send(1, 2, 0),
-        Line::Deliver(2, send, 0, &[(0, 0, 1, 0), (1, 0, 2, 0)]),
-    ];
-    push_all(alloc, &mut trace, &passed)?;
-    Ok(trace)
-}
-
-/// What is told of that run for f, if it is accepted.
-fn told_of_repeated(alloc: Global, count: u32, f: u16) -> Result<Option<Closest>, Fail> {
-    let trace = repeated(alloc, count)?;
-    let tables = Tables::of(alloc, &trace)?;
-    let verdict = causal_audit::judge(&tables, f);
+/// What is told for f of a run in which three processes replay one delivery, if it is accepted.
+fn told_of_replayed(alloc: Global, count: u32, f: u16) -> Result<Option<Closest>, Fail> {
+    let trace = replayed(alloc, 3, count)?;
+    let verdict = verdict_on(alloc, &trace, f)?;
     Ok(told(alloc, &trace, f, verdict)?)
 }
 
@@ -340,9 +312,9 @@ fn told_of_repeated(alloc: Global, count: u32, f: u16) -> Result<Option<Closest>
 #[test]
 fn too_many_deliveries_to_tell(rt: HostRuntime) -> Result<(), Fail> {
     for f in [1, 2] {
-        assert_eq!(rt; told_of_repeated(rt.alloc(), 10, f)?, Some(Closest::Never));
+        assert_eq!(rt; told_of_replayed(rt.alloc(), 10, f)?, Some(Closest::Never));
         assert_eq!(rt;
-            told_of_repeated(rt.alloc(), 190, f)?,
+            told_of_replayed(rt.alloc(), 190, f)?,
             Some(Closest::Untold)
         );
     }

@@ -175,7 +175,7 @@ fn compare(
 }
 
 /// The verdict on a trace for so many failures.
-fn verdict_on(alloc: Global, trace: &Trace, f: u16) -> Result<Verdict, NoMemory>
+pub(crate) fn verdict_on(alloc: Global, trace: &Trace, f: u16) -> Result<Verdict, NoMemory>
     ensures { IfOk result (IsVerdict trace.now.recording f) }
 {
     let tables = Tables::of(alloc, trace)?;

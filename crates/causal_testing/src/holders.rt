@@ -31,14 +31,21 @@ fn in_ascending_order(rt: HostRuntime) {
     assert_eq!(rt; members.next(), None);
 }
 
+/// Members, and the least of them.
+const LEAST: [(&[u8], Option<u8>); 6] = [
+    (&[0, 255], Some(0)),
+    (&[63, 64], Some(63)),
+    (&[127, 255, 64], Some(64)),
+    (&[255, 128], Some(128)),
+    (&[255], Some(255)),
+    (&[], None),
+];
+
 #[test]
 fn least_of_each_word(rt: HostRuntime) {
-    assert_eq!(rt; set_of(&[0, 255]).least(), Some(0));
-    assert_eq!(rt; set_of(&[63, 64]).least(), Some(63));
-    assert_eq!(rt; set_of(&[127, 255, 64]).least(), Some(64));
-    assert_eq!(rt; set_of(&[255, 128]).least(), Some(128));
-    assert_eq!(rt; set_of(&[255]).least(), Some(255));
-    assert_eq!(rt; Holders::none().least(), None);
+    for (members, least) in &LEAST {
+        assert_eq!(rt; set_of(members).least(), *least);
+    }
 }
 
 #[test]

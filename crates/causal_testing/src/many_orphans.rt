@@ -1,10 +1,10 @@
 //! Runs with many deliveries that a survey has to follow, and one in which its steps do not suffice.
-use causal_audit::{Breach, Surveyed, Verdict, least_surveyed};
+use crate::swept_runs::differing;
+use causal_audit::{Breach, Surveyed, Verdict, decided, least_surveyed};
 use causal_holders::Holders;
-use causal_samples::{Line, push};
+use causal_samples::{Line, push_all, traced};
 use causal_trace::fault::TraceFault;
 use causal_trace::trace::Trace;
-use causal_workers::{OpenGate, audit};
 use std::alloc::Global;
 use std::test::Fail;
 
@@ -13,21 +13,18 @@ use std::test::Fail;
 fn unlisted(alloc: Global, count: u32) -> Result<Trace, TraceFault> {
     let mut trace = Trace::new(alloc, 3)?;
     for number in 0..count {
-        let send = trace.len();
-        push(alloc, &mut trace, Line::Send(0, 1, number))?;
-        push(
-            alloc,
-            &mut trace,
-            Line::Deliver(1, send, number, &[(0, number, 1, number)]),
-        )?;
+        let listed = [(0, number, 1, number)];
+        let lines = [
+            Line::Send(0, 1, number),
+            Line::Deliver(1, trace.len(), number, &listed),
+        ];
+        push_all(alloc, &mut trace, &lines)?;
     }
-    let send = trace.len();
-    push(alloc, &mut trace, Line::Send(1, 2, 0))?;
-    push(
-        alloc,
-        &mut trace,
-        Line::Deliver(2, send, 0, &[(1, 0, 2, 0)]),
-    )?;
+    let passed = [
+        Line::Send(1, 2, 0),
+        Line::Deliver(2, trace.len(), 0, &[(1, 0, 2, 0)]),
+    ];
+    push_all(alloc, &mut trace, &passed)?;
     Ok(trace)
 }
 
@@ -59,49 +56,43 @@ fn a_survey_follows_so_many(rt: HostRuntime) -> Result<(), Fail> {
 
 #[test]
 fn the_verdict_is_the_same(rt: HostRuntime) -> Result<(), Fail> {
-    let Breach {
-        instant,
-        delivery,
-        crash,
-        orphan,
-    } = breach(8196);
-    let wanted = Verdict::Orphan {
-        instant,
-        delivery,
-        crash,
-        orphan,
-    };
     let trace = unlisted(rt.alloc(), 4097)?;
-    for workers in 1..=3 {
-        let said = audit(&rt, rt.alloc(), &trace, 1, workers, &OpenGate)?;
-        assert_eq!(rt; said, wanted, "{workers} workers");
-    }
+    let verdict = decided(None, Some(breach(8196)));
+    assert_eq!(rt; differing(&rt, rt.alloc(), &trace, 1, verdict)?, None);
     Ok(())
 }
 
-/// Process 1 delivers one message, and again in so many incarnations; each lists it as it begins and at its delivery. The last
-/// sends on to process 2, which lists it too: so two processes hold it after it has left its receiver.
-fn replayed(alloc: Global, count: u32) -> Result<Trace, TraceFault> {
-    let mut trace = Trace::new(alloc, 4)?;
-    push(alloc, &mut trace, Line::Send(0, 1, 0))?;
-    push(alloc, &mut trace, Line::Deliver(1, 0, 0, &[(0, 0, 1, 0)]))?;
+/// Process 1 delivers a message and logs it.
+const DELIVERED: [Line<'static>; 2] = [
+    Line::Send(0, 1, 0),
+    Line::Deliver(1, 0, 0, &[(0, 0, 1, 0)]),
+];
+
+/// It crashes, restarts with that and delivers the message again.
+const AGAIN: [Line<'static>; 3] = [
+    Line::Crash(1),
+    Line::Restart(1, &[(0, 0, 1, 0)]),
+    Line::Deliver(1, 0, 0, &[(0, 0, 1, 0)]),
+];
+
+/// A run of n processes, three or more, in which process 1 delivers one message, and again in so many incarnations; each lists it as
+/// it begins and at its delivery. The last sends on to process 2, which lists it too: so two processes hold it after it has left its
+/// receiver.
+pub(crate) fn replayed(alloc: Global, n: u16, count: u32) -> Result<Trace, TraceFault> {
+    let mut trace = traced(alloc, n, &DELIVERED)?;
     for _ in 0..count {
-        push(alloc, &mut trace, Line::Crash(1))?;
-        push(alloc, &mut trace, Line::Restart(1, &[(0, 0, 1, 0)]))?;
-        push(alloc, &mut trace, Line::Deliver(1, 0, 0, &[(0, 0, 1, 0)]))?;
+        push_all(alloc, &mut trace, &AGAIN)?;
     }
-    let send = trace.len();
-    push(alloc, &mut trace, Line::Send(1, 2, 0))?;
-    push(
-        alloc,
-        &mut trace,
-        Line::Deliver(2, send, 0, &[(0, 0, 1, 0), (1, 0, 2, 0)]),
-    )?;
+    let passed = [
+        Line::Send(1, 2, 0),
+        Line::Deliver(2, trace.len(), 0, &[(0, 0, 1, 0), (1, 0, 2, 0)]),
+    ];
+    push_all(alloc, &mut trace, &passed)?;
     Ok(trace)
 }
 
 fn replays_surveyed(alloc: Global, count: u32) -> Result<Surveyed, Fail> {
-    let trace = replayed(alloc, count)?;
+    let trace = replayed(alloc, 4, count)?;
     Ok(least_surveyed(alloc, &trace, 2, trace.len())?)
 }
 
@@ -117,10 +108,10 @@ fn where_its_steps_do_not_suffice_it_tells_nothing(rt: HostRuntime) -> Result<()
 
 #[test]
 fn then_the_deliveries_are_swept(rt: HostRuntime) -> Result<(), Fail> {
-    let trace = replayed(rt.alloc(), 190)?;
-    for workers in 1..=3 {
-        let said = audit(&rt, rt.alloc(), &trace, 2, workers, &OpenGate)?;
-        assert_eq!(rt; said, Verdict::Accept, "{workers} workers");
-    }
+    let trace = replayed(rt.alloc(), 4, 190)?;
+    assert_eq!(rt;
+        differing(&rt, rt.alloc(), &trace, 2, Verdict::Accept)?,
+        None
+    );
     Ok(())
 }

@@ -113,37 +113,41 @@ fn the_reader_refuses(rt: HostRuntime) -> Result<(), Fail> {
     Ok(())
 }
 
+/// Whether the picture of a ring is so, which shows an instant, a process that may crash and a chain.
+fn ring_is_pictured(alloc: Global, ring: &Trace) -> Result<bool, Fail> {
+    let mut crash = Holders::none();
+    crash.insert(1);
+    let focus = Focus {
+        instant: 4,
+        crash,
+        chain: &[1, 2, 3],
+    };
+    is_pictured(alloc, ring, Some(&focus))
+}
+
 #[test]
 fn each_entry_has_its_mark(rt: HostRuntime) -> Result<(), Fail> {
     let ring = read_trace(rt.alloc(), RING.as_bytes())?;
     assert!(rt; is_pictured(rt.alloc(), &ring, None)?);
-    let mut crash = Holders::none();
-    crash.insert(1);
-    let chain = [1, 2, 3];
-    let focus = Focus {
-        instant: 4,
-        crash,
-        chain: &chain,
-    };
-    assert!(rt; is_pictured(rt.alloc(), &ring, Some(&focus))?);
+    assert!(rt; ring_is_pictured(rt.alloc(), &ring)?);
     Ok(())
+}
+
+/// Whether the pictures of a trace are so that show an instant in its middle and none.
+fn is_pictured_twice(alloc: Global, trace: &Trace) -> Result<bool, Fail> {
+    let focus = Focus {
+        instant: trace.len() / 2,
+        crash: Holders::none(),
+        chain: &[],
+    };
+    Ok(is_pictured(alloc, trace, None)? && is_pictured(alloc, trace, Some(&focus))?)
 }
 
 #[test]
 fn random_traces_pictured(rt: HostRuntime) -> Result<(), Fail> {
     for (seed, tries) in [(1, 40), (2, 120), (3, 600)] {
-        let mut walk = Walk::new(seed, 0);
-        let trace = trace_of(rt.alloc(), &mut walk, 4, tries)?;
-        assert!(rt; is_pictured(rt.alloc(), &trace, None)?, "seed {seed}");
-        let focus = Focus {
-            instant: trace.len() / 2,
-            crash: Holders::none(),
-            chain: &[],
-        };
-        assert!(rt;
-            is_pictured(rt.alloc(), &trace, Some(&focus))?,
-            "seed {seed}"
-        );
+        let trace = trace_of(rt.alloc(), &mut Walk::new(seed, 0), 4, tries)?;
+        assert!(rt; is_pictured_twice(rt.alloc(), &trace)?, "seed {seed}");
     }
     Ok(())
 }
@@ -275,39 +279,50 @@ fn shows_around(
     shows_from(alloc, trace, Some(&focus), first)
 }
 
+/// Whether a trace that is no longer than what is shown is shown from its beginning, with an instant in its middle and with none.
+fn shows_all(alloc: Global, trace: &Trace) -> Result<bool, Fail> {
+    let middle = trace.len() / 2;
+    Ok(
+        (11..=200).contains(&trace.len())
+            && shows_from(alloc, trace, None, 0)?
+            && shows_around(alloc, trace, middle, &[], 0)?,
+    )
+}
+
 #[test]
 fn each_entry_shown_has_one_mark_with_its_title(rt: HostRuntime) -> Result<(), Fail> {
     for (seed, tries) in [(4, 40), (5, 120), (6, 240)] {
         let trace = trace_of(rt.alloc(), &mut Walk::new(seed, 0), 4, tries)?;
-        let middle = trace.len() / 2;
-        assert!(rt; trace.len() > 10 && trace.len() <= 200, "seed {seed}");
-        assert!(rt; shows_from(rt.alloc(), &trace, None, 0)?, "seed {seed}");
-        assert!(rt;
-            shows_around(rt.alloc(), &trace, middle, &[], 0)?,
-            "seed {seed}"
-        );
+        assert!(rt; shows_all(rt.alloc(), &trace)?, "seed {seed}");
     }
     Ok(())
 }
 
-// Of a longer run 200 entries are shown: 190 before the instant and 10 from it on, or fewer where the chain begins earlier.
+/// An instant and a chain, and the first entry that is shown of a run that is longer than that. Of this 200 entries are shown: 190
+/// before the instant and 10 from it on, or fewer where the chain begins earlier.
+const SHOWN: [(u32, &[u32], u32); 5] = [
+    (50, &[], 0),
+    (230, &[], 40),
+    (230, &[33, 200], 33),
+    (230, &[100], 40),
+    (230, &[9], 30),
+];
+
+/// The first of these that are not shown so, if there is one.
+fn not_shown(alloc: Global, trace: &Trace) -> Result<Option<usize>, Fail> {
+    for (place, (instant, chain, first)) in SHOWN.iter().enumerate() {
+        if !shows_around(alloc, trace, *instant, chain, *first)? {
+            return Ok(Some(place));
+        }
+    }
+    Ok(None)
+}
+
 #[test]
 fn each_entry_shown_of_a_longer_run(rt: HostRuntime) -> Result<(), Fail> {
     let trace = trace_of(rt.alloc(), &mut Walk::new(7, 0), 4, 800)?;
-    assert!(rt; trace.len() > 260);
-    assert!(rt; shows_from(rt.alloc(), &trace, None, 0)?);
-    for (instant, chain, first) in [
-        (50, [].as_slice(), 0),
-        (230, &[], 40),
-        (230, &[33, 200], 33),
-        (230, &[100], 40),
-        (230, &[9], 30),
-    ] {
-        assert!(rt;
-            shows_around(rt.alloc(), &trace, instant, chain, first)?,
-            "instant {instant}"
-        );
-    }
+    assert!(rt; trace.len() > 260 && shows_from(rt.alloc(), &trace, None, 0)?);
+    assert_eq!(rt; not_shown(rt.alloc(), &trace)?, None);
     Ok(())
 }
 
@@ -339,21 +354,24 @@ const ADDED: &str = "\
     <polyline points='110,64 200,144 ' fill='none' stroke='#d55e00' stroke-width='4' stroke-opacity='0.75'/>\n\
     <path d='M275 42V170' fill='none' stroke='#0072b2' stroke-width='2' stroke-dasharray='7 4'/>\n";
 
-#[test]
-fn a_focus_adds_what_it_names(rt: HostRuntime) -> Result<(), Fail> {
-    let ring = read_trace(rt.alloc(), RING.as_bytes())?;
+/// Whether a focus adds these lines to the picture of a ring.
+fn focus_adds(alloc: Global, ring: &Trace, lines: &str) -> Result<bool, Fail> {
     let mut crash = Holders::none();
-    for process in [0, 2, 7] {
-        crash.insert(process);
+    for process in &[0, 2, 7] {
+        crash.insert(*process);
     }
-    let chain = [0, 3, 77];
     let focus = Focus {
         instant: 9,
         crash,
-        chain: &chain,
+        chain: &[0, 3, 77],
     };
-    let shown = added(rt.alloc(), &ring, Some(&focus))?;
-    assert!(rt; shown.as_slice() == ADDED.as_bytes());
+    Ok(added(alloc, ring, Some(&focus))?.as_slice() == lines.as_bytes())
+}
+
+#[test]
+fn a_focus_adds_what_it_names(rt: HostRuntime) -> Result<(), Fail> {
+    let ring = read_trace(rt.alloc(), RING.as_bytes())?;
+    assert!(rt; focus_adds(rt.alloc(), &ring, ADDED)?);
     assert!(rt; added(rt.alloc(), &ring, None)?.is_empty());
     Ok(())
 }

@@ -99,17 +99,29 @@ fn all_say(
 
 /// Of how many of these verdicts, one for each f from 0 on, the programs say anything else of a trace. The verdicts are those on
 /// the trace whose processes have numbers less by so much.
-fn differing(alloc: Global, trace: &Trace, verdicts: &[Verdict], by: u8) -> Result<u32, NoMemory> {
-    let tables = Tables::of(alloc, trace)?;
-    let course = Course::of(alloc, trace, trace.len())?;
+fn differing_from(
+    alloc: Global,
+    trace: &Trace,
+    tables: &Tables,
+    course: &Course,
+    verdicts: &[Verdict],
+    by: u8,
+) -> Result<u32, NoMemory> {
     let (mut differ, mut f) = (0_u32, 0_u16);
     for plain in verdicts {
         let verdict = raised_verdict(*plain, by);
-        let same = all_say(alloc, trace, &tables, &course, f, &verdict)?;
+        let same = all_say(alloc, trace, tables, course, f, &verdict)?;
         differ = differ.saturating_add(u32::from(!same));
         f = f.saturating_add(1);
     }
     Ok(differ)
+}
+
+/// The same, where nothing is known yet of the trace.
+fn differing(alloc: Global, trace: &Trace, verdicts: &[Verdict], by: u8) -> Result<u32, NoMemory> {
+    let tables = Tables::of(alloc, trace)?;
+    let course = Course::of(alloc, trace, trace.len())?;
+    differing_from(alloc, trace, &tables, &course, verdicts, by)
 }
 
 /// The same of the trace whose processes have numbers greater by so much.

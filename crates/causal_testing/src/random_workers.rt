@@ -1,5 +1,5 @@
 //! Whatever the number of workers, an audit gives the verdict of `judge`.
-use crate::random_runs::{LIVELY, STEADY, run_of};
+use crate::random_runs::{LIVELY, Manner, STEADY, run_of};
 use crate::random_walks::Walk;
 use causal_audit::{Tables, judge};
 use causal_trace::trace::Trace;
@@ -43,16 +43,25 @@ fn agreeing_for_each<R: Threads + Wait>(
     Ok(all)
 }
 
+/// How many numbers of workers agree, for all f together, on a random run of n processes after so many tries.
+fn agreeing_on_run<R: Threads + Wait>(
+    rt: &R,
+    alloc: Global,
+    walk: &mut Walk,
+    n: u16,
+    tries: u32,
+    manner: Manner,
+) -> Result<u32, Fail> {
+    let trace = run_of(alloc, walk, n, tries, manner)?;
+    Ok(agreeing_for_each(rt, alloc, &trace)?)
+}
+
 #[test]
 fn workers_say_what_one_says(rt: HostRuntime) -> Result<(), Fail> {
     let mut walk = Walk::new(404, 0);
     for k in 0..60 {
-        let trace = run_of(rt.alloc(), &mut walk, 3, 48, LIVELY)?;
-        assert_eq!(rt;
-            agreeing_for_each(&rt, rt.alloc(), &trace)?,
-            20,
-            "trace {k}"
-        );
+        let agreeing = agreeing_on_run(&rt, rt.alloc(), &mut walk, 3, 48, LIVELY)?;
+        assert_eq!(rt; agreeing, 20, "trace {k}");
     }
     Ok(())
 }
@@ -61,12 +70,8 @@ fn workers_say_what_one_says(rt: HostRuntime) -> Result<(), Fail> {
 fn workers_say_what_one_says_of_longer_runs(rt: HostRuntime) -> Result<(), Fail> {
     let mut walk = Walk::new(405, 0);
     for k in 0..40 {
-        let trace = run_of(rt.alloc(), &mut walk, 4, 120, STEADY)?;
-        assert_eq!(rt;
-            agreeing_for_each(&rt, rt.alloc(), &trace)?,
-            20,
-            "trace {k}"
-        );
+        let agreeing = agreeing_on_run(&rt, rt.alloc(), &mut walk, 4, 120, STEADY)?;
+        assert_eq!(rt; agreeing, 20, "trace {k}");
     }
     Ok(())
 }

@@ -60,45 +60,72 @@ const JUDGED: [(&str, u16, &[u32], &str); 8] = [
     ),
 ];
 
+/// Whether so many workers find this line of a text.
+fn is_found<R: Threads + Wait>(
+    rt: &R,
+    alloc: Global,
+    text: &str,
+    f: u16,
+    workers: u32,
+    line: &str,
+) -> Result<bool, Fail> {
+    let judged = audit_text(
+        rt,
+        alloc,
+        text.as_bytes(),
+        f,
+        workers.clamp(1, 64),
+        &OpenGate,
+    )?;
+    let found = verdict_line(alloc, f, &judged)?;
+    Ok(found.as_slice() == line.as_bytes())
+}
+
+/// The first of these numbers of workers that do not find this line, if there is one.
+fn differing<R: Threads + Wait>(
+    rt: &R,
+    alloc: Global,
+    text: &str,
+    f: u16,
+    numbers: &[u32],
+    line: &str,
+) -> Result<Option<u32>, Fail> {
+    for workers in numbers {
+        if !is_found(rt, alloc, text, f, *workers, line)? {
+            return Ok(Some(*workers));
+        }
+    }
+    Ok(None)
+}
+
 #[test]
 fn every_number_of_workers_gives_one_line(rt: HostRuntime) -> Result<(), Fail> {
-    for (text, f, numbers, line) in JUDGED {
-        for workers in numbers {
-            let judged = audit_text(
-                &rt,
-                rt.alloc(),
-                text.as_bytes(),
-                f,
-                *workers,
-                &OpenGate,
-            ).map_err(|_| "no judgement")?;
-            let found = verdict_line(rt.alloc(), f, &judged).map_err(|_| "no line")?;
-            assert!(rt;
-                found.as_slice() == line.as_bytes(),
-                "{workers} workers: {line}"
-            );
-        }
+    for (text, f, numbers, line) in &JUDGED {
+        let differing = differing(&rt, rt.alloc(), text, *f, numbers, line)?;
+        assert_eq!(rt; differing, None, "{line}");
     }
     Ok(())
 }
 
-#[test]
-fn a_trace_is_audited(rt: HostRuntime) -> Result<(), Fail> {
-    let trace = read_trace(rt.alloc(), RING.as_bytes()).map_err(|_| "no trace")?;
+/// What the ring has where two may crash.
+fn ring_orphan() -> Verdict {
     let mut crash = Holders::none();
     crash.insert(1);
     crash.insert(2);
-    let orphan = Verdict::Orphan {
+    Verdict::Orphan {
         instant: 6,
         delivery: 1,
         crash,
         orphan: 0,
-    };
+    }
+}
+
+#[test]
+fn a_trace_is_audited(rt: HostRuntime) -> Result<(), Fail> {
+    let trace = read_trace(rt.alloc(), RING.as_bytes())?;
     for workers in 1..=64 {
-        let found = audit(&rt, rt.alloc(), &trace, 2, workers, &OpenGate).map_err(
-            |_| "no verdict",
-        )?;
-        assert_eq!(rt; found, orphan, "{workers} workers");
+        let found = audit(&rt, rt.alloc(), &trace, 2, workers, &OpenGate)?;
+        assert_eq!(rt; found, ring_orphan(), "{workers} workers");
     }
     Ok(())
 }
