@@ -93,11 +93,18 @@ fn is_marked(alloc: Global, log: &mut Log) -> Result<bool, NoMemory> {
     Ok(log.mark_stable(det(FIRST)) && chooses(alloc, log, 2, &[])?)
 }
 
+/// Process 2 hears what process 1 tells.
+fn hear(alloc: Global, log: &mut Log) -> Result<(), NoMemory> {
+    let batch = told(alloc)?;
+    log.absorb(&batch, Pid(1), Pid(2))
+}
+
 /// Whether that holds of the log of 2 once it has heard that of 1.
 fn absorbed_is_told(alloc: Global) -> Result<bool, NoMemory> {
     let mut log = Log::new(alloc);
-    log.absorb(&told(alloc)?, Pid(1), Pid(2))?;
-    Ok(is_passed_on(alloc, &log)? && is_marked(alloc, &mut log)?)
+    hear(alloc, &mut log)?;
+    let passed_on = is_passed_on(alloc, &log)?;
+    Ok(is_marked(alloc, &mut log)? && passed_on)
 }
 
 #[test]

@@ -80,26 +80,32 @@ fn deliveries(alloc: Global, count: u16) -> Result<Commands, NoMemory> {
     Ok(Commands::new(commands))
 }
 
-// A command is refused where it could pass 65,536 entries, of which a delivery may need nine. 256 sends open the run; each pair
-// has 512 deliveries and 510 more sends, so 63 pairs and 443 deliveries of the next come to 65,528.
-#[test]
-fn a_run_to_the_limit(rt: HostRuntime) -> Result<(), Fail> {
-    let mut script = Script {
+/// How many entries and how many deliveries the trace of a script of so many of these has.
+fn sizes_after<R: Wait>(rt: &R, alloc: Global, count: u16) -> Result<(u32, u32), RunFault> {
+    let Ok(commands) = deliveries(alloc, count) else {
+        return Err(RunFault::Memory);
+    };
+    let script = Script {
         kind: Kind::Echo,
         n: 256,
         f: 0,
         param: 255,
-        commands: deliveries(rt.alloc(), 32_699)?,
+        commands,
     };
-    let trace = run_script(&rt, rt.alloc(), &script)?;
-    assert_eq!(rt; trace.len(), 65_528);
-    assert_eq!(rt; trace.deliveries(), 32_699);
-    script.commands = deliveries(rt.alloc(), 32_700)?;
+    let trace = run_script(rt, alloc, &script)?;
+    Ok((trace.len(), trace.deliveries()))
+}
+
+// A command is refused where it could pass 65,536 entries, of which a delivery may need nine. 256 sends open the run; each pair
+// has 512 deliveries and 510 more sends, so 63 pairs and 443 deliveries of the next come to 65,528.
+#[test]
+fn a_run_to_the_limit(rt: HostRuntime) -> Result<(), Fail> {
+    assert_eq!(rt; sizes_after(&rt, rt.alloc(), 32_699)?, (65_528, 32_699));
     let refused = RunFault::Refused {
         line: 32_701,
         fault: CoreFault::Full,
     };
-    match run_script(&rt, rt.alloc(), &script) {
+    match sizes_after(&rt, rt.alloc(), 32_700) {
         Ok(_) => panic!(rt; "the run passes the limit"),
         Err(fault) => assert!(rt; fault == refused),
     }

@@ -64,17 +64,21 @@ fn those(processes: &[u8]) -> Holders {
     set
 }
 
-// 1 and 2 alone know what 1 delivered, so the crash of both leaves 0, which has heard of it, an orphan.
-#[test]
-fn more_failures_than_the_core_runs_for(rt: HostRuntime) -> Result<(), Fail> {
-    let core = ROUND.played(rt.alloc())?.ok_or("refused")?;
-    let orphan = Verdict::Orphan {
+/// Process 0 is an orphan of the delivery of 1, if 1 and 2 crash.
+fn orphan_of_two() -> Verdict {
+    Verdict::Orphan {
         instant: 6,
         delivery: 1,
         crash: those(&[1, 2]),
         orphan: 0,
-    };
-    assert_eq!(rt; said_of_two(rt.alloc(), &core)?, (true, orphan));
+    }
+}
+
+// 1 and 2 alone know what 1 delivered, so the crash of both leaves 0, which has heard of it, an orphan.
+#[test]
+fn more_failures_than_the_core_runs_for(rt: HostRuntime) -> Result<(), Fail> {
+    let core = ROUND.played(rt.alloc())?.ok_or("refused")?;
+    assert_eq!(rt; said_of_two(rt.alloc(), &core)?, (true, orphan_of_two()));
     Ok(())
 }
 

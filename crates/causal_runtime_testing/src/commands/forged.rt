@@ -1,7 +1,8 @@
 //! A trace of a crash and a restart, forged.
-use super::answers;
+use super::is_answered;
 use causal_commands::Ended;
 use causal_samples::texts::RING_REPLAYED;
+use std::alloc::Global;
 use std::test::Fail;
 
 const REPLAYED_LINE: &str = "accept f=1 entries=10 deliveries=4\n";
@@ -34,15 +35,21 @@ const FORGED: [(usize, &str, Ended, &str); 4] = [
     ),
 ];
 
+/// The text of the trace with this line in the place of its own.
+fn text_with(alloc: Global, place: usize, forged: &str) -> Result<String, Fail> {
+    let mut text = String::new(alloc);
+    for (i, own) in RING_REPLAYED.lines().enumerate() {
+        text.push_str(if i == place { forged } else { own })?;
+        text.push_str("\n")?;
+    }
+    Ok(text)
+}
+
 #[test]
 fn forged_lists(rt: HostRuntime) -> Result<(), Fail> {
     for (place, forged, ended, line) in FORGED {
-        let mut text = String::new(rt.alloc());
-        for (i, own) in RING_REPLAYED.lines().enumerate() {
-            text.push_str(if i == place { forged } else { own })?;
-            text.push_str("\n")?;
-        }
-        answers(&rt, forged, text.as_str(), 1, ended, line);
+        let text = text_with(rt.alloc(), place, forged)?;
+        assert!(rt; is_answered(&rt, text.as_str(), 1, ended, line), "{forged}");
     }
     Ok(())
 }

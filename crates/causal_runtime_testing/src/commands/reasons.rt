@@ -1,7 +1,7 @@
 //! What the program shows of a verdict: whole texts, worked out by hand from the definitions, the ends of pictures, and where by their
 //! layout they show the verdict.
-use super::traces::{FAULTY, JUDGED};
-use super::{Drip, Narrow};
+use super::traces::{FAULTY, JUDGED, Verdicts};
+use super::{Drip, Narrow, ended_with};
 use causal_commands::{Ended, View, show_and_tell};
 use causal_samples::texts;
 use std::alloc::Global;
@@ -148,71 +148,86 @@ fn shown<R: AllocGlobal + Abort + Threads + Wait>(
     (told.ended, output)
 }
 
+/// Whether just this is written for a view, and the program ends so.
+fn is_shown<R: AllocGlobal + Abort + Threads + Wait>(
+    rt: &R,
+    text: &str,
+    f: u16,
+    view: View,
+    ended: Ended,
+    out: &str,
+) -> bool {
+    let (how, written) = shown(rt, text, f, view);
+    how == ended && written.as_slice() == out.as_bytes()
+}
+
 #[test]
 fn whole_reasons(rt: HostRuntime) {
     for reason in &REASONS {
-        let (ended, out) = shown(&rt, reason.text, reason.f, View::Reason);
-        let want = if reason.out.starts_with("accept") {
-            Ended::Accepted
-        } else {
-            Ended::Breached
-        };
-        assert_eq!(rt; ended, want, "{}", reason.name);
-        assert!(rt; out.as_slice() == reason.out.as_bytes(), "{}", reason.name);
+        let (text, f, ended) = (reason.text, reason.f, ended_with(reason.out));
+        let right = is_shown(&rt, text, f, View::Reason, ended, reason.out);
+        assert!(rt; right, "{}", reason.name);
     }
 }
 
-// The verdict's line comes first, as the audit prints it. Just where the trace is accepted, what comes closest to
-// failing stands below it, and of these short ones it is told.
-#[test]
-fn the_verdict_first(rt: HostRuntime) -> Result<(), Fail> {
-    for judged in &JUDGED {
-        for (f, line) in judged.lines {
-            let (_, out) = shown(&rt, judged.text, *f, View::Reason);
-            assert!(rt; out.starts_with(line.as_bytes()), "{}", judged.name);
-            let closest = format!(in rt.alloc(); "{line}closest faults=")?;
-            assert_eq!(rt;
-                out.starts_with(closest.as_bytes()),
-                line.starts_with("accept"),
-                "{}",
-                judged.name
-            );
-            let untold = format!(in rt.alloc(); "{line}closest faults=?")?;
-            assert!(rt; !out.starts_with(untold.as_bytes()), "{}", judged.name);
+/// Whether what is written begins with a verdict's line, and goes on with what comes closest to failing just where that accepts.
+/// Of runs as short as these it is told.
+fn begins_with(written: &[u8], line: &str) -> bool {
+    let Some(more) = written.strip_prefix(line.as_bytes()) else {
+        return false;
+    };
+    more.starts_with(b"closest faults=") == line.starts_with("accept")
+        && !more.starts_with(b"closest faults=?")
+}
+
+/// Whether the reason of each of a text's verdicts begins with its line, as the audit prints it.
+fn have_their_verdicts<R: AllocGlobal + Abort + Threads + Wait>(rt: &R, judged: &Verdicts) -> bool {
+    for (f, line) in judged.lines {
+        let (_, written) = shown(rt, judged.text, *f, View::Reason);
+        if !begins_with(written.as_slice(), line) {
+            return false;
         }
     }
-    Ok(())
+    true
+}
+
+#[test]
+fn the_verdict_first(rt: HostRuntime) {
+    for judged in &JUDGED {
+        assert!(rt; have_their_verdicts(&rt, judged), "{}", judged.name);
+    }
 }
 
 #[test]
 fn faults_as_the_audit_tells_them(rt: HostRuntime) {
-    for view in [View::Reason, View::Picture] {
-        for fault in &FAULTY {
-            let (ended, out) = shown(&rt, fault.text, 0, view);
-            assert_eq!(rt; ended, Ended::Faulted, "{}", fault.name);
-            assert!(rt; out.as_slice() == fault.line.as_bytes(), "{}", fault.name);
+    for fault in &FAULTY {
+        for view in [View::Reason, View::Picture] {
+            let right = is_shown(&rt, fault.text, 0, view, Ended::Faulted, fault.line);
+            assert!(rt; right, "{}", fault.name);
         }
     }
+}
+
+/// Whether the picture of each of a text's verdicts is one from its head to its end, and the program ends as the verdict has it.
+fn have_their_pictures<R: AllocGlobal + Abort + Threads + Wait>(rt: &R, judged: &Verdicts) -> bool {
+    for (f, line) in judged.lines {
+        let (ended, written) = shown(rt, judged.text, *f, View::Picture);
+        if ended != ended_with(line) || !is_picture(written.as_slice()) {
+            return false;
+        }
+    }
+    true
+}
+
+fn is_picture(written: &[u8]) -> bool {
+    written.starts_with(b"<svg xmlns='http://www.w3.org/2000/svg'")
+        && written.ends_with(b"</svg>\n")
 }
 
 #[test]
 fn pictures_from_head_to_end(rt: HostRuntime) {
     for judged in &JUDGED {
-        for (f, line) in judged.lines {
-            let (ended, out) = shown(&rt, judged.text, *f, View::Picture);
-            let want = if line.starts_with("accept") {
-                Ended::Accepted
-            } else {
-                Ended::Breached
-            };
-            assert_eq!(rt; ended, want, "{}", judged.name);
-            assert!(rt;
-                out.starts_with(b"<svg xmlns='http://www.w3.org/2000/svg'"),
-                "{}",
-                judged.name
-            );
-            assert!(rt; out.ends_with(b"</svg>\n"), "{}", judged.name);
-        }
+        assert!(rt; have_their_pictures(&rt, judged), "{}", judged.name);
     }
 }
 

@@ -105,15 +105,27 @@ fn comes_back(alloc: Global, core: &mut Core<MemStable>) -> Result<bool, NoMemor
     )
 }
 
+/// Whether all that holds, and the process that crashed is dropped at its crash and not again.
+fn is_dropped_once(
+    alloc: Global,
+    core: &mut Core<MemStable>,
+    drops: &Arc<AtomicU64>,
+) -> Result<bool, NoMemory> {
+    let crashed = goes_round(alloc, core)? && drops.load(Ordering::SeqCst) == 1;
+    Ok(crashed && comes_back(alloc, core)? && drops.load(Ordering::SeqCst) == 1)
+}
+
+/// A ring of three that runs for one failure, and counts that its process 1 is dropped.
+fn counting_ring(alloc: Global, drops: &Arc<AtomicU64>) -> Result<Core<MemStable>, Fail> {
+    let boxes = ring(alloc, drops)?;
+    Ok(started(alloc, 1, boxes, MemStable::new(alloc))?)
+}
+
 #[test]
 fn a_process_comes_back(rt: HostRuntime) -> Result<(), Fail> {
     let drops = Arc::new(rt.alloc(), AtomicU64::new(0))?;
-    let boxes = ring(rt.alloc(), &drops)?;
-    let mut core = started(rt.alloc(), 1, boxes, MemStable::new(rt.alloc()))?;
-    assert!(rt; goes_round(rt.alloc(), &mut core)?);
-    assert_eq!(rt; drops.load(Ordering::SeqCst), 1);
-    assert!(rt; comes_back(rt.alloc(), &mut core)?);
-    assert_eq!(rt; drops.load(Ordering::SeqCst), 1);
+    let mut core = counting_ring(rt.alloc(), &drops)?;
+    assert!(rt; is_dropped_once(rt.alloc(), &mut core, &drops)?);
     Ok(())
 }
 

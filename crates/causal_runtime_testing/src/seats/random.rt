@@ -170,17 +170,32 @@ fn is_eventful(trace: &Trace) -> bool {
     trace.deliveries() >= ENOUGH && crashes(trace) > 0 && trace.restarts() > 0
 }
 
+/// Eight processes that echo counts of 200, with a seat for each.
+fn echoing(alloc: Global) -> Option<(Shared<MemStable>, Vec<Seat>)> {
+    let core = begun(alloc, Kind::Echo(200), SEATS, 2)?;
+    opened(alloc, core, u32::from(SEATS), 7)
+}
+
+/// Ends a runtime after the calls of all its seats.
+fn ended_after<R: Threads + Wait + Sync>(
+    rt: &R,
+    alloc: Global,
+    shared: Shared<MemStable>,
+    seats: Vec<Seat>,
+) -> Result<Finished<MemStable>, &'static str> {
+    let done = called(rt, alloc, &shared, seats).ok_or("no memory")?;
+    let seats = seats_of(alloc, done).ok_or("too few calls")?;
+    let seats = close(rt, alloc, &shared, seats).ok_or("too few deliveries")?;
+    finish(shared, seats).ok().ok_or("not finished")
+}
+
 // The first call of all that asks for a crash is never refused, and each seat asks for one in the first hundred of its turns,
 // which are 300 at least. So in whatever order the threads call, a process crashes, and it comes up again at the latest once
 // they are done.
 #[test]
 fn seats_call_at_random(rt: HostRuntime) -> Result<(), Fail> {
-    let core = begun(rt.alloc(), Kind::Echo(200), SEATS, 2).ok_or("not begun")?;
-    let (shared, seats) = opened(rt.alloc(), core, u32::from(SEATS), 7).ok_or("not opened")?;
-    let done = called(&rt, rt.alloc(), &shared, seats).ok_or("no memory")?;
-    let seats = seats_of(rt.alloc(), done).ok_or("too few calls")?;
-    let seats = close(&rt, rt.alloc(), &shared, seats).ok_or("too few deliveries")?;
-    let end = finish(shared, seats).ok().ok_or("not finished")?;
+    let (shared, seats) = echoing(rt.alloc()).ok_or("not begun")?;
+    let end = ended_after(&rt, rt.alloc(), shared, seats)?;
     assert!(rt; end.history.as_slice().len() >= 2_408);
     assert!(rt; is_eventful(end.core.trace()));
     assert!(rt; is_accepted(rt.alloc(), &end.core)?);

@@ -36,6 +36,11 @@ fn comes_back<R: Wait>(rt: &R, shared: &Shared<MemStable>, seat: &mut Seat, spar
         && shared.deliver(rt, seat, Pid(1), Pid(0), 0).is_ok()
 }
 
+/// Whether all these calls are answered as they have to be, and each of them is an item of the seat.
+fn is_served<R: Wait>(rt: &R, shared: &Shared<MemStable>, seat: &mut Seat, spare: Boxed) -> bool {
+    goes_round(rt, shared, seat) && comes_back(rt, shared, seat, spare) && seat.count() == 7
+}
+
 /// A ring of three with one seat, and a spare of its process 1.
 fn ring_and_spare(alloc: Global) -> Option<(Shared<MemStable>, Seat, Boxed)> {
     let (shared, seat) = begun_alone(alloc, Kind::Ring(2), 3, 1)?;
@@ -46,9 +51,7 @@ fn ring_and_spare(alloc: Global) -> Option<(Shared<MemStable>, Seat, Boxed)> {
 #[test]
 fn a_ring_comes_back(rt: HostRuntime) -> Result<(), Fail> {
     let (shared, mut seat, spare) = ring_and_spare(rt.alloc()).ok_or("not begun")?;
-    assert!(rt; goes_round(&rt, &shared, &mut seat));
-    assert!(rt; comes_back(&rt, &shared, &mut seat, spare));
-    assert_eq!(rt; seat.count(), 7);
+    assert!(rt; is_served(&rt, &shared, &mut seat, spare));
     let end = ended(rt.alloc(), shared, seat).ok_or("not finished")?;
     assert!(rt; has_lines(rt.alloc(), end.core.trace(), A_RING_COMES_BACK.lines));
     Ok(())

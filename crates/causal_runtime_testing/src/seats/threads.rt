@@ -153,12 +153,23 @@ fn has_all(end: &Finished<MemStable>, last: &[Item]) -> bool {
     (items.len(), trace.len(), trace.deliveries()) == (8, 16, 8) && contain_all(items, last)
 }
 
+/// What is left of a runtime whose seats have met, and the last item of each.
+fn ended_and_last<R: Threads + Wait + Sync>(
+    rt: &R,
+    alloc: Global,
+) -> Result<(Finished<MemStable>, Vec<Item>), &'static str> {
+    let (shared, done) = overlapped(rt, alloc).ok_or("not opened")?;
+    if !have_met(done.as_slice()) {
+        return Err("the seats did not meet");
+    }
+    let last = last_items(alloc, done.as_slice()).ok_or("no item")?;
+    let end = ended_with(alloc, shared, done).ok_or("not finished")?;
+    Ok((end, last))
+}
+
 #[test]
 fn seats_overlap(rt: HostRuntime) -> Result<(), Fail> {
-    let (shared, done) = overlapped(&rt, rt.alloc()).ok_or("not opened")?;
-    assert!(rt; have_met(done.as_slice()), "the seats did not meet");
-    let last = last_items(rt.alloc(), done.as_slice()).ok_or("no item")?;
-    let end = ended_with(rt.alloc(), shared, done).ok_or("not finished")?;
+    let (end, last) = ended_and_last(&rt, rt.alloc())?;
     assert!(rt; has_all(&end, last.as_slice()));
     assert!(rt; is_accepted(rt.alloc(), &end.core)?);
     Ok(())
@@ -195,12 +206,23 @@ fn are_parts(snapshots: &[Snapshot], trace: &Trace) -> bool {
     true
 }
 
+/// What is left of a runtime whose seats each had a snapshot accepted, and these snapshots.
+fn ended_and_seen<R: Threads + Wait + Sync>(
+    rt: &R,
+    alloc: Global,
+) -> Result<(Finished<MemStable>, Vec<Snapshot>), &'static str> {
+    let (shared, mut done) = overlapped(rt, alloc).ok_or("not opened")?;
+    if !have_accepted(done.as_slice()) {
+        return Err("a snapshot is not accepted");
+    }
+    let seen = snapshots_of(alloc, done.as_mut_slice()).ok_or("no snapshot")?;
+    let end = ended_with(alloc, shared, done).ok_or("not finished")?;
+    Ok((end, seen))
+}
+
 #[test]
 fn snapshot_beside(rt: HostRuntime) -> Result<(), Fail> {
-    let (shared, mut done) = overlapped(&rt, rt.alloc()).ok_or("not opened")?;
-    assert!(rt; have_accepted(done.as_slice()));
-    let seen = snapshots_of(rt.alloc(), done.as_mut_slice()).ok_or("no snapshot")?;
-    let end = ended_with(rt.alloc(), shared, done).ok_or("not finished")?;
+    let (end, seen) = ended_and_seen(&rt, rt.alloc())?;
     assert!(rt; are_parts(seen.as_slice(), end.core.trace()));
     Ok(())
 }
