@@ -77,7 +77,7 @@ fn is_full(alloc: Global, core: &mut Core<MemStable>) -> Result<bool, NoMemory> 
     Ok(answered && before == 65_536 && recorded(core) == before)
 }
 
-/// Such a process and one beside it, of which two may fail.
+/// A process that answers each of its messages by eight, and one that sends nothing, of which two may fail.
 fn flooded_for_two(alloc: Global) -> Result<Core<MemStable>, Fail> {
     let boxes = flooded(alloc, 1)?;
     Ok(started(alloc, 2, boxes, MemStable::new(alloc))?)
