@@ -14,9 +14,8 @@ use Rattle.causal_audit.specs.Numbers.{IsNumbered}
 use Rattle.causal_audit.specs.Breaches.{IsFirstBreach, LeastBreachBy}
 use Rattle.causal_audit.specs.Inside.Among.{FirstBreachBy, HasNoOrphanBy, HasNoOrphanFrom, IsLeastAmong, LeastAmongBy, horizon}
 use Rattle.causal_audit.proofs.Joined.{before_least, not_before_least}
-use Rattle.causal_audit.proofs.Newly.{numbered_some}
 use Rattle.causal_audit.proofs.Lemmas.NumberLemmas.{has_number}
-use Rattle.causal_audit.proofs.Numbered.{numbered_later, numbered_below}
+use Rattle.causal_audit.proofs.Numbered.{numbered_later, numbered_below, numbered_some}
 
 module _ (r : Recording) (f : ℕ) where
   -- the first breach of a delivery is no later than any of its orphans
@@ -37,10 +36,10 @@ module _ (r : Recording) (f : ℕ) where
   nothing : (k : ℕ) → Contains {X = ℕ} [] k → ⊥
   nothing k listed = omega (arith, listed.1)
 
-  chosen : (positions more : List ℕ) (end : ℕ) (a b : Breach) → a.instant ≤ end → b.instant ≤ a.instant → IsLeastAmong r f positions a → IsLeastAmong r f more b → (x : Bool) → comes_before b a ≡ x
+  chosen : (positions more : List ℕ) (end : ℕ) (a b : Breach) → a.instant ≤ end → b.instant ≤ end → IsLeastAmong r f positions a → IsLeastAmong r f more b → (x : Bool) → comes_before b a ≡ x
       → LeastAmongBy r f end (positions ++ more) (if x then Some b else Some a)
   chosen positions more end a b low short one other true before = (
-    omega (arith, low, short),
+    short,
     record {
       among = Contains-append_right positions more b.delivery other.among;
       first = other.first;
@@ -122,7 +121,27 @@ module _ (r : Recording) (f : ℕ) where
     },
   )
   among_joined end until positions more (Some a) (Some b) reach so_far next =
-      chosen positions more end a b so_far.0 (omega (arith, next.0, reach)) so_far.1 next.1 (comes_before b a) refl
+      chosen positions more end a b so_far.0 (omega (arith, so_far.0, next.0, reach)) so_far.1 next.1 (comes_before b a) refl
+
+  -- The same, where both are known up to the same instant.
+  pub among_both : (end : ℕ) (positions more : List ℕ) (one other : Option Breach) → LeastAmongBy r f end positions one → LeastAmongBy r f end more other
+      → LeastAmongBy r f end (positions ++ more) (earlier one other)
+  among_both end positions more None other first second = among_joined end end positions more None other refl first second
+  among_both end positions more (Some a) None first second = (
+    first.0,
+    record {
+      among = Contains-append_left positions more a.delivery first.1.among;
+      first = first.1.first;
+      least = λ j t listed in_time has. elim (Contains-append_cases positions more j listed) [
+        | inl old ↦ first.1.least j t old in_time has
+        | inr new ↦ elim (cases_lt end t) [
+          | inl late ↦ by_bound a end t j first.0 late
+          | inr early ↦ absurd (second j t new early has)
+        ]
+      ];
+    },
+  )
+  among_both end positions more (Some a) (Some b) first second = chosen positions more end a b first.0 second.0 first.1 second.1 (comes_before b a) refl
 
   -- and where none of them has one by then, the least stays
   pub joined_same : (end until : ℕ) (positions more : List ℕ) (one : Option Breach) → until ≡ horizon end one → LeastAmongBy r f end positions one → LeastAmongBy r f until more None

@@ -3,4 +3,4 @@ pub mod Judged
 pub mod LeastLemmas
 pub mod NumberLemmas
 pub mod OneVerdict
-pub mod UpTo
+pub mod Parts

@@ -125,3 +125,11 @@ positions_same e past ps is p = record { count = p.count ∙ sym (no_more e past
     no_more (Crash who) past h = refl
     no_more (Restart who listed) past h = refl
     no_more (Forget who listed) past h = refl
+
+-- a delivery has a determinant
+pub numbered_some : (n : ℕ) (past : List Entry) (i k : ℕ) → AreAccepted n past → IsNumbered past i k → (d : Det) × (det_at past k ≡ Some d)
+numbered_some n past i k formed numbered =
+    elim (det_at past k) as (λ o. det_at past k ≡ o → (d : Det) × (o ≡ Some d)) [
+      | None ↦ λ none. absurd (numbered_det n past i k formed numbered none)
+      | Some d ↦ λ _. (d, refl)
+    ] refl

@@ -1,25 +1,18 @@
 -- Where a delivery has an orphan its determinant is thin.
-use Rattle.std.proofs.Common.{ℕ, ◌≡◌, ◌+◌, ◌-◌, ◌<◌, ◌≤◌, inl, inr, List, length, Some, ◌∙◌, arith}
-use Rattle.std.specs.Prelude.{min}
+use Rattle.std.proofs.Common.{ℕ, ◌≡◌, ◌+◌, ◌<◌, ◌≤◌, inl, inr, List, length, Some, ◌∙◌, arith}
 use Rattle.std.proofs.lemmas.Bool.{cases_lt, false_from_ne_true}
 use Rattle.causal_name.specs.declared.Det.{Det}
 use Rattle.causal_trace.specs.declared.entry.Entry.{Entry}
 use Rattle.causal_trace.specs.Past.{det_at, instant}
-use Rattle.causal_trace.specs.Rows.{AreAccepted, Recording}
+use Rattle.causal_trace.specs.Rows.{AreAccepted}
 use Rattle.causal_trace.specs.Judgement.{HasOrphan}
 use Rattle.causal_trace.proofs.Lemmas.AtInstants.{det_then, instant_length}
-use Rattle.causal_audit.specs.declared.thin.Standing.{Standing}
-use Rattle.causal_audit.specs.declared.thin.Standing.TheVariants.{Kept, Thin, Bare}
-use Rattle.causal_audit.specs.declared.thin.Stretch.{Stretch}
 use Rattle.causal_audit.specs.declared.thins.Thins.{Thins}
-use Rattle.causal_audit.specs.Inside.Among.{HasNoOrphanFrom}
 use Rattle.causal_audit.specs.Inside.Crashes.{IsFirstCrash}
-use Rattle.causal_audit.specs.Inside.Standing.{IsBareAt, IsThinAt, RulesOut}
+use Rattle.causal_audit.specs.Inside.Standing.{IsBareAt, IsThinAt}
 use Rattle.causal_audit.specs.Inside.Thins.{AreThins, MayBeOpen}
-use Rattle.causal_audit.specs.Inside.Until.{IsLeftBy, MayBeIn}
 use Rattle.causal_audit.specs.Laws.{gone}
 use Rattle.causal_audit.specs.Spread.{StaysUntil}
-use Rattle.causal_audit.proofs.Covering.{of_most}
 use Rattle.causal_audit.proofs.Crashed.{crashed}
 use Rattle.causal_audit.proofs.Lemmas.Judged.{exposed}
 use Rattle.causal_audit.proofs.Orphaned.{not_yet}
@@ -67,20 +60,3 @@ module _ (n most : ℕ) (past : List Entry) (formed : AreAccepted n past) (k : �
           | inr inside ↦ inr (orphan_alive inside end c bound first, found.bare u after before (orphan_bare inside))
         ];
       }
-
-  -- and by the stretch in which the instant lies
-  pub orphan_in : (s : Stretch) → u ≤ s.last → RulesOut s.standing n most past d u → MayBeIn s k spread
-  orphan_in s low none = record { at = u; made = orphan_made; inside = low; left = by_standing s.standing none }
-    where
-      by_standing : (x : Standing) → RulesOut x n most past d u → IsLeftBy x spread u
-      by_standing Kept none = none orphan_thin
-      by_standing Thin none =
-          elim (cases_lt spread u) [
-            | inl out ↦ out
-            | inr inside ↦ absurd (none (orphan_bare inside))
-          ]
-      by_standing Bare none = tt
-
--- what is told of crash sets that leave an orphan is told of all
-pub none_of_most : (r : Recording) (f most k from end : ℕ) → most ≡ min f (r.processes - 1) → HasNoOrphanFrom r most k from end → HasNoOrphanFrom r f k from end
-none_of_most r f most k from end is none u above low has = none u above low (of_most r.processes f most (instant r.past u) k is has)

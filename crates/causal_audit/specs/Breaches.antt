@@ -8,8 +8,6 @@ use Rattle.causal_audit.specs.Verdicts.{IsExcess, IsLeastOrphan, IsVerdict}
 use Rattle.causal_audit.specs.Numbers.{IsNumbered}
 use Rattle.causal_audit.specs.declared.breach.Breach.{Breach}
 use Rattle.causal_audit.specs.declared.breach.Excess.{Excess}
-use Rattle.causal_audit.specs.declared.breach.Surveyed.{Surveyed}
-use Rattle.causal_audit.specs.declared.breach.Surveyed.TheVariants.{Told, TooMany}
 use Rattle.causal_audit.specs.declared.verdict.Verdict.{Verdict}
 
 -- the delivery at position k first has an orphan so
@@ -71,14 +69,3 @@ abbrev pub Decides : Option Excess → Option Breach → Verdict → Type 0
 Decides excess breach verdict =
     (r : Recording) (f : ℕ) → FirstExcess r f excess
     → LeastBreachBy r f (deciding (length r.past) excess) 0 (deliveries_in r.past) breach → IsVerdict r f verdict
-
--- what a survey tells is the least breach of all deliveries by the instant `end`; of a run with too many deliveries to look
--- at nothing is known
-abbrev pub IsSurveyed : Recording → ℕ → ℕ → Surveyed → Type 0
-IsSurveyed r f end (Told found) = LeastBreachBy r f end 0 (deliveries_in r.past) found
-IsSurveyed r f end TooMany = Unit {0}
-
--- the verdict is that of every run of which these are the first excess and the least breach of all deliveries
-abbrev pub DecidesWhole : Option Excess → Option Breach → Verdict → Type 0
-DecidesWhole excess breach verdict =
-    (r : Recording) (f : ℕ) → FirstExcess r f excess → LeastBreach r f 0 (deliveries_in r.past) breach → IsVerdict r f verdict

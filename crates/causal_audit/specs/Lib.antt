@@ -1,5 +1,4 @@
 pub mod Breaches
-pub mod Courses
 pub mod Earlier
 pub mod Held
 pub mod Inside
@@ -7,6 +6,7 @@ pub mod Lasting
 pub mod Laws
 pub mod Named
 pub mod Numbers
+pub mod Parts
 pub mod Quiet
 pub mod Spread
 pub mod Sweep

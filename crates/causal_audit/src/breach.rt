@@ -26,16 +26,6 @@ pub struct Excess {
     pub down: Holders,
 }
 
-/// What a survey of a run tells: the least breach of its deliveries, None where none of them has an orphan; or nothing, where
-/// too many of them would have to be looked at one by one.
-#[derive(Clone, Copy, Debug, PartialEq, Eq)]
-pub enum Surveyed {
-    /// The least breach.
-    Told(Option<Breach>),
-    /// Too many deliveries are not seen to be covered.
-    TooMany,
-}
-
 impl Breach {
     ghost use Rattle.causal_audit.specs.Earlier.{comes_before};
 

@@ -3,7 +3,6 @@ ghost use Rattle.std.specs.Prelude.{◌≤◌};
 ghost use Rattle.std.specs.List.Sorted.{IsNonDecreasing};
 ghost use Rattle.causal_audit.specs.Inside.Staying.{RestartsNone};
 
-use crate::budget::Budget;
 use crate::cursor::Cursor;
 use crate::turns::{Passing, Turns};
 use causal_holders::Holders;
@@ -70,14 +69,13 @@ impl Ahead<'_> {
     ghost use Rattle.causal_audit.specs.Inside.Passing.{HasPassed};
 
     /// The first position that is not below `from` of a change or of a restart of one of these processes, or `end` if that
-    /// comes first. Those before it are passed. A step is taken for a restart.
+    /// comes first. Those before it are passed.
     pub fn next(
         &mut self,
         trace: &Trace,
         members: Holders,
         from: u32,
         end: u32,
-        budget: &mut Budget,
     ) -> Next
         requires order { from ≤ end }
         requires turns { AreTurnsKept trace.now.recording.past self.old.turns.turns.now }
@@ -92,7 +90,7 @@ impl Ahead<'_> {
         let mention = self.mentions.next(from, end);
         let first = self.firsts.next(from, end);
         let until = mention.min(first);
-        let position = self.turns.next_restart(trace, members, from, until, budget);
+        let position = self.turns.next_restart(trace, members, from, until);
         Next {
             position,
             mentioned: mention == position,

@@ -1,8 +1,7 @@
 //! The clock of a run. It has one event for each entry, so that an event's number is the entry's position; those of
 //! entries that are neither sends nor deliveries are idle, and tell nothing of the others.
-ghost use Rattle.std.specs.Prelude.{◌≡◌, ◌<◌, ◌≤◌, ◌∷◌, ℕ, List, OnOk, IfOk, IfErr, length, slice_index};
+ghost use Rattle.std.specs.Prelude.{◌≡◌, ◌<◌, ◌∷◌, ℕ, List, OnOk, IfOk, IfErr, length, slice_index};
 ghost use Rattle.causal_trace.specs.declared.entry.Entry.{Entry};
-ghost use Rattle.causal_trace.specs.Past.{instant};
 ghost use Rattle.causal_trace.specs.Rows.{AreAccepted};
 ghost use Rattle.causal_audit.specs.Inside.Stands.{CanMirror, Mirrors, Stands};
 
@@ -59,27 +58,19 @@ fn first_lanes(alloc: Global, n: u16) -> Result<Vec<u32>, NoMemory>
     Ok(lanes)
 }
 
-/// The clock of a run up to the instant `end`.
-pub fn clocks_until(alloc: Global, trace: &Trace, end: u32) -> Result<Clocks, NoMemory>
-    requires { end ≤ length trace.now.recording.past }
-    ensures { IfOk result (λ clocks. Stands (instant trace.now.recording.past end) clocks.events) }
+/// The clock of a run.
+pub fn clocks_of(alloc: Global, trace: &Trace) -> Result<Clocks, NoMemory>
+    ensures { IfOk result (λ clocks. Stands trace.now.recording.past clocks.events) }
 {
     let n = trace.processes();
     let Ok(mut clocks) = Clocks::new(alloc, n) else {
         return Err(NoMemory);
     };
     let mut present = first_lanes(alloc, n)?;
-    for entry in &trace.entries()[..end as usize] {
+    for entry in trace.entries() {
         if note(entry, &mut clocks, present.as_mut_slice()).is_err() {
             return Err(NoMemory);
         }
     }
     Ok(clocks)
-}
-
-/// The clock of a whole run.
-pub fn clocks_of(alloc: Global, trace: &Trace) -> Result<Clocks, NoMemory>
-    ensures { IfOk result (λ clocks. Stands trace.now.recording.past clocks.events) }
-{
-    clocks_until(alloc, trace, trace.len())
 }

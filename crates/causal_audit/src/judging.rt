@@ -1,7 +1,7 @@
 //! The verdict on a recorded run.
 ghost use Rattle.std.specs.Prelude.{◌≡◌, ◌≤◌, ◌<◌, ℕ, length};
 ghost use Rattle.causal_trace.specs.Past.{deliveries_in};
-ghost use Rattle.causal_audit.specs.Breaches.{Decides, DecidesWhole, FirstBreach, FirstExcess, LeastBreach, LeastBreachBy, deciding};
+ghost use Rattle.causal_audit.specs.Breaches.{Decides, FirstBreach, FirstExcess, LeastBreachBy};
 ghost use Rattle.causal_audit.specs.Inside.Among.{FirstBreachBy, horizon};
 ghost use Rattle.causal_audit.specs.Numbers.{IsNumbered};
 ghost use Rattle.causal_audit.specs.Verdicts.{IsVerdict};
@@ -18,14 +18,6 @@ pub fn first_excess(tables: &Tables, f: u16) -> Option<Excess>
     ensures { FirstExcess tables.now f result }
 {
     first_excess_in(tables.trace(), f)
-}
-
-/// The last instant that can decide: that of the first excess, or the last of the run.
-pub fn deciding(tables: &Tables, excess: &Option<Excess>) -> u32
-    ensures value { result ≡ deciding (length tables.now.past) excess.now }
-    ensures within { (f : ℕ) → FirstExcess tables.now f excess.now → result ≤ length tables.now.past }
-{
-    deciding_in(tables.trace(), excess)
 }
 
 /// How the delivery of number i first has an orphan, if it has one by the instant `end`.
@@ -60,24 +52,14 @@ fn horizon(end: u32, least: &Option<Breach>) -> u32
     }
 }
 
-/// The least breach, by instant and then by position, of the deliveries numbered from `from` and below `to`; None where
-/// none of them has an orphan.
-pub fn least_between(tables: &Tables, f: u16, from: u32, to: u32) -> Option<Breach>
-    requires { (from ≤ to) × (to ≤ deliveries_in tables.now.past) }
-    ensures { LeastBreach tables.now f from to result }
-{
-    least_by(tables, f, tables.entries(), from, to)
-}
-
-/// The same, if that breach comes by the instant `end`, which is no later than the last; None where none does. No instant
-/// is looked at that is later than `end` or than a breach that was found.
-pub fn least_by(tables: &Tables, f: u16, end: u32, from: u32, to: u32) -> Option<Breach>
-    requires part { (from ≤ to) × (to ≤ deliveries_in tables.now.past) }
-    requires within { end ≤ length tables.now.past }
-    ensures { LeastBreachBy tables.now f end from to result }
+/// The least breach of all deliveries, by instant and then by position, if it comes by the instant `end`; None where none
+/// does. No instant is looked at that is later than `end` or than a breach that was found.
+fn least_by(tables: &Tables, f: u16, end: u32) -> Option<Breach>
+    requires { end ≤ length tables.now.past }
+    ensures { LeastBreachBy tables.now f end 0 (deliveries_in tables.now.past) result }
 {
     let mut least = None;
-    for i in from..to {
+    for i in 0..tables.deliveries() {
         let until = horizon(end, &least);
         if until <= tables.position(i) {
             return least;
@@ -110,8 +92,7 @@ fn orphan(breach: Breach) -> Verdict
 /// The verdict, from the first excess and the least breach of all deliveries, if that comes by the last instant that can
 /// decide.
 pub fn decided(excess: Option<Excess>, breach: Option<Breach>) -> Verdict
-    ensures bounded { Decides excess breach result }
-    ensures whole { DecidesWhole excess breach result }
+    ensures { Decides excess breach result }
 {
     match (excess, breach) {
         (None, None) => Verdict::Accept,
@@ -134,6 +115,6 @@ pub fn judge(tables: &Tables, f: u16) -> Verdict
     ensures only { (other : Verdict) → IsVerdict tables.now f other → other ≡ result }
 {
     let excess = first_excess(tables, f);
-    let end = deciding(tables, &excess);
-    decided(excess, least_by(tables, f, end, 0, tables.deliveries()))
+    let end = deciding_in(tables.trace(), &excess);
+    decided(excess, least_by(tables, f, end))
 }

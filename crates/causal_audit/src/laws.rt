@@ -1,5 +1,4 @@
 //! Laws over the judgement of recorded runs. Each function does nothing: what it ensures is the law.
-ghost use Rattle.causal_audit.specs.Courses.{LeastUpTo};
 ghost use Rattle.causal_audit.specs.Held.{SafeIsHeld};
 ghost use Rattle.causal_audit.specs.Lasting.{OrphansEnd};
 ghost use Rattle.causal_audit.specs.Quiet.{InstantsAgree, OrphansAgree};
@@ -67,9 +66,4 @@ pub fn covered_deliveries()
     ensures alone { StaysAlone }
     ensures covered { CoveredHasNone }
     ensures crashed { CrashedHasNone }
-{}
-
-/// What a run up to one of its instants tells of its least breach, it tells of the whole run up to that instant.
-pub fn runs_up_to()
-    ensures { LeastUpTo }
 {}

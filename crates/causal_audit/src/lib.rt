@@ -6,19 +6,16 @@
 //! either. `laws` states what the judgement rests on.
 #![tactic(auto)]
 
+pub mod audit;
 pub mod breach;
-mod budget;
 mod changes;
-pub mod course;
 mod cover;
 mod crashes;
 mod cursor;
-mod effects;
 mod events;
 pub mod excess;
 mod holding;
 pub mod judging;
-mod kind;
 mod lanes;
 pub mod laws;
 mod lists;
@@ -28,30 +25,25 @@ mod mentions;
 mod numbering;
 mod orphans;
 mod outline;
+pub mod prepared;
 mod reach;
 mod releases;
 mod restarts;
-mod rising;
-pub mod room;
 mod scan;
-mod sharing;
 mod sight;
 mod spreads;
-pub mod survey;
-pub mod sweep;
+mod survey;
 pub mod tables;
 mod thin;
 mod thins;
 mod turns;
-mod until;
 pub mod verdict;
 
-pub use breach::{Breach, Excess, Surveyed, earlier};
-pub use course::Course;
+pub use audit::{least_by, verdict_of};
+pub use breach::{Breach, Excess, earlier};
 pub use excess::{deciding_in, first_excess_in};
-pub use judging::{decided, deciding, first_breach, first_excess, judge, least_between, least_by};
-pub use room::Room;
-pub use survey::least_surveyed;
-pub use sweep::least_swept;
+pub use judging::{decided, first_breach, first_excess, judge};
+pub use prepared::{Part, Prepared};
+pub use scan::GROUP;
 pub use tables::Tables;
 pub use verdict::Verdict;

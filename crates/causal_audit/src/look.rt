@@ -10,7 +10,6 @@ ghost use Rattle.causal_audit.specs.Inside.Ahead.{HasNoneUntil};
 ghost use Rattle.causal_audit.specs.Inside.Changes.{AreMentionsOf, HasMentions};
 ghost use Rattle.causal_audit.specs.Inside.Outlines.{AreMentionsOf-prop};
 
-use crate::budget::Budget;
 use crate::cover::Cover;
 use crate::cursor::Cursor;
 use crate::outline::Outline;
@@ -95,9 +94,9 @@ impl<'a> Look<'a> {
     }
 
     /// The next stretch, up to the next entry that mentions the determinant or restarts one of those who were down or held it:
-    /// until then they still are or do. None where all is looked at. Each restart that it stops at takes a step; what was
-    /// stable or held by too many for good is not looked at any more.
-    pub fn next(&self, stop: &mut Stop<'a>, budget: &mut Budget) -> Option<Stretch>
+    /// until then they still are or do. None where all is looked at. What was stable or held
+    /// by too many for good is not looked at any more.
+    pub fn next(&self, stop: &mut Stop<'a>) -> Option<Stretch>
         requires { stop.old.t ≤ self.now.end → IsStop self.now stop.old }
         ensures formed { IsWellFormed self.now.run.trace.now.recording }
         ensures short { self.now.end ≤ max_entries }
@@ -114,7 +113,7 @@ impl<'a> Look<'a> {
         let gone = stop.cover.gone();
         let last = stop
             .turns
-            .next_restart(self.run.trace, gone, first, mention, budget);
+            .next_restart(self.run.trace, gone, first, mention);
         let stretch = Stretch {
             first,
             last,

@@ -2,7 +2,6 @@
 ghost use Rattle.std.specs.Prelude.{◌≡◌, ◌≤◌, IfOk, IfSome, length};
 ghost use Rattle.causal_audit.specs.Inside.Kept.{AreMentionsKept};
 
-use crate::budget::Budget;
 use crate::look::Look;
 use crate::mentions::Mentions;
 use crate::outline::Outline;
@@ -31,25 +30,21 @@ impl<'a> Looks<'a> {
         }
     }
 
-    /// What one look at each determinant finds, where at most `most` processes may crash; None where the steps do not suffice. All
-    /// of them pass the mentions once; they take steps for the restarts that they stop at.
+    /// What one look at each determinant finds, where at most `most` processes may crash. All of them pass the mentions
+    /// once, and each the restarts of processes that were down or held its determinant.
     pub fn of(
         alloc: Global,
         run: &Outline<'a>,
         mentions: &'a Mentions,
         most: u16,
         end: u32,
-        budget: &mut Budget,
-    ) -> Result<Option<Looks<'a>>, NoMemory>
+    ) -> Result<Looks<'a>, NoMemory>
         requires within { end ≤ length run.now.trace.now.recording.past }
         requires mentioned { AreMentionsKept run.now.trace.now.recording.past mentions.now }
-        ensures { IfOk result (λ found. IfSome found (AreAllLooks run.now.trace.now.recording most end)) }
+        ensures { IfOk result (AreAllLooks run.now.trace.now.recording most end) }
     {
         let mut found = Vec::with_capacity(alloc, mentions.lists.len())?;
         for number in 0..mentions.lists.len() {
-            if budget.is_spent() {
-                return Ok(None);
-            }
             let det = mentions.numbers.det(number);
             let look = Look {
                 run: *run,
@@ -58,8 +53,8 @@ impl<'a> Looks<'a> {
                 most,
                 end,
             };
-            found.push(Thins::of(alloc, &look, budget)?)?;
+            found.push(Thins::of(alloc, &look)?)?;
         }
-        Ok(Some(Looks { mentions, found }))
+        Ok(Looks { mentions, found })
     }
 }

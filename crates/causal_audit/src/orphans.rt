@@ -7,7 +7,6 @@ ghost use Rattle.causal_audit.specs.Inside.Among.{FirstBreachBy};
 ghost use Rattle.causal_audit.specs.Inside.Followed.{AreFollowed, IsReachedBy};
 
 use crate::breach::Breach;
-use crate::budget::Budget;
 use crate::changes::Changes;
 use crate::outline::Outline;
 use crate::sight::Sight;
@@ -46,7 +45,7 @@ fn is_reached(entry: &Entry, dependents: Holders, newly: bool) -> bool
 /// How the delivery at position k, whose determinant this is, first has an orphan, if it has one by the instant `end`. Only
 /// the instants after a change are looked at, from the delivery or the first mention of its determinant on, until no later
 /// one can have an orphan: from `lasting_from` on no entry releases a process. A crash is no change, and a restart only where
-/// the process was down, held the determinant or depended on the delivery after the last one; those take steps.
+/// the process was down, held the determinant or depended on the delivery after the last one.
 pub fn first_orphan(
     run: &Outline<'_>,
     changes: &Changes<'_>,
@@ -54,7 +53,6 @@ pub fn first_orphan(
     end: u32,
     k: u32,
     det: Det,
-    budget: &mut Budget,
 ) -> Option<Breach>
     requires within { end ≤ length run.now.trace.now.recording.past }
     requires delivery { det_at run.now.trace.now.recording.past k ≡ Some det }
@@ -66,7 +64,7 @@ pub fn first_orphan(
     let mut ahead = changes.ahead(run.turns, t);
     let mut sight = Sight::begin(ahead.turns.down());
     while t < end {
-        let next = ahead.next(run.trace, sight.members(), t, end, budget);
+        let next = ahead.next(run.trace, sight.members(), t, end);
         let change = next.position;
         if change == end {
             return None;

@@ -7,10 +7,9 @@ ghost use Rattle.causal_audit.specs.Inside.Among.{FirstBreachBy, LeastAmongBy};
 ghost use Rattle.causal_audit.specs.Inside.Filed.{lists_in};
 ghost use Rattle.causal_audit.specs.Inside.Followed.{AreFirstsBelow};
 ghost use Rattle.causal_audit.specs.Inside.Reaching.{HaveFirstsWithin};
-ghost use Rattle.causal_audit.specs.Inside.Scans.{IsToldAmong, IsWindow, positions_of};
+ghost use Rattle.causal_audit.specs.Inside.Scans.{IsWindow, positions_of};
 
-use crate::breach::{Breach, Surveyed, earlier};
-use crate::budget::Budget;
+use crate::breach::{Breach, earlier};
 use crate::changes::Changes;
 use crate::mentions::Mentions;
 use crate::orphans::first_orphan;
@@ -22,10 +21,7 @@ use std::alloc::Global;
 use std::marker::Model;
 
 /// How many deliveries are followed by one walk over the entries.
-const GROUP: usize = 256;
-
-/// How many entries of a walk are one step.
-const WALKED: u32 = 8;
+pub const GROUP: usize = 256;
 
 /// What is read of a recorded run to follow the messages of a delivery: the outline of the run, and what mentions each
 /// determinant. It is seen as the recording.
@@ -78,15 +74,6 @@ fn last_of(windows: &[Window], end: u32) -> u32
     last
 }
 
-/// How many numbers these lists have in all.
-fn listed_in_all(lists: &[Vec<u32>]) -> usize {
-    let mut all = 0_usize;
-    for list in lists {
-        all = all.saturating_add(list.len());
-    }
-    all
-}
-
 impl Scan<'_> {
     /// How the delivery of a window, if there is one at its position, first has an orphan, if it has one by the instant
     /// `end`. It newly reaches a process by the firsts. No instant is looked at from which on it has none any more.
@@ -96,7 +83,6 @@ impl Scan<'_> {
         end: u32,
         window: Window,
         firsts: &[u32],
-        budget: &mut Budget,
     ) -> Option<Breach>
         requires within { end ≤ length self.now.past }
         requires window { IsWindow self.now f end window }
@@ -116,7 +102,7 @@ impl Scan<'_> {
             firsts,
         };
         let last = window.until.min(end);
-        first_orphan(&self.outline, &changes, f, last, k, det, budget)
+        first_orphan(&self.outline, &changes, f, last, k, det)
     }
 
     /// The least breach of the deliveries of a group, if it comes by the instant `end`, where the lists tell by which
@@ -129,7 +115,6 @@ impl Scan<'_> {
         last: u32,
         group: &[Window],
         lists: &[Vec<u32>],
-        budget: &mut Budget,
     ) -> Option<Breach>
         requires within { end ≤ length self.now.past }
         requires windows { All (IsWindow self.now f end) group.now }
@@ -143,7 +128,7 @@ impl Scan<'_> {
         for place in 0..group.len() {
             let window = group[place];
             let firsts = lists[place].as_slice();
-            if let Some(found) = self.first_breach_in(f, until, window, firsts, budget) {
+            if let Some(found) = self.first_breach_in(f, until, window, firsts) {
                 until = found.instant;
                 least = earlier(least, Some(found));
             }
@@ -160,7 +145,6 @@ impl Scan<'_> {
         f: u16,
         end: u32,
         group: &[Window],
-        budget: &mut Budget,
     ) -> Result<Option<Breach>, NoMemory>
         requires within { end ≤ length self.now.past }
         requires few { length group.now ≤ 256 }
@@ -170,20 +154,16 @@ impl Scan<'_> {
         let last = last_of(group, end);
         let first = first_of(group, last);
         let lists = firsts_of(alloc, self.outline.trace, first, last, group)?;
-        budget.charge(((last - first) / WALKED) as usize);
-        budget.charge(listed_in_all(lists.as_slice()));
-        Ok(self.least_of(f, end, last, group, lists.as_slice(), budget))
+        Ok(self.least_of(f, end, last, group, lists.as_slice()))
     }
 
     /// The least breach, by instant and then by position, of the deliveries of these windows, if it comes by the
-    /// instant `end`; None where none of them has an orphan by then. Where the steps do not suffice nothing is told.
+    /// instant `end`; None where none of them has an orphan by then.
     ///
     /// They are followed in groups of 256: for each the entries are walked once, from the first of the group up to the
-    /// last instant at which one of it may have an orphan, or to a breach that was found. Eight entries of a walk take
-    /// a step, and so does each entry by which one of the group newly reaches a process in its window. Then each
-    /// delivery takes time as what changes for it until it has no orphan any more: as those entries, the restarts that
-    /// are looked at, which take steps, and the mentions of its determinant, which are the caller's to count. For one
-    /// group at a time it takes 32 bytes for each entry of its walk and four for each entry by which one newly reaches
+    /// last instant at which one of it may have an orphan, or to a breach that was found. Then each delivery takes time
+    /// as what changes for it until it has no orphan any more: as the entries by which it newly reaches a process, the
+    /// restarts that are looked at, and the mentions of its determinant. For one group at a time it takes 32 bytes for each entry of its walk and four for each entry by which one newly reaches
     /// a process in its window.
     ///
     /// # Errors
@@ -194,24 +174,20 @@ impl Scan<'_> {
         f: u16,
         end: u32,
         windows: &[Window],
-        budget: &mut Budget,
-    ) -> Result<Surveyed, NoMemory>
+    ) -> Result<Option<Breach>, NoMemory>
         requires within { end ≤ length self.now.past }
         requires below { All (λ window. window.position < end) windows.now }
         requires windows { All (IsWindow self.now f end) windows.now }
-        ensures { IfOk result (IsToldAmong self.now f end (positions_of windows.now)) }
+        ensures { IfOk result (LeastAmongBy self.now f end (positions_of windows.now)) }
     {
         let mut least = None;
         let mut until = end;
         for group in windows.chunks(GROUP) {
-            if budget.is_spent() {
-                return Ok(Surveyed::TooMany);
-            }
-            if let Some(found) = self.least_in_group(alloc, f, until, group, budget)? {
+            if let Some(found) = self.least_in_group(alloc, f, until, group)? {
                 until = found.instant;
                 least = earlier(least, Some(found));
             }
         }
-        Ok(Surveyed::Told(least))
+        Ok(least)
     }
 }

@@ -9,7 +9,6 @@ ghost use Rattle.causal_audit.specs.Inside.Staying.{later, members};
 ghost use Rattle.causal_audit.specs.Inside.Sights.{ExposesLeast, IsSightAfter, IsSightBegun, ShowsDependentsAfter, ShowsDownAfter, TellsOver};
 
 use crate::holding::holders_after;
-use crate::kind::Kind;
 use causal_holders::Holders;
 use causal_name::Det;
 use causal_trace::entry::Entry;
@@ -49,7 +48,14 @@ pub fn without(mut members: Holders, p: u8) -> Holders
 pub fn down_after(down: Holders, entry: &Entry) -> Holders
     ensures { ShowsDownAfter entry.now down result }
 {
-    Kind::of(entry).down_after(down)
+    match entry {
+        Entry::Crash { who } => with(down, who.0),
+        Entry::Restart { who, .. } => without(down, who.0),
+        Entry::Send { .. } => down,
+        Entry::Deliver { .. } => down,
+        Entry::Stable { .. } => down,
+        Entry::Forget { .. } => down,
+    }
 }
 
 /// Whether the determinant is stable after one more entry.

@@ -3,10 +3,8 @@
 ghost use Rattle.std.specs.Prelude.{◌≡◌, ◌≤◌, ◌<◌, IfOk, length, slice_set};
 ghost use Rattle.causal_trace.specs.Limits.{max_entries};
 ghost use Rattle.causal_audit.specs.Inside.Spreads.{acting, spread_at, with_delivered, with_spread};
-ghost use Rattle.causal_audit.specs.Inside.Stands.{SpreadsOf, StaysOf};
+ghost use Rattle.causal_audit.specs.Inside.Stands.{StaysOf};
 
-use crate::lanes::LANES;
-use causal_clock::Clocks;
 use causal_holders::PROCESSES;
 use causal_name::NoMemory;
 use causal_trace::entry::Entry;
@@ -35,24 +33,6 @@ fn note_spread(spreads: &mut Vec<u32>, outs: &mut [u32], entry: &Entry, lane: us
     let first = spreads[i as usize].min(outs[lane]);
     outs[lane] = first;
     spreads[i as usize] = first;
-}
-
-/// For each entry the first position at which a message that its lane sends from then on is delivered, or the end.
-pub fn spreads_of(alloc: Global, entries: &[Entry], clocks: &Clocks) -> Result<Vec<u32>, NoMemory>
-    requires few { length entries.now ≤ max_entries }
-    requires count { length entries.now ≡ length clocks.now.events }
-    ensures { IfOk result (λ spreads. SpreadsOf entries.now clocks.now.events spreads.items) }
-{
-    let end = entries.len() as u32;
-    let mut spreads = vec![in alloc; end; entries.len()]?;
-    let mut outs = [end; LANES];
-    let mut i = end;
-    while i > 0 {
-        i -= 1;
-        let lane = clocks.lane(i) as usize;
-        note_spread(&mut spreads, &mut outs, &entries[i as usize], lane, i);
-    }
-    Ok(spreads)
 }
 
 /// The process of a send or a delivery; of another entry it is any.

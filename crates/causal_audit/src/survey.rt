@@ -1,24 +1,19 @@
-//! The survey of a run: which deliveries are not seen to be covered throughout, and the least breach of these. It needs no
-//! clock.
+//! The survey of a run: which deliveries are not seen to be covered throughout, and until when each may be uncovered. It
+//! needs no clock.
 ghost use Rattle.std.specs.Prelude.{◌≡◌, ◌+◌, ◌≤◌, ◌<◌, IfOk, OnOk, Some, length};
 ghost use Rattle.causal_trace.specs.Past.{det_at};
-ghost use Rattle.causal_audit.specs.Breaches.{IsSurveyed};
 ghost use Rattle.causal_audit.specs.Inside.Among.{HasNoOrphanFrom};
 ghost use Rattle.causal_audit.specs.Inside.AllLooks.{AreAllLooks};
-ghost use Rattle.causal_audit.specs.Inside.Surveys.{AreGathered, most_of};
+ghost use Rattle.causal_audit.specs.Inside.Kept.{AreMentionsKept};
+ghost use Rattle.causal_audit.specs.Inside.Surveys.{AreGathered, asked_of, most_of};
 
-use crate::breach::Surveyed;
-use crate::budget::Budget;
 use crate::crashes::{crashes_in, first_crash};
 use crate::looks::Looks;
-use crate::mentions::{Mentions, mentions_in};
+use crate::mentions::Mentions;
 use crate::outline::Outline;
-use crate::releases::lasting_from;
-use crate::scan::{Scan, Window};
+use crate::scan::Window;
 use crate::spreads::stays_of;
-use crate::turns::Turns;
 use causal_name::{Det, NoMemory};
-use causal_trace::trace::Trace;
 use std::alloc::Global;
 use std::marker::Model;
 
@@ -62,13 +57,11 @@ impl Survey<'_, '_> {
         thins.uncovered_until(k, self.stays[k as usize], crash, self.end)
     }
 
-    /// Gathers the window of the delivery at position k, if there is one that is not seen to be covered throughout, and takes a
-    /// step for each mention of its determinant, which are passed once more when it is followed.
+    /// Gathers the window of the delivery at position k, if there is one that is not seen to be covered throughout.
     fn gather(
         &self,
         looks: &Looks<'_>,
         k: u32,
-        budget: &mut Budget,
         gathered: &mut Vec<Window>,
     ) -> Result<(), NoMemory>
         requires early { k < self.now.end }
@@ -84,92 +77,58 @@ impl Survey<'_, '_> {
             return Ok(());
         }
         gathered.push(Window { position: k, until })?;
-        budget.charge(self.mentions.list(det).len());
         Ok(())
     }
 
     /// The windows of the deliveries before the end that are not seen to be covered throughout, in order.
-    fn uncovered(
-        &self,
-        alloc: Global,
-        looks: &Looks<'_>,
-        budget: &mut Budget,
-    ) -> Result<Vec<Window>, NoMemory>
+    fn uncovered(&self, alloc: Global, looks: &Looks<'_>) -> Result<Vec<Window>, NoMemory>
         requires { AreAllLooks self.now.run (most_of self.now.run self.now.f) self.now.end looks.now }
         ensures { IfOk result (λ windows. AreGathered self.now self.now.end windows.items) }
     {
         let mut gathered = Vec::new(alloc);
         for k in 0..self.end {
-            self.gather(looks, k, budget, &mut gathered)?;
+            self.gather(looks, k, &mut gathered)?;
         }
         Ok(gathered)
     }
 
-    /// The least breach of the deliveries, where the steps suffice: the messages of those that are not seen to be covered are
-    /// followed, those of a group at once.
-    fn least(&self, alloc: Global) -> Result<Surveyed, NoMemory>
-        ensures { IfOk result (IsSurveyed self.now.run self.now.f self.now.end) }
+    /// The windows of the deliveries before the end that are not seen to be covered throughout, by one look at each
+    /// determinant.
+    fn windows(&self, alloc: Global) -> Result<Vec<Window>, NoMemory>
+        ensures { IfOk result (λ windows. AreGathered self.now self.now.end windows.items) }
     {
-        let trace = self.outline.trace;
-        let mut budget = Budget::of(trace);
         // An orphan survives, so never all processes are in its crash set.
-        let most = self.f.min(trace.processes() - 1);
-        let Some(looks) = Looks::of(
-            alloc,
-            &self.outline,
-            self.mentions,
-            most,
-            self.end,
-            &mut budget,
-        )?
-        else {
-            return Ok(Surveyed::TooMany);
-        };
-        let uncovered = self.uncovered(alloc, &looks, &mut budget)?;
-        let scan = Scan {
-            outline: self.outline,
-            mentions: self.mentions,
-        };
-        scan.least_among(alloc, self.f, self.end, uncovered.as_slice(), &mut budget)
+        let most = self.f.min(self.outline.trace.processes() - 1);
+        let looks = Looks::of(alloc, &self.outline, self.mentions, most, self.end)?;
+        self.uncovered(alloc, &looks)
     }
 }
 
-/// The least breach of a run by the instant `end`, by instant and then by position, as far as a survey tells: where its steps
-/// suffice to look at all determinants, and to follow the deliveries before it that are not seen to be covered throughout.
-///
-/// It takes time and memory as the entries and the listed determinants, to read them and to look at each determinant once,
-/// whatever number of deliveries share it, and for each delivery the logarithm of what was found; then at most 64 steps for each
-/// entry and one for each listed determinant, and what it takes to look at one determinant and to follow one group more. A look
-/// takes a step for each restart of a process that was down or held the determinant. A delivery that is not covered throughout
-/// is followed up to the instant from which on it is. For that the mentions of its determinant are counted when it is found, and
-/// each restart when it is looked at. The walk of a group of 256 takes a step for each eight entries, from the first of its
-/// deliveries up to the last of those instants, and one for each entry by which one of them newly reaches a process. Where many
-/// deliveries that share a determinant that is mentioned often stay uncovered, or many in a run with many processes, the steps
-/// may not suffice; then nothing is told.
+/// The windows of the deliveries of a run before the instant `end` that may have an orphan for f by then, in order.
 ///
 /// # Errors
 /// `NoMemory` where memory was refused.
-pub fn least_surveyed(alloc: Global, trace: &Trace, f: u16, end: u32) -> Result<Surveyed, NoMemory>
-    requires { end ≤ length trace.now.recording.past }
-    ensures { IfOk result (IsSurveyed trace.now.recording f end) }
+pub fn windows_of(
+    alloc: Global,
+    outline: Outline<'_>,
+    mentions: &Mentions,
+    f: u16,
+    end: u32,
+) -> Result<Vec<Window>, NoMemory>
+    requires within { end ≤ length outline.trace.now.recording.past }
+    requires mentioned { AreMentionsKept outline.trace.now.recording.past mentions.now }
+    ensures { IfOk result (λ windows. AreGathered (asked_of outline.entry.trace.now.recording f end) end windows.items) }
 {
-    let entries = trace.entries();
-    let mentions = mentions_in(alloc, entries)?;
-    let turns = Turns::of(alloc, entries)?;
+    let entries = outline.trace.entries();
     let crashes = crashes_in(alloc, entries)?;
     let stays = stays_of(alloc, entries)?;
-    let outline = Outline {
-        trace,
-        lasting_from: lasting_from(entries),
-        turns: &turns,
-    };
     let survey = Survey {
         outline,
-        mentions: &mentions,
+        mentions,
         crashes: crashes.as_slice(),
         stays: stays.as_slice(),
         f,
         end,
     };
-    survey.least(alloc)
+    survey.windows(alloc)
 }

@@ -10,18 +10,14 @@ ghost use Rattle.causal_audit.specs.Numbers.{IsNumbered, ArePositions};
 ghost use Rattle.causal_audit.specs.Inside.Positions.{ArePositionsAfter};
 
 use crate::breach::Breach;
-use crate::budget::Budget;
 use crate::changes::Changes;
 use crate::events::clocks_of;
 use crate::lanes::{LANES, lanes_of, write_firsts};
-use crate::look::Look;
 use crate::mentions::{Mentions, mentions_in};
 use crate::orphans::first_orphan;
 use crate::outline::Outline;
 use crate::releases::lasting_from;
-use crate::spreads::spreads_of;
 use crate::turns::Turns;
-use crate::until::uncovered_until;
 use causal_clock::Clocks;
 use causal_name::{Det, NoMemory};
 use causal_trace::entry::Entry;
@@ -30,8 +26,7 @@ use std::alloc::Global;
 use std::marker::Model;
 
 /// What is kept of a recorded run to judge it: a copy of its trace, the positions of its deliveries, a clock of its
-/// entries, the position from which on no process is released, how long each delivery stays with its receiver, and where something
-/// may change for a delivery. It is seen as the recording.
+/// entries, the position from which on no process is released, and where something may change for a delivery. It is seen as the recording.
 #[derive(Drop)]
 pub struct Tables {
     trace: Trace,
@@ -41,7 +36,6 @@ pub struct Tables {
     mentions: Mentions,
     turns: Turns,
     lanes: Vec<Vec<u32>>,
-    spreads: Vec<u32>,
 }
 
 impl Model for Tables {
@@ -55,7 +49,7 @@ impl Model for Tables {
 
     ghost invariant = { λ a. AreTables a.trace.recording a.positions.items a.clocks.events a.lasting_from
         × AreIndexes a.trace.recording a.clocks.events a.mentions.numbers (lists_in a.mentions.lists.items)
-        a.turns (lists_in a.lanes.items) a.spreads.items };
+        a.turns (lists_in a.lanes.items) };
 }
 
 impl Tables {
@@ -73,7 +67,6 @@ impl Tables {
         let mentions = mentions_in(alloc, entries)?;
         let turns = Turns::of(alloc, entries)?;
         let lanes = lanes_of(alloc, entries, &clocks)?;
-        let spreads = spreads_of(alloc, entries, &clocks)?;
         let trace = trace.try_clone()?;
         Ok(Tables {
             trace,
@@ -83,7 +76,6 @@ impl Tables {
             mentions,
             turns,
             lanes,
-            spreads,
         })
     }
 
@@ -139,19 +131,6 @@ impl Tables {
             turns: &self.turns,
         };
         let mentions = self.mentions.list(det);
-        let look = Look {
-            run,
-            mentions,
-            det,
-            // An orphan survives, so never all processes are in its crash set.
-            most: f.min(self.trace.processes() - 1),
-            end,
-        };
-        let mut budget = Budget::endless();
-        let until = uncovered_until(&look, self.spreads[k as usize], k, &mut budget);
-        if until == 0 {
-            return None;
-        }
         let mut room = [0; LANES];
         let firsts = &mut room[..self.lanes.len()];
         write_firsts(firsts, &self.clocks, &self.lanes, k, self.entries());
@@ -159,8 +138,7 @@ impl Tables {
             mentions,
             firsts: &*firsts,
         };
-        let last = until.min(end);
-        first_orphan(&run, &changes, f, last, k, det, &mut budget)
+        first_orphan(&run, &changes, f, end, k, det)
     }
 }
 

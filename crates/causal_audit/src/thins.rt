@@ -6,7 +6,6 @@ ghost use Rattle.causal_trace.specs.Limits.{max_entries};
 ghost use Rattle.causal_audit.specs.Inside.Looks.{IsPassed};
 ghost use Rattle.causal_audit.specs.Inside.Thins.{AreFound, AreRising, AreThins, EndsBy, MayBeOpen};
 
-use crate::budget::Budget;
 use crate::look::Look;
 use crate::thin::{Standing, Stretch};
 use causal_name::NoMemory;
@@ -57,12 +56,12 @@ impl Thins {
 
     /// What a look at a determinant finds from its first mention on. It takes time as its mentions, and as the restarts that it
     /// stops at.
-    pub fn of(alloc: Global, look: &Look<'_>, budget: &mut Budget) -> Result<Thins, NoMemory>
+    pub fn of(alloc: Global, look: &Look<'_>) -> Result<Thins, NoMemory>
         ensures { IfOk result (AreFound look.now (look.now.end + 1)) }
     {
         let mut stop = look.start(look.end);
         let mut thins = Thins::none(alloc, stop.t);
-        while let Some(stretch) = look.next(&mut stop, budget) {
+        while let Some(stretch) = look.next(&mut stop) {
             thins.note(stretch)?;
         }
         Ok(thins)

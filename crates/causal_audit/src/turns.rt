@@ -10,7 +10,6 @@ ghost use Rattle.causal_audit.specs.Inside.Filed.{AreTurns, past_of};
 ghost use Rattle.causal_audit.specs.Inside.Sights.{Shows};
 ghost use Rattle.causal_audit.specs.Inside.Staying.{RestartsNone, restarts_one};
 
-use crate::budget::Budget;
 use crate::restarts::Restarts;
 use crate::sight::down_after;
 use causal_holders::Holders;
@@ -217,15 +216,14 @@ impl Passing<'_> {
         self.turns.downs[self.passed - 1]
     }
 
-    /// The first position from `from` on at which one of these processes restarts, which takes a step, or `end` if that
-    /// comes first. Crashes, and restarts of others, are passed. Where none of them all stands in between nothing is searched.
+    /// The first position from `from` on at which one of these processes restarts, or `end` if that comes first. Crashes,
+    /// and restarts of others, are passed. Where none of them all stands in between nothing is searched.
     pub fn next_restart(
         &mut self,
         trace: &Trace,
         members: Holders,
         from: u32,
         end: u32,
-        budget: &mut Budget,
     ) -> u32
         requires order { from ≤ end }
         requires turns { AreTurnsKept trace.now.recording.past self.old.turns.now }
@@ -235,9 +233,6 @@ impl Passing<'_> {
     {
         let passed = self.turns.near(self.passed, from);
         let position = self.turns.next_restart(trace, members, passed, from, end);
-        if position < end {
-            budget.charge(1);
-        }
         self.passed = self.turns.near(passed, position);
         position
     }

@@ -1,5 +1,5 @@
--- Orphans for one number of faults and for another, and what a survey finds.
-use Rattle.std.proofs.Common.{ℕ, ◌≡◌, ◌<◌, ◌≤◌, inl, inr, Bool, true, List, length, Some, None, refl, arith}
+-- Orphans for one number of faults and for another, and what is found for one.
+use Rattle.std.proofs.Common.{ℕ, ◌≡◌, ◌<◌, ◌≤◌, inl, inr, Bool, true, List, length, Option, Some, None, refl, arith}
 use Rattle.std.specs.Ordering.{nat_cmp}
 use Rattle.std.specs.FinSet.{FinSet, contains, len}
 use Rattle.std.proofs.lemmas.Bool.{cases_lt}
@@ -10,11 +10,9 @@ use Rattle.causal_trace.specs.Past.{instant, deliveries_in}
 use Rattle.causal_trace.specs.Rows.{Recording}
 use Rattle.causal_trace.specs.Judgement.{IsCrashSet, HasOrphan, IsSafeTrace}
 use Rattle.causal_audit.specs.declared.breach.Breach.{Breach}
-use Rattle.causal_audit.specs.declared.breach.Surveyed.{Surveyed}
-use Rattle.causal_audit.specs.declared.breach.Surveyed.TheVariants.{Told, TooMany}
-use Rattle.causal_audit.specs.Breaches.{IsLeastBreach, IsSurveyed}
+use Rattle.causal_audit.specs.Breaches.{IsLeastBreach, LeastBreachBy}
 use Rattle.causal_explain.specs.declared.closest.Closest.{Closest}
-use Rattle.causal_explain.specs.declared.closest.Closest.TheVariants.{Never, At, Untold}
+use Rattle.causal_explain.specs.declared.closest.Closest.TheVariants.{Never, At}
 use Rattle.causal_explain.specs.Closest.{HasNoOrphan, IsClosest, Leaves}
 use Rattle.causal_explain.specs.Inside.Narrowing.{Finds}
 use Rattle.causal_audit.proofs.Lemmas.NumberLemmas.{has_number}
@@ -61,7 +59,6 @@ breached r faults b h g more none =
 -- what the closest failure leaves to safety
 pub leaves : (r : Recording) (f : ℕ) → IsSafeTrace r f → (c : Closest) → IsClosest r c → Leaves r f c
 leaves r f safe Never h = λ g more. safe_more r f g safe more (h g)
-leaves r f safe Untold h = tt
 leaves r f safe (At faults breach) h =
     let never : (g : ℕ) → faults ≤ g → HasNoOrphan r g → ⊥ = breached r faults breach h.least in (
       elim (cases_lt f faults) [ inl low ↦ low | inr high ↦ absurd (never f high (safe_none r f safe)) ],
@@ -104,17 +101,16 @@ by_itself r g b h =
       },
     )
 
--- what a survey tells of a breach is found, up to whichever instant it looks
-pub finds_breach : (r : Recording) (f end : ℕ) (b : Breach) → f < 65536 → IsSurveyed r f end (Told (Some b)) → Finds r f (Told (Some b))
+-- a least breach is found, by whichever instant it comes
+pub finds_breach : (r : Recording) (f end : ℕ) (b : Breach) → f < 65536 → LeastBreachBy r f end 0 (deliveries_in r.past) (Some b) → Finds r f (Some b)
 finds_breach r f end b small told =
     let itself = by_itself r f b told.1 in
     (itself.0, record { few = omega (arith, itself.0, small); least = itself.1 })
 
--- and what a survey of the whole run tells is
-pub finds : (r : Recording) (f : ℕ) (told : Surveyed) → f < 65536 → IsSurveyed r f (length r.past) told → Finds r f told
-finds r f (Told None) small none = λ k t within has.
+-- and so is that of the whole run, or that there is none
+pub finds : (r : Recording) (f : ℕ) (told : Option Breach) → f < 65536 → LeastBreachBy r f (length r.past) 0 (deliveries_in r.past) told → Finds r f told
+finds r f None small none = λ k t within has.
     let at = delivered_in r.past t k has.is_orphan.det within has.is_orphan.delivered in
     let n = has_number r.past k has.is_orphan.det at in
     none n.0 k t (omega arith) n.1 n.2 within has
-finds r f (Told (Some b)) small told = finds_breach r f (length r.past) b small told
-finds r f TooMany small told = tt
+finds r f (Some b) small told = finds_breach r f (length r.past) b small told

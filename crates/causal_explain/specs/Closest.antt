@@ -6,7 +6,7 @@ use Rattle.causal_trace.specs.Judgement.{HasOrphan, IsSafeTrace}
 use Rattle.causal_audit.specs.declared.breach.Breach.{Breach}
 use Rattle.causal_audit.specs.Breaches.{LeastBreach}
 use Rattle.causal_explain.specs.declared.closest.Closest.{Closest}
-use Rattle.causal_explain.specs.declared.closest.Closest.TheVariants.{Never, At, Untold}
+use Rattle.causal_explain.specs.declared.closest.Closest.TheVariants.{Never, At}
 
 -- for f no delivery has an orphan at any instant of the run
 abbrev pub HasNoOrphan : Recording → ℕ → Type 0
@@ -17,14 +17,12 @@ pub record FailsFirst (r : Recording) (faults : ℕ) (b : Breach) : Type 0 where
   pub least : LeastBreach r faults 0 (deliveries_in r.past) (Some b)
   pub fewer : (f : ℕ) → f < faults → HasNoOrphan r f
 
--- what is said of the run is so: for no f has a delivery an orphan, or for so many faults first; else nothing is known
+-- what is said of the run is so: for no f has a delivery an orphan, or for so many faults first
 abbrev pub IsClosest : Recording → Closest → Type 0
 IsClosest r Never = (f : ℕ) → HasNoOrphan r f
 IsClosest r (At faults breach) = FailsFirst r faults breach
-IsClosest r Untold = Unit {0}
 
--- for which numbers from f on the run is safe: for all, or for just those below so many faults; else nothing is known
+-- for which numbers from f on the run is safe: for all, or for just those below so many faults
 abbrev pub Leaves : Recording → ℕ → Closest → Type 0
 Leaves r f Never = (g : ℕ) → f ≤ g → IsSafeTrace r g
 Leaves r f (At faults breach) = (f < faults) × ((g : ℕ) → f ≤ g → IsSafeTrace r g ↔ (g < faults))
-Leaves r f Untold = Unit {0}

@@ -5,7 +5,7 @@ ghost use Rattle.causal_trace.specs.Judgement.{IsSafeTrace};
 ghost use Rattle.causal_explain.specs.Closest.{HasNoOrphan, IsClosest, Leaves};
 ghost use Rattle.causal_explain.specs.Inside.Narrowing.{Finds, FailsByItself};
 
-use causal_audit::{Breach, Surveyed, least_surveyed};
+use causal_audit::{Breach, least_by};
 use causal_name::NoMemory;
 use causal_trace::trace::Trace;
 use std::alloc::Global;
@@ -23,15 +23,13 @@ pub enum Closest {
     /// `faults` is the least number of faults for which a delivery fails, and of those that fail for it this is the
     /// first, by instant and then by position.
     At { faults: u16, breach: Breach },
-    /// Too many deliveries would have to be looked at one by one; nothing is known.
-    Untold,
 }
 
 /// Which delivery of a run that is safe for f comes closest to failing, and so for which greater numbers of faults the
 /// run is safe too.
 ///
-/// At most eighteen surveys of the run tell it (`causal_audit::least_surveyed`): one of its first 4,096 entries, and of the whole run
-/// one where the breach that it finds has the least crash set, and none where no set could be smaller.
+/// At most eighteen judgements of the run tell it (`causal_audit::least_by`): one of its first 4,096 entries, and of the whole
+/// run one where the breach that it finds has the least crash set, and none where no set could be smaller.
 ///
 /// # Errors
 /// `NoMemory` where memory was refused.
@@ -42,27 +40,26 @@ pub fn closest_failure(alloc: Global, trace: &Trace, f: u16) -> Result<Closest, 
 {
     // More faults than there are processes allow no more crash sets.
     match found_early(alloc, trace, trace.processes())? {
-        Surveyed::Told(None) => Ok(Closest::Never),
-        Surveyed::Told(Some(breach)) => narrowed(alloc, trace, f, breach),
-        Surveyed::TooMany => Ok(Closest::Untold),
+        None => Ok(Closest::Never),
+        Some(breach) => narrowed(alloc, trace, f, breach),
     }
 }
 
-/// What a survey of the whole run finds.
-fn found(alloc: Global, trace: &Trace, f: u16) -> Result<Surveyed, NoMemory>
+/// The least breach of the whole run.
+fn found(alloc: Global, trace: &Trace, f: u16) -> Result<Option<Breach>, NoMemory>
     ensures { IfOk result (Finds trace.now.recording f) }
 {
-    least_surveyed(alloc, trace, f, trace.len())
+    least_by(alloc, trace, f, trace.len())
 }
 
-/// What is found by a survey of the first entries, or else of the whole run.
-fn found_early(alloc: Global, trace: &Trace, f: u16) -> Result<Surveyed, NoMemory>
+/// The least breach by an early instant, or else of the whole run.
+fn found_early(alloc: Global, trace: &Trace, f: u16) -> Result<Option<Breach>, NoMemory>
     ensures { IfOk result (Finds trace.now.recording f) }
 {
     let beginning = BEGINNING.min(trace.len());
-    match least_surveyed(alloc, trace, f, beginning)? {
-        Surveyed::Told(Some(breach)) => Ok(Surveyed::Told(Some(breach))),
-        _ => found(alloc, trace, f),
+    match least_by(alloc, trace, f, beginning)? {
+        Some(breach) => Ok(Some(breach)),
+        None => found(alloc, trace, f),
     }
 }
 
@@ -91,7 +88,7 @@ fn asked(low: u32, high: u32, greatest: bool) -> u32
 }
 
 /// The closest failure, where no delivery fails for f and a breach is known. The least number of faults is above f and
-/// at most that of the breach's crash set, and each second survey halves what lies between.
+/// at most that of the breach's crash set, and each second judgement halves what lies between.
 fn narrowed(alloc: Global, trace: &Trace, f: u16, breach: Breach) -> Result<Closest, NoMemory>
     requires none { HasNoOrphan trace.now.recording f }
     requires fails { FailsByItself trace.now.recording breach }
@@ -104,9 +101,8 @@ fn narrowed(alloc: Global, trace: &Trace, f: u16, breach: Breach) -> Result<Clos
         let asked = asked(low, least.crash.len(), greatest);
         greatest = !greatest;
         match found(alloc, trace, asked as u16)? {
-            Surveyed::Told(None) => low = asked,
-            Surveyed::Told(Some(earlier)) => least = earlier,
-            Surveyed::TooMany => return Ok(Closest::Untold),
+            None => low = asked,
+            Some(earlier) => least = earlier,
         }
     }
     Ok(Closest::At {

@@ -2,7 +2,7 @@
 use Rattle.std.specs.Prelude.{ℕ, List, ◌++◌, codes, decimal}
 use Rattle.causal_audit.specs.declared.breach.Breach.{Breach}
 use Rattle.causal_explain.specs.declared.closest.Closest.{Closest}
-use Rattle.causal_explain.specs.declared.closest.Closest.TheVariants.{Never, At, Untold}
+use Rattle.causal_explain.specs.declared.closest.Closest.TheVariants.{Never, At}
 use Rattle.causal_report.specs.Places.{line_at, line_before}
 
 -- for how many faults, the delivery's line, the last line before the instant, and the orphan
@@ -27,12 +27,7 @@ failure_line faults b = failure_words faults b ++ failure_sentence faults b
 unfoldable pub never_line : List ℕ
 never_line = codes "closest faults=-: no delivery has an orphan, whatever f is\n"
 
--- that it is not told
-unfoldable pub untold_line : List ℕ
-untold_line = codes "closest faults=?: not told, since too many deliveries would have to be looked at one by one\n"
-
 -- which delivery comes closest to failing, in a line
 abbrev pub closest_text : Closest → List ℕ
 closest_text Never = never_line
 closest_text (At faults breach) = failure_line faults breach
-closest_text Untold = untold_line

@@ -10,7 +10,7 @@ use causal_name::NoMemory;
 use std::alloc::{AllocError, Global};
 
 /// A line that tells which delivery of a run comes closest to failing: for how many faults, the lines of the delivery
-/// and of the last entry before the instant, and the orphan; or that none ever fails, or that it is not told.
+/// and of the last entry before the instant, and the orphan; or that none ever fails.
 ///
 /// # Errors
 /// `NoMemory` where memory was refused.
@@ -28,7 +28,6 @@ fn push_closest(out: &mut String, closest: Closest) -> Result<(), AllocError>
     match closest {
         Closest::Never => push_never(out),
         Closest::At { faults, breach } => push_failure(out, faults, &breach),
-        Closest::Untold => push_untold(out),
     }
 }
 
@@ -37,15 +36,6 @@ fn push_never(out: &mut String) -> Result<(), AllocError>
     ensures { OnOk result (Adds out.old out.new told.never_line) }
 {
     out.push_str("closest faults=-: no delivery has an orphan, whatever f is\n")
-}
-
-#[tactic(auto, unfolding(crate::specs::Closest::untold_line))]
-fn push_untold(out: &mut String) -> Result<(), AllocError>
-    ensures { OnOk result (Adds out.old out.new told.untold_line) }
-{
-    out.push_str(
-        "closest faults=?: not told, since too many deliveries would have to be looked at one by one\n",
-    )
 }
 
 fn push_failure(out: &mut String, faults: u16, breach: &Breach) -> Result<(), AllocError>

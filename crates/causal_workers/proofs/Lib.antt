@@ -1,5 +1,3 @@
-mod BeginningLemmas
 mod Commas
-mod EarlyLemmas
 mod JudgementLemmas
-mod PartLemmas
+mod ShareLemmas

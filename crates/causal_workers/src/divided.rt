@@ -1,17 +1,16 @@
 //! The audit of a trace by workers.
 ghost use Rattle.std.specs.Prelude.{◌≡◌, ◌+◌, ◌≤◌, ℕ, [], vec_capacity, length, IfOk, Err, true};
 ghost use Rattle.std.specs.Bool.{OnTrue};
-ghost use Rattle.causal_trace.specs.Past.{deliveries_in};
-ghost use Rattle.causal_trace.specs.Rows.{Recording};
-ghost use Rattle.causal_audit.specs.Breaches.{LeastBreach};
+ghost use Rattle.causal_audit.specs.Parts.{Followed, LeastOf};
 ghost use Rattle.causal_audit.specs.Verdicts.{IsVerdict};
 ghost use Rattle.causal_workers.specs.Judgements.{IsOnlyVerdict};
-ghost use Rattle.causal_workers.specs.Inside.Parts.{AreTasksAfter, Covers, FollowsAfter, HasRoom, IsFirstPart};
+ghost use Rattle.causal_workers.specs.Inside.Shares.{AreSharesAfter, Covers, FollowsAfter, IsFirstShare, Tells, TellsBoth};
 
 use crate::gate::Gate;
-use crate::part::{Part, Started, Task};
-use crate::prepared::prepared_by;
-use causal_audit::{Breach, Course, Room, Verdict, decided, deciding_in, earlier, first_excess_in};
+use crate::share::{Answer, Share, Started};
+use causal_audit::{
+    Breach, GROUP, Prepared, Verdict, decided, deciding_in, earlier, first_excess_in,
+};
 use causal_name::NoMemory;
 use causal_trace::trace::Trace;
 use std::alloc::Global;
@@ -43,14 +42,12 @@ impl From<NoMemory> for AuditFault {
 
 /// The verdict on a trace for f, by 1 to 64 workers: the same for every number of them. Worker 0 is the calling thread,
 /// and begins when all others have been started. Each worker calls the gate's `enter` once with its number, also where
-/// no delivery is left for it. Before the others are started the calling thread surveys a beginning of the run, and where
-/// that does not suffice the whole run; where a survey tells the least breach, no delivery is left for the workers. Else it
-/// judges a beginning alone; where a delivery has an orphan in it the workers judge that beginning, and what comes after is not
-/// prepared.
+/// no delivery is left for it. Before the others are started the calling thread prepares the run; the deliveries that must be
+/// followed are divided among the workers, in groups that one walk over the entries follows.
 ///
 /// # Errors
-/// `NoMemory` where the memory for a beginning, a survey, a course, the rooms or the list of workers was refused; then no worker
-/// was started. `NoWorker` where a worker could not be started, after those that were started ended; never with one worker.
+/// `NoMemory` where memory was refused; what is prepared, and the list of workers, is made before the first worker is started.
+/// `NoWorker` where a worker could not be started, after those that were started ended; never with one worker.
 #[tactic(auto, using(causal_audit::proofs::Lemmas::OneVerdict::one_verdict))]
 pub fn audit<G: Gate + Sync, R: Threads + Wait>(
     rt: &R,
@@ -67,22 +64,21 @@ pub fn audit<G: Gate + Sync, R: Threads + Wait>(
 {
     let excess = first_excess_in(trace, f);
     let end = deciding_in(trace, &excess);
-    let prepared = prepared_by(alloc, trace, f, end)?;
-    let least = least_of_all(rt, alloc, &prepared.course, f, workers, gate)?;
-    Ok(decided(excess, earlier(prepared.known, least)))
+    let prepared = Prepared::of(alloc, trace, f, end)?;
+    let least = least_of_all(rt, alloc, &prepared, workers, gate)?;
+    Ok(decided(excess, least))
 }
 
-/// The least breach of all deliveries of a run.
-fn least_of_all<G: Gate + Sync, R: Threads + Wait>(
+/// The least breach of all deliveries that are followed.
+fn least_of_all<'p, G: Gate + Sync, R: Threads + Wait>(
     rt: &R,
     alloc: Global,
-    course: &Course,
-    f: u16,
+    prepared: &'p Prepared<'p>,
     workers: u32,
     gate: &G,
 ) -> Result<Option<Breach>, AuditFault>
     requires { (1 ≤ workers) × (workers ≤ 64) }
-    ensures least { IfOk result (LeastBreach course.now f 0 (deliveries_in course.now.past)) }
+    ensures least { IfOk result (LeastOf prepared.now) }
     ensures alone { result ≡ Err AuditFault.NoWorker → 2 ≤ workers }
 {
     thread::scope(
@@ -90,94 +86,84 @@ fn least_of_all<G: Gate + Sync, R: Threads + Wait>(
         rt,
         |scope| -> Result<Option<Breach>, AuditFault>
             requires { (1 ≤ workers) × (workers ≤ 64) }
-            ensures least { IfOk result (LeastBreach course.entry.now f 0 (deliveries_in course.entry.now.past)) }
+            ensures least { IfOk result (LeastOf prepared.entry.now) }
             ensures alone { result ≡ Err AuditFault.NoWorker → 2 ≤ workers }
-        { least_in(rt, scope, alloc, course, f, workers, gate) },
+        { least_in(rt, scope, alloc, prepared, workers, gate) },
     )
 }
 
-/// Starts all workers but the first, does the first part itself, and joins them. All rooms are made before the first worker
-/// is started.
+/// Starts all workers but the first, does the first share itself, and joins them.
 fn least_in<'s, 't: 's, 'g: 's, E, G: Gate + Sync, R: Threads>(
     rt: &R,
     scope: &Scope<'s, E>,
     alloc: Global,
-    course: &'t Course,
-    f: u16,
+    prepared: &'t Prepared<'t>,
     workers: u32,
     gate: &'g G,
 ) -> Result<Option<Breach>, AuditFault>
     requires { (1 ≤ workers) × (workers ≤ 64) }
-    ensures least { IfOk result (LeastBreach course.entry.now f 0 (deliveries_in course.entry.now.past)) }
+    ensures least { IfOk result (LeastOf prepared.entry.now) }
     ensures alone { result ≡ Err AuditFault.NoWorker → 2 ≤ workers }
 {
     let Ok(mut started) = Vec::with_capacity(alloc, (workers - 1) as usize) else {
         return Err(AuditFault::NoMemory);
     };
-    let own = Part {
-        course,
-        f,
+    let own = Share {
+        prepared,
         from: 0,
-        to: part_end(0, course.deliveries(), workers),
+        to: share_end(0, prepared.followed(), workers),
     };
-    let mut room = Room::new(alloc, course, own.from, own.to)?;
-    let tasks = tasks_after(alloc, own, workers)?;
-    if !all_started(scope, &mut started, own, tasks, gate) {
+    let shares = shares_after(alloc, own, workers)?;
+    if !all_started(scope, alloc, &mut started, own, shares, gate) {
         join_all(rt, started);
         return Err(AuditFault::NoWorker);
     }
-    let first = own.judged(0, gate, &mut room);
-    Ok(least_joined(rt, first, started))
+    let first = own.judged(alloc, 0, gate);
+    let least = least_joined(rt, first, started)?;
+    Ok(least)
 }
 
-/// The parts of the workers from 1 on, of what follows `own`, each with its room.
-fn tasks_after<'t>(alloc: Global, own: Part<'t>, workers: u32) -> Result<Vec<Task<'t>>, NoMemory>
+/// The shares of the workers from 1 on, of what follows `own`.
+fn shares_after<'t>(alloc: Global, own: Share<'t>, workers: u32) -> Result<Vec<Share<'t>>, NoMemory>
     requires workers { (1 ≤ workers) × (workers ≤ 64) }
-    requires own { IsFirstPart workers own }
-    ensures tasks { IfOk result (λ tasks. AreTasksAfter own.entry tasks.items) }
-    ensures count { IfOk result (λ tasks. length tasks.items + 1 ≡ workers) }
+    requires own { IsFirstShare workers own }
+    ensures shares { IfOk result (λ shares. AreSharesAfter own.entry shares.items) }
+    ensures count { IfOk result (λ shares. length shares.items + 1 ≡ workers) }
 {
-    let Part { course, f, .. } = own;
-    let all = course.deliveries();
-    let mut tasks = Vec::new(alloc);
+    let Share { prepared, .. } = own;
+    let all = prepared.followed();
+    let mut shares = Vec::new(alloc);
     let mut from = own.to;
     for worker in 1..workers {
-        let to = part_end(from, all, workers - worker);
-        let room = Room::new(alloc, course, from, to)?;
-        let part = Part {
-            course,
-            f,
-            from,
-            to,
-        };
-        tasks.push(Task { part, room })?;
+        let to = share_end(from, all, workers - worker);
+        shares.push(Share { prepared, from, to })?;
         from = to;
     }
-    Ok(tasks)
+    Ok(shares)
 }
 
-/// Starts a worker for each task, the first with the number 1, and says whether all could be started.
+/// Starts a worker for each share, the first with the number 1, and says whether all could be started.
 fn all_started<'s, 't: 's, 'g: 's, E, G: Gate + Sync>(
     scope: &Scope<'s, E>,
+    alloc: Global,
     started: &mut Vec<Started<'t>>,
-    own: Part<'t>,
-    tasks: Vec<Task<'t>>,
+    own: Share<'t>,
+    shares: Vec<Share<'t>>,
     gate: &'g G,
 ) -> bool
-    requires capacity { (started.old.items ≡ []) × (length tasks.items ≤ vec_capacity started.old) }
-    requires few { length tasks.items ≤ 63 }
-    requires tasks { AreTasksAfter own tasks.items }
-    ensures parts { OnTrue result (FollowsAfter own.entry started.new.items) }
-    ensures alone { tasks.entry.items ≡ [] → result ≡ true }
+    requires capacity { (started.old.items ≡ []) × (length shares.items ≤ vec_capacity started.old) }
+    requires few { length shares.items ≤ 63 }
+    requires shares { AreSharesAfter own shares.items }
+    ensures shares { OnTrue result (FollowsAfter own.entry started.new.items) }
+    ensures alone { shares.entry.items ≡ [] → result ≡ true }
 {
-    for task in tasks {
-        let Task { part, mut room } = task;
+    for share in shares {
         let worker = started.len() as u32 + 1;
-        let work = move || -> Option<Breach>
-            requires { HasRoom part room }
-            ensures { LeastBreach part.entry.course.now part.entry.f part.entry.from part.entry.to result }
-        { part.judged(worker, gate, &mut room) };
-        let Ok(handle) = scope.spawn_with(part, work) else {
+        let work = move || -> Answer
+            requires { (share.from ≤ share.to) × (share.to ≤ length share.prepared.now.positions) }
+            ensures { Tells share.entry.prepared.now share.entry.from share.entry.to result }
+        { share.judged(alloc, worker, gate) };
+        let Ok(handle) = scope.spawn_with(share, work) else {
             return false;
         };
         if started.push(handle).is_err() {
@@ -187,26 +173,38 @@ fn all_started<'s, 't: 's, 'g: 's, E, G: Gate + Sync>(
     true
 }
 
-/// Where the part ends that begins at `from`, so that what is left is divided evenly among the workers that are left.
-fn part_end(from: u32, all: u32, left: u32) -> u32
+/// Where the share ends that begins at `from`, so that the groups that are left are divided evenly among the workers that are
+/// left.
+fn share_end(from: usize, all: usize, left: u32) -> usize
     requires { (from ≤ all) × (1 ≤ left) }
     ensures within { (from ≤ result) × (result ≤ all) }
     ensures last { left ≡ 1 → result ≡ all }
 {
-    from + (all - from) / left
+    let rest = all - from;
+    if left == 1 {
+        return all;
+    }
+    let groups = (rest / left as usize / GROUP).saturating_add(1);
+    from + rest.min(groups.saturating_mul(GROUP))
+}
+
+/// What two answers tell together of two neighbouring shares.
+fn both(one: Answer, other: Answer) -> Answer
+    ensures { TellsBoth one other result }
+{
+    match (one, other) {
+        (Ok(a), Ok(b)) => Ok(earlier(a, b)),
+        _ => Err(NoMemory),
+    }
 }
 
 /// Joins the workers, and gives the one of all answers that comes first.
-fn least_joined<'t, R: Threads>(
-    rt: &R,
-    first: Option<Breach>,
-    started: Vec<Started<'t>>,
-) -> Option<Breach>
-    ensures { (r : Recording) (f to : ℕ) → Covers r f first started.entry.items to → LeastBreach r f 0 to result }
+fn least_joined<'t, R: Threads>(rt: &R, first: Answer, started: Vec<Started<'t>>) -> Answer
+    ensures { (followed : Followed) (to : ℕ) → Covers followed first started.entry.items to → Tells followed 0 to result }
 {
     let mut least = first;
     for handle in started {
-        least = earlier(least, handle.join(rt));
+        least = both(least, handle.join(rt));
     }
     least
 }

@@ -1,20 +1,17 @@
 //! The audit of a recorded run, divided among workers.
 //!
-//! The deliveries of a trace are divided into consecutive parts, one for each worker. The parts' answers are joined, so
-//! the verdict is the same for every number of workers.
+//! The calling thread prepares the run. The deliveries that must be followed are divided into consecutive shares, one for each
+//! worker, and the workers' answers are joined, so the verdict is the same for every number of workers.
 //!
 //! Begin at [`audit`] for a trace, or [`audit_text`] for its text; both take a [`Gate`], of which [`OpenGate`] lets all through.
 //! [`verdict_line`] prints what they answer.
 #![tactic(auto)]
 
-mod beginning;
 pub mod divided;
 pub mod gate;
 pub mod judged;
 pub mod line;
-mod part;
-mod prepared;
-mod surveyed;
+mod share;
 
 pub use divided::{AuditFault, audit};
 pub use gate::{Gate, OpenGate};

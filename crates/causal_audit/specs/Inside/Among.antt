@@ -1,10 +1,11 @@
--- The first breach of a delivery and the least of some deliveries, as far as an instant.
-use Rattle.std.specs.Prelude.{◌≡◌, ℕ, ◌≤◌, Contains, List, length, Option, Some, None, MatchOption}
+-- The first breach of a delivery, as far as an instant.
+use Rattle.std.specs.Prelude.{ℕ, ◌≤◌, Option, Some, None, MatchOption}
 use Rattle.causal_trace.specs.Past.{instant}
 use Rattle.causal_trace.specs.Rows.{Recording}
 use Rattle.causal_trace.specs.Judgement.{HasOrphan}
 use Rattle.causal_audit.specs.declared.breach.Breach.{Breach}
 use Rattle.causal_audit.specs.Breaches.{IsFirstBreach}
+pub use Rattle.causal_audit.specs.Parts.{IsLeastAmong, LeastAmongBy}
 
 -- the last instant at which a breach can still come first: that of the least breach so far, or `end`
 abbrev pub horizon : ℕ → Option Breach → ℕ
@@ -17,20 +18,6 @@ abbrev pub FirstBreachBy : Recording → ℕ → ℕ → ℕ → Option Breach �
 FirstBreachBy r f end k found = MatchOption found
     ((t : ℕ) → t ≤ end → HasOrphan r.processes f (instant r.past t) k → ⊥)
     (λ b. (b.instant ≤ end) × IsFirstBreach r f k b)
-
--- of the deliveries at these positions the one that first has an orphan has it so: no other has one earlier, nor at that
--- instant at a lower position
-pub record IsLeastAmong (r : Recording) (f : ℕ) (positions : List ℕ) (b : Breach) : Type 0 where
-  pub among : Contains positions b.delivery
-  pub first : IsFirstBreach r f b.delivery b
-  pub least : (k t : ℕ) → Contains positions k → t ≤ length r.past → HasOrphan r.processes f (instant r.past t) k → (b.instant ≤ t) × (b.instant ≡ t → b.delivery ≤ k)
-
--- of the deliveries at these positions the least breach by instant, then by position, if it comes by the instant `end`; None
--- where none of them has an orphan by then
-abbrev pub LeastAmongBy : Recording → ℕ → ℕ → List ℕ → Option Breach → Type 0
-LeastAmongBy r f end positions found = MatchOption found
-    ((k t : ℕ) → Contains positions k → t ≤ end → HasOrphan r.processes f (instant r.past t) k → ⊥)
-    (λ b. (b.instant ≤ end) × IsLeastAmong r f positions b)
 
 -- the delivery at position k has no orphan up to the instant `end`
 abbrev pub HasNoOrphanBy : Recording → ℕ → ℕ → ℕ → Type 0

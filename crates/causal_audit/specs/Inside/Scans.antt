@@ -1,10 +1,13 @@
--- Which deliveries a scan follows, and what it tells of them.
-use Rattle.std.specs.Prelude.{ℕ, List, map}
+-- Which deliveries a scan follows.
+use Rattle.std.specs.Prelude.{ℕ, ◌<◌, ◌≤◌, List, length, map}
+use Rattle.std.specs.List.{All}
 use Rattle.causal_trace.specs.Rows.{Recording}
-use Rattle.causal_audit.specs.Inside.Among.{HasNoOrphanFrom, LeastAmongBy}
-use Rattle.causal_audit.specs.declared.breach.Surveyed.{Surveyed}
-use Rattle.causal_audit.specs.declared.breach.Surveyed.TheVariants.{Told, TooMany}
+use Rattle.causal_audit.specs.Inside.Among.{HasNoOrphanFrom}
+use Rattle.causal_audit.specs.declared.mentions.Mentions.{Mentions}
 use Rattle.causal_audit.specs.declared.scan.Window.{Window}
+use Rattle.causal_audit.specs.declared.turns.Turns.{Turns}
+use Rattle.causal_audit.specs.Lasting.{NoneReleasedFrom}
+use Rattle.causal_audit.specs.Inside.Kept.{AreMentionsKept, AreTurnsKept}
 
 -- the positions of the deliveries
 abbrev pub positions_of : List Window → List ℕ
@@ -14,8 +17,16 @@ positions_of windows = map (λ window. window.position) windows
 abbrev pub IsWindow : Recording → ℕ → ℕ → Window → Type 0
 IsWindow r f end window = HasNoOrphanFrom r f window.position window.until end
 
--- what is told is the least breach of the deliveries at these positions by the instant `end`; where there were too many nothing
--- is known
-abbrev pub IsToldAmong : Recording → ℕ → ℕ → List ℕ → Surveyed → Type 0
-IsToldAmong r f end positions (Told found) = LeastAmongBy r f end positions found
-IsToldAmong r f end positions TooMany = Unit {0}
+-- the windows are of deliveries before the instant `end` of the run, and each is the whole of what may be uncovered by then
+pub record AreWindows (r : Recording) (f end : ℕ) (windows : List Window) : Type 0 where
+  pub within : end ≤ length r.past
+  pub below : All (λ (window : Window). window.position < end) windows
+  pub none_later : All (IsWindow r f end) windows
+
+-- a run is prepared for its audit: where no process is released any more, who is down, what mentions each determinant, and the
+-- windows of the deliveries that are followed
+pub record IsPrepared (r : Recording) (f end lasting_from : ℕ) (turns : Turns) (mentions : Mentions) (windows : List Window) : Type 0 where
+  pub lasting : NoneReleasedFrom r.past lasting_from
+  pub turned : AreTurnsKept r.past turns
+  pub mentioned : AreMentionsKept r.past mentions
+  pub followed : AreWindows r f end windows

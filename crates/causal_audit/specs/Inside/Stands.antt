@@ -35,11 +35,6 @@ pub record CanMirror (e : Entry) (clock : Timeline) (present : List ℕ) : Type 
   pub accepted : AreAccepted processes (e ∷ past)
   pub mirrors : Mirrors processes past clock present
 
--- a list has the spreads of each well-formed run of these entries, the oldest first, for which these events stand
-abbrev pub SpreadsOf : List Entry → List Event → List ℕ → Type 0
-SpreadsOf entries events spreads =
-    (r : Recording) → IsWellFormed r → entries ≡ entries_of r → Stands r.past events → AreSpreads r.past events spreads
-
--- the same by the processes of the entries
+-- for each well-formed run of these entries, the oldest first, a list tells how long each stays with its process
 abbrev pub StaysOf : List Entry → List ℕ → Type 0
 StaysOf entries stays = (r : Recording) → IsWellFormed r → entries ≡ entries_of r → AreSpreads r.past (acts_of r.past) stays

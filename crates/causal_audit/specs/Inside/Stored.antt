@@ -7,7 +7,6 @@ use Rattle.causal_audit.specs.Inside.Filed.{AreLanes, AreMentions, Numbers}
 use Rattle.causal_audit.specs.Inside.Kept.{AreTurnsKept}
 use Rattle.causal_audit.specs.Lasting.{NoneReleasedFrom}
 use Rattle.causal_audit.specs.Numbers.{ArePositions}
-use Rattle.causal_audit.specs.Inside.Spreads.{AreSpreads}
 use Rattle.causal_audit.specs.Inside.Stands.{Stands}
 use Rattle.causal_audit.specs.declared.turns.Turns.{Turns}
 
@@ -21,10 +20,9 @@ pub record AreTables (r : Recording) (positions : List ℕ) (events : List Event
   pub lasting : NoneReleasedFrom r.past lasting_from
 
 -- where something may change for a delivery: for each determinant the entries that mention it, the crashes and restarts
--- with who is down after each, the events of each lane, of which there are few, and how long each event stays with its lane
-pub record AreIndexes (r : Recording) (events : List Event) (numbers : Numbers) (mentions : List (List ℕ)) (turns : Turns) (lanes : List (List ℕ)) (spreads : List ℕ) : Type 0 where
+-- with who is down after each, and the events of each lane, of which there are few
+pub record AreIndexes (r : Recording) (events : List Event) (numbers : Numbers) (mentions : List (List ℕ)) (turns : Turns) (lanes : List (List ℕ)) : Type 0 where
   pub mentioned : AreMentions r.past numbers mentions
   pub turned : AreTurnsKept r.past turns
   pub in_lanes : AreLanes r.past events lanes
-  pub spread : AreSpreads r.past events spreads
   pub few : length lanes ≤ max_processes + max_restarts

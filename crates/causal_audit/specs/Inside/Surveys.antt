@@ -21,6 +21,9 @@ pub record Asked : Type 0 where
   pub f : ℕ
   pub end : ℕ
 
+abbrev pub asked_of : Recording → ℕ → ℕ → Asked
+asked_of r f end = record { run = r; f = f; end = end }
+
 -- the run is well formed, and this is kept of it
 pub record IsSurvey (r : Recording) (end : ℕ) (mentions : Mentions) (crashes : List (List ℕ)) (stays : List ℕ) : Type 0 where
   pub formed : IsWellFormed r

@@ -1,6 +1,5 @@
-use Rattle.std.proofs.Common.{ap, subst, ◌∙◌}
+use Rattle.std.proofs.Common.{subst}
 use Rattle.std.proofs.lemmas.Result.{IfOk-weaker}
-use Rattle.causal_audit.specs.declared.breach.Surveyed.TheVariants.{Told}
 use Rattle.causal_explain.specs.declared.closest.Closest.TheVariants.{Never}
 use Rattle.causal_explain.specs.Closest.{HasNoOrphan}
 use Rattle.causal_explain.specs.Inside.Narrowing.{Finds}
@@ -10,15 +9,15 @@ use Rattle.causal_explain.proofs.closest.closest_failure.Goals as goal
 pub narrowed-requires-clause-none : goal.narrowed-requires-clause-none
 narrowed-requires-clause-none c = safe_none c.args.trace.now.recording c.args.f c.requires
 
-pub returns-in-Told-None-clause-closest : goal.returns-in-Told-None-clause-closest
-returns-in-Told-None-clause-closest c =
+pub returns-in-None-clause-closest : goal.returns-in-None-clause-closest
+returns-in-None-clause-closest c =
     let r = c.args.trace.now.recording in
-    let none = subst (Finds r c.processes.result) (c.in-Told-None.is ∙ ap Told c.in-Told-None.field-0-is) c.in_ok-found_early.ensures in
+    let none = subst (Finds r c.processes.result) c.in-None.is c.in_ok-found_early.ensures in
     none_ever r (subst (HasNoOrphan r) c.processes.ensures.value none)
 
-pub returns-in-Told-None-clause-safe : goal.returns-in-Told-None-clause-safe
-returns-in-Told-None-clause-safe c = leaves c.args.trace.now.recording c.args.f c.requires Never (returns-in-Told-None-clause-closest c)
+pub returns-in-None-clause-safe : goal.returns-in-None-clause-safe
+returns-in-None-clause-safe c = leaves c.args.trace.now.recording c.args.f c.requires Never (returns-in-None-clause-closest c)
 
-pub returns-in-Told-Some-clause-safe : goal.returns-in-Told-Some-clause-safe
-returns-in-Told-Some-clause-safe c =
+pub returns-in-Some-clause-safe : goal.returns-in-Some-clause-safe
+returns-in-Some-clause-safe c =
     IfOk-weaker c.narrowed.result _ _ (λ closest is. leaves c.args.trace.now.recording c.args.f c.requires closest is) c.narrowed.ensures

@@ -1,10 +1,11 @@
 use Rattle.std.proofs.Common.{subst, arith}
 use Rattle.std.proofs.lemmas.Result.{IfOk-weaker}
-use Rattle.causal_audit.specs.Breaches.{IsSurveyed}
+use Rattle.causal_trace.specs.Past.{deliveries_in}
+use Rattle.causal_audit.specs.Breaches.{LeastBreachBy}
 use Rattle.causal_explain.proofs.ClosestLemmas.{finds}
 use Rattle.causal_explain.proofs.closest.found.Goals as goal
 
 pub returns : goal.returns
 returns c =
     let r = c.args.trace.now.recording in
-    IfOk-weaker c.least_surveyed.result _ _ (λ told is. finds r c.args.f told (omega arith) (subst (λ end. IsSurveyed r c.args.f end told) c.len.ensures.length is)) c.least_surveyed.ensures
+    IfOk-weaker c.least_by.result _ _ (λ told is. finds r c.args.f told (omega arith) (subst (λ end. LeastBreachBy r c.args.f end 0 (deliveries_in r.past) told) c.len.ensures.length is)) c.least_by.ensures

@@ -1,12 +1,12 @@
-use Rattle.std.proofs.Common.{ap, subst, ◌∙◌, arith}
-use Rattle.causal_audit.specs.declared.breach.Surveyed.TheVariants.{Told}
-use Rattle.causal_audit.specs.Breaches.{IsSurveyed}
+use Rattle.std.proofs.Common.{subst, arith}
+use Rattle.causal_trace.specs.Past.{deliveries_in}
+use Rattle.causal_audit.specs.Breaches.{LeastBreachBy}
 use Rattle.causal_explain.proofs.ClosestLemmas.{finds_breach}
 use Rattle.causal_explain.proofs.closest.found_early.Goals as goal
 
-pub returns-in-Told-Some : goal.returns-in-Told-Some
-returns-in-Told-Some c =
+pub returns-in-Some : goal.returns-in-Some
+returns-in-Some c =
     let r = c.args.trace.now.recording in
     let end = c.min-beginning.result in
-    finds_breach r c.args.f end c.in-Told-Some.breach (omega arith)
-    (subst (IsSurveyed r c.args.f end) (c.in-Told-Some.is ∙ ap Told c.in-Told-Some.field-0-is) c.in_ok-breach.ensures)
+    finds_breach r c.args.f end c.in-Some.breach (omega arith)
+    (subst (LeastBreachBy r c.args.f end 0 (deliveries_in r.past)) c.in-Some.is c.in_ok-breach.ensures)

@@ -1,7 +1,10 @@
-use Rattle.causal_trace.specs.Past.{deliveries_in}
+use Rattle.std.proofs.Common.{IfOk, length, subst}
+use Rattle.causal_audit.specs.Parts.{LeastOf}
+use Rattle.causal_audit.proofs.Lemmas.Parts.{whole}
 use Rattle.causal_workers.proofs.divided.least_in.Goals as goal
 
 pub returns-clause-least : goal.returns-clause-least
 returns-clause-least g c =
-    let run = c.args.course.now in
-    c.least_joined.ensures run c.args.f (deliveries_in run.past) (c.part_end.result, c.judged-first.ensures, c.if-not-all_started.ensures.parts)
+    let all = c.args.prepared.now in
+    subst (λ followed. LeastOf followed c.in_ok-least.least) (whole all)
+    (c.in_ok-least.ensures all (length all.positions) (c.share_end.result, c.judged-first.ensures, c.if-not-all_started.ensures.shares))

@@ -1,10 +1,10 @@
 use Rattle.std.proofs.Common.{◌≡◌, ℕ, length}
 use Rattle.std.specs.Vec.Iter.{into_iter_items, into_iter_len}
-use Rattle.causal_trace.specs.Rows.{Recording}
-use Rattle.causal_workers.specs.Inside.Parts.{Covers}
+use Rattle.causal_audit.specs.Parts.{Followed}
+use Rattle.causal_workers.specs.Inside.Shares.{Covers}
 use Rattle.causal_workers.proofs.divided.least_joined.Given as goal
 
 abbrev pub invariant-loop-handle : goal.invariant-loop-handle
 invariant-loop-handle g l =
     (into_iter_len l.handle-iterator ≡ length (into_iter_items l.handle-iterator))
-    × ((r : Recording) (f to : ℕ) → Covers r f l.initial.least (into_iter_items l.initial.handle-iterator) to → Covers r f l.least (into_iter_items l.handle-iterator) to)
+    × ((followed : Followed) (to : ℕ) → Covers followed l.initial.least (into_iter_items l.initial.handle-iterator) to → Covers followed l.least (into_iter_items l.handle-iterator) to)

@@ -2,18 +2,12 @@ use Rattle.std.proofs.Common.{◌≡◌, ◌<◌, ◌∙◌, ℕ, get_or, Vec, G
 use Rattle.std.specs.Prelude.{Contains}
 use Rattle.std.specs.List.{All}
 use Rattle.std.specs.List.Sorted.{IsNonDecreasing}
-use Rattle.std.proofs.lemmas.List.{get_or_default}
 use Rattle.causal_trace.specs.Past.{det_at}
 use Rattle.causal_audit.specs.Inside.Changes.{AreMentionsOf, HasMentions}
 use Rattle.causal_audit.specs.Inside.Filed.{Ascends, AreFirsts, AreReached, list_at}
 use Rattle.causal_audit.proofs.Firsts.{firsts_listed, firsts_reached}
 use Rattle.causal_trace.proofs.Lemmas.AtInstants.{det_within}
-use Rattle.causal_audit.proofs.AmongLemmas.{first_until}
 use Rattle.causal_audit.proofs.Mentioned.{mentions_ascend}
-use Rattle.causal_audit.specs.Inside.Among.{FirstBreachBy}
-use Rattle.causal_audit.specs.Spread.{StaysUntil}
-use Rattle.causal_audit.proofs.Opened.{none_of_most}
-use Rattle.causal_audit.proofs.Spreading.{stays_until}
 use Rattle.causal_audit.proofs.tables.Tables.first_orphan.Goals as goal
 
 abbrev positions : Vec ℕ Global → List ℕ
@@ -56,51 +50,13 @@ first_orphan-requires-clause-changes c =
       only = subst (AreMentionsOf r.past c.args.det) (sym c.list-mentions.ensures) (indexes.mentioned.only c.args.det);
       firsts = record {
         ascend = c.write_firsts.ensures.ascending;
-        reached = λ v early. firsts_reached r.processes r.past kept.formed.accepted events kept.stands lanes indexes.in_lanes c.args.k c.args.det at c.entries.result c.write_firsts.new.firsts reached v (omega (arith, early, c.min-last.ensures, c.requires.within, c.entries.ensures.length));
-        first = firsts_listed r.processes r.past kept.formed.accepted events kept.stands lanes indexes.in_lanes c.args.k c.args.det at c.write_firsts.new.firsts firsts c.min-last.result;
+        reached = λ v early. firsts_reached r.processes r.past kept.formed.accepted events kept.stands lanes indexes.in_lanes c.args.k c.args.det at c.entries.result c.write_firsts.new.firsts reached v (omega (arith, early, c.requires.within, c.entries.ensures.length));
+        first = firsts_listed r.processes r.past kept.formed.accepted events kept.stands lanes indexes.in_lanes c.args.k c.args.det at c.write_firsts.new.firsts firsts c.args.end;
       };
     }
 
 pub returns : goal.returns
-returns c =
-    let r = c.self.inside.trace.recording in
-    rw (← c.self.view_is)
-    (first_until r c.args.f c.args.end c.uncovered_until-until.result c.args.k c.first_orphan.result
-    (none_of_most r c.args.f c.min.result c.args.k c.uncovered_until-until.result c.args.end (omega (arith, c.min.ensures, c.processes.ensures.value)) c.uncovered_until-until.ensures)
-    (subst (λ last. FirstBreachBy r c.args.f last c.args.k c.first_orphan.result) c.min-last.ensures c.first_orphan.ensures))
-
-pub returns-then-until-eq0 : goal.returns-then-until-eq0
-returns-then-until-eq0 c u low =
-    let r = c.self.inside.trace.recording in
-    rw (← c.self.view_is)
-    (none_of_most r c.args.f c.min.result c.args.k c.uncovered_until-until.result c.args.end (omega (arith, c.min.ensures, c.processes.ensures.value)) c.uncovered_until-until.ensures u (omega (arith, c.if-until-eq0.true)) low)
-
-pub index-requires : goal.index-requires
-index-requires c =
-    let at : det_at c.self.inside.trace.recording.past c.args.k ≡ Some c.args.det = rw (← c.self.view_is) at c.requires.delivery in
-    omega (arith, det_within c.self.inside.trace.recording.past c.args.k c.args.det at, c.self.invariant.1.spread.count)
-
-pub invariant_of-look : goal.invariant_of-look
-invariant_of-look c =
-    let past = c.self.inside.trace.recording.past in
-    let indexes = c.self.invariant.1 in
-    let mentions = map positions c.self.inside.mentions.lists.items in
-    record {
-      within = rw (← c.self.view_is) at c.requires.within;
-      ascending = subst IsNonDecreasing (sym c.list-mentions.ensures) (mentions_ascend past c.self.inside.mentions.numbers mentions indexes.mentioned c.args.det);
-      mentioned = subst (HasMentions past c.args.det) (sym c.list-mentions.ensures) (indexes.mentioned.mentioned c.args.det);
-      only = subst (AreMentionsOf past c.args.det) (sym c.list-mentions.ensures) (indexes.mentioned.only c.args.det);
-    }
-
-pub uncovered_until-until-requires-clause-stays : goal.uncovered_until-until-requires-clause-stays
-uncovered_until-until-requires-clause-stays c =
-    let r = c.self.inside.trace.recording in
-    let kept = c.self.invariant.0 in
-    let spreads = c.self.inside.spreads.items in
-    let at : det_at r.past c.args.k ≡ Some c.args.det = rw (← c.self.view_is) at c.requires.delivery in
-    let inside : c.args.k < length spreads = omega (arith, det_within r.past c.args.k c.args.det at, c.self.invariant.1.spread.count) in
-    let is : c.index.result.now ≡ get_or spreads c.args.k 0 = c.index.ensures ∙ get_or_default spreads c.args.k c.index.result.now 0 inside in
-    subst (StaysUntil r.past c.args.k) (sym is) (stays_until r.processes r.past kept.formed.accepted c.self.inside.clocks.events kept.stands spreads c.self.invariant.1.spread c.args.k)
+returns c = rw (← c.self.view_is) c.first_orphan.ensures
 
 pub invariant_of-changes : goal.invariant_of-changes
 invariant_of-changes c =

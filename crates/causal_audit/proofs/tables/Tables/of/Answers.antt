@@ -26,7 +26,6 @@ invariant_of-result c =
         mentioned = subst (λ p. AreMentions p c.in_ok-mentions.mentions.numbers (map positions c.in_ok-mentions.mentions.lists.items)) whole c.in_ok-mentions.ensures;
         turned = subst (λ p. AreTurnsKept p c.in_ok-turns.turns) whole c.in_ok-turns.ensures;
         in_lanes = subst (λ p. AreLanes p c.in_ok-clocks.clocks.events (map positions c.in_ok-lanes.lanes.items)) whole c.in_ok-lanes.ensures.lanes;
-        spread = c.in_ok-spreads.ensures c.args.trace.now.recording c.entries-entries.ensures.formed c.entries-entries.ensures.value c.in_ok-clocks.ensures;
         few = omega (arith, c.in_ok-lanes.ensures.few, length-map c.in_ok-lanes.lanes.items positions);
       },
     )

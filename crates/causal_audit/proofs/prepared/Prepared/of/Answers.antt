@@ -1,0 +1,52 @@
+use Rattle.std.proofs.Common.{◌≡◌, ◌<◌, length, reverse, ap, subst, sym, ◌∙◌}
+use Rattle.std.proofs.lemmas.List.{reverse-reverse}
+use Rattle.causal_trace.specs.State.{past_at}
+use Rattle.causal_trace.proofs.Lemmas.Instants.{past_whole}
+use Rattle.causal_audit.specs.Inside.Kept.{AreMentionsKept, AreTurnsKept}
+use Rattle.causal_audit.specs.Inside.Scans.{positions_of}
+use Rattle.causal_audit.specs.Lasting.{NoneReleasedFrom}
+use Rattle.causal_audit.proofs.AmongLemmas.{among_all}
+use Rattle.causal_audit.proofs.Uncovered.{any_other}
+use Rattle.causal_audit.proofs.Windowed.{of_positions}
+use Rattle.causal_audit.proofs.prepared.Prepared.of.Goals as goal
+
+pub invariant_of-outline : goal.invariant_of-outline
+invariant_of-outline c =
+    let entries = c.entries-entries.result.now in
+    let past = c.args.trace.now.recording.past in
+    let whole : past_at entries (length entries) ≡ past = past_whole entries ∙ ap reverse c.entries-entries.ensures.value ∙ reverse-reverse past in
+    record {
+      lasting = subst (λ p. NoneReleasedFrom p c.lasting_from-lasting_from.result) whole c.lasting_from-lasting_from.ensures;
+      turned = subst (λ p. AreTurnsKept p c.in_ok-turns.turns) whole c.in_ok-turns.ensures;
+    }
+
+pub windows_of-requires-clause-mentioned : goal.windows_of-requires-clause-mentioned
+windows_of-requires-clause-mentioned c =
+    let entries = c.entries-entries.result.now in
+    let past = c.args.trace.now.recording.past in
+    let whole : past_at entries (length entries) ≡ past = past_whole entries ∙ ap reverse c.entries-entries.ensures.value ∙ reverse-reverse past in
+    subst (λ p. AreMentionsKept p c.in_ok-mentions.mentions) whole c.in_ok-mentions.ensures
+
+pub invariant_of-result : goal.invariant_of-result
+invariant_of-result c =
+    let entries = c.entries-entries.result.now in
+    let past = c.args.trace.now.recording.past in
+    let whole : past_at entries (length entries) ≡ past = past_whole entries ∙ ap reverse c.entries-entries.ensures.value ∙ reverse-reverse past in
+    let all = c.in_ok-windows.ensures in
+    record {
+      lasting = subst (λ p. NoneReleasedFrom p c.lasting_from-lasting_from.result) whole c.lasting_from-lasting_from.ensures;
+      turned = subst (λ p. AreTurnsKept p c.in_ok-turns.turns) whole c.in_ok-turns.ensures;
+      mentioned = subst (λ p. AreMentionsKept p c.in_ok-mentions.mentions) whole c.in_ok-mentions.ensures;
+      followed = record {
+        within = c.requires;
+        below = of_positions (λ k. k < c.args.end) c.in_ok-windows.windows.items all.uncovered.before;
+        none_later = all.none_later;
+      };
+    }
+
+pub returns : goal.returns
+returns c found least =
+    let r = c.args.trace.now.recording in
+    let positions = positions_of c.in_ok-windows.windows.items in
+    among_all r c.args.f c.args.end positions found c.entries-entries.ensures.formed.accepted c.requires
+    (any_other r c.args.f c.args.end positions c.requires c.in_ok-windows.ensures.uncovered) least

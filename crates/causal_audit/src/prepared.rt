@@ -1,0 +1,135 @@
+//! A recorded run that is prepared for its audit, and the parts of its deliveries.
+ghost use Rattle.std.specs.Prelude.{◌≡◌, ◌≤◌, IfOk, length};
+ghost use Rattle.causal_audit.specs.Parts.{AreEnough, LeastOf, part_of};
+
+use crate::breach::Breach;
+use crate::mentions::{Mentions, mentions_in};
+use crate::outline::Outline;
+use crate::releases::lasting_from;
+use crate::scan::{Scan, Window};
+use crate::survey::windows_of;
+use crate::turns::Turns;
+use causal_name::NoMemory;
+use causal_trace::trace::Trace;
+use std::alloc::Global;
+use std::marker::Model;
+
+/// A recorded run that is prepared for its audit for f up to the instant `end`: which deliveries must be followed, and what is
+/// read to follow them. It is seen as these deliveries.
+#[derive(Drop)]
+pub struct Prepared<'a> {
+    trace: &'a Trace,
+    lasting_from: u32,
+    turns: Turns,
+    mentions: Mentions,
+    f: u16,
+    end: u32,
+    windows: Vec<Window>,
+}
+
+impl<'a> Model for Prepared<'a> {
+    ghost use Rattle.causal_audit.specs.Parts.{Followed};
+    ghost use Rattle.causal_audit.specs.Inside.Scans.{IsPrepared, positions_of};
+
+    ghost Value = { Followed };
+
+    ghost view = { λ a. record { run = a.trace.now.recording; f = a.f; end = a.end; positions = positions_of a.windows.items } };
+
+    ghost invariant = { λ a. IsPrepared a.trace.now.recording a.f a.end a.lasting_from a.turns a.mentions a.windows.items };
+}
+
+impl<'a> Prepared<'a> {
+    /// Prepares a trace for f up to the instant `end`, which is at most its length. One look at each determinant tells which
+    /// deliveries need not be followed: the least breach of the others is that of the run.
+    ///
+    /// It takes time and memory as the entries and the determinants that they list, and for each delivery the logarithm of
+    /// what a look found. A look passes the mentions of its determinant, and the restarts of processes that were down or held it.
+    ///
+    /// # Errors
+    /// `NoMemory` where memory was refused.
+    pub fn of(alloc: Global, trace: &'a Trace, f: u16, end: u32) -> Result<Prepared<'a>, NoMemory>
+        requires { end ≤ length trace.now.recording.past }
+        ensures { IfOk result (AreEnough trace.now.recording f end) }
+    {
+        let entries = trace.entries();
+        let lasting_from = lasting_from(entries);
+        let turns = Turns::of(alloc, entries)?;
+        let mentions = mentions_in(alloc, entries)?;
+        let outline = Outline {
+            trace,
+            lasting_from,
+            turns: &turns,
+        };
+        let windows = windows_of(alloc, outline, &mentions, f, end)?;
+        Ok(Prepared {
+            trace,
+            lasting_from,
+            turns,
+            mentions,
+            f,
+            end,
+            windows,
+        })
+    }
+
+    /// How many deliveries are followed.
+    pub fn followed(&self) -> usize
+        ensures { result ≡ length self.now.positions }
+    {
+        self.windows.len()
+    }
+
+    /// Those of them from place `from` on and below place `to`.
+    pub fn part(&self, from: usize, to: usize) -> Part<'_>
+        requires { (from ≤ to) × (to ≤ length self.now.positions) }
+        ensures { result ≡ part_of self.now from to }
+    {
+        let outline = Outline {
+            trace: self.trace,
+            lasting_from: self.lasting_from,
+            turns: &self.turns,
+        };
+        Part {
+            scan: Scan {
+                outline,
+                mentions: &self.mentions,
+            },
+            f: self.f,
+            end: self.end,
+            windows: &self.windows[from..to],
+        }
+    }
+}
+
+/// Some of the deliveries of a prepared run that are followed. It is seen as these deliveries.
+#[derive(Drop)]
+pub struct Part<'a> {
+    scan: Scan<'a>,
+    f: u16,
+    end: u32,
+    windows: &'a [Window],
+}
+
+impl<'a> Model for Part<'a> {
+    ghost use Rattle.causal_audit.specs.Parts.{Followed};
+    ghost use Rattle.causal_audit.specs.Inside.Scans.{AreWindows, positions_of};
+
+    ghost Value = { Followed };
+
+    ghost view = { λ a. record { run = a.scan; f = a.f; end = a.end; positions = positions_of a.windows.now } };
+
+    ghost invariant = { λ a. AreWindows a.scan a.f a.end a.windows.now };
+}
+
+impl Part<'_> {
+    /// The least breach of these deliveries, by instant and then by position, if it comes by the instant up to which the run is
+    /// prepared; None where none of them has an orphan by then.
+    ///
+    /// # Errors
+    /// `NoMemory` where memory was refused.
+    pub fn least(&self, alloc: Global) -> Result<Option<Breach>, NoMemory>
+        ensures { IfOk result (LeastOf self.now) }
+    {
+        self.scan.least_among(alloc, self.f, self.end, self.windows)
+    }
+}
