@@ -37,10 +37,10 @@ module _ (r : Recording) (f : ℕ) where
   nothing : (k : ℕ) → Contains {X = ℕ} [] k → ⊥
   nothing k listed = omega (arith, listed.1)
 
-  chosen : (positions more : List ℕ) (end : ℕ) (a b : Breach) → a.instant ≤ end → b.instant ≤ a.instant → IsLeastAmong r f positions a → IsLeastAmong r f more b → (x : Bool) → comes_before b a ≡ x
+  chosen : (positions more : List ℕ) (end : ℕ) (a b : Breach) → a.instant ≤ end → b.instant ≤ end → IsLeastAmong r f positions a → IsLeastAmong r f more b → (x : Bool) → comes_before b a ≡ x
       → LeastAmongBy r f end (positions ++ more) (if x then Some b else Some a)
   chosen positions more end a b low short one other true before = (
-    omega (arith, low, short),
+    short,
     record {
       among = Contains-append_right positions more b.delivery other.among;
       first = other.first;
@@ -122,7 +122,36 @@ module _ (r : Recording) (f : ℕ) where
     },
   )
   among_joined end until positions more (Some a) (Some b) reach so_far next =
-      chosen positions more end a b so_far.0 (omega (arith, next.0, reach)) so_far.1 next.1 (comes_before b a) refl
+      chosen positions more end a b so_far.0 (omega (arith, next.0, reach, so_far.0)) so_far.1 next.1 (comes_before b a) refl
+
+  -- Two answers by one instant make one.
+  among_both : (end : ℕ) (positions more : List ℕ) (one other : Option Breach) → LeastAmongBy r f end positions one → LeastAmongBy r f end more other → LeastAmongBy r f end (positions ++ more) (earlier one other)
+  among_both end positions more None other so_far next = among_joined end end positions more None other refl so_far next
+  among_both end positions more (Some a) None so_far next = among_joined end a.instant positions more (Some a) None refl so_far (λ j t listed low. next j t listed (omega (arith, low, so_far.0)))
+  among_both end positions more (Some a) (Some b) so_far next = chosen positions more end a b so_far.0 next.0 so_far.1 next.1 (comes_before b a) refl
+
+  -- one position more
+  pub among_push : (end : ℕ) (positions : List ℕ) (k : ℕ) (one other : Option Breach) → LeastAmongBy r f end positions one → FirstBreachBy r f end k other → LeastAmongBy r f end (positions ++ k ∷ []) (earlier one other)
+  among_push end positions k one other so_far next = among_both end positions (k ∷ []) one other so_far (among_one end k other next)
+
+  -- positions of which some have no orphan by then
+  pub among_wider : (end : ℕ) (positions more : List ℕ) (found : Option Breach) → ((k : ℕ) → Contains positions k → Contains more k) → ((k : ℕ) → Contains more k → Contains positions k ⊎ HasNoOrphanBy r f k end)
+      → LeastAmongBy r f end positions found → LeastAmongBy r f end more found
+  among_wider end positions more None inside others none = λ k t listed low has. elim (others k listed) [ inl old ↦ none k t old low has | inr never ↦ never t low has ]
+  among_wider end positions more (Some b) inside others one = (
+    one.0,
+    record {
+      among = inside b.delivery one.1.among;
+      first = one.1.first;
+      least = λ k t listed in_time has. elim (others k listed) [
+        | inl old ↦ one.1.least k t old in_time has
+        | inr never ↦ elim (cases_lt end t) [
+          | inl late ↦ by_bound b end t k one.0 late
+          | inr early ↦ absurd (never t early has)
+        ]
+      ];
+    },
+  )
 
   -- and where none of them has one by then, the least stays
   pub joined_same : (end until : ℕ) (positions more : List ℕ) (one : Option Breach) → until ≡ horizon end one → LeastAmongBy r f end positions one → LeastAmongBy r f until more None

@@ -17,6 +17,7 @@ mod FirstOnes
 mod Firsts
 mod Following
 mod Gathered
+mod GroupSeen
 mod HeldOutside
 mod Indexed
 mod Joined
@@ -24,6 +25,7 @@ mod Known
 mod Lasting
 mod Legal
 mod Link
+mod Marked
 mod Looked
 mod Mentioned
 mod Mirrored

@@ -9,6 +9,7 @@ pub mod Crashes
 pub mod Filed
 pub mod Firsts
 pub mod Followed
+pub mod Group
 pub mod Index
 pub mod Kept
 pub mod Kinds

@@ -16,6 +16,7 @@ mod cursor;
 mod effects;
 mod events;
 pub mod excess;
+mod group;
 mod holding;
 pub mod judging;
 mod kind;

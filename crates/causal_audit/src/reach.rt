@@ -28,7 +28,7 @@ pub struct Reach {
 }
 
 /// The set at a row; the empty one where there is none.
-fn set_at(rows: &[Holders], i: usize) -> Holders
+pub fn set_at(rows: &[Holders], i: usize) -> Holders
     ensures { result ≡ row rows.now i }
 {
     match rows.get(i) {
@@ -39,7 +39,7 @@ fn set_at(rows: &[Holders], i: usize) -> Holders
 
 /// Puts the place of each of these deliveries into the row of its own entry, where that has one. The first row is of
 /// the entry at `start`.
-fn mark_own(rows: &mut Vec<Holders>, start: u32, windows: &[Window])
+pub fn mark_own(rows: &mut Vec<Holders>, start: u32, windows: &[Window])
     requires few { length windows.now ≤ 256 }
     requires from { All (λ window. start ≤ window.position) windows.now }
     requires none { (i : ℕ) → row rows.old.items i ≡ set.empty }

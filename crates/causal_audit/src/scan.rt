@@ -67,7 +67,7 @@ fn first_of(windows: &[Window], bound: u32) -> u32
 }
 
 /// An instant after which none of these deliveries has an orphan, or `end` if that comes first.
-fn last_of(windows: &[Window], end: u32) -> u32
+pub fn last_of(windows: &[Window], end: u32) -> u32
     ensures bound { result ≤ end }
     ensures last { All (λ window. min window.until end ≤ result) windows.now }
 {
