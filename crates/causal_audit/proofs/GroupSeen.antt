@@ -4,7 +4,8 @@ use Rattle.std.specs.Prelude.{◌↔◌, ◌⊎◌, ◌||◌, Contains}
 use Rattle.std.specs.Ordering.{nat_cmp}
 use Rattle.std.specs.FinSet.{FinSet, contains, empty, remove, contains-empty}
 use Rattle.std.proofs.lemmas.Bool.{cases_lt, or_cases, or_left, or_right, false≢true, false_from_ne_true}
-use Rattle.std.proofs.lemmas.List.Elements.{Contains-push, Contains-push_cases, Contains-append_left}
+use Rattle.std.proofs.lemmas.List.Elements.{Contains-push, Contains-push_cases, Contains-append_left, Contains-get_or}
+use Rattle.std.proofs.lemmas.List.{length-map, get_or-map}
 use Rattle.causal_name.specs.declared.Det.{Det}
 use Rattle.causal_name.specs.Sets.{count_below}
 use Rattle.causal_trace.specs.declared.entry.Entry.{Entry}
@@ -12,7 +13,7 @@ use Rattle.causal_trace.specs.Past.{instant, det_at, has}
 use Rattle.causal_trace.specs.Rows.{Recording, IsWellFormed, AreAccepted}
 use Rattle.causal_trace.specs.Dependence.{actor, Reaches, Depends}
 use Rattle.causal_trace.specs.Judgement.{HasOrphan}
-use Rattle.causal_trace.proofs.Lemmas.AtInstants.{det_then, det_within, instant_length}
+use Rattle.causal_trace.proofs.Lemmas.AtInstants.{accepted_then, det_then, det_within, instant_length}
 use Rattle.causal_audit.specs.declared.breach.Breach.{Breach}
 use Rattle.causal_audit.specs.declared.group.seen.Step.{Step}
 use Rattle.causal_audit.specs.declared.scan.Window.{Window}
@@ -21,12 +22,12 @@ use Rattle.causal_audit.specs.Earlier.{earlier}
 use Rattle.causal_audit.specs.Laws.{gone}
 use Rattle.causal_audit.specs.Quiet.{is_turn, mentioned_by, Agree, IsQuiet}
 use Rattle.causal_audit.specs.Inside.Among.{FirstBreachBy, HasNoOrphanBy, LeastAmongBy}
-use Rattle.causal_audit.specs.Inside.BreachAt.{BreachAt}
+use Rattle.causal_audit.specs.Inside.BreachAt.{BreachAt, TellsBreachAt}
 use Rattle.causal_audit.specs.Inside.Followed.{IsReachedBy}
 use Rattle.causal_audit.specs.Inside.Group.{AreKnown, ArePlaces, HaveNone, IsKnown, IsLeastIn, IsStep, position_at, sight_at}
 use Rattle.causal_audit.specs.Inside.Reaching.{IsNewly}
 use Rattle.causal_audit.specs.Inside.Scans.{positions_of}
-use Rattle.causal_audit.specs.Inside.Sights.{IsSight, AreDependents, TellsNextReach}
+use Rattle.causal_audit.specs.Inside.Sights.{IsSight, IsSightAfter, AreDependents, TellsNextReach}
 use Rattle.causal_audit.proofs.AmongLemmas.{among_push, among_wider, among_none}
 use Rattle.causal_audit.proofs.Between.{quiet_step}
 use Rattle.causal_audit.proofs.Lemmas.Judged.{exposed}
@@ -35,6 +36,7 @@ use Rattle.causal_audit.proofs.Reaching.{left_in, left_out}
 use Rattle.causal_audit.proofs.Scanned.{reached_after}
 use Rattle.causal_audit.proofs.Steps.{up_to_next}
 use Rattle.causal_audit.proofs.Swept.{orphan_before}
+use Rattle.causal_audit.proofs.Windowed.{position}
 
 -- ---- one delivery
 
@@ -118,6 +120,34 @@ module _ (r : Recording) (windows : List Window) (s : Step) (step : IsStep r win
 
 -- ---- some of them, one by one
 
+-- what is known of one after the entry
+pub known_next : (r : Recording) (windows : List Window) (s : Step) (step : IsStep r windows s) (j : ℕ) → j < length windows → (det : Det) → det_at r.past (position_at windows j) ≡ Some det → (before after : Sight) (hit : Bool)
+    → IsKnown r windows s.t j before → IsReachedBy s.entry.now before.dependents (contains s.newly j) hit → IsSightAfter s.entry.now det (contains s.mentioned j) hit before after → IsKnown r windows (s.t + 1) j after
+known_next r windows s step j low det made before after hit known by sees d at =
+    let k = position_at windows j in
+    let one : Some det ≡ Some d = sym made ∙ at in
+    let same : det ≡ d = cc one in
+    let sight = known det made in
+    subst (λ x. IsSight (instant r.past (s.t + 1)) k x after) same
+    (subst (λ past. IsSight past k det after) (sym step.next)
+    (sees r.processes (instant r.past s.t) k (accepted_here r windows s step) (step.mentioned j det low made)
+    (tells_next s.entry.now (instant r.past s.t) k j s.newly before.dependents hit (step.newly j det low made) sight.dependents by) sight))
+
+-- how it then first has an orphan
+pub found_next : (r : Recording) (windows : List Window) (s : Step) (step : IsStep r windows s) (j f : ℕ) → (det : Det) → det_at r.past (position_at windows j) ≡ Some det → (after : Sight) (found : Option Breach)
+    → HasNoOrphanBy r f (position_at windows j) s.t → IsKnown r windows (s.t + 1) j after → TellsBreachAt f (position_at windows j) (s.t + 1) after found → FirstBreachBy r f (s.t + 1) (position_at windows j) found
+found_next r windows s step j f det made after found none known tells =
+    first_here r windows s step f (position_at windows j) found none
+    (tells r.processes (instant r.past (s.t + 1)) det (accepted_then r.processes r.past (s.t + 1) step.formed.accepted) (length_after r windows s step)
+    (λ early. det_then r.past (s.t + 1) (position_at windows j) early (omega (arith, step.below)) ∙ made) (known det made))
+
+-- the position of a place is one of the windows'
+pub among_windows : (windows : List Window) (j : ℕ) → j < length windows → Contains (positions_of windows) (position_at windows j)
+among_windows windows j low =
+    let zero : Window = record { position = 0; until = 0 } in
+    let count : j < length (positions_of windows) = omega (arith, low, length-map windows position) in
+    subst (Contains (positions_of windows)) (get_or-map position windows j zero 0 low) (Contains-get_or (positions_of windows) j 0 count)
+
 -- those of the places that are not left have been seen
 pub record HaveSeen (r : Recording) (f : ℕ) (windows : List Window) (t : ℕ) (places rest : FinSet nat_cmp) (old now : List Sight) (least : Option Breach) : Type 0 where
   pub count : length now ≡ length old
@@ -167,3 +197,30 @@ seen_more r f windows t places rest old mid new least found p within so_far same
   ];
   found = among_push r f (t + 1) so_far.done (position_at windows p) least found so_far.found first;
 }
+
+-- ---- all of them
+
+pub in_or_out : (s : FinSet nat_cmp) (j : ℕ) → (contains s j ≡ true) ⊎ (contains s j ≡ false)
+in_or_out s j = either (contains s j)
+  where
+    either : (b : Bool) → (b ≡ true) ⊎ (b ≡ false)
+    either true = inl refl
+    either false = inr refl
+
+-- a place with a position among the windows'
+pub place_of : (windows : List Window) (k : ℕ) → Contains (positions_of windows) k → (j : ℕ) × (j < length windows) × (position_at windows j ≡ k)
+place_of windows k listed =
+    let zero : Window = record { position = 0; until = 0 } in
+    let low : listed.0 < length windows = omega (arith, listed.1, length-map windows position) in
+    (listed.0, low, sym (get_or-map position windows listed.0 zero k low) ∙ listed.2)
+
+-- the least of some is that of all where the others have none
+pub least_in_all : (r : Recording) (f end : ℕ) (windows : List Window) (places : FinSet nat_cmp) (found : Option Breach) → IsLeastIn r f end windows places found
+    → ((j : ℕ) → j < length windows → contains places j ≡ false → HasNoOrphanBy r f (position_at windows j) end) → LeastAmongBy r f end (positions_of windows) found
+least_in_all r f end windows places found least none =
+    among_wider r f end least.positions (positions_of windows) found least.inside (λ k listed.
+    let at = place_of windows k listed in
+    elim (in_or_out places at.0) [
+      | inl seen ↦ inl (subst (Contains least.positions) at.2 (least.each at.0 seen))
+      | inr out ↦ inr (subst (λ x. HasNoOrphanBy r f x end) at.2 (none at.0 at.1 out))
+    ]) least.least

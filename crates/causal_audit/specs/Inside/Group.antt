@@ -4,6 +4,7 @@ use Rattle.std.specs.Ordering.{nat_cmp}
 use Rattle.std.specs.FinSet.{FinSet, contains, empty}
 use Rattle.causal_name.specs.declared.Det.{Det}
 use Rattle.causal_trace.specs.declared.entry.Entry.{Entry}
+use Rattle.causal_trace.specs.Limits.{max_entries}
 use Rattle.causal_trace.specs.Past.{instant, entry_at, det_at, has}
 use Rattle.causal_trace.specs.Rows.{Recording, IsWellFormed}
 use Rattle.causal_audit.specs.Quiet.{mentioned_by}
@@ -64,6 +65,7 @@ AreKnown r windows t sights = (j : ℕ) → j < length windows → IsKnown r win
 -- whether the entry mentions its determinant
 pub record IsStep (r : Recording) (windows : List Window) (s : Step) : Type 0 where
   pub formed : IsWellFormed r
+  pub short : length r.past ≤ max_entries
   pub below : s.t < length r.past
   pub next : instant r.past (s.t + 1) ≡ s.entry.now ∷ instant r.past s.t
   pub newly : (j : ℕ) (d : Det) → j < length windows → det_at r.past (position_at windows j) ≡ Some d
