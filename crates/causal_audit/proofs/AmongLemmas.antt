@@ -159,6 +159,15 @@ module _ (r : Recording) (f : ℕ) where
   joined_same end until positions more None reach so_far next = among_joined end until positions more None None reach so_far next
   joined_same end until positions more (Some a) reach so_far next = among_joined end until positions more (Some a) None reach so_far next
 
+  -- where none has one after an instant, the least by that instant is the least by a later one
+  pub among_later : (last end : ℕ) (positions : List ℕ) (found : Option Breach) → last ≤ end → ((k u : ℕ) → Contains positions k → last < u → u ≤ end → HasOrphan r.processes f (instant r.past u) k → ⊥)
+      → LeastAmongBy r f last positions found → LeastAmongBy r f end positions found
+  among_later last end positions None up later none = λ k t listed low has. elim (cases_lt last t) [
+    | inl late ↦ later k t listed late low has
+    | inr early ↦ none k t listed early has
+  ]
+  among_later last end positions (Some b) up later one = (omega (arith, one.0, up), one.1)
+
   -- one position more
   pub among_more : (end until : ℕ) (positions : List ℕ) (k : ℕ) (one other : Option Breach) → until ≡ horizon end one → LeastAmongBy r f end positions one → FirstBreachBy r f until k other
       → LeastAmongBy r f end (positions ++ k ∷ []) (earlier one other)

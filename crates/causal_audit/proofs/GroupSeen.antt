@@ -1,17 +1,16 @@
 -- What one more entry makes of what is known of the deliveries of a group.
-use Rattle.std.proofs.Common.{ℕ, ◌≡◌, ◌≢◌, ◌+◌, ◌++◌, ◌<◌, ◌≤◌, inl, inr, Bool, true, false, List, [], ◌∷◌, length, Option, Some, None, refl, sym, ap, subst, ◌∙◌, arith}
-use Rattle.std.specs.Prelude.{◌↔◌, ◌⊎◌, ◌||◌, Contains}
+use Rattle.std.proofs.Common.{ℕ, ◌≡◌, ◌+◌, ◌++◌, ◌<◌, ◌≤◌, inl, inr, Bool, true, false, List, [], ◌∷◌, length, Option, Some, None, refl, sym, ap, subst, ◌∙◌, arith}
+use Rattle.std.specs.Prelude.{◌⊎◌, ◌||◌, Contains}
 use Rattle.std.specs.Ordering.{nat_cmp}
-use Rattle.std.specs.FinSet.{FinSet, contains, empty, remove, contains-empty}
-use Rattle.std.proofs.lemmas.Bool.{cases_lt, or_cases, or_left, or_right, false≢true, false_from_ne_true}
+use Rattle.std.specs.FinSet.{FinSet, contains, remove}
+use Rattle.std.proofs.lemmas.Bool.{or_cases, or_left, or_right, false≢true}
 use Rattle.std.proofs.lemmas.List.Elements.{Contains-push, Contains-push_cases, Contains-append_left, Contains-get_or}
 use Rattle.std.proofs.lemmas.List.{length-map, get_or-map}
 use Rattle.causal_name.specs.declared.Det.{Det}
 use Rattle.causal_name.specs.Sets.{count_below}
 use Rattle.causal_trace.specs.declared.entry.Entry.{Entry}
-use Rattle.causal_trace.specs.Past.{instant, det_at, has}
-use Rattle.causal_trace.specs.Rows.{Recording, IsWellFormed, AreAccepted}
-use Rattle.causal_trace.specs.Dependence.{actor, Reaches, Depends}
+use Rattle.causal_trace.specs.Past.{instant, det_at}
+use Rattle.causal_trace.specs.Rows.{Recording, AreAccepted}
 use Rattle.causal_trace.specs.Judgement.{HasOrphan}
 use Rattle.causal_trace.proofs.Lemmas.AtInstants.{accepted_then, det_then, det_within, instant_length}
 use Rattle.causal_audit.specs.declared.breach.Breach.{Breach}
@@ -20,11 +19,11 @@ use Rattle.causal_audit.specs.declared.scan.Window.{Window}
 use Rattle.causal_audit.specs.declared.sight.Sight.{Sight}
 use Rattle.causal_audit.specs.Earlier.{earlier}
 use Rattle.causal_audit.specs.Laws.{gone}
-use Rattle.causal_audit.specs.Quiet.{is_turn, mentioned_by, Agree, IsQuiet}
+use Rattle.causal_audit.specs.Quiet.{is_turn, Agree, IsQuiet}
 use Rattle.causal_audit.specs.Inside.Among.{FirstBreachBy, HasNoOrphanBy, LeastAmongBy}
 use Rattle.causal_audit.specs.Inside.BreachAt.{BreachAt, TellsBreachAt}
 use Rattle.causal_audit.specs.Inside.Followed.{IsReachedBy}
-use Rattle.causal_audit.specs.Inside.Group.{AreKnown, ArePlaces, HaveNone, IsKnown, IsLeastIn, IsStep, position_at, sight_at}
+use Rattle.causal_audit.specs.Inside.Group.{IsKnown, IsLeastIn, IsStep, position_at, sight_at}
 use Rattle.causal_audit.specs.Inside.Reaching.{IsNewly}
 use Rattle.causal_audit.specs.Inside.Scans.{positions_of}
 use Rattle.causal_audit.specs.Inside.Sights.{IsSight, IsSightAfter, AreDependents, TellsNextReach}

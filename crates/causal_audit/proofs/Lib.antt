@@ -18,6 +18,7 @@ mod Firsts
 mod Following
 mod Gathered
 mod GroupSeen
+mod GroupWalk
 mod HeldOutside
 mod Indexed
 mod Joined

@@ -54,6 +54,16 @@ pub fn mark_own(rows: &mut Vec<Holders>, start: u32, windows: &[Window])
     }
 }
 
+/// Empties each of these rows.
+pub fn clear(rows: &mut Vec<Holders>)
+    ensures count { length rows.new.items ≡ length rows.old.items }
+    ensures none { (i : ℕ) → row rows.new.items i ≡ set.empty }
+{
+    for i in 0..rows.len() {
+        rows[i] = Holders::none();
+    }
+}
+
 /// Whether the window at this place is still open for the entry at a position.
 fn is_open(windows: &[Window], place: u8, position: u32) -> bool
     ensures { IsTrue result ↔ position < (window_at windows.now place).until }
@@ -110,6 +120,22 @@ impl Reach {
             reached,
             present,
         })
+    }
+
+    /// The same in the rows that are there, for another walk.
+    pub fn renew(&mut self, start: u32, windows: &[Window])
+        requires few { length windows.now ≤ 256 }
+        requires from { All (λ window. start ≤ window.position) windows.now }
+        ensures start { self.new.start ≡ start }
+        ensures reached { length self.new.reached.items ≡ length self.old.reached.items }
+        ensures present { length self.new.present.items ≡ length self.old.present.items }
+        ensures begins { (past : List Entry) (j : ℕ) → length past ≡ start →
+            j < length windows.now → IsReach past (window_at windows.now j).position j self.new }
+    {
+        clear(&mut self.reached);
+        clear(&mut self.present);
+        mark_own(&mut self.reached, start, windows);
+        self.start = start;
     }
 
     /// Which of the deliveries reach the event at a position that was read. None reaches one before the walk.

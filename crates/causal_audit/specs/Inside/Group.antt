@@ -9,11 +9,12 @@ use Rattle.causal_trace.specs.Past.{instant, entry_at, det_at, has}
 use Rattle.causal_trace.specs.Rows.{Recording, IsWellFormed}
 use Rattle.causal_audit.specs.Quiet.{mentioned_by}
 use Rattle.causal_audit.specs.Inside.Among.{HasNoOrphanBy, LeastAmongBy}
-use Rattle.causal_audit.specs.Inside.Reaching.{IsNewly, row, window_at}
+use Rattle.causal_audit.specs.Inside.Reaching.{IsNewly, IsReach, row, window_at}
 use Rattle.causal_audit.specs.Inside.Scans.{positions_of}
 use Rattle.causal_audit.specs.Inside.Sights.{IsSight}
 use Rattle.causal_audit.specs.Inside.Staying.{MentionsNone}
 use Rattle.causal_audit.specs.declared.breach.Breach.{Breach}
+use Rattle.causal_audit.specs.declared.group.room.Room.{Room}
 use Rattle.causal_audit.specs.declared.group.seen.Step.{Step}
 use Rattle.causal_audit.specs.declared.scan.Window.{Window}
 use Rattle.causal_audit.specs.declared.sight.Sight.{Sight}
@@ -87,3 +88,18 @@ HaveNone r f windows t = (j : ℕ) → j < length windows → HasNoOrphanBy r f 
 -- the places of a group
 abbrev pub ArePlaces : List Window → FinSet nat_cmp → Type 0
 ArePlaces windows all = (j : ℕ) → (contains all j ≡ true) ↔ (j < length windows)
+
+-- there is room for walks over so many entries
+pub record HasRoom (entries : ℕ) (room : Room) : Type 0 where
+  pub reached : entries ≤ length room.reach.reached.items
+  pub present : length room.reach.present.items ≡ 256
+  pub mentioned : entries ≤ length room.mentioned.items
+  pub sights : length room.sights.items ≡ 256
+
+-- at the instant t of a walk that began at `start`
+pub record IsFollowed (r : Recording) (windows : List Window) (start t : ℕ) (room : Room) : Type 0 where
+  pub start_is : room.reach.start ≡ start
+  pub told : (j : ℕ) (d : Det) → j < length windows → det_at r.past (position_at windows j) ≡ Some d
+      → IsReach (instant r.past t) (position_at windows j) j room.reach
+  pub marked : AreMarked r.past start windows (length windows) room.mentioned.items
+  pub known : AreKnown r windows t room.sights.items

@@ -1,4 +1,4 @@
-use Rattle.std.proofs.Common.{◌≡◌, ◌+◌, ◌++◌, ◌∷◌, [], length, get_or, take, ap, subst, sym, ◌∙◌, arith}
+use Rattle.std.proofs.Common.{get_or, take, subst, sym, ◌∙◌, arith}
 use Rattle.std.proofs.lemmas.List.{take_more}
 use Rattle.causal_audit.proofs.Marked.{take_all}
 use Rattle.causal_audit.specs.Inside.Group.{HaveMarked}

@@ -1,9 +1,9 @@
-use Rattle.std.proofs.Common.{◌≡◌, ◌∙◌, length, map, sym, ap, subst, arith}
-use Rattle.std.specs.Prelude.{Contains, ℕ, false}
-use Rattle.std.specs.FinSet.{remove, contains, contains-empty}
+use Rattle.std.proofs.Common.{◌≡◌, ◌∙◌, sym, ap, subst}
+use Rattle.std.specs.Prelude.{ℕ, false}
+use Rattle.std.specs.FinSet.{contains, contains-empty}
 use Rattle.std.specs.Ordering.{nat_cmp}
-use Rattle.causal_audit.specs.Inside.Group.{IsKnown, sight_at}
-use Rattle.causal_audit.proofs.GroupSeen.{HaveSeen, among_windows, seen_none, seen_more}
+use Rattle.causal_audit.specs.Inside.Group.{IsKnown}
+use Rattle.causal_audit.proofs.GroupSeen.{among_windows, seen_none, seen_more}
 use Rattle.causal_audit.proofs.Reaching.{fewer}
 use Rattle.causal_audit.proofs.group.seen.see_each.Goals as goal
 

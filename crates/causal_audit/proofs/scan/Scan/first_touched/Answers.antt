@@ -1,7 +1,7 @@
 use Rattle.std.proofs.Common.{◌≡◌, ◌∙◌, Vec, Global, ℕ, List, Some, map, subst, sym, arith}
 use Rattle.std.specs.Prelude.{Contains, false}
 use Rattle.std.specs.List.Sorted.{IsNonDecreasing}
-use Rattle.causal_trace.specs.Past.{det_at, has}
+use Rattle.causal_trace.specs.Past.{has}
 use Rattle.causal_audit.specs.Quiet.{mentioned_by}
 use Rattle.causal_audit.specs.Inside.Group.{IsUntouchedBefore}
 use Rattle.causal_audit.proofs.Mentioned.{mentions_ascend}

@@ -1,7 +1,7 @@
-use Rattle.std.proofs.Common.{◌≡◌, ◌∙◌, ◌+◌, ◌<◌, inl, inr, length, Some, refl, ap, subst, sym, arith}
+use Rattle.std.proofs.Common.{◌≡◌, ◌∙◌, ◌+◌, ◌<◌, inl, inr, length, Some, refl, subst, sym, arith}
 use Rattle.std.specs.Prelude.{Contains}
 use Rattle.std.specs.FinSet.{contains}
-use Rattle.causal_trace.specs.Past.{det_at, has}
+use Rattle.causal_trace.specs.Past.{has}
 use Rattle.causal_audit.specs.Quiet.{mentioned_by}
 use Rattle.causal_audit.specs.Inside.Group.{IsMarked}
 use Rattle.causal_audit.specs.Inside.Filed.{lists_in, mentions_of}
