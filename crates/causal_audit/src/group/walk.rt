@@ -76,7 +76,13 @@ impl Scan<'_> {
     /// They are followed in groups of 256: for each the entries are walked once, and no further than a breach that was found.
     /// An entry of a walk takes time as the deliveries of the group that it newly reaches or whose determinants it mentions,
     /// and a crash and a restart as all of them. No memory is taken.
-    pub fn least_within(&self, f: u16, end: u32, windows: &[Window], room: &mut Room) -> Option<Breach>
+    pub fn least_within(
+        &self,
+        f: u16,
+        end: u32,
+        windows: &[Window],
+        room: &mut Room,
+    ) -> Option<Breach>
         requires within { end ≤ length self.now.past }
         requires below { All (λ window. window.position < end) windows.now }
         requires windows { All (IsWindow self.now f end) windows.now }
