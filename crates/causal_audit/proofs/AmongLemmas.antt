@@ -121,33 +121,51 @@ module _ (r : Recording) (f : ℕ) where
     },
   )
   among_joined end until positions more (Some a) (Some b) reach so_far next =
-      chosen positions more end a b so_far.0 (omega (arith, so_far.0, next.0, reach)) so_far.1 next.1 (comes_before b a) refl
+      chosen positions more end a b so_far.0 (omega (arith, next.0, reach, so_far.0)) so_far.1 next.1 (comes_before b a) refl
 
-  -- The same, where both are known up to the same instant.
-  pub among_both : (end : ℕ) (positions more : List ℕ) (one other : Option Breach) → LeastAmongBy r f end positions one → LeastAmongBy r f end more other
-      → LeastAmongBy r f end (positions ++ more) (earlier one other)
-  among_both end positions more None other first second = among_joined end end positions more None other refl first second
-  among_both end positions more (Some a) None first second = (
-    first.0,
+  -- Two answers by one instant make one.
+  pub among_both : (end : ℕ) (positions more : List ℕ) (one other : Option Breach) → LeastAmongBy r f end positions one → LeastAmongBy r f end more other → LeastAmongBy r f end (positions ++ more) (earlier one other)
+  among_both end positions more None other so_far next = among_joined end end positions more None other refl so_far next
+  among_both end positions more (Some a) None so_far next = among_joined end a.instant positions more (Some a) None refl so_far (λ j t listed low. next j t listed (omega (arith, low, so_far.0)))
+  among_both end positions more (Some a) (Some b) so_far next = chosen positions more end a b so_far.0 next.0 so_far.1 next.1 (comes_before b a) refl
+
+  -- one position more
+  pub among_push : (end : ℕ) (positions : List ℕ) (k : ℕ) (one other : Option Breach) → LeastAmongBy r f end positions one → FirstBreachBy r f end k other → LeastAmongBy r f end (positions ++ k ∷ []) (earlier one other)
+  among_push end positions k one other so_far next = among_both end positions (k ∷ []) one other so_far (among_one end k other next)
+
+  -- positions of which some have no orphan by then
+  pub among_wider : (end : ℕ) (positions more : List ℕ) (found : Option Breach) → ((k : ℕ) → Contains positions k → Contains more k) → ((k : ℕ) → Contains more k → Contains positions k ⊎ HasNoOrphanBy r f k end)
+      → LeastAmongBy r f end positions found → LeastAmongBy r f end more found
+  among_wider end positions more None inside others none = λ k t listed low has. elim (others k listed) [ inl old ↦ none k t old low has | inr never ↦ never t low has ]
+  among_wider end positions more (Some b) inside others one = (
+    one.0,
     record {
-      among = Contains-append_left positions more a.delivery first.1.among;
-      first = first.1.first;
-      least = λ j t listed in_time has. elim (Contains-append_cases positions more j listed) [
-        | inl old ↦ first.1.least j t old in_time has
-        | inr new ↦ elim (cases_lt end t) [
-          | inl late ↦ by_bound a end t j first.0 late
-          | inr early ↦ absurd (second j t new early has)
+      among = inside b.delivery one.1.among;
+      first = one.1.first;
+      least = λ k t listed in_time has. elim (others k listed) [
+        | inl old ↦ one.1.least k t old in_time has
+        | inr never ↦ elim (cases_lt end t) [
+          | inl late ↦ by_bound b end t k one.0 late
+          | inr early ↦ absurd (never t early has)
         ]
       ];
     },
   )
-  among_both end positions more (Some a) (Some b) first second = chosen positions more end a b first.0 second.0 first.1 second.1 (comes_before b a) refl
 
   -- and where none of them has one by then, the least stays
   pub joined_same : (end until : ℕ) (positions more : List ℕ) (one : Option Breach) → until ≡ horizon end one → LeastAmongBy r f end positions one → LeastAmongBy r f until more None
       → LeastAmongBy r f end (positions ++ more) one
   joined_same end until positions more None reach so_far next = among_joined end until positions more None None reach so_far next
   joined_same end until positions more (Some a) reach so_far next = among_joined end until positions more (Some a) None reach so_far next
+
+  -- where none has one after an instant, the least by that instant is the least by a later one
+  pub among_later : (last end : ℕ) (positions : List ℕ) (found : Option Breach) → last ≤ end → ((k u : ℕ) → Contains positions k → last < u → u ≤ end → HasOrphan r.processes f (instant r.past u) k → ⊥)
+      → LeastAmongBy r f last positions found → LeastAmongBy r f end positions found
+  among_later last end positions None up later none = λ k t listed low has. elim (cases_lt last t) [
+    | inl late ↦ later k t listed late low has
+    | inr early ↦ none k t listed early has
+  ]
+  among_later last end positions (Some b) up later one = (omega (arith, one.0, up), one.1)
 
   -- one position more
   pub among_more : (end until : ℕ) (positions : List ℕ) (k : ℕ) (one other : Option Breach) → until ≡ horizon end one → LeastAmongBy r f end positions one → FirstBreachBy r f until k other

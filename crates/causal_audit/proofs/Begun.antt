@@ -10,6 +10,7 @@ use Rattle.causal_audit.specs.Inside.Ahead.{HasNoneUntil}
 use Rattle.causal_audit.specs.Inside.Changes.{HasMentions}
 use Rattle.causal_audit.specs.Quiet.{is_turn, mentioned_by}
 use Rattle.causal_audit.specs.Inside.Sights.{IsUnheard}
+use Rattle.causal_audit.specs.Inside.Staying.{MentionsNone}
 use Rattle.causal_audit.proofs.Between.{next_entry, no_turn_stays, stable_stays}
 use Rattle.causal_trace.proofs.Lemmas.AtInstants.{instant_length}
 use Rattle.causal_audit.proofs.Steps.{no_entry}
@@ -58,14 +59,15 @@ unlogged_stays (Restart who listed) past d h p none = or_none (who.0 == p) (has 
 unlogged_stays (Forget who listed) past d h p none = and_none (who.0 == p && has listed d) (logs past p d) none
 
 -- before the delivery and the first mention of its determinant nothing is known of it
-pub unheard_until : (past : List Entry) (k : ℕ) (d : Det) (mentions : List ℕ) (t : ℕ) → HasMentions past d mentions → HasNoneUntil mentions 0 t → t ≤ k → t ≤ length past → IsUnheard (instant past t) k d
-unheard_until past k d mentions t mentioned none early within = record {
+pub unheard_before : (past : List Entry) (k : ℕ) (d : Det) (t : ℕ) → MentionsNone past d 0 t → t ≤ k → t ≤ length past → IsUnheard (instant past t) k d
+unheard_before past k d t unmentioned early within = record {
   unlogged = λ p. onward_to (λ x. logs x p d ≡ false) past 0 t (omega arith) within
-      (λ v e above below at so. unlogged_stays e (instant past v) d (unmentioned v e below at) p so) (ap (λ x. logs x p d) (no_entry past));
+      (λ v e above below at so. unlogged_stays e (instant past v) d (unmentioned v e above below at) p so) (ap (λ x. logs x p d) (no_entry past));
   unstable = onward_to (λ x. is_stable x d ≡ false) past 0 t (omega arith) within
-      (λ v e above below at so. sym (stable_stays e (instant past v) d (unmentioned v e below at)) ∙ so) (ap (λ x. is_stable x d) (no_entry past));
+      (λ v e above below at so. sym (stable_stays e (instant past v) d (unmentioned v e above below at)) ∙ so) (ap (λ x. is_stable x d) (no_entry past));
   independent = λ p depends. omega (arith, reaches_begins (instant past t) k depends.event depends.reached, instant_length past t within, early);
 }
-  where
-    unmentioned : (v : ℕ) (e : Entry) → v < t → entry_at past v ≡ Some e → has (mentioned_by e) d ≡ false
-    unmentioned v e below at = mentioned v e at (none v (omega arith) below)
+
+pub unheard_until : (past : List Entry) (k : ℕ) (d : Det) (mentions : List ℕ) (t : ℕ) → HasMentions past d mentions → HasNoneUntil mentions 0 t → t ≤ k → t ≤ length past → IsUnheard (instant past t) k d
+unheard_until past k d mentions t mentioned none early within =
+    unheard_before past k d t (λ v e above below at. mentioned v e at (none v above below)) early within

@@ -56,7 +56,7 @@ stable_stays (Crash who) past d l = refl
 stable_stays (Restart who listed) past d l = refl
 stable_stays (Forget who listed) past d l = refl
 
-quiet_step : (n : ℕ) (e : Entry) (past : List Entry) (k : ℕ) (d : Det) → AreAccepted n (e ∷ past) → IsQuiet past e k d → Agree past (e ∷ past) k d
+pub quiet_step : (n : ℕ) (e : Entry) (past : List Entry) (k : ℕ) (d : Det) → AreAccepted n (e ∷ past) → IsQuiet past e k d → Agree past (e ∷ past) k d
 quiet_step n e past k d formed quiet = record {
   down = λ p. sym (no_turn_stays e past quiet.no_turn p).0;
   logged = logs_stay e past d quiet.no_turn quiet.unmentioned;

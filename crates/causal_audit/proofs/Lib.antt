@@ -14,6 +14,8 @@ mod Exposure
 mod Filings
 mod Firsts
 mod Following
+mod GroupSeen
+mod GroupWalk
 mod HeldOutside
 mod Indexed
 mod Joined
@@ -21,6 +23,7 @@ mod Known
 mod Lasting
 mod Legal
 mod Link
+mod Marked
 mod Looked
 mod Mentioned
 mod Mirrored

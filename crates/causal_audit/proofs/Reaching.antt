@@ -20,7 +20,7 @@ use Rattle.causal_trace.proofs.Lemmas.Reached.{event_below, reaches_begins, reac
 use Rattle.causal_audit.specs.declared.reach.Reach.{Reach}
 use Rattle.causal_audit.specs.declared.scan.Window.{Window}
 use Rattle.causal_audit.specs.Inside.Filed.{list_at, with_added}
-use Rattle.causal_audit.specs.Inside.Reaching.{AreOver, AreOwnRows, HaveAdded, IsNewly, IsReach, SeesReach, TellsReached, row, window_at}
+use Rattle.causal_audit.specs.Inside.Reaching.{AreOwnRows, IsNewly, IsReach, SeesReach, TellsReached, row, window_at}
 use Rattle.causal_audit.specs.Inside.Sights.{TellsNextReach}
 use Rattle.causal_audit.proofs.Dependence.{IsNoTurn, reaches_more, depends_more, depends_before}
 use Rattle.causal_audit.proofs.Legal.{sent_event}
@@ -375,14 +375,6 @@ begun past windows start j reached present long low early own none = record {
 
 -- ---- places taken out of a set one by one
 
--- at a place whose window is still open there is a window
-pub has_window : (windows : List Window) (j t : ℕ) → t < (window_at windows j).until → j < length windows
-has_window windows j t ahead =
-    elim (cases_lt j (length windows)) [
-      | inl low ↦ low
-      | inr beyond ↦ absurd (omega (arith, ahead, ap (λ window. window.until) (get_or-eq_default windows (record { position = 0; until = 0 }) beyond)))
-    ]
-
 -- a set is smaller without one of its members
 pub fewer : (s : FinSet nat_cmp) (p : ℕ) → contains s p ≡ true → len (remove s p) < len s
 fewer s p within =
@@ -413,78 +405,3 @@ left_out s p j h =
       | inl here ↦ inl (sym here.1)
       | inr apart ↦ inr (sym (ap (λ b. not b && contains s j) apart.0) ∙ sym (removed s p j) ∙ h)
     ]
-
--- the lists of the places that are left are as they were, and the others are as they will be
-pub record HaveSoFar (windows : List Window) (places rest : FinSet nat_cmp) (position : ℕ) (old now : List (List ℕ)) : Type 0 where
-  pub count : length now ≡ length old
-  pub left : (j : ℕ) → contains rest j ≡ true → contains places j ≡ true
-  pub listed : (j : ℕ) → contains places j ≡ true → contains rest j ≡ false → position < (window_at windows j).until → list_at now j ≡ list_at old j ++ position ∷ []
-  pub ahead : (j : ℕ) → contains rest j ≡ true → list_at now j ≡ list_at old j
-  pub others : (j : ℕ) → contains places j ≡ false → list_at now j ≡ list_at old j
-  pub over : (j : ℕ) → (window_at windows j).until ≤ position → list_at now j ≡ list_at old j
-
--- none is taken out yet but those whose windows are over
-pub so_far_none : (windows : List Window) (places over : FinSet nat_cmp) (position : ℕ) (lists : List (List ℕ)) → AreOver windows position over → HaveSoFar windows places (difference places over) position lists lists
-so_far_none windows places over position lists ended = record {
-  count = refl;
-  left = λ j h. (and_parts (contains places j) (not (contains over j)) (sym (contains-difference nat_cmp_total places over j) ∙ h)).0;
-  listed = λ j h out high. absurd (omega (arith, high, ended j (out_of (contains places j) (contains over j) h (sym (contains-difference nat_cmp_total places over j) ∙ out))));
-  ahead = λ j h. refl;
-  others = λ j h. refl;
-  over = λ j h. refl;
-}
-  where
-    out_of : (a b : Bool) → a ≡ true → (a && not b) ≡ false → b ≡ true
-    out_of true true h k = refl
-    out_of true false h k = absurd (false≢true (sym k))
-    out_of false b h k = absurd (false≢true h)
-
--- one more window is over
-pub over_more : (windows : List Window) (position p : ℕ) (over : FinSet nat_cmp) → (window_at windows p).until ≤ position → AreOver windows position over → AreOver windows position (insert over p)
-over_more windows position p over ended are j h =
-    elim (or_cases (p == j) (contains over j) (sym (inserted over p j) ∙ h)) [
-      | inl here ↦ subst (λ x. (window_at windows x).until ≤ position) (eqb-true p j here) ended
-      | inr old ↦ are j old
-    ]
-
-module _ (windows : List Window) (places rest : FinSet nat_cmp) (position : ℕ) (old now : List (List ℕ)) (p : ℕ) (within : contains rest p ≡ true) (are : HaveSoFar windows places rest position old now) where
-  -- one is taken out, whose window is open
-  pub so_far_more : p < length now → position < (window_at windows p).until → HaveSoFar windows places (remove rest p) position old (with_added now p position)
-  so_far_more inside ahead = record {
-    count = length-set now p (list_at now p ++ position ∷ []) ∙ are.count;
-    left = λ j h. are.left j (left_in rest p j h).0;
-    listed = λ j h out high. elim (left_out rest p j out) [
-      | inl here ↦
-          ap (list_at (with_added now p position)) here ∙ get_or-set_same now p (list_at now p ++ position ∷ []) [] inside
-          ∙ ap (λ list. list ++ position ∷ []) (are.ahead p within) ∙ ap (λ i. list_at old i ++ position ∷ []) (sym here)
-      | inr gone ↦ get_or-set_other now p j (list_at now p ++ position ∷ []) [] (λ is. false≢true (sym gone ∙ ap (contains rest) is ∙ within)) ∙ are.listed j h gone high
-    ];
-    ahead = λ j h. let still = left_in rest p j h in get_or-set_other now p j (list_at now p ++ position ∷ []) [] still.1 ∙ are.ahead j still.0;
-    others = λ j h.
-        get_or-set_other now p j (list_at now p ++ position ∷ []) [] (λ is. false≢true (sym h ∙ ap (contains places) is ∙ are.left p within)) ∙ are.others j h;
-    over = λ j low.
-        get_or-set_other now p j (list_at now p ++ position ∷ []) [] (λ is. omega (arith, low, ahead, ap (λ x. (window_at windows x).until) is)) ∙ are.over j low;
-  }
-
-  -- one is taken out, whose window is over
-  pub so_far_same : (window_at windows p).until ≤ position → HaveSoFar windows places (remove rest p) position old now
-  so_far_same ended = record {
-    count = are.count;
-    left = λ j h. are.left j (left_in rest p j h).0;
-    listed = λ j h out high. elim (left_out rest p j out) [
-      | inl here ↦ absurd (omega (arith, ap (λ x. (window_at windows x).until) here, high, ended))
-      | inr gone ↦ are.listed j h gone high
-    ];
-    ahead = λ j h. are.ahead j (left_in rest p j h).0;
-    others = are.others;
-    over = are.over;
-  }
-
--- all are taken out
-pub so_far_all : (windows : List Window) (places : FinSet nat_cmp) (position : ℕ) (old now : List (List ℕ)) → HaveSoFar windows places empty position old now → HaveAdded windows places position old now
-so_far_all windows places position old now are = record {
-  count = are.count;
-  listed = λ j h high. are.listed j h (contains-empty nat_cmp j) high;
-  others = are.others;
-  over = are.over;
-}

@@ -7,6 +7,7 @@ pub mod Changes
 pub mod Crashes
 pub mod Filed
 pub mod Followed
+pub mod Group
 pub mod Index
 pub mod Kept
 pub mod Looks

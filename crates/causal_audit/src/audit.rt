@@ -23,8 +23,8 @@ pub fn least_by(alloc: Global, trace: &Trace, f: u16, end: u32) -> Result<Option
     ensures { IfOk result (LeastBreachBy trace.now.recording f end 0 (deliveries_in trace.now.recording.past)) }
 {
     let prepared = Prepared::of(alloc, trace, f, end)?;
-    let whole = prepared.part(0, prepared.followed());
-    whole.least(alloc)
+    let whole = prepared.part(alloc, trace, 0, prepared.followed())?;
+    Ok(whole.least())
 }
 
 /// The verdict on a trace for f. It is safe at every instant, or the first instant that is not decides, and at one instant the

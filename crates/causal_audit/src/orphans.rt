@@ -32,7 +32,7 @@ pub fn breach_at(sight: &Sight, f: u16, k: u32, t: u32) -> Option<Breach>
 
 /// Whether a delivery reaches the entry, where these processes depend on it before, and it newly reaches a process by the
 /// entry or not.
-fn is_reached(entry: &Entry, dependents: Holders, newly: bool) -> bool
+pub fn is_reached(entry: &Entry, dependents: Holders, newly: bool) -> bool
     ensures { IsReachedBy entry.now dependents newly result }
 {
     match entry {

@@ -3,6 +3,7 @@ ghost use Rattle.std.specs.Prelude.{◌≡◌, ◌≤◌, IfOk, length};
 ghost use Rattle.causal_audit.specs.Parts.{AreEnough, LeastOf, part_of};
 
 use crate::breach::Breach;
+use crate::group::room::Room;
 use crate::mentions::{Mentions, mentions_in};
 use crate::outline::Outline;
 use crate::releases::lasting_from;
@@ -13,12 +14,13 @@ use causal_name::NoMemory;
 use causal_trace::trace::Trace;
 use std::alloc::Global;
 use std::marker::Model;
+use std::snapshot::Snapshot;
 
 /// A recorded run that is prepared for its audit for f up to the instant `end`: which deliveries must be followed, and what is
-/// read to follow them. It is seen as these deliveries.
+/// read to follow them beside the trace, of which it has no copy. It is seen as these deliveries.
 #[derive(Drop)]
-pub struct Prepared<'a> {
-    trace: &'a Trace,
+pub struct Prepared {
+    run: Snapshot<Trace>,
     lasting_from: u32,
     turns: Turns,
     mentions: Mentions,
@@ -27,18 +29,18 @@ pub struct Prepared<'a> {
     windows: Vec<Window>,
 }
 
-impl<'a> Model for Prepared<'a> {
+impl Model for Prepared {
     ghost use Rattle.causal_audit.specs.Parts.{Followed};
     ghost use Rattle.causal_audit.specs.Inside.Scans.{IsPrepared, positions_of};
 
     ghost Value = { Followed };
 
-    ghost view = { λ a. record { run = a.trace.now.recording; f = a.f; end = a.end; positions = positions_of a.windows.items } };
+    ghost view = { λ a. record { run = a.run.value.recording; f = a.f; end = a.end; positions = positions_of a.windows.items } };
 
-    ghost invariant = { λ a. IsPrepared a.trace.now.recording a.f a.end a.lasting_from a.turns a.mentions a.windows.items };
+    ghost invariant = { λ a. IsPrepared a.run.value.recording a.f a.end a.lasting_from a.turns a.mentions a.windows.items };
 }
 
-impl<'a> Prepared<'a> {
+impl Prepared {
     /// Prepares a trace for f up to the instant `end`, which is at most its length. One look at each determinant tells which
     /// deliveries need not be followed: the least breach of the others is that of the run.
     ///
@@ -47,10 +49,12 @@ impl<'a> Prepared<'a> {
     ///
     /// # Errors
     /// `NoMemory` where memory was refused.
-    pub fn of(alloc: Global, trace: &'a Trace, f: u16, end: u32) -> Result<Prepared<'a>, NoMemory>
+    pub fn of(alloc: Global, trace: &Trace, f: u16, end: u32) -> Result<Prepared, NoMemory>
         requires { end ≤ length trace.now.recording.past }
-        ensures { IfOk result (AreEnough trace.now.recording f end) }
+        ensures run { IfOk result (λ prepared. prepared.run ≡ trace.now.recording) }
+        ensures enough { IfOk result (AreEnough trace.now.recording f end) }
     {
+        let run = Snapshot::of(trace);
         let entries = trace.entries();
         let lasting_from = lasting_from(entries);
         let turns = Turns::of(alloc, entries)?;
@@ -62,7 +66,7 @@ impl<'a> Prepared<'a> {
         };
         let windows = windows_of(alloc, outline, &mentions, f, end)?;
         Ok(Prepared {
-            trace,
+            run,
             lasting_from,
             turns,
             mentions,
@@ -79,57 +83,76 @@ impl<'a> Prepared<'a> {
         self.windows.len()
     }
 
-    /// Those of them from place `from` on and below place `to`.
-    pub fn part(&self, from: usize, to: usize) -> Part<'_>
-        requires { (from ≤ to) × (to ≤ length self.now.positions) }
-        ensures { result ≡ part_of self.now from to }
+    /// Those of them from place `from` on and below place `to`. The trace is the one that was prepared.
+    ///
+    /// # Errors
+    /// `NoMemory` where the memory to follow them was refused: 64 bytes for each entry up to the end.
+    pub fn part<'a>(
+        &'a self,
+        alloc: Global,
+        trace: &'a Trace,
+        from: usize,
+        to: usize,
+    ) -> Result<Part<'a>, NoMemory>
+        requires same { trace.now.recording ≡ self.now.run }
+        requires places { (from ≤ to) × (to ≤ length self.now.positions) }
+        ensures { IfOk result (λ part. part ≡ part_of self.now from to) }
     {
+        let room = Room::new(alloc, self.end)?;
         let outline = Outline {
-            trace: self.trace,
+            trace,
             lasting_from: self.lasting_from,
             turns: &self.turns,
         };
-        Part {
-            scan: Scan {
-                outline,
-                mentions: &self.mentions,
-            },
+        let scan = Scan {
+            outline,
+            mentions: &self.mentions,
+        };
+        Ok(Part {
+            scan,
             f: self.f,
             end: self.end,
             windows: &self.windows[from..to],
-        }
+            room,
+        })
     }
 }
 
-/// Some of the deliveries of a prepared run that are followed. It is seen as these deliveries.
+/// Some of the deliveries of a prepared run that are followed, with the memory that this takes. It is seen as these deliveries.
 #[derive(Drop)]
 pub struct Part<'a> {
     scan: Scan<'a>,
     f: u16,
     end: u32,
     windows: &'a [Window],
+    room: Room,
 }
 
 impl<'a> Model for Part<'a> {
     ghost use Rattle.causal_audit.specs.Parts.{Followed};
+    ghost use Rattle.causal_audit.specs.Inside.Group.{HasRoom};
     ghost use Rattle.causal_audit.specs.Inside.Scans.{AreWindows, positions_of};
 
     ghost Value = { Followed };
 
     ghost view = { λ a. record { run = a.scan; f = a.f; end = a.end; positions = positions_of a.windows.now } };
 
-    ghost invariant = { λ a. AreWindows a.scan a.f a.end a.windows.now };
+    ghost invariant = { λ a. AreWindows a.scan a.f a.end a.windows.now × HasRoom a.end a.room };
 }
 
 impl Part<'_> {
     /// The least breach of these deliveries, by instant and then by position, if it comes by the instant up to which the run is
-    /// prepared; None where none of them has an orphan by then.
-    ///
-    /// # Errors
-    /// `NoMemory` where memory was refused.
-    pub fn least(&self, alloc: Global) -> Result<Option<Breach>, NoMemory>
-        ensures { IfOk result (LeastOf self.now) }
+    /// prepared; None where none of them has an orphan by then. It takes no memory.
+    pub fn least(self) -> Option<Breach>
+        ensures { LeastOf self.entry result }
     {
-        self.scan.least_among(alloc, self.f, self.end, self.windows)
+        let Part {
+            scan,
+            f,
+            end,
+            windows,
+            mut room,
+        } = self;
+        scan.least_within(f, end, windows, &mut room)
     }
 }

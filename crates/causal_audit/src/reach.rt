@@ -1,17 +1,14 @@
 //! Which of a few deliveries reach the entries of a walk, and on which of them the processes depend, all by one walk.
-ghost use Rattle.std.specs.Prelude.{◌≡◌, ◌≢◌, ◌<◌, ◌≤◌, ◌↔◌, ℕ, List, IfOk, IsTrue, OnOk, length, vec_len};
+ghost use Rattle.std.specs.Prelude.{◌≡◌, ◌≢◌, ◌<◌, ◌≤◌, ℕ, List, IfOk, length};
 ghost use Rattle.std.specs.FinSet as set;
 ghost use Rattle.std.specs.List.{All};
 ghost use Rattle.causal_trace.specs.declared.entry.Entry.{Entry};
-ghost use Rattle.causal_audit.specs.Inside.Filed.{lists_in};
-ghost use Rattle.causal_audit.specs.Inside.Reaching.{AreOver, AreOwnRows, HasRowOf, HasRows, HaveAdded, HaveFirstsWithin, IsReach, SeesReach, TellsReached, row, window_at};
+ghost use Rattle.causal_audit.specs.Inside.Reaching.{AreOwnRows, HasRowOf, HasRows, IsReach, SeesReach, TellsReached, row, window_at};
 
-use crate::lists::{add_to, empty_lists};
 use crate::scan::Window;
 use causal_holders::Holders;
 use causal_name::NoMemory;
 use causal_trace::entry::Entry;
-use causal_trace::trace::Trace;
 use std::alloc::Global;
 
 /// As many as there may be processes.
@@ -28,7 +25,7 @@ pub struct Reach {
 }
 
 /// The set at a row; the empty one where there is none.
-fn set_at(rows: &[Holders], i: usize) -> Holders
+pub fn set_at(rows: &[Holders], i: usize) -> Holders
     ensures { result ≡ row rows.now i }
 {
     match rows.get(i) {
@@ -39,7 +36,7 @@ fn set_at(rows: &[Holders], i: usize) -> Holders
 
 /// Puts the place of each of these deliveries into the row of its own entry, where that has one. The first row is of
 /// the entry at `start`.
-fn mark_own(rows: &mut Vec<Holders>, start: u32, windows: &[Window])
+pub fn mark_own(rows: &mut Vec<Holders>, start: u32, windows: &[Window])
     requires few { length windows.now ≤ 256 }
     requires from { All (λ window. start ≤ window.position) windows.now }
     requires none { (i : ℕ) → row rows.old.items i ≡ set.empty }
@@ -54,41 +51,14 @@ fn mark_own(rows: &mut Vec<Holders>, start: u32, windows: &[Window])
     }
 }
 
-/// Whether the window at this place is still open for the entry at a position.
-fn is_open(windows: &[Window], place: u8, position: u32) -> bool
-    ensures { IsTrue result ↔ position < (window_at windows.now place).until }
+/// Empties each of these rows.
+pub fn clear(rows: &mut Vec<Holders>)
+    ensures count { length rows.new.items ≡ length rows.old.items }
+    ensures none { (i : ℕ) → row rows.new.items i ≡ set.empty }
 {
-    match windows.get(usize::from(place)) {
-        Some(window) => position < window.until,
-        None => false,
+    for i in 0..rows.len() {
+        rows[i] = Holders::none();
     }
-}
-
-/// Puts a position at the end of the lists of those of these places whose windows are still open for it. A place whose
-/// window turns out to be over is noted, and passed without a test from then on.
-fn add_to_each(
-    lists: &mut Vec<Vec<u32>>,
-    over: &mut Holders,
-    windows: &[Window],
-    places: Holders,
-    position: u32,
-) -> Result<(), NoMemory>
-    requires count { vec_len lists.old ≡ length windows.now }
-    requires over { AreOver windows.now position over.old }
-    ensures over { AreOver windows.now position over.new }
-    ensures added { OnOk result
-        (HaveAdded windows.now places position (lists_in lists.old.items) (lists_in lists.new.items)) }
-{
-    let mut rest = places.minus(*over);
-    while let Some(place) = rest.least() {
-        rest.remove(place);
-        if is_open(windows, place, position) {
-            add_to(lists, usize::from(place), position)?;
-        } else {
-            over.insert(place);
-        }
-    }
-    Ok(())
 }
 
 impl Reach {
@@ -110,6 +80,22 @@ impl Reach {
             reached,
             present,
         })
+    }
+
+    /// The same in the rows that are there, for another walk.
+    pub fn renew(&mut self, start: u32, windows: &[Window])
+        requires few { length windows.now ≤ 256 }
+        requires from { All (λ window. start ≤ window.position) windows.now }
+        ensures start { self.new.start ≡ start }
+        ensures reached { length self.new.reached.items ≡ length self.old.reached.items }
+        ensures present { length self.new.present.items ≡ length self.old.present.items }
+        ensures begins { (past : List Entry) (j : ℕ) → length past ≡ start →
+            j < length windows.now → IsReach past (window_at windows.now j).position j self.new }
+    {
+        clear(&mut self.reached);
+        clear(&mut self.present);
+        mark_own(&mut self.reached, start, windows);
+        self.start = start;
     }
 
     /// Which of the deliveries reach the event at a position that was read. None reaches one before the walk.
@@ -155,36 +141,4 @@ impl Reach {
             Entry::Forget { .. } => Holders::none(),
         }
     }
-}
-
-/// For the delivery of each of these windows, by its place, the entries below its `until` by which it newly reaches a
-/// process, as far as they stand below `end`. It reads each entry from `start` on, before which none of the deliveries
-/// stands, up to `end` once. It takes 32 bytes for each of these entries, and four for each entry of a list.
-///
-/// # Errors
-/// `NoMemory` where memory was refused.
-pub fn firsts_of(
-    alloc: Global,
-    trace: &Trace,
-    start: u32,
-    end: u32,
-    windows: &[Window],
-) -> Result<Vec<Vec<u32>>, NoMemory>
-    requires few { length windows.now ≤ 256 }
-    requires ordered { start ≤ end }
-    requires within { end ≤ length trace.now.recording.past }
-    requires from { All (λ window. start ≤ window.position) windows.now }
-    ensures count { IfOk result (λ lists. vec_len lists ≡ length windows.now) }
-    ensures firsts { IfOk result (λ lists.
-        HaveFirstsWithin trace.now.recording.past windows.now end (lists_in lists.items)) }
-{
-    let entries = trace.entries();
-    let mut reach = Reach::begin(alloc, start, end, windows)?;
-    let mut lists = empty_lists(alloc, windows.len() as u32)?;
-    let mut over = Holders::none();
-    for t in start..end {
-        let newly = reach.see(&entries[t as usize], t);
-        add_to_each(&mut lists, &mut over, windows, newly, t)?;
-    }
-    Ok(lists)
 }

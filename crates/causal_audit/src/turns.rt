@@ -50,7 +50,7 @@ fn restarts_one(entry: &Entry, members: Holders) -> bool
 }
 
 /// Whether an entry is a crash or a restart.
-fn is_turn(entry: &Entry) -> bool
+pub fn is_turn(entry: &Entry) -> bool
     ensures { result ≡ is_turn entry.now }
 {
     match entry {

@@ -4,10 +4,10 @@ ghost use Rattle.std.specs.Bool.{OnTrue};
 ghost use Rattle.causal_audit.specs.Parts.{Followed, LeastOf};
 ghost use Rattle.causal_audit.specs.Verdicts.{IsVerdict};
 ghost use Rattle.causal_workers.specs.Judgements.{IsOnlyVerdict};
-ghost use Rattle.causal_workers.specs.Inside.Shares.{AreSharesAfter, Covers, FollowsAfter, IsFirstShare, Tells, TellsBoth};
+ghost use Rattle.causal_workers.specs.Inside.Shares.{AreTasksAfter, Covers, FollowsAfter, IsFirstShare, IsReady, Tells};
 
 use crate::gate::Gate;
-use crate::share::{Answer, Share, Started};
+use crate::share::{Share, Started, Task};
 use causal_audit::{
     Breach, GROUP, Prepared, Verdict, decided, deciding_in, earlier, first_excess_in,
 };
@@ -46,7 +46,7 @@ impl From<NoMemory> for AuditFault {
 /// followed are divided among the workers, in groups that one walk over the entries follows.
 ///
 /// # Errors
-/// `NoMemory` where memory was refused; what is prepared, and the list of workers, is made before the first worker is started.
+/// `NoMemory` where memory was refused: all is taken before the first worker is started.
 /// `NoWorker` where a worker could not be started, after those that were started ended; never with one worker.
 #[tactic(auto, using(causal_audit::proofs::Lemmas::OneVerdict::one_verdict))]
 pub fn audit<G: Gate + Sync, R: Threads + Wait>(
@@ -65,19 +65,21 @@ pub fn audit<G: Gate + Sync, R: Threads + Wait>(
     let excess = first_excess_in(trace, f);
     let end = deciding_in(trace, &excess);
     let prepared = Prepared::of(alloc, trace, f, end)?;
-    let least = least_of_all(rt, alloc, &prepared, workers, gate)?;
+    let least = least_of_all(rt, alloc, trace, &prepared, workers, gate)?;
     Ok(decided(excess, least))
 }
 
 /// The least breach of all deliveries that are followed.
-fn least_of_all<'p, G: Gate + Sync, R: Threads + Wait>(
+fn least_of_all<G: Gate + Sync, R: Threads + Wait>(
     rt: &R,
     alloc: Global,
-    prepared: &'p Prepared<'p>,
+    trace: &Trace,
+    prepared: &Prepared,
     workers: u32,
     gate: &G,
 ) -> Result<Option<Breach>, AuditFault>
-    requires { (1 ≤ workers) × (workers ≤ 64) }
+    requires workers { (1 ≤ workers) × (workers ≤ 64) }
+    requires same { trace.now.recording ≡ prepared.now.run }
     ensures least { IfOk result (LeastOf prepared.now) }
     ensures alone { result ≡ Err AuditFault.NoWorker → 2 ≤ workers }
 {
@@ -85,23 +87,27 @@ fn least_of_all<'p, G: Gate + Sync, R: Threads + Wait>(
         thread::scope_env(),
         rt,
         |scope| -> Result<Option<Breach>, AuditFault>
-            requires { (1 ≤ workers) × (workers ≤ 64) }
+            requires workers { (1 ≤ workers) × (workers ≤ 64) }
+            requires same { trace.now.recording ≡ prepared.now.run }
             ensures least { IfOk result (LeastOf prepared.entry.now) }
             ensures alone { result ≡ Err AuditFault.NoWorker → 2 ≤ workers }
-        { least_in(rt, scope, alloc, prepared, workers, gate) },
+        { least_in(rt, scope, alloc, trace, prepared, workers, gate) },
     )
 }
 
-/// Starts all workers but the first, does the first share itself, and joins them.
+/// Starts all workers but the first, does the first share itself, and joins them. All memory is taken before the first worker
+/// is started.
 fn least_in<'s, 't: 's, 'g: 's, E, G: Gate + Sync, R: Threads>(
     rt: &R,
     scope: &Scope<'s, E>,
     alloc: Global,
-    prepared: &'t Prepared<'t>,
+    trace: &'t Trace,
+    prepared: &'t Prepared,
     workers: u32,
     gate: &'g G,
 ) -> Result<Option<Breach>, AuditFault>
-    requires { (1 ≤ workers) × (workers ≤ 64) }
+    requires workers { (1 ≤ workers) × (workers ≤ 64) }
+    requires same { trace.now.recording ≡ prepared.now.run }
     ensures least { IfOk result (LeastOf prepared.entry.now) }
     ensures alone { result ≡ Err AuditFault.NoWorker → 2 ≤ workers }
 {
@@ -113,56 +119,75 @@ fn least_in<'s, 't: 's, 'g: 's, E, G: Gate + Sync, R: Threads>(
         from: 0,
         to: share_end(0, prepared.followed(), workers),
     };
-    let shares = shares_after(alloc, own, workers)?;
-    if !all_started(scope, alloc, &mut started, own, shares, gate) {
+    let first = task_of(alloc, trace, own)?;
+    let tasks = tasks_after(alloc, trace, own, workers)?;
+    if !all_started(scope, &mut started, own, tasks, gate) {
         join_all(rt, started);
         return Err(AuditFault::NoWorker);
     }
-    let first = own.judged(alloc, 0, gate);
-    let least = least_joined(rt, first, started)?;
-    Ok(least)
+    let least = first.judged(0, gate);
+    Ok(least_joined(rt, least, started))
 }
 
-/// The shares of the workers from 1 on, of what follows `own`.
-fn shares_after<'t>(alloc: Global, own: Share<'t>, workers: u32) -> Result<Vec<Share<'t>>, NoMemory>
+/// The task of a share.
+fn task_of<'t>(alloc: Global, trace: &'t Trace, share: Share<'t>) -> Result<Task<'t>, NoMemory>
+    requires same { trace.now.recording ≡ share.prepared.now.run }
+    requires inside { (share.from ≤ share.to) × (share.to ≤ length share.prepared.now.positions) }
+    ensures share { IfOk result (λ task. task.share ≡ share.entry) }
+    ensures ready { IfOk result IsReady }
+{
+    let Share { prepared, from, to } = share;
+    let part = prepared.part(alloc, trace, from, to)?;
+    Ok(Task { share, part })
+}
+
+/// The tasks of the workers from 1 on, of what follows `own`.
+fn tasks_after<'t>(
+    alloc: Global,
+    trace: &'t Trace,
+    own: Share<'t>,
+    workers: u32,
+) -> Result<Vec<Task<'t>>, NoMemory>
     requires workers { (1 ≤ workers) × (workers ≤ 64) }
+    requires same { trace.now.recording ≡ own.prepared.now.run }
     requires own { IsFirstShare workers own }
-    ensures shares { IfOk result (λ shares. AreSharesAfter own.entry shares.items) }
-    ensures count { IfOk result (λ shares. length shares.items + 1 ≡ workers) }
+    ensures tasks { IfOk result (λ tasks. AreTasksAfter own.entry tasks.items) }
+    ensures count { IfOk result (λ tasks. length tasks.items + 1 ≡ workers) }
 {
     let Share { prepared, .. } = own;
     let all = prepared.followed();
-    let mut shares = Vec::new(alloc);
+    let mut tasks = Vec::new(alloc);
     let mut from = own.to;
     for worker in 1..workers {
         let to = share_end(from, all, workers - worker);
-        shares.push(Share { prepared, from, to })?;
+        let share = Share { prepared, from, to };
+        tasks.push(task_of(alloc, trace, share)?)?;
         from = to;
     }
-    Ok(shares)
+    Ok(tasks)
 }
 
-/// Starts a worker for each share, the first with the number 1, and says whether all could be started.
+/// Starts a worker for each task, the first with the number 1, and says whether all could be started.
 fn all_started<'s, 't: 's, 'g: 's, E, G: Gate + Sync>(
     scope: &Scope<'s, E>,
-    alloc: Global,
     started: &mut Vec<Started<'t>>,
     own: Share<'t>,
-    shares: Vec<Share<'t>>,
+    tasks: Vec<Task<'t>>,
     gate: &'g G,
 ) -> bool
-    requires capacity { (started.old.items ≡ []) × (length shares.items ≤ vec_capacity started.old) }
-    requires few { length shares.items ≤ 63 }
-    requires shares { AreSharesAfter own shares.items }
+    requires capacity { (started.old.items ≡ []) × (length tasks.items ≤ vec_capacity started.old) }
+    requires few { length tasks.items ≤ 63 }
+    requires tasks { AreTasksAfter own tasks.items }
     ensures shares { OnTrue result (FollowsAfter own.entry started.new.items) }
-    ensures alone { shares.entry.items ≡ [] → result ≡ true }
+    ensures alone { tasks.entry.items ≡ [] → result ≡ true }
 {
-    for share in shares {
+    for task in tasks {
+        let share = task.share;
         let worker = started.len() as u32 + 1;
-        let work = move || -> Answer
-            requires { (share.from ≤ share.to) × (share.to ≤ length share.prepared.now.positions) }
-            ensures { Tells share.entry.prepared.now share.entry.from share.entry.to result }
-        { share.judged(alloc, worker, gate) };
+        let work = move || -> Option<Breach>
+            requires { IsReady task }
+            ensures { Tells task.entry.share.prepared.now task.entry.share.from task.entry.share.to result }
+        { task.judged(worker, gate) };
         let Ok(handle) = scope.spawn_with(share, work) else {
             return false;
         };
@@ -188,23 +213,17 @@ fn share_end(from: usize, all: usize, left: u32) -> usize
     from + rest.min(groups.saturating_mul(GROUP))
 }
 
-/// What two answers tell together of two neighbouring shares.
-fn both(one: Answer, other: Answer) -> Answer
-    ensures { TellsBoth one other result }
-{
-    match (one, other) {
-        (Ok(a), Ok(b)) => Ok(earlier(a, b)),
-        _ => Err(NoMemory),
-    }
-}
-
 /// Joins the workers, and gives the one of all answers that comes first.
-fn least_joined<'t, R: Threads>(rt: &R, first: Answer, started: Vec<Started<'t>>) -> Answer
+fn least_joined<'t, R: Threads>(
+    rt: &R,
+    first: Option<Breach>,
+    started: Vec<Started<'t>>,
+) -> Option<Breach>
     ensures { (followed : Followed) (to : ℕ) → Covers followed first started.entry.items to → Tells followed 0 to result }
 {
     let mut least = first;
     for handle in started {
-        least = both(least, handle.join(rt));
+        least = earlier(least, handle.join(rt));
     }
     least
 }

@@ -1,5 +1,5 @@
 -- Which of a few deliveries, by their places, reach the entries of a walk, and on which of them its processes depend.
-use Rattle.std.specs.Prelude.{◌≡◌, ℕ, ◌+◌, ◌<◌, ◌≤◌, ◌↔◌, ◌⊎◌, true, false, List, [], ◌∷◌, ◌++◌, length, min, Contains, Some, slice_index_or}
+use Rattle.std.specs.Prelude.{◌≡◌, ℕ, ◌+◌, ◌<◌, ◌≤◌, ◌↔◌, ◌⊎◌, true, List, ◌∷◌, length, Some, slice_index_or}
 use Rattle.std.specs.Ordering.{nat_cmp}
 use Rattle.std.specs.FinSet.{FinSet, contains, empty}
 use Rattle.causal_name.specs.declared.Det.{Det}
@@ -7,7 +7,6 @@ use Rattle.causal_trace.specs.declared.entry.Entry.{Entry}
 use Rattle.causal_trace.specs.Past.{det_at}
 use Rattle.causal_trace.specs.Rows.{AreAccepted}
 use Rattle.causal_trace.specs.Dependence.{actor, IsEventOf, Reaches, Depends}
-use Rattle.causal_audit.specs.Inside.Filed.{Ascends, list_at}
 use Rattle.causal_audit.specs.declared.reach.Reach.{Reach}
 use Rattle.causal_audit.specs.declared.scan.Window.{Window}
 
@@ -64,29 +63,3 @@ abbrev pub SeesReach : Entry → ℕ → Reach → Reach → FinSet nat_cmp → 
 SeesReach e t old new newly =
     (n : ℕ) (past : List Entry) (k j : ℕ) (d : Det) → n ≤ 256 → AreAccepted n (e ∷ past) → length past ≡ t
     → (k ≡ t → det_at (e ∷ past) k ≡ Some d) → IsReach past k j old → IsReach (e ∷ past) k j new × IsNewly past e k j newly
-
--- the windows at these places are over at the entry at t
-abbrev pub AreOver : List Window → ℕ → FinSet nat_cmp → Type 0
-AreOver windows t over = (j : ℕ) → contains over j ≡ true → (window_at windows j).until ≤ t
-
--- the lists of those of these places whose windows are not over have the position v at their end, and the others are as
--- they were
-pub record HaveAdded (windows : List Window) (places : FinSet nat_cmp) (v : ℕ) (old new : List (List ℕ)) : Type 0 where
-  pub count : length new ≡ length old
-  pub listed : (j : ℕ) → contains places j ≡ true → v < (window_at windows j).until
-      → list_at new j ≡ list_at old j ++ v ∷ []
-  pub others : (j : ℕ) → contains places j ≡ false → list_at new j ≡ list_at old j
-  pub over : (j : ℕ) → (window_at windows j).until ≤ v → list_at new j ≡ list_at old j
-
--- of the events below t an ascending list has the first one of each lane that k reaches, and only such that it reaches
-pub record AreFirstsUntil (past : List Entry) (k t : ℕ) (list : List ℕ) : Type 0 where
-  pub ascends : Ascends t list
-  pub reached : (v : ℕ) → Contains list v → Reaches past k v
-  pub first : (v p l : ℕ) → v < t → IsEventOf past v p l → Reaches past k v
-      → Contains list v ⊎ ((i : ℕ) × (i < v) × IsEventOf past i p l × Reaches past k i)
-
--- the same of the list of each window with a delivery, up to the end of the window or to t, if that comes first
-abbrev pub HaveFirstsWithin : List Entry → List Window → ℕ → List (List ℕ) → Type 0
-HaveFirstsWithin past windows t lists =
-    (j : ℕ) (d : Det) → j < length windows → det_at past (window_at windows j).position ≡ Some d
-    → AreFirstsUntil past (window_at windows j).position (min (window_at windows j).until t) (list_at lists j)

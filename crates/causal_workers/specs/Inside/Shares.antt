@@ -1,22 +1,22 @@
 -- The shares of the workers.
-use Rattle.std.specs.Prelude.{◌≡◌, ◌≤◌, ℕ, IfOk, List, [], ◌∷◌, length, Option, Result}
+use Rattle.std.specs.Prelude.{◌≡◌, ◌≤◌, ℕ, List, [], ◌∷◌, length, Option}
 use Rattle.std.specs.declared.thread.PromisedHandle.{PromisedHandle}
-use Rattle.causal_name.specs.declared.NoMemory.{NoMemory}
 use Rattle.causal_audit.specs.declared.breach.Breach.{Breach}
 use Rattle.causal_audit.specs.Parts.{Followed, LeastOf, part_of}
 use Rattle.causal_workers.specs.declared.share.Share.{Share}
-
--- what a worker finds: the least breach of its share, or that memory was refused
-abbrev pub Answer : Type 0
-Answer = Result (Option Breach) NoMemory
+use Rattle.causal_workers.specs.declared.share.Task.{Task}
 
 -- a worker that was started, with its share
 abbrev pub Started : Type 0
-Started = PromisedHandle Answer Share
+Started = PromisedHandle (Option Breach) Share
 
--- an answer tells the least breach of the deliveries from place `from` on and below place `to`, where memory was not refused
-abbrev pub Tells : Followed → ℕ → ℕ → Answer → Type 0
-Tells followed from to answer = IfOk answer (LeastOf (part_of followed from to))
+-- this is the least breach of the deliveries from place `from` on and below place `to`
+abbrev pub Tells : Followed → ℕ → ℕ → Option Breach → Type 0
+Tells followed from to found = LeastOf (part_of followed from to) found
+
+-- the task has the part of its share
+abbrev pub IsReady : Task → Type 0
+IsReady task = task.part ≡ part_of task.share.prepared.now task.share.from task.share.to
 
 -- the share is of the deliveries from place `from` on
 pub record IsShare (followed : Followed) (from : ℕ) (share : Share) : Type 0 where
@@ -31,14 +31,14 @@ pub record IsFirstShare (workers : ℕ) (share : Share) : Type 0 where
   pub inside : share.to ≤ length share.prepared.now.positions
   pub alone : workers ≡ 1 → share.to ≡ length share.prepared.now.positions
 
--- the shares follow one another, from place `from` up to place `to`
-abbrev pub AreShares : Followed → ℕ → List Share → ℕ → Type 0
-AreShares followed from [] to = from ≡ to
-AreShares followed from (share ∷ shares) to = IsShare followed from share × AreShares followed share.to shares to
+-- the shares follow one another, from place `from` up to place `to`, and each has its part
+abbrev pub AreTasks : Followed → ℕ → List Task → ℕ → Type 0
+AreTasks followed from [] to = from ≡ to
+AreTasks followed from (task ∷ tasks) to = IsShare followed from task.share × IsReady task × AreTasks followed task.share.to tasks to
 
 -- they are of all that comes after this one
-abbrev pub AreSharesAfter : Share → List Share → Type 0
-AreSharesAfter own shares = AreShares own.prepared.now own.to shares (length own.prepared.now.positions)
+abbrev pub AreTasksAfter : Share → List Task → Type 0
+AreTasksAfter own tasks = AreTasks own.prepared.now own.to tasks (length own.prepared.now.positions)
 
 -- the workers' shares follow one another in the same way
 abbrev pub Follows : Followed → ℕ → List Started → ℕ → Type 0
@@ -50,10 +50,5 @@ abbrev pub FollowsAfter : Share → List Started → Type 0
 FollowsAfter own started = Follows own.prepared.now own.to started (length own.prepared.now.positions)
 
 -- `first` tells of the deliveries below some place, and the workers' shares go on from there to `to`
-abbrev pub Covers : Followed → Answer → List Started → ℕ → Type 0
+abbrev pub Covers : Followed → Option Breach → List Started → ℕ → Type 0
 Covers followed first ws to = (mid : ℕ) × Tells followed 0 mid first × Follows followed mid ws to
-
--- of two neighbouring shares, the first of which begins at place 0, an answer tells together what two answers tell of each
-abbrev pub TellsBoth : Answer → Answer → Answer → Type 0
-TellsBoth one other both =
-    (followed : Followed) (mid to : ℕ) → mid ≤ to → Tells followed 0 mid one → Tells followed mid to other → Tells followed 0 to both

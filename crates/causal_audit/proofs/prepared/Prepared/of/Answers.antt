@@ -3,7 +3,8 @@ use Rattle.std.proofs.lemmas.List.{reverse-reverse}
 use Rattle.causal_trace.specs.State.{past_at}
 use Rattle.causal_trace.proofs.Lemmas.Instants.{past_whole}
 use Rattle.causal_audit.specs.Inside.Kept.{AreMentionsKept, AreTurnsKept}
-use Rattle.causal_audit.specs.Inside.Scans.{positions_of}
+use Rattle.causal_audit.specs.Inside.Scans.{IsPrepared, positions_of}
+use Rattle.causal_audit.specs.Parts.{AreEnough}
 use Rattle.causal_audit.specs.Lasting.{NoneReleasedFrom}
 use Rattle.causal_audit.proofs.AmongLemmas.{among_all}
 use Rattle.causal_audit.proofs.Uncovered.{any_other}
@@ -30,23 +31,28 @@ windows_of-requires-clause-mentioned c =
 pub invariant_of-result : goal.invariant_of-result
 invariant_of-result c =
     let entries = c.entries-entries.result.now in
-    let past = c.args.trace.now.recording.past in
+    let r = c.args.trace.now.recording in
+    let past = r.past in
     let whole : past_at entries (length entries) ≡ past = past_whole entries ∙ ap reverse c.entries-entries.ensures.value ∙ reverse-reverse past in
     let all = c.in_ok-windows.ensures in
-    record {
+    let windows = c.in_ok-windows.windows.items in
+    let prepared : IsPrepared r c.args.f c.args.end c.lasting_from-lasting_from.result c.in_ok-turns.turns c.in_ok-mentions.mentions windows = record {
       lasting = subst (λ p. NoneReleasedFrom p c.lasting_from-lasting_from.result) whole c.lasting_from-lasting_from.ensures;
       turned = subst (λ p. AreTurnsKept p c.in_ok-turns.turns) whole c.in_ok-turns.ensures;
       mentioned = subst (λ p. AreMentionsKept p c.in_ok-mentions.mentions) whole c.in_ok-mentions.ensures;
-      followed = record {
-        within = c.requires;
-        below = of_positions (λ k. k < c.args.end) c.in_ok-windows.windows.items all.uncovered.before;
-        none_later = all.none_later;
-      };
-    }
+      followed = record { within = c.requires; below = of_positions (λ k. k < c.args.end) windows all.uncovered.before; none_later = all.none_later };
+    } in
+    rw c.of-run.ensures prepared
 
-pub returns : goal.returns
-returns c found least =
+pub returns-clause-enough : goal.returns-clause-enough
+returns-clause-enough c =
     let r = c.args.trace.now.recording in
+    let f = c.args.f in
+    let end = c.args.end in
     let positions = positions_of c.in_ok-windows.windows.items in
-    among_all r c.args.f c.args.end positions found c.entries-entries.ensures.formed.accepted c.requires
-    (any_other r c.args.f c.args.end positions c.requires c.in_ok-windows.ensures.uncovered) least
+    let enough : AreEnough r f end (record { run = r; f = f; end = end; positions = positions }) =
+    λ found least.
+    among_all r f end positions found c.entries-entries.ensures.formed.accepted c.requires
+    (any_other r f end positions c.requires c.in_ok-windows.ensures.uncovered) least
+    in
+    rw c.of-run.ensures enough

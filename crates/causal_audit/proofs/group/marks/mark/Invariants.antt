@@ -1,0 +1,10 @@
+use Rattle.std.proofs.Common.{◌≡◌, length, take}
+use Rattle.causal_audit.specs.Inside.Group.{HaveMarked}
+use Rattle.causal_audit.proofs.group.marks.mark.Given as goal
+
+-- the positions so far
+abbrev pub invariant-loop-position : goal.invariant-loop-position
+invariant-loop-position l = record {
+  count : length l.rows.items ≡ length l.fn.rows.items;
+  marked : HaveMarked l.start l.place (take l.position-index l.positions) l.fn.rows.items l.rows.items;
+}

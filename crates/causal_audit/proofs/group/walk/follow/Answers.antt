@@ -1,0 +1,73 @@
+use Rattle.std.proofs.Common.{◌≡◌, ◌∙◌, ◌+◌, ◌-◌, ◌<◌, ◌≤◌, length, refl, sym, ap, subst, arith}
+use Rattle.causal_trace.specs.Past.{instant}
+use Rattle.causal_trace.specs.Judgement.{HasOrphan}
+use Rattle.causal_audit.specs.Inside.Among.{LeastAmongBy}
+use Rattle.causal_audit.specs.Inside.Scans.{positions_of}
+use Rattle.causal_audit.specs.Inside.Reaching.{row}
+use Rattle.causal_audit.proofs.GroupSeen.{place_of}
+use Rattle.causal_audit.proofs.GroupWalk.{is_step, told_after, room_stays, none_of_all}
+use Rattle.causal_audit.proofs.Steps.{next_state, entry_read}
+use Rattle.causal_audit.proofs.group.walk.follow.Goals as goal
+
+pub see-newly-requires : goal.see-newly-requires
+see-newly-requires c =
+    let i = c.loop-t.invariant in
+    let was = i.room c.args.end c.requires.room in
+    record {
+      row = record {
+        from = omega (arith, i.followed.start_is, c.loop-t.auto.t);
+        reached = omega (arith, was.reached, c.loop-t-test.true);
+        present = was.present;
+      };
+    }
+
+pub see_step-requires-clause-step : goal.see_step-requires-clause-step
+see_step-requires-clause-step c =
+    let r = c.args.trace.now.recording in
+    let t = c.loop-t.t in
+    let i = c.loop-t.invariant in
+    let was = i.room c.args.end c.requires.room in
+    let x = c.index-entries-t.result in
+    let formed = c.entries-entries.ensures.formed in
+    let below : t < length r.past = omega (arith, c.loop-t-test.true, c.requires.within) in
+    let from : c.args.start ≤ t = omega (arith, c.loop-t.auto.t) in
+    let marks : c.set_at-mentioned.result ≡ row c.loop-t.room.mentioned.items (t - c.args.start) = c.set_at-mentioned.ensures ∙ ap (λ rows. row rows (t - c.args.start)) c.deref.ensures.value in
+    is_step r c.args.windows.now c.args.start c.loop-t.room _ i.followed formed below
+    (next_state r c.entries-entries.result.now c.entries-entries.ensures.value t x below c.index-entries-t.is) c.see-newly.new.self c.see-newly.ensures.sees
+    c.entries-entries.ensures.few from (omega (arith, was.mentioned, c.loop-t-test.true)) marks
+    (entry_read r c.entries-entries.result.now c.entries-entries.ensures.value t x below c.index-entries-t.is)
+
+pub returns-in-Some-clause-room : goal.returns-in-Some-clause-room
+returns-in-Some-clause-room c entries has =
+    room_stays c.loop-t.room _ c.see-newly.ensures.rows refl c.see_step.ensures.count entries (c.loop-t.invariant.room entries has)
+
+pub loop-t-preserved : goal.loop-t-preserved
+loop-t-preserved c =
+    let r = c.args.trace.now.recording in
+    let windows = c.args.windows.now in
+    let t = c.loop-t.t in
+    let i = c.loop-t.invariant in
+    let was = i.room c.args.end c.requires.room in
+    let x = c.index-entries-t.result in
+    let formed = c.entries-entries.ensures.formed in
+    let below : t < length r.past = omega (arith, c.loop-t-test.true, c.requires.within) in
+    let reach = c.loop-t.room.reach in
+    let rows = c.see-newly.ensures.rows reach.start (reach.start + length reach.reached.items) (record { start = refl; reached = refl; present = was.present }) in
+    record {
+      room = λ entries has. room_stays c.loop-t.room _ c.see-newly.ensures.rows refl c.see_step.ensures.count entries (i.room entries has);
+      followed = record {
+        start_is = rows.start ∙ i.followed.start_is;
+        told =
+            told_after r windows c.args.start c.loop-t.room t x c.see-newly.result i.followed formed below
+            (next_state r c.entries-entries.result.now c.entries-entries.ensures.value t x below c.index-entries-t.is) c.see-newly.new.self c.see-newly.ensures.sees;
+        marked = i.followed.marked;
+        known = c.see_step.ensures.known;
+      };
+      none = none_of_all r c.args.f (t + 1) windows (subst (LeastAmongBy r c.args.f (t + 1) (positions_of windows)) c.in_default.is c.see_step.ensures.found);
+    }
+
+pub returns-clause-found : goal.returns-clause-found
+returns-clause-found c k t listed within has =
+    let r = c.args.trace.now.recording in
+    let at = place_of c.args.windows.now k listed in
+    c.loop-t.invariant.none at.0 at.1 t (omega (arith, within, c.loop-t-test.false)) (subst (HasOrphan r.processes c.args.f (instant r.past t)) (sym at.2) has)

@@ -1,0 +1,34 @@
+use Rattle.std.proofs.Common.{◌≤◌, length, sym, subst, arith}
+use Rattle.causal_trace.specs.Past.{instant, is_down}
+use Rattle.causal_trace.proofs.Lemmas.AtInstants.{instant_length}
+use Rattle.causal_audit.specs.declared.scan.Window.{Window}
+use Rattle.causal_audit.specs.Inside.Group.{position_at}
+use Rattle.causal_audit.specs.Inside.Sights.{IsSight, Shows}
+use Rattle.causal_audit.proofs.Begun.{unheard_before}
+use Rattle.causal_audit.proofs.Turned.{passed_down}
+use Rattle.causal_audit.proofs.scan.Scan.begin.Goals as goal
+
+abbrev zero : Window
+zero = record { position = 0; until = 0 }
+
+pub returns-clause-begun : goal.returns-clause-begun
+returns-clause-begun c =
+    let r = c.args.self.now in
+    let windows = c.args.windows.now in
+    let start = c.args.start in
+    let run = c.self.inside.outline.trace.now.recording in
+    let turns = c.self.inside.outline.turns.now in
+    let walk = passed_down run.past turns start c.from.result c.self.inside.outline.turned c.from.ensures in
+    let within : start ≤ length run.past = subst (λ x. start ≤ length x.past) (sym c.self.view_is) c.requires.within in
+    let shown : Shows c.down-down.result (λ p. is_down (instant r.past start) p) =
+    subst (λ x. Shows c.down-down.result (λ p. is_down (instant x.past start) p)) c.self.view_is (c.down-down.ensures run.past start within walk.0 walk.1) in
+    record {
+      start_is = c.renew.ensures.start;
+      told = λ j d low at. c.renew.ensures.begins (instant r.past start) j (instant_length r.past start c.requires.within) low;
+      marked = c.mark_all.ensures.marked;
+      known = λ j low d at.
+          let k = position_at windows j in
+          let untouched = c.requires.from j zero low in
+          subst (IsSight (instant r.past start) k d) (sym (c.fill.ensures.filled j (omega (arith, low, c.requires.few, c.requires.sights))))
+          (c.begin.ensures (instant r.past start) k d shown (unheard_before r.past k d start (untouched.unmentioned d at) untouched.made c.requires.within));
+    }

@@ -1,0 +1,13 @@
+use Rattle.std.proofs.Common.{ℕ, ◌≡◌, ◌<◌, ◌≤◌, true, length}
+use Rattle.std.specs.FinSet.{contains}
+use Rattle.causal_audit.specs.Inside.Group.{AreMarked}
+use Rattle.causal_audit.specs.Inside.Reaching.{row}
+use Rattle.causal_audit.proofs.scan.Scan.mark_all.Given as goal
+
+-- the places so far are marked, and no others
+abbrev pub invariant-loop-place : goal.invariant-loop-place
+invariant-loop-place l = record {
+  count : length l.rows.items ≡ length l.fn.rows.items;
+  marked : AreMarked l.self.past l.start l.windows l.place l.rows.items;
+  ahead : (i j : ℕ) → l.place ≤ j → i < length l.rows.items → contains (row l.rows.items i) j ≡ true → ⊥;
+}

@@ -1,0 +1,102 @@
+//! Which entries of a walk mention the determinants of the deliveries of a group.
+ghost use Rattle.std.specs.Prelude.{◌≡◌, ◌≤◌, ◌<◌, ◌↔◌, ℕ, Some, true, length};
+ghost use Rattle.std.specs.FinSet as set;
+ghost use Rattle.std.specs.List.{All};
+ghost use Rattle.std.specs.List.Sorted.{IsNonDecreasing};
+ghost use Rattle.causal_name.specs.declared.Det.{Det};
+ghost use Rattle.causal_trace.specs.declared.entry.Entry.{Entry};
+ghost use Rattle.causal_trace.specs.Past.{det_at, entry_at, has};
+ghost use Rattle.causal_audit.specs.Quiet.{mentioned_by};
+ghost use Rattle.causal_audit.specs.Inside.Ahead.{HasNoneUntil};
+ghost use Rattle.causal_audit.specs.Inside.Group.{AreMarked, HaveMarked, IsUntouchedBefore, IsMarked, IsPut};
+ghost use Rattle.causal_audit.specs.Inside.Reaching.{row};
+
+use crate::scan::{Scan, Window};
+use causal_holders::Holders;
+
+/// Puts a place into the row of the entry at a position, where it has one. The first row is of the entry at `start`.
+fn put(rows: &mut Vec<Holders>, start: u32, place: u8, position: u32)
+    ensures count { length rows.new.items ≡ length rows.old.items }
+    ensures put { IsPut start place position rows.old.items rows.new.items }
+{
+    if position < start {
+        return;
+    }
+    let i = (position - start) as usize;
+    if i < rows.len() {
+        rows[i].insert(place);
+    }
+}
+
+/// Puts a place into the rows of the entries at these positions.
+fn mark(rows: &mut Vec<Holders>, start: u32, place: u8, positions: &[u32])
+    ensures count { length rows.new.items ≡ length rows.old.items }
+    ensures marked { HaveMarked start place positions.now rows.old.items rows.new.items }
+{
+    for position in positions {
+        put(rows, start, place, *position);
+    }
+}
+
+/// The first of ascending positions, or a bound, if that is less.
+fn first_in(positions: &[u32], bound: u32) -> u32
+    requires ascend { IsNonDecreasing positions.now }
+    ensures bound { result ≤ bound }
+    ensures none { HasNoneUntil positions.now 0 result }
+{
+    match positions.first() {
+        Some(position) => bound.min(*position),
+        None => bound,
+    }
+}
+
+impl Scan<'_> {
+    /// The position of a delivery, or the first at which its determinant is mentioned, or a bound, if that is less.
+    fn first_touched(&self, window: Window, bound: u32) -> u32
+        ensures bound { result ≤ bound }
+        ensures first { IsUntouchedBefore self.now.past result window }
+    {
+        let first = bound.min(window.position);
+        let Some(det) = self.outline.trace.det_at(window.position) else {
+            return first;
+        };
+        first_in(self.mentions.list(det), first)
+    }
+
+    /// The first of the deliveries of a group and of the mentions of their determinants, or a bound, if that is less.
+    pub fn start_of(&self, windows: &[Window], bound: u32) -> u32
+        ensures bound { result ≤ bound }
+        ensures first { All (IsUntouchedBefore self.now.past result) windows.now }
+    {
+        let mut first = bound;
+        for window in windows {
+            first = self.first_touched(*window, first);
+        }
+        first
+    }
+
+    /// Puts a place into the rows of the entries that mention the determinant of its delivery.
+    fn mark_window(&self, rows: &mut Vec<Holders>, start: u32, place: u8, window: Window)
+        requires fresh { (i : ℕ) → i < length rows.old.items → set.contains (row rows.old.items i) place ≡ true → ⊥ }
+        ensures count { length rows.new.items ≡ length rows.old.items }
+        ensures others { (i j : ℕ) → i < length rows.old.items → (j ≡ place → ⊥) →
+            (set.contains (row rows.new.items i) j ≡ true) ↔ (set.contains (row rows.old.items i) j ≡ true) }
+        ensures marked { IsMarked self.now.past start place window rows.new.items }
+    {
+        if let Some(det) = self.outline.trace.det_at(window.position) {
+            mark(rows, start, place, self.mentions.list(det));
+        }
+    }
+
+    /// Puts the place of each delivery of a group into the rows of the entries that mention its determinant.
+    pub fn mark_all(&self, rows: &mut Vec<Holders>, start: u32, windows: &[Window])
+        requires few { length windows.now ≤ 256 }
+        requires none { (i : ℕ) → row rows.old.items i ≡ set.empty }
+        ensures count { length rows.new.items ≡ length rows.old.items }
+        ensures marked { AreMarked self.now.past start windows.now (length windows.now) rows.new.items }
+    {
+        for (place, window) in windows.iter().enumerate() {
+            self.mark_window(rows, start, place as u8, *window);
+        }
+    }
+}

@@ -1,0 +1,103 @@
+//! The least breach of the deliveries of a group, by one walk over the entries.
+ghost use Rattle.std.specs.Prelude.{◌≡◌, ◌≤◌, ◌<◌, ℕ, length, min};
+ghost use Rattle.std.specs.List.{All};
+ghost use Rattle.causal_audit.specs.Inside.Among.{LeastAmongBy};
+ghost use Rattle.causal_audit.specs.Inside.Group.{HasRoom, HaveNone, IsFollowed};
+ghost use Rattle.causal_audit.specs.Inside.Scans.{IsWindow, positions_of};
+
+use crate::breach::{Breach, earlier};
+use crate::group::room::{Room, places_of};
+use crate::group::seen::{Step, see_step};
+use crate::reach::set_at;
+use crate::scan::{Scan, Window, last_of};
+use causal_trace::trace::Trace;
+
+/// How many deliveries are followed by one walk.
+pub const GROUP: usize = 256;
+
+/// The least breach of the deliveries of a group, if it comes by the instant `end`, by a walk over the entries from `start` up
+/// to it. The room is ready for that.
+fn follow(
+    trace: &Trace,
+    f: u16,
+    start: u32,
+    end: u32,
+    windows: &[Window],
+    room: &mut Room,
+) -> Option<Breach>
+    requires few { length windows.now ≤ 256 }
+    requires ordered { start ≤ end }
+    requires within { end ≤ length trace.now.recording.past }
+    requires room { HasRoom end room.old }
+    requires begun { IsFollowed trace.now.recording windows.now start start room.old }
+    requires none { HaveNone trace.now.recording f windows.now start }
+    ensures room { (entries : ℕ) → HasRoom entries room.old → HasRoom entries room.new }
+    ensures found { LeastAmongBy trace.now.recording f end (positions_of windows.now) result }
+{
+    let entries = trace.entries();
+    let all = places_of(windows);
+    for t in start..end {
+        let entry = &entries[t as usize];
+        let newly = room.reach.see(entry, t);
+        let mentioned = set_at(&room.mentioned, (t - start) as usize);
+        let step = Step {
+            entry,
+            t,
+            newly,
+            mentioned,
+        };
+        if let Some(found) = see_step(&mut room.sights, trace, f, windows, &step, all) {
+            return Some(found);
+        }
+    }
+    None
+}
+
+impl Scan<'_> {
+    /// The least breach of the deliveries of a group, if it comes by the instant `end`: a walk from the first of them, or an
+    /// earlier mention of one of their determinants, up to the last instant at which one may have an orphan.
+    fn least_in(&self, f: u16, end: u32, windows: &[Window], room: &mut Room) -> Option<Breach>
+        requires within { end ≤ length self.now.past }
+        requires few { length windows.now ≤ 256 }
+        requires windows { All (IsWindow self.now f end) windows.now }
+        requires room { HasRoom end room.old }
+        ensures room { (entries : ℕ) → HasRoom entries room.old → HasRoom entries room.new }
+        ensures found { LeastAmongBy self.now f end (positions_of windows.now) result }
+    {
+        let last = last_of(windows, end);
+        let start = self.start_of(windows, last);
+        self.begin(room, start, windows);
+        follow(self.outline.trace, f, start, last, windows, room)
+    }
+
+    /// The least breach, by instant and then by position, of the deliveries of these windows, if it comes by the instant
+    /// `end`; None where none of them has an orphan by then.
+    ///
+    /// They are followed in groups of 256: for each the entries are walked once, and no further than a breach that was found.
+    /// An entry of a walk takes time as the deliveries of the group that it newly reaches or whose determinants it mentions,
+    /// and a crash and a restart as all of them. No memory is taken.
+    pub fn least_within(
+        &self,
+        f: u16,
+        end: u32,
+        windows: &[Window],
+        room: &mut Room,
+    ) -> Option<Breach>
+        requires within { end ≤ length self.now.past }
+        requires below { All (λ window. window.position < end) windows.now }
+        requires windows { All (IsWindow self.now f end) windows.now }
+        requires room { HasRoom end room.old }
+        ensures room { (entries : ℕ) → HasRoom entries room.old → HasRoom entries room.new }
+        ensures found { LeastAmongBy self.now f end (positions_of windows.now) result }
+    {
+        let mut least = None;
+        let mut until = end;
+        for group in windows.chunks(GROUP) {
+            if let Some(found) = self.least_in(f, until, group, room) {
+                until = found.instant;
+                least = earlier(least, Some(found));
+            }
+        }
+        least
+    }
+}
