@@ -19,6 +19,7 @@ mod Following
 mod Gathered
 mod GroupSeen
 mod GroupWalk
+mod HeldRows
 mod HeldOutside
 mod Indexed
 mod Joined

@@ -10,6 +10,7 @@ pub mod Filed
 pub mod Firsts
 pub mod Followed
 pub mod Group
+pub mod Held
 pub mod Index
 pub mod Kept
 pub mod Kinds

@@ -1,5 +1,6 @@
 //! The deliveries of a group are followed by one walk over the entries.
 
+pub mod held;
 pub mod marks;
 pub mod room;
 pub mod seen;
