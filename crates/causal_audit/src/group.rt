@@ -2,6 +2,7 @@
 
 pub mod held;
 pub mod marks;
+pub mod ordered;
 pub mod room;
 pub mod seen;
 pub mod walk;
