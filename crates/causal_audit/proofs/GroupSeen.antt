@@ -11,6 +11,7 @@ use Rattle.causal_name.specs.Sets.{count_below}
 use Rattle.causal_trace.specs.declared.entry.Entry.{Entry}
 use Rattle.causal_trace.specs.Past.{instant, det_at}
 use Rattle.causal_trace.specs.Rows.{Recording, AreAccepted}
+use Rattle.causal_trace.specs.Dependence.{actor, Reaches, Depends}
 use Rattle.causal_trace.specs.Judgement.{HasOrphan}
 use Rattle.causal_trace.proofs.Lemmas.AtInstants.{accepted_then, det_then, det_within, instant_length}
 use Rattle.causal_audit.specs.declared.breach.Breach.{Breach}
@@ -19,16 +20,16 @@ use Rattle.causal_audit.specs.declared.scan.Window.{Window}
 use Rattle.causal_audit.specs.declared.sight.Sight.{Sight}
 use Rattle.causal_audit.specs.Earlier.{earlier}
 use Rattle.causal_audit.specs.Laws.{gone}
-use Rattle.causal_audit.specs.Quiet.{is_turn, Agree, IsQuiet}
+use Rattle.causal_audit.specs.Quiet.{is_turn, Agree}
 use Rattle.causal_audit.specs.Inside.Among.{FirstBreachBy, HasNoOrphanBy, LeastAmongBy}
 use Rattle.causal_audit.specs.Inside.BreachAt.{BreachAt, TellsBreachAt}
 use Rattle.causal_audit.specs.Inside.Followed.{IsReachedBy}
-use Rattle.causal_audit.specs.Inside.Group.{IsKnown, IsLeastIn, IsStep, position_at, sight_at}
+use Rattle.causal_audit.specs.Inside.Group.{AreHeldBefore, IsKnown, IsLeastIn, IsStep, position_at, sight_at}
 use Rattle.causal_audit.specs.Inside.Reaching.{IsNewly}
 use Rattle.causal_audit.specs.Inside.Scans.{positions_of}
 use Rattle.causal_audit.specs.Inside.Sights.{IsSight, IsSightAfter, AreDependents, TellsNextReach}
 use Rattle.causal_audit.proofs.AmongLemmas.{among_push, among_wider, among_none}
-use Rattle.causal_audit.proofs.Between.{quiet_step}
+use Rattle.causal_audit.proofs.Between.{quiet_step, held_step}
 use Rattle.causal_audit.proofs.Lemmas.Judged.{exposed}
 use Rattle.causal_audit.proofs.Orphaned.{accepted_next, first_breach_is}
 use Rattle.causal_audit.proofs.Reaching.{left_in, left_out}
@@ -72,20 +73,26 @@ module _ (r : Recording) (windows : List Window) (s : Step) (step : IsStep r win
       let none : None ≡ Some orphaned.is_orphan.det = sym missing ∙ sym (det_then r.past u k made inside) ∙ orphaned.is_orphan.delivered in
       absurd (let e : None ≡ Some orphaned.is_orphan.det = none in cc)
 
-  module _ (j : ℕ) (low : j < length windows) (turn : is_turn s.entry.now ≡ false) (old : contains s.newly j ≡ false) (silent : contains s.mentioned j ≡ false) where
-    -- an entry that neither turns nor reaches nor mentions is quiet
-    quiet : (d : Det) → det_at r.past (position_at windows j) ≡ Some d → IsQuiet (instant r.past s.t) s.entry.now (position_at windows j) d
-    quiet d at = record {
-      no_turn = turn;
-      unmentioned = sym (step.mentioned j d low at) ∙ silent;
-      known = λ p of reach. elim ((step.newly j d low at).complete p of reach) [
-        | inl new ↦ absurd (false≢true (sym old ∙ new))
-        | inr known ↦ known
-      ];
-    }
+  module _ (j : ℕ) (low : j < length windows) (turn : is_turn s.entry.now ≡ false) (old : contains s.newly j ≡ false) (places : FinSet nat_cmp)
+      (held : AreHeldBefore r windows s places) (still : (contains s.mentioned j ≡ false) ⊎ (contains places j ≡ true)) where
+    -- who newly depends on it depended on it before
+    known_before : (d : Det) → det_at r.past (position_at windows j) ≡ Some d → (p : ℕ) → actor s.entry.now ≡ Some p
+        → Reaches (s.entry.now ∷ instant r.past s.t) (position_at windows j) (length (instant r.past s.t)) → Depends (instant r.past s.t) (position_at windows j) p
+    known_before d at p of reach = elim ((step.newly j d low at).complete p of reach) [
+      | inl new ↦ absurd (false≢true (sym old ∙ new))
+      | inr known ↦ known
+    ]
 
+    -- an entry that neither turns nor reaches, nor mentions what its process lacks, changes nothing
     agrees : (d : Det) → det_at r.past (position_at windows j) ≡ Some d → Agree (instant r.past s.t) (s.entry.now ∷ instant r.past s.t) (position_at windows j) d
-    agrees d at = quiet_step r.processes s.entry.now (instant r.past s.t) (position_at windows j) d accepted_here (quiet d at)
+    agrees d at = elim still [
+      | inl silent ↦ quiet_step r.processes s.entry.now (instant r.past s.t) (position_at windows j) d accepted_here (record {
+        no_turn = turn;
+        unmentioned = sym (step.mentioned j d low at) ∙ silent;
+        known = known_before d at;
+      })
+      | inr holds ↦ held_step r.processes s.entry.now (instant r.past s.t) (position_at windows j) d accepted_here (held j d low at holds) (known_before d at)
+    ]
 
     -- so that the same is known
     pub known_still : (sight : Sight) → IsKnown r windows s.t j sight → IsKnown r windows (s.t + 1) j sight

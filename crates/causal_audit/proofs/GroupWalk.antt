@@ -7,6 +7,7 @@ use Rattle.std.proofs.lemmas.Bool.{or_cases, or_left, or_right, eqb-true}
 use Rattle.std.proofs.lemmas.Bool.Decides.{eqb_tells}
 use Rattle.causal_name.specs.declared.Det.{Det}
 use Rattle.causal_trace.specs.declared.entry.Entry.{Entry}
+use Rattle.causal_trace.specs.declared.entry.Entry.TheVariants.{Send, Deliver, Stable, Crash, Restart, Forget}
 use Rattle.causal_trace.specs.Limits.{max_entries}
 use Rattle.causal_trace.specs.Past.{instant, entry_at, det_at, has}
 use Rattle.causal_trace.specs.Rows.{Recording, IsWellFormed}
@@ -16,11 +17,14 @@ use Rattle.causal_audit.specs.declared.group.seen.Step.{Step}
 use Rattle.causal_audit.specs.declared.reach.Reach.{Reach}
 use Rattle.causal_audit.specs.declared.scan.Window.{Window}
 use Rattle.causal_audit.specs.Inside.Group.{HasRoom, HaveNone, IsFollowed, IsStep, position_at}
+use Rattle.causal_audit.specs.Inside.Held.{IsDeliveredTo, IsHeldBy, IsHeldSo}
 use Rattle.causal_audit.specs.Inside.Reaching.{HasRows, IsNewly, IsReach, SeesReach, row}
+use Rattle.causal_audit.specs.Quiet.{mentioned_by}
 use Rattle.causal_audit.specs.Inside.Among.{LeastAmongBy}
 use Rattle.causal_audit.specs.Inside.Scans.{positions_of}
 use Rattle.causal_audit.proofs.GroupSeen.{among_windows}
 use Rattle.causal_audit.proofs.Orphaned.{accepted_next}
+use Rattle.causal_audit.proofs.Reaching.{none_in}
 use Rattle.causal_audit.proofs.Shown.{inserted}
 
 module _ (r : Recording) (windows : List Window) (start : ℕ) (room : Room) (t : ℕ) (e : Entry) (new_ones : FinSet nat_cmp) (followed : IsFollowed r windows start t room) (formed : IsWellFormed r) (below : t < length r.past)
@@ -36,6 +40,22 @@ module _ (r : Recording) (windows : List Window) (start : ℕ) (room : Room) (t 
   pub told_after : (j : ℕ) (d : Det) → j < length windows → det_at r.past (position_at windows j) ≡ Some d → IsReach (instant r.past (t + 1)) (position_at windows j) j new
   told_after j d low at = subst (λ past. IsReach past (position_at windows j) j new) (sym next) (sees_each j d low at).0
 
+-- the receiver of a delivery logs what its row says
+pub held_then : (e : Entry) (past : List Entry) (rows : List (FinSet nat_cmp)) (places : FinSet nat_cmp) (j : ℕ) (d : Det) → IsHeldBy e rows places → IsHeldSo past j d rows → contains places j ≡ true → IsDeliveredTo e past d
+held_then (Deliver to send rsn listed) past rows places j d by so h = so to.0 (subst (λ s. contains s j ≡ true) by h)
+held_then (Send from to ssn) past rows places j d by so h = none_in j (subst (λ s. contains s j ≡ true) by h)
+held_then (Stable det) past rows places j d by so h = none_in j (subst (λ s. contains s j ≡ true) by h)
+held_then (Crash who) past rows places j d by so h = none_in j (subst (λ s. contains s j ≡ true) by h)
+held_then (Restart who listed) past rows places j d by so h = none_in j (subst (λ s. contains s j ≡ true) by h)
+held_then (Forget who listed) past rows places j d by so h = none_in j (subst (λ s. contains s j ≡ true) by h)
+
+-- the row of an entry tells which determinants it mentions
+pub mentions_here : (r : Recording) (windows : List Window) (start t : ℕ) (room : Room) (x : Entry) (places : FinSet nat_cmp) → IsFollowed r windows start t room → start ≤ t → t - start < length room.mentioned.items
+    → places ≡ row room.mentioned.items (t - start) → entry_at r.past t ≡ Some x → (j : ℕ) (d : Det) → j < length windows → det_at r.past (position_at windows j) ≡ Some d → contains places j ≡ has (mentioned_by x) d
+mentions_here r windows start t room x places followed from inside marks there j d low at =
+    let same : t ≡ start + (t - start) = omega (arith, from) in
+    ap (λ set. contains set j) marks ∙ followed.marked j low (t - start) d x inside at (subst (λ v. entry_at r.past v ≡ Some x) same there)
+
 -- what a step is told
 pub is_step : (r : Recording) (windows : List Window) (start : ℕ) (room : Room) (s : Step) → IsFollowed r windows start s.t room → IsWellFormed r → s.t < length r.past → instant r.past (s.t + 1) ≡ s.entry.now ∷ instant r.past s.t
     → (new : Reach) → SeesReach s.entry.now s.t room.reach new s.newly
@@ -46,9 +66,7 @@ is_step r windows start room s followed formed below next new sees short from in
   below = below;
   next = next;
   newly = λ j d low at. (sees_each r windows start room s.t s.entry.now s.newly followed formed below next new sees j d low at).1;
-  mentioned = λ j d low at.
-      let same : s.t ≡ start + (s.t - start) = omega (arith, from) in
-      ap (λ set. contains set j) marks ∙ followed.marked j low (s.t - start) d s.entry.now inside at (subst (λ v. entry_at r.past v ≡ Some s.entry.now) same there);
+  mentioned = mentions_here r windows start s.t room s.entry.now s.mentioned followed from inside marks there;
 }
 
 -- the room stays

@@ -16,6 +16,7 @@ mod Firsts
 mod Following
 mod GroupSeen
 mod GroupWalk
+mod HeldRows
 mod HeldOutside
 mod Indexed
 mod Joined

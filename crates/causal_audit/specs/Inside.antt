@@ -8,6 +8,7 @@ pub mod Crashes
 pub mod Filed
 pub mod Followed
 pub mod Group
+pub mod Held
 pub mod Index
 pub mod Kept
 pub mod Looks

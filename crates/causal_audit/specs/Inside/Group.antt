@@ -9,6 +9,7 @@ use Rattle.causal_trace.specs.Past.{instant, entry_at, det_at, has}
 use Rattle.causal_trace.specs.Rows.{Recording, IsWellFormed}
 use Rattle.causal_audit.specs.Quiet.{mentioned_by}
 use Rattle.causal_audit.specs.Inside.Among.{HasNoOrphanBy, LeastAmongBy}
+use Rattle.causal_audit.specs.Inside.Held.{IsDeliveredTo, IsHeldSo}
 use Rattle.causal_audit.specs.Inside.Reaching.{IsNewly, IsReach, row, window_at}
 use Rattle.causal_audit.specs.Inside.Scans.{positions_of}
 use Rattle.causal_audit.specs.Inside.Sights.{IsSight}
@@ -74,6 +75,17 @@ pub record IsStep (r : Recording) (windows : List Window) (s : Step) : Type 0 wh
   pub mentioned : (j : ℕ) (d : Det) → j < length windows → det_at r.past (position_at windows j) ≡ Some d
       → contains s.mentioned j ≡ has (mentioned_by s.entry.now) d
 
+-- each process whose row has the place of a delivery logs its determinant at the instant t
+abbrev pub AreHeld : Recording → List Window → ℕ → List (FinSet nat_cmp) → Type 0
+AreHeld r windows t rows =
+    (j : ℕ) (d : Det) → j < length windows → det_at r.past (position_at windows j) ≡ Some d → IsHeldSo (instant r.past t) j d rows
+
+-- the entry of a step delivers to a process that logs the determinants of these places
+abbrev pub AreHeldBefore : Recording → List Window → Step → FinSet nat_cmp → Type 0
+AreHeldBefore r windows s places =
+    (j : ℕ) (d : Det) → j < length windows → det_at r.past (position_at windows j) ≡ Some d → contains places j ≡ true
+    → IsDeliveredTo s.entry.now (instant r.past s.t) d
+
 -- the least breach of the deliveries at these places, if it comes by the instant `end`
 pub record IsLeastIn (r : Recording) (f end : ℕ) (windows : List Window) (places : FinSet nat_cmp) (found : Option Breach) : Type 0 where
   pub positions : List ℕ
@@ -103,3 +115,4 @@ pub record IsFollowed (r : Recording) (windows : List Window) (start t : ℕ) (r
       → IsReach (instant r.past t) (position_at windows j) j room.reach
   pub marked : AreMarked r.past start windows (length windows) room.mentioned.items
   pub known : AreKnown r windows t room.sights.items
+  pub held : AreHeld r windows t room.held.items

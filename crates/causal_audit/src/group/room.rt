@@ -14,11 +14,13 @@ use std::alloc::Global;
 const PLACES: usize = 256;
 
 /// What a walk keeps of the deliveries of a group, by their places: which of them reach the entries and on which the processes
-/// depend, of which the entries mention the determinant, and what is known of each.
+/// depend, of which the entries mention the determinant, whose determinants each process is known to hold, and what is known of
+/// each.
 #[derive(Drop)]
 pub struct Room {
     pub reach: Reach,
     pub mentioned: Vec<Holders>,
+    pub held: Vec<Holders>,
     pub sights: Vec<Sight>,
 }
 
@@ -32,10 +34,12 @@ impl Room {
     {
         let reach = Reach::begin(alloc, 0, entries, &[])?;
         let mentioned = vec![in alloc; Holders::none(); entries as usize]?;
+        let held = vec![in alloc; Holders::none(); PLACES]?;
         let sights = vec![in alloc; Sight::begin(Holders::none()); PLACES]?;
         Ok(Room {
             reach,
             mentioned,
+            held,
             sights,
         })
     }
@@ -76,6 +80,7 @@ impl Scan<'_> {
         room.reach.renew(start, windows);
         clear(&mut room.mentioned);
         self.mark_all(&mut room.mentioned, start, windows);
+        clear(&mut room.held);
         let down = self.outline.turns.from(start).down();
         fill(&mut room.sights, &Sight::begin(down));
     }

@@ -1,9 +1,9 @@
 //! What is known of the deliveries of a group at one instant, and what one more entry makes of it.
-ghost use Rattle.std.specs.Prelude.{◌≡◌, ◌<◌, ◌+◌, ℕ, true, false, length};
+ghost use Rattle.std.specs.Prelude.{◌≡◌, ◌<◌, ◌+◌, ◌⊎◌, ℕ, true, false, length};
 ghost use Rattle.std.specs.FinSet as set;
 ghost use Rattle.causal_audit.specs.Quiet.{is_turn};
 ghost use Rattle.causal_audit.specs.Inside.Among.{FirstBreachBy, HasNoOrphanBy, LeastAmongBy};
-ghost use Rattle.causal_audit.specs.Inside.Group.{AreKnown, ArePlaces, HaveNone, IsKnown, IsLeastIn, IsStep, position_at, sight_at};
+ghost use Rattle.causal_audit.specs.Inside.Group.{AreHeldBefore, AreKnown, ArePlaces, HaveNone, IsKnown, IsLeastIn, IsStep, position_at, sight_at};
 ghost use Rattle.causal_audit.specs.Inside.Scans.{positions_of};
 
 use crate::breach::{Breach, earlier};
@@ -87,31 +87,35 @@ fn see_each(
     least
 }
 
-/// The places whose deliveries an entry may change: all by a crash or a restart, and else those that it mentions or that newly
-/// reach its process.
-fn touched(step: &Step<'_>, all: Holders) -> Holders
+/// The places whose deliveries an entry may change: all by a crash or a restart, and else those that newly reach its process, and
+/// those that it mentions, but for those whose determinants the process holds already.
+fn touched(step: &Step<'_>, held: Holders, all: Holders) -> Holders
     ensures inside { (j : ℕ) → set.contains result j ≡ true → set.contains all j ≡ true }
     ensures quiet { (j : ℕ) → set.contains all j ≡ true → set.contains result j ≡ false →
         (is_turn step.now.entry.now ≡ false) × (set.contains step.now.newly j ≡ false) ×
-        (set.contains step.now.mentioned j ≡ false) }
+        ((set.contains step.now.mentioned j ≡ false) ⊎ (set.contains held j ≡ true)) }
 {
     if is_turn(step.entry) {
         return all;
     }
-    all.minus(all.minus(step.newly.union(step.mentioned)))
+    let touched = step.newly.union(step.mentioned.minus(held));
+    all.minus(all.minus(touched))
 }
 
 /// Takes the entry into what is known of the deliveries of a group, and tells how one of them then first has an orphan, if one
-/// has. It takes time as the deliveries that the entry may change.
+/// has. It takes time as the deliveries that the entry may change; a delivery to a process that holds the determinants of these
+/// places changes nothing for them, unless they newly reach it.
 pub fn see_step(
     sights: &mut Vec<Sight>,
     trace: &Trace,
     f: u16,
     windows: &[Window],
     step: &Step<'_>,
+    held: Holders,
     all: Holders,
 ) -> Option<Breach>
     requires all { ArePlaces windows.now all }
+    requires held { AreHeldBefore trace.now.recording windows.now step.now held }
     requires room { length sights.old.items ≡ 256 }
     requires step { IsStep trace.now.recording windows.now step.now }
     requires known { AreKnown trace.now.recording windows.now step.now.t sights.old.items }
@@ -120,5 +124,5 @@ pub fn see_step(
     ensures known { AreKnown trace.now.recording windows.now (step.now.t + 1) sights.new.items }
     ensures found { LeastAmongBy trace.now.recording f (step.now.t + 1) (positions_of windows.now) result }
 {
-    see_each(sights, trace, f, windows, step, touched(step, all))
+    see_each(sights, trace, f, windows, step, touched(step, held, all))
 }

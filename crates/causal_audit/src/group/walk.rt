@@ -6,6 +6,7 @@ ghost use Rattle.causal_audit.specs.Inside.Group.{HasRoom, HaveNone, IsFollowed}
 ghost use Rattle.causal_audit.specs.Inside.Scans.{IsWindow, positions_of};
 
 use crate::breach::{Breach, earlier};
+use crate::group::held::{held_by, hold};
 use crate::group::room::{Room, places_of};
 use crate::group::seen::{Step, see_step};
 use crate::reach::set_at;
@@ -46,9 +47,11 @@ fn follow(
             newly,
             mentioned,
         };
-        if let Some(found) = see_step(&mut room.sights, trace, f, windows, &step, all) {
+        let held = held_by(&room.held, entry);
+        if let Some(found) = see_step(&mut room.sights, trace, f, windows, &step, held, all) {
             return Some(found);
         }
+        hold(&mut room.held, entry, mentioned);
     }
     None
 }

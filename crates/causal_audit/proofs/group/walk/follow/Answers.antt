@@ -5,7 +5,8 @@ use Rattle.causal_audit.specs.Inside.Among.{LeastAmongBy}
 use Rattle.causal_audit.specs.Inside.Scans.{positions_of}
 use Rattle.causal_audit.specs.Inside.Reaching.{row}
 use Rattle.causal_audit.proofs.GroupSeen.{place_of}
-use Rattle.causal_audit.proofs.GroupWalk.{is_step, told_after, room_stays, none_of_all}
+use Rattle.causal_audit.specs.Inside.Held.{IsHeldBy, IsHeldSo}
+use Rattle.causal_audit.proofs.GroupWalk.{held_then, mentions_here, is_step, told_after, room_stays, none_of_all}
 use Rattle.causal_audit.proofs.Steps.{next_state, entry_read}
 use Rattle.causal_audit.proofs.group.walk.follow.Goals as goal
 
@@ -20,6 +21,13 @@ see-newly-requires c =
         present = was.present;
       };
     }
+
+pub see_step-requires-clause-held : goal.see_step-requires-clause-held
+see_step-requires-clause-held c j d low at h =
+    let r = c.args.trace.now.recording in
+    let t = c.loop-t.t in
+    let by = subst (λ rows. IsHeldBy c.index-entries-t.result rows c.held_by-held.result) c.deref-in-loop-t.ensures.value c.held_by-held.ensures in
+    held_then c.index-entries-t.result (instant r.past t) c.loop-t.room.held.items c.held_by-held.result j d by (c.loop-t.invariant.followed.held j d low at) h
 
 pub see_step-requires-clause-step : goal.see_step-requires-clause-step
 see_step-requires-clause-step c =
@@ -51,6 +59,7 @@ loop-t-preserved c =
     let x = c.index-entries-t.result in
     let formed = c.entries-entries.ensures.formed in
     let below : t < length r.past = omega (arith, c.loop-t-test.true, c.requires.within) in
+    let next = next_state r c.entries-entries.result.now c.entries-entries.ensures.value t x below c.index-entries-t.is in
     let reach = c.loop-t.room.reach in
     let rows = c.see-newly.ensures.rows reach.start (reach.start + length reach.reached.items) (record { start = refl; reached = refl; present = was.present }) in
     record {
@@ -62,6 +71,11 @@ loop-t-preserved c =
             (next_state r c.entries-entries.result.now c.entries-entries.ensures.value t x below c.index-entries-t.is) c.see-newly.new.self c.see-newly.ensures.sees;
         marked = i.followed.marked;
         known = c.see_step.ensures.known;
+        held = λ j d low at.
+            subst (λ past. IsHeldSo past j d c.hold.new.held.items) (sym next) (c.hold.ensures.keeps (instant r.past t) j d
+            (mentions_here r windows c.args.start t c.loop-t.room x c.set_at-mentioned.result i.followed (omega (arith, c.loop-t.auto.t)) (omega (arith, was.mentioned, c.loop-t-test.true))
+            (c.set_at-mentioned.ensures ∙ ap (λ rows. row rows (t - c.args.start)) c.deref.ensures.value) (entry_read r c.entries-entries.result.now c.entries-entries.ensures.value t x below c.index-entries-t.is) j d low at)
+            (i.followed.held j d low at));
       };
       none = none_of_all r c.args.f (t + 1) windows (subst (LeastAmongBy r c.args.f (t + 1) (positions_of windows)) c.in_default.is c.see_step.ensures.found);
     }

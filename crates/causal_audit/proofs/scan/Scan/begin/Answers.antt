@@ -1,9 +1,11 @@
-use Rattle.std.proofs.Common.{◌≤◌, length, sym, subst, arith}
+use Rattle.std.proofs.Common.{◌≡◌, ◌≤◌, true, length, sym, subst, arith}
+use Rattle.std.specs.FinSet.{contains}
 use Rattle.causal_trace.specs.Past.{instant, is_down}
 use Rattle.causal_trace.proofs.Lemmas.AtInstants.{instant_length}
 use Rattle.causal_audit.specs.declared.scan.Window.{Window}
 use Rattle.causal_audit.specs.Inside.Group.{position_at}
 use Rattle.causal_audit.specs.Inside.Sights.{IsSight, Shows}
+use Rattle.causal_audit.proofs.Reaching.{none_in}
 use Rattle.causal_audit.proofs.Begun.{unheard_before}
 use Rattle.causal_audit.proofs.Turned.{passed_down}
 use Rattle.causal_audit.proofs.scan.Scan.begin.Goals as goal
@@ -31,4 +33,5 @@ returns-clause-begun c =
           let untouched = c.requires.from j zero low in
           subst (IsSight (instant r.past start) k d) (sym (c.fill.ensures.filled j (omega (arith, low, c.requires.few, c.requires.sights))))
           (c.begin.ensures (instant r.past start) k d shown (unheard_before r.past k d start (untouched.unmentioned d at) untouched.made c.requires.within));
+      held = λ j d low at p h. absurd (none_in j (subst (λ s. contains s j ≡ true) (c.clear-2.ensures.none p) h));
     }

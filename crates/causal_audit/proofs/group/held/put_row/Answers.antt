@@ -1,0 +1,9 @@
+use Rattle.std.proofs.Common.{◌∙◌, sym, ap, arith}
+use Rattle.std.specs.FinSet.{contains, empty}
+use Rattle.std.proofs.Math.ListN.{get_or-eq_default}
+use Rattle.causal_audit.proofs.Reaching.{none_in}
+use Rattle.causal_audit.proofs.group.held.put_row.Goals as goal
+
+pub returns-else-i-len-clause-here : goal.returns-else-i-len-clause-here
+returns-else-i-len-clause-here c j h =
+    absurd (none_in j (sym (ap (λ s. contains s j) (get_or-eq_default c.args.rows.now.items empty (omega (arith, c.if-i-len.false, c.from-i.ensures, c.len.ensures)))) ∙ h))

@@ -1,0 +1,34 @@
+//! Deliveries that share a determinant are followed side by side.
+ghost use Rattle.std.specs.Prelude.{IsPermutation};
+
+use crate::mentions::Mentions;
+use crate::scan::Window;
+use causal_name::NoMemory;
+use causal_trace::trace::Trace;
+
+/// The place of the determinant of a delivery among those that are mentioned, from 1 on; 0 where nothing mentions it.
+fn place_of(trace: &Trace, mentions: &Mentions, position: u32) -> usize {
+    let Some(det) = trace.det_at(position) else {
+        return 0;
+    };
+    match mentions.numbers.find(det) {
+        Some(number) => number.saturating_add(1),
+        None => 0,
+    }
+}
+
+/// Puts the windows of one determinant side by side: first those that nothing mentions, then in the order in which they are
+/// first mentioned. A group then has few determinants, and a mention is passed by few groups.
+///
+/// # Errors
+/// `NoMemory` where memory was refused.
+pub fn put_side_by_side(
+    trace: &Trace,
+    mentions: &Mentions,
+    windows: &mut Vec<Window>,
+) -> Result<(), NoMemory>
+    ensures { IsPermutation windows.old.items windows.new.items }
+{
+    windows.sort_by_cached_key(|window: &Window| place_of(trace, mentions, window.position))?;
+    Ok(())
+}
