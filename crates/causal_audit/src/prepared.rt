@@ -3,6 +3,7 @@ ghost use Rattle.std.specs.Prelude.{◌≡◌, ◌≤◌, IfOk, length};
 ghost use Rattle.causal_audit.specs.Parts.{AreEnough, LeastOf, part_of};
 
 use crate::breach::Breach;
+use crate::group::ordered::put_side_by_side;
 use crate::group::room::Room;
 use crate::mentions::{Mentions, mentions_in};
 use crate::outline::Outline;
@@ -64,7 +65,8 @@ impl Prepared {
             lasting_from,
             turns: &turns,
         };
-        let windows = windows_of(alloc, outline, &mentions, f, end)?;
+        let mut windows = windows_of(alloc, outline, &mentions, f, end)?;
+        put_side_by_side(trace, &mentions, &mut windows)?;
         Ok(Prepared {
             run,
             lasting_from,

@@ -1,12 +1,15 @@
-use Rattle.std.proofs.Common.{◌≡◌, ◌<◌, length, reverse, ap, subst, sym, ◌∙◌}
+use Rattle.std.proofs.Common.{◌≡◌, ◌<◌, inl, length, reverse, ap, subst, ◌∙◌}
+use Rattle.std.specs.Prelude.{IsPermutation}
 use Rattle.std.proofs.lemmas.List.{reverse-reverse}
+use Rattle.std.proofs.lemmas.List.Sorted.{All-permutation, Contains-permutation, IsPermutation-map, IsPermutation-sym}
 use Rattle.causal_trace.specs.State.{past_at}
 use Rattle.causal_trace.proofs.Lemmas.Instants.{past_whole}
 use Rattle.causal_audit.specs.Inside.Kept.{AreMentionsKept, AreTurnsKept}
-use Rattle.causal_audit.specs.Inside.Scans.{IsPrepared, positions_of}
+use Rattle.causal_audit.specs.Inside.Scans.{IsPrepared, IsWindow, positions_of}
+use Rattle.causal_audit.specs.declared.scan.Window.{Window}
 use Rattle.causal_audit.specs.Parts.{AreEnough}
 use Rattle.causal_audit.specs.Lasting.{NoneReleasedFrom}
-use Rattle.causal_audit.proofs.AmongLemmas.{among_all}
+use Rattle.causal_audit.proofs.AmongLemmas.{among_all, among_wider}
 use Rattle.causal_audit.proofs.Uncovered.{any_other}
 use Rattle.causal_audit.proofs.Windowed.{of_positions}
 use Rattle.causal_audit.proofs.prepared.Prepared.of.Goals as goal
@@ -35,12 +38,18 @@ invariant_of-result c =
     let past = r.past in
     let whole : past_at entries (length entries) ≡ past = past_whole entries ∙ ap reverse c.entries-entries.ensures.value ∙ reverse-reverse past in
     let all = c.in_ok-windows.ensures in
-    let windows = c.in_ok-windows.windows.items in
+    let gathered = c.in_ok-windows.windows.items in
+    let windows = c.put_side_by_side.new.windows.items in
+    let moved = c.put_side_by_side.ensures in
     let prepared : IsPrepared r c.args.f c.args.end c.lasting_from-lasting_from.result c.in_ok-turns.turns c.in_ok-mentions.mentions windows = record {
       lasting = subst (λ p. NoneReleasedFrom p c.lasting_from-lasting_from.result) whole c.lasting_from-lasting_from.ensures;
       turned = subst (λ p. AreTurnsKept p c.in_ok-turns.turns) whole c.in_ok-turns.ensures;
       mentioned = subst (λ p. AreMentionsKept p c.in_ok-mentions.mentions) whole c.in_ok-mentions.ensures;
-      followed = record { within = c.requires; below = of_positions (λ k. k < c.args.end) windows all.uncovered.before; none_later = all.none_later };
+      followed = record {
+        within = c.requires;
+        below = All-permutation (λ (window : Window). window.position < c.args.end) gathered windows moved (of_positions (λ k. k < c.args.end) gathered all.uncovered.before);
+        none_later = All-permutation (IsWindow r c.args.f c.args.end) gathered windows moved all.none_later;
+      };
     } in
     rw c.of-run.ensures prepared
 
@@ -49,10 +58,15 @@ returns-clause-enough c =
     let r = c.args.trace.now.recording in
     let f = c.args.f in
     let end = c.args.end in
-    let positions = positions_of c.in_ok-windows.windows.items in
+    let gathered = positions_of c.in_ok-windows.windows.items in
+    let positions = positions_of c.put_side_by_side.new.windows.items in
+    let moved : IsPermutation gathered positions =
+    IsPermutation-map (λ (window : Window). window.position) c.in_ok-windows.windows.items c.put_side_by_side.new.windows.items c.put_side_by_side.ensures in
     let enough : AreEnough r f end (record { run = r; f = f; end = end; positions = positions }) =
     λ found least.
-    among_all r f end positions found c.entries-entries.ensures.formed.accepted c.requires
-    (any_other r f end positions c.requires c.in_ok-windows.ensures.uncovered) least
+    among_all r f end gathered found c.entries-entries.ensures.formed.accepted c.requires
+    (any_other r f end gathered c.requires c.in_ok-windows.ensures.uncovered)
+    (among_wider r f end positions gathered found (λ k. Contains-permutation positions gathered k (IsPermutation-sym gathered positions moved))
+    (λ k listed. inl (Contains-permutation gathered positions k moved listed)) least)
     in
     rw c.of-run.ensures enough
