@@ -3,14 +3,19 @@
 and all from the k-th on, and says what was wrong. The calls are refused by a small library that is preloaded; it is built
 from refuse.c with the machine's C compiler.
 
-    trials/refuse.py [--program PATH]
+    trials/refuse.py [--program PATH] [--seconds N]
+
+Each growth alone comes first; what is left when the seconds are over is counted, and not tried.
 """
 import argparse
+import concurrent.futures
 import errno
 import os
 import subprocess
 import sys
 import tempfile
+import threading
+import time
 
 HERE = os.path.dirname(os.path.abspath(__file__))
 TOP = os.path.dirname(HERE)
@@ -52,19 +57,22 @@ TROUBLE = {
 }
 # a thread needs memory too, and is started where there is more than one worker
 MANY_WORKERS = {"memory": (5, ("no memory\n", "no worker\n"))}
+# the errors with which a read and a write fail; a write may also take no byte
+STREAMS = [("read", (errno.EIO, errno.EINTR)), ("write", (errno.EIO, errno.EINTR, 0))]
 # the run and the error after which std's printing makes the call again
 MADE_AGAIN = ("help", errno.EINTR)
 
 
 class Tries:
-    def __init__(self, program, library, folder):
-        self.program, self.library = program, library
-        self.count = os.path.join(folder, "count")
-        self.tried, self.survived, self.wrong = 0, 0, []
+    def __init__(self, program, library, folder, seconds):
+        self.program, self.library, self.folder = program, library, folder
+        self.end = time.monotonic() + seconds
+        self.tried, self.survived, self.left, self.wrong = 0, 0, 0, []
 
     def once(self, words, text, **refuse):
+        count = os.path.join(self.folder, f"count{threading.get_ident()}")
         settings = {f"REFUSE_{name.upper()}": str(value) for name, value in refuse.items()}
-        environment = {**os.environ, "LD_PRELOAD": self.library, "REFUSE_COUNT": self.count, **settings}
+        environment = {**os.environ, "LD_PRELOAD": self.library, "REFUSE_COUNT": count, **settings}
         ended = subprocess.run(
             [self.program, *words], input=text.encode(), capture_output=True, env=environment, timeout=60
         )
@@ -72,20 +80,29 @@ class Tries:
 
     def calls(self, words, text, kind):
         self.once(words, text, kind=kind, at=0)
-        with open(self.count) as file:
+        with open(os.path.join(self.folder, f"count{threading.get_ident()}")) as file:
             return int(file.read())
 
-    def each(self, name, words, text, kind, plain, **refuse):
-        """Every call of a kind, one alone and all from it on."""
-        for every in (0, 1):
-            for at in range(1, min(self.calls(words, text, kind), MOST) + 1):
-                got = self.once(words, text, kind=kind, at=at, all=every, **refuse)
-                self.tried += 1
-                self.survived += got == plain
-                is_made_again = (name, refuse.get("error")) == MADE_AGAIN and not every
-                trouble = {**TROUBLE, **MANY_WORKERS} if "--workers" in words else TROUBLE
-                if not is_refusal(got, plain, kind, trouble[kind], is_made_again):
-                    self.wrong.append((name, kind, at, every, refuse, got))
+    def each(self, pool, run, plain, kind, every, **refuse):
+        """Every call of a kind, alone or with all after it."""
+        name, words, text, _ = run
+        ats = range(1, min(self.calls(words, text, kind), MOST) + 1)
+        is_made_again = (name, refuse.get("error")) == MADE_AGAIN and not every
+        trouble = {**TROUBLE, **MANY_WORKERS} if "--workers" in words else TROUBLE
+
+        def at_one(at):
+            if time.monotonic() > self.end:
+                return None
+            return self.once(words, text, kind=kind, at=at, all=every, **refuse)
+
+        for at, got in zip(ats, pool.map(at_one, ats)):
+            if got is None:
+                self.left += 1
+                continue
+            self.tried += 1
+            self.survived += got == plain
+            if not is_refusal(got, plain, kind, trouble[kind], is_made_again):
+                self.wrong.append((name, kind, at, every, refuse, got))
 
 
 def is_refusal(got, plain, kind, trouble, is_made_again):
@@ -100,31 +117,48 @@ def is_refusal(got, plain, kind, trouble, is_made_again):
     return status == expected and err in lines and written
 
 
+def passes():
+    """What is refused, in the order in which it is tried: each growth alone before anything else."""
+    streams = [(kind, error) for kind, errors in STREAMS for error in errors]
+    for every in (0, 1):
+        yield "memory", every, {}
+        yield "thread", every, {}
+        for kind, error in streams:
+            yield kind, every, {"error": error}
+
+
 def main():
     given = argparse.ArgumentParser(description=__doc__.split("\n\n")[0])
     given.add_argument("--program", default=PROGRAM)
+    given.add_argument("--seconds", type=float, default=float("inf"))
     words = given.parse_args()
-    with tempfile.TemporaryDirectory() as folder:
+    with tempfile.TemporaryDirectory() as folder, concurrent.futures.ThreadPoolExecutor(os.cpu_count()) as pool:
         library = os.path.join(folder, "refuse.so")
         source = os.path.join(HERE, "refuse.c")
         compiler = os.environ.get("CC", "cc")
         subprocess.run([compiler, "-shared", "-fPIC", "-O2", "-o", library, source, "-ldl", "-lpthread"], check=True)
-        tries = Tries(words.program, library, folder)
+        tries = Tries(words.program, library, folder, words.seconds)
+        plain = {}
         for name, said, text, status in RUNS:
-            plain = tries.once(said, text, kind="none")
-            if plain[0] != status:
-                tries.wrong.append((name, "undisturbed", plain))
+            plain[name] = tries.once(said, text, kind="none")
+            if plain[name][0] != status:
+                tries.wrong.append((name, "undisturbed", plain[name]))
+        untried_growths = 0
+        for kind, every, refuse in passes():
             before = tries.tried
-            for kind in ("memory", "thread"):
-                tries.each(name, said, text, kind, plain)
-            for kind, errors in (("read", (errno.EIO, errno.EINTR)), ("write", (errno.EIO, errno.EINTR, 0))):
-                for error in errors:
-                    tries.each(name, said, text, kind, plain, error=error)
-            print(f"{tries.tried - before:7} tries: {name} (status {plain[0]})")
+            for run in RUNS:
+                tries.each(pool, run, plain[run[0]], kind, every, **refuse)
+            if kind == "memory" and not every:
+                untried_growths = tries.left
+                if tries.tried + tries.left == 0:
+                    tries.wrong.append(("no run", "asked for memory that this library sees"))
+            print(f"{tries.tried - before:7} tries: {kind}{' from there on' if every else ''} {refuse or ''}", flush=True)
     for row in tries.wrong:
         print("WRONG", *row)
     print(f"{tries.tried} tries, {tries.survived} of them survived with the answer of an undisturbed run, {len(tries.wrong)} wrong")
-    sys.exit(1 if tries.wrong else 0)
+    if tries.left:
+        print(f"{tries.left} were not tried, for want of time; {untried_growths} of these refuse one growth")
+    sys.exit(1 if tries.wrong or untried_growths else 0)
 
 
 if __name__ == "__main__":

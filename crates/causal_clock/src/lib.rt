@@ -12,8 +12,11 @@
 //! count of the source's events rose. What it costs stands at [`Clocks`].
 #![tactic(auto)]
 
+/// Where the count of another lane's events rose.
 mod column;
+/// What is kept of a lane: its columns.
 mod lane;
+/// The order, and what one more event changes.
 pub mod laws;
 
 ghost use Rattle.std.specs.Prelude.{◌≡◌, ◌≢◌, ℕ, ◌+◌, ◌<◌, ◌≤◌, ◌↔◌, [], ◌∷◌, ◌++◌, length, vec_len, vec_capacity, IsTrue, IfOk, IfErr, OnOk, OnErr, Some, None, slice_index};

@@ -1,5 +1,5 @@
 -- What a replay does to a core.
-use Rattle.std.specs.Prelude.{◌≡◌, ℕ, ◌<◌, List, [], ◌∷◌, ◌++◌, length, Option, None, Some, Result, Ok, Err}
+use Rattle.std.specs.Prelude.{◌≡◌, ◌⊎◌, ⊤, ℕ, ◌<◌, List, [], ◌∷◌, ◌++◌, length, Option, None, Some, Result, Ok, Err}
 use Rattle.causal_name.specs.declared.Pid.{Pid}
 use Rattle.causal_name.specs.declared.MsgName.{MsgName}
 use Rattle.causal_name.specs.Names.{message_of}
@@ -41,12 +41,20 @@ IsRefused r p fault (Ok (Some m)) = IsReason r (Ask.Deliver p m.source m.ssn) fa
 abbrev pub RefusesNamed : Run → Pid → CoreFault → Type 0
 RefusesNamed r p fault = IsRefused r p fault (naming r p)
 
--- where a replay of so many deliveries ends: at its limit, where no message is named, or where the delivery of the one that
--- is named is refused
-pub data Ends (p : Pid) (limit count : ℕ) (r : Run) : Type 0 where
-  at_limit : count ≡ limit → Ends p limit count r
-  unnamed : naming r p ≡ Ok None → Ends p limit count r
-  refused : (fault : CoreFault) → 0 < count → RefusesNamed r p fault → Ends p limit count r
+-- a replay of so many deliveries that this refused, if anything did, ends exactly: at its limit or where no message is named,
+-- or at a refusal that stands in the run as it then is
+abbrev pub EndsFor : Pid → ℕ → ℕ → Option CoreFault → Run → Type 0
+EndsFor p limit count None r = (count ≡ limit) ⊎ (naming r p ≡ Ok None)
+EndsFor p limit count (Some fault) r = (count < limit) × RefusesNamed r p fault
+
+-- a refusal came after a delivery, if it came
+abbrev pub IsLater : ℕ → Option CoreFault → Type 0
+IsLater count None = ⊤
+IsLater count (Some fault) = 0 < count
+
+-- a replay that answers so many deliveries has ended so, at no refusal of the first one; the answer does not tell which it was
+abbrev pub Ends : Pid → ℕ → ℕ → Run → Type 0
+Ends p limit count r = (refusal : Option CoreFault) × IsLater count refusal × EndsFor p limit count refusal r
 
 module _ {B : Type 0} (answers : B → List Input → List (List Outgoing)) where
   -- the message that is named for p's next delivery is delivered, with this told, given and sent

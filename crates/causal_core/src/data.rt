@@ -344,7 +344,13 @@ impl Data {
         ensures { IfOk result (λ log. log.map ≡ gathered_log (memories_of self.now.run) (stable_of self.now.run) p) }
     {
         let stored = store.all(alloc)?;
-        gather(alloc, self.cells.as_slice(), stored.as_slice(), p)
+        gather(
+            alloc,
+            self.cells.as_slice(),
+            stored.as_slice(),
+            p,
+            self.faults,
+        )
     }
 
     /// What a restart of p would list, where the store has what is stable.

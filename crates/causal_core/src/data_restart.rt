@@ -50,24 +50,21 @@ fn chosen_shares(alloc: Global, f: u16, log: &Log) -> Result<Vec<Arc<Batch>>, No
 fn listed_and_shares(
     alloc: Global,
     f: u16,
-    log: &mut Log,
+    log: &Log,
 ) -> Result<(Vec<Det>, Vec<Arc<Batch>>), NoMemory>
-    ensures log { log.new.map ≡ log.old.map }
-    ensures listed { IfOk result (λ made. made.0.items ≡ fin.keys log.old.map) }
-    ensures shares { IfOk result (λ made. batches_of made.1.items ≡ replicate 8 (chosen f log.old.map)) }
+    ensures listed { IfOk result (λ made. made.0.items ≡ fin.keys log.now.map) }
+    ensures shares { IfOk result (λ made. batches_of made.1.items ≡ replicate 8 (chosen f log.now.map)) }
 {
-    // The log notes its entries as it makes room, else each call that is refused would read it whole.
-    log.reserve(1)?;
     let listed = log.dets(alloc)?;
     let shares = chosen_shares(alloc, f, log)?;
     Ok((listed, shares))
 }
 
 /// What a process has that comes up with this log, and what its sends carry.
-pub(crate) fn gathered(alloc: Global, f: u16, mut log: Log) -> Result<Gathered, NoMemory>
+pub(crate) fn gathered(alloc: Global, f: u16, log: Log) -> Result<Gathered, NoMemory>
     ensures { IfOk result (λ g. IsGathered f log.map g) }
 {
-    let (listed, shares) = listed_and_shares(alloc, f, &mut log)?;
+    let (listed, shares) = listed_and_shares(alloc, f, &log)?;
     let cell = fresh_cell(alloc, log)?;
     Ok(Gathered {
         listed,

@@ -1,5 +1,5 @@
 //! The messages that a process may deliver.
-ghost use Rattle.std.specs.Prelude.{◌≡◌, ◌<◌, ◌≤◌, ◌∷◌, ◌++◌, [], ℕ, length, IfOk, IfErr, OnOk, if◌then◌else◌};
+ghost use Rattle.std.specs.Prelude.{◌≡◌, ◌<◌, ◌≤◌, ◌∷◌, ◌++◌, [], ℕ, length, IfOk, IfErr, OnOk, None, if◌then◌else◌};
 ghost use Rattle.std.specs.Option.{option_map, option_map_or};
 ghost use Rattle.causal_protocol.specs.Memory.{at};
 ghost use Rattle.causal_protocol.specs.Run.{memories_of};
@@ -93,6 +93,7 @@ impl Data {
     /// What is pending for q.
     pub(crate) fn pending(&self, alloc: Global, q: Pid) -> Result<Vec<MsgName>, CoreFault>
         ensures ok { IfOk result (λ names. names.items ≡ pending_in (memories_of self.now.run) q) }
+        ensures legal { OnOk result (pending_fault self.now.run q ≡ None) }
         ensures refused { IfErr result (λ fault. pending_fault self.now.run q ≡ reason_of fault) }
     {
         if !is_process(q, self.trace.processes()) {
@@ -119,6 +120,7 @@ impl<S: Stable> Core<S> {
     pub fn pending(&self, q: Pid) -> Result<Vec<MsgName>, CoreFault>
         requires { q.0 < 256 }
         ensures ok { IfOk result (λ names. names.items ≡ pending_in (memories_of (run_of self.now)) q) }
+        ensures legal { OnOk result (pending_fault (run_of self.now) q ≡ None) }
         ensures refused { IfErr result (λ fault. pending_fault (run_of self.now) q ≡ reason_of fault) }
     {
         self.held.pending(self.alloc, q)

@@ -1,5 +1,5 @@
 //! The runtime: processes in boxes, what is recorded of them, and stable storage.
-ghost use Rattle.std.specs.Prelude.{◌≡◌, ◌<◌, map, is_some, Some, OnOk, OnErr, IfOk, IfErr};
+ghost use Rattle.std.specs.Prelude.{◌≡◌, ◌<◌, map, is_some, None, Some, OnOk, OnErr, IfOk, IfErr};
 ghost use Rattle.causal_name.specs.declared.Det.{Det as Determinant};
 ghost use Rattle.causal_log.specs.Stores.{has};
 ghost use Rattle.causal_trace.specs.Past.{is_stable};
@@ -119,6 +119,7 @@ impl<S: Stable> Core<S> {
     pub fn gathered(&self, p: Pid) -> Result<Vec<Det>, CoreFault>
         requires { p.0 < 256 }
         ensures ok { IfOk result (λ dets. dets.items ≡ gathered (run_of self.now) p) }
+        ensures legal { OnOk result (gathering_fault (run_of self.now) p ≡ None) }
         ensures refused { IfErr result (λ fault. gathering_fault (run_of self.now) p ≡ reason_of fault) }
     {
         if let Some(fault) = self.held.gathering_fault(p) {

@@ -4,6 +4,7 @@
 //! operations, and a set is copied like a number.
 #![tactic(auto)]
 
+/// What its sets are to tests of numbers.
 pub mod laws;
 
 ghost use Rattle.std.specs.Prelude.{◌≡◌, MatchOption};

@@ -1,12 +1,12 @@
 -- What a log's entries say of the map that they make.
-use Rattle.std.proofs.Common.{ℕ, ◌≡◌, ◌∙◌, true, false, cond, List, [], ◌∷◌, Some, is_some, unwrap_or, slice_get, get_or, length, slice_index_or, true≢false, add-one, zero, suc, refl, sym, ap, subst, arith}
+use Rattle.std.proofs.Common.{ℕ, ◌≡◌, ◌∙◌, true, false, cond, List, [], ◌∷◌, Some, is_some, unwrap_or, slice_get, get_or, slice_index_or, true≢false, add-one, zero, suc, refl, sym, ap, subst, arith}
 use Rattle.std.specs.declared.cmp.Ordering.{Ordering}
 use Rattle.std.specs.declared.cmp.Ordering.TheVariants.{Less, Equal, Greater}
 use Rattle.std.specs.Ordering.{ordering_reverse, is_eq, is_lt, eq_by_cmp}
 use Rattle.std.specs.Cmp.{eq_by_cmp_equiv, IsEquivalence}
 use Rattle.std.proofs.lemmas.List.{nil_from_length}
 use Rattle.std.specs.Map.{lookup}
-use Rattle.std.specs.FinMap.{FinMap, len, from_entries, insert, get, get-from_entries, get-insert, same_map, find, entries, empty, entries-insert, len-entries, len-empty}
+use Rattle.std.specs.FinMap.{from_entries, insert, get, get-from_entries, get-insert, same_map, find, entries, empty, entries-insert, len-entries, len-empty}
 use Rattle.std.specs.FinMap.Entries.{put, by_order}
 use Rattle.std.specs.List.{AllByRecursion, IsDistinct}
 use Rattle.std.specs.List.Sorted.{IsSorted, IsStrictlySortedBy}

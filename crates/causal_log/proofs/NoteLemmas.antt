@@ -1,5 +1,5 @@
 -- That notes go on saying what is true of a log.
-use Rattle.std.proofs.Common.{ℕ, ◌≡◌, ◌∙◌, ◌≤◌, ◌<◌, ◌+◌, ◌&&◌, ◌||◌, Bool, true, false, cond, not, nat_le, List, [], ◌∷◌, map, filter, Option, Some, None, is_some, unwrap_or, ◌++◌, true≢false, refl, sym, ap, subst, arith}
+use Rattle.std.proofs.Common.{ℕ, ◌≡◌, ◌∙◌, ◌≤◌, ◌<◌, ◌&&◌, ◌||◌, Bool, true, false, cond, not, nat_le, List, [], ◌∷◌, map, filter, Option, Some, None, is_some, unwrap_or, ◌++◌, true≢false, refl, sym, ap, subst, arith}
 use Rattle.std.proofs.lemmas.Bool.Decides.{nat_tests}
 use Rattle.std.specs.List.{list_any}
 use Rattle.std.specs.Option.{option_map}
@@ -9,13 +9,13 @@ use Rattle.std.specs.FinMap as fin
 use Rattle.std.specs.FinSet as set
 use Rattle.causal_name.specs.declared.Det.{Det}
 use Rattle.causal_name.specs.Names.{same_det}
-use Rattle.causal_name.proofs.Lemmas.DetOrder.{same_is}
+use Rattle.causal_name.proofs.Lemmas.DetOrder.{same_is, same_itself}
 use Rattle.causal_holders.proofs.Lemmas.Sets.{len-is_subset}
 use Rattle.causal_log.specs.declared.known.Known.{Known}
 use Rattle.causal_log.specs.declared.notes.Notes.{Notes}
 use Rattle.causal_log.specs.Knowledge.{nothing_known, joined, as_stable, is_carried}
 use Rattle.causal_log.specs.Logs.{LogMap, log_of, known_of, learned, marked, unmarked, is_chosen}
-use Rattle.causal_log.specs.Inside.Noted.{IsNoted, GoOn, Learn}
+use Rattle.causal_log.specs.Inside.Noted.{IsNoted, GoOn, Learn, Omits}
 use Rattle.causal_log.specs.Inside.Ranks.{IsAmong, AreSlots}
 use Rattle.causal_log.proofs.PlaceLemmas.{same_members}
 use Rattle.causal_log.proofs.RankLemmas.{slots_like}
@@ -53,9 +53,6 @@ at_most n f h = grind (arith, nat_tests)
 is_most : (n f : ℕ) → n ≤ f → nat_le n f ≡ true
 is_most n f h = grind (arith, nat_tests)
 
-few_enough : (n f g : ℕ) → f ≤ g → nat_le n f ≡ true → nat_le n g ≡ true
-few_enough n f g low h = grind (arith, nat_tests)
-
 and_both : (a b : Bool) → a ≡ true → b ≡ true → (a && b) ≡ true
 and_both true b h i = i
 and_both false b h i = h
@@ -66,11 +63,11 @@ carried_count f known h = at_most (set.len known.holders) f (both (not known.sta
 
 module _ (before after : Notes) (log : LogMap) (e : Det × Known) (is : IsNoted before log) where
   learned_carried : GoOn e before after → (f : ℕ) → f < after.limit → (q : Det) → (b : Bool) → same_det q e.0 ≡ b
-      → is_chosen f (cond b (Some (joined (known_of log e.0) e.1)) (fin.get log q)) ≡ true → IsAmong q after.few.items
+      → is_chosen f (cond b (Some (joined (known_of log e.0) e.1)) (fin.get log q)) ≡ true → IsAmong q after.few.keys
   learned_carried go f low q true same chosen =
       let count = count_joined (known_of log e.0) e.1 in
       let most = carried_count f (joined (known_of log e.0) e.1) chosen in
-      subst (λ d. IsAmong d after.few.items) (sym (same_is q e.0 same)) (go.few (omega (arith, count, most, low, go.limit)))
+      subst (λ d. IsAmong d after.few.keys) (sym (same_is q e.0 same)) (go.few (omega (arith, count, most, low, go.limit)))
   learned_carried go f low q false same chosen = go.kept q (is.carried f (omega (arith, low, go.limit)) q chosen)
 
   any_more : (b c : Bool) (o : Option Known) (known : Known) → c ≡ is_some o → is_some (cond b (Some known) o) ≡ (c || (b || false))
@@ -98,8 +95,17 @@ module _ (before after : Notes) (log : LogMap) (e : Det × Known) (is : IsNoted 
         (go.slots (fin.keys log) (is.slots (omega (arith, some, go.limit))));
   }
 
+-- notes of nothing
+pub noted_nothing : (notes : Notes) → notes.slots.entries ≡ [] → IsNoted notes (log_of [])
+noted_nothing notes none = record {
+  carried = λ f low q h. absurd (true≢false (sym (ap (is_chosen f) (sym (get_log [] q)) ∙ h)));
+  slots = λ some.
+      slots_like [] (fin.keys (log_of [])) notes.slots.entries (λ q. sym (same_members [] q))
+      (subst (AreSlots []) (sym none) (λ slot q among. absurd (true≢false (sym among))));
+}
+
 -- notes that say the same
-pub noted_like : (before after : Notes) (log : LogMap) → after.limit ≡ before.limit → after.few.items ≡ before.few.items → after.slots.entries ≡ before.slots.entries
+pub noted_like : (before after : Notes) (log : LogMap) → after.limit ≡ before.limit → after.few.keys ≡ before.few.keys → after.slots.entries ≡ before.slots.entries
     → IsNoted before log → IsNoted after log
 noted_like before after log limit few slots is = record {
   carried = λ f low q h. subst (IsAmong q) (sym few) (is.carried f (omega (arith, low, limit)) q h);
@@ -115,6 +121,24 @@ module _ (notes : Notes) (log other : LogMap) (is : IsNoted notes log) where
     slots = λ some. slots_like (fin.keys log) (fin.keys other) notes.slots.entries (λ q. keys_logged other q ∙ logged q ∙ sym (keys_logged log q)) (is.slots some);
   }
 
+-- and of which one is carried no more, which is noted no more
+noted_less : (before after : Notes) (log other : LogMap) (det : Det) → IsNoted before log → Omits det before after
+    → ((q : Det) → is_some (fin.get other q) ≡ is_some (fin.get log q))
+    → ((f : ℕ) (q : Det) → is_chosen f (fin.get other q) ≡ true → is_chosen f (fin.get log q) ≡ true)
+    → ((f : ℕ) → f < before.limit → is_chosen f (fin.get other det) ≡ false) → IsNoted after other
+noted_less before after log other det is omits logged carried gone = record {
+  carried = λ f low q h. by f (subst (λ n. f < n) omits.limit low) q h (same_det det q) refl;
+  slots = λ some.
+      subst (AreSlots (fin.keys other)) (sym omits.slots)
+      (slots_like (fin.keys log) (fin.keys other) before.slots.entries (λ q. keys_logged other q ∙ logged q ∙ sym (keys_logged log q))
+      (is.slots (subst (λ n. 0 < n) omits.limit some)));
+}
+  where
+    by : (f : ℕ) → f < before.limit → (q : Det) → is_chosen f (fin.get other q) ≡ true → (b : Bool) → same_det det q ≡ b → IsAmong q after.few.keys
+    by f low q h true same = absurd (true≢false (sym h ∙ ap (λ d. is_chosen f (fin.get other d)) (sym (same_is det q same)) ∙ gone f low))
+    by f low q h false same =
+        omits.few q ∙ ap (λ b. cond b false (list_any (same_det q) before.few.keys)) same ∙ is.carried f low q (carried f q h)
+
 unmarked_both : (a b : Bool) → not (a || b) ≡ true → not a ≡ true
 unmarked_both true b h = h
 unmarked_both false b h = refl
@@ -127,52 +151,36 @@ less_carried f known heard h =
     let most = at_most (set.len (joined known heard).holders) f two.1 in
     and_both (not known.stable) (nat_le (set.len known.holders) f) (unmarked_both known.stable heard.stable two.0) (is_most (set.len known.holders) f (omega (arith, count, most)))
 
--- notes stay true where more is learned of a determinant that is logged
-pub noted_more : (notes : Notes) (log : LogMap) (det : Det) (known heard : Known) → fin.get log det ≡ Some known → IsNoted notes log → IsNoted notes (learned log det heard)
-noted_more notes log det known heard was is =
-    noted_alike notes log (learned log det heard) is
-    (λ q. ap is_some (get_learned log det heard q) ∙ logged q (same_det q det) refl)
-    (λ f q h. carried f q (same_det q det) refl (ap (is_chosen f) (sym (get_learned log det heard q)) ∙ h))
-  where
-    here : (q : Det) → same_det q det ≡ true → fin.get log q ≡ Some known
-    here q same = ap (fin.get log) (same_is q det same) ∙ was
+module _ (log : LogMap) (det : Det) (known heard : Known) (was : fin.get log det ≡ Some known) where
+  more_here : (q : Det) → same_det q det ≡ true → fin.get log q ≡ Some known
+  more_here q same = ap (fin.get log) (same_is q det same) ∙ was
 
-    logged : (q : Det) (b : Bool) → same_det q det ≡ b → is_some (cond b (Some (joined (known_of log det) heard)) (fin.get log q)) ≡ is_some (fin.get log q)
-    logged q true same = sym (ap is_some (here q same))
-    logged q false same = refl
+  more_logged : (q : Det) (b : Bool) → same_det q det ≡ b → is_some (cond b (Some (joined (known_of log det) heard)) (fin.get log q)) ≡ is_some (fin.get log q)
+  more_logged q true same = sym (ap is_some (more_here q same))
+  more_logged q false same = refl
 
-    carried : (f : ℕ) (q : Det) (b : Bool) → same_det q det ≡ b → is_chosen f (cond b (Some (joined (known_of log det) heard)) (fin.get log q)) ≡ true → is_chosen f (fin.get log q) ≡ true
-    carried f q true same h = ap (is_chosen f) (here q same) ∙ less_carried f known heard (ap (λ o. is_carried f (joined (unwrap_or o nothing_known) heard)) (sym was) ∙ h)
-    carried f q false same h = h
+  more_carried : (f : ℕ) (q : Det) (b : Bool) → same_det q det ≡ b → is_chosen f (cond b (Some (joined (known_of log det) heard)) (fin.get log q)) ≡ true → is_chosen f (fin.get log q) ≡ true
+  more_carried f q true same h = ap (is_chosen f) (more_here q same) ∙ less_carried f known heard (ap (λ o. is_carried f (joined (unwrap_or o nothing_known) heard)) (sym was) ∙ h)
+  more_carried f q false same h = h
 
--- one of some determinants is one of those that pass a test which it passes
-kept_among : (P : Det → Bool) (q : Det) (ds : List Det) → P q ≡ true → IsAmong q ds → IsAmong q (filter P ds)
-kept_among P q [] fits among = among
-kept_among P q (d ∷ ds) fits among = by (same_det q d) refl (P d) refl among (λ rest. kept_among P q ds fits rest)
-  where
-    by : (b : Bool) → same_det q d ≡ b → (k : Bool) → P d ≡ k → (b || list_any (same_det q) ds) ≡ true
-        → (list_any (same_det q) ds ≡ true → list_any (same_det q) (filter P ds) ≡ true) → list_any (same_det q) (cond k (d ∷ filter P ds) (filter P ds)) ≡ true
-    by true same true is among later = ap (λ b. b || list_any (same_det q) (filter P ds)) same
-    by false same true is among later = ap (λ b. b || list_any (same_det q) (filter P ds)) same ∙ later among
-    by true same false is among later = absurd (true≢false (sym fits ∙ ap P (same_is q d same) ∙ is))
-    by false same false is among later = later among
+  -- notes stay true where more is learned of a determinant that is logged
+  pub noted_more : (notes : Notes) → IsNoted notes log → IsNoted notes (learned log det heard)
+  noted_more notes is =
+      noted_alike notes log (learned log det heard) is
+      (λ q. ap is_some (get_learned log det heard q) ∙ more_logged q (same_det q det) refl)
+      (λ f q h. more_carried f q (same_det q det) refl (ap (is_chosen f) (sym (get_learned log det heard q)) ∙ h))
 
-chosen_more : (f g : ℕ) → f ≤ g → (o : Option Known) → is_chosen f o ≡ true → is_chosen g o ≡ true
-chosen_more f g low None h = h
-chosen_more f g low (Some known) h =
-    let two = both (not known.stable) (nat_le (set.len known.holders) f) h in
-    and_both (not known.stable) (nat_le (set.len known.holders) g) two.0 (few_enough (set.len known.holders) f g low two.1)
-
--- notes without what messages carry no more
-pub noted_cut : (before after : Notes) (log : LogMap) (g : ℕ) → before.limit ≤ g + 1 → after.limit ≡ before.limit → after.slots.entries ≡ before.slots.entries
-    → after.few.items ≡ filter (λ d. is_chosen g (fin.get log d)) before.few.items → IsNoted before log → IsNoted after log
-noted_cut before after log g high limit slots few is = record {
-  carried = λ f low q h.
-      subst (IsAmong q) (sym few)
-      (kept_among (λ d. is_chosen g (fin.get log d)) q before.few.items (chosen_more f g (omega (arith, low, limit, high)) (fin.get log q) h)
-      (is.carried f (omega (arith, low, limit)) q h));
-  slots = λ some. subst (AreSlots (fin.keys log)) (sym slots) (is.slots (omega (arith, some, limit)));
-}
+  -- and where it is noted no more, since messages carry it no more
+  pub noted_out : (before after : Notes) → Omits det before after → ((f : ℕ) → f < before.limit → is_carried f (joined known heard) ≡ false)
+      → IsNoted before log → IsNoted after (learned log det heard)
+  noted_out before after omits out is =
+      noted_less before after log (learned log det heard) det is omits
+      (λ q. ap is_some (get_learned log det heard q) ∙ more_logged q (same_det q det) refl)
+      (λ f q h. more_carried f q (same_det q det) refl (ap (is_chosen f) (sym (get_learned log det heard q)) ∙ h))
+      (λ f low.
+      ap (is_chosen f) (get_learned log det heard det ∙ ap (λ b. cond b (Some (joined (known_of log det) heard)) (fin.get log det)) (same_itself det))
+      ∙ ap (λ o. is_carried f (joined (unwrap_or o nothing_known) heard)) was
+      ∙ out f low)
 
 marked_logged : (b : Bool) (o : Option Known) → is_some (cond b (option_map as_stable o) o) ≡ is_some o
 marked_logged true None = refl
@@ -184,11 +192,22 @@ marked_carried f true None h = h
 marked_carried f true (Some known) h = absurd (true≢false (sym h))
 marked_carried f false o h = h
 
-pub noted_marked : (notes : Notes) (log : LogMap) (det : Det) → IsNoted notes log → IsNoted notes (marked log det)
-noted_marked notes log det is =
-    noted_alike notes log (marked log det) is
+gone_marked : (f : ℕ) (log : LogMap) (det : Det) → is_chosen f (fin.get (marked log det) det) ≡ false
+gone_marked f log det =
+    ap (is_chosen f) (get_marked log det det ∙ ap (λ b. cond b (option_map as_stable (fin.get log det)) (fin.get log det)) (same_itself det))
+    ∙ by (fin.get log det)
+  where
+    by : (o : Option Known) → is_chosen f (option_map as_stable o) ≡ false
+    by None = refl
+    by (Some known) = refl
+
+-- a marked determinant is noted no more
+pub noted_marked : (before after : Notes) (log : LogMap) (det : Det) → Omits det before after → IsNoted before log → IsNoted after (marked log det)
+noted_marked before after log det omits is =
+    noted_less before after log (marked log det) det is omits
     (λ q. ap is_some (get_marked log det q) ∙ marked_logged (same_det q det) (fin.get log q))
     (λ f q h. marked_carried f (same_det q det) (fin.get log q) (ap (is_chosen f) (sym (get_marked log det q)) ∙ h))
+    (λ f low. gone_marked f log det)
 
 swap : (a b : Bool) → (a && b) ≡ (b && a)
 swap true true = refl
@@ -196,9 +215,9 @@ swap true false = refl
 swap false true = refl
 swap false false = refl
 
-passing : (f g : ℕ) → f ≤ g → (o : Option Known) → is_chosen f o ≡ true → passes (is_carried g) o ≡ true
-passing f g low None h = h
-passing f g low (Some known) h = chosen_more f g low (Some known) h
+passing : (f : ℕ) (o : Option Known) → is_chosen f o ≡ true → passes (is_carried f) o ≡ true
+passing f None h = h
+passing f (Some known) h = h
 
 any_found : (P : Known → Bool) (q : Det) (es : List (Det × Known)) → passes P (lookup (same_det q) es) ≡ true → list_any (λ e. same_det q e.0 && P e.1) es ≡ true
 any_found P q [] h = absurd (true≢false (sym h))
@@ -209,19 +228,11 @@ any_found P q (e ∷ es) h = by (same_det q e.0) h (λ at. any_found P q es at)
     by true at later = ap (λ b. b || list_any (λ e. same_det q e.0 && P e.1) es) at
     by false at later = later at
 
--- what a message carries where so many may fail is among what it carries where more may
-pub carried_among : (es : List (Det × Known)) (f g : ℕ) → f ≤ g → (q : Det) → is_chosen f (fin.get (log_of es) q) ≡ true → IsAmong q (map (λ e. e.0) (filter (λ e. is_carried g e.1) es))
-carried_among es f g low q h =
-    any_kept (λ e. e.0) (λ e. is_carried g e.1) (same_det q) (λ e. same_det q e.0 && is_carried g e.1) (λ e. swap (is_carried g e.1) (same_det q e.0)) es
-    ∙ any_found (is_carried g) q es (passing f g low (lookup (same_det q) es) (ap (is_chosen f) (sym (get_log es q)) ∙ h))
-
--- notes made of entries are true of them
-pub noted_made : (notes : Notes) (es : List (Det × Known)) (g : ℕ) → notes.limit ≤ g + 1
-    → notes.few.items ≡ map (λ e. e.0) (filter (λ e. is_carried g e.1) es) → AreSlots (keys_of es) notes.slots.entries → IsNoted notes (log_of es)
-noted_made notes es g limit few slots = record {
-  carried = λ f low q h. ap (list_any (same_det q)) few ∙ carried_among es f g (omega (arith, low, limit)) q h;
-  slots = λ some. slots_like (keys_of es) (fin.keys (log_of es)) notes.slots.entries (λ q. sym (same_members es q)) slots;
-}
+-- what a message carries is among the determinants of the entries that it carries
+pub carried_among : (es : List (Det × Known)) (f : ℕ) (q : Det) → is_chosen f (fin.get (log_of es) q) ≡ true → IsAmong q (map (λ e. e.0) (filter (λ e. is_carried f e.1) es))
+carried_among es f q h =
+    any_kept (λ e. e.0) (λ e. is_carried f e.1) (same_det q) (λ e. same_det q e.0 && is_carried f e.1) (λ e. swap (is_carried f e.1) (same_det q e.0)) es
+    ∙ any_found (is_carried f) q es (passing f (lookup (same_det q) es) (ap (is_chosen f) (sym (get_log es q)) ∙ h))
 
 unmarked_carried : (f : ℕ) (b : Bool) (o : Option Known) → is_chosen f (cond b None o) ≡ true → is_chosen f o ≡ true
 unmarked_carried f true o h = absurd (true≢false (sym h))
@@ -229,7 +240,7 @@ unmarked_carried f false o h = h
 
 -- notes go on where what is marked is taken out, and the slots are filled by what is left
 pub noted_left : (before after : Notes) (log : LogMap) (es : List (Det × Known)) → log_of es ≡ unmarked log → after.limit ≤ before.limit
-    → after.few.items ≡ before.few.items → (0 < after.limit → AreSlots (keys_of es) after.slots.entries) → IsNoted before log → IsNoted after (log_of es)
+    → after.few.keys ≡ before.few.keys → (0 < after.limit → AreSlots (keys_of es) after.slots.entries) → IsNoted before log → IsNoted after (log_of es)
 noted_left before after log es left limit few slots is = record {
   carried = λ f low q h.
       subst (IsAmong q) (sym few)

@@ -8,7 +8,7 @@ ghost use Rattle.causal_name.specs.Names.{same_det, is_ascending};
 ghost use Rattle.causal_log.specs.Knowledge.{is_carried};
 ghost use Rattle.causal_log.specs.Inside.Parts.{carried_from, dets_carried, Adds, AddsAll};
 ghost use Rattle.causal_log.specs.Inside.Ranks.{has_rank};
-ghost use Rattle.causal_log.specs.Logs.{log_of, learned, item_of, dets_of, marked, chosen, is_chosen};
+ghost use Rattle.causal_log.specs.Logs.{log_of, learned, item_of, dets_of, marked, chosen};
 
 use crate::batch::Item;
 use crate::known::Known;
@@ -123,16 +123,6 @@ pub(crate) fn carried_dets(
         .iter()
         .filter(|(_, known)| known.is_within(failures));
     Ok(carried.map(|(det, _)| *det).collect(alloc)?)
-}
-
-/// Whether a message carries a determinant where so many may fail.
-pub(crate) fn is_chosen(entries: &IndexMap<Det, Known>, det: Det, failures: u32) -> bool
-    ensures { result ≡ is_chosen failures (fin.get (log_of entries.now.entries) det) }
-{
-    match entries.get(&det) {
-        Some(known) => known.is_within(failures),
-        None => false,
-    }
 }
 
 /// The place of a determinant and what is known of it, where it is logged.
@@ -280,6 +270,13 @@ pub(crate) fn sort(entries: &mut IndexMap<Det, Known>) -> Result<(), NoMemory>
     }
     entries.sort_keys()?;
     Ok(())
+}
+
+/// A copy of the entries.
+pub(crate) fn copied(entries: &IndexMap<Det, Known>) -> Result<IndexMap<Det, Known>, NoMemory>
+    ensures { IfOk result (λ copy. copy.entries ≡ entries.now.entries) }
+{
+    Ok(entries.clone()?)
 }
 
 /// A copy of the entries in ascending order.

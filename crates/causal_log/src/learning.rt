@@ -26,7 +26,7 @@ pub(crate) fn learn(entries: &mut IndexMap<Det, Known>, notes: &mut Notes, det: 
 {
     match place_of(entries, det) {
         Some((place, known)) => {
-            let joined = notes.join(known, heard);
+            let joined = notes.join(det, known, heard);
             put_at(entries, place, joined);
         }
         None => {

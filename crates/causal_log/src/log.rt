@@ -52,15 +52,24 @@ impl Model for Log {
 }
 
 impl Log {
-    /// A log of nothing.
+    /// A log of nothing, for messages of which nothing is said.
     pub fn new(alloc: Global) -> Log
+        ensures { result.map ≡ fin.empty }
+    {
+        Log::carrying(alloc, u16::MAX)
+    }
+
+    /// A log of nothing, of a process where at most `f` may fail. It knows at all times which of its determinants messages
+    /// carry for `f`: to choose these, or for fewer failures, takes no time for the others. For more failures, `choose`
+    /// reads the whole log.
+    pub fn carrying(alloc: Global, f: u16) -> Log
         ensures { result.map ≡ fin.empty }
     {
         Log {
             entries: IndexMap::new(alloc),
             sorted: true,
             room: 0,
-            notes: Notes::none(alloc),
+            notes: Notes::carrying(alloc, f),
         }
     }
 
@@ -112,8 +121,8 @@ impl Log {
     pub fn try_clone(&self) -> Result<Log, NoMemory>
         ensures { IfOk result (λ copy. copy.map ≡ self.now.map) }
     {
-        let entries = self.entries.clone()?;
-        let notes = Notes::none(*self.entries.allocator());
+        let entries = entries::copied(&self.entries)?;
+        let notes = self.notes.try_clone()?;
         Ok(Log {
             entries,
             sorted: self.sorted,
@@ -136,7 +145,7 @@ impl Log {
     fn carried(&self, alloc: Global, f: u16) -> Result<Vec<Item>, NoMemory>
         ensures { IfOk result (λ items. items.items ≡ chosen f self.now.map) }
     {
-        if self.sorted && !self.notes.serves(f, self.entries.len()) {
+        if self.sorted && !self.notes.serves(f) {
             return entries::carried(alloc, &self.entries, f);
         }
         let part = self.part_carried(alloc, f, 0)?;
@@ -153,7 +162,7 @@ impl Log {
     ) -> Result<IndexMap<Det, Known>, NoMemory>
         ensures { IfOk result (λ part. log_of part.entries ≡ carried_in f self.now.map) }
     {
-        if self.notes.serves(f, self.entries.len()) {
+        if self.notes.serves(f) {
             return entries::carried_among(alloc, &self.entries, self.notes.few(), f, more);
         }
         let dets = entries::carried_dets(alloc, &self.entries, u32::from(f))?;
@@ -259,9 +268,7 @@ impl Log {
         ensures spare { self.old.spare ≤ self.new.spare }
         ensures refused { OnErr result ((self.new ≡ self.old) × (self.old.spare < more)) }
     {
-        self.make_room(more as usize)?;
-        self.notes.tidy(&self.entries, more as usize);
-        Ok(())
+        self.make_room(more as usize)
     }
 
     /// The same for a number that may not fit 32 bits, which is refused as want of memory.
@@ -277,6 +284,7 @@ impl Log {
         if more > entries::MOST_ENTRIES - self.entries.len() {
             return Err(NoMemory);
         }
+        self.notes.reserve(more)?;
         self.entries.reserve(more)?;
         self.room = more as u32;
         Ok(())
@@ -306,7 +314,7 @@ impl Log {
         ensures spare { self.old.spare ≤ self.new.spare + 1 }
     {
         if let Some((place, known)) = entries::place_of(&self.entries, det) {
-            let joined = self.notes.join(known, heard);
+            let joined = self.notes.join(det, known, heard);
             entries::put_at(&mut self.entries, place, joined);
             return Ok(());
         }
@@ -354,7 +362,6 @@ impl Log {
     {
         let items = batch.as_slice();
         self.make_room(items.len())?;
-        self.notes.see(items);
         learn_items(&mut self.entries, &mut self.notes, items, from, me);
         self.sorted = false;
         self.room -= items.len() as u32;
@@ -371,7 +378,6 @@ impl Log {
     {
         let items = carried.as_slice();
         let held = Known::held(me);
-        self.notes.see(items);
         learn_items(&mut self.entries, &mut self.notes, items, from, me);
         learn(&mut self.entries, &mut self.notes, own, held);
         self.sorted = false;
@@ -387,7 +393,6 @@ impl Log {
         ensures spare { self.old.spare ≤ self.new.spare + fin.len other.now.map }
     {
         self.make_room(other.entries.len())?;
-        self.notes.forget();
         learn_entries(&mut self.entries, &mut self.notes, &other.entries);
         self.sorted = false;
         self.room -= other.entries.len() as u32;
@@ -400,7 +405,7 @@ impl Log {
         ensures marked { self.new.map ≡ marked self.old.map det }
         ensures spare { self.new.spare ≡ self.old.spare }
     {
-        self.notes.expire();
+        self.notes.omit(det);
         entries::mark(&mut self.entries, det)
     }
 

@@ -8,6 +8,7 @@
 //! lists of determinants ascend.
 #![tactic(auto)]
 
+/// The derived orders and equalities are those of the definitions.
 pub mod order;
 
 ghost use Rattle.std.specs.Prelude.{◌≡◌};

@@ -4,17 +4,29 @@
 //! Begin at [`picture_of`]; a [`Focus`] says what is shown beside the run itself.
 #![tactic(auto)]
 
+/// Who is down as the stretch begins.
 mod down;
+/// What is shown beside the run: an instant, a crash set, a chain.
 pub mod focus;
+/// What stands around the marks.
 mod frame;
+/// Where things stand in a picture.
 mod layout;
+/// What each sign means, below the picture.
 mod legend;
+/// A mark as text: its shape, its title, its arrow.
 mod marked;
+/// What happens by each entry that is shown.
 pub mod marks;
+/// What lies over the marks.
 mod overlay;
+/// The whole text of a picture.
 pub mod picture;
+/// The shape of each mark.
 mod shapes;
+/// Which entries are shown.
 pub mod stretch;
+/// The title of each mark.
 mod titles;
 
 pub use focus::Focus;

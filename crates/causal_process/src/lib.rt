@@ -72,13 +72,21 @@
 //! Both stand, with their imports, in `specs/Inside/Example.antt` and `src/example.rt`, compiled and proved.
 #![tactic(auto)]
 
+/// The bytes of a message.
 mod body;
+/// A process that counts its drops.
 mod counted;
+/// A count between two partners.
 mod echo;
+/// What a process is told, and what it sends.
 mod message;
+/// The interface of a process.
 mod process;
+/// A count that goes round.
 mod ring;
+/// The answers of the kinds: one message or none.
 mod sending;
+/// A sum that depends on the order of its deliveries.
 mod tally;
 
 pub use body::Body;

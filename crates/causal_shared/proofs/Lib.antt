@@ -7,3 +7,4 @@ mod Parts
 mod Totals
 mod Openings
 mod Ascents
+mod Mismatches

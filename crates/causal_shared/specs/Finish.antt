@@ -1,5 +1,5 @@
 -- What holds when a shared runtime is finished.
-use Rattle.std.specs.Prelude.{◌≡◌, ◌≢◌, ◌<◌, ℕ, List, length, sum_by, All, AllPairs, Any}
+use Rattle.std.specs.Prelude.{◌≡◌, ◌≢◌, ◌⊎◌, ◌<◌, ℕ, List, length, sum_by, All, AllPairs, Any}
 use Rattle.causal_protocol.specs.Run.{Run}
 use Rattle.causal_shared.specs.declared.item.Item.{Item}
 use Rattle.causal_shared.specs.History.{items_of, opening_in}
@@ -36,3 +36,7 @@ items_together seats = sum_by (λ (seat : SeatState). length seat.sitting.items)
 -- what was recorded before the first item, and for how many failures
 abbrev pub before_items : Run → List Item → Opening
 before_items r history = opening_from (opening_in r history).recording r.faults
+
+-- the number of one of the seats, or 0, which a mismatch tells where items are of no seat
+abbrev pub IsNoneOrSeat : List SeatState → ℕ → Type 0
+IsNoneOrSeat seats n = (n ≡ 0) ⊎ Any (λ (seat : SeatState). seat.sitting.number ≡ n) seats

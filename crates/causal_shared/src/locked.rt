@@ -1,6 +1,6 @@
 //! The value behind the lock.
 ghost use Rattle.std.specs.Prelude.{◌≡◌, ◌+◌, ◌<◌, ◌≤◌, ◌↔◌, [], ◌∷◌, ◌++◌, length, slice_get};
-ghost use Rattle.std.specs.Prelude.{vec_len, vec_capacity, IfOk, IfErr, OnOk, OnErr, IsTrue};
+ghost use Rattle.std.specs.Prelude.{vec_len, vec_capacity, IfOk, IfErr, OnOk, OnErr, IsTrue, None};
 ghost use Rattle.std.specs.Option.{option_copied};
 ghost use Rattle.causal_core.specs.CoreView.{run_of};
 ghost use Rattle.causal_shared.specs.History.{IsHistory, Holds, Sees, instant, count_at, with_kept};
@@ -375,6 +375,7 @@ impl<S: Stable> Locked<S> {
     /// The first of `NoProcess` and `Down`; where neither stands, `NoMemory` where memory was refused.
     pub fn pending(&self, q: Pid) -> Result<Vec<MsgName>, CoreFault>
         ensures ok { IfOk result (λ names. names.items ≡ pending_in (memories_of (held_of self.now).run) q) }
+        ensures legal { OnOk result (pending_fault (held_of self.now).run q ≡ None) }
         ensures refused { IfErr result (λ fault. pending_fault (held_of self.now).run q ≡ reason_of fault) }
     {
         self.core.pending(q)

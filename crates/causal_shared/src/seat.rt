@@ -12,7 +12,7 @@ ghost use Rattle.causal_shared.specs.History.{Sees};
 ghost use Rattle.causal_protocol.specs.Run.{memories_of};
 ghost use Rattle.causal_shared.specs.Inside.Sections.{Hears, Sections};
 ghost use Rattle.causal_shared.specs.Locked.{held_of, AnswersAs, IsSnapshot, IsSafeSnapshot};
-ghost use Rattle.causal_shared.specs.Pending.{AreAscending};
+ghost use Rattle.causal_shared.specs.Pending.{AreAscending, IsPendingFault, IsSnapshotFault};
 ghost use Rattle.causal_shared.specs.Seat.{heard, heard_fault, heard_restart, with_item};
 ghost use Rattle.causal_shared.specs.Inside.Seated.{refusal_of};
 ghost use Rattle.causal_shared.specs.Seat.{SeesEntries};
@@ -310,6 +310,7 @@ pub(crate) fn snapshot_under<S: Stable>(
     ensures sees { OnOk result (Sees (held_of locked.old) (held_of locked.new) seat.old.sitting.number) }
     ensures err { OnErr result (seat.new.sitting ≡ seat.old.sitting) }
     ensures unchanged { OnErr result (held_of locked.new ≡ held_of locked.old) }
+    ensures faults { IfErr result IsSnapshotFault }
     ensures wrong { result ≡ Err SharedFault.WrongSeat ↔ ¬ IsSeated tag (held_of locked.old) seat.old.sitting }
 {
     if !is_seated(locked, tag, seat) {
@@ -331,6 +332,8 @@ pub(crate) fn pending_under<S: Stable>(
 ) -> Result<Vec<MsgName>, SharedFault>
     ensures ok { IfOk result (λ names. names.items ≡ pending_in (memories_of (held_of locked.now).run) q) }
     ensures ascends { IfOk result (λ names. AreAscending names.items) }
+    ensures legal { OnOk result (pending_fault (held_of locked.now).run q ≡ None) }
+    ensures faults { IfErr result IsPendingFault }
     ensures refused { (fault : CoreFault) → result ≡ Err (SharedFault.Core fault)
         → pending_fault (held_of locked.now).run q ≡ reason_of fault }
     ensures wrong { result ≡ Err SharedFault.WrongSeat ↔ ¬ IsSeated tag (held_of locked.now) seat.now.sitting }

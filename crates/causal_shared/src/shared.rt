@@ -1,6 +1,6 @@
 //! The core that several threads share.
 ghost use Rattle.std.specs.Prelude.{◌≡◌, ◌↔◌, ◌≤◌, ◌<◌, ℕ, length, All, vec_len};
-ghost use Rattle.std.specs.Prelude.{IfOk, IfErr, IfNone, OnErr, Ok, Some};
+ghost use Rattle.std.specs.Prelude.{IfOk, IfErr, IsErrAnd, IfNone, OnErr, Ok, Err, Some};
 ghost use Rattle.causal_core.specs.CoreView.{run_of};
 ghost use Rattle.causal_protocol.specs.Runs.{IsSafeRun, HasSingleSlots};
 ghost use Rattle.causal_protocol.specs.declared.request.Request.TheVariants as Ask;
@@ -8,11 +8,11 @@ ghost use Rattle.causal_protocol.specs.declared.request.Reply.TheVariants as Tol
 ghost use Rattle.causal_shared.specs.History.{instant, IsHistory};
 ghost use Rattle.causal_shared.specs.Limits.{max_seats};
 ghost use Rattle.causal_shared.specs.Locked.{held_of, AnswersAs, IsSafeSnapshot};
-ghost use Rattle.causal_shared.specs.Finish.{Agrees, IsComplete, AllSeated, AreSeatsOf};
+ghost use Rattle.causal_shared.specs.Finish.{Agrees, IsComplete, IsNoneOrSeat, AllSeated, AreSeatsOf};
 ghost use Rattle.causal_shared.specs.Inside.Settled.{IsMismatch, BeginsAt};
 ghost use Rattle.causal_shared.specs.Finish.{items_together, before_items};
 ghost use Rattle.causal_shared.specs.Inside.Settled.{HasOtherOpening, IsSettled};
-ghost use Rattle.causal_shared.specs.Pending.{AreAscending};
+ghost use Rattle.causal_shared.specs.Pending.{AreAscending, IsPendingFault, IsSnapshotFault};
 ghost use Rattle.causal_shared.specs.Seat.{AreFresh, SeatCall, SeesEntries, heard, heard_restart};
 ghost use Rattle.causal_shared.specs.Shared.{opening_of, tag_of, seats_of_shared};
 
@@ -93,7 +93,8 @@ impl<S: Stable + Send> Shared<S> {
         source: Pid,
         ssn: u32,
     ) -> Result<Delivered, SharedFault>
-        ensures { SeatCall seat.old.sitting seat.new.sitting (Ask.Deliver q source ssn) (heard Told.Delivered result) }
+        ensures item { SeatCall seat.old.sitting seat.new.sitting (Ask.Deliver q source ssn) (heard Told.Delivered result) }
+        ensures stranger { ¬ (seat.old.sitting.tag ≡ tag_of self.now) → result ≡ Err SharedFault.WrongSeat }
     {
         deliver_under(&mut self.locked.lock(rt), self.tag, seat, q, source, ssn)
     }
@@ -104,7 +105,8 @@ impl<S: Stable + Send> Shared<S> {
     /// `WrongSeat`, `HistoryFull`, `NoRecord`, `Core` with the core's fault: nothing has changed but, for the last,
     /// that the item is in the history and the seat's list.
     pub fn crash<R: Wait>(&self, rt: &R, seat: &mut Seat, p: Pid) -> Result<u32, SharedFault>
-        ensures { SeatCall seat.old.sitting seat.new.sitting (Ask.Crash p) (heard Told.Crashed result) }
+        ensures item { SeatCall seat.old.sitting seat.new.sitting (Ask.Crash p) (heard Told.Crashed result) }
+        ensures stranger { ¬ (seat.old.sitting.tag ≡ tag_of self.now) → result ≡ Err SharedFault.WrongSeat }
     {
         crash_under(&mut self.locked.lock(rt), self.tag, seat, p)
     }
@@ -123,6 +125,8 @@ impl<S: Stable + Send> Shared<S> {
     ) -> Result<Restarted, SharedRefused>
         ensures item { SeatCall seat.old.sitting seat.new.sitting (Ask.Restart p) (heard_restart result) }
         ensures spare { IfErr result (λ refused. AnswersAs answers refused.spare spare) }
+        ensures stranger { ¬ (seat.old.sitting.tag ≡ tag_of self.now)
+            → IsErrAnd result (λ refused. refused.fault ≡ SharedFault.WrongSeat) }
     {
         restart_under(&mut self.locked.lock(rt), self.tag, seat, p, spare)
     }
@@ -133,7 +137,8 @@ impl<S: Stable + Send> Shared<S> {
     /// `WrongSeat`, `HistoryFull`, `NoRecord`, which change nothing; `Flush` with the core's fault and how many
     /// determinants were stored and recorded.
     pub fn flush<R: Wait>(&self, rt: &R, seat: &mut Seat, p: Pid) -> Result<u32, SharedFault>
-        ensures { SeatCall seat.old.sitting seat.new.sitting (Ask.Flush p) (heard Told.Flushed result) }
+        ensures item { SeatCall seat.old.sitting seat.new.sitting (Ask.Flush p) (heard Told.Flushed result) }
+        ensures stranger { ¬ (seat.old.sitting.tag ≡ tag_of self.now) → result ≡ Err SharedFault.WrongSeat }
     {
         flush_under(&mut self.locked.lock(rt), self.tag, seat, p)
     }
@@ -144,7 +149,8 @@ impl<S: Stable + Send> Shared<S> {
     /// `WrongSeat`, `HistoryFull`, `NoRecord`, `Core` with the core's fault: nothing has changed but, for the last,
     /// that the item is in the history and the seat's list.
     pub fn forget<R: Wait>(&self, rt: &R, seat: &mut Seat, p: Pid) -> Result<u32, SharedFault>
-        ensures { SeatCall seat.old.sitting seat.new.sitting (Ask.Forget p) (heard Told.Forgotten result) }
+        ensures item { SeatCall seat.old.sitting seat.new.sitting (Ask.Forget p) (heard Told.Forgotten result) }
+        ensures stranger { ¬ (seat.old.sitting.tag ≡ tag_of self.now) → result ≡ Err SharedFault.WrongSeat }
     {
         forget_under(&mut self.locked.lock(rt), self.tag, seat, p)
     }
@@ -154,7 +160,9 @@ impl<S: Stable + Send> Shared<S> {
     /// # Errors
     /// `WrongSeat`; `Core` with `NoProcess`, `Down` or `NoMemory`.
     pub fn pending<R: Wait>(&self, rt: &R, seat: &Seat, q: Pid) -> Result<Vec<MsgName>, SharedFault>
-        ensures { IfOk result (λ names. AreAscending names.items) }
+        ensures ascends { IfOk result (λ names. AreAscending names.items) }
+        ensures faults { IfErr result IsPendingFault }
+        ensures stranger { ¬ (seat.now.sitting.tag ≡ tag_of self.now) → result ≡ Err SharedFault.WrongSeat }
     {
         pending_under(&self.locked.lock(rt), self.tag, seat, q)
     }
@@ -168,6 +176,8 @@ impl<S: Stable + Send> Shared<S> {
         ensures seen { IfOk result (λ s. SeesEntries seat.old.sitting seat.new.sitting s.trace.recording.past) }
         ensures safe { IfOk result IsSafeSnapshot }
         ensures err { OnErr result (seat.new.sitting ≡ seat.old.sitting) }
+        ensures faults { IfErr result IsSnapshotFault }
+        ensures stranger { ¬ (seat.old.sitting.tag ≡ tag_of self.now) → result ≡ Err SharedFault.WrongSeat }
     {
         snapshot_under(&mut self.locked.lock(rt), self.tag, seat)
     }
@@ -220,6 +230,7 @@ pub fn finish<S: Stable + Send>(
     ensures others { IfOk result (λ f. AllSeated seats.items f.history) }
     ensures total { IfOk result (λ f. length f.history ≡ items_together seats.items) }
     ensures missing { result ≡ Err FinishFault.Missing ↔ ¬ AreSeatsOf shared seats.items }
+    ensures mismatch { (n : ℕ) → result ≡ Err (FinishFault.Mismatch n) → IsNoneOrSeat seats.items n }
 {
     let Shared {
         locked,

@@ -8,19 +8,33 @@
 //! says that a text has one reading.
 #![tactic(auto)]
 
+/// The faults of a text.
 pub mod kind;
+/// A text has one reading; the canonical text is read back.
 pub mod laws;
+/// Where a reading stands: the lines so far, and one more taken in.
 mod line_reader;
+/// Where a line ends.
 mod lines;
+/// A look at a long line before a tree is built of it.
 mod outline;
+/// A text, whole, to its trace or its first fault.
 pub mod reader;
+/// A trace of which clauses see the recording alone.
 mod recorded;
+/// How a fault prints.
 pub mod report;
+/// What a JSON value says: `whole` of a line, `fields` of its fields.
 mod shape;
+/// What the lines so far have said, and what one more adds.
 mod stage;
+/// A text from a reader of bytes, in pieces, to its trace or its first fault.
 pub mod stream;
+/// The two versions.
 mod version;
+/// The canonical text.
 pub mod writer;
+/// Bytes to a writer, call by call.
 pub mod written;
 
 pub use kind::{TextFault, TextKind};

@@ -52,10 +52,13 @@ fn is_shown_down(core: &mut Core<MemStable>) -> bool {
     let gathered = [(0, 0, 1, 0), (1, 0, 2, 0), (2, 0, 0, 0)];
     are_gathered(core, 1, &gathered) == Ok(true)
         && are_gathered(core, 2, &[]) == Err(CoreFault::NotDown)
+        && are_gathered(core, 3, &[]) == Err(CoreFault::NoProcess)
         && are_pending(core, 1, &[]) == Err(CoreFault::Down)
+        && are_pending(core, 3, &[]) == Err(CoreFault::NoProcess)
         && named(core, 1) == Err(CoreFault::Down)
         && named(core, 3) == Err(CoreFault::NoProcess)
         && replayed(core, 1, 0) == Err(CoreFault::Down)
+        && replayed(core, 3, 0) == Err(CoreFault::NoProcess)
 }
 
 /// Whether a restart by a spare that was refused elsewhere is made.
@@ -158,4 +161,56 @@ fn replay_stops_where_it_is_refused(rt: HostRuntime) -> Result<(), Fail> {
 /// A ring of three that runs for two failures.
 fn ring_for_two(alloc: Global) -> Result<Core<MemStable>, StartFault> {
     begun(alloc, Kind::Ring(2), 3, 2, MemStable::new(alloc))
+}
+
+/// Five deliveries of a process to itself, which are stable, and its crash and restart.
+const FIVE: [Call; 8] = [
+    Call::Deliver(0, 0, 0),
+    Call::Deliver(0, 0, 1),
+    Call::Deliver(0, 0, 2),
+    Call::Deliver(0, 0, 3),
+    Call::Deliver(0, 0, 4),
+    Call::Flush(0),
+    Call::Crash(0),
+    Call::Restart(0),
+];
+
+#[test]
+fn a_replay_of_five_deliveries_makes_five(rt: HostRuntime) -> Result<(), Fail> {
+    let mut core = begun(rt.alloc(), Kind::Ring(9), 1, 1, MemStable::new(rt.alloc()))?;
+    assert!(rt; run(rt.alloc(), &mut core, Kind::Ring(9), &FIVE)?.is_none());
+    assert_eq!(rt; replayed(&mut core, 0, 10), Ok(5));
+    Ok(())
+}
+
+/// A ring of three goes on into its second round; then 0 and 1 crash and restart.
+const TWO_RESTARTS: [Call; 9] = [
+    Call::Deliver(1, 0, 0),
+    Call::Deliver(2, 1, 0),
+    Call::Deliver(0, 2, 0),
+    Call::Deliver(1, 0, 1),
+    Call::Deliver(2, 1, 1),
+    Call::Crash(0),
+    Call::Crash(1),
+    Call::Restart(0),
+    Call::Restart(1),
+];
+
+/// Whether a replay of 1 ends at its second delivery, which 0 has not sent anew, and leaves that refusal standing until 0 has.
+fn waits_for_the_sender(core: &mut Core<MemStable>) -> bool {
+    replayed(core, 1, 10) == Ok(1)
+        && named(core, 1) == Ok(Some(name(0, 1)))
+        && core.deliver(Pid(1), Pid(0), 1).err() == Some(CoreFault::NotAvailable)
+        && replayed(core, 1, 10) == Err(CoreFault::NotAvailable)
+        && replayed(core, 0, 10) == Ok(1)
+        && replayed(core, 1, 10) == Ok(1)
+        && named(core, 1) == Ok(None)
+}
+
+#[test]
+fn a_refusal_stands_where_a_replay_ends(rt: HostRuntime) -> Result<(), Fail> {
+    let mut core = begun(rt.alloc(), Kind::Ring(9), 3, 2, MemStable::new(rt.alloc()))?;
+    assert!(rt; run(rt.alloc(), &mut core, Kind::Ring(9), &TWO_RESTARTS)?.is_none());
+    assert!(rt; waits_for_the_sender(&mut core));
+    Ok(())
 }

@@ -41,12 +41,38 @@ fn a_refusal_is_an_item(rt: HostRuntime) -> Result<(), Fail> {
     Ok(())
 }
 
-/// Whether a call with the seat of another runtime, which goes on, is refused and recorded nowhere.
+/// Whether the calls that make an item are refused to a seat of another runtime.
+fn is_heard_by_none<R: Wait>(
+    rt: &R,
+    shared: &Shared<MemStable>,
+    stranger: &mut Seat,
+    spare: Boxed,
+) -> bool {
+    let wrong = Some(SharedFault::WrongSeat);
+    let restarted = shared.restart(rt, stranger, Pid(0), spare).err();
+    shared.deliver(rt, stranger, Pid(1), Pid(0), 0).err() == wrong
+        && crash(rt, shared, stranger, 0) == wrong
+        && restarted.map(|refused| refused.fault) == wrong
+        && shared.flush(rt, stranger, Pid(0)).err() == wrong
+        && shared.forget(rt, stranger, Pid(0)).err() == wrong
+        && stranger.count() == 0
+}
+
+/// Whether the calls that only read are.
+fn is_shown_nothing<R: Wait>(rt: &R, shared: &Shared<MemStable>, stranger: &mut Seat) -> bool {
+    let wrong = Some(SharedFault::WrongSeat);
+    shared.pending(rt, stranger, Pid(1)).err() == wrong
+        && shared.snapshot(rt, stranger).err() == wrong
+}
+
+/// Whether each call with the seat of another runtime, which goes on, is refused and recorded nowhere. The seat differs in its tag
+/// alone.
 fn is_wrong<R: Wait>(rt: &R, alloc: Global, shared: &Shared<MemStable>) -> Option<bool> {
     let core = begun(alloc, Kind::Echo(3), 2, 1)?;
     let (other, mut stranger) = alone(alloc, core, 8)?;
-    let fault = crash(rt, shared, &mut stranger, 0);
-    let is_wrong = fault == Some(SharedFault::WrongSeat) && stranger.count() == 0;
+    let spare = process(alloc, Kind::Echo(3), 2, 0).ok()?;
+    let is_wrong = is_heard_by_none(rt, shared, &mut stranger, spare)
+        && is_shown_nothing(rt, shared, &mut stranger);
     let (items, _entries) = extent(alloc, other, stranger)?;
     Some(is_wrong && items == 0)
 }
@@ -72,4 +98,39 @@ fn of_one_of_two(alloc: Global) -> Option<FinishFault> {
 #[test]
 fn finish_missing(rt: HostRuntime) {
     assert_eq!(rt; of_one_of_two(rt.alloc()), Some(FinishFault::Missing));
+}
+
+/// How a runtime ends whose seat's number another of the same tag has used: its history has an item that its own seat lacks.
+fn used_by_a_namesake<R: Wait>(rt: &R, alloc: Global) -> Option<FinishFault> {
+    let (shared, seat) = begun_alone(alloc, Kind::Echo(3), 2, 1)?;
+    let (_other, mut namesake) = begun_alone(alloc, Kind::Echo(3), 2, 1)?;
+    if crash(rt, &shared, &mut namesake, 0).is_some() {
+        return None;
+    }
+    finished(alloc, shared, seat)?.err()
+}
+
+#[test]
+fn finish_mismatch(rt: HostRuntime) {
+    let fault = used_by_a_namesake(&rt, rt.alloc());
+    assert_eq!(rt; fault, Some(FinishFault::Mismatch(0)));
+}
+
+/// Whether both numbers of a tally are pending at 0, by sender, and asking of a process that there is not tells so.
+fn are_all_pending<R: Wait>(rt: &R, shared: &Shared<MemStable>, seat: &Seat) -> bool {
+    let none = shared.pending(rt, seat, Pid(9)).err();
+    match shared.pending(rt, seat, Pid(0)) {
+        Ok(names) => {
+            names.as_slice() == [runtime::name(1, 0), runtime::name(2, 0)].as_slice()
+                && none == Some(SharedFault::Core(CoreFault::NoProcess))
+        }
+        Err(_) => false,
+    }
+}
+
+#[test]
+fn pending_lists_all(rt: HostRuntime) -> Result<(), Fail> {
+    let (shared, seat) = begun_alone(rt.alloc(), Kind::Tally, 3, 1).ok_or("not begun")?;
+    assert!(rt; are_all_pending(&rt, &shared, &seat));
+    Ok(())
 }

@@ -3,7 +3,7 @@ use Rattle.std.specs.FinMap as fin
 use Rattle.causal_log.specs.Knowledge.{nothing_known, joined}
 use Rattle.causal_log.specs.Logs.{log_of, learned}
 use Rattle.causal_log.specs.Inside.Noted.{IsNoted}
-use Rattle.causal_log.proofs.NoteLemmas.{noted_learned, noted_more}
+use Rattle.causal_log.proofs.NoteLemmas.{noted_learned}
 use Rattle.causal_log.proofs.learning.learn.Goals as goal
 use Rattle.causal_log.proofs.learning.learn.Goals.{After-put_at}
 
@@ -19,7 +19,7 @@ pub returns-in-Some-clause-noted : goal.returns-in-Some-clause-noted
 returns-in-Some-clause-noted c = λ is.
     let log = log_of c.args.entries.now.entries in
     subst (IsNoted c.join-joined.new.self) (sym (changed (goal.at.returns-in-Some-clause-noted c).After-put_at))
-    (noted_more c.join-joined.new.self log c.args.det c.in-Some.known c.args.heard (sym c.in-Some.ensures.known) (c.join-joined.ensures.noted log is))
+    (c.join-joined.ensures.noted log (sym c.in-Some.ensures.known) is)
 
 pub returns-in-None-clause-noted : goal.returns-in-None-clause-noted
 returns-in-None-clause-noted c = λ is.

@@ -1,6 +1,5 @@
 use Rattle.std.proofs.Common.{ap, sym, true≢false, arith}
 use Rattle.std.proofs.lemmas.List.{length-map}
-use Rattle.causal_log.specs.Logs.{log_of}
 use Rattle.causal_log.proofs.log.Log.absorb.Goals as goal
 
 pub invariant_of-self : goal.invariant_of-self
@@ -12,5 +11,5 @@ invariant_of-self c =
       ascending = λ h. absurd (true≢false (sym h));
       few = omega (arith, room, c.in_ok-make_room.ensures.ok, before.invariant.few, c.learn_items.ensures.len, length-map before.inside.entries.entries (λ e. e.0), length-map c.learn_items.new.entries.entries (λ e. e.0));
       sure = omega (arith, before.invariant.sure, c.learn_items.ensures.spare);
-      noted = c.learn_items.ensures.noted (c.see.ensures (log_of before.inside.entries.entries) before.invariant.noted);
+      noted = c.learn_items.ensures.noted before.invariant.noted;
     }

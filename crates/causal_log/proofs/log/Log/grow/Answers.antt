@@ -14,5 +14,5 @@ invariant_of-self c =
       ascending = λ h. absurd (true≢false (sym h));
       few = omega (arith, room, items, c.requires.room, before.invariant.few, c.learn_items.ensures.len, c.learn.ensures.len, length-map before.inside.entries.entries (λ e. e.0), length-map c.learn.new.entries.entries (λ e. e.0));
       sure = omega (arith, before.invariant.sure, c.learn_items.ensures.spare, c.learn.ensures.spare);
-      noted = c.learn.ensures.noted (c.learn_items.ensures.noted (c.see.ensures log before.invariant.noted));
+      noted = c.learn.ensures.noted (c.learn_items.ensures.noted before.invariant.noted);
     }

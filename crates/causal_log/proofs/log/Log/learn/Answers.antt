@@ -5,7 +5,7 @@ use Rattle.causal_name.specs.Names.{is_ascending}
 use Rattle.causal_log.specs.Knowledge.{nothing_known, joined}
 use Rattle.causal_log.specs.Logs.{log_of, learned}
 use Rattle.causal_log.specs.Inside.Noted.{IsNoted}
-use Rattle.causal_log.proofs.NoteLemmas.{noted_learned, noted_more}
+use Rattle.causal_log.proofs.NoteLemmas.{noted_learned}
 use Rattle.causal_log.proofs.log.Log.learn.Goals.{After-put_at}
 use Rattle.causal_log.proofs.log.Log.learn.Goals as goal
 
@@ -21,7 +21,7 @@ invariant_of-self c = record {
   few = omega (arith, ap length c.put_at.ensures.keys, c.self.invariant.few);
   sure = omega (arith, c.put_at.ensures.spare, c.self.invariant.sure);
   noted = subst (IsNoted c.join-joined.new.self) (sym (changed (goal.at.invariant_of-self c).After-put_at))
-      (noted_more c.join-joined.new.self (log_of c.self.inside.entries.entries) c.args.det c.in-Some.known c.args.heard (sym c.in-Some.ensures.known) (c.join-joined.ensures.noted (log_of c.self.inside.entries.entries) c.self.invariant.noted));
+      (c.join-joined.ensures.noted (log_of c.self.inside.entries.entries) (sym c.in-Some.ensures.known) c.self.invariant.noted);
 }
 
 pub returns-in-Some-clause-ok : goal.returns-in-Some-clause-ok

@@ -12,6 +12,6 @@ invariant_of-self c = record {
   ascending = λ h. ap is_ascending c.mark.ensures.keys ∙ c.self.invariant.ascending h;
   few = omega (arith, ap length c.mark.ensures.keys, c.self.invariant.few);
   sure = omega (arith, c.self.invariant.sure, c.mark.ensures.spare);
-  noted = subst (IsNoted c.expire.new.self) (sym c.mark.ensures.marked)
-      (noted_marked c.expire.new.self (log_of c.self.inside.entries.entries) c.args.det (c.expire.ensures (log_of c.self.inside.entries.entries) c.self.invariant.noted));
+  noted = subst (IsNoted c.omit.new.self) (sym c.mark.ensures.marked)
+      (noted_marked c.self.inside.notes c.omit.new.self (log_of c.self.inside.entries.entries) c.args.det c.omit.ensures c.self.invariant.noted);
 }

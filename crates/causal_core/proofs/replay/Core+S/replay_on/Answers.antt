@@ -1,0 +1,20 @@
+use Rattle.std.proofs.Common.{◌≡◌, ◌∙◌, refl, sym, arith}
+use Rattle.std.proofs.lemmas.Grind.{common_steps}
+use Rattle.causal_core.specs.CoreView.{run_of, state_of}
+use Rattle.causal_core.proofs.Replaying.{replayed_none, replayed_more, replayed_on, replayed_unnamed, ends_refused, ends_unnamed}
+use Rattle.causal_core.proofs.replay.Core+S.replay_on.Goals as goal
+
+pub loop-count-init : goal.loop-count-init
+loop-count-init g c = replayed_none _ c.args.p (state_of c.args.self.now)
+
+pub loop-count-preserved : goal.loop-count-preserved
+loop-count-preserved g c =
+    replayed_more _ c.args.p c.loop-count.count _ c.in-Ok-Some.field-0-0 (state_of c.args.self.now) (state_of c.loop-count.self) (state_of c.deliver_named.new.self) c.loop-count.invariant c.in-Ok-Some.field-0-is c.in-Ok-Some.ensures.ok
+
+pub returns-in-Ok-None-clause-made : goal.returns-in-Ok-None-clause-made
+returns-in-Ok-None-clause-made g c =
+    replayed_unnamed _ c.args.p c.loop-count.count _ (state_of c.args.self.now) (state_of c.loop-count.self) (state_of c.deliver_named.new.self) c.loop-count.invariant c.in-Ok-None.field-0-is c.in-Ok-None.ensures.ok
+
+pub returns-in-Err-clause-made : goal.returns-in-Err-clause-made
+returns-in-Err-clause-made g c =
+    replayed_on _ c.args.p c.loop-count.count (state_of c.args.self.now) (state_of c.loop-count.self) (state_of c.deliver_named.new.self) c.loop-count.invariant c.in-Err.ensures.refused
