@@ -23,7 +23,7 @@ pub fn least_by(alloc: Global, trace: &Trace, f: u16, end: u32) -> Result<Option
     ensures { IfOk result (LeastBreachBy trace.now.recording f end 0 (deliveries_in trace.now.recording.past)) }
 {
     let prepared = Prepared::of(alloc, trace, f, end)?;
-    let whole = prepared.part(alloc, trace, 0, prepared.followed())?;
+    let mut whole = prepared.part(alloc, trace, 0, prepared.followed())?;
     Ok(whole.least())
 }
 

@@ -70,13 +70,7 @@ impl Ahead<'_> {
 
     /// The first position that is not below `from` of a change or of a restart of one of these processes, or `end` if that
     /// comes first. Those before it are passed.
-    pub fn next(
-        &mut self,
-        trace: &Trace,
-        members: Holders,
-        from: u32,
-        end: u32,
-    ) -> Next
+    pub fn next(&mut self, trace: &Trace, members: Holders, from: u32, end: u32) -> Next
         requires order { from ≤ end }
         requires turns { AreTurnsKept trace.now.recording.past self.old.turns.turns.now }
         ensures bounds { (from ≤ result.position) × (result.position ≤ end) }

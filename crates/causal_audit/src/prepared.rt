@@ -145,16 +145,10 @@ impl<'a> Model for Part<'a> {
 impl Part<'_> {
     /// The least breach of these deliveries, by instant and then by position, if it comes by the instant up to which the run is
     /// prepared; None where none of them has an orphan by then. It takes no memory.
-    pub fn least(self) -> Option<Breach>
-        ensures { LeastOf self.entry result }
+    pub fn least(&mut self) -> Option<Breach>
+        ensures { LeastOf self.old result }
     {
-        let Part {
-            scan,
-            f,
-            end,
-            windows,
-            mut room,
-        } = self;
-        scan.least_within(f, end, windows, &mut room)
+        self.scan
+            .least_within(self.f, self.end, self.windows, &mut self.room)
     }
 }

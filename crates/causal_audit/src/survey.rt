@@ -58,12 +58,7 @@ impl Survey<'_, '_> {
     }
 
     /// Gathers the window of the delivery at position k, if there is one that is not seen to be covered throughout.
-    fn gather(
-        &self,
-        looks: &Looks<'_>,
-        k: u32,
-        gathered: &mut Vec<Window>,
-    ) -> Result<(), NoMemory>
+    fn gather(&self, looks: &Looks<'_>, k: u32, gathered: &mut Vec<Window>) -> Result<(), NoMemory>
         requires early { k < self.now.end }
         requires looks { AreAllLooks self.now.run (most_of self.now.run self.now.f) self.now.end looks.now }
         ensures { OnOk result

@@ -218,13 +218,7 @@ impl Passing<'_> {
 
     /// The first position from `from` on at which one of these processes restarts, or `end` if that comes first. Crashes,
     /// and restarts of others, are passed. Where none of them all stands in between nothing is searched.
-    pub fn next_restart(
-        &mut self,
-        trace: &Trace,
-        members: Holders,
-        from: u32,
-        end: u32,
-    ) -> u32
+    pub fn next_restart(&mut self, trace: &Trace, members: Holders, from: u32, end: u32) -> u32
         requires order { from ≤ end }
         requires turns { AreTurnsKept trace.now.recording.past self.old.turns.now }
         ensures bounds { (from ≤ result) × (result ≤ end) }

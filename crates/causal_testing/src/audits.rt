@@ -1,7 +1,7 @@
 //! The steps of a judgement, on traces that were judged by hand. The verdicts on many more stand with the program's tests.
 use causal_audit::{
-    Breach, Excess, Surveyed, Tables, Verdict, decided, earlier, first_breach, first_excess, judge,
-    least_between, least_surveyed,
+    Breach, Excess, Tables, Verdict, decided, earlier, first_breach, first_excess, judge, least_by,
+    verdict_of,
 };
 use causal_holders::Holders;
 use causal_samples::texts::{ORPHAN_AT_ONCE, RING, RING_CRASHED};
@@ -14,10 +14,12 @@ fn tables_of(alloc: Global, text: &str) -> Result<Tables, Fail> {
     Ok(Tables::of(alloc, &trace)?)
 }
 
-/// The verdict on the trace that a text spells.
-fn judged(alloc: Global, text: &str, f: u16) -> Result<Verdict, Fail> {
-    let tables = tables_of(alloc, text)?;
-    Ok(judge(&tables, f))
+/// The verdict on the trace that a text spells, if the tables give the same as the audit.
+fn judged(alloc: Global, text: &str, f: u16) -> Result<Option<Verdict>, Fail> {
+    let trace = read_trace(alloc, text.as_bytes())?;
+    let tables = Tables::of(alloc, &trace)?;
+    let verdict = verdict_of(alloc, &trace, f)?;
+    Ok((judge(&tables, f) == verdict).then_some(verdict))
 }
 
 /// The set of these processes.
@@ -75,8 +77,6 @@ fn has_the_unlogged(tables: &Tables) -> bool {
         && first_breach(tables, 0, 0).is_none()
         && first_breach(tables, 0, 1) == found
         && first_breach(tables, 0, 2).is_none()
-        && least_between(tables, 0, 0, 3) == found
-        && least_between(tables, 0, 2, 3).is_none()
         && first_excess(tables, 0).is_none()
         && judge(tables, 0) == orphan(5, 4, &[], 3)
 }
@@ -94,8 +94,6 @@ fn has_the_chain(tables: &Tables) -> bool {
         && first_breach(tables, 2, 0) == found
         && first_breach(tables, 2, 1).is_none()
         && first_breach(tables, 2, 2).is_none()
-        && least_between(tables, 2, 0, 3) == found
-        && least_between(tables, 2, 1, 3).is_none()
         && judge(tables, 1) == Verdict::Accept
         && judge(tables, 2) == orphan(6, 1, &[1, 2], 0)
 }
@@ -150,30 +148,33 @@ const STORED: &str = r#"["trace",2,3]
 #[test]
 fn what_is_forgotten_by_all_orphans(rt: HostRuntime) -> Result<(), Fail> {
     // Process 2 alone holds it from instant 7 on, and nobody from instant 8 on; 0 depends on it through 1 and 2.
-    assert_eq!(rt; judged(rt.alloc(), FORGOTTEN, 0)?, orphan(8, 1, &[], 0));
-    assert_eq!(rt; judged(rt.alloc(), STORED, 0)?, Verdict::Accept);
+    assert_eq!(rt;
+        judged(rt.alloc(), FORGOTTEN, 0)?,
+        Some(orphan(8, 1, &[], 0))
+    );
+    assert_eq!(rt; judged(rt.alloc(), STORED, 0)?, Some(Verdict::Accept));
     Ok(())
 }
 
-/// What a survey tells of the trace that a text spells, but of its last entries, of which there are so many.
-fn surveyed(alloc: Global, text: &str, last: u32) -> Result<Surveyed, Fail> {
+/// The least breach of the trace that a text spells by the instant before its last entries, of which there are so many.
+fn least_before(alloc: Global, text: &str, last: u32) -> Result<Option<Breach>, Fail> {
     let trace = read_trace(alloc, text.as_bytes())?;
-    Ok(least_surveyed(alloc, &trace, 0, trace.len().saturating_sub(last))?)
+    Ok(least_by(alloc, &trace, 0, trace.len().saturating_sub(last))?)
 }
 
 #[test]
-fn a_survey_tells_the_least_breach(rt: HostRuntime) -> Result<(), Fail> {
-    let found = Surveyed::Told(Some(breach(8, 1, &[], 0)));
-    assert_eq!(rt; surveyed(rt.alloc(), FORGOTTEN, 0)?, found);
-    assert_eq!(rt; surveyed(rt.alloc(), FORGOTTEN, 1)?, Surveyed::Told(None));
+fn the_least_breach_comes_by_an_instant_or_not(rt: HostRuntime) -> Result<(), Fail> {
+    let found = Some(breach(8, 1, &[], 0));
+    assert_eq!(rt; least_before(rt.alloc(), FORGOTTEN, 0)?, found);
+    assert_eq!(rt; least_before(rt.alloc(), FORGOTTEN, 1)?, None);
     Ok(())
 }
 
 #[test]
 fn every_process_may_be_down(rt: HostRuntime) -> Result<(), Fail> {
     let text = "[\"trace\",2,256]\n[\"crash\",255]\n[\"end\",1]";
-    assert_eq!(rt; judged(rt.alloc(), text, 0)?, exceeded(1, &[255]));
-    assert_eq!(rt; judged(rt.alloc(), text, 65_535)?, Verdict::Accept);
+    assert_eq!(rt; judged(rt.alloc(), text, 0)?, Some(exceeded(1, &[255])));
+    assert_eq!(rt; judged(rt.alloc(), text, 65_535)?, Some(Verdict::Accept));
     Ok(())
 }
 

@@ -6,7 +6,7 @@ ghost use Rattle.causal_audit.specs.declared.verdict.Verdict.{Verdict};
 mod plain;
 
 use crate::random_walks::{Walk, trace_of};
-use causal_audit::{Breach, Tables, Verdict, judge, least_between};
+use causal_audit::{Breach, Tables, Verdict, first_breach, verdict_of};
 use causal_explain::{Down, Explanation, Holding, Loss, down_since, explain, shortest_chain};
 use causal_holders::Holders;
 use causal_name::{Det, NoMemory};
@@ -178,8 +178,7 @@ fn compare(
 pub(crate) fn verdict_on(alloc: Global, trace: &Trace, f: u16) -> Result<Verdict, NoMemory>
     ensures { IfOk result (IsVerdict trace.now.recording f) }
 {
-    let tables = Tables::of(alloc, trace)?;
-    Ok(judge(&tables, f))
+    verdict_of(alloc, trace, f)
 }
 
 /// Tells who is down at an instant, and compares it with these and with what the plain programs say.
@@ -261,7 +260,7 @@ fn breach_explained(
     if i >= tables.deliveries() {
         return Ok(());
     }
-    let Some(breach) = least_between(tables, f, i, i + 1) else {
+    let Some(breach) = first_breach(tables, f, i) else {
         return Ok(());
     };
     let told = explain(alloc, trace, &breach)?;

@@ -1,8 +1,8 @@
-//! Runs with many deliveries that a survey has to follow, and one in which its steps do not suffice.
+//! Runs with many deliveries that have to be followed, so that several workers have some.
 use crate::swept_runs::differing;
-use causal_audit::{Breach, Surveyed, Verdict, decided, least_surveyed};
+use causal_audit::{Breach, Prepared, Verdict, decided, least_by};
 use causal_holders::Holders;
-use causal_samples::{Line, push_all, traced};
+use causal_samples::{Fields, Line, push_all, traced};
 use causal_trace::fault::TraceFault;
 use causal_trace::trace::Trace;
 use std::alloc::Global;
@@ -40,25 +40,97 @@ fn breach(instant: u32) -> Breach {
     }
 }
 
-fn surveyed(alloc: Global, count: u32) -> Result<Surveyed, Fail> {
-    let trace = unlisted(alloc, count)?;
-    Ok(least_surveyed(alloc, &trace, 1, trace.len())?)
+/// How many deliveries are followed for f.
+fn followed(alloc: Global, trace: &Trace, f: u16) -> Result<usize, Fail> {
+    let prepared = Prepared::of(alloc, trace, f, trace.len())?;
+    Ok(prepared.followed())
 }
 
 #[test]
-fn a_survey_follows_so_many(rt: HostRuntime) -> Result<(), Fail> {
+fn so_many_are_followed(rt: HostRuntime) -> Result<(), Fail> {
+    let trace = unlisted(rt.alloc(), 4097)?;
+    assert!(rt; followed(rt.alloc(), &trace, 1)? >= 4097);
     assert_eq!(rt;
-        surveyed(rt.alloc(), 4097)?,
-        Surveyed::Told(Some(breach(8196)))
+        least_by(rt.alloc(), &trace, 1, trace.len())?,
+        Some(breach(8196))
     );
+    let verdict = decided(None, Some(breach(8196)));
+    assert_eq!(rt; differing(&rt, rt.alloc(), &trace, 1, verdict)?, None);
     Ok(())
 }
 
+/// The determinants of what process 1 has delivered, but that of one number, and this one more.
+fn all_but(alloc: Global, count: u32, lacking: u32, more: &[Fields]) -> Result<Vec<Fields>, Fail> {
+    let mut dets = Vec::new(alloc);
+    for number in 0..count {
+        if number != lacking {
+            dets.push((0, number, 1, number))?;
+        }
+    }
+    dets.extend_from_slice(more)?;
+    Ok(dets)
+}
+
+/// Process 0 sends so many messages to process 1, which lists each; 1 sends to 2, which lists them all; and 2 sends to 3, which
+/// lists all but the one of this number. Two processes hold each of them, so that all are followed where two may crash.
+fn passed_on(alloc: Global, count: u32, lacking: u32) -> Result<Trace, Fail> {
+    let mut trace = Trace::new(alloc, 4)?;
+    for number in 0..count {
+        let listed = [(0, number, 1, number)];
+        let lines = [
+            Line::Send(0, 1, number),
+            Line::Deliver(1, trace.len(), number, &listed),
+        ];
+        push_all(alloc, &mut trace, &lines)?;
+    }
+    let send = trace.len();
+    let own = (1, 0, 2, 0);
+    let all = all_but(alloc, count, count, &[own])?;
+    let most = all_but(alloc, count, lacking, &[own, (2, 0, 3, 0)])?;
+    let passed = [
+        Line::Send(1, 2, 0),
+        Line::Deliver(2, send, 0, all.as_slice()),
+        Line::Send(2, 3, 0),
+        Line::Deliver(3, send.saturating_add(2), 0, most.as_slice()),
+    ];
+    push_all(alloc, &mut trace, &passed)?;
+    Ok(trace)
+}
+
+/// The verdict for two: process 3 is an orphan of the delivery of that number, if both that hold it crash.
+fn lacked(count: u32, lacking: u32) -> Verdict {
+    let mut crash = Holders::none();
+    crash.insert(1);
+    crash.insert(2);
+    Verdict::Orphan {
+        instant: count.saturating_mul(2).saturating_add(4),
+        delivery: lacking.saturating_mul(2).saturating_add(1),
+        crash,
+        orphan: 3,
+    }
+}
+
 #[test]
-fn the_verdict_is_the_same(rt: HostRuntime) -> Result<(), Fail> {
-    let trace = unlisted(rt.alloc(), 4097)?;
-    let verdict = decided(None, Some(breach(8196)));
-    assert_eq!(rt; differing(&rt, rt.alloc(), &trace, 1, verdict)?, None);
+fn the_plain_program_finds_what_is_lacking(rt: HostRuntime) -> Result<(), Fail> {
+    for lacking in 0..3 {
+        let trace = passed_on(rt.alloc(), 3, lacking)?;
+        assert_eq!(rt;
+            causal_plain::judge(rt.alloc(), &trace, 2)?,
+            lacked(3, lacking)
+        );
+    }
+    Ok(())
+}
+
+// There are three groups at least, and the one delivery with an orphan is in the first, the second or the third of them.
+#[test]
+fn a_breach_in_any_group_is_told(rt: HostRuntime) -> Result<(), Fail> {
+    for lacking in [0, 255, 256, 300, 511, 512, 599] {
+        let trace = passed_on(rt.alloc(), 600, lacking)?;
+        assert!(rt; followed(rt.alloc(), &trace, 2)? >= 600);
+        let told = differing(&rt, rt.alloc(), &trace, 2, lacked(600, lacking))?;
+        assert_eq!(rt; told, None, "the delivery of number {lacking}");
+    }
     Ok(())
 }
 
@@ -91,24 +163,11 @@ pub(crate) fn replayed(alloc: Global, n: u16, count: u32) -> Result<Trace, Trace
     Ok(trace)
 }
 
-fn replays_surveyed(alloc: Global, count: u32) -> Result<Surveyed, Fail> {
-    let trace = replayed(alloc, 4, count)?;
-    Ok(least_surveyed(alloc, &trace, 2, trace.len())?)
-}
-
+// Two processes hold the determinant of all these deliveries, and whoever depends on one of them holds it.
 #[test]
-fn where_its_steps_do_not_suffice_it_tells_nothing(rt: HostRuntime) -> Result<(), Fail> {
-    assert_eq!(rt;
-        surveyed(rt.alloc(), 300)?,
-        Surveyed::Told(Some(breach(602)))
-    );
-    assert_eq!(rt; replays_surveyed(rt.alloc(), 190)?, Surveyed::TooMany);
-    Ok(())
-}
-
-#[test]
-fn then_the_deliveries_are_swept(rt: HostRuntime) -> Result<(), Fail> {
+fn replays_that_are_listed_are_accepted(rt: HostRuntime) -> Result<(), Fail> {
     let trace = replayed(rt.alloc(), 4, 190)?;
+    assert!(rt; followed(rt.alloc(), &trace, 2)? >= 190);
     assert_eq!(rt;
         differing(&rt, rt.alloc(), &trace, 2, Verdict::Accept)?,
         None

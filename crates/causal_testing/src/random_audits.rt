@@ -1,12 +1,12 @@
-//! The audit and the plain program beside it give the same verdict on small random runs, for each f, however the deliveries are
-//! divided for a sweep, and whatever numbers the processes have.
+//! The audit and the plain program beside it give the same verdict on small random runs, for each f, however the deliveries that
+//! are followed are divided, and whatever numbers the processes have.
 use crate::raised::{raised, raised_verdict};
 use crate::random_runs::{LIVELY, Manner, STEADY, run_of};
 use crate::random_walks::{Walk, trace_of};
 use crate::variety::{NONE, Variety};
 use causal_audit::{
-    Breach, Course, Room, Surveyed, Tables, Verdict, decided, earlier, first_excess, judge,
-    least_between, least_surveyed, least_swept,
+    Breach, Prepared, Tables, Verdict, decided, earlier, first_breach, first_excess, judge,
+    least_by, verdict_of,
 };
 use causal_name::NoMemory;
 use causal_trace::fault::TraceFault;
@@ -15,86 +15,72 @@ use std::alloc::Global;
 use std::test::Fail;
 
 /// Into how many parts the deliveries are divided.
-const PARTS: [u32; 4] = [1, 2, 3, 5];
+const PARTS: [usize; 4] = [1, 2, 3, 5];
 
 /// Where the part ends that begins at `from`: what is left is divided by the number of parts that are left.
-fn part_end(from: u32, all: u32, left: u32) -> u32 {
+fn part_end(from: usize, all: usize, left: usize) -> usize {
     from.saturating_add(all.saturating_sub(from) / left.max(1))
+        .min(all)
+        .max(from)
 }
 
-/// The least breach that a sweep finds of the deliveries numbered from `from` and below `to`, and whether walks find it too.
-fn swept(
+/// The least breach of the deliveries that are followed for f, by so many parts of them.
+fn least_in_parts(
     alloc: Global,
-    tables: &Tables,
-    course: &Course,
+    trace: &Trace,
     f: u16,
-    from: u32,
-    to: u32,
-) -> Result<(Option<Breach>, bool), NoMemory> {
-    if from > to || to > course.deliveries() || to > tables.deliveries() {
-        return Ok((None, false));
-    }
-    let mut room = Room::new(alloc, course, from, to)?;
-    let found = least_swept(course, f, &mut room);
-    Ok((found, found == least_between(tables, f, from, to)))
-}
-
-/// Whether the sweeps of so many parts find what walks find of each, and together this verdict.
-fn parts_agree(
-    alloc: Global,
-    tables: &Tables,
-    course: &Course,
-    f: u16,
-    parts: u32,
-    verdict: &Verdict,
-) -> Result<bool, NoMemory> {
-    let all = tables.deliveries();
-    let (mut least, mut same, mut from) = (None, true, 0);
+    parts: usize,
+) -> Result<Option<Breach>, NoMemory> {
+    let prepared = Prepared::of(alloc, trace, f, trace.len())?;
+    let all = prepared.followed();
+    let (mut least, mut from) = (None, 0);
     for done in 0..parts {
         let to = part_end(from, all, parts.saturating_sub(done));
-        let (found, agrees) = swept(alloc, tables, course, f, from, to)?;
-        least = earlier(least, found);
-        same = same && agrees;
+        let part = prepared.part(alloc, trace, from, to)?;
+        least = earlier(least, part.least());
         from = to;
     }
-    Ok(same && from == all && decided(first_excess(tables, f), least) == *verdict)
+    Ok(least)
 }
 
-/// The same of each number of parts.
-fn sweeps_agree(
+/// Whether each number of parts finds this least breach.
+fn parts_agree(
     alloc: Global,
-    tables: &Tables,
-    course: &Course,
+    trace: &Trace,
     f: u16,
-    verdict: &Verdict,
+    found: Option<Breach>,
 ) -> Result<bool, NoMemory> {
     for parts in &PARTS {
-        if !parts_agree(alloc, tables, course, f, *parts, verdict)? {
+        if least_in_parts(alloc, trace, f, *parts)? != found {
             return Ok(false);
         }
     }
     Ok(true)
 }
 
-/// Whether a survey tells the breach that walks find.
-fn survey_agrees(alloc: Global, trace: &Trace, tables: &Tables, f: u16) -> Result<bool, NoMemory> {
-    let surveyed = least_surveyed(alloc, trace, f, trace.len())?;
-    Ok(surveyed == Surveyed::Told(least_between(tables, f, 0, tables.deliveries())))
+/// The least of the first breaches of all deliveries.
+fn least_of_each(tables: &Tables, f: u16) -> Option<Breach> {
+    let mut least = None;
+    for i in 0..tables.deliveries() {
+        least = earlier(least, first_breach(tables, f, i));
+    }
+    least
 }
 
-/// Whether walks, a survey and the sweeps all say this of a trace.
+/// Whether the tables, each delivery by itself, the audit and its parts all say this of a trace.
 fn all_say(
     alloc: Global,
     trace: &Trace,
     tables: &Tables,
-    course: &Course,
     f: u16,
     verdict: &Verdict,
 ) -> Result<bool, NoMemory> {
-    if judge(tables, f) != *verdict || !survey_agrees(alloc, trace, tables, f)? {
-        return Ok(false);
-    }
-    sweeps_agree(alloc, tables, course, f, verdict)
+    let least = least_of_each(tables, f);
+    let same = judge(tables, f) == *verdict
+        && verdict_of(alloc, trace, f)? == *verdict
+        && decided(first_excess(tables, f), least) == *verdict
+        && least_by(alloc, trace, f, trace.len())? == least;
+    Ok(same && parts_agree(alloc, trace, f, least)?)
 }
 
 /// Of how many of these verdicts, one for each f from 0 on, the programs say anything else of a trace. The verdicts are those on
@@ -103,14 +89,13 @@ fn differing_from(
     alloc: Global,
     trace: &Trace,
     tables: &Tables,
-    course: &Course,
     verdicts: &[Verdict],
     by: u8,
 ) -> Result<u32, NoMemory> {
     let (mut differ, mut f) = (0_u32, 0_u16);
     for plain in verdicts {
         let verdict = raised_verdict(*plain, by);
-        let same = all_say(alloc, trace, tables, course, f, &verdict)?;
+        let same = all_say(alloc, trace, tables, f, &verdict)?;
         differ = differ.saturating_add(u32::from(!same));
         f = f.saturating_add(1);
     }
@@ -120,8 +105,7 @@ fn differing_from(
 /// The same, where nothing is known yet of the trace.
 fn differing(alloc: Global, trace: &Trace, verdicts: &[Verdict], by: u8) -> Result<u32, NoMemory> {
     let tables = Tables::of(alloc, trace)?;
-    let course = Course::of(alloc, trace, trace.len())?;
-    differing_from(alloc, trace, &tables, &course, verdicts, by)
+    differing_from(alloc, trace, &tables, verdicts, by)
 }
 
 /// The same of the trace whose processes have numbers greater by so much.

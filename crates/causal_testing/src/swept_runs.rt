@@ -1,8 +1,7 @@
-//! Runs of which a survey tells nothing, since very many deliveries share one determinant: the workers sweep their parts of the
-//! deliveries. Where each part has a breach, the verdict names the one that comes first.
-use causal_audit::{Surveyed, Verdict, least_surveyed};
+//! Runs in which very many deliveries share one determinant. Where several have a breach, the verdict names the one that comes
+//! first, whatever the number of workers.
+use causal_audit::Verdict;
 use causal_holders::Holders;
-use causal_name::NoMemory;
 use causal_samples::{Fields, Line, push, traced};
 use causal_trace::fault::TraceFault;
 use causal_trace::trace::Trace;
@@ -172,7 +171,7 @@ pub(crate) fn lost(half: u32, loss: Loss) -> Verdict {
     }
 }
 
-/// Losses in the order in which they come, so that the first of them is in each part of the deliveries.
+/// Losses in the order in which they come, so that the first of them is early, halfway and late in the run.
 const ORDERS: [[Loss; 3]; 4] = [
     [Loss::Last, Loss::First, Loss::Middle],
     [Loss::Middle, Loss::Last, Loss::First],
@@ -180,7 +179,7 @@ const ORDERS: [[Loss; 3]; 4] = [
     [Loss::Both, Loss::Middle, Loss::Last],
 ];
 
-/// Half of the incarnations of a run of which a survey tells nothing.
+/// Half of the incarnations of a long run.
 pub(crate) const HALF: u32 = 95;
 
 /// The numbers of workers that are compared.
@@ -234,39 +233,23 @@ fn the_plain_program_finds_an_early_loss(rt: HostRuntime) -> Result<(), Fail> {
     Ok(())
 }
 
-/// Whether a survey tells nothing of a trace for two.
-fn is_too_much(alloc: Global, trace: &Trace) -> Result<bool, NoMemory> {
-    match least_surveyed(alloc, trace, 2, trace.len())? {
-        Surveyed::TooMany => Ok(true),
-        Surveyed::Told(None | Some(_)) => Ok(false),
-    }
-}
-
-/// Whether a survey tells nothing of a trace for two, and each number of workers this verdict.
-fn is_swept<R: Threads + Wait>(
-    rt: &R,
-    alloc: Global,
-    trace: &Trace,
-    verdict: Verdict,
-) -> Result<bool, Fail> {
-    Ok(is_too_much(alloc, trace)? && differing(rt, alloc, trace, 2, verdict)?.is_none())
-}
-
 #[test]
-fn the_first_breach_of_all_parts_is_told(rt: HostRuntime) -> Result<(), Fail> {
+fn the_first_breach_of_all_is_told(rt: HostRuntime) -> Result<(), Fail> {
     for order in &ORDERS {
         let trace = losing(rt.alloc(), HALF, order.as_slice())?;
-        assert!(rt; is_swept(&rt, rt.alloc(), &trace, lost(HALF, order[0]))?);
+        let told = differing(&rt, rt.alloc(), &trace, 2, lost(HALF, order[0]))?;
+        assert_eq!(rt; told, None);
     }
     Ok(())
 }
 
-// The run has 579 entries: what fails at the instant 22 fails in its first sixteenth, but not in its first sixty-fourth, which is
-// surveyed alone.
 #[test]
 fn a_breach_in_a_beginning_is_told(rt: HostRuntime) -> Result<(), Fail> {
     let trace = losing_early(rt.alloc(), 5, 185)?;
     assert_eq!(rt; trace.len(), 579);
-    assert!(rt; is_swept(&rt, rt.alloc(), &trace, first_lost(22))?);
+    assert_eq!(rt;
+        differing(&rt, rt.alloc(), &trace, 2, first_lost(22))?,
+        None
+    );
     Ok(())
 }

@@ -4,7 +4,7 @@ ghost use Rattle.std.specs.Bool.{OnTrue};
 ghost use Rattle.causal_audit.specs.Parts.{Followed, LeastOf};
 ghost use Rattle.causal_audit.specs.Verdicts.{IsVerdict};
 ghost use Rattle.causal_workers.specs.Judgements.{IsOnlyVerdict};
-ghost use Rattle.causal_workers.specs.Inside.Shares.{AreTasksAfter, Covers, FollowsAfter, IsFirstShare, IsReady, Tells};
+ghost use Rattle.causal_workers.specs.Inside.Shares.{AreTasksAfter, Covers, FollowsAfter, IsFirstShare, IsPartOf, IsReady, Tells};
 
 use crate::gate::Gate;
 use crate::share::{Share, Started, Task};
@@ -125,7 +125,8 @@ fn least_in<'s, 't: 's, 'g: 's, E, G: Gate + Sync, R: Threads>(
         join_all(rt, started);
         return Err(AuditFault::NoWorker);
     }
-    let least = first.judged(0, gate);
+    let Task { share, mut part } = first;
+    let least = share.judged(&mut part, 0, gate);
     Ok(least_joined(rt, least, started))
 }
 
@@ -182,12 +183,12 @@ fn all_started<'s, 't: 's, 'g: 's, E, G: Gate + Sync>(
     ensures alone { tasks.entry.items ≡ [] → result ≡ true }
 {
     for task in tasks {
-        let share = task.share;
+        let Task { share, mut part } = task;
         let worker = started.len() as u32 + 1;
         let work = move || -> Option<Breach>
-            requires { IsReady task }
-            ensures { Tells task.entry.share.prepared.now task.entry.share.from task.entry.share.to result }
-        { task.judged(worker, gate) };
+            requires { IsPartOf share part }
+            ensures { Tells share.entry.prepared.now share.entry.from share.entry.to result }
+        { share.judged(&mut part, worker, gate) };
         let Ok(handle) = scope.spawn_with(share, work) else {
             return false;
         };

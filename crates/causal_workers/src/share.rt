@@ -1,5 +1,5 @@
 //! The work of one worker.
-ghost use Rattle.causal_workers.specs.Inside.Shares.{IsReady, Tells};
+ghost use Rattle.causal_workers.specs.Inside.Shares.{IsPartOf, Tells};
 
 use crate::gate::Gate;
 use causal_audit::{Breach, Part, Prepared};
@@ -27,13 +27,13 @@ impl<'a> Promise<Option<Breach>> for Share<'a> {
     ghost kept_by = { λ s found. Tells s.prepared.now s.from s.to found };
 }
 
-impl<'a> Task<'a> {
-    /// Passes the gate as the worker of this number, and gives the least breach of the share. It takes no memory.
-    pub fn judged<G: Gate>(self, worker: u32, gate: &G) -> Option<Breach>
-        requires { IsReady self }
-        ensures { Tells self.entry.share.prepared.now self.entry.share.from self.entry.share.to result }
+impl<'a> Share<'a> {
+    /// Passes the gate as the worker of this number, and gives the least breach of the share, whose part this is. It takes no
+    /// memory.
+    pub fn judged<G: Gate>(self, part: &mut Part<'a>, worker: u32, gate: &G) -> Option<Breach>
+        requires { IsPartOf self part.old }
+        ensures { Tells self.entry.prepared.now self.entry.from self.entry.to result }
     {
-        let Task { part, .. } = self;
         gate.enter(worker);
         part.least()
     }

@@ -14,9 +14,13 @@ Started = PromisedHandle (Option Breach) Share
 abbrev pub Tells : Followed → ℕ → ℕ → Option Breach → Type 0
 Tells followed from to found = LeastOf (part_of followed from to) found
 
+-- the part has the deliveries of the share
+abbrev pub IsPartOf : Share → Followed → Type 0
+IsPartOf share part = part ≡ part_of share.prepared.now share.from share.to
+
 -- the task has the part of its share
 abbrev pub IsReady : Task → Type 0
-IsReady task = task.part ≡ part_of task.share.prepared.now task.share.from task.share.to
+IsReady task = IsPartOf task.share task.part
 
 -- the share is of the deliveries from place `from` on
 pub record IsShare (followed : Followed) (from : ℕ) (share : Share) : Type 0 where

@@ -12,7 +12,6 @@ use Rattle.causal_audit.proofs.judging.decided.Goals as goal
 abbrev Bounded : Recording → ℕ → Option Excess → Option Breach → Type 0
 Bounded r f excess breach = LeastBreachBy r f (deciding (length r.past) excess) 0 (deliveries_in r.past) breach
 
-
 pub returns-in-None-None : goal.returns-in-None-None
 returns-in-None-None c = λ r f excess least.
     accepted r f (subst (λ x. Bounded r f x None) c.in-None-None.is-0 (subst (Bounded r f c.args.excess) c.in-None-None.is-1 least)) (subst (FirstExcess r f) c.in-None-None.is-0 excess)
