@@ -36,7 +36,7 @@ fn least_in_parts(
     let (mut least, mut from) = (None, 0);
     for done in 0..parts {
         let to = part_end(from, all, parts.saturating_sub(done));
-        let part = prepared.part(alloc, trace, from, to)?;
+        let mut part = prepared.part(alloc, trace, from, to)?;
         least = earlier(least, part.least());
         from = to;
     }
