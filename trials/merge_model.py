@@ -88,6 +88,19 @@ def no_constant(word):
     raise ValueError(word)
 
 
+def integer(word):
+    """`-0` is no unsigned integer."""
+    return -0.0 if word == "-0" else int(word)
+
+
+def finite(word):
+    """A number beyond the greatest float is no JSON value for the program."""
+    value = float(word)
+    if value in (float("inf"), float("-inf")):
+        raise ValueError(word)
+    return value
+
+
 def read(text):
     """The header's number of processes and the events, in the order of the input."""
     n, header, headed, events, torn, count, end = None, None, set(), [], [], 0, 0
@@ -98,7 +111,7 @@ def read(text):
         if not line.strip(b" \t\r"):
             continue
         try:
-            value = json.loads(line.decode("utf-8"), parse_constant=no_constant)
+            value = json.loads(line.decode("utf-8"), parse_constant=no_constant, parse_int=integer, parse_float=finite)
         except (ValueError, RecursionError):
             if is_torn(line):
                 torn.append(count)

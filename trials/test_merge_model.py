@@ -31,6 +31,8 @@ ROWS = [
     ([A, '["send",0,1,1,0]["send"', B], (2, "Syntax")),
     ([A, '["sent",0,1,1,0]'], (2, "Form")),
     ([A, '["send",0,1,256,0]'], (2, "Form")),
+    ([A, '["crash",-0,1]'], (2, "Form")),
+    ([A, '["crash",1e999,1]'], (2, "Syntax")),
     (['["recording",0,2,2,7]'], (1, "Version")),
     (['["recording",0,1,257,7]'], (1, "Processes")),
     ([A, '["recording",1,1,2,8]'], (2, "Header")),
