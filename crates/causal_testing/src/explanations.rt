@@ -6,7 +6,7 @@ ghost use Rattle.causal_audit.specs.declared.verdict.Verdict.{Verdict};
 mod plain;
 
 use crate::random_walks::{Walk, trace_of};
-use causal_audit::{Breach, Tables, Verdict, first_breach, verdict_of};
+use causal_audit::{Breach, Verdict, verdict_of};
 use causal_explain::{Down, Explanation, Holding, Loss, down_since, explain, shortest_chain};
 use causal_holders::Holders;
 use causal_name::{Det, NoMemory};
@@ -246,41 +246,6 @@ fn verdicts_explained(
     Ok(())
 }
 
-/// Explains how the delivery of number i first has an orphan, if it has one.
-fn breach_explained(
-    alloc: Global,
-    trace: &Trace,
-    tables: &Tables,
-    f: u16,
-    i: u32,
-    counts: &mut Counts,
-) -> Result<(), NoMemory>
-    requires { tables.now ≡ trace.now.recording }
-{
-    if i >= tables.deliveries() {
-        return Ok(());
-    }
-    let Some(breach) = first_breach(tables, f, i) else {
-        return Ok(());
-    };
-    let told = explain(alloc, trace, &breach)?;
-    compare(alloc, trace, &told, breach, counts)
-}
-
-/// Explains how each delivery of a trace first has an orphan.
-fn breaches_explained(
-    alloc: Global,
-    trace: &Trace,
-    f: u16,
-    counts: &mut Counts,
-) -> Result<(), NoMemory> {
-    let tables = Tables::of(alloc, trace)?;
-    for i in 0..tables.deliveries() {
-        breach_explained(alloc, trace, &tables, f, i, counts)?;
-    }
-    Ok(())
-}
-
 /// How many chains there are between events and processes, and between how many there is none, and how many answers are wrong.
 #[derive(Clone, Copy)]
 struct Chains {
@@ -342,19 +307,6 @@ fn verdicts_of(alloc: Global, sample: Sample, most: u16) -> Result<Counts, Trace
     Ok(counts)
 }
 
-/// Explains how each delivery of these traces first has an orphan.
-fn breaches_of(alloc: Global, sample: Sample, f: u16) -> Result<Counts, TraceFault> {
-    let mut walk = Walk::new(sample.seed, sample.first);
-    let mut counts = NONE;
-    for _ in 0..sample.traces {
-        let trace = trace_of(alloc, &mut walk, sample.n, sample.tries)?;
-        if breaches_explained(alloc, &trace, f, &mut counts).is_err() {
-            return Err(TraceFault::NoMemory);
-        }
-    }
-    Ok(counts)
-}
-
 /// Tells the chains of these traces.
 fn chains_of(alloc: Global, sample: Sample) -> Result<Chains, TraceFault> {
     let mut walk = Walk::new(sample.seed, sample.first);
@@ -391,23 +343,6 @@ fn each_verdict_is_explained(rt: HostRuntime) -> Result<(), Fail> {
         assert_eq!(rt; counts.wrong, 0, "with {n} processes");
         assert!(rt; are_varied(counts), "with {n} processes");
         assert!(rt; counts.exceeded > 100, "with {n} processes");
-    }
-    Ok(())
-}
-
-#[test]
-fn each_breach_is_explained(rt: HostRuntime) -> Result<(), Fail> {
-    for (n, seed, f) in [(2, 23, 1), (3, 99, 1), (4, 1_234, 2), (4, 8, 3)] {
-        let sample = Sample {
-            seed,
-            first: 0,
-            n,
-            traces: 40,
-            tries: 120,
-        };
-        let counts = breaches_of(rt.alloc(), sample, f)?;
-        assert_eq!(rt; counts.wrong, 0, "with {n} processes");
-        assert!(rt; are_varied(counts), "with {n} processes");
     }
     Ok(())
 }

@@ -36,6 +36,9 @@ fn least_in_parts(
     let (mut least, mut from) = (None, 0);
     for done in 0..parts {
         let to = part_end(from, all, parts.saturating_sub(done));
+        if from > to || to > prepared.followed() {
+            return Ok(None);
+        }
         let mut part = prepared.part(alloc, trace, from, to)?;
         least = earlier(least, part.least());
         from = to;
