@@ -1,8 +1,9 @@
 #!/usr/bin/env python3
 """Checks that the answers in examples/README.md and docs/FORMAT.md are those of the traces and scripts that stand here, by the plain
 models of the auditor and of the runtime (trials/traces.py, trials/scripts.py): each row of the table, and both answers to the worked
-recording, of which the second is to one list that is forged. With --program the program has to give those of the table too. Of the
-picture that stands here it checks what follows from the layout of pictures.
+recording, of which the second is to one list that is forged. The explanations that stand here have to tell what the plain model of
+explanations tells (trials/reasons.py). With --program the program has to give all of these too. Of the picture that stands here it
+checks what follows from the layout of pictures.
 
     examples/check.py [--program crates/causal_tool/out/causal_tool]
 """
@@ -17,6 +18,7 @@ import xml.etree.ElementTree
 HERE = os.path.dirname(os.path.abspath(__file__))
 TOP = os.path.dirname(HERE)
 sys.path.insert(0, os.path.join(TOP, "trials"))
+import reasons  # noqa: E402
 import scripts  # noqa: E402
 import traces  # noqa: E402
 
@@ -92,7 +94,25 @@ def wrong_in_the_format():
 SHOWN = {
     "orphan.svg": ("draw", "orphan.jsonl", 1),
     "orphan.txt": ("explain", "orphan.jsonl", 1),
+    "gap.txt": ("explain", "gap.jsonl", 3),
+    "gathered.txt": ("explain", "gathered.jsonl", 1),
+    "forgotten.txt": ("explain", "forgotten.jsonl", 1),
+    "crashes.txt": ("explain", "crashes.jsonl", 1),
 }
+
+
+def wrong_reasons():
+    """Tells each explanation that stands here and whose words are not those of the plain model, and gives how many there are and how
+    many are wrong. Sentences, from the colon on, are not compared."""
+    told = {shown: (trace, f) for shown, (word, trace, f) in SHOWN.items() if word == "explain"}
+    wrong = 0
+    for shown, (trace, f) in told.items():
+        verdict, *facts = bytes_of(shown).decode().splitlines()
+        if [verdict, *(fact.split(": ")[0] for fact in facts)] != reasons.told(bytes_of(trace), f):
+            wrong += 1
+            print(f"{shown} does not tell what the model tells of {trace} for {f}")
+    return len(told), wrong
+
 
 # Where things stand in the picture, by the layout (crates/causal_picture/specs/Layout.antt): the first process at 64 and each 40 below
 # the one before it, from 80 to 230, and its shade from edge to edge; the first entry at 110 and each 30 to the right of the one before
@@ -188,8 +208,9 @@ def main():
     if unmet:
         wrong += len(unmet)
         print(f"no row for {', '.join(sorted(unmet))}")
-    answers, mistaken = wrong_in_the_format()
-    count, wrong = count + answers, wrong + mistaken + wrong_in_the_picture()
+    for answers, mistaken in (wrong_in_the_format(), wrong_reasons()):
+        count, wrong = count + answers, wrong + mistaken
+    wrong += wrong_in_the_picture()
     for shown, (word, trace, f) in SHOWN.items() if program else ():
         count += 1
         if shown_by(program, word, trace, f) != bytes_of(shown):

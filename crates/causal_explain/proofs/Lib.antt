@@ -1,7 +1,10 @@
+mod CauseLemmas
 mod ChainLemmas
 mod ClosestLemmas
 mod ComingLemmas
 mod EachLemmas
+mod LackingLemmas
+mod LossLemmas
 mod OrphanLemmas
 mod SinceLemmas
 mod StandingLemmas

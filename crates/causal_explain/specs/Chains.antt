@@ -1,5 +1,5 @@
 -- Over which events an orphan comes to depend on a delivery.
-use Rattle.std.specs.Prelude.{◌≡◌, ℕ, ◌≤◌, Bool, not, false, List, ◌∷◌, length, Option, MatchOption}
+use Rattle.std.specs.Prelude.{◌≡◌, ℕ, ◌+◌, ◌≤◌, Bool, not, false, List, ◌∷◌, length, Option, MatchOption}
 use Rattle.std.specs.List.{find}
 use Rattle.std.specs.Option.{option_map_or}
 use Rattle.causal_name.specs.declared.Det.{Det}
@@ -7,7 +7,7 @@ use Rattle.causal_trace.specs.declared.entry.Entry.{Entry}
 use Rattle.causal_trace.specs.declared.entry.Entry.TheVariants.{Deliver}
 use Rattle.causal_trace.specs.Agree.{IsPath}
 use Rattle.causal_trace.specs.Dependence.{IsEventOf}
-use Rattle.causal_trace.specs.Past.{entry_at, has, lane}
+use Rattle.causal_trace.specs.Past.{instant, entry_at, lane, logs}
 
 -- these positions lead from the event i to an event of p's present lane, and each directly precedes the next
 pub record LeadsTo (past : List Entry) (i p : ℕ) (chain : List ℕ) : Type 0 where
@@ -27,11 +27,15 @@ pub record IsShortestChain (past : List Entry) (i p : ℕ) (chain : List ℕ) : 
 abbrev pub ShortestChain : List Entry → ℕ → ℕ → Option (List ℕ) → Type 0
 ShortestChain past i p found = MatchOption found ((chain : List ℕ) → LeadsTo past i p chain → ⊥) (IsShortestChain past i p)
 
--- whether an entry is a delivery that does not list d
-abbrev pub is_unlisting : Det → Entry → Bool
-is_unlisting d (Deliver to send rsn listed) = not (has listed d)
-is_unlisting d _ = false
+-- whether an entry is a delivery whose receiver's volatile log lacks d at this state
+abbrev pub is_lacking : List Entry → Det → Entry → Bool
+is_lacking past d (Deliver to send rsn listed) = not (logs past to.0 d)
+is_lacking past d _ = false
 
--- the first of these positions with a delivery that does not list d
-abbrev pub first_unlisted : List Entry → Det → List ℕ → Option ℕ
-first_unlisted past d = find (λ k. option_map_or (is_unlisting d) (entry_at past k) false)
+-- whether the entry at position k is a delivery after which its receiver's volatile log lacks d
+abbrev pub lacks_after : List Entry → Det → ℕ → Bool
+lacks_after past d k = option_map_or (is_lacking (instant past (k + 1)) d) (entry_at past k) false
+
+-- the first of these positions with such a delivery
+abbrev pub first_lacking : List Entry → Det → List ℕ → Option ℕ
+first_lacking past d = find (lacks_after past d)

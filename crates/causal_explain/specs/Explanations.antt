@@ -5,7 +5,7 @@ use Rattle.causal_trace.specs.Past as past
 use Rattle.causal_trace.specs.Rows.{Recording}
 use Rattle.causal_audit.specs.declared.breach.Breach.{Breach}
 use Rattle.causal_explain.specs.declared.explanation.Explanation.{Explanation}
-use Rattle.causal_explain.specs.Chains.{IsShortestChain, first_unlisted}
+use Rattle.causal_explain.specs.Chains.{IsShortestChain, first_lacking}
 use Rattle.causal_explain.specs.Since.{AreDown, AreHoldings, AreLosses}
 
 -- what it says is so at the breach's instant: the breach is that, the determinant is the delivery's and is not stable, who
@@ -21,4 +21,4 @@ pub record IsExplanation (r : Recording) (b : Breach) (x : Explanation) : Type 0
   pub losses : AreLosses r.processes (past.instant r.past b.instant) x.det x.losses.items
   pub down : AreDown r.processes (past.instant r.past b.instant) x.down.items
   pub chain : IsShortestChain (past.instant r.past b.instant) b.delivery b.orphan x.chain.items
-  pub unlisted : x.unlisted ≡ first_unlisted r.past x.det x.chain.items
+  pub unlisted : x.unlisted ≡ first_lacking (past.instant r.past b.instant) x.det x.chain.items

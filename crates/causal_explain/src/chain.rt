@@ -1,13 +1,11 @@
 //! Over which events one comes to a process.
-ghost use Rattle.std.specs.Prelude.{◌≡◌, ◌≤◌, false, IfOk, length};
-ghost use Rattle.std.specs.Option.{option_map, option_map_or};
-ghost use Rattle.causal_trace.specs.Past.{entry_at, instant};
-ghost use Rattle.causal_explain.specs.Chains.{ShortestChain, first_unlisted, is_unlisting};
+ghost use Rattle.std.specs.Prelude.{◌≤◌, IfOk, length};
+ghost use Rattle.std.specs.Option.{option_map};
+ghost use Rattle.causal_trace.specs.Past.{instant};
+ghost use Rattle.causal_explain.specs.Chains.{ShortestChain};
 
-use crate::holdings::has;
 use crate::ways::{walk_to, ways_from};
-use causal_name::{Det, NoMemory};
-use causal_trace::entry::Entry;
+use causal_name::NoMemory;
 use causal_trace::trace::Trace;
 use std::alloc::Global;
 
@@ -35,24 +33,4 @@ pub fn shortest_chain(
         Some(nearest) => Ok(Some(walk_to(alloc, ways.each.as_slice(), nearest)?)),
         None => Ok(None),
     }
-}
-
-/// Whether the entry at a position is a delivery that does not list the determinant.
-fn is_unlisting(trace: &Trace, position: u32, det: Det) -> bool
-    ensures { result ≡ option_map_or (is_unlisting det) (entry_at trace.now.recording.past position) false }
-{
-    match trace.entry(position) {
-        Some(Entry::Deliver { listed, .. }) => !has(listed, det),
-        _ => false,
-    }
-}
-
-/// The first of these positions with a delivery that does not list the determinant.
-pub(crate) fn first_unlisted(trace: &Trace, chain: &[u32], det: Det) -> Option<u32>
-    ensures { result ≡ first_unlisted trace.now.recording.past det chain.now }
-{
-    chain
-        .iter()
-        .copied()
-        .find(|position| is_unlisting(trace, *position, det))
 }

@@ -5,10 +5,11 @@ ghost use Rattle.causal_trace.specs.Judgement.{IsOrphan};
 ghost use Rattle.causal_trace.specs.Past.{instant};
 ghost use Rattle.causal_explain.specs.Explanations.{IsExplanation};
 
-use crate::chain::{first_unlisted, shortest_chain};
+use crate::chain::shortest_chain;
 use crate::down::down_since;
 use crate::explanation::Explanation;
 use crate::holdings::held_at;
+use crate::lacking::first_lacking;
 use causal_audit::Breach;
 use causal_name::NoMemory;
 use causal_trace::trace::Trace;
@@ -34,7 +35,7 @@ pub fn explain(alloc: Global, trace: &Trace, breach: &Breach) -> Result<Explanat
     let down = down_since(alloc, trace, breach.instant)?;
     let found = shortest_chain(alloc, trace, breach.instant, breach.delivery, breach.orphan)?;
     let Some(chain) = found else { unreachable!() };
-    let unlisted = first_unlisted(trace, chain.as_slice(), det);
+    let unlisted = first_lacking(alloc, trace, breach.instant, chain.as_slice(), det)?;
     Ok(Explanation {
         delivery: breach.delivery,
         det,

@@ -11,12 +11,21 @@ pub struct Holding {
     pub since: u32,
 }
 
+/// By what a process's volatile log came to lack a determinant.
+#[derive(Clone, Copy, Debug, PartialEq, Eq)]
+pub enum LostBy {
+    Crash,
+    Forgetting,
+}
+
 /// A process whose volatile log had the determinant, and has it no longer.
 #[derive(Clone, Copy, Debug, PartialEq, Eq)]
 pub struct Loss {
     pub process: u8,
-    /// The position of the crash or forgetting by which it last lost it.
+    /// The position of the entry by which it last lost it.
     pub lost: u32,
+    /// What that entry is.
+    pub by: LostBy,
 }
 
 /// A process that is down.
@@ -48,6 +57,6 @@ pub struct Explanation {
     /// Positions of sends and deliveries, from the delivery to an event of the orphan's present lane, each of which directly
     /// precedes the next; no such list is shorter.
     pub chain: Vec<u32>,
-    /// The first delivery on the chain whose list lacks the determinant, if there is one.
+    /// The first delivery on the chain after which its receiver's log lacks the determinant, if there is one.
     pub unlisted: Option<u32>,
 }

@@ -1,13 +1,14 @@
 //! Whose volatile logs have a determinant at an instant and since when, and who lost it.
-ghost use Rattle.std.specs.Prelude.{◌≡◌, ◌≤◌, ℕ, List, IfOk, length, reverse};
+ghost use Rattle.std.specs.Prelude.{◌≡◌, ◌≤◌, ℕ, List, IfOk, Some, length, reverse, slice_get};
 ghost use Rattle.causal_name.specs.declared.Det.{Det};
 ghost use Rattle.causal_trace.specs.declared.entry.Entry.{Entry};
 ghost use Rattle.causal_trace.specs.Limits.{max_entries};
 ghost use Rattle.causal_trace.specs.Past.{has, instant, logs};
+ghost use Rattle.causal_explain.specs.Inside.Losing.{lost_by};
 ghost use Rattle.causal_explain.specs.Inside.Standings.{AreStandings, TellsChange};
 ghost use Rattle.causal_explain.specs.Since.{AreHoldings, AreLosses};
 
-use crate::explanation::{Holding, Loss};
+use crate::explanation::{Holding, Loss, LostBy};
 use crate::standing::{Change, Standing, note};
 use causal_name::{Det, NoMemory};
 use causal_trace::entry::{Dets, Entry};
@@ -22,14 +23,14 @@ pub struct Held {
 }
 
 /// Whether a list has the determinant.
-pub fn has(listed: &Dets, det: Det) -> bool
+fn has(listed: &Dets, det: Det) -> bool
     ensures { result ≡ has listed.now det }
 {
     listed.as_slice().iter().any(|other| det == *other)
 }
 
 /// What an entry changes of who has the determinant.
-fn transfer(entry: &Entry, det: Det) -> Change
+pub(crate) fn transfer(entry: &Entry, det: Det) -> Change
     ensures { TellsChange (λ p past. logs past p det) entry.now result }
 {
     match entry {
@@ -90,12 +91,37 @@ fn holdings_in(alloc: Global, standings: &[Standing]) -> Result<Vec<Holding>, No
     Ok(holdings)
 }
 
-/// Those that had it, and have it no longer.
-fn losses_in(alloc: Global, standings: &[Standing]) -> Result<Vec<Loss>, NoMemory>
+/// What an entry is, by which a log lost the determinant.
+fn kind_of(entry: &Entry) -> LostBy
+    ensures { result ≡ lost_by (Some entry.now) }
+{
+    if matches!(entry, Entry::Crash { .. }) {
+        LostBy::Crash
+    } else {
+        LostBy::Forgetting
+    }
+}
+
+/// What the entry at a position is.
+fn lost_by(entries: &[Entry], position: u32) -> LostBy
+    ensures { result ≡ lost_by (slice_get entries.now position) }
+{
+    match entries.get(position as usize) {
+        Some(entry) => kind_of(entry),
+        None => LostBy::Forgetting,
+    }
+}
+
+/// Those that had it after these entries, and have it no longer.
+fn losses_in(
+    alloc: Global,
+    entries: &[Entry],
+    standings: &[Standing],
+) -> Result<Vec<Loss>, NoMemory>
     requires { length standings.now ≤ 256 }
-    ensures { IfOk result (λ losses. (past : List Entry) (d : Det) →
-        AreStandings past (λ p state. logs state p d) standings.now →
-        AreLosses (length standings.now) past d losses.items) }
+    ensures { IfOk result (λ losses. (d : Det) →
+        AreStandings (reverse entries.now) (λ p state. logs state p d) standings.now →
+        AreLosses (length standings.now) (reverse entries.now) d losses.items) }
 {
     let mut losses = Vec::new(alloc);
     for (p, standing) in standings.iter().enumerate() {
@@ -103,6 +129,7 @@ fn losses_in(alloc: Global, standings: &[Standing]) -> Result<Vec<Loss>, NoMemor
             losses.push(Loss {
                 process: p as u8,
                 lost,
+                by: lost_by(entries, lost),
             })?;
         }
     }
@@ -117,9 +144,10 @@ pub fn held_at(alloc: Global, trace: &Trace, end: u32, det: Det) -> Result<Held,
     ensures losses { IfOk result (λ held. AreLosses trace.now.recording.processes
         (instant trace.now.recording.past end) det held.losses.items) }
 {
-    let transfers = transfers_in(&trace.entries()[..end as usize], det);
+    let entries = &trace.entries()[..end as usize];
+    let transfers = transfers_in(entries, det);
     let standings = &transfers[..trace.processes() as usize];
     let holders = holdings_in(alloc, standings)?;
-    let losses = losses_in(alloc, standings)?;
+    let losses = losses_in(alloc, entries, standings)?;
     Ok(Held { holders, losses })
 }

@@ -26,7 +26,7 @@ chain_text r chain = flat_map (λ position. chain_line position (event_at r posi
 unfoldable pub no_delivery_line : ℕ → List ℕ
 no_delivery_line line = codes "unlisted line=" ++ (decimal line ++ codes ": no delivery\n")
 
--- a delivery that does not list its own determinant
+-- a delivery after which its receiver's log lacks its own determinant
 unfoldable pub unlogged_line : ℕ → Event → List ℕ
 unlogged_line position (Delivery to send) =
     codes "unlisted line=" ++ (decimal (line_at position) ++ (codes " send=" ++ (decimal (line_at send)
@@ -45,9 +45,10 @@ unlisted_line position _ = no_delivery_line (line_at position)
 
 -- that no delivery lacks it
 unfoldable pub listed_line : List ℕ
-listed_line = codes "listed: each delivery of the chain lists the determinant\n"
+listed_line = codes "listed: after each delivery of the chain its receiver has the determinant in its log\n"
 
--- the first delivery of a chain that does not list the determinant of that at `delivery`; None where each does
+-- the first delivery of a chain after which its receiver's log lacks the determinant of that at `delivery`; None where after
+-- each it has it
 abbrev pub unlisted_text : Recording → ℕ → Option ℕ → List ℕ
 unlisted_text r delivery None = listed_line
 unlisted_text r delivery (Some position) =

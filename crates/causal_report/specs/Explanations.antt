@@ -5,11 +5,15 @@ use Rattle.std.specs.FinSet.{FinSet}
 use Rattle.causal_name.specs.declared.Det.{Det}
 use Rattle.causal_holders.specs.Members.{ascending}
 use Rattle.causal_trace.specs.Rows.{Recording}
+use Rattle.causal_explain.specs.declared.cause.Cause.{Cause}
 use Rattle.causal_explain.specs.declared.explanation.Explanation.{Explanation}
 use Rattle.causal_explain.specs.declared.explanation.Holding.{Holding}
 use Rattle.causal_explain.specs.declared.explanation.Loss.{Loss}
+use Rattle.causal_explain.specs.declared.explanation.LostBy.{LostBy}
+use Rattle.causal_explain.specs.declared.explanation.LostBy.TheVariants.{Crash, Forgetting}
 use Rattle.causal_report.specs.Places.{line_at, line_before}
-use Rattle.causal_report.specs.Excesses.{excess_text}
+use Rattle.causal_report.specs.Causes.{cause_line}
+use Rattle.causal_report.specs.Excesses.{downs_text}
 use Rattle.causal_report.specs.Chains.{chain_text, unlisted_text}
 
 -- the place of a delivery, and its determinant
@@ -52,12 +56,20 @@ abbrev pub holders_text : List Holding → List ℕ
 holders_text [] = no_holder_line
 holders_text (h ∷ hs) = flat_map holder_line (h ∷ hs)
 
+-- by its crash, or by forgetting it, a process lost it
+unfoldable pub loss_by : LostBy → ℕ → ℕ → List ℕ
+loss_by Crash process lost =
+    codes "loss process=" ++ (decimal process ++ (codes " line=" ++ (decimal (line_at lost)
+    ++ (codes " by=crash: process " ++ (decimal process ++ (codes " lost the determinant from its log at line "
+    ++ (decimal (line_at lost) ++ codes ", by its crash\n")))))))
+loss_by Forgetting process lost =
+    codes "loss process=" ++ (decimal process ++ (codes " line=" ++ (decimal (line_at lost)
+    ++ (codes " by=forget: process " ++ (decimal process ++ (codes " lost the determinant from its log at line "
+    ++ (decimal (line_at lost) ++ codes ", by forgetting it\n")))))))
+
 -- a process that held it, and the line at which it lost it
-unfoldable pub loss_line : Loss → List ℕ
-loss_line loss =
-    codes "loss process=" ++ (decimal loss.process ++ (codes " line=" ++ (decimal (line_at loss.lost)
-    ++ (codes ": process " ++ (decimal loss.process ++ (codes " lost the determinant from its log at line "
-    ++ (decimal (line_at loss.lost) ++ codes "\n")))))))
+abbrev pub loss_line : Loss → List ℕ
+loss_line loss = loss_by loss.by loss.process loss.lost
 
 -- a line for each of them
 abbrev pub losses_text : List Loss → List ℕ
@@ -79,10 +91,10 @@ orphan_line process =
     codes "orphan process=" ++ (decimal process ++ (codes ": process " ++ (decimal process
     ++ codes " depends on the delivery by this chain, and lacks its determinant\n")))
 
--- the delivery and its determinant, who has it and who lost it, who is down, the crash set, the chain from the delivery
--- to the orphan, what is missing on it, and the orphan
-abbrev pub explanation_text : Recording → Explanation → List ℕ
-explanation_text r e =
-    delivery_line e.delivery e.det ++ (unstable_line e.instant ++ (holders_text e.holders.items
-    ++ (losses_text e.losses.items ++ (excess_text e.down.items ++ (crash_text e.crash
-    ++ (chain_text r e.chain.items ++ (unlisted_text r e.delivery e.unlisted ++ orphan_line e.orphan)))))))
+-- the delivery and its determinant, by what the instant fails, who has the determinant and who lost it, who is down, the
+-- crash set, the chain from the delivery to the orphan, what is missing on it, and the orphan
+abbrev pub explanation_text : Recording → Explanation → Cause → List ℕ
+explanation_text r e cause =
+    delivery_line e.delivery e.det ++ (cause_line e.instant cause ++ (unstable_line e.instant ++ (holders_text e.holders.items
+    ++ (losses_text e.losses.items ++ (downs_text e.down.items ++ (crash_text e.crash
+    ++ (chain_text r e.chain.items ++ (unlisted_text r e.delivery e.unlisted ++ orphan_line e.orphan))))))))

@@ -2,6 +2,7 @@ pub mod Inside
 pub mod Places
 pub mod Events
 pub mod Excesses
+pub mod Causes
 pub mod Chains
 pub mod Closest
 pub mod Explanations

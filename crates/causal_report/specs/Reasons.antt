@@ -1,12 +1,14 @@
 -- Why a verdict on a recording is so, as text.
-use Rattle.std.specs.Prelude.{◌≡◌, ℕ, List}
+use Rattle.std.specs.Prelude.{◌≡◌, ℕ, List, Some}
 use Rattle.causal_trace.specs.Past.{instant}
 use Rattle.causal_trace.specs.Rows.{Recording}
 use Rattle.causal_audit.specs.declared.verdict.Verdict.{Verdict}
 use Rattle.causal_audit.specs.declared.verdict.Verdict.TheVariants.{Accept, Exceeded, Orphan}
+use Rattle.causal_explain.specs.declared.cause.Cause.{Cause}
 use Rattle.causal_explain.specs.declared.closest.Closest.{Closest}
 use Rattle.causal_explain.specs.declared.explanation.Down.{Down}
 use Rattle.causal_explain.specs.declared.explanation.Explanation.{Explanation}
+use Rattle.causal_explain.specs.Causes.{TellsCause}
 use Rattle.causal_explain.specs.Closest.{IsClosest}
 use Rattle.causal_explain.specs.Explanations.{IsExplanation}
 use Rattle.causal_explain.specs.Since.{AreDown}
@@ -14,12 +16,14 @@ use Rattle.causal_report.specs.Closest.{closest_text}
 use Rattle.causal_report.specs.Excesses.{excess_text}
 use Rattle.causal_report.specs.Explanations.{explanation_text}
 
--- of a safe trace which delivery comes closest to failing; of too many processes down who they are, each since its
--- crash; of a delivery with an orphan how it comes to have it
-abbrev pub IsReason : Recording → Verdict → List ℕ → Type 0
-IsReason r Accept text = (closest : Closest) × IsClosest r closest × (text ≡ closest_text closest)
-IsReason r (Exceeded t down) text =
-    (downs : List Down) × AreDown r.processes (instant r.past t) downs × (text ≡ excess_text downs)
-IsReason r (Orphan t k crash orphan) text =
-    (explanation : Explanation) × IsExplanation r (record { instant = t; delivery = k; crash = crash; orphan = orphan }) explanation
-    × (text ≡ explanation_text r explanation)
+-- of a safe trace which delivery comes closest to failing; of too many processes down the crash that was one too many, and
+-- who they are, each since its crash; of a delivery with an orphan by what entry and how it comes to have it
+abbrev pub IsReason : Recording → ℕ → Verdict → List ℕ → Type 0
+IsReason r f Accept text = (closest : Closest) × IsClosest r closest × (text ≡ closest_text closest)
+IsReason r f (Exceeded t down) text =
+    (cause : Cause) × TellsCause r f (Exceeded t down) (Some cause)
+    × ((downs : List Down) × AreDown r.processes (instant r.past t) downs × (text ≡ excess_text t cause downs))
+IsReason r f (Orphan t k crash orphan) text =
+    (cause : Cause) × TellsCause r f (Orphan t k crash orphan) (Some cause)
+    × ((explanation : Explanation) × IsExplanation r (record { instant = t; delivery = k; crash = crash; orphan = orphan }) explanation
+    × (text ≡ explanation_text r explanation cause))

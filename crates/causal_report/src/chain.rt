@@ -38,7 +38,7 @@ fn push_event(out: &mut String, position: u32, event: Event) -> Result<(), Alloc
     }
 }
 
-/// Adds the line that tells which delivery of a chain does not list the determinant of the one at `delivery`.
+/// Adds the line that tells after which delivery of a chain its receiver's log lacks the determinant of the one at `delivery`.
 pub(crate) fn push_unlisted(
     out: &mut String,
     trace: &Trace,
@@ -62,10 +62,12 @@ pub(crate) fn push_unlisted(
 fn push_listed(out: &mut String) -> Result<(), AllocError>
     ensures { OnOk result (Adds out.old out.new chains.listed_line) }
 {
-    out.push_str("listed: each delivery of the chain lists the determinant\n")
+    out.push_str(
+        "listed: after each delivery of the chain its receiver has the determinant in its log\n",
+    )
 }
 
-/// Adds the line of a delivery that does not list its own determinant.
+/// Adds the line of a delivery after which its receiver's log lacks its own determinant.
 fn push_unlogged(out: &mut String, position: u32, event: Event) -> Result<(), AllocError>
     ensures { OnOk result (Adds out.old out.new (chains.unlogged_line position event)) }
 {
@@ -83,7 +85,7 @@ fn push_unlogged(out: &mut String, position: u32, event: Event) -> Result<(), Al
     }
 }
 
-/// Adds the line of a delivery that does not list the determinant of another one.
+/// Adds the line of a delivery after which its receiver's log lacks the determinant of another one.
 fn push_unlisted_at(out: &mut String, position: u32, event: Event) -> Result<(), AllocError>
     ensures { OnOk result (Adds out.old out.new (chains.unlisted_line position event)) }
 {

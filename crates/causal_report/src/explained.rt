@@ -3,19 +3,20 @@ ghost use Rattle.std.specs.Prelude.{◌≡◌, OnOk, IfOk};
 ghost use Rattle.causal_report.specs.Inside.Added.{Adds};
 ghost use Rattle.causal_report.specs.Explanations as told;
 
+use crate::cause::push_cause;
 use crate::chain::{push_chain, push_unlisted};
 use crate::excess::push_downs;
 use crate::place::{line_at, line_before};
-use causal_explain::{Explanation, Holding, Loss};
+use causal_explain::{Cause, Explanation, Holding, Loss, LostBy};
 use causal_holders::Holders;
 use causal_name::{Det, NoMemory};
 use causal_trace::trace::Trace;
 use std::alloc::{AllocError, Global};
 
-/// What tells how a delivery comes to have an orphan, one fact a line, in this order: the delivery; that its determinant
-/// is not stable; who holds it, who lost it and who is down, each with the line of the entry that made it so; the crash set;
-/// the chain by which the orphan depends on the delivery; the first delivery on it that does not list the determinant; and
-/// the orphan.
+/// What tells how a delivery comes to have an orphan, one fact a line, in this order: the delivery; by what the instant fails;
+/// that the determinant is not stable; who holds it, who lost it and who is down, each with the line of the entry that made it so; the crash set;
+/// the chain by which the orphan depends on the delivery; the first delivery on it after which its receiver's log lacks the
+/// determinant; and the orphan.
 ///
 /// # Errors
 /// `NoMemory` where memory was refused.
@@ -23,11 +24,12 @@ pub fn explanation_text(
     alloc: Global,
     trace: &Trace,
     explanation: &Explanation,
+    cause: Cause,
 ) -> Result<Vec<u8>, NoMemory>
-    ensures { IfOk result (λ text. text.items ≡ told.explanation_text trace.now.recording explanation.now) }
+    ensures { IfOk result (λ text. text.items ≡ told.explanation_text trace.now.recording explanation.now cause) }
 {
     let mut out = String::new(alloc);
-    push_explanation(&mut out, trace, explanation)?;
+    push_explanation(&mut out, trace, explanation, cause)?;
     Ok(out.into_bytes())
 }
 
@@ -35,10 +37,12 @@ fn push_explanation(
     out: &mut String,
     trace: &Trace,
     explanation: &Explanation,
+    cause: Cause,
 ) -> Result<(), AllocError>
-    ensures { OnOk result (Adds out.old out.new (told.explanation_text trace.now.recording explanation.now)) }
+    ensures { OnOk result (Adds out.old out.new (told.explanation_text trace.now.recording explanation.now cause)) }
 {
     push_delivery(out, explanation.delivery, &explanation.det)?;
+    push_cause(out, explanation.instant, cause)?;
     push_unstable(out, explanation.instant)?;
     push_holders(out, explanation.holders.as_slice())?;
     push_losses(out, explanation.losses.as_slice())?;
@@ -129,10 +133,18 @@ fn push_loss(out: &mut String, loss: &Loss) -> Result<(), AllocError>
     ensures { OnOk result (Adds out.old out.new (told.loss_line loss.now)) }
 {
     let (process, line) = (loss.process, line_at(loss.lost));
-    write!(
-        out,
-        "loss process={process} line={line}: process {process} lost the determinant from its log at line {line}\n"
-    )
+    match loss.by {
+        LostBy::Crash => write!(
+            out,
+            "loss process={process} line={line} by=crash: \
+             process {process} lost the determinant from its log at line {line}, by its crash\n"
+        ),
+        LostBy::Forgetting => write!(
+            out,
+            "loss process={process} line={line} by=forget: \
+             process {process} lost the determinant from its log at line {line}, by forgetting it\n"
+        ),
+    }
 }
 
 fn push_crash(out: &mut String, crash: Holders) -> Result<(), AllocError>

@@ -5,6 +5,7 @@
 //! takes time and memory as its text is long.
 #![tactic(auto)]
 
+mod cause;
 mod chain;
 pub mod closest;
 pub mod drawing;

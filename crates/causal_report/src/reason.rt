@@ -7,14 +7,15 @@ use crate::closest::closest_text;
 use crate::excess::excess_text;
 use crate::explained::explanation_text;
 use causal_audit::Verdict;
-use causal_explain::{closest_failure, down_since, explain};
+use causal_explain::{cause_of, closest_failure, down_since, explain};
 use causal_name::NoMemory;
 use causal_trace::trace::Trace;
 use std::alloc::Global;
 
-/// What tells why the verdict on a trace for f is so: of more than f processes that are down each, with the line since
-/// which it is; of a delivery with an orphan how it comes to have it; of a trace that is accepted which delivery comes
-/// closest to failing, and so for which greater numbers of faults it would be accepted.
+/// What tells why the verdict on a trace for f is so: of more than f processes that are down the crash that was one too many,
+/// and each of them with the line since which it is; of a delivery with an orphan by what entry and how it comes to have it;
+/// of a trace that is accepted which delivery comes closest to failing, and so for which greater numbers of faults it would be
+/// accepted.
 ///
 /// # Errors
 /// `NoMemory` where memory was refused.
@@ -25,17 +26,20 @@ pub fn reason_text(
     verdict: Verdict,
 ) -> Result<Vec<u8>, NoMemory>
     requires { IsVerdict trace.now.recording f verdict }
-    ensures { IfOk result (λ text. IsReason trace.now.recording verdict text.items) }
+    ensures { IfOk result (λ text. IsReason trace.now.recording f verdict text.items) }
 {
+    let cause = cause_of(trace, &verdict);
     match verdict {
         Verdict::Exceeded { instant, .. } => {
+            let Some(cause) = cause else { unreachable!() };
             let down = down_since(alloc, trace, instant)?;
-            excess_text(alloc, down.as_slice())
+            excess_text(alloc, instant, cause, down.as_slice())
         }
         _ => match verdict.breach() {
             Some(breach) => {
+                let Some(cause) = cause else { unreachable!() };
                 let explanation = explain(alloc, trace, &breach)?;
-                explanation_text(alloc, trace, &explanation)
+                explanation_text(alloc, trace, &explanation, cause)
             }
             None => {
                 let closest = closest_failure(alloc, trace, f)?;

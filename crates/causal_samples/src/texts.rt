@@ -35,6 +35,22 @@ pub const PASSED_ON_BARE: &str = r#"["trace",1,3]
 ["end",4]
 "#;
 
+/// Process 1 delivers a message, and its determinant comes to 4 and from there to 2. A message of 1 to 2 leaves it out, which is
+/// right, since 2 holds it; one of 2 to 3 leaves it out too, so a crash of 1, 2 and 4 leaves 3 an orphan.
+pub const HELD_BEFORE: &str = r#"["trace",1,5]
+["send",0,1,0]
+["deliver",1,0,0,[[0,0,1,0]]]
+["send",1,4,0]
+["deliver",4,2,0,[[0,0,1,0],[1,0,4,0]]]
+["send",4,2,0]
+["deliver",2,4,0,[[0,0,1,0],[1,0,4,0],[4,0,2,0]]]
+["send",1,2,1]
+["deliver",2,6,1,[[1,1,2,1]]]
+["send",2,3,0]
+["deliver",3,8,0,[[1,0,4,0],[1,1,2,1],[2,0,3,0],[4,0,2,0]]]
+["end",10]
+"#;
+
 /// A message is passed on with the determinant of the first, so whoever depends on a delivery logs it.
 pub const PASSED_ON: &str = r#"["trace",1,3]
 ["send",0,1,0]
@@ -78,6 +94,19 @@ pub const RING_FORGETTING: &str = r#"["trace",2,3]
 ["deliver",0,4,0,[[1,0,2,0],[2,0,0,0]]]
 ["forget",1,[[0,0,1,0]]]
 ["end",7]
+"#;
+
+/// The ring, whose first receiver then crashes and restarts without the determinant of its delivery, though 2 holds it.
+pub const GATHERED_TOO_LITTLE: &str = r#"["trace",1,3]
+["send",0,1,0]
+["deliver",1,0,0,[[0,0,1,0]]]
+["send",1,2,0]
+["deliver",2,2,0,[[0,0,1,0],[1,0,2,0]]]
+["send",2,0,0]
+["deliver",0,4,0,[[1,0,2,0],[2,0,0,0]]]
+["crash",1]
+["restart",1,[[1,0,2,0],[2,0,0,0]]]
+["end",8]
 "#;
 
 /// The ring, whose second receiver then crashes, restarts with what the others know of it, and delivers and sends again what it

@@ -7,18 +7,23 @@ mod plain;
 
 use crate::random_walks::{Walk, trace_of};
 use causal_audit::{Breach, Verdict, verdict_of};
-use causal_explain::{Down, Explanation, Holding, Loss, down_since, explain, shortest_chain};
+use causal_explain::{
+    Cause, Down, Explanation, Holding, Loss, LostBy, cause_of, down_since, explain, shortest_chain,
+};
 use causal_holders::Holders;
 use causal_name::{Det, NoMemory};
 use causal_trace::entry::Entry;
 use causal_trace::fault::TraceFault;
 use causal_trace::trace::Trace;
-use plain::{Question, Way, answered, det_at, fewest, first_lacking, is_stable, lanes_of, leads};
+use plain::{
+    Question, Way, answered, det_at, fewest, first_lacking, has, holds, is_stable, lanes_of, leads,
+};
 use std::alloc::Global;
 use std::test::Fail;
 
 /// How many orphans were explained, how often too many were down, and how much of what is told is wrong; how many chains have
-/// more than two events, how often a process lost a determinant, and how often each delivery of the chain lists it.
+/// more than two events, how often a process lost a determinant, and how often each delivery of the chain leaves it in its
+/// receiver's log; how many verdicts came of a restart, and how many of a forgetting.
 #[derive(Clone, Copy)]
 struct Counts {
     explained: u32,
@@ -27,6 +32,8 @@ struct Counts {
     long: u32,
     lost: u32,
     listed: u32,
+    restarted: u32,
+    forgotten: u32,
 }
 
 const NONE: Counts = Counts {
@@ -36,6 +43,8 @@ const NONE: Counts = Counts {
     long: 0,
     lost: 0,
     listed: 0,
+    restarted: 0,
+    forgotten: 0,
 };
 
 fn are_holders(told: &[Holding], plain: &[(u8, u32)]) -> bool {
@@ -46,10 +55,19 @@ fn are_holders(told: &[Holding], plain: &[(u8, u32)]) -> bool {
     same
 }
 
-fn are_losses(told: &[Loss], plain: &[(u8, u32)]) -> bool {
+/// Whether what is told of how a log lost the determinant is what the entry there does.
+fn is_lost_by(entries: &[Entry], told: &Loss) -> bool {
+    match entries.get(told.lost as usize) {
+        Some(Entry::Crash { who }) => who.0 == told.process && told.by == LostBy::Crash,
+        Some(Entry::Forget { who, .. }) => who.0 == told.process && told.by == LostBy::Forgetting,
+        _ => false,
+    }
+}
+
+fn are_losses(entries: &[Entry], told: &[Loss], plain: &[(u8, u32)]) -> bool {
     let mut same = told.len() == plain.len();
     for (one, other) in told.iter().zip(plain) {
-        same = same && (one.process, one.lost) == *other;
+        same = same && (one.process, one.lost) == *other && is_lost_by(entries, one);
     }
     same
 }
@@ -74,7 +92,7 @@ fn tells_logs(
     let losses = answered(alloc, question, entries, n, false)?;
     Ok(
         are_holders(told.holders.as_slice(), holders.as_slice())
-            && are_losses(told.losses.as_slice(), losses.as_slice()),
+            && are_losses(entries, told.losses.as_slice(), losses.as_slice()),
     )
 }
 
@@ -181,12 +199,60 @@ pub(crate) fn verdict_on(alloc: Global, trace: &Trace, f: u16) -> Result<Verdict
     verdict_of(alloc, trace, f)
 }
 
+/// Whether the cause of an orphan is what the last of these entries does, and that could make it one.
+fn is_cause(entries: &[Entry], told: &Explanation, cause: Cause) -> bool {
+    let Some((last, before)) = entries.split_last() else {
+        return false;
+    };
+    let (lacks, held) = (
+        !holds(entries, told.orphan, told.det),
+        !told.holders.is_empty(),
+    );
+    match (last, cause) {
+        (
+            Entry::Deliver { to, send, .. },
+            Cause::Delivery {
+                process,
+                send: sent,
+            },
+        ) => { to.0 == process && *send == sent && told.orphan == process && lacks }
+        (Entry::Restart { who, listed }, Cause::Restart { process }) => {
+            who.0 == process && !has(listed, told.det) && held
+        }
+        (Entry::Forget { who, listed }, Cause::Forgetting { process }) => {
+            who.0 == process && has(listed, told.det) && holds(before, process, told.det)
+        }
+        _ => false,
+    }
+}
+
+/// Counts by what an orphan came about.
+fn count_cause(counts: &mut Counts, right: bool, cause: Cause) {
+    counts.wrong = counts.wrong.saturating_add(u32::from(!right));
+    match cause {
+        Cause::Restart { .. } => counts.restarted = counts.restarted.saturating_add(1),
+        Cause::Forgetting { .. } => counts.forgotten = counts.forgotten.saturating_add(1),
+        Cause::Delivery { .. } | Cause::Crash { .. } => {}
+    }
+}
+
+/// Whether the cause of too many that are down is the last of these entries, a crash of one of them.
+fn is_one_too_many(entries: &[Entry], down: Holders, cause: Option<Cause>) -> bool {
+    match (entries.last(), cause) {
+        (Some(Entry::Crash { who }), Some(Cause::Crash { process })) => {
+            who.0 == process && down.contains(process)
+        }
+        _ => false,
+    }
+}
+
 /// Tells who is down at an instant, and compares it with these and with what the plain programs say.
 fn down_explained(
     alloc: Global,
     trace: &Trace,
     instant: u32,
     down: Holders,
+    cause: Option<Cause>,
     counts: &mut Counts,
 ) -> Result<(), NoMemory>
     requires { instant ≤ length trace.now.recording.past }
@@ -194,6 +260,7 @@ fn down_explained(
     let told = down_since(alloc, trace, instant)?;
     let entries = trace.entries().get(..instant as usize).unwrap_or(&[]);
     let right = least_crash_set(&[], told.as_slice()) == down
+        && is_one_too_many(entries, down, cause)
         && tells_down(alloc, entries, trace.processes(), told.as_slice())?;
     counts.exceeded = counts.exceeded.saturating_add(1);
     counts.wrong = counts.wrong.saturating_add(u32::from(!right));
@@ -205,12 +272,18 @@ fn orphan_explained(
     alloc: Global,
     trace: &Trace,
     breach: Breach,
+    cause: Option<Cause>,
     counts: &mut Counts,
 ) -> Result<(), NoMemory>
     requires { (f : ℕ) × IsVerdict trace.now.recording f
         (Verdict.Orphan breach.instant breach.delivery breach.crash breach.orphan) }
 {
     let told = explain(alloc, trace, &breach)?;
+    let entries = trace.entries().get(..told.instant as usize).unwrap_or(&[]);
+    match cause {
+        Some(cause) => count_cause(counts, is_cause(entries, &told, cause), cause),
+        None => counts.wrong = counts.wrong.saturating_add(1),
+    }
     compare(alloc, trace, &told, breach, counts)
 }
 
@@ -223,10 +296,13 @@ fn verdict_explained(
 ) -> Result<(), NoMemory>
     requires { (f : ℕ) × IsVerdict trace.now.recording f verdict }
 {
+    let cause = cause_of(trace, &verdict);
     match verdict {
-        Verdict::Exceeded { instant, down } => down_explained(alloc, trace, instant, down, counts),
+        Verdict::Exceeded { instant, down } => {
+            down_explained(alloc, trace, instant, down, cause, counts)
+        }
         _ => match verdict.breach() {
-            Some(breach) => orphan_explained(alloc, trace, breach, counts),
+            Some(breach) => orphan_explained(alloc, trace, breach, cause, counts),
             None => Ok(()),
         },
     }

@@ -18,13 +18,14 @@ struct Reason {
     out: &'static str,
 }
 
-const REASONS: [Reason; 9] = [
+const REASONS: [Reason; 11] = [
     Reason {
         name: "a message passed on without its past",
         text: texts::PASSED_ON_BARE,
         f: 1,
         out: r#"orphan f=1 instant=4 delivery=1 crash=1 orphan=2
 delivery line=3 process=1 source=0 ssn=0 rsn=0: process 1 delivers message 0 of process 0, as its delivery 0
+cause line=5 process=2 by=deliver: process 2 delivers what line 4 sends, so it depends on the delivery, and its log lacks the determinant
 unstable line=5: up to line 5 nothing writes its determinant to stable storage
 holder process=1 line=3: process 1 has the determinant in its log since line 3
 crash process=1: process 1 is in the crash set, under which nobody has the determinant
@@ -41,6 +42,7 @@ orphan process=2: process 2 depends on the delivery by this chain, and lacks its
         f: 0,
         out: r#"orphan f=0 instant=2 delivery=1 crash=- orphan=1
 delivery line=3 process=1 source=0 ssn=0 rsn=0: process 1 delivers message 0 of process 0, as its delivery 0
+cause line=3 process=1 by=deliver: process 1 delivers what line 2 sends, so it depends on the delivery, and its log lacks the determinant
 unstable line=3: up to line 3 nothing writes its determinant to stable storage
 holder process=-: no process has the determinant in its log
 chain line=3 process=1: process 1 delivers what line 2 sends
@@ -59,12 +61,56 @@ orphan process=1: process 1 depends on the delivery by this chain, and lacks its
         f: 0,
         out: r#"orphan f=0 instant=3 delivery=1 crash=- orphan=1
 delivery line=3 process=1 source=0 ssn=0 rsn=0: process 1 delivers message 0 of process 0, as its delivery 0
+cause line=4 process=1 by=forget: process 1 forgets the determinant, which is not in stable storage
 unstable line=4: up to line 4 nothing writes its determinant to stable storage
 holder process=-: no process has the determinant in its log
-loss process=1 line=4: process 1 lost the determinant from its log at line 4
+loss process=1 line=4 by=forget: process 1 lost the determinant from its log at line 4, by forgetting it
 chain line=3 process=1: process 1 delivers what line 2 sends
-listed: each delivery of the chain lists the determinant
+listed: after each delivery of the chain its receiver has the determinant in its log
 orphan process=1: process 1 depends on the delivery by this chain, and lacks its determinant
+"#,
+    },
+    Reason {
+        name: "a message that leaves out what its receiver holds, and one that leaves it out for a receiver that does not",
+        text: texts::HELD_BEFORE,
+        f: 3,
+        out: r#"orphan f=3 instant=10 delivery=1 crash=1,2,4 orphan=3
+delivery line=3 process=1 source=0 ssn=0 rsn=0: process 1 delivers message 0 of process 0, as its delivery 0
+cause line=11 process=3 by=deliver: process 3 delivers what line 10 sends, so it depends on the delivery, and its log lacks the determinant
+unstable line=11: up to line 11 nothing writes its determinant to stable storage
+holder process=1 line=3: process 1 has the determinant in its log since line 3
+holder process=2 line=7: process 2 has the determinant in its log since line 7
+holder process=4 line=5: process 4 has the determinant in its log since line 5
+crash process=1: process 1 is in the crash set, under which nobody has the determinant
+crash process=2: process 2 is in the crash set, under which nobody has the determinant
+crash process=4: process 4 is in the crash set, under which nobody has the determinant
+chain line=3 process=1: process 1 delivers what line 2 sends
+chain line=8 process=1: process 1 sends message 1 to process 2
+chain line=9 process=2: process 2 delivers what line 8 sends
+chain line=10 process=2: process 2 sends message 0 to process 3
+chain line=11 process=3: process 3 delivers what line 10 sends
+unlisted line=11 send=10 process=3: the message that line 10 sends comes to process 3 without the determinant
+orphan process=3: process 3 depends on the delivery by this chain, and lacks its determinant
+"#,
+    },
+    Reason {
+        name: "a restart that leaves out what another process holds",
+        text: texts::GATHERED_TOO_LITTLE,
+        f: 1,
+        out: r#"orphan f=1 instant=8 delivery=1 crash=2 orphan=0
+delivery line=3 process=1 source=0 ssn=0 rsn=0: process 1 delivers message 0 of process 0, as its delivery 0
+cause line=9 process=1 by=restart: process 1 restarts, and does not list the determinant, which is in the log of another
+unstable line=9: up to line 9 nothing writes its determinant to stable storage
+holder process=2 line=5: process 2 has the determinant in its log since line 5
+loss process=1 line=8 by=crash: process 1 lost the determinant from its log at line 8, by its crash
+crash process=2: process 2 is in the crash set, under which nobody has the determinant
+chain line=3 process=1: process 1 delivers what line 2 sends
+chain line=4 process=1: process 1 sends message 0 to process 2
+chain line=5 process=2: process 2 delivers what line 4 sends
+chain line=6 process=2: process 2 sends message 0 to process 0
+chain line=7 process=0: process 0 delivers what line 6 sends
+unlisted line=7 send=6 process=0: the message that line 6 sends comes to process 0 without the determinant
+orphan process=0: process 0 depends on the delivery by this chain, and lacks its determinant
 "#,
     },
     Reason {
@@ -78,6 +124,7 @@ orphan process=1: process 1 depends on the delivery by this chain, and lacks its
 "#,
         f: 1,
         out: r#"exceeded f=1 instant=4 down=1,2
+cause line=5 process=1 by=crash: process 1 crashes, and more are down than may be
 down process=1 line=5: process 1 is down since its crash at line 5
 down process=2 line=4: process 2 is down since its crash at line 4
 "#,

@@ -16,7 +16,7 @@ pub(crate) enum Question {
 }
 
 /// Whether a list has the determinant.
-fn has(listed: &Dets, det: Det) -> bool {
+pub(crate) fn has(listed: &Dets, det: Det) -> bool {
     listed.as_slice().iter().any(|other| *other == det)
 }
 
@@ -61,6 +61,11 @@ fn answer(question: Question, entries: &[Entry], p: u8) -> (bool, Option<u32>) {
         position = position.saturating_add(1);
     }
     (holds, turned)
+}
+
+/// Whether a process's log has the determinant after these entries.
+pub(crate) fn holds(entries: &[Entry], p: u8, det: Det) -> bool {
+    answer(Question::Logs(det), entries, p).0
 }
 
 /// Those of n processes for which the answer was once yes and is now this one, ascending, each with the entry since which.
@@ -113,10 +118,11 @@ pub(crate) fn is_stable(entries: &[Entry], wanted: Det) -> bool {
     false
 }
 
-/// Whether the entry at a position is a delivery whose list lacks the determinant.
+/// Whether the entry at a position is a delivery after which its receiver's log lacks the determinant.
 fn lacks(entries: &[Entry], position: u32, det: Det) -> bool {
-    match entries.get(position as usize) {
-        Some(Entry::Deliver { listed, .. }) => !has(listed, det),
+    let so_far = entries.get(..position as usize + 1).unwrap_or(&[]);
+    match so_far.last() {
+        Some(Entry::Deliver { to, .. }) => !holds(so_far, to.0, det),
         _ => false,
     }
 }

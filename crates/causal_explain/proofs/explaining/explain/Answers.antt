@@ -1,6 +1,6 @@
 use Rattle.std.proofs.Common.{◌≡◌, false, refl, ap, subst, sym, ◌∙◌, Some, None}
 use Rattle.causal_trace.specs.Past.{instant, det_at, is_stable}
-use Rattle.causal_explain.specs.Chains.{first_unlisted}
+use Rattle.causal_explain.specs.Chains.{first_lacking}
 use Rattle.causal_explain.proofs.OrphanLemmas.{delivered_in, depends_led}
 use Rattle.causal_explain.proofs.explaining.explain.Goals as goal
 
@@ -39,5 +39,5 @@ returns c =
       losses = c.in_ok-held.ensures.losses;
       down = c.in_ok-down.ensures;
       chain = rw c.in-Some-found.is at c.in_ok-found.ensures;
-      unlisted = c.first_unlisted-unlisted.ensures ∙ ap (λ xs. first_unlisted r.past d xs) c.as_slice.ensures.value;
+      unlisted = c.in_ok-unlisted.ensures ∙ ap (first_lacking (instant r.past b.instant) d) c.as_slice.ensures.value;
     }

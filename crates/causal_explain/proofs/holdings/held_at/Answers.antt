@@ -1,4 +1,4 @@
-use Rattle.std.proofs.Common.{◌≡◌, length, take, subst, arith}
+use Rattle.std.proofs.Common.{◌≡◌, length, reverse, take, subst, arith}
 use Rattle.std.proofs.lemmas.List.{length-take}
 use Rattle.causal_trace.specs.Past.{instant, logs}
 use Rattle.causal_explain.specs.Inside.Standings.{AreStandings}
@@ -24,7 +24,8 @@ returns-clause-losses c =
     let past = instant r.past c.args.end in
     let n = c.processes.result in
     let standings = c.transfers_in-transfers.result in
-    let stand : AreStandings past (λ p state. logs state p c.args.det) standings =
-    subst (λ x. AreStandings x (λ p state. logs state p c.args.det) standings) (first_entries r c.entries.result.now c.args.end c.entries.ensures.value c.requires) c.transfers_in-transfers.ensures in
     let count : length (take n standings) ≡ r.processes = omega (arith, length-take n standings, c.transfers_in-transfers.type_inv, c.processes.ensures.value, c.processes.ensures.formed.count) in
-    subst (λ m. AreLosses m past c.args.det c.in_ok-losses.losses.items) count (c.in_ok-losses.ensures past c.args.det (stand_first past (λ p state. logs state p c.args.det) standings n stand))
+    let told : AreLosses (length (take n standings)) (reverse (take c.args.end c.entries.result.now)) c.args.det c.in_ok-losses.losses.items =
+    c.in_ok-losses.ensures c.args.det (stand_first (reverse (take c.args.end c.entries.result.now)) (λ p state. logs state p c.args.det) standings n c.transfers_in-transfers.ensures) in
+    subst (λ m. AreLosses m past c.args.det c.in_ok-losses.losses.items) count
+    (subst (λ x. AreLosses (length (take n standings)) x c.args.det c.in_ok-losses.losses.items) (first_entries r c.entries.result.now c.args.end c.entries.ensures.value c.requires) told)

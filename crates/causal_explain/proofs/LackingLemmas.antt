@@ -1,0 +1,69 @@
+-- After which deliveries a log lacks a determinant, with one more entry.
+use Rattle.std.proofs.Common.{ℕ, ◌≡◌, ◌+◌, ◌<◌, ◌≤◌, inl, inr, Bool, true, false, List, [], ◌∷◌, ◌++◌, length, get_or, Option, Some, None, refl, sym, ap, ◌∙◌, arith}
+use Rattle.std.specs.Prelude.{◌==◌, not, MatchOption}
+use Rattle.std.specs.List.{find}
+use Rattle.std.specs.Option.{is_some, option_map_or}
+use Rattle.std.proofs.lemmas.Bool.{false≢true, cases_lt, cond-true, cond-false, eq-eqb, ne_eqb}
+use Rattle.std.proofs.lemmas.Bool.Decides.{eqb_tells}
+use Rattle.std.proofs.lemmas.List.{length-append, get_or_past}
+use Rattle.std.proofs.Math.ListN.{get_or-append}
+use Rattle.std.proofs.Math.Seq.{get_or-append_seam}
+use Rattle.causal_name.specs.declared.Det.{Det}
+use Rattle.causal_trace.specs.declared.entry.Entry.{Entry}
+use Rattle.causal_trace.specs.Past.{entry_at, instant}
+use Rattle.causal_trace.proofs.Lemmas.AtInstants.{instants_stay, one_more_instant}
+use Rattle.causal_trace.proofs.Lemmas.Instants.{entry_beyond}
+use Rattle.causal_explain.specs.Chains.{is_lacking, lacks_after, first_lacking}
+use Rattle.causal_explain.specs.Inside.Lacking.{AreLacking, first_in}
+use Rattle.causal_explain.specs.Since.{HoldsSince}
+use Rattle.causal_explain.proofs.SinceLemmas.{holds_now}
+
+module _ (e : Entry) (past : List Entry) (d : Det) where
+  -- what was so of an earlier position still is
+  lacks_still : (k : ℕ) → k < length past → lacks_after (e ∷ past) d k ≡ lacks_after past d k
+  lacks_still k below =
+      ap (λ s. option_map_or (is_lacking s d) (entry_at (e ∷ past) k) false) (instants_stay e past (k + 1) (omega (arith, below)))
+      ∙ ap (λ x. option_map_or (is_lacking (instant past (k + 1)) d) x false) (cond-false (k == length past) _ _ (ne_eqb k (length past) (λ is. omega (arith, below, is))))
+
+  -- of the newest position the newest state decides
+  lacks_newest : lacks_after (e ∷ past) d (length past) ≡ is_lacking (e ∷ past) d e
+  lacks_newest =
+      ap (λ s. option_map_or (is_lacking s d) (entry_at (e ∷ past) (length past)) false) (one_more_instant e past)
+      ∙ ap (λ x. option_map_or (is_lacking (e ∷ past) d) x false) (cond-true (length past == length past) _ _ (eq-eqb (length past) (length past) refl))
+
+  lacks_beyond : (k : ℕ) → length (e ∷ past) ≤ k → lacks_after (e ∷ past) d k ≡ false
+  lacks_beyond k above = ap (λ x. option_map_or (is_lacking (instant (e ∷ past) (k + 1)) d) x false) (entry_beyond (e ∷ past) k above)
+
+  -- one more mark
+  pub lacking_more : (marks : List Bool) (b : Bool) → AreLacking past d marks → b ≡ is_lacking (e ∷ past) d e → AreLacking (e ∷ past) d (marks ++ b ∷ [])
+  lacking_more marks b h is = record {
+    count = omega (arith, length-append marks (b ∷ []), h.count);
+    each = λ k. elim (eqb_tells k (length past)) [
+      | inl here ↦
+          ap (λ x. get_or (marks ++ b ∷ []) x false) (here.1 ∙ sym h.count) ∙ get_or-append_seam marks b [] false ∙ is
+          ∙ sym lacks_newest ∙ ap (lacks_after (e ∷ past) d) (sym here.1)
+      | inr apart ↦ elim (cases_lt k (length past)) [
+        | inl low ↦ get_or-append marks (b ∷ []) false k (omega (arith, low, h.count)) ∙ h.each k ∙ sym (lacks_still k low)
+        | inr high ↦
+            let ne : k ≡ length past → ⊥ = apart.1 in
+            get_or_past (marks ++ b ∷ []) k false (omega (arith, high, ne, h.count, length-append marks (b ∷ [])))
+            ∙ sym (lacks_beyond k (omega (arith, high, ne)))
+      ]
+    ];
+  }
+
+-- where it is told since when a test holds, if it does, none is told just where it does not
+pub lacks_told : (past : List Entry) (test : List Entry → Bool) (found : Option ℕ) (none : Bool) → MatchOption found (test past ≡ false) (HoldsSince past test)
+    → is_some found ≡ not none → none ≡ not (test past)
+lacks_told past test None true fails is = ap not (sym fails)
+lacks_told past test None false fails is = absurd (false≢true is)
+lacks_told past test (Some s) true since is = absurd (false≢true (sym is))
+lacks_told past test (Some s) false since is = ap not (sym (holds_now past test s since))
+
+-- the first marked position is the first with such a delivery
+pub first_marked : (past : List Entry) (d : Det) (marks : List Bool) (chain : List ℕ) → AreLacking past d marks → first_in marks chain ≡ first_lacking past d chain
+first_marked past d marks chain h = λ i. find (λ k. h.each k i) chain
+
+-- before the first entry
+pub lacking_none : (d : Det) → AreLacking [] d []
+lacking_none d = record { count = refl; each = λ k. refl }

@@ -1,0 +1,14 @@
+use Rattle.std.proofs.Common.{◌≡◌, length}
+use Rattle.causal_trace.specs.Past.{logs}
+use Rattle.causal_trace.specs.State.{past_at}
+use Rattle.causal_explain.specs.Inside.Lacking.{AreLacking}
+use Rattle.causal_explain.specs.Inside.Standings.{AreStandings}
+use Rattle.causal_explain.proofs.lacking.lacking_in.Given as goal
+
+-- after the entries so far
+abbrev pub invariant-loop-i : goal.invariant-loop-i
+invariant-loop-i l = record {
+  count : length l.standings ≡ 256;
+  stand : AreStandings (past_at l.entries l.i) (λ p past. logs past p l.fn.det) l.standings;
+  marked : AreLacking (past_at l.entries l.i) l.fn.det l.lacking.items;
+}

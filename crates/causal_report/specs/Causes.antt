@@ -1,0 +1,35 @@
+-- By what entry an instant fails, as text.
+use Rattle.std.specs.Prelude.{ℕ, List, ◌++◌, codes, decimal}
+use Rattle.causal_explain.specs.declared.cause.Cause.{Cause}
+use Rattle.causal_explain.specs.declared.cause.Cause.TheVariants.{Delivery, Restart, Forgetting, Crash}
+use Rattle.causal_report.specs.Places.{line_at, line_before}
+
+-- the last line before the instant, and whose entry it is
+unfoldable pub cause_place : ℕ → ℕ → List ℕ
+cause_place instant process =
+    codes "cause line=" ++ (decimal (line_before instant) ++ (codes " process=" ++ decimal process))
+
+-- what it does
+unfoldable pub cause_act : Cause → List ℕ
+cause_act (Delivery process send) =
+    codes " by=deliver: process " ++ (decimal process ++ (codes " delivers what line " ++ (decimal (line_at send)
+    ++ codes " sends, so it depends on the delivery, and its log lacks the determinant\n")))
+cause_act (Restart process) =
+    codes " by=restart: process " ++ (decimal process
+    ++ codes " restarts, and does not list the determinant, which is in the log of another\n")
+cause_act (Forgetting process) =
+    codes " by=forget: process " ++ (decimal process
+    ++ codes " forgets the determinant, which is not in stable storage\n")
+cause_act (Crash process) =
+    codes " by=crash: process " ++ (decimal process ++ codes " crashes, and more are down than may be\n")
+
+-- whose entry it is
+abbrev pub actor_of : Cause → ℕ
+actor_of (Delivery process send) = process
+actor_of (Restart process) = process
+actor_of (Forgetting process) = process
+actor_of (Crash process) = process
+
+-- the entry before the instant, by which it fails
+abbrev pub cause_line : ℕ → Cause → List ℕ
+cause_line instant cause = cause_place instant (actor_of cause) ++ cause_act cause

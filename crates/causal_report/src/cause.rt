@@ -1,0 +1,64 @@
+//! By what entry an instant fails, as text.
+ghost use Rattle.std.specs.Prelude.{◌≡◌, OnOk};
+ghost use Rattle.causal_report.specs.Inside.Added.{Adds};
+ghost use Rattle.causal_report.specs.Causes.{actor_of, cause_act, cause_line, cause_place};
+
+use crate::place::{line_at, line_before};
+use causal_explain::Cause;
+use std::alloc::AllocError;
+
+/// Adds the line of the entry before an instant, by which it fails.
+pub(crate) fn push_cause(out: &mut String, instant: u32, cause: Cause) -> Result<(), AllocError>
+    ensures { OnOk result (Adds out.old out.new (cause_line instant cause)) }
+{
+    push_place(out, instant, actor_of(cause))?;
+    push_act(out, cause)
+}
+
+/// Whose entry it is.
+fn actor_of(cause: Cause) -> u8
+    ensures { result ≡ actor_of cause }
+{
+    match cause {
+        Cause::Delivery { process, .. } => process,
+        Cause::Restart { process } => process,
+        Cause::Forgetting { process } => process,
+        Cause::Crash { process } => process,
+    }
+}
+
+fn push_place(out: &mut String, instant: u32, process: u8) -> Result<(), AllocError>
+    ensures { OnOk result (Adds out.old out.new (cause_place instant process)) }
+{
+    let line = line_before(instant);
+    write!(out, "cause line={line} process={process}")
+}
+
+/// Adds what the entry does.
+fn push_act(out: &mut String, cause: Cause) -> Result<(), AllocError>
+    ensures { OnOk result (Adds out.old out.new (cause_act cause)) }
+{
+    match cause {
+        Cause::Delivery { process, send } => {
+            let send = line_at(send);
+            write!(
+                out,
+                " by=deliver: process {process} delivers what line {send} sends, \
+                 so it depends on the delivery, and its log lacks the determinant\n"
+            )
+        }
+        Cause::Restart { process } => write!(
+            out,
+            " by=restart: process {process} restarts, \
+             and does not list the determinant, which is in the log of another\n"
+        ),
+        Cause::Forgetting { process } => write!(
+            out,
+            " by=forget: process {process} forgets the determinant, which is not in stable storage\n"
+        ),
+        Cause::Crash { process } => write!(
+            out,
+            " by=crash: process {process} crashes, and more are down than may be\n"
+        ),
+    }
+}
