@@ -4,12 +4,12 @@ ghost use Rattle.causal_audit.specs.Verdicts.{IsVerdict};
 
 use crate::explanations::verdict_on;
 use crate::many_orphans::replayed;
+use crate::plain::judge;
 use crate::random_walks::{Walk, push, sending, sent_at};
 use causal_audit::Verdict;
 use causal_explain::{Closest, closest_failure};
 use causal_holders::Holders;
 use causal_name::{Det, NoMemory, Pid};
-use causal_plain::judge;
 use causal_samples::{ascending, of_own};
 use causal_trace::entry::{Dets, Entry};
 use causal_trace::fault::TraceFault;

@@ -5,6 +5,7 @@ ghost use Rattle.causal_audit.specs.declared.verdict.Verdict.{Verdict};
 
 mod plain;
 
+use crate::plain::state::{det_at, has, is_stable, lanes_of, logs};
 use crate::random_walks::{Walk, trace_of};
 use causal_audit::{Breach, Verdict, verdict_of};
 use causal_explain::{
@@ -15,9 +16,7 @@ use causal_name::{Det, NoMemory};
 use causal_trace::entry::Entry;
 use causal_trace::fault::TraceFault;
 use causal_trace::trace::Trace;
-use plain::{
-    Question, Way, answered, det_at, fewest, first_lacking, has, holds, is_stable, lanes_of, leads,
-};
+use plain::{Question, Way, answered, fewest, first_lacking, leads};
 use std::alloc::Global;
 use std::test::Fail;
 
@@ -205,7 +204,7 @@ fn is_cause(entries: &[Entry], told: &Explanation, cause: Cause) -> bool {
         return false;
     };
     let (lacks, held) = (
-        !holds(entries, told.orphan, told.det),
+        !logs(entries, told.orphan, told.det),
         !told.holders.is_empty(),
     );
     match (last, cause) {
@@ -220,7 +219,7 @@ fn is_cause(entries: &[Entry], told: &Explanation, cause: Cause) -> bool {
             who.0 == process && !has(listed, told.det) && held
         }
         (Entry::Forget { who, listed }, Cause::Forgetting { process }) => {
-            who.0 == process && has(listed, told.det) && holds(before, process, told.det)
+            who.0 == process && has(listed, told.det) && logs(before, process, told.det)
         }
         _ => false,
     }

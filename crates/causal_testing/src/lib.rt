@@ -17,6 +17,8 @@ mod many_orphans;
 #[cfg(test)]
 mod pictures;
 #[cfg(test)]
+mod plain;
+#[cfg(test)]
 mod plain_audits;
 #[cfg(test)]
 mod raised;

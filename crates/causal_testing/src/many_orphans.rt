@@ -1,4 +1,5 @@
 //! Runs with many deliveries that have to be followed, so that several workers have some.
+use crate::plain;
 use crate::swept_runs::differing;
 use causal_audit::{Breach, Prepared, Verdict, decided, least_by};
 use causal_holders::Holders;
@@ -115,7 +116,7 @@ fn the_plain_program_finds_what_is_lacking(rt: HostRuntime) -> Result<(), Fail> 
     for lacking in 0..3 {
         let trace = passed_on(rt.alloc(), 3, lacking)?;
         assert_eq!(rt;
-            causal_plain::judge(rt.alloc(), &trace, 2)?,
+            plain::judge(rt.alloc(), &trace, 2)?,
             lacked(3, lacking)
         );
     }

@@ -1,7 +1,7 @@
 //! The plain judgement of traces of a few entries, with verdicts that were worked out by hand.
+use crate::plain::judge;
 use causal_audit::Verdict;
 use causal_holders::Holders;
-use causal_plain::judge;
 use causal_samples::{Line, RING, push_all, traced};
 use std::alloc::Global;
 use std::process::Abort;

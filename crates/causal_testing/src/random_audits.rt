@@ -1,5 +1,6 @@
 //! The audit and the plain program beside it give the same verdict on small random runs, for each f, however the deliveries that
 //! are followed are divided, and whatever numbers the processes have.
+use crate::plain;
 use crate::raised::{raised, raised_verdict};
 use crate::random_runs::{LIVELY, Manner, STEADY, run_of};
 use crate::random_walks::{Walk, trace_of};
@@ -129,7 +130,7 @@ fn differing_raised(
 fn plain_verdicts(alloc: Global, trace: &Trace, most: u16) -> Result<Vec<Verdict>, NoMemory> {
     let mut verdicts = Vec::new(alloc);
     for f in 0..=most {
-        verdicts.push(causal_plain::judge(alloc, trace, f)?)?;
+        verdicts.push(plain::judge(alloc, trace, f)?)?;
     }
     Ok(verdicts)
 }

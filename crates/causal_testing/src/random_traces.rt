@@ -1,6 +1,6 @@
 //! The trace and the plain program beside it answer the same to the same entries, half of them bad.
+use crate::plain::PlainTrace;
 use causal_name::{Det, MsgName, NoMemory, Pid};
-use causal_plain::PlainTrace;
 use causal_samples::{Numbers, ascending, of_own};
 use causal_trace::entry::{Dets, Entry};
 use causal_trace::fault::TraceFault;

@@ -1,5 +1,6 @@
 //! Runs in which very many deliveries share one determinant. Where several have a breach, the verdict names the one that comes
 //! first, whatever the number of workers.
+use crate::plain;
 use causal_audit::Verdict;
 use causal_holders::Holders;
 use causal_samples::{Fields, Line, push, traced};
@@ -205,7 +206,7 @@ pub(crate) fn differing<R: Threads + Wait>(
 /// Whether the plain program says for two of a small run with losses in this order what is worked out.
 fn is_plainly_lost(alloc: Global, order: &[Loss], first: Loss) -> Result<bool, Fail> {
     let trace = losing(alloc, 1, order)?;
-    Ok(causal_plain::judge(alloc, &trace, 2)? == lost(1, first))
+    Ok(plain::judge(alloc, &trace, 2)? == lost(1, first))
 }
 
 #[test]
@@ -220,7 +221,7 @@ fn the_plain_program_finds_these_losses_in_a_small_run(rt: HostRuntime) -> Resul
 fn before_these_losses_it_finds_none(rt: HostRuntime) -> Result<(), Fail> {
     let trace = losing(rt.alloc(), 1, &[])?;
     assert_eq!(rt;
-        causal_plain::judge(rt.alloc(), &trace, 2)?,
+        plain::judge(rt.alloc(), &trace, 2)?,
         Verdict::Accept
     );
     Ok(())
@@ -229,7 +230,7 @@ fn before_these_losses_it_finds_none(rt: HostRuntime) -> Result<(), Fail> {
 #[test]
 fn the_plain_program_finds_an_early_loss(rt: HostRuntime) -> Result<(), Fail> {
     let trace = losing_early(rt.alloc(), 1, 1)?;
-    assert_eq!(rt; causal_plain::judge(rt.alloc(), &trace, 2)?, first_lost(10));
+    assert_eq!(rt; plain::judge(rt.alloc(), &trace, 2)?, first_lost(10));
     Ok(())
 }
 

@@ -4,6 +4,9 @@
 //! [`run_and_tell`] of `run`. All go from any reader to any writer, and their clauses are what the program promises. What the words
 //! of the command line ask for is told by `causal_words`. `main` adds the standard streams and the exit status.
 #![tactic(auto)]
+ghost use Rattle.std.specs.Prelude.{◌≡◌};
+ghost use Rattle.std.specs.Process.{exit_status};
+ghost use Rattle.causal_commands.specs.Endings.{status_of};
 
 pub use causal_commands::audit_stream;
 use causal_commands::{Told, audit_and_tell, run_and_tell, show_and_tell};
@@ -16,7 +19,9 @@ use std::process::ExitCode;
 use std::rt::Env;
 
 /// Says on standard error what is wrong, where something is, and gives the status.
-fn told<F: Display + Drop>(rt: &HostRuntime, told: Told<F>) -> ExitCode {
+fn told<F: Display + Drop>(rt: &HostRuntime, told: Told<F>) -> ExitCode
+    ensures { exit_status result ≡ status_of told.ended }
+{
     match (told.ended.text(), told.fault) {
         (Some(text), _) => {
             let _ = rt.eprintln(text);

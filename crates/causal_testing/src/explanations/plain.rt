@@ -1,10 +1,8 @@
 //! What tells why a delivery has an orphan, straight from the definitions: each answer reads the entries over.
-use causal_name::{Det, NoMemory, Pid};
-use causal_trace::entry::{Dets, Entry};
+use crate::plain::state::{Lane, is_down_after, logs, logs_after, present_lane};
+use causal_name::{Det, NoMemory};
+use causal_trace::entry::Entry;
 use std::alloc::Global;
-
-/// A process, and how many restarts it has made: its lane.
-type Lane = (u8, u32);
 
 /// What may be asked of a process at an instant.
 #[derive(Clone, Copy)]
@@ -13,31 +11,6 @@ pub(crate) enum Question {
     Logs(Det),
     /// Whether it is down.
     IsDown,
-}
-
-/// Whether a list has the determinant.
-pub(crate) fn has(listed: &Dets, det: Det) -> bool {
-    listed.as_slice().iter().any(|other| *other == det)
-}
-
-/// Whether a process's log has the determinant after one more entry.
-fn logs_after(before: bool, entry: &Entry, p: u8, det: Det) -> bool {
-    match entry {
-        Entry::Deliver { to, listed, .. } => before || (to.0 == p && has(listed, det)),
-        Entry::Restart { who, listed } => before || (who.0 == p && has(listed, det)),
-        Entry::Forget { who, listed } => before && !(who.0 == p && has(listed, det)),
-        Entry::Crash { who } => before && who.0 != p,
-        _ => before,
-    }
-}
-
-/// Whether a process is down after one more entry.
-fn is_down_after(before: bool, entry: &Entry, p: u8) -> bool {
-    match entry {
-        Entry::Crash { who } => before || who.0 == p,
-        Entry::Restart { who, .. } => before && who.0 != p,
-        _ => before,
-    }
 }
 
 /// The answer for a process after one more entry.
@@ -63,11 +36,6 @@ fn answer(question: Question, entries: &[Entry], p: u8) -> (bool, Option<u32>) {
     (holds, turned)
 }
 
-/// Whether a process's log has the determinant after these entries.
-pub(crate) fn holds(entries: &[Entry], p: u8, det: Det) -> bool {
-    answer(Question::Logs(det), entries, p).0
-}
-
 /// Those of n processes for which the answer was once yes and is now this one, ascending, each with the entry since which.
 pub(crate) fn answered(
     alloc: Global,
@@ -90,39 +58,11 @@ pub(crate) fn answered(
     Ok(told)
 }
 
-/// The determinant of the delivery at a position.
-pub(crate) fn det_at(entries: &[Entry], position: u32) -> Option<Det> {
-    let Entry::Deliver { to, send, rsn, .. } = entries.get(position as usize)? else {
-        return None;
-    };
-    let Entry::Send { from, ssn, .. } = entries.get(*send as usize)? else {
-        return None;
-    };
-    Some(Det {
-        source: *from,
-        ssn: *ssn,
-        dest: *to,
-        rsn: *rsn,
-    })
-}
-
-/// Whether one of the entries writes the determinant to stable storage.
-pub(crate) fn is_stable(entries: &[Entry], wanted: Det) -> bool {
-    for entry in entries {
-        if let Entry::Stable { det } = entry {
-            if *det == wanted {
-                return true;
-            }
-        }
-    }
-    false
-}
-
 /// Whether the entry at a position is a delivery after which its receiver's log lacks the determinant.
 fn lacks(entries: &[Entry], position: u32, det: Det) -> bool {
     let so_far = entries.get(..position as usize + 1).unwrap_or(&[]);
     match so_far.last() {
-        Some(Entry::Deliver { to, .. }) => !holds(so_far, to.0, det),
+        Some(Entry::Deliver { to, .. }) => !logs(so_far, to.0, det),
         _ => false,
     }
 }
@@ -135,41 +75,6 @@ pub(crate) fn first_lacking(entries: &[Entry], chain: &[u32], det: Det) -> Optio
         }
     }
     None
-}
-
-/// The process of an event, which is a send or a delivery.
-fn actor(entry: &Entry) -> Option<Pid> {
-    match entry {
-        Entry::Send { from, .. } => Some(*from),
-        Entry::Deliver { to, .. } => Some(*to),
-        _ => None,
-    }
-}
-
-/// The lane of a process after these entries.
-fn present_lane(entries: &[Entry], p: u8) -> Lane {
-    let mut restarts = 0u32;
-    for entry in entries {
-        if let Entry::Restart { who, .. } = entry {
-            if who.0 == p {
-                restarts = restarts.saturating_add(1);
-            }
-        }
-    }
-    (p, restarts)
-}
-
-/// The lane of each event; None of an entry that is none.
-pub(crate) fn lanes_of(alloc: Global, entries: &[Entry]) -> Result<Vec<Option<Lane>>, NoMemory> {
-    let mut lanes = Vec::new(alloc);
-    for (i, entry) in entries.iter().enumerate() {
-        let lane = match actor(entry) {
-            Some(p) => Some(present_lane(&entries[..i], p.0)),
-            None => None,
-        };
-        lanes.push(lane)?;
-    }
-    Ok(lanes)
 }
 
 /// A run up to an instant, the lane of each of its events, a delivery, and the lane of the process that may depend on it.

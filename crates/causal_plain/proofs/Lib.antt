@@ -1,7 +1,0 @@
-mod Failing
-mod LeastOrphan
-mod Listed
-mod Marks
-mod Members
-mod Prefix
-mod Subsets

@@ -1,8 +1,0 @@
-use Rattle.std.proofs.Common.{◌≡◌, ◌≤◌}
-use Rattle.causal_trace.specs.State.{past_at}
-use Rattle.causal_trace.specs.Past as past
-use Rattle.causal_plain.proofs.counts.restarts.Given as goal
-
--- what it is after the entries so far
-abbrev pub invariant-loop-e : goal.invariant-loop-e
-invariant-loop-e l = record { counted : l.count ≡ past.restarts (past_at l.entries l.e-index); few : l.count ≤ l.e-index }

@@ -1,2 +1,0 @@
--- What models and private functions keep; no public clause cites it.
-pub mod Plain
