@@ -1,7 +1,7 @@
 //! The audit of a recorded run, divided among workers.
 //!
-//! The calling thread prepares the run. The deliveries that must be followed are divided into consecutive shares, one for each
-//! worker, and the workers' answers are joined, so the verdict is the same for every number of workers.
+//! The calling thread prepares the run. The groups of deliveries that must be followed are divided into consecutive shares, one for
+//! each worker, and the workers' answers are joined, so the verdict is the same for every number of workers.
 //!
 //! Begin at [`audit`] for a trace, or [`audit_text`] for its text; both take a [`Gate`], of which [`OpenGate`] lets all through.
 //! [`verdict_line`] prints what they answer.
