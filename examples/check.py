@@ -2,7 +2,7 @@
 """Checks that the answers in examples/README.md and docs/FORMAT.md are those of the traces and scripts that stand here, by the plain
 models of the auditor and of the runtime (trials/traces.py, trials/scripts.py): each row of the table, and both answers to the worked
 recording, of which the second is to one list that is forged. With --program the program has to give those of the table too. Of the
-picture that stands here it checks what follows from the layout of pictures.
+picture that stands here it checks what follows from the layout of pictures, and of record.py that it shows each kind of line.
 
     examples/check.py [--program crates/causal_tool/out/causal_tool]
 """
@@ -144,6 +144,18 @@ def wrong_runs(program):
     return wrong
 
 
+# Each word that a line of a trace begins with.
+KINDS = {"trace", "send", "deliver", "stable", "crash", "restart", "forget", "end"}
+
+
+def is_shown_by_record():
+    """Whether record.py shows how each of them is recorded."""
+    met = {json.loads(line)[0] for line in text_of("record.py").splitlines()}
+    if met != KINDS:
+        print(f"record.py shows no line {', '.join(sorted(KINDS - met))}")
+    return met == KINDS
+
+
 def shown_by(program, word, trace, f):
     return subprocess.run([program, word, "--faults", str(f)], input=bytes_of(trace), capture_output=True).stdout
 
@@ -189,7 +201,7 @@ def main():
         wrong += len(unmet)
         print(f"no row for {', '.join(sorted(unmet))}")
     answers, mistaken = wrong_in_the_format()
-    count, wrong = count + answers, wrong + mistaken + wrong_in_the_picture()
+    count, wrong = count + answers, wrong + mistaken + wrong_in_the_picture() + (not is_shown_by_record())
     for shown, (word, trace, f) in SHOWN.items() if program else ():
         count += 1
         if shown_by(program, word, trace, f) != bytes_of(shown):
