@@ -181,7 +181,7 @@ class Process:
 
     def read_stored(self):
         for path in (storage(self.folder, p) for p in range(self.n)):
-            for clock, det in stored_in(path):
+            for clock, det in stored_in(path) if os.path.exists(path) else ():
                 self.recorder.take_in(clock)
                 self.log.setdefault(tuple(det), set()).add(self.number)
 
@@ -219,8 +219,7 @@ def storage(folder, process):
 
 def stored_in(path):
     """The whole lines; one that is being written, or that a kill has cut, is of a determinant that nobody has forgotten."""
-    with open(path, "ab+") as file:
-        file.seek(0)
+    with open(path, "rb") as file:
         for line in file:
             try:
                 yield json.loads(line)

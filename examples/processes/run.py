@@ -40,7 +40,7 @@ class Run:
     """The processes of one run. Their sockets are held here, so that no port goes to another program while its process is down."""
 
     def __init__(self, folder, rule, store):
-        self.folder, self.run = folder, random.getrandbits(64)
+        self.folder, self.run = folder, random.getrandbits(32)
         self.servers = [socket.create_server(("127.0.0.1", 0)) for _ in range(SETTING["n"])]
         ports = [server.getsockname()[1] for server in self.servers]
         self.given = {**SETTING, "rule": rule, "store": store, "folder": folder, "run": self.run, "ports": ports}
@@ -196,13 +196,20 @@ def judge(folder, rule, given, store, program):
         trace = program.merge(folder)
         verdict, status = program.say("audit", trace)
         why = program.say("explain", trace)[0] if status else b""
-        word, explained, why = verdict.split()[0].decode(), is_explained(verdict, why), why.decode()
+        word, explained, why = word_of(verdict, trace), is_explained(verdict, why), why.decode()
     except Fault as fault:
         word, why, explained = "fault", str(fault), False
     word = word if finished else f"{word} and stuck"
     if rule == "right" and word != "accept":
         print(f"a run with the right rule: {word}\n{why}{errors_in(folder)}", file=sys.stderr)
     return word, explained
+
+
+def word_of(verdict, trace):
+    """The first word of the verdict; of a run that is refused also what happens just before the instant: line t + 1 for instant t."""
+    word, *fields = verdict.decode().split()
+    told = dict(field.split("=") for field in fields)
+    return f"{word} at a {json.loads(trace.splitlines()[int(told['instant'])])[0]}" if "instant" in told else word
 
 
 def is_explained(verdict, why):
@@ -256,7 +263,8 @@ def main():
     given.add_argument("--runs", type=int, help="of each rule, counted")
     given.add_argument("--seconds", type=float, default=600.0, help="after which no further run begins")
     given = given.parse_args()
-    signal.signal(signal.SIGTERM, lambda *_: sys.exit(143))  # so that the processes end, and the folder goes
+    for number in (signal.SIGINT, signal.SIGTERM):
+        signal.signal(number, lambda number, _: sys.exit(128 + number))  # so that the processes end, and the folder goes
     program = Program(given.program)
     sys.exit(count(given, program) if given.runs else show(given, program))
 
