@@ -142,11 +142,12 @@ class Program:
 
     def __init__(self, path):
         self.path = os.path.abspath(path)
+        subprocess.run([self.path, "--version"], stdout=subprocess.DEVNULL, check=True)  # it may have to be built first, and tells so
         has_merge = subprocess.run([self.path, "merge", "--help"], stdin=subprocess.DEVNULL, capture_output=True).returncode == 0
         self.merger = [self.path, "merge"] if has_merge else [sys.executable, os.path.join(TOP, "trials", "merge_model.py")]
 
     def merge(self, folder):
-        """The trace of the recordings in the folder, or the first fault with its sentence."""
+        """The trace of the recordings in the folder, and which lines were cut; or the first fault with its sentence."""
         texts = []
         for p in range(SETTING["n"]):
             with open(recording(folder, p), "rb") as file:
@@ -154,7 +155,7 @@ class Program:
         ended = subprocess.run(self.merger, input=b"".join(texts), capture_output=True)
         if ended.returncode:
             raise Fault(ended.stdout.decode() + ended.stderr.decode())
-        return ended.stdout
+        return ended.stdout, ended.stderr.decode()
 
     def say(self, command, trace):
         """What it prints, and the status."""
@@ -175,25 +176,34 @@ def run_in(folder, rule, kills, store):
 def show(given, program):
     folder = given.folder or tempfile.mkdtemp(prefix="processes-")
     os.makedirs(folder, exist_ok=True)
+    if os.listdir(folder):
+        sys.exit(f"{folder} is not empty: a process would go on with the recording that it finds there")
     finished = run_in(folder, given.rule, given.kills, given.store)
     print(f"rule {given.rule}, {SETTING['n']} processes, {given.kills} kills: {'finished' if finished else 'stuck'}")
-    trace = program.merge(folder)
-    paths = {name: os.path.join(folder, name) for name in ("run.jsonl", "run.svg")}
-    with open(paths["run.jsonl"], "wb") as file:
-        file.write(trace)
-    told, status = program.say("explain", trace)
-    sys.stdout.write(told.decode())
-    with open(paths["run.svg"], "wb") as file:
-        file.write(program.say("draw", trace)[0])
     print(f"recordings, trace and picture: {folder}")
+    try:
+        trace, cut = program.merge(folder)
+    except Fault as fault:
+        sys.stdout.write(str(fault))
+        return 2
+    sys.stderr.write(cut)
+    write(os.path.join(folder, "run.jsonl"), trace)
+    why, status = program.say("explain", trace)
+    sys.stdout.write(why.decode())
+    write(os.path.join(folder, "run.svg"), program.say("draw", trace)[0])
     return status
+
+
+def write(path, text):
+    with open(path, "wb") as file:
+        file.write(text)
 
 
 def judge(folder, rule, given, store, program):
     """One word for what became of a run, and whether it was explained. Of a run that should be accepted and isn't all is told."""
     finished = run_in(folder, rule, given.kills, store)
     try:
-        trace = program.merge(folder)
+        trace, _ = program.merge(folder)
         verdict, status = program.say("audit", trace)
         why = program.say("explain", trace)[0] if status else b""
         word, explained, why = word_of(verdict, trace), is_explained(verdict, why), why.decode()
