@@ -33,7 +33,7 @@ RULES = ("right", "early", "hasty")
 FAULTS = 1  # one process is down at a time: the next one is killed when the last is up again
 SETTING = {"n": 4, "faults": FAULTS, "tokens": 3, "hops": 12}
 KILLS, MOMENT = 2, 0.03  # seconds within which the next kill comes, once all are up
-LIMIT = 30.0  # seconds after which a run counts as stuck
+LIMITS = {"right": 30.0, "early": 6.0, "hasty": 6.0}  # seconds after which a run counts as stuck
 
 
 class Run:
@@ -46,7 +46,7 @@ class Run:
         self.given = {**SETTING, "rule": rule, "store": store, "folder": folder, "run": self.run, "ports": ports}
         self.children, self.told = {}, queue.Queue()
         self.up, self.done, self.clock = set(), set(), 0
-        self.end = time.monotonic() + LIMIT
+        self.end = time.monotonic() + LIMITS[rule]
 
     def start(self, p):
         given = json.dumps({**self.given, "process": p, "socket": self.servers[p].fileno()})
