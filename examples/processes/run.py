@@ -10,6 +10,7 @@ Where runs are counted, the status is 0 only if every run with the right rule wa
 """
 import argparse
 import collections
+import itertools
 import json
 import os
 import queue
@@ -237,25 +238,34 @@ def errors_in(folder):
 
 
 def count(given, program):
-    """Every second run stores and forgets. The rules take turns, so that the time is shared."""
-    counts = {rule: collections.Counter() for rule in RULES}
-    explained = collections.Counter()
-    end = time.monotonic() + given.seconds
-    for k in range(given.runs):
-        for rule in RULES:
-            if time.monotonic() > end:
-                break
-            folder = tempfile.mkdtemp(prefix="processes-")
-            try:
-                word, told = judge(folder, rule, given, given.store if k % 2 else 0, program)
-            finally:
-                shutil.rmtree(folder)
+    """What was counted is told also where the rest is stopped."""
+    counts, explained = {rule: collections.Counter() for rule in RULES}, collections.Counter()
+    try:
+        for word, told, rule in judged(given, program):
             counts[rule][word] += 1
             explained[rule] += told
+    finally:
+        tell(counts, explained)
+    return 0 if is_right(counts, explained) else 1
+
+
+def judged(given, program):
+    """What became of each run. Every second run stores and forgets. The rules take turns, so that the time is shared."""
+    end = time.monotonic() + given.seconds
+    for k, rule in itertools.product(range(given.runs), RULES):
+        if time.monotonic() > end:
+            break
+        folder = tempfile.mkdtemp(prefix="processes-")
+        try:
+            yield *judge(folder, rule, given, given.store if k % 2 else 0, program), rule
+        finally:
+            shutil.rmtree(folder)
+
+
+def tell(counts, explained):
     for rule, words in counts.items():
         told = ", ".join(f"{number} {word}" for word, number in sorted(words.items()))
         print(f"{rule}: {words.total()} runs: {told or 'none'}; {explained[rule]} explained")
-    return 0 if is_right(counts, explained) else 1
 
 
 def is_right(counts, explained):
