@@ -3,7 +3,7 @@
 models of the auditor and of the runtime (trials/traces.py, trials/scripts.py): each row of the table, and both answers to the worked
 recording, of which the second is to one list that is forged. The explanations that stand here have to tell what the plain model of
 explanations tells (trials/reasons.py). With --program the program has to give all of these too. Of the picture that stands here it
-checks what follows from the layout of pictures.
+checks what follows from the layout of pictures, and of record.py that it shows each kind of line.
 
     examples/check.py [--program crates/causal_tool/out/causal_tool]
 """
@@ -164,6 +164,18 @@ def wrong_runs(program):
     return wrong
 
 
+# Each word that a line of a trace begins with.
+KINDS = {"trace", "send", "deliver", "stable", "crash", "restart", "forget", "end"}
+
+
+def is_shown_by_record():
+    """Whether record.py shows how each of them is recorded."""
+    met = {json.loads(line)[0] for line in text_of("record.py").splitlines()}
+    if met != KINDS:
+        print(f"record.py shows no line {', '.join(sorted(KINDS - met))}")
+    return met == KINDS
+
+
 def shown_by(program, word, trace, f):
     return subprocess.run([program, word, "--faults", str(f)], input=bytes_of(trace), capture_output=True).stdout
 
@@ -210,7 +222,7 @@ def main():
         print(f"no row for {', '.join(sorted(unmet))}")
     for answers, mistaken in (wrong_in_the_format(), wrong_reasons()):
         count, wrong = count + answers, wrong + mistaken
-    wrong += wrong_in_the_picture()
+    wrong += wrong_in_the_picture() + (not is_shown_by_record())
     for shown, (word, trace, f) in SHOWN.items() if program else ():
         count += 1
         if shown_by(program, word, trace, f) != bytes_of(shown):
