@@ -3,6 +3,7 @@ use Rattle.std.specs.Prelude.{ℕ, Bool, false, ◌==◌, ◌&&◌, nat_le, if�
 use Rattle.std.specs.Option.{option_map_or}
 use Rattle.causal_name.specs.declared.Pid.{Pid}
 use Rattle.causal_name.specs.declared.Det.{Det}
+use Rattle.causal_trace.specs.declared.entry.Entry.{Entry}
 use Rattle.causal_picture.specs.declared.marks.Event.{Event}
 use Rattle.causal_picture.specs.declared.marks.Event.TheVariants.{Delivery, Crash, Restart}
 use Rattle.causal_picture.specs.declared.marks.Mark.{Mark}
@@ -55,11 +56,11 @@ number_text x line =
     codes "<text x='" ++ (decimal x ++ (codes "' y='34' text-anchor='middle' font-size='9' fill='#777'>" ++ (decimal line ++ codes "</text>\n")))
 
 -- an event: its title, the number of its line, what leads to it or on from it, and its shape
-unfoldable pub mark_text : Stretch → List Mark → Mark → List ℕ
-mark_text s marks m =
-    codes "<g>" ++ (title_text m ++ (number_text (x_of s m.position) (line_of m.position) ++ (link_text s marks m
+unfoldable pub mark_text : List Entry → Stretch → List Mark → Mark → List ℕ
+mark_text past s marks m =
+    codes "<g>" ++ (title_text past m ++ (number_text (x_of s m.position) (line_of m.position) ++ (link_text s marks m
     ++ (shape_text (x_of s m.position) (y_of (process_of m.event).0) (shape_of m.event) ++ codes "</g>\n"))))
 
 -- the events of a stretch, in their order
-abbrev pub marks_text : Stretch → List Mark → List ℕ
-marks_text s marks = flat_map (mark_text s marks) marks
+abbrev pub marks_text : List Entry → Stretch → List Mark → List ℕ
+marks_text past s marks = flat_map (mark_text past s marks) marks

@@ -41,7 +41,7 @@ any_focus_text r s (Some f) = focus_text r s f
 
 -- what is drawn of the run: its processes' lines, then its events over these
 unfoldable pub run_text : Recording → Stretch → FinSet nat_cmp → List ℕ
-run_text r s crash = rows_text r s (marks_of r.past s) crash ++ marks_text s (marks_of r.past s)
+run_text r s crash = rows_text r s (marks_of r.past s) crash ++ marks_text r.past s (marks_of r.past s)
 
 -- the marks where the run is cut, the legend, and the end
 unfoldable pub close_text : Stretch → ℕ → ℕ → List ℕ

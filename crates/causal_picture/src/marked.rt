@@ -10,6 +10,7 @@ use crate::shapes::{push_bent, push_level, push_shape, push_straight, shape_of};
 use crate::stretch::Stretch;
 use crate::titles::{line_of, push_title};
 use causal_name::{Det, Pid};
+use causal_trace::Trace;
 use std::alloc::AllocError;
 
 /// Whether an event is a crash of the process.
@@ -122,16 +123,18 @@ fn push_number(out: &mut String, x: u64, line: u64) -> Result<(), AllocError>
 #[tactic(auto, unfolding(crate::specs::Drawn::mark_text))]
 fn push_mark(
     out: &mut String,
+    trace: &Trace,
     stretch: Stretch,
     marks: &[Mark],
     mark: &Mark,
 ) -> Result<(), AllocError>
-    ensures { OnOk result (string_bytes out.new ≡ string_bytes out.old ++ drawn.mark_text stretch marks.now mark.now) }
+    ensures { OnOk result (string_bytes out.new ≡
+        string_bytes out.old ++ drawn.mark_text trace.now.recording.past stretch marks.now mark.now) }
 {
     let x = x_of(stretch, mark.position);
     let y = y_of(u16::from(mark.event.process().0));
     out.push_str("<g>")?;
-    push_title(out, mark)?;
+    push_title(out, trace, mark)?;
     push_number(out, x, line_of(mark.position))?;
     push_link(out, stretch, marks, mark)?;
     push_shape(out, x, y, shape_of(&mark.event))?;
@@ -139,11 +142,17 @@ fn push_mark(
 }
 
 /// The events of a stretch, in their order.
-pub fn push_marks(out: &mut String, stretch: Stretch, marks: &[Mark]) -> Result<(), AllocError>
-    ensures { OnOk result (string_bytes out.new ≡ string_bytes out.old ++ drawn.marks_text stretch marks.now) }
+pub fn push_marks(
+    out: &mut String,
+    trace: &Trace,
+    stretch: Stretch,
+    marks: &[Mark],
+) -> Result<(), AllocError>
+    ensures { OnOk result (string_bytes out.new ≡
+        string_bytes out.old ++ drawn.marks_text trace.now.recording.past stretch marks.now) }
 {
     for mark in marks {
-        push_mark(out, stretch, marks, mark)?;
+        push_mark(out, trace, stretch, marks, mark)?;
     }
     Ok(())
 }

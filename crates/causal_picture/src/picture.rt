@@ -145,7 +145,7 @@ fn push_run(
 {
     let marks = marks_of(alloc, trace, stretch)?;
     push_rows(out, trace, stretch, &marks, crash)?;
-    push_marks(out, stretch, &marks)?;
+    push_marks(out, trace, stretch, &marks)?;
     Ok(())
 }
 

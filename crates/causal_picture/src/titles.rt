@@ -4,7 +4,11 @@ ghost use Rattle.causal_picture.specs.Titles as titles;
 
 use crate::marks::{Event, Mark};
 use causal_name::{Det, Pid};
+use causal_trace::{Entry, Trace};
 use std::alloc::AllocError;
+
+/// At most so many determinants are named in a title.
+pub const MOST_NAMED: usize = 8;
 
 /// `process 1 sends message 0 to process 2`.
 fn push_send(out: &mut String, from: Pid, to: Pid, ssn: u32) -> Result<(), AllocError>
@@ -71,15 +75,92 @@ fn push_event(out: &mut String, event: &Event) -> Result<(), AllocError>
     }
 }
 
-/// `<title>line 6: process 1 delivers message 0 of process 0</title>`: the entry at position k stands on line k + 2 of
-/// the trace's text.
+/// ` [0,0,1,0]`: source, send number, receiver and place there, as the trace's text has a determinant.
+fn push_det(out: &mut String, det: &Det) -> Result<(), AllocError>
+    ensures { OnOk result (string_bytes out.new ≡ string_bytes out.old ++ titles.det_title det.now) }
+{
+    let Pid(source) = det.source;
+    let Pid(dest) = det.dest;
+    let ssn = det.ssn;
+    let rsn = det.rsn;
+    write!(out, " [{source},{ssn},{dest},{rsn}]")
+}
+
+fn push_dets(out: &mut String, dets: &[Det]) -> Result<(), AllocError>
+    ensures { OnOk result (string_bytes out.new ≡ string_bytes out.old ++ titles.dets_title dets.now) }
+{
+    for det in dets {
+        push_det(out, det)?;
+    }
+    Ok(())
+}
+
+/// ` and 3 more`, if there are any.
+fn push_more(out: &mut String, more: usize) -> Result<(), AllocError>
+    ensures { OnOk result (string_bytes out.new ≡ string_bytes out.old ++ titles.more_title more) }
+{
+    if more == 0 {
+        Ok(())
+    } else {
+        write!(out, " and {more} more")
+    }
+}
+
+/// `, and logs [0,0,1,0] [1,0,2,0]`: the first eight of a list, and how many more there are.
+#[tactic(auto, unfolding(crate::specs::Titles::named_title))]
+fn push_named(out: &mut String, listed: &[Det]) -> Result<(), AllocError>
+    ensures { OnOk result (string_bytes out.new ≡ string_bytes out.old ++ titles.named_title listed.now) }
+{
+    let named = listed.len().min(MOST_NAMED);
+    out.push_str(", and logs")?;
+    push_dets(out, &listed[..named])?;
+    push_more(out, listed.len() - named)
+}
+
+/// What is put into a volatile log.
+fn push_logged(out: &mut String, listed: &[Det]) -> Result<(), AllocError>
+    ensures { OnOk result (string_bytes out.new ≡ string_bytes out.old ++ titles.logged_title listed.now) }
+{
+    if listed.is_empty() {
+        out.push_str(", and logs nothing")
+    } else {
+        push_named(out, listed)
+    }
+}
+
+/// What an entry puts into a volatile log: a delivery what came with its message, and a restart what it gathers.
+fn push_list(out: &mut String, entry: &Entry) -> Result<(), AllocError>
+    ensures { OnOk result (string_bytes out.new ≡ string_bytes out.old ++ titles.list_title entry.now) }
+{
+    match entry {
+        Entry::Deliver { listed, .. } => push_logged(out, listed.as_slice()),
+        Entry::Restart { listed, .. } => push_logged(out, listed.as_slice()),
+        _ => Ok(()),
+    }
+}
+
+/// The same of the entry at a position.
+fn push_list_at(out: &mut String, trace: &Trace, position: u32) -> Result<(), AllocError>
+    ensures { OnOk result (string_bytes out.new ≡
+        string_bytes out.old ++ titles.list_title_at trace.now.recording.past position) }
+{
+    match trace.entry(position) {
+        Some(entry) => push_list(out, entry),
+        None => Ok(()),
+    }
+}
+
+/// `<title>line 6: process 1 delivers message 0 of process 0, and logs [0,0,1,0]</title>`: the entry at position k stands
+/// on line k + 2 of the trace's text. Of a list at most eight determinants are named.
 #[tactic(auto, unfolding(crate::specs::Titles::title_text))]
-pub fn push_title(out: &mut String, mark: &Mark) -> Result<(), AllocError>
-    ensures { OnOk result (string_bytes out.new ≡ string_bytes out.old ++ titles.title_text mark.now) }
+pub fn push_title(out: &mut String, trace: &Trace, mark: &Mark) -> Result<(), AllocError>
+    ensures { OnOk result (string_bytes out.new ≡
+        string_bytes out.old ++ titles.title_text trace.now.recording.past mark.now) }
 {
     let line = line_of(mark.position);
     write!(out, "<title>line {line}: ")?;
     push_event(out, &mark.event)?;
+    push_list_at(out, trace, mark.position)?;
     out.push_str("</title>\n")
 }
 

@@ -152,13 +152,43 @@ fn random_traces_pictured(rt: HostRuntime) -> Result<(), Fail> {
     Ok(())
 }
 
+/// Adds what is said of a list: its first eight determinants, and how many more there are.
+fn push_listed(out: &mut String, listed: &[Det]) -> Result<(), AllocError> {
+    if listed.is_empty() {
+        return out.push_str(", and logs nothing");
+    }
+    out.push_str(", and logs")?;
+    for det in listed.iter().take(8) {
+        let (source, ssn, dest, rsn) = (det.source.0, det.ssn, det.dest.0, det.rsn);
+        write!(out, " [{source},{ssn},{dest},{rsn}]")?;
+    }
+    match listed.len().saturating_sub(8) {
+        0 => Ok(()),
+        more => write!(out, " and {more} more"),
+    }
+}
+
 /// Adds what the delivery of a message is called: the message is that of the entry at the position `send`.
-fn push_delivery(out: &mut String, trace: &Trace, to: Pid, send: u32) -> Result<(), AllocError> {
+fn push_delivery(
+    out: &mut String,
+    trace: &Trace,
+    to: Pid,
+    send: u32,
+    listed: &[Det],
+) -> Result<(), AllocError> {
     let Some(Entry::Send { from, ssn, .. }) = trace.entry(send) else {
         return Ok(());
     };
     let (to, from) = (to.0, from.0);
-    write!(out, "process {to} delivers message {ssn} of process {from}")
+    write!(out, "process {to} delivers message {ssn} of process {from}")?;
+    push_listed(out, listed)
+}
+
+/// Adds what a restart is called.
+fn push_restart(out: &mut String, who: Pid, listed: &[Det]) -> Result<(), AllocError> {
+    let who = who.0;
+    write!(out, "process {who} restarts")?;
+    push_listed(out, listed)
 }
 
 /// Adds what the writing of a determinant to stable storage is called.
@@ -178,10 +208,15 @@ fn push_words(out: &mut String, trace: &Trace, entry: &Entry) -> Result<(), Allo
             to: Pid(to),
             ssn,
         } => write!(out, "process {from} sends message {ssn} to process {to}"),
-        Entry::Deliver { to, send, .. } => push_delivery(out, trace, *to, *send),
+        Entry::Deliver {
+            to,
+            send,
+            listed,
+            ..
+        } => push_delivery(out, trace, *to, *send, listed.as_slice()),
         Entry::Stable { det } => push_stable(out, *det),
         Entry::Crash { who: Pid(who) } => write!(out, "process {who} crashes"),
-        Entry::Restart { who: Pid(who), .. } => write!(out, "process {who} restarts"),
+        Entry::Restart { who, listed } => push_restart(out, *who, listed.as_slice()),
         Entry::Forget {
             who: Pid(who),
             listed,
@@ -212,6 +247,27 @@ fn beginnings(alloc: Global, text: &[u8]) -> Result<Vec<&[u8]>, AllocError> {
         }
     }
     Ok(found)
+}
+
+/// How many of these lines a text has.
+fn lines_like(text: &[u8], wanted: &[u8]) -> usize {
+    text.split(|byte| *byte == b'\n')
+        .filter(|line| *line == wanted)
+        .count()
+}
+
+/// By the ring's text the delivery on line 3 logs its own determinant, and that on line 5 also the one that came with its message.
+#[test]
+fn titles_tell_what_is_logged(rt: HostRuntime) -> Result<(), Fail> {
+    let ring = read_trace(rt.alloc(), RING.as_bytes())?;
+    let text = picture_of(rt.alloc(), &ring, None)?;
+    for title in [
+        "<g><title>line 3: process 1 delivers message 0 of process 0, and logs [0,0,1,0]</title>",
+        "<g><title>line 5: process 2 delivers message 0 of process 1, and logs [0,0,1,0] [1,0,2,0]</title>",
+    ] {
+        assert_eq!(rt; lines_like(text.as_slice(), title.as_bytes()), 1, "{title}");
+    }
+    Ok(())
 }
 
 /// How many of these marks have the title of the entry at a position.
