@@ -28,7 +28,7 @@ impl Model for PlainTrace {
 
     ghost Value = { TraceState };
 
-    ghost view = { λ a. record { recording = recorded a.processes a.entries.items; spare = vec_capacity a.entries - vec_len a.entries } };
+    ghost view = { λ a. record { recording = recorded a.processes a.entries.items; spare = vec_capacity a.entries - vec_len a.entries; stable_spare = vec_capacity a.entries - vec_len a.entries } };
 
     ghost invariant = { λ a. IsBounded (recorded a.processes a.entries.items) a.listed };
 }
