@@ -257,10 +257,13 @@ holder_facts p d q = record {
   };
   written = λ r w det m is here. steady _ _ _ (λ g. g) (Choices.marked_holder m.log det d q);
   restarted = λ r by who listed old is. record {
-    found = λ h. inl (is, elim (Logging.gathered_holder (memories_of r) (stable_of r) who d q h) [
-      | inl itself ↦ inl (Logging.keys_have (gathered_log (memories_of r) (stable_of r) who) d ∙ Logging.entry_of_holder (gathered_log (memories_of r) (stable_of r) who) d q h, itself ∙ is)
-      | inr some ↦ inr (some.0, some.2)
-    ]);
+    found = λ h. inl (
+      is,
+      elim (Logging.gathered_holder (memories_of r) (stable_of r) who d q h) [
+        | inl itself ↦ inl (Logging.keys_have (gathered_log (memories_of r) (stable_of r) who) d ∙ Logging.entry_of_holder (gathered_log (memories_of r) (stable_of r) who) d q h, itself ∙ is)
+        | inr some ↦ inr (some.0, some.2)
+      ],
+    );
     fresh = λ g. elim g.1 [
       | inl own ↦
           ap (λ x. tells_holder d x (gathered_log (memories_of r) (stable_of r) who)) (own.1 ∙ sym is)
@@ -304,10 +307,13 @@ mark_facts p d = record {
         kept = λ _ h. Choices.marked_old m.log det d h;
       };
   restarted = λ r by who listed old is. record {
-    found = λ h. inl (is, elim (Logging.gathered_mark (memories_of r) (stable_of r) who d h) [
-      | inl stored ↦ inl (sym (Choices.stable_has r.recording.past d) ∙ stored)
-      | inr some ↦ inr (some.0, some.2)
-    ]);
+    found = λ h. inl (
+      is,
+      elim (Logging.gathered_mark (memories_of r) (stable_of r) who d h) [
+        | inl stored ↦ inl (sym (Choices.stable_has r.recording.past d) ∙ stored)
+        | inr some ↦ inr (some.0, some.2)
+      ],
+    );
     fresh = λ g. elim g.1 [
       | inl stable ↦ Logging.stored_marks (memories_of r) (stable_of r) who d (Choices.stable_has r.recording.past d ∙ stable)
       | inr some ↦ Logging.gathered_marks (memories_of r) (stable_of r) who d some.0 some.1
