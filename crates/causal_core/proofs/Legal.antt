@@ -1,6 +1,6 @@
 -- What is known where nothing stands against a request.
 use Rattle.std.proofs.Common.{ℕ, zero, suc, ◌≡◌, ◌≢◌, ◌<◌, Bool, true, false, cond, ◌==◌, List, [], ◌∷◌, length, Option, Some, None, refl, sym, ap, subst, ◌∙◌, arith, slice_get, slice_set}
-use Rattle.std.specs.Prelude.{◌||◌, ◌&&◌, not, nat_lt, nat_le, is_none, is_some}
+use Rattle.std.specs.Prelude.{◌||◌, ◌&&◌, not, nat_lt, nat_le, is_none, is_some, unwrap_or}
 use Rattle.std.specs.List.{list_all}
 use Rattle.std.proofs.lemmas.Bool.{false≢true}
 use Rattle.std.proofs.lemmas.Bool.Decides.{nat_tests}
@@ -112,6 +112,11 @@ tells_reason r (Ask.Forget p) fault h =
     let b = when_reason (is_none (at (memories_of r) p.0)) Why.Down refl in
     let c = when_reason (nat_lt 0 (length (forgettable r p)) && is_full r 1 (length (forgettable r p))) Why.Full refl in
     h ∙ sym (reasons (rows r (Ask.Forget p)) fault (λ i. a i && (b i && (c i && true))) h)
+
+-- the reason that stands, or want of memory where none does
+pub reason_or : (r : Run) (request : Request) (o : Option CoreFault) → o ≡ first_fault r request → first_fault r request ≡ reason_of (unwrap_or o Why.NoMemory)
+reason_or r request None is = sym is
+reason_or r request (Some fault) is = tells_reason r request fault (sym is)
 
 -- the memory of an up process
 pub there : (o : Option Memory) → is_none o ≡ false → (m : Memory) × (o ≡ Some m)

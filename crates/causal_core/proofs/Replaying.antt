@@ -1,5 +1,5 @@
 -- Deliveries of a replay, one after the other.
-use Rattle.std.proofs.Common.{ℕ, ◌≡◌, ◌+◌, ◌<◌, inl, inr, ◌∙◌, List, [], ◌∷◌, length, Option, Some, None, refl, sym, ap, subst, arith}
+use Rattle.std.proofs.Common.{ℕ, ◌≡◌, ◌+◌, ◌<◌, inr, ◌∙◌, List, [], ◌∷◌, length, Option, Some, None, refl, sym, ap, subst, arith}
 use Rattle.std.specs.Prelude.{Ok, Err}
 use Rattle.causal_name.specs.declared.Pid.{Pid}
 use Rattle.causal_name.specs.declared.MsgName.{MsgName}
@@ -17,7 +17,7 @@ use Rattle.causal_protocol.specs.Steps.{LegalStep, Steps, reason_of}
 use Rattle.causal_core.specs.Boxes.{answers_at, after, after_all}
 use Rattle.causal_core.specs.View.{body_at, naming}
 use Rattle.causal_core.specs.CoreView.{CoreState, IsUnchanged, Delivers}
-use Rattle.causal_core.specs.Replays.{Redelivery, inputs_of, sends_in, IsRefused, RefusesNamed, Redelivers, Replays, Replayed, Redelivered, Ends, EndsFor}
+use Rattle.causal_core.specs.Replays.{Redelivery, inputs_of, sends_in, IsRefused, RefusesNamed, Redelivers, Replays, Replayed, Redelivered, EndsFor}
 use Rattle.causal_core.proofs.BoxLemmas.{told_more, same_refl}
 
 -- what is told of a delivery names its message

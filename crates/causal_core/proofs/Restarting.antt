@@ -4,6 +4,7 @@ use Rattle.std.specs.Prelude.{◌||◌, ◌&&◌, not, nat_lt, nat_le, is_some}
 use Rattle.std.specs.List.{list_any, list_all}
 use Rattle.std.specs.FinMap as fin
 use Rattle.std.proofs.lemmas.Bool.{false≢true}
+use Rattle.std.proofs.lemmas.List.{length-map}
 use Rattle.std.proofs.lemmas.Bool.Decides.{nat_tests}
 use Rattle.causal_name.specs.declared.Pid.{Pid}
 use Rattle.causal_name.specs.declared.Det.{Det}
@@ -29,7 +30,7 @@ use Rattle.causal_protocol.specs.Run.{Run, memories, memories_of, stable_of}
 use Rattle.causal_protocol.specs.Refusals.{rows, first_of, first_fault, is_full, when, gathered}
 use Rattle.causal_protocol.specs.Steps.{extended, pushed, sends_of}
 use Rattle.causal_core.specs.Inside.Facts.{Fits, FitsAt, AllFit}
-use Rattle.causal_core.specs.Inside.Gathers.{is_logged}
+use Rattle.causal_core.specs.Inside.Gathers.{is_logged, listing_fault}
 use Rattle.causal_core.specs.View.{gathering_fault}
 use Rattle.causal_core.specs.Inside.Memories.{keep_all}
 use Rattle.causal_core.proofs.Fitting.{is_of, and_both, or_right, delivered_more, length-slice_set, at-set_same}
@@ -187,18 +188,51 @@ few_stable (Crash who ∷ past) = let rest = few_stable past in omega (arith, re
 few_stable (Restart who listed ∷ past) = let rest = few_stable past in omega (arith, rest)
 few_stable (Forget who listed ∷ past) = let rest = few_stable past in omega (arith, rest)
 
+-- what stands against a restart is what stands against one that lists what is gathered
+pub restart_lists : (r : Run) (p : Pid) (listed : ℕ) → listed ≡ length (gathered r p) → listing_fault r p listed ≡ first_fault r (Ask.Restart p)
+unfolding rows
+restart_lists r p listed is = ap (listing_fault r p) is
+
+-- how many a log has that is what is gathered
+pub log_listed : (r : Run) (p : Pid) (log : LogMap) → log ≡ gathered_log (memories_of r) (stable_of r) p → fin.len log ≡ length (gathered r p)
+log_listed r p log is = fin.len-entries log ∙ sym (length-map (fin.entries log) (λ e. e.0)) ∙ ap (λ m. length (fin.keys m)) is
+
+longer : (r : Run) (k : ℕ) → (is_full r 9 0 || nat_le 192 (restarts r.recording.past)) ≡ true → (is_full r 9 k || nat_le 192 (restarts r.recording.past)) ≡ true
+longer r k h = grind (arith, nat_tests, h)
+
+stands : (a b less more : Bool) (fault : CoreFault) → (less ≡ true → more ≡ true) → first_of (when a Why.NoProcess ∷ when b Why.NotDown ∷ when less Why.Full ∷ []) ≡ Some fault → first_of (when a Why.NoProcess ∷ when b Why.NotDown ∷ when more Why.Full ∷ []) ≡ Some fault
+stands true b less more fault up h = h
+stands false true less more fault up h = h
+stands false false true more fault up h = ap (λ t. first_of (when t Why.Full ∷ [])) (up refl) ∙ h
+stands false false false more fault up h = absurd (let e : None ≡ Some fault = h in cc)
+
+-- what stands against a restart that lists nothing stands against each
+pub none_listed : (r : Run) (p : Pid) (fault : CoreFault) → listing_fault r p 0 ≡ Some fault → first_fault r (Ask.Restart p) ≡ Some fault
+none_listed r p fault h =
+    sym (restart_lists r p (length (gathered r p)) refl)
+    ∙ stands (not (nat_lt p.0 r.recording.processes)) (is_some (at (memories_of r) p.0)) _ _ fault (longer r (length (gathered r p))) h
+
 third_told : (a b c : Option CoreFault) → first_of (a ∷ b ∷ []) ≡ None → first_of (a ∷ b ∷ c ∷ []) ≡ c
 third_told None None None h = refl
 third_told None None (Some f) h = refl
 third_told None (Some f) c h = absurd (let e : Some f ≡ None = h in cc)
 third_told (Some f) b c h = absurd (let e : Some f ≡ None = h in cc)
 
+two_told : (a b c : Option CoreFault) (fault : CoreFault) → first_of (a ∷ b ∷ []) ≡ Some fault → first_of (a ∷ b ∷ c ∷ []) ≡ Some fault
+two_told None None c fault h = absurd (let e : None ≡ Some fault = h in cc)
+two_told None (Some f) c fault h = h
+two_told (Some f) b c fault h = h
+
 -- where nothing stands against gathering, a restart is refused where the trace is full
-pub restart_full : (r : Run) (p : Pid) (test : Bool) → gathering_fault r p ≡ None → test ≡ (is_full r 9 (length (gathered r p)) || nat_le 192 (restarts r.recording.past)) → first_fault r (Ask.Restart p) ≡ when test Why.Full
-unfolding rows
-restart_full r p test none is =
-    third_told (when (not (nat_lt p.0 r.recording.processes)) Why.NoProcess) (when (is_some (at (memories_of r) p.0)) Why.NotDown) (when (is_full r 9 (length (gathered r p)) || nat_le 192 (restarts r.recording.past)) Why.Full) none
+pub listing_full : (r : Run) (p : Pid) (listed : ℕ) (test : Bool) → gathering_fault r p ≡ None → test ≡ (is_full r 9 listed || nat_le 192 (restarts r.recording.past)) → listing_fault r p listed ≡ when test Why.Full
+listing_full r p listed test none is =
+    third_told (when (not (nat_lt p.0 r.recording.processes)) Why.NoProcess) (when (is_some (at (memories_of r) p.0)) Why.NotDown) (when (is_full r 9 listed || nat_le 192 (restarts r.recording.past)) Why.Full) none
     ∙ ap (λ b. when b Why.Full) (sym is)
+
+-- what stands against gathering stands against a restart
+pub gathering_told : (r : Run) (p : Pid) (listed : ℕ) (fault : CoreFault) → gathering_fault r p ≡ Some fault → listing_fault r p listed ≡ Some fault
+gathering_told r p listed fault h =
+    two_told (when (not (nat_lt p.0 r.recording.processes)) Why.NoProcess) (when (is_some (at (memories_of r) p.0)) Why.NotDown) (when (is_full r 9 listed || nat_le 192 (restarts r.recording.past)) Why.Full) fault h
 
 pub restart_below : (r : Run) (p : Pid) → first_fault r (Ask.Restart p) ≡ None → p.0 < r.recording.processes
 unfolding rows

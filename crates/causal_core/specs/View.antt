@@ -29,7 +29,7 @@ pub record DataState : Type 0 where
   pub bodies : List (List (List ℕ))
   pub spare : ℕ
   pub rooms : List Room
-  pub writers_room : ℕ
+  pub stable_room : ℕ
 
 abbrev pub run_from : Recording → ℕ → List Pid → Run
 run_from recording faults writers = record { recording = recording; faults = faults; writers = reverse writers }

@@ -54,14 +54,14 @@ pub struct Data {
 }
 
 impl Model for Data {
-    ghost use Rattle.std.specs.Prelude.{◌-◌, vec_capacity, vec_len};
+    ghost use Rattle.std.specs.Prelude.{◌-◌, min, vec_capacity, vec_len};
     ghost use Rattle.causal_core.specs.Inside.Facts.{IsHeld};
     ghost use Rattle.causal_core.specs.View.{DataState, run_from};
     ghost use Rattle.causal_core.specs.Inside.Memories.{memories_in, bodies_in, rooms_in};
 
     ghost Value = { DataState };
 
-    ghost view = { λ d. record { run = run_from d.trace.recording d.faults d.writers.items; bodies = bodies_in d.cells.items; spare = d.trace.spare; rooms = rooms_in d.cells.items; writers_room = vec_capacity d.writers - vec_len d.writers } };
+    ghost view = { λ d. record { run = run_from d.trace.recording d.faults d.writers.items; bodies = bodies_in d.cells.items; spare = d.trace.spare; rooms = rooms_in d.cells.items; stable_room = min (vec_capacity d.writers - vec_len d.writers) d.trace.stable_spare } };
 
     ghost invariant = { λ d. IsHeld (run_from d.trace.recording d.faults d.writers.items) (memories_in d.cells.items) };
 }
@@ -373,14 +373,12 @@ impl Data {
         requires up { is_some (at (memories_of self.old.run) p.0) ≡ true }
         requires logged { is_some (fin.get (log_at (memories_of self.old.run) p.0) det) ≡ true }
         requires short { length self.old.run.recording.past < max_entries }
-        requires spare { 1 ≤ self.old.spare }
-        requires room { 1 ≤ self.old.writers_room }
+        requires room { 1 ≤ self.old.stable_room }
         ensures run { self.new.run ≡ flushed self.old.run p (det ∷ []) }
         ensures bodies { self.new.bodies ≡ self.old.bodies }
-        ensures spare { self.old.spare ≤ self.new.spare + 1 }
-        ensures room { self.old.writers_room ≤ self.new.writers_room + 1 }
+        ensures room { self.old.stable_room ≤ self.new.stable_room + 1 }
     {
-        self.trace.push_reserved(Entry::Stable { det });
+        self.trace.push_stable_reserved(det);
         self.writers.push_reserved(p);
         mark_at(&mut self.cells, p, det);
     }

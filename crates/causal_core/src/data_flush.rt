@@ -6,7 +6,6 @@ ghost use Rattle.causal_protocol.specs.declared.request.Request.TheVariants as A
 ghost use Rattle.causal_protocol.specs.Memory.{at, changed, with_log};
 ghost use Rattle.causal_protocol.specs.Refusals.{first_fault, unwritten, forgettable};
 ghost use Rattle.causal_protocol.specs.Steps.{extended, Steps, told_forget};
-ghost use Rattle.causal_core.specs.Inside.Stables.{HasRoomForStable};
 ghost use Rattle.causal_core.specs.View.{IsReason};
 ghost use Rattle.causal_core.specs.Inside.Memories.{memory_of, bodies_of, memories_in, bodies_in};
 ghost use Rattle.causal_trace.specs.Limits.{max_entries};
@@ -66,14 +65,14 @@ impl Data {
         }
     }
 
-    /// Room for so many stable entries.
+    /// Room for so many stable entries, and for who wrote them.
     fn make_room_for_stable(&mut self, count: usize) -> Result<(), NoMemory>
         requires { count ≤ max_entries }
         ensures run { self.new.run ≡ self.old.run }
         ensures bodies { self.new.bodies ≡ self.old.bodies }
-        ensures room { OnOk result (HasRoomForStable count self.new) }
+        ensures room { OnOk result (count ≤ self.new.stable_room) }
     {
-        self.trace.reserve(count as u32)?;
+        self.trace.reserve_stable(count as u32)?;
         self.writers.reserve(count)?;
         Ok(())
     }
@@ -85,7 +84,7 @@ impl Data {
         ensures legal { OnOk result (first_fault self.old.run (Ask.Flush p) ≡ None) }
         ensures refused { IfErr result (IsReason self.old.run (Ask.Flush p)) }
         ensures dets { IfOk result (λ dets. dets.items ≡ unwritten self.old.run p) }
-        ensures room { IfOk result (λ dets. HasRoomForStable (length dets.items) self.new) }
+        ensures room { IfOk result (λ dets. length dets.items ≤ self.new.stable_room) }
     {
         if let Some(fault) = self.flush_fault(p) {
             return Err(fault);

@@ -1,14 +1,16 @@
 //! A restart, as far as plain data goes.
-ghost use Rattle.std.specs.Prelude.{◌≡◌, ◌≤◌, ◌<◌, length, replicate, OnOk, IfOk, IfErr, None, Some, slice_set, vec_len, nat_le, ◌||◌};
+ghost use Rattle.std.specs.Prelude.{◌≡◌, ◌≤◌, ◌<◌, length, replicate, OnOk, IfOk, IfErr, None, Some, slice_set, vec_len, nat_le, unwrap_or, ◌||◌};
 ghost use Rattle.std.specs.FinMap as fin;
 ghost use Rattle.causal_log.specs.Logs.{chosen};
 ghost use Rattle.causal_trace.specs.Past.{restarts};
 ghost use Rattle.causal_protocol.specs.declared.request.Request.TheVariants as Ask;
 ghost use Rattle.causal_protocol.specs.declared.request.Reply.TheVariants as Told;
+ghost use Rattle.causal_protocol.specs.Gathering.{gathered_log};
 ghost use Rattle.causal_protocol.specs.Refusals.{first_fault, is_full};
+ghost use Rattle.causal_protocol.specs.Run.{memories_of, stable_of};
 ghost use Rattle.causal_protocol.specs.Steps.{Steps};
 ghost use Rattle.causal_core.specs.Inside.Stables.{IsStored};
-ghost use Rattle.causal_core.specs.Inside.Gathers.{IsGathered, IsGatheredFor};
+ghost use Rattle.causal_core.specs.Inside.Gathers.{listing_fault, IsGathered, IsGatheredFor};
 ghost use Rattle.causal_core.specs.View.{sent_in, with_restart, IsReason};
 ghost use Rattle.causal_core.specs.Inside.Grown.{batches_of};
 ghost use Rattle.causal_core.specs.Inside.Memories.{memory_of, bodies_of, memories_in, bodies_in};
@@ -73,6 +75,13 @@ pub(crate) fn gathered(alloc: Global, f: u16, log: Log) -> Result<Gathered, NoMe
     })
 }
 
+/// The reason that stands, or want of memory.
+fn reason_or_memory(reason: Option<CoreFault>) -> CoreFault
+    ensures { result ≡ unwrap_or reason CoreFault.NoMemory }
+{
+    reason.unwrap_or(CoreFault::NoMemory)
+}
+
 impl Data {
     /// Whether a restart that lists so many determinants would pass a limit.
     fn is_full_for(&self, listed: usize) -> bool
@@ -81,37 +90,71 @@ impl Data {
         self.trace.restarts() as usize >= MAX_RESTARTS || is_full(&self.trace, 9, listed)
     }
 
-    /// What stands against a restart of p, where the store has what is stable.
-    #[tactic(auto, unfolding(causal_protocol::specs::Refusals::rows))]
-    fn restart_fault<S: Stable>(&self, p: Pid, store: &S) -> Option<CoreFault>
-        requires { IsStored (S.contents store.now) self.now.run.recording.past }
-        ensures { result ≡ first_fault self.now.run (Ask.Restart p) }
+    /// What stands against a restart of p that lists so many determinants.
+    fn listing_fault(&self, p: Pid, listed: usize) -> Option<CoreFault>
+        ensures { result ≡ listing_fault self.now.run p listed }
     {
         if let Some(fault) = self.gathering_fault(p) {
             return Some(fault);
         }
-        if self.is_full_for(count_gathered(self.cells.as_slice(), store)) {
+        if self.is_full_for(listed) {
             return Some(CoreFault::Full);
         }
         None
     }
 
-    /// Gathers for p, with room for the restart and its sends.
-    fn gathered_for<S: Stable>(
-        &mut self,
-        alloc: Global,
-        p: Pid,
-        store: &S,
-    ) -> Result<Gathered, NoMemory>
-        requires { IsStored (S.contents store.now) self.old.run.recording.past }
+    /// What stands against a restart of p, where the store has what is stable. It takes no memory: each determinant that is
+    /// logged is sought in the logs before its own.
+    fn restart_fault<S: Stable>(&self, p: Pid, store: &S) -> Option<CoreFault>
+        requires { IsStored (S.contents store.now) self.now.run.recording.past }
+        ensures { result ≡ first_fault self.now.run (Ask.Restart p) }
+    {
+        self.listing_fault(p, count_gathered(self.cells.as_slice(), store))
+    }
+
+    /// The log that p would have after a restart, where the store has what is stable.
+    ///
+    /// # Errors
+    /// Where memory was refused, what stands against the restart, and `NoMemory` where nothing does.
+    fn log_for<S: Stable>(&self, alloc: Global, p: Pid, store: &S) -> Result<Log, CoreFault>
+        requires { IsStored (S.contents store.now) self.now.run.recording.past }
+        ensures ok { IfOk result (λ log. log.map ≡ gathered_log (memories_of self.now.run) (stable_of self.now.run) p) }
+        ensures refused { IfErr result (IsReason self.now.run (Ask.Restart p)) }
+    {
+        match self.gather(alloc, p, store) {
+            Ok(log) => Ok(log),
+            Err(_) => Err(reason_or_memory(self.restart_fault(p, store))),
+        }
+    }
+
+    /// Room for a restart of p and its sends, and what p puts in place with the log that it has then.
+    fn gathered_for(&mut self, alloc: Global, log: Log) -> Result<Gathered, NoMemory>
         ensures run { self.new.run ≡ self.old.run }
         ensures bodies { self.new.bodies ≡ self.old.bodies }
-        ensures gathered { IfOk result (IsGatheredFor self.old.run p) }
+        ensures gathered { IfOk result (IsGathered self.old.run.faults log.map) }
         ensures room { OnOk result (9 ≤ self.new.spare) }
     {
         self.trace.reserve(9)?;
-        let log = self.gather(alloc, p, store)?;
         gathered(alloc, self.faults, log)
+    }
+
+    /// The same, where this log is what a restart of p gathers and nothing stands against that restart.
+    fn admitted(&mut self, alloc: Global, p: Pid, log: Log) -> Result<Gathered, CoreFault>
+        requires { log.map ≡ gathered_log (memories_of self.old.run) (stable_of self.old.run) p }
+        ensures run { self.new.run ≡ self.old.run }
+        ensures bodies { self.new.bodies ≡ self.old.bodies }
+        ensures legal { OnOk result (first_fault self.old.run (Ask.Restart p) ≡ None) }
+        ensures refused { IfErr result (IsReason self.old.run (Ask.Restart p)) }
+        ensures gathered { IfOk result (IsGatheredFor self.old.run p) }
+        ensures room { OnOk result (9 ≤ self.new.spare) }
+    {
+        if let Some(fault) = self.listing_fault(p, log.len() as usize) {
+            return Err(fault);
+        }
+        match self.gathered_for(alloc, log) {
+            Ok(gathered) => Ok(gathered),
+            Err(_) => Err(CoreFault::NoMemory),
+        }
     }
 
     /// Makes all that a restart of p needs memory for, where nothing stands against it and the store has what is stable.
@@ -129,12 +172,13 @@ impl Data {
         ensures gathered { IfOk result (IsGatheredFor self.old.run p) }
         ensures room { OnOk result (9 ≤ self.new.spare) }
     {
-        if let Some(fault) = self.restart_fault(p, store) {
+        // Whoever lists nothing, too, is refused where entries or restarts are at their limit: nothing is gathered then.
+        if let Some(fault) = self.listing_fault(p, 0) {
             return Err(fault);
         }
-        match self.gathered_for(alloc, p, store) {
-            Ok(gathered) => Ok(gathered),
-            Err(_) => Err(CoreFault::NoMemory),
+        match self.log_for(alloc, p, store) {
+            Ok(log) => self.admitted(alloc, p, log),
+            Err(fault) => Err(fault),
         }
     }
 

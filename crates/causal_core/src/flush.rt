@@ -26,8 +26,7 @@ fn write_one<S: Stable>(held: &mut Data, store: &mut S, p: Pid, det: Det) -> Res
     requires up { is_some (at (memories_of held.old.run) p.0) ≡ true }
     requires logged { is_some (fin.get (log_at (memories_of held.old.run) p.0) det) ≡ true }
     requires short { length held.old.run.recording.past < max_entries }
-    requires spare { 1 ≤ held.old.spare }
-    requires room { 1 ≤ held.old.writers_room }
+    requires room { 1 ≤ held.old.stable_room }
     requires stored { IsStored (S.contents store.old) held.old.run.recording.past }
     ensures ok { OnOk result (held.new.run ≡ flushed held.old.run p (det ∷ [])) }
     ensures err { OnErr result (held.new.run ≡ held.old.run) }
@@ -37,8 +36,7 @@ fn write_one<S: Stable>(held: &mut Data, store: &mut S, p: Pid, det: Det) -> Res
     ensures fault { result ≡ Err CoreFault.StoreFault → HasFailed (S.faults store.old) (S.faults store.new) }
     ensures faults { S.faults store.old ≤ S.faults store.new }
     ensures bodies { held.new.bodies ≡ held.old.bodies }
-    ensures spare { held.old.spare ≤ held.new.spare + 1 }
-    ensures room { held.old.writers_room ≤ held.new.writers_room + 1 }
+    ensures room { held.old.stable_room ≤ held.new.stable_room + 1 }
 {
     if store.failures() == u64::MAX {
         return Err(CoreFault::StoreFault);
@@ -64,8 +62,7 @@ fn write_all<S: Stable>(
     requires up { is_some (at (memories_of held.old.run) p.0) ≡ true }
     requires logged { list_all (λ d. is_some (fin.get (log_at (memories_of held.old.run) p.0) d)) dets.now ≡ true }
     requires short { length held.old.run.recording.past + length dets.now ≤ max_entries }
-    requires spare { length dets.now ≤ held.old.spare }
-    requires room { length dets.now ≤ held.old.writers_room }
+    requires room { length dets.now ≤ held.old.stable_room }
     requires stored { IsStored (S.contents store.old) held.old.run.recording.past }
     ensures run { held.new.run ≡ flushed held.old.run p (take (written result) dets.now) }
     ensures ok { IfOk result (λ count. count ≡ length dets.now) }

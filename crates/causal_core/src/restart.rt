@@ -25,9 +25,10 @@ impl<S: Stable> Core<S> {
     /// Brings process p up again, as the spare, which begins. It knows all that is in the logs of the processes that are
     /// up and in stable storage.
     ///
-    /// It costs what it lists and what the logs of the up processes have, and to count the former a look-up of each entry
-    /// of a log in the logs before it. p's log notes its entries then, where there is memory for it, so that no call that
-    /// is refused reads it whole.
+    /// It costs what the logs of the up processes and stable storage have, but for logarithms, also where it is refused since
+    /// its list is too long; where entries or restarts are at their limit, or p is up, it is refused at no cost. Where memory
+    /// for the list is refused, what it would list is counted without memory: then each logged determinant is sought in the
+    /// logs before its own.
     ///
     /// # Errors
     /// `NoProcess`; `NotDown`; `Full` where fewer than nine entries are left, what it would list does not fit, or 192

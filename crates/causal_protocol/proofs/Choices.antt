@@ -145,6 +145,22 @@ module _ (log : LogMap) (det d : Det) where
       by true is o h = inl is
       by false is o h = inr h
 
+  pub marked_new : same_det d det ≡ true → has_entry d log ≡ true → tells_stable d (marked log det) ≡ true
+  marked_new same there = ap (λ o. (unwrap_or o nothing_known).stable) marked_get ∙ by (same_det d det) same (fin.get log d) there
+    where
+      by : (b : Bool) → b ≡ true → (o : Option Known) → is_some o ≡ true → (unwrap_or (cond b (option_map as_stable o) o) nothing_known).stable ≡ true
+      by false e o h = absurd (false≢true e)
+      by true e None h = absurd (false≢true h)
+      by true e (Some k) h = refl
+
+  pub marked_old : tells_stable d log ≡ true → tells_stable d (marked log det) ≡ true
+  marked_old h = ap (λ o. (unwrap_or o nothing_known).stable) marked_get ∙ by (same_det d det) (fin.get log d) h
+    where
+      by : (b : Bool) (o : Option Known) → (unwrap_or o nothing_known).stable ≡ true → (unwrap_or (cond b (option_map as_stable o) o) nothing_known).stable ≡ true
+      by false o h = h
+      by true None h = absurd (false≢true h)
+      by true (Some k) h = refl
+
 -- a log without some determinants
 module _ (listed : List Det) (log : LogMap) (d : Det) where
   without_get : fin.get (without listed log) d ≡ cond (not (has listed d)) (fin.get log d) None
@@ -163,6 +179,13 @@ module _ (listed : List Det) (log : LogMap) (d : Det) where
       by : (b : Bool) (o : Option Known) → set.contains (unwrap_or (cond b o None) nothing_known).holders q ≡ (b && set.contains (unwrap_or o nothing_known).holders q)
       by true o = refl
       by false o = set.contains-empty nat_cmp q
+
+  pub without_stable : tells_stable d (without listed log) ≡ (not (has listed d) && tells_stable d log)
+  without_stable = ap (λ o. (unwrap_or o nothing_known).stable) without_get ∙ by (not (has listed d)) (fin.get log d)
+    where
+      by : (b : Bool) (o : Option Known) → (unwrap_or (cond b o None) nothing_known).stable ≡ (b && (unwrap_or o nothing_known).stable)
+      by true o = refl
+      by false o = refl
 
   pub without_mark : tells_stable d (without listed log) ≡ true → tells_stable d log ≡ true
   without_mark h = by (not (has listed d)) (fin.get log d) (sym (ap (λ o. (unwrap_or o nothing_known).stable) without_get) ∙ h)

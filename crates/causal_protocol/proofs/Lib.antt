@@ -15,3 +15,4 @@ mod Refusals
 mod Stepping
 mod Opening
 mod FactByFact
+mod Contributing

@@ -10,7 +10,7 @@ use Rattle.std.proofs.lemmas.Bool.{false≢true, both_ways, or_cases, or_left, o
 use Rattle.causal_name.specs.declared.Pid.{Pid}
 use Rattle.causal_name.specs.declared.Det.{Det}
 use Rattle.causal_name.specs.Names.{det_cmp, same_det}
-use Rattle.causal_name.proofs.Lemmas.DetOrder.{det_ties, same_is, nat_ties}
+use Rattle.causal_name.proofs.Lemmas.DetOrder.{det_ties, same_is, same_itself, nat_ties}
 use Rattle.causal_trace.specs.Past.{has}
 use Rattle.causal_log.specs.declared.known.Known.{Known}
 use Rattle.causal_log.specs.declared.batch.Item.{Item}
@@ -22,6 +22,7 @@ use Rattle.causal_log.proofs.Lemmas.Learning.{logged_all, known_all, holds_eithe
 use Rattle.causal_log.proofs.Lemmas.Searches.{any_map, any_logged, any_dets, passes}
 use Rattle.causal_protocol.specs.Memory.{Memories, gained}
 use Rattle.causal_protocol.specs.Gathering.{united_all, held_all, stable_all, known_together, gathered_log}
+use Rattle.causal_protocol.specs.Contributions.{TellsHolder}
 use Rattle.causal_protocol.specs.Sight.{log_at, has_entry, tells_holder, tells_stable, has_logged, knows, marks, has_item, item_holder}
 
 -- what is known of nothing, and by one process
@@ -40,6 +41,14 @@ entry_of_holder log d q h = by (fin.get log d) h
   where
     by : (o : Option Known) → set.contains (unwrap_or o nothing_known).holders q ≡ true → is_some o ≡ true
     by None h = absurd (both_ways _ (set.contains-empty nat_cmp q) h)
+    by (Some k) h = refl
+
+-- and so has what is told to be stable
+pub entry_of_mark : (log : LogMap) (d : Det) → tells_stable d log ≡ true → has_entry d log ≡ true
+entry_of_mark log d h = by (fin.get log d) h
+  where
+    by : (o : Option Known) → (unwrap_or o nothing_known).stable ≡ true → is_some o ≡ true
+    by None h = absurd (false≢true h)
     by (Some k) h = refl
 
 -- an item that names a holder is an item
@@ -115,6 +124,22 @@ module _ (batch : List Item) (own : Det) (log : LogMap) (d : Det) where
         ]
       ]
 
+  item_named : (q : ℕ) (items : List Item) → item_holder d q items ≡ true → list_any (tells_item q) items ≡ true
+  item_named q [] h = absurd (false≢true h)
+  item_named q (item ∷ items) h =
+      elim (or_cases (same_det d item.det && set.contains item.holders q) (item_holder d q items) h) [
+        | inl one ↦ let parts = and_parts (same_det d item.det) (set.contains item.holders q) one in or_left _ _ (and_from _ _ parts.0 (or_left _ _ parts.1))
+        | inr more ↦ or_right _ _ (item_named q items more)
+      ]
+
+  item_sent : (items : List Item) → has_item d items ≡ true → list_any (tells_item own.source.0) items ≡ true
+  item_sent [] h = absurd (false≢true h)
+  item_sent (item ∷ items) h =
+      elim (or_cases (same_det d item.det) (has_item d items) h) [
+        | inl one ↦ or_left _ _ (and_from _ _ one (or_right _ _ (or_left _ _ (eq-eqb own.source.0 own.source.0 refl))))
+        | inr more ↦ or_right _ _ (item_sent items more)
+      ]
+
   item_received : (items : List Item) → has_item d items ≡ true → list_any (tells_item own.dest.0) items ≡ true
   item_received [] h = absurd (false≢true h)
   item_received (item ∷ items) h =
@@ -149,6 +174,23 @@ module _ (batch : List Item) (own : Det) (log : LogMap) (d : Det) where
         | inl mine ↦ or_right _ _ (or_left _ _ (and_from _ _ mine (itself_holds own.dest.0)))
         | inr item ↦ or_left _ _ (or_right _ _ (item_received batch item))
       ]
+
+  -- whom the message tells to hold it is told so
+  pub gained_told : (q : ℕ) → TellsHolder batch own d q → tells_holder d q (gained batch own log) ≡ true
+  gained_told q (inl named) = gained_known q ∙ or_left _ _ (or_right _ _ (item_named q batch named))
+  gained_told q (inr (inl ends)) =
+      elim ends.1 [
+        | inl is ↦ ap (λ x. tells_holder d x (gained batch own log)) is ∙ gained_known own.source.0 ∙ or_left _ _ (or_right _ _ (item_sent batch ends.0))
+        | inr is ↦ ap (λ x. tells_holder d x (gained batch own log)) is ∙ gained_new (or_right _ _ ends.0)
+      ]
+  gained_told q (inr (inr mine)) =
+      ap (λ x. tells_holder d x (gained batch own log)) mine.1 ∙ gained_new (or_left _ _ (ap (same_det d) (sym mine.0) ∙ same_itself d))
+
+  -- what is told to be stable is so still
+  pub gained_still : tells_stable d log ≡ true → tells_stable d (gained batch own log) ≡ true
+  gained_still h =
+      one_stable absorbs own (held_by own.dest) d
+      ∙ or_left _ _ (known_all (λ k. k.stable) stable_either (map (told own.source own.dest) batch) log d ∙ or_left _ _ h)
 
   pub gained_stable : tells_stable d (gained batch own log) ≡ true → tells_stable d log ≡ true
   gained_stable h =
@@ -315,6 +357,19 @@ module _ (ms : Memories) (stored : DetSet) (p : Pid) (d : Det) where
         ]
         | inr mine ↦ inl (alone_holds p.0 q (any_of d (λ x. set.contains (stable_and_held_by p).holders q) (dets_in stored) mine).1)
       ]
+
+  pub gathered_known : (r q : ℕ) → knows ms r d q ≡ true → tells_holder d q gathered ≡ true
+  gathered_known r q h =
+      all_known (λ k. set.contains k.holders q) (holds_either q)
+      ∙ or_left _ _ (held_known (λ k. set.contains k.holders q) (holds_either q) ∙ or_left _ _ (united_each (tells_holder d q) (holder_either d q) (none_holds d q) ms fin.empty r h))
+
+  pub gathered_marks : (r : ℕ) → marks ms r d ≡ true → tells_stable d gathered ≡ true
+  gathered_marks r h =
+      all_known (λ k. k.stable) stable_either
+      ∙ or_left _ _ (held_known (λ k. k.stable) stable_either ∙ or_left _ _ (united_each (tells_stable d) (mark_either d) (none_stable d) ms fin.empty r h))
+
+  pub stored_marks : store.has stored d ≡ true → tells_stable d gathered ≡ true
+  stored_marks h = all_known (λ k. k.stable) stable_either ∙ or_right _ _ (any_for d (λ x. true) (dets_in stored) (stored_have stored d ∙ h) refl)
 
   pub gathered_itself : has_entry d gathered ≡ true → tells_holder d p.0 gathered ≡ true
   gathered_itself h =

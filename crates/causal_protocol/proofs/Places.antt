@@ -14,7 +14,7 @@ set_same [] w x low = absurd (omega (arith, low))
 set_same (y ∷ ys) zero x low = refl
 set_same (y ∷ ys) (suc w) x low = set_same ys w x (omega (arith, low))
 
-set_other : {X : Type 0} (xs : List X) (w : ℕ) (x : X) (p : ℕ) → (w ≡ p → ⊥) → slice_get (slice_set xs w x) p ≡ slice_get xs p
+pub set_other : {X : Type 0} (xs : List X) (w : ℕ) (x : X) (p : ℕ) → (w ≡ p → ⊥) → slice_get (slice_set xs w x) p ≡ slice_get xs p
 set_other [] w x p other = refl
 set_other (y ∷ ys) zero x zero other = absurd (other refl)
 set_other (y ∷ ys) zero x (suc p) other = refl

@@ -9,3 +9,4 @@ pub mod Sight
 pub mod Kept
 pub mod Listed
 pub mod Runs
+pub mod Contributions

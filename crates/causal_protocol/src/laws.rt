@@ -2,6 +2,7 @@
 ghost use Rattle.causal_protocol.specs.Runs.{OpeningsAreRuns, StepsKeepRuns, RefusalsChangeNothing, RepliesTellEntries, IfKept, IfMade};
 ghost use Rattle.causal_protocol.specs.Runs.{IsSafeRun, HasSingleSlots, HasDeliveredSurvivors, After};
 ghost use Rattle.causal_protocol.specs.Runs.{IsDelivery, IsCrash, IsRestart, IsFlush, IsForgetting};
+ghost use Rattle.causal_protocol.specs.Contributions.{HoldersAreContributed, MarksAreContributed};
 ghost use Rattle.causal_protocol.specs.Listed.{DeliveriesListThese, RestartsListSurvivors};
 ghost use Rattle.causal_protocol.specs.Kept.{FewAreDown, HoldersHold, NamedHold, MarksAreTrue, DependentsHold, MessagesCarry, ReceiversFind, SendersFind};
 
@@ -37,6 +38,13 @@ pub fn replies_are_true()
 pub fn lists_have_these()
     ensures delivery { DeliveriesListThese }
     ensures restart { IfKept RestartsListSurvivors }
+{}
+
+/// What an up process knows of who holds a determinant, and of what is stable, is just what its present lane contributed, by its
+/// deliveries, its restart and its flushes, since it last forgot the determinant.
+pub fn knowledge_is_contributed()
+    ensures holders { HoldersAreContributed }
+    ensures marks { MarksAreContributed }
 {}
 
 /// Each delivery keeps each of the eight facts; so does its refusal.

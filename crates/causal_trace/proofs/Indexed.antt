@@ -17,6 +17,7 @@ use Rattle.causal_trace.specs.Limits.{IsProcessCount}
 use Rattle.causal_trace.specs.Past.{listed_by, lane, sends, restarts, deliveries_in, entry_at, is_send_to, message_sent, message_at, det_from, det_of, is_message}
 use Rattle.causal_trace.specs.Rows.{Recording, rows, first_fault}
 use Rattle.causal_trace.specs.State.{with_entry}
+use Rattle.causal_trace.specs.Bounded.{IsBounded}
 use Rattle.causal_trace.specs.Inside.Index.{ArePresentLanes, AreChains, HasHeads, fresh, lanes_after, IsIndexed, is_restart}
 use Rattle.causal_trace.specs.Inside.Chains.{Heads, HasHead, ChainsState, IsBelow, chain, head_of, heads_of, heads_after, nodes_after, opened, receipts, with_head, with_message}
 use Rattle.causal_trace.proofs.Chained.{head_keeps, head_lengths, linked_message, linked_receipt, message_keeps, message_leads, message_longer, message_there, receipt_leads}
@@ -186,6 +187,17 @@ indexed_push r e listed restarted l lanes c new was next at heads nodes = record
   lanes = lanes_push r.processes e r.past lanes was.lanes;
   chains = subst (λ h. AreChains r.processes (e ∷ r.past) h new.nodes) (sym heads) (subst (λ ns. AreChains r.processes (e ∷ r.past) (heads_after (message_sent e) (det_of r.past e) c) ns) (sym nodes) (chains_push r.processes r.past c was.chains e l next at));
 }
+
+-- a stable entry changes nothing of it
+pub indexed_stable : (r : Recording) (det : Det) (listed restarted : ℕ) (lanes : List Lane) (c : ChainsState) → IsIndexed r listed restarted lanes c → first_fault r.processes r.past (Stable det) ≡ None → IsIndexed (with_entry r (Stable det)) listed restarted lanes c
+indexed_stable r det listed restarted lanes c was next =
+    let none_listed : listed + 0 ≡ listed = omega arith in
+    record {
+      kept = subst (λ k. IsBounded (with_entry r (Stable det)) k) none_listed (kept_push r (Stable det) listed was.kept next);
+      restarted = was.restarted;
+      lanes = lanes_push r.processes (Stable det) r.past lanes was.lanes;
+      chains = chains_push r.processes r.past c was.chains (Stable det) 0 next (λ d h. absurd (let e : None ≡ Some d = h in cc));
+    }
 
 -- chains with the same heads and nodes serve as well
 pub indexed_same : (r : Recording) (listed restarted : ℕ) (lanes : List Lane) (c new : ChainsState) → IsIndexed r listed restarted lanes c → new.heads ≡ c.heads → new.nodes ≡ c.nodes → IsIndexed r listed restarted lanes new

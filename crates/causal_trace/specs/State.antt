@@ -4,10 +4,11 @@ use Rattle.causal_trace.specs.declared.entry.Entry.{Entry}
 use Rattle.causal_trace.specs.Past.{instant, is_down, lane}
 use Rattle.causal_trace.specs.Rows.{Recording}
 
--- a recording, and how many pushes are sure of their memory
+-- a recording, and how many pushes are sure of their memory: of any entries, and of stable ones
 pub record TraceState : Type 0 where
   pub recording : Recording
   pub spare : ℕ
+  pub stable_spare : ℕ
 
 -- the entries in the order in which they came
 abbrev pub entries_of : Recording → List Entry

@@ -19,8 +19,8 @@ use std::marker::Model;
 /// A trace: a recorded run of 1 to 256 processes, each of whose entries may stand where it stands. It keeps its limits,
 /// 65,536 entries, 1,048,576 listed determinants and 192 restarts.
 ///
-/// It is seen as its recording, and as the number of pushes that are sure of their memory, of which equality does not
-/// speak.
+/// It is seen as its recording, and as the numbers of pushes that are sure of their memory, of any entries and of stable
+/// ones, of which equality does not speak.
 ///
 /// Beside the entries it remembers each process's present lane, and of each message by whom and in which lanes it was
 /// delivered. So a push takes constant time, and for each determinant that the entry names, and for the message that it
@@ -42,7 +42,7 @@ impl Model for Trace {
 
     ghost Value = { TraceState };
 
-    ghost view = { λ a. record { recording = record { processes = a.processes; past = reverse a.entries.items }; spare = min (vec_capacity a.entries - vec_len a.entries) a.chains.spare } };
+    ghost view = { λ a. record { recording = record { processes = a.processes; past = reverse a.entries.items }; spare = min (vec_capacity a.entries - vec_len a.entries) a.chains.spare; stable_spare = vec_capacity a.entries - vec_len a.entries } };
 
     ghost invariant = { λ a. IsIndexed (record { processes = a.processes; past = reverse a.entries.items }) a.listed a.restarts a.lanes.items a.chains };
 }
@@ -174,6 +174,31 @@ impl Trace {
         let room = entries as usize;
         self.entries.reserve(room)?;
         self.chains.reserve(room)?;
+        Ok(())
+    }
+
+    /// Adds a stable entry against which no row stands, where there is room for it: it takes no memory and refuses nothing.
+    pub fn push_stable_reserved(&mut self, det: Det)
+        requires legal { fault_next self.old.recording (Entry.Stable det) ≡ None }
+        requires room { 1 ≤ self.old.stable_spare }
+        ensures recording { self.new.recording ≡ with_entry self.old.recording (Entry.Stable det) }
+        ensures formed { IsWellFormed self.new.recording }
+        ensures spare { self.old.stable_spare ≤ self.new.stable_spare + 1 }
+    {
+        self.entries.push_reserved(Entry::Stable { det });
+    }
+
+    /// Makes the next `entries` pushes of stable entries sure of their memory. It takes room for so many entries alone, since
+    /// such an entry sends and delivers nothing.
+    ///
+    /// # Errors
+    /// `NoMemory` where a growth was refused; the trace is as it was.
+    pub fn reserve_stable(&mut self, entries: u32) -> Result<(), NoMemory>
+        ensures recording { self.new.recording ≡ self.old.recording }
+        ensures ok { OnOk result (entries ≤ self.new.stable_spare) }
+        ensures refused { OnErr result (self.old.stable_spare < entries) }
+    {
+        self.entries.reserve(entries as usize)?;
         Ok(())
     }
 

@@ -1,5 +1,5 @@
 -- What a restart puts in place, and how what it lists is counted.
-use Rattle.std.specs.Prelude.{◌≡◌, ℕ, ◌≤◌, Bool, false, not, ◌||◌, List, [], length, count_by, replicate, is_some}
+use Rattle.std.specs.Prelude.{◌≡◌, ℕ, ◌≤◌, Bool, false, not, ◌||◌, nat_lt, nat_le, List, [], ◌∷◌, length, Option, count_by, replicate, is_some}
 use Rattle.std.specs.List.{list_any}
 use Rattle.std.specs.Option.{option_map_or}
 use Rattle.std.specs.FinMap as fin
@@ -7,7 +7,12 @@ use Rattle.causal_name.specs.declared.Pid.{Pid}
 use Rattle.causal_name.specs.declared.Det.{Det}
 use Rattle.causal_log.specs.Logs.{LogMap, chosen}
 use Rattle.causal_log.specs.Stores.{DetSet, has}
-use Rattle.causal_protocol.specs.Memory.{Memories, fresh}
+use Rattle.causal_trace.specs.Limits.{max_restarts}
+use Rattle.causal_trace.specs.Past.{restarts}
+use Rattle.causal_protocol.specs.Memory.{Memories, fresh, at}
+use Rattle.causal_protocol.specs.Refusals.{first_of, is_full, when}
+use Rattle.causal_protocol.specs.declared.request.CoreFault.{CoreFault}
+use Rattle.causal_protocol.specs.declared.request.CoreFault.TheVariants as Why
 use Rattle.causal_protocol.specs.Gathering.{gathered_log, united_all, held_all, stable_all}
 use Rattle.causal_protocol.specs.Run.{Run, memories_of, stable_of}
 use Rattle.causal_core.specs.declared.gathered.Gathered.{Gathered}
@@ -36,6 +41,15 @@ gathered_with ms stored p = gathered_onto fin.empty ms stored p
 -- so many determinants are gathered, whoever gathers them
 abbrev pub IsGatheredCount : ℕ → Memories → DetSet → Type 0
 IsGatheredCount count ms stored = (p : Pid) → count ≡ length (fin.keys (gathered_log ms stored p))
+
+-- what stands against a restart of p that lists so many determinants
+abbrev pub listing_fault : Run → Pid → ℕ → Option CoreFault
+listing_fault r p listed =
+    first_of
+    (when (not (nat_lt p.0 r.recording.processes)) Why.NoProcess
+    ∷ when (is_some (at (memories_of r) p.0)) Why.NotDown
+    ∷ when (is_full r 9 listed || nat_le max_restarts (restarts r.recording.past)) Why.Full
+    ∷ [])
 
 -- what a process puts in place that comes up with this log, for f failures
 pub record IsGathered (f : ℕ) (log : LogMap) (g : Gathered) : Type 0 where

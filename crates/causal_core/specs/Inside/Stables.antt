@@ -1,5 +1,5 @@
--- What a flush makes of a memory, of a run and of the store, and the room that it takes.
-use Rattle.std.specs.Prelude.{◌≡◌, ℕ, ◌≤◌, List, map, Result, Ok, Err}
+-- What a flush makes of a memory, of a run and of the store.
+use Rattle.std.specs.Prelude.{◌≡◌, ℕ, List, map, Result, Ok, Err}
 use Rattle.causal_name.specs.declared.Pid.{Pid}
 use Rattle.causal_name.specs.declared.Det.{Det}
 use Rattle.causal_log.specs.Logs.{marked}
@@ -12,7 +12,6 @@ use Rattle.causal_protocol.specs.declared.request.Request.TheVariants as Ask
 use Rattle.causal_protocol.specs.Memory.{Memory, with_log}
 use Rattle.causal_protocol.specs.Run.{Run}
 use Rattle.causal_protocol.specs.Steps.{extended}
-use Rattle.causal_core.specs.View.{DataState}
 
 -- the log knows the determinant to be stable
 abbrev pub with_stable : Det → Memory → Memory
@@ -21,10 +20,6 @@ with_stable det = with_log (λ log. marked log det)
 -- a flush of p wrote these
 abbrev pub flushed : Run → Pid → List Det → Run
 flushed r p dets = extended r (Ask.Flush p) (map Stable dets)
-
--- so many stable entries take no memory
-abbrev pub HasRoomForStable : ℕ → DataState → Type 0
-HasRoomForStable count d = (count ≤ d.spare) × (count ≤ d.writers_room)
 
 -- the store has just what the stable entries name
 abbrev pub IsStored : DetSet → List Entry → Type 0

@@ -18,7 +18,6 @@ loop-det-preserved g c =
       logged = still_logged c.loop-det.held.run c.write_one.new.held.run p _ ok inv.up dets inv.logged;
       filled = c.write_one.ensures.filled ∙ inv.filled;
       long = omega (arith, longer, inv.long);
-      spare = omega (arith, c.write_one.ensures.spare, inv.spare);
       room = omega (arith, c.write_one.ensures.room, inv.room);
       stored = c.write_one.ensures.stored;
       faults = omega (arith, c.write_one.ensures.faults, inv.faults);
@@ -33,7 +32,6 @@ loop-det-init g c = record {
   logged = c.requires.logged;
   filled = refl;
   long = omega arith;
-  spare = omega (arith, c.requires.spare);
   room = omega (arith, c.requires.room);
   stored = c.requires.stored;
   faults = omega arith;
@@ -48,9 +46,6 @@ write_one-requires-clause-up g c = c.loop-det.invariant.up
 
 pub write_one-requires-clause-short : goal.write_one-requires-clause-short
 write_one-requires-clause-short g c = omega (arith, c.loop-det.invariant.long, c.loop-det-test.true, c.requires.short)
-
-pub write_one-requires-clause-spare : goal.write_one-requires-clause-spare
-write_one-requires-clause-spare g c = omega (arith, c.loop-det.invariant.spare, c.loop-det-test.true)
 
 pub write_one-requires-clause-room : goal.write_one-requires-clause-room
 write_one-requires-clause-room g c = omega (arith, c.loop-det.invariant.room, c.loop-det-test.true)

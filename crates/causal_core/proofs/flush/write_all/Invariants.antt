@@ -16,8 +16,7 @@ invariant-loop-det g l = record {
   logged : list_all (λ d. is_some (fin.get (log_at (memories_of l.held.run) l.p.0) d)) l.dets ≡ true;
   filled : map is_some (memories_of l.held.run) ≡ map is_some (memories_of l.fn.held.run);
   long : length l.held.run.recording.past ≡ length l.fn.held.run.recording.past + l.det-index;
-  spare : length l.dets ≤ l.held.spare + l.det-index;
-  room : length l.dets ≤ l.held.writers_room + l.det-index;
+  room : length l.dets ≤ l.held.stable_room + l.det-index;
   stored : IsStored (g.S.Stable.contents l.store) l.held.run.recording.past;
   faults : g.S.Stable.faults l.fn.store ≤ g.S.Stable.faults l.store;
   bodies : l.held.bodies ≡ l.fn.held.bodies;

@@ -14,9 +14,6 @@ returns-in-Ok-clause-ok g c = c.note_stable.ensures.run
 pub returns-in-Ok-clause-bodies : goal.returns-in-Ok-clause-bodies
 returns-in-Ok-clause-bodies g c = c.note_stable.ensures.bodies
 
-pub returns-in-Ok-clause-spare : goal.returns-in-Ok-clause-spare
-returns-in-Ok-clause-spare g c = c.note_stable.ensures.spare
-
 pub returns-in-Ok-clause-room : goal.returns-in-Ok-clause-room
 returns-in-Ok-clause-room g c = c.note_stable.ensures.room
 

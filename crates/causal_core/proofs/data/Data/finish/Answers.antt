@@ -1,5 +1,5 @@
 use Rattle.std.proofs.Common.{◌≡◌, ◌∙◌, ◌+◌, ◌∷◌, Some, None, refl, ap, sym, subst, arith, length, replicate, vec_len}
-use Rattle.std.specs.Prelude.{is_some, ◌-◌, vec_capacity}
+use Rattle.std.specs.Prelude.{is_some, ◌-◌, min, vec_capacity}
 use Rattle.std.specs.FinMap as fin
 use Rattle.std.proofs.lemmas.Bool.Decides.{nat_tests}
 use Rattle.causal_name.specs.Names.{message_of, is_ascending}
@@ -31,7 +31,7 @@ use Rattle.causal_core.proofs.data.Data.finish.Goals as goal
 use Rattle.causal_core.proofs.data.Data.finish.Goals.{After-len-first}
 
 abbrev state : After-len-first → DataState
-state c = record { run = run_from c.self.inside.trace.recording c.self.inside.faults c.self.inside.writers.items; bodies = bodies_in c.self.inside.cells.items; spare = c.self.inside.trace.spare; rooms = rooms_in c.self.inside.cells.items; writers_room = vec_capacity c.self.inside.writers - vec_len c.self.inside.writers }
+state c = record { run = run_from c.self.inside.trace.recording c.self.inside.faults c.self.inside.writers.items; bodies = bodies_in c.self.inside.cells.items; spare = c.self.inside.trace.spare; rooms = rooms_in c.self.inside.cells.items; stable_room = min (vec_capacity c.self.inside.writers - vec_len c.self.inside.writers) c.self.inside.trace.stable_spare }
 
 grown : (c : After-len-first) → IsGrown (state c) c.args.q (message_of c.args.grown.own) c.args.grown
 grown c = subst (λ d. IsGrown d c.args.q (message_of c.args.grown.own) c.args.grown) (sym c.self.view_is) c.requires.grown

@@ -1,5 +1,5 @@
 use Rattle.std.proofs.Common.{List, ◌≡◌, ◌∙◌, ◌<◌, ◌∷◌, Some, None, true, refl, ap, sym, subst, arith, length, vec_len, slice_set}
-use Rattle.std.specs.Prelude.{◌-◌, vec_capacity}
+use Rattle.std.specs.Prelude.{◌-◌, min, vec_capacity}
 use Rattle.std.proofs.lemmas.Grind.{common_steps}
 use Rattle.causal_name.specs.declared.Pid.{Pid}
 use Rattle.causal_name.specs.Names.{is_ascending}
@@ -31,7 +31,7 @@ use Rattle.causal_core.proofs.data.Data.finish_restart.Goals as goal
 use Rattle.causal_core.proofs.data.Data.finish_restart.Goals.{After-len-first, After-put}
 
 abbrev state : After-len-first → DataState
-state c = record { run = run_from c.self.inside.trace.recording c.self.inside.faults c.self.inside.writers.items; bodies = bodies_in c.self.inside.cells.items; spare = c.self.inside.trace.spare; rooms = rooms_in c.self.inside.cells.items; writers_room = vec_capacity c.self.inside.writers - vec_len c.self.inside.writers }
+state c = record { run = run_from c.self.inside.trace.recording c.self.inside.faults c.self.inside.writers.items; bodies = bodies_in c.self.inside.cells.items; spare = c.self.inside.trace.spare; rooms = rooms_in c.self.inside.cells.items; stable_room = min (vec_capacity c.self.inside.writers - vec_len c.self.inside.writers) c.self.inside.trace.stable_spare }
 
 abbrev run : After-len-first → Run
 run c = (state c).run

@@ -1,5 +1,5 @@
 use Rattle.std.proofs.Common.{◌≡◌, ◌∙◌, Some, None, ap, sym, subst, arith, length, vec_len}
-use Rattle.std.specs.Prelude.{is_none, is_some, ◌-◌, vec_capacity}
+use Rattle.std.specs.Prelude.{is_none, is_some, ◌-◌, min, vec_capacity}
 use Rattle.std.specs.Option.{option_map, option_copied}
 use Rattle.std.proofs.lemmas.Grind.{common_steps}
 use Rattle.std.proofs.lemmas.Bool.{false≢true}
@@ -19,7 +19,7 @@ use Rattle.causal_core.proofs.data.Data.grown.Goals as goal
 use Rattle.causal_core.proofs.data.Data.grown.Goals.{After-as_slice-cells, In-Some, In-Some-cell_at}
 
 abbrev state : After-as_slice-cells → DataState
-state c = record { run = run_from c.self.inside.trace.recording c.self.inside.faults c.self.inside.writers.items; bodies = bodies_in c.self.inside.cells.items; spare = c.self.inside.trace.spare; rooms = rooms_in c.self.inside.cells.items; writers_room = vec_capacity c.self.inside.writers - vec_len c.self.inside.writers }
+state c = record { run = run_from c.self.inside.trace.recording c.self.inside.faults c.self.inside.writers.items; bodies = bodies_in c.self.inside.cells.items; spare = c.self.inside.trace.spare; rooms = rooms_in c.self.inside.cells.items; stable_room = min (vec_capacity c.self.inside.writers - vec_len c.self.inside.writers) c.self.inside.trace.stable_spare }
 
 none : (c : After-as_slice-cells) → first_fault (state c).run (Ask.Deliver c.args.q c.args.source c.args.ssn) ≡ None
 none c = ap (λ s. first_fault s.run (Ask.Deliver c.args.q c.args.source c.args.ssn)) c.self.view_is ∙ c.requires

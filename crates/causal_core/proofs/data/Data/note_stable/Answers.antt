@@ -9,8 +9,8 @@ use Rattle.causal_core.proofs.Legal.{held_fit}
 use Rattle.causal_core.proofs.Writing.{stable_may, stable_held}
 use Rattle.causal_core.proofs.data.Data.note_stable.Goals as goal
 
-pub push_reserved-requires-clause-legal : goal.push_reserved-requires-clause-legal
-push_reserved-requires-clause-legal c =
+pub push_stable_reserved-requires-clause-legal : goal.push_stable_reserved-requires-clause-legal
+push_stable_reserved-requires-clause-legal c =
     let r = run_from c.self.inside.trace.recording c.self.inside.faults c.self.inside.writers.items in
     let process : c.args.p.0 < c.self.inside.trace.recording.processes = let e = ap (λ s. s.run.recording.processes) c.self.view_is in omega (arith, e, c.requires.process) in
     let short : length c.self.inside.trace.recording.past < 65536 = let e = ap (λ s. length s.run.recording.past) c.self.view_is in omega (arith, e, c.requires.short) in
@@ -29,5 +29,5 @@ invariant_of-self c =
     (ap (λ s. is_some (at (memories_of s.run) c.args.p.0)) c.self.view_is ∙ c.requires.up)
     (ap (λ s. is_some (fin.get (log_at (memories_of s.run) c.args.p.0) c.args.det)) c.self.view_is ∙ c.requires.logged)
     short c.self.invariant.formed in
-    rw (c.mark_at.ensures.memories, c.push_reserved.ensures.recording, c.push_reserved-2.ensures.items, reverse-append)
+    rw (c.mark_at.ensures.memories, c.push_stable_reserved.ensures.recording, c.push_reserved.ensures.items, reverse-append)
     (stable_held r (memories_in c.self.inside.cells.items) c.args.p c.args.det c.self.invariant process next)

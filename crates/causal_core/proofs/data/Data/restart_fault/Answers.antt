@@ -1,16 +1,13 @@
-use Rattle.std.proofs.Common.{◌≡◌, ◌∙◌, ap, sym, arith, length}
+use Rattle.std.proofs.Common.{◌≡◌, ◌∙◌, ap, arith, length}
 use Rattle.std.specs.FinMap as fin
 use Rattle.causal_log.specs.Stores.{count_in}
-use Rattle.causal_trace.specs.Past.{restarts}
-use Rattle.std.specs.Prelude.{◌||◌, nat_le}
 use Rattle.causal_trace.proofs.Lemmas.Formed.{formed_short}
-use Rattle.causal_protocol.specs.declared.request.CoreFault.TheVariants as Why
 use Rattle.causal_protocol.specs.Gathering.{gathered_log}
 use Rattle.causal_protocol.specs.Run.{memories_of}
-use Rattle.causal_protocol.specs.Refusals.{is_full, gathered, when}
+use Rattle.causal_protocol.specs.Refusals.{gathered}
 use Rattle.causal_core.specs.Inside.Memories.{memories_in}
 use Rattle.causal_core.proofs.Stored.{store_is}
-use Rattle.causal_core.proofs.Restarting.{few_stable, restart_full}
+use Rattle.causal_core.proofs.Restarting.{few_stable, restart_lists}
 use Rattle.causal_core.proofs.data.Data.restart_fault.Goals as goal
 
 pub count_gathered-requires-clause-few : goal.count_gathered-requires-clause-few
@@ -22,18 +19,6 @@ count_gathered-requires-clause-few g c =
     let short = (formed_short _ c.self.invariant.formed).entries in
     omega (arith, same, few, long, short)
 
-pub returns-then-is_full_for : goal.returns-then-is_full_for
-returns-then-is_full_for g c =
-    let r = c.args.self.now.run in
-    let known : memories_in c.as_slice.result.now ≡ memories_of r = ap memories_in c.as_slice.ensures.value ∙ c.self.invariant.same ∙ ap (λ s. memories_of s.run) c.self.view_is in
-    let stored = store_is (g.S.Stable.contents c.args.store.now) r.recording.past c.requires in
-    let count : c.count_gathered.result ≡ length (gathered r c.args.p) =
-    c.count_gathered.ensures c.args.p ∙ (λ i. length (fin.keys (gathered_log (known i) (stored i) c.args.p))) in
-    sym
-    (restart_full r c.args.p c.is_full_for.result (sym c.gathering_fault.ensures ∙ c.in_default.is)
-    (c.is_full_for.ensures ∙ ap (λ k. is_full r 9 k || nat_le 192 (restarts r.recording.past)) count)
-    ∙ ap (λ b. when b Why.Full) c.if-is_full_for.true)
-
 pub returns : goal.returns
 returns g c =
     let r = c.args.self.now.run in
@@ -41,7 +26,4 @@ returns g c =
     let stored = store_is (g.S.Stable.contents c.args.store.now) r.recording.past c.requires in
     let count : c.count_gathered.result ≡ length (gathered r c.args.p) =
     c.count_gathered.ensures c.args.p ∙ (λ i. length (fin.keys (gathered_log (known i) (stored i) c.args.p))) in
-    sym
-    (restart_full r c.args.p c.is_full_for.result (sym c.gathering_fault.ensures ∙ c.in_default.is)
-    (c.is_full_for.ensures ∙ ap (λ k. is_full r 9 k || nat_le 192 (restarts r.recording.past)) count)
-    ∙ ap (λ b. when b Why.Full) c.if-is_full_for.false)
+    c.listing_fault.ensures ∙ restart_lists r c.args.p c.count_gathered.result count

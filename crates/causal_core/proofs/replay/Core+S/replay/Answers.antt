@@ -1,4 +1,4 @@
-use Rattle.std.proofs.Common.{◌≡◌, ◌∙◌, refl, sym, arith}
+use Rattle.std.proofs.Common.{◌∙◌, refl, sym, arith}
 use Rattle.std.proofs.lemmas.Grind.{common_steps}
 use Rattle.causal_core.specs.CoreView.{run_of, state_of}
 use Rattle.causal_core.proofs.Replaying.{refuses_naming, replayed_nothing}

@@ -1,7 +1,5 @@
-use Rattle.std.proofs.Common.{◌≡◌, ◌∙◌, refl, sym, arith}
-use Rattle.std.proofs.lemmas.Grind.{common_steps}
-use Rattle.causal_core.specs.CoreView.{run_of, state_of}
-use Rattle.causal_core.proofs.Replaying.{replayed_none, replayed_more, replayed_on, replayed_unnamed, ends_refused, ends_unnamed}
+use Rattle.causal_core.specs.CoreView.{state_of}
+use Rattle.causal_core.proofs.Replaying.{replayed_none, replayed_more, replayed_on, replayed_unnamed}
 use Rattle.causal_core.proofs.replay.Core+S.replay_on.Goals as goal
 
 pub loop-count-init : goal.loop-count-init
