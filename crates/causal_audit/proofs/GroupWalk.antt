@@ -1,6 +1,6 @@
 -- A walk over the entries for the deliveries of a group.
-use Rattle.std.proofs.Common.{ℕ, ◌≡◌, ◌+◌, ◌-◌, ◌<◌, ◌≤◌, inl, inr, true, List, ◌∷◌, length, Some, None, refl, sym, ap, subst, ◌∙◌, arith}
-use Rattle.std.specs.Prelude.{◌↔◌, ◌==◌}
+use Rattle.std.proofs.Common.{ℕ, ◌≡◌, ◌+◌, ◌-◌, ◌<◌, ◌≤◌, inl, inr, true, List, ◌∷◌, length, Some, None, sym, ap, subst, ◌∙◌, arith}
+use Rattle.std.specs.Prelude.{◌↔◌, ◌==◌, vec_capacity}
 use Rattle.std.specs.Ordering.{nat_cmp}
 use Rattle.std.specs.FinSet.{FinSet, contains, insert}
 use Rattle.std.proofs.lemmas.Bool.{or_cases, or_left, or_right, eqb-true}
@@ -18,7 +18,7 @@ use Rattle.causal_audit.specs.declared.reach.Reach.{Reach}
 use Rattle.causal_audit.specs.declared.scan.Window.{Window}
 use Rattle.causal_audit.specs.Inside.Group.{HasRoom, HaveNone, IsFollowed, IsStep, position_at}
 use Rattle.causal_audit.specs.Inside.Held.{IsDeliveredTo, IsHeldBy, IsHeldSo}
-use Rattle.causal_audit.specs.Inside.Reaching.{HasRows, IsNewly, IsReach, SeesReach, row}
+use Rattle.causal_audit.specs.Inside.Reaching.{HasRowRoom, IsNewly, IsReach, SeesReach, row}
 use Rattle.causal_audit.specs.Quiet.{mentioned_by}
 use Rattle.causal_audit.specs.Inside.Among.{LeastAmongBy}
 use Rattle.causal_audit.specs.Inside.Scans.{positions_of}
@@ -70,16 +70,21 @@ is_step r windows start room s followed formed below next new sees short from in
 }
 
 -- the room stays
-pub room_stays : (old new : Room) → ((first end : ℕ) → HasRows first end old.reach → HasRows first end new.reach) → length new.mentioned.items ≡ length old.mentioned.items → length new.sights.items ≡ length old.sights.items
+pub room_stays : (old new : Room) → ((entries : ℕ) → HasRowRoom entries old.reach → HasRowRoom entries new.reach) → vec_capacity new.mentioned ≡ vec_capacity old.mentioned → length new.sights.items ≡ length old.sights.items
     → (entries : ℕ) → HasRoom entries old → HasRoom entries new
-room_stays old new rows mentioned sights entries was =
-    let is = rows old.reach.start (old.reach.start + length old.reach.reached.items) (record { start = refl; reached = refl; present = was.present }) in
-    record {
-      reached = omega (arith, is.reached, is.start, was.reached);
-      present = is.present;
-      mentioned = omega (arith, mentioned, was.mentioned);
-      sights = sights ∙ was.sights;
-    }
+room_stays old new rows mentioned sights entries was = record {
+  reach = rows entries was.reach;
+  mentioned = omega (arith, mentioned, was.mentioned);
+  sights = sights ∙ was.sights;
+}
+
+-- where there is room for so many entries there is room for fewer
+pub room_within : (many few : ℕ) (room : Room) → few ≤ many → HasRoom many room → HasRoom few room
+room_within many few room low is = record {
+  reach = record { reached = omega (arith, low, is.reach.reached); present = is.reach.present };
+  mentioned = omega (arith, low, is.mentioned);
+  sights = is.sights;
+}
 
 -- where none is the least there is none
 pub none_of_all : (r : Recording) (f end : ℕ) (windows : List Window) → LeastAmongBy r f end (positions_of windows) None → HaveNone r f windows end

@@ -1,6 +1,6 @@
 -- What one more entry makes of what each process is known to hold.
-use Rattle.std.proofs.Common.{ℕ, ◌≡◌, ◌∙◌, inl, inr, Bool, true, false, List, ◌∷◌, refl, sym, ap, subst}
-use Rattle.std.specs.Prelude.{◌&&◌, ◌||◌, ◌==◌, ◌⊎◌, not}
+use Rattle.std.proofs.Common.{ℕ, ◌≡◌, ◌∙◌, inl, inr, Bool, true, false, List, ◌∷◌, refl, sym, subst}
+use Rattle.std.specs.Prelude.{◌&&◌, ◌==◌, ◌⊎◌, not}
 use Rattle.std.specs.Ordering.{nat_cmp}
 use Rattle.std.specs.Cmp.{nat_cmp_total}
 use Rattle.std.specs.FinSet.{FinSet, contains, empty, union, difference, contains-empty, contains-union, contains-difference}

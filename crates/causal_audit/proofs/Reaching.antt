@@ -1,11 +1,11 @@
 -- Which of a few deliveries reach the entries of a walk, with one entry more.
-use Rattle.std.proofs.Common.{ℕ, ◌≡◌, ◌≢◌, ◌+◌, ◌++◌, ◌-◌, ◌<◌, ◌≤◌, inl, inr, Bool, true, false, cond, List, [], ◌∷◌, length, Some, None, refl, sym, ap, subst, ◌∙◌, arith}
+use Rattle.std.proofs.Common.{ℕ, ◌≡◌, ◌≢◌, ◌+◌, ◌-◌, ◌<◌, ◌≤◌, inl, inr, Bool, true, false, cond, List, ◌∷◌, length, Some, None, refl, sym, ap, subst, ◌∙◌, arith}
 use Rattle.std.specs.Prelude.{◌↔◌, ◌⊎◌, ◌||◌, ◌&&◌, ◌==◌, not}
-use Rattle.std.proofs.Math.ListN.{get_or-eq_default, set}
+use Rattle.std.proofs.Math.ListN.{set}
 use Rattle.std.specs.Ordering.{nat_cmp}
 use Rattle.std.specs.Cmp.{nat_cmp_total}
 use Rattle.std.specs.FinSet.{FinSet, contains, empty, len, len-insert, remove, same_set, nat_cmp-IsAntisymmetric, union, difference, insert, contains-empty, contains-union, contains-difference}
-use Rattle.std.proofs.lemmas.Bool.{cases_lt, false≢true, or_cases, and_parts, eqb-true, eq-eqb, ne_eqb}
+use Rattle.std.proofs.lemmas.Bool.{false≢true, or_cases, and_parts, eqb-true, eq-eqb, ne_eqb}
 use Rattle.std.proofs.lemmas.Bool.Decides.{eqb_tells}
 use Rattle.std.proofs.lemmas.List.{get_or-set_same, get_or-set_other, length-set}
 use Rattle.causal_name.specs.declared.Pid.{Pid}
@@ -19,7 +19,6 @@ use Rattle.causal_trace.proofs.Lemmas.Accepted.{accepted_forward, delivers_sent,
 use Rattle.causal_trace.proofs.Lemmas.Reached.{event_below, reaches_begins, reaches_old, depends_restarted}
 use Rattle.causal_audit.specs.declared.reach.Reach.{Reach}
 use Rattle.causal_audit.specs.declared.scan.Window.{Window}
-use Rattle.causal_audit.specs.Inside.Filed.{list_at, with_added}
 use Rattle.causal_audit.specs.Inside.Reaching.{AreOwnRows, IsNewly, IsReach, SeesReach, TellsReached, row, window_at}
 use Rattle.causal_audit.specs.Inside.Sights.{TellsNextReach}
 use Rattle.causal_audit.proofs.Dependence.{IsNoTurn, reaches_more, depends_more, depends_before}

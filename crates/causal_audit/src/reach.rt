@@ -1,9 +1,9 @@
 //! Which of a few deliveries reach the entries of a walk, and on which of them the processes depend, all by one walk.
-ghost use Rattle.std.specs.Prelude.{◌≡◌, ◌≢◌, ◌<◌, ◌≤◌, ℕ, List, IfOk, length};
+ghost use Rattle.std.specs.Prelude.{◌≡◌, ◌<◌, ◌≤◌, ℕ, List, IfOk, length, vec_capacity};
 ghost use Rattle.std.specs.FinSet as set;
 ghost use Rattle.std.specs.List.{All};
 ghost use Rattle.causal_trace.specs.declared.entry.Entry.{Entry};
-ghost use Rattle.causal_audit.specs.Inside.Reaching.{AreOwnRows, HasRowOf, HasRows, IsReach, SeesReach, TellsReached, row, window_at};
+ghost use Rattle.causal_audit.specs.Inside.Reaching.{AreOwnRows, HasRowOf, HasRowRoom, HasRows, IsReach, SeesReach, TellsReached, row, window_at};
 
 use crate::scan::Window;
 use causal_holders::Holders;
@@ -36,11 +36,12 @@ pub fn set_at(rows: &[Holders], i: usize) -> Holders
 
 /// Puts the place of each of these deliveries into the row of its own entry, where that has one. The first row is of
 /// the entry at `start`.
-pub fn mark_own(rows: &mut Vec<Holders>, start: u32, windows: &[Window])
+fn mark_own(rows: &mut Vec<Holders>, start: u32, windows: &[Window])
     requires few { length windows.now ≤ 256 }
     requires from { All (λ window. start ≤ window.position) windows.now }
     requires none { (i : ℕ) → row rows.old.items i ≡ set.empty }
     ensures count { length rows.new.items ≡ length rows.old.items }
+    ensures room { vec_capacity rows.new ≡ vec_capacity rows.old }
     ensures own { AreOwnRows windows.now start (length windows.now) rows.new.items }
 {
     for (place, window) in windows.iter().enumerate() {
@@ -56,43 +57,50 @@ pub fn clear(rows: &mut Vec<Holders>)
     ensures count { length rows.new.items ≡ length rows.old.items }
     ensures none { (i : ℕ) → row rows.new.items i ≡ set.empty }
 {
-    for i in 0..rows.len() {
-        rows[i] = Holders::none();
+    rows.fill(Holders::none());
+}
+
+/// Makes so many empty rows, for which there is room.
+pub fn make_empty(rows: &mut Vec<Holders>, many: usize)
+    requires { many ≤ vec_capacity rows.old }
+    ensures count { length rows.new.items ≡ many }
+    ensures room { vec_capacity rows.old ≤ vec_capacity rows.new }
+    ensures none { (i : ℕ) → row rows.new.items i ≡ set.empty }
+{
+    rows.clear();
+    if rows.resize(many, Holders::none()).is_err() {
+        unreachable!()
     }
 }
 
 impl Reach {
-    /// Where no entry was read of a walk from `start` up to `end`, for the deliveries of these windows, none of which
-    /// stands before the walk; so it is after the entries before the walk, none of which they reach.
-    pub fn begin(alloc: Global, start: u32, end: u32, windows: &[Window]) -> Result<Reach, NoMemory>
-        requires few { length windows.now ≤ 256 }
-        requires from { All (λ window. start ≤ window.position) windows.now }
-        requires ordered { start ≤ end }
-        ensures rows { IfOk result (HasRows start end) }
-        ensures begins { IfOk result (λ reach. (past : List Entry) (j : ℕ) → length past ≡ start →
-            j < length windows.now → IsReach past (window_at windows.now j).position j reach) }
+    /// Room for walks over so many entries.
+    ///
+    /// # Errors
+    /// `NoMemory` where memory was refused.
+    pub fn new(alloc: Global, entries: u32) -> Result<Reach, NoMemory>
+        ensures { IfOk result (HasRowRoom entries) }
     {
-        let mut reached = vec![in alloc; Holders::none(); (end - start) as usize]?;
-        mark_own(&mut reached, start, windows);
-        let present = vec![in alloc; Holders::none(); PROCESSES]?;
         Ok(Reach {
-            start,
-            reached,
-            present,
+            start: 0,
+            reached: Vec::with_capacity(alloc, entries as usize)?,
+            present: vec![in alloc; Holders::none(); PROCESSES]?,
         })
     }
 
-    /// The same in the rows that are there, for another walk.
-    pub fn renew(&mut self, start: u32, windows: &[Window])
+    /// Where no entry was read of a walk from `start` up to `end`, for the deliveries of these windows, none of which
+    /// stands before the walk; so it is after the entries before the walk, none of which they reach.
+    pub fn begin(&mut self, start: u32, end: u32, windows: &[Window])
         requires few { length windows.now ≤ 256 }
         requires from { All (λ window. start ≤ window.position) windows.now }
-        ensures start { self.new.start ≡ start }
-        ensures reached { length self.new.reached.items ≡ length self.old.reached.items }
-        ensures present { length self.new.present.items ≡ length self.old.present.items }
+        requires ordered { start ≤ end }
+        requires room { HasRowRoom end self.old }
+        ensures rows { HasRows start end self.new }
+        ensures room { (entries : ℕ) → HasRowRoom entries self.old → HasRowRoom entries self.new }
         ensures begins { (past : List Entry) (j : ℕ) → length past ≡ start →
             j < length windows.now → IsReach past (window_at windows.now j).position j self.new }
     {
-        clear(&mut self.reached);
+        make_empty(&mut self.reached, (end - start) as usize);
         clear(&mut self.present);
         mark_own(&mut self.reached, start, windows);
         self.start = start;
@@ -112,6 +120,7 @@ impl Reach {
     pub fn see(&mut self, entry: &Entry, t: u32) -> Holders
         requires row { HasRowOf t self.old }
         ensures rows { (start end : ℕ) → HasRows start end self.old → HasRows start end self.new }
+        ensures room { (entries : ℕ) → HasRowRoom entries self.old → HasRowRoom entries self.new }
         ensures sees { SeesReach entry.now t self.old self.new result }
     {
         let i = (t - self.start) as usize;

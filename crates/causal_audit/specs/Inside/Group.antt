@@ -1,5 +1,5 @@
 -- What is known of the deliveries of a group, by their places, in one walk over the entries.
-use Rattle.std.specs.Prelude.{◌≡◌, ℕ, ◌+◌, ◌<◌, ◌≤◌, ◌↔◌, ◌⊎◌, true, false, List, ◌∷◌, length, Option, Some, Contains, slice_index_or}
+use Rattle.std.specs.Prelude.{◌≡◌, ℕ, ◌+◌, ◌<◌, ◌≤◌, ◌↔◌, ◌⊎◌, true, false, List, ◌∷◌, length, Option, Some, Contains, slice_index_or, vec_capacity}
 use Rattle.std.specs.Ordering.{nat_cmp}
 use Rattle.std.specs.FinSet.{FinSet, contains, empty}
 use Rattle.causal_name.specs.declared.Det.{Det}
@@ -10,7 +10,7 @@ use Rattle.causal_trace.specs.Rows.{Recording, IsWellFormed}
 use Rattle.causal_audit.specs.Quiet.{mentioned_by}
 use Rattle.causal_audit.specs.Inside.Among.{HasNoOrphanBy, LeastAmongBy}
 use Rattle.causal_audit.specs.Inside.Held.{IsDeliveredTo, IsHeldSo}
-use Rattle.causal_audit.specs.Inside.Reaching.{IsNewly, IsReach, row, window_at}
+use Rattle.causal_audit.specs.Inside.Reaching.{HasRowRoom, HasRows, IsNewly, IsReach, row, window_at}
 use Rattle.causal_audit.specs.Inside.Scans.{positions_of}
 use Rattle.causal_audit.specs.Inside.Sights.{IsSight}
 use Rattle.causal_audit.specs.Inside.Staying.{MentionsNone}
@@ -101,11 +101,16 @@ HaveNone r f windows t = (j : ℕ) → j < length windows → HasNoOrphanBy r f 
 abbrev pub ArePlaces : List Window → FinSet nat_cmp → Type 0
 ArePlaces windows all = (j : ℕ) → (contains all j ≡ true) ↔ (j < length windows)
 
--- there is room for walks over so many entries
+-- there is room for walks over so many entries, and at each place for what is known there
 pub record HasRoom (entries : ℕ) (room : Room) : Type 0 where
-  pub reached : entries ≤ length room.reach.reached.items
-  pub present : length room.reach.present.items ≡ 256
-  pub mentioned : entries ≤ length room.mentioned.items
+  pub reach : HasRowRoom entries room.reach
+  pub mentioned : entries ≤ vec_capacity room.mentioned
+  pub sights : length room.sights.items ≡ 256
+
+-- there is a row for each entry of a walk from `start` up to `end`, and something is known at each place
+pub record HasRowsFor (start end : ℕ) (room : Room) : Type 0 where
+  pub reach : HasRows start end room.reach
+  pub mentioned : start + length room.mentioned.items ≡ end
   pub sights : length room.sights.items ≡ 256
 
 -- at the instant t of a walk that began at `start`

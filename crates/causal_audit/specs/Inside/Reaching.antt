@@ -1,5 +1,5 @@
 -- Which of a few deliveries, by their places, reach the entries of a walk, and on which of them its processes depend.
-use Rattle.std.specs.Prelude.{◌≡◌, ℕ, ◌+◌, ◌<◌, ◌≤◌, ◌↔◌, ◌⊎◌, true, List, ◌∷◌, length, Some, slice_index_or}
+use Rattle.std.specs.Prelude.{◌≡◌, ℕ, ◌+◌, ◌<◌, ◌≤◌, ◌↔◌, ◌⊎◌, true, List, ◌∷◌, length, Some, slice_index_or, vec_capacity}
 use Rattle.std.specs.Ordering.{nat_cmp}
 use Rattle.std.specs.FinSet.{FinSet, contains, empty}
 use Rattle.causal_name.specs.declared.Det.{Det}
@@ -34,6 +34,11 @@ abbrev pub AreOwnRows : List Window → ℕ → ℕ → List (FinSet nat_cmp) �
 AreOwnRows windows start count rows =
     (i j : ℕ) → i < length rows
     → (contains (row rows i) j ≡ true) ↔ ((j < count) × ((window_at windows j).position ≡ start + i))
+
+-- there is room for the rows of so many entries, and a row for each process
+pub record HasRowRoom (entries : ℕ) (reach : Reach) : Type 0 where
+  pub reached : entries ≤ vec_capacity reach.reached
+  pub present : length reach.present.items ≡ 256
 
 -- there is a row for each entry from the first of a walk up to its end, and for each process
 pub record HasRows (first end : ℕ) (reach : Reach) : Type 0 where

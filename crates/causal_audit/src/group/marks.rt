@@ -1,5 +1,5 @@
 //! Which entries of a walk mention the determinants of the deliveries of a group.
-ghost use Rattle.std.specs.Prelude.{◌≡◌, ◌≤◌, ◌<◌, ◌↔◌, ℕ, Some, true, length};
+ghost use Rattle.std.specs.Prelude.{◌≡◌, ◌≤◌, ◌<◌, ◌↔◌, ℕ, Some, true, length, vec_capacity};
 ghost use Rattle.std.specs.FinSet as set;
 ghost use Rattle.std.specs.List.{All};
 ghost use Rattle.std.specs.List.Sorted.{IsNonDecreasing};
@@ -17,6 +17,7 @@ use causal_holders::Holders;
 /// Puts a place into the row of the entry at a position, where it has one. The first row is of the entry at `start`.
 fn put(rows: &mut Vec<Holders>, start: u32, place: u8, position: u32)
     ensures count { length rows.new.items ≡ length rows.old.items }
+    ensures room { vec_capacity rows.new ≡ vec_capacity rows.old }
     ensures put { IsPut start place position rows.old.items rows.new.items }
 {
     if position < start {
@@ -31,6 +32,7 @@ fn put(rows: &mut Vec<Holders>, start: u32, place: u8, position: u32)
 /// Puts a place into the rows of the entries at these positions.
 fn mark(rows: &mut Vec<Holders>, start: u32, place: u8, positions: &[u32])
     ensures count { length rows.new.items ≡ length rows.old.items }
+    ensures room { vec_capacity rows.new ≡ vec_capacity rows.old }
     ensures marked { HaveMarked start place positions.now rows.old.items rows.new.items }
 {
     for position in positions {
@@ -79,6 +81,7 @@ impl Scan<'_> {
     fn mark_window(&self, rows: &mut Vec<Holders>, start: u32, place: u8, window: Window)
         requires fresh { (i : ℕ) → i < length rows.old.items → set.contains (row rows.old.items i) place ≡ true → ⊥ }
         ensures count { length rows.new.items ≡ length rows.old.items }
+        ensures room { vec_capacity rows.new ≡ vec_capacity rows.old }
         ensures others { (i j : ℕ) → i < length rows.old.items → (j ≡ place → ⊥) →
             (set.contains (row rows.new.items i) j ≡ true) ↔ (set.contains (row rows.old.items i) j ≡ true) }
         ensures marked { IsMarked self.now.past start place window rows.new.items }
@@ -93,6 +96,7 @@ impl Scan<'_> {
         requires few { length windows.now ≤ 256 }
         requires none { (i : ℕ) → row rows.old.items i ≡ set.empty }
         ensures count { length rows.new.items ≡ length rows.old.items }
+        ensures room { vec_capacity rows.new ≡ vec_capacity rows.old }
         ensures marked { AreMarked self.now.past start windows.now (length windows.now) rows.new.items }
     {
         for (place, window) in windows.iter().enumerate() {

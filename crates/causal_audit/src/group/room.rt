@@ -1,9 +1,9 @@
 //! The memory of a walk over the entries for a group of deliveries, which is made once for all groups.
 ghost use Rattle.std.specs.Prelude.{◌≡◌, ◌≤◌, ◌<◌, ◌↔◌, ℕ, IfOk, length};
 ghost use Rattle.std.specs.List.{All};
-ghost use Rattle.causal_audit.specs.Inside.Group.{ArePlaces, HasRoom, IsFollowed, IsUntouchedBefore, sight_at};
+ghost use Rattle.causal_audit.specs.Inside.Group.{ArePlaces, HasRoom, HasRowsFor, IsFollowed, IsUntouchedBefore, sight_at};
 
-use crate::reach::{Reach, clear};
+use crate::reach::{Reach, clear, make_empty};
 use crate::scan::{Scan, Window};
 use crate::sight::Sight;
 use causal_holders::Holders;
@@ -12,6 +12,9 @@ use std::alloc::Global;
 
 /// As many as there are places in a group.
 const PLACES: usize = 256;
+
+/// As many as there may be processes.
+const PROCESSES: usize = 256;
 
 /// What a walk keeps of the deliveries of a group, by their places: which of them reach the entries and on which the processes
 /// depend, of which the entries mention the determinant, whose determinants each process is known to hold, and what is known of
@@ -32,9 +35,9 @@ impl Room {
     pub fn new(alloc: Global, entries: u32) -> Result<Room, NoMemory>
         ensures { IfOk result (HasRoom entries) }
     {
-        let reach = Reach::begin(alloc, 0, entries, &[])?;
-        let mentioned = vec![in alloc; Holders::none(); entries as usize]?;
-        let held = vec![in alloc; Holders::none(); PLACES]?;
+        let reach = Reach::new(alloc, entries)?;
+        let mentioned = Vec::with_capacity(alloc, entries as usize)?;
+        let held = vec![in alloc; Holders::none(); PROCESSES]?;
         let sights = vec![in alloc; Sight::begin(Holders::none()); PLACES]?;
         Ok(Room {
             reach,
@@ -68,17 +71,20 @@ pub fn places_of(windows: &[Window]) -> Holders
 }
 
 impl Scan<'_> {
-    /// Makes a room ready for a walk from `start` on, before which nothing touches a delivery of the group.
-    pub fn begin(&self, room: &mut Room, start: u32, windows: &[Window])
+    /// Makes a room ready for a walk from `start` up to `end`, before which nothing touches a delivery of the group. It takes
+    /// time as the entries of the walk, and as the mentions of the determinants.
+    pub fn begin(&self, room: &mut Room, start: u32, end: u32, windows: &[Window])
         requires few { length windows.now ≤ 256 }
-        requires within { start ≤ length self.now.past }
+        requires ordered { start ≤ end }
+        requires within { end ≤ length self.now.past }
         requires from { All (IsUntouchedBefore self.now.past start) windows.now }
-        requires sights { length room.old.sights.items ≡ 256 }
+        requires room { HasRoom end room.old }
         ensures room { (entries : ℕ) → HasRoom entries room.old → HasRoom entries room.new }
+        ensures rows { HasRowsFor start end room.new }
         ensures begun { IsFollowed self.now windows.now start start room.new }
     {
-        room.reach.renew(start, windows);
-        clear(&mut room.mentioned);
+        room.reach.begin(start, end, windows);
+        make_empty(&mut room.mentioned, (end - start) as usize);
         self.mark_all(&mut room.mentioned, start, windows);
         clear(&mut room.held);
         let down = self.outline.turns.from(start).down();

@@ -2,7 +2,7 @@
 ghost use Rattle.std.specs.Prelude.{◌≡◌, ◌≤◌, ◌<◌, ℕ, length, min};
 ghost use Rattle.std.specs.List.{All};
 ghost use Rattle.causal_audit.specs.Inside.Among.{LeastAmongBy};
-ghost use Rattle.causal_audit.specs.Inside.Group.{HasRoom, HaveNone, IsFollowed};
+ghost use Rattle.causal_audit.specs.Inside.Group.{HasRoom, HasRowsFor, HaveNone, IsFollowed};
 ghost use Rattle.causal_audit.specs.Inside.Scans.{IsWindow, positions_of};
 
 use crate::breach::{Breach, earlier};
@@ -29,7 +29,7 @@ fn follow(
     requires few { length windows.now ≤ 256 }
     requires ordered { start ≤ end }
     requires within { end ≤ length trace.now.recording.past }
-    requires room { HasRoom end room.old }
+    requires rows { HasRowsFor start end room.old }
     requires begun { IsFollowed trace.now.recording windows.now start start room.old }
     requires none { HaveNone trace.now.recording f windows.now start }
     ensures room { (entries : ℕ) → HasRoom entries room.old → HasRoom entries room.new }
@@ -69,7 +69,7 @@ impl Scan<'_> {
     {
         let last = last_of(windows, end);
         let start = self.start_of(windows, last);
-        self.begin(room, start, windows);
+        self.begin(room, start, last, windows);
         follow(self.outline.trace, f, start, last, windows, room)
     }
 

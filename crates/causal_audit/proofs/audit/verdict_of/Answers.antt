@@ -1,4 +1,4 @@
-use Rattle.std.proofs.Common.{length, subst}
+use Rattle.std.proofs.Common.{subst}
 use Rattle.causal_trace.specs.Past.{deliveries_in}
 use Rattle.causal_audit.specs.Breaches.{LeastBreachBy}
 use Rattle.causal_audit.proofs.audit.verdict_of.Goals as goal

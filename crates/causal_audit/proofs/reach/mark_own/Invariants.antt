@@ -1,4 +1,5 @@
 use Rattle.std.proofs.Common.{◌≡◌, length}
+use Rattle.std.specs.Prelude.{vec_capacity}
 use Rattle.causal_audit.specs.Inside.Reaching.{AreOwnRows}
 use Rattle.causal_audit.proofs.reach.mark_own.Given as goal
 
@@ -6,5 +7,6 @@ use Rattle.causal_audit.proofs.reach.mark_own.Given as goal
 abbrev pub invariant-loop-place : goal.invariant-loop-place
 invariant-loop-place l = record {
   count : length l.rows.items ≡ length l.fn.rows.items;
+  room : vec_capacity l.rows ≡ vec_capacity l.fn.rows;
   own : AreOwnRows l.windows l.start l.place l.rows.items;
 }

@@ -12,6 +12,7 @@ loop-position-preserved c =
     let invariant = c.loop-position.invariant in
     record {
       count = c.put.ensures.count ∙ invariant.count;
+      room = c.put.ensures.room ∙ invariant.room;
       marked =
           subst (λ list. HaveMarked c.args.start c.args.place list c.args.rows.now.items c.put.new.rows.items) (sym (take_more positions i 0 c.loop-position-test.true))
           (marked_more c.args.start c.args.place (get_or positions i 0) (take i positions) c.args.rows.now.items c.loop-position.rows.items c.put.new.rows.items invariant.count invariant.marked c.put.ensures.put);

@@ -12,13 +12,12 @@ use Rattle.causal_audit.proofs.group.walk.follow.Goals as goal
 
 pub see-newly-requires : goal.see-newly-requires
 see-newly-requires c =
-    let i = c.loop-t.invariant in
-    let was = i.room c.args.end c.requires.room in
+    let rows = c.loop-t.invariant.rows.reach in
     record {
       row = record {
-        from = omega (arith, i.followed.start_is, c.loop-t.auto.t);
-        reached = omega (arith, was.reached, c.loop-t-test.true);
-        present = was.present;
+        from = omega (arith, rows.start, c.loop-t.auto.t);
+        reached = omega (arith, rows.start, rows.reached, c.loop-t-test.true);
+        present = rows.present;
       };
     }
 
@@ -34,7 +33,6 @@ see_step-requires-clause-step c =
     let r = c.args.trace.now.recording in
     let t = c.loop-t.t in
     let i = c.loop-t.invariant in
-    let was = i.room c.args.end c.requires.room in
     let x = c.index-entries-t.result in
     let formed = c.entries-entries.ensures.formed in
     let below : t < length r.past = omega (arith, c.loop-t-test.true, c.requires.within) in
@@ -42,12 +40,12 @@ see_step-requires-clause-step c =
     let marks : c.set_at-mentioned.result ≡ row c.loop-t.room.mentioned.items (t - c.args.start) = c.set_at-mentioned.ensures ∙ ap (λ rows. row rows (t - c.args.start)) c.deref.ensures.value in
     is_step r c.args.windows.now c.args.start c.loop-t.room _ i.followed formed below
     (next_state r c.entries-entries.result.now c.entries-entries.ensures.value t x below c.index-entries-t.is) c.see-newly.new.self c.see-newly.ensures.sees
-    c.entries-entries.ensures.few from (omega (arith, was.mentioned, c.loop-t-test.true)) marks
+    c.entries-entries.ensures.few from (omega (arith, i.rows.mentioned, c.loop-t.auto.t, c.loop-t-test.true)) marks
     (entry_read r c.entries-entries.result.now c.entries-entries.ensures.value t x below c.index-entries-t.is)
 
 pub returns-in-Some-clause-room : goal.returns-in-Some-clause-room
 returns-in-Some-clause-room c entries has =
-    room_stays c.loop-t.room _ c.see-newly.ensures.rows refl c.see_step.ensures.count entries (c.loop-t.invariant.room entries has)
+    room_stays c.loop-t.room _ c.see-newly.ensures.room refl c.see_step.ensures.count entries (c.loop-t.invariant.room entries has)
 
 pub loop-t-preserved : goal.loop-t-preserved
 loop-t-preserved c =
@@ -55,17 +53,16 @@ loop-t-preserved c =
     let windows = c.args.windows.now in
     let t = c.loop-t.t in
     let i = c.loop-t.invariant in
-    let was = i.room c.args.end c.requires.room in
     let x = c.index-entries-t.result in
     let formed = c.entries-entries.ensures.formed in
     let below : t < length r.past = omega (arith, c.loop-t-test.true, c.requires.within) in
     let next = next_state r c.entries-entries.result.now c.entries-entries.ensures.value t x below c.index-entries-t.is in
-    let reach = c.loop-t.room.reach in
-    let rows = c.see-newly.ensures.rows reach.start (reach.start + length reach.reached.items) (record { start = refl; reached = refl; present = was.present }) in
+    let rows = c.see-newly.ensures.rows c.args.start c.args.end i.rows.reach in
     record {
-      room = λ entries has. room_stays c.loop-t.room _ c.see-newly.ensures.rows refl c.see_step.ensures.count entries (i.room entries has);
+      room = λ entries has. room_stays c.loop-t.room _ c.see-newly.ensures.room refl c.see_step.ensures.count entries (i.room entries has);
+      rows = record { reach = rows; mentioned = i.rows.mentioned; sights = c.see_step.ensures.count ∙ i.rows.sights };
       followed = record {
-        start_is = rows.start ∙ i.followed.start_is;
+        start_is = rows.start;
         told =
             told_after r windows c.args.start c.loop-t.room t x c.see-newly.result i.followed formed below
             (next_state r c.entries-entries.result.now c.entries-entries.ensures.value t x below c.index-entries-t.is) c.see-newly.new.self c.see-newly.ensures.sees;
@@ -73,7 +70,7 @@ loop-t-preserved c =
         known = c.see_step.ensures.known;
         held = λ j d low at.
             subst (λ past. IsHeldSo past j d c.hold.new.held.items) (sym next) (c.hold.ensures.keeps (instant r.past t) j d
-            (mentions_here r windows c.args.start t c.loop-t.room x c.set_at-mentioned.result i.followed (omega (arith, c.loop-t.auto.t)) (omega (arith, was.mentioned, c.loop-t-test.true))
+            (mentions_here r windows c.args.start t c.loop-t.room x c.set_at-mentioned.result i.followed (omega (arith, c.loop-t.auto.t)) (omega (arith, i.rows.mentioned, c.loop-t.auto.t, c.loop-t-test.true))
             (c.set_at-mentioned.ensures ∙ ap (λ rows. row rows (t - c.args.start)) c.deref.ensures.value) (entry_read r c.entries-entries.result.now c.entries-entries.ensures.value t x below c.index-entries-t.is) j d low at)
             (i.followed.held j d low at));
       };

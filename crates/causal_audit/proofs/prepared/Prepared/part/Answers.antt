@@ -1,5 +1,5 @@
 use Rattle.std.proofs.Common.{ℕ, ◌≡◌, ◌<◌, ◌-◌, take, drop, ap, subst, sym, ◌∙◌}
-use Rattle.std.specs.List.{All, take-map, drop-map}
+use Rattle.std.specs.List.{take-map, drop-map}
 use Rattle.std.proofs.lemmas.List.Elements.{All-drop, All-take}
 use Rattle.causal_trace.specs.Rows.{Recording}
 use Rattle.causal_audit.specs.Parts.{Followed, part_of}

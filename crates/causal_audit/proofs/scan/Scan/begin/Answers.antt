@@ -21,17 +21,18 @@ returns-clause-begun c =
     let run = c.self.inside.outline.trace.now.recording in
     let turns = c.self.inside.outline.turns.now in
     let walk = passed_down run.past turns start c.from.result c.self.inside.outline.turned c.from.ensures in
-    let within : start ≤ length run.past = subst (λ x. start ≤ length x.past) (sym c.self.view_is) c.requires.within in
+    let early : start ≤ length r.past = omega (arith, c.requires.ordered, c.requires.within) in
+    let within : start ≤ length run.past = subst (λ x. start ≤ length x.past) (sym c.self.view_is) early in
     let shown : Shows c.down-down.result (λ p. is_down (instant r.past start) p) =
     subst (λ x. Shows c.down-down.result (λ p. is_down (instant x.past start) p)) c.self.view_is (c.down-down.ensures run.past start within walk.0 walk.1) in
     record {
-      start_is = c.renew.ensures.start;
-      told = λ j d low at. c.renew.ensures.begins (instant r.past start) j (instant_length r.past start c.requires.within) low;
+      start_is = c.begin.ensures.rows.start;
+      told = λ j d low at. c.begin.ensures.begins (instant r.past start) j (instant_length r.past start early) low;
       marked = c.mark_all.ensures.marked;
       known = λ j low d at.
           let k = position_at windows j in
           let untouched = c.requires.from j zero low in
-          subst (IsSight (instant r.past start) k d) (sym (c.fill.ensures.filled j (omega (arith, low, c.requires.few, c.requires.sights))))
-          (c.begin.ensures (instant r.past start) k d shown (unheard_before r.past k d start (untouched.unmentioned d at) untouched.made c.requires.within));
-      held = λ j d low at p h. absurd (none_in j (subst (λ s. contains s j ≡ true) (c.clear-2.ensures.none p) h));
+          subst (IsSight (instant r.past start) k d) (sym (c.fill.ensures.filled j (omega (arith, low, c.requires.few, c.requires.room.sights))))
+          (c.begin-2.ensures (instant r.past start) k d shown (unheard_before r.past k d start (untouched.unmentioned d at) untouched.made early));
+      held = λ j d low at p h. absurd (none_in j (subst (λ s. contains s j ≡ true) (c.clear.ensures.none p) h));
     }

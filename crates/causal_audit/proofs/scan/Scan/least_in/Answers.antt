@@ -8,6 +8,7 @@ use Rattle.causal_audit.specs.Inside.Group.{HaveNone, position_at}
 use Rattle.causal_audit.specs.Inside.Scans.{positions_of}
 use Rattle.causal_audit.proofs.AmongLemmas.{among_later}
 use Rattle.causal_audit.proofs.GroupSeen.{place_of}
+use Rattle.causal_audit.proofs.GroupWalk.{room_within}
 use Rattle.causal_audit.proofs.Orphaned.{not_yet}
 use Rattle.causal_audit.proofs.scan.Scan.least_in.Goals as goal
 
@@ -22,6 +23,9 @@ follow-requires-clause-none c =
     subst (λ run. HaveNone run c.args.f windows start) (sym c.self.view_is) (λ j low u below has.
     let inside : u ≤ length r.past = omega (arith, below, c.start_of-start.ensures.bound, c.last_of-last.ensures.bound, c.requires.within) in
     not_yet r.processes c.args.f (instant r.past u) (position_at windows j) (omega (arith, below, (c.start_of-start.ensures.first j zero low).made, instant_length r.past u inside)) has)
+
+pub begin-requires-clause-room : goal.begin-requires-clause-room
+begin-requires-clause-room c = room_within c.args.end c.last_of-last.result c.args.room.now c.last_of-last.ensures.bound c.requires.room
 
 pub returns-clause-found : goal.returns-clause-found
 returns-clause-found c =

@@ -3,6 +3,7 @@ use Rattle.std.proofs.lemmas.List.{map-append, nil_from_length}
 use Rattle.std.specs.List.{All}
 use Rattle.std.specs.Slice.Iter.{chunks_rest, chunks_size}
 use Rattle.causal_audit.proofs.AmongLemmas.{among_joined, among_none, horizon_more, joined_same}
+use Rattle.causal_audit.proofs.GroupWalk.{room_within}
 use Rattle.causal_audit.proofs.Sifted.{all_left, all_right}
 use Rattle.causal_audit.specs.Inside.Among.{LeastAmongBy, horizon}
 use Rattle.causal_audit.specs.Earlier.{earlier}
@@ -108,6 +109,5 @@ returns-clause-found c =
 
 pub least_in-requires-clause-room : goal.least_in-requires-clause-room
 least_in-requires-clause-room c =
-    let is = c.loop-group.invariant.room c.args.end c.requires.room in
-    let within = c.loop-group.invariant.within in
-    record { reached = omega (arith, is.reached, within); present = is.present; mentioned = omega (arith, is.mentioned, within); sights = is.sights }
+    let i = c.loop-group.invariant in
+    room_within c.args.end c.loop-group.until c.loop-group.room i.within (i.room c.args.end c.requires.room)

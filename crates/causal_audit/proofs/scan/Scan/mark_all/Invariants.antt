@@ -1,4 +1,5 @@
 use Rattle.std.proofs.Common.{ℕ, ◌≡◌, ◌<◌, ◌≤◌, true, length}
+use Rattle.std.specs.Prelude.{vec_capacity}
 use Rattle.std.specs.FinSet.{contains}
 use Rattle.causal_audit.specs.Inside.Group.{AreMarked}
 use Rattle.causal_audit.specs.Inside.Reaching.{row}
@@ -8,6 +9,7 @@ use Rattle.causal_audit.proofs.scan.Scan.mark_all.Given as goal
 abbrev pub invariant-loop-place : goal.invariant-loop-place
 invariant-loop-place l = record {
   count : length l.rows.items ≡ length l.fn.rows.items;
+  room : vec_capacity l.rows ≡ vec_capacity l.fn.rows;
   marked : AreMarked l.self.past l.start l.windows l.place l.rows.items;
   ahead : (i j : ℕ) → l.place ≤ j → i < length l.rows.items → contains (row l.rows.items i) j ≡ true → ⊥;
 }

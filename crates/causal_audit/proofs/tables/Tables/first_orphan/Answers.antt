@@ -1,4 +1,4 @@
-use Rattle.std.proofs.Common.{◌≡◌, ◌<◌, ◌∙◌, ℕ, get_or, Vec, Global, List, length, map, Some, arith, subst, sym}
+use Rattle.std.proofs.Common.{◌≡◌, ℕ, Vec, Global, List, length, map, Some, arith, subst, sym}
 use Rattle.std.specs.Prelude.{Contains}
 use Rattle.std.specs.List.{All}
 use Rattle.std.specs.List.Sorted.{IsNonDecreasing}
