@@ -4,3 +4,4 @@ mod PartLemmas
 mod PlaceLemmas
 mod RankLemmas
 mod NoteLemmas
+mod HearLemmas

@@ -144,12 +144,24 @@ unmarked_both true b h = h
 unmarked_both false b h = refl
 
 -- what is carried once more is known of it was carried before
-less_carried : (f : ℕ) (known heard : Known) → is_carried f (joined known heard) ≡ true → is_carried f known ≡ true
+pub less_carried : (f : ℕ) (known heard : Known) → is_carried f (joined known heard) ≡ true → is_carried f known ≡ true
 less_carried f known heard h =
     let two = both (not (joined known heard).stable) (nat_le (set.len (joined known heard).holders) f) h in
     let count = count_known known heard in
     let most = at_most (set.len (joined known heard).holders) f two.1 in
     and_both (not known.stable) (nat_le (set.len known.holders) f) (unmarked_both known.stable heard.stable two.0) (is_most (set.len known.holders) f (omega (arith, count, most)))
+
+unmarked_second : (a b : Bool) → not (a || b) ≡ true → not b ≡ true
+unmarked_second true b h = absurd (true≢false (sym h))
+unmarked_second false b h = h
+
+-- and what is heard of it would be carried alone
+pub heard_carried : (f : ℕ) (known heard : Known) → is_carried f (joined known heard) ≡ true → is_carried f heard ≡ true
+heard_carried f known heard h =
+    let two = both (not (joined known heard).stable) (nat_le (set.len (joined known heard).holders) f) h in
+    let count = count_joined known heard in
+    let most = at_most (set.len (joined known heard).holders) f two.1 in
+    and_both (not heard.stable) (nat_le (set.len heard.holders) f) (unmarked_second known.stable heard.stable two.0) (is_most (set.len heard.holders) f (omega (arith, count, most)))
 
 module _ (log : LogMap) (det : Det) (known heard : Known) (was : fin.get log det ≡ Some known) where
   more_here : (q : Det) → same_det q det ≡ true → fin.get log q ≡ Some known

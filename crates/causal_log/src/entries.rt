@@ -8,7 +8,7 @@ ghost use Rattle.causal_name.specs.Names.{same_det, is_ascending};
 ghost use Rattle.causal_log.specs.Knowledge.{is_carried};
 ghost use Rattle.causal_log.specs.Inside.Parts.{carried_from, dets_carried, Adds, AddsAll};
 ghost use Rattle.causal_log.specs.Inside.Ranks.{has_rank};
-ghost use Rattle.causal_log.specs.Logs.{log_of, learned, item_of, dets_of, marked, chosen};
+ghost use Rattle.causal_log.specs.Logs.{log_of, learned, item_of, marked, chosen};
 
 use crate::batch::Item;
 use crate::known::Known;
@@ -164,35 +164,6 @@ pub(crate) fn add(entries: &mut IndexMap<Det, Known>, det: Det, heard: Known)
         Ok(_) => {}
         Err(_) => unreachable!(),
     }
-}
-
-/// Copies the entry of a determinant behind some others, where it is logged.
-pub(crate) fn copy(
-    part: &mut IndexMap<Det, Known>,
-    entries: &IndexMap<Det, Known>,
-    det: Det,
-) -> Result<(), NoMemory>
-    ensures { OnOk result (Adds (log_of entries.now.entries) det part.old.entries part.new.entries) }
-{
-    let Some(known) = entries.get(&det) else {
-        return Ok(());
-    };
-    part.insert(det, *known)?;
-    Ok(())
-}
-
-/// Copies the entries of the items' determinants behind some others, where they are logged.
-pub(crate) fn copy_items(
-    part: &mut IndexMap<Det, Known>,
-    entries: &IndexMap<Det, Known>,
-    items: &[Item],
-) -> Result<(), NoMemory>
-    ensures { OnOk result (AddsAll (log_of entries.now.entries) (dets_of items.now) part.old.entries part.new.entries) }
-{
-    for item in items {
-        copy(part, entries, item.det)?;
-    }
-    Ok(())
 }
 
 /// Copies the entry of a determinant behind some others, where a message carries it.

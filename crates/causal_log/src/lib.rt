@@ -35,6 +35,7 @@
 mod batch;
 mod entries;
 mod failing;
+mod hearing;
 mod known;
 pub mod laws;
 mod learning;

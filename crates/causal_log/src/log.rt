@@ -7,11 +7,12 @@ ghost use Rattle.causal_name.specs.Names.{same_det};
 ghost use Rattle.causal_log.specs.Knowledge.{held_by, stable_and_held_by};
 ghost use Rattle.causal_log.specs.Logs.{log_of, learned, absorbed, grown, united, marked, stable_in, unstable_in, unmarked, chosen, named, HaveSame};
 ghost use Rattle.causal_log.specs.Slots.{first_of_slot};
-ghost use Rattle.causal_log.specs.Inside.Parts.{carried_in, part_for};
+ghost use Rattle.causal_log.specs.Inside.Parts.{carried_in};
 ghost use Rattle.causal_log.specs.declared.known.Known.{Known};
 
 use crate::batch::{Batch, Item};
 use crate::entries;
+use crate::hearing::{hear_items, hear_own};
 use crate::known::Known;
 use crate::learning::{learn, learn_entries, learn_items};
 use crate::notes::Notes;
@@ -87,18 +88,15 @@ impl Log {
         entries::count(&self.entries)
     }
 
-    /// The entry at a place, in ascending order of determinants; none from `len` on. A log that is not sorted is copied and
-    /// the copy sorted; where there is no memory for it, entries are compared with each other.
+    /// The entry at a place, in ascending order of determinants; none from `len` on. Takes no memory. In a log that is not
+    /// sorted, entries are compared with each other: who asks for many places sorts it first.
     pub fn at(&self, i: u32) -> Option<(Det, Known)>
         ensures { result ≡ slice_get (fin.entries self.now.map) i }
     {
         if self.sorted {
             return entries::entry_at(&self.entries, i);
         }
-        match entries::in_order(&self.entries) {
-            Ok(sorted) => entries::entry_at(&sorted, i),
-            Err(_) => entries::ranked(&self.entries, i),
-        }
+        entries::ranked(&self.entries, i)
     }
 
     /// The determinants, ascending. Its only error is want of memory.
@@ -182,34 +180,12 @@ impl Log {
     ) -> Result<Batch, NoMemory>
         ensures { IfOk result (λ batch. batch ≡ chosen f (grown carried.now own from me self.now.map)) }
     {
-        let mut part = self.part_for(alloc, carried, own, f)?;
-        let mut notes = Notes::none(alloc);
-        learn_items(&mut part, &mut notes, carried.as_slice(), from, me);
-        learn(&mut part, &mut notes, own, Known::held(me));
+        let items = carried.as_slice();
+        let mut part = self.part_carried(alloc, f, 1)?;
+        hear_items(&mut part, &self.entries, items, from, me, f)?;
+        hear_own(&mut part, &self.entries, items, own, me, f)?;
         let items = entries::chosen(alloc, part, f)?;
         Ok(Batch::new(items))
-    }
-
-    /// The entries that a message carries now, and those that a delivery touches: the batch of the delivery's sends depends
-    /// on no others. There is room for the delivery.
-    fn part_for(
-        &self,
-        alloc: Global,
-        carried: &Batch,
-        own: Det,
-        f: u16,
-    ) -> Result<IndexMap<Det, Known>, NoMemory>
-        ensures part { IfOk result (λ part. log_of part.entries ≡ part_for f carried.now own self.now.map) }
-        ensures room { IfOk result (λ part. length carried.now + 1 ≤ spare part) }
-        ensures distinct { IfOk result (λ part. IsDistinct same_det (keys part)) }
-    {
-        let items = carried.as_slice();
-        let more = items.len().saturating_add(1);
-        let mut part = self.part_carried(alloc, f, more.saturating_mul(2))?;
-        entries::copy_items(&mut part, &self.entries, items)?;
-        entries::copy(&mut part, &self.entries, own)?;
-        part.reserve(more)?;
-        Ok(part)
     }
 
     /// The determinants that are known to be stable, ascending. Its only error is want of memory.

@@ -30,17 +30,6 @@ pub(crate) struct Notes {
 }
 
 impl Notes {
-    /// Notes that say nothing.
-    pub(crate) fn none(alloc: Global) -> Notes
-        ensures { result.limit ≡ 0 }
-    {
-        Notes {
-            few: IndexSet::new(alloc),
-            limit: 0,
-            slots: IndexMap::new(alloc),
-        }
-    }
-
     /// Notes of a log of nothing, where at most `f` processes may fail.
     pub(crate) fn carrying(alloc: Global, f: u16) -> Notes
         ensures { IsNoted result (log_of []) }

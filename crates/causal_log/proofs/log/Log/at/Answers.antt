@@ -4,15 +4,8 @@ use Rattle.causal_log.proofs.EntryLemmas.{own_entries}
 use Rattle.causal_log.proofs.PlaceLemmas.{ranked_order}
 use Rattle.causal_log.proofs.log.Log.at.Goals as goal
 
-pub returns-in-Ok : goal.returns-in-Ok
-returns-in-Ok c =
-    c.entry_at-in-Ok.ensures
-    ∙ ap (λ es. slice_get es c.args.i) (sym (own_entries c.in-Ok.sorted.entries c.in-Ok.ensures.ascending))
-    ∙ ap (λ log. slice_get (fin.entries log) c.args.i) c.in-Ok.ensures.same
-    ∙ ap (λ log. slice_get (fin.entries log.map) c.args.i) c.self.view_is
-
-pub returns-in-Err : goal.returns-in-Err
-returns-in-Err c =
+pub returns : goal.returns
+returns c =
     c.ranked.ensures
     ∙ ranked_order c.self.inside.entries.entries c.self.invariant.distinct c.args.i
     ∙ ap (λ log. slice_get (fin.entries log.map) c.args.i) c.self.view_is

@@ -1,24 +1,23 @@
 use Rattle.std.proofs.Common.{◌≡◌, ◌∙◌, ap, sym, subst, true}
 use Rattle.causal_name.specs.Names.{is_ascending}
-use Rattle.causal_log.specs.Knowledge.{held_by}
-use Rattle.causal_log.specs.Logs.{log_of, absorbed, learned, chosen, dets_of}
+use Rattle.causal_log.specs.Logs.{log_of, grown, chosen, dets_of}
+use Rattle.causal_log.specs.Inside.Parts.{carried_in}
 use Rattle.causal_log.proofs.Lemmas.ChosenLemmas.{chosen_ascend}
-use Rattle.causal_log.proofs.PartLemmas.{part_chosen}
+use Rattle.causal_log.proofs.PartLemmas.{carries_part, same_chosen}
 use Rattle.causal_log.proofs.log.Log.choose_grown.Goals as goal
 
+pub hear_items-requires : goal.hear_items-requires
+hear_items-requires c = subst (λ items. is_ascending (dets_of items) ≡ true) (sym c.as_slice-items.ensures.items) c.as_slice-items.ensures.ascending
+
 pub new-requires : goal.new-requires
-new-requires c = subst (λ items. is_ascending (dets_of items) ≡ true) (sym c.in_ok-items.ensures) (chosen_ascend c.args.f (log_of c.learn.new.entries.entries))
+new-requires c = subst (λ items. is_ascending (dets_of items) ≡ true) (sym c.in_ok-items.ensures) (chosen_ascend c.args.f (log_of c.hear_own.new.part.entries))
 
 pub returns : goal.returns
 returns c =
-    let part = log_of c.in_ok-part.part.entries in
+    let log = log_of c.self.inside.entries.entries in
+    let start = carries_part c.args.f log c.in_ok-part.part.entries (c.in_ok-part.ensures ∙ sym (ap (λ log. carried_in c.args.f log.map) c.self.view_is)) in
     c.new.ensures
     ∙ c.in_ok-items.ensures
-    ∙ ap (chosen c.args.f)
-    (c.learn.ensures.learned
-    ∙ ap (learned (log_of c.learn_items.new.entries.entries) c.args.own) c.held.ensures
-    ∙ ap (λ log. learned log c.args.own (held_by c.args.me))
-    (c.learn_items.ensures.learned
-    ∙ ap (λ items. absorbed items c.args.from c.args.me part) c.as_slice.ensures.items
-    ∙ ap (absorbed c.args.carried.now c.args.from c.args.me) c.in_ok-part.ensures.part))
-    ∙ part_chosen c.args.f c.args.carried.now c.args.own c.args.self.now.map c.args.from c.args.me
+    ∙ same_chosen c.args.f (grown c.as_slice-items.result.now c.args.own c.args.from c.args.me log) c.hear_own.new.part.entries
+    (c.in_ok-hear_own.ensures c.args.from (c.in_ok-hear_items.ensures start))
+    ∙ (λ i. chosen c.args.f (grown (c.as_slice-items.ensures.items i) c.args.own c.args.from c.args.me (c.self.view_is i).map))
