@@ -58,8 +58,13 @@ impl fmt::Display for TextKind {
 }
 
 impl TextKind {
+    ghost use Rattle.std.specs.Prelude.{◌≡◌};
+    ghost use Rattle.causal_text.specs.Sentences.{kind_sentence};
+
     /// What is wrong, for people.
-    fn sentence(self) -> &'static str {
+    pub fn sentence(self) -> &'static str
+        ensures { result.now ≡ kind_sentence self }
+    {
         match self {
             TextKind::After => "a line follows the end line",
             TextKind::Big => "the text is too long",

@@ -4,10 +4,12 @@
 //! one, and within a line the first in the order of [`TextKind`].
 //!
 //! Begin at [`read_trace`] for a text that is there as a whole, or [`read_from`] for one that a reader gives; [`TraceReader`]
-//! reads a piece at a time. [`text_of`] and [`write_trace`] give the canonical text, [`write_whole`] writes any bytes. [`laws`]
+//! reads a piece at a time, and [`FedReader`] the pieces that it is handed. [`text_of`] and [`write_trace`] give the canonical text, [`write_whole`] writes any bytes. [`laws`]
 //! says that a text has one reading.
 #![tactic(auto)]
 
+/// A text that is handed over in pieces.
+pub mod fed;
 /// The faults of a text.
 pub mod kind;
 /// A text has one reading; the canonical text is read back.
@@ -37,6 +39,7 @@ pub mod writer;
 /// Bytes to a writer, call by call.
 pub mod written;
 
+pub use fed::FedReader;
 pub use kind::{TextFault, TextKind};
 pub use reader::read_trace;
 pub use report::fault_line;
