@@ -1,15 +1,12 @@
 -- Lines of a text that comes in pieces.
-use Rattle.std.proofs.Common.{◌≡◌, ◌≢◌, ℕ, zero, suc, ◌+◌, ◌<◌, ◌≤◌, List, [], ◌∷◌, ◌++◌, length, take, Bool, true, false, Result, Ok, Err, refl, ap, sym, ◌∙◌, arith, append_assoc, append-nil, eqb-true, subst}
+use Rattle.std.proofs.Common.{◌≡◌, ℕ, zero, suc, ◌+◌, ◌<◌, ◌≤◌, List, [], ◌∷◌, ◌++◌, length, take, Bool, true, false, Result, Ok, Err, refl, ap, sym, ◌∙◌, arith, append_assoc, append-nil, eqb-true, subst}
 use Rattle.std.specs.Prelude.{◌==◌, ◌&&◌, not}
 use Rattle.memchr.specs.Find.{Nowhere, Passes, is_byte}
-use Rattle.causal_text.specs.declared.kind.TextKind.{TextKind}
-use Rattle.causal_text.specs.declared.kind.TextKind.TheVariants as kind
 use Rattle.causal_text.specs.declared.kind.TextFault.{TextFault}
 use Rattle.causal_text.specs.Lines.{lines, before_first_line}
 use Rattle.causal_text.specs.Spelling.{IsReadUpTo, IsReadAt}
 use Rattle.causal_text.specs.Place.{Place}
 use Rattle.causal_text.specs.Reading.{◌>>=◌}
-use Rattle.causal_text.specs.Inside.Given.{IsFaultGiven}
 use Rattle.causal_text.specs.Inside.LineByLine.{start, next, after_lines, ended, reading}
 use Rattle.causal_text.specs.Pieces.{no_feed, IsComplete, AreComplete, joined, Held, StandsFor}
 use Rattle.causal_text.specs.Inside.Unfinished.{IsFaultOfAll, with_line, IsPast, last_place, ending}
@@ -51,7 +48,7 @@ lines_line : (xs rest : List ℕ) → no_feed xs ≡ true → lines (xs ++ 10 �
 lines_line [] rest h = refl
 lines_line (x ∷ xs) rest h = let p = first_other (x == 10) (no_feed xs) h in rw (p.0, lines_line xs rest p.1) refl
 
-lines_complete : (l rest : List ℕ) → IsComplete l → lines (l ++ rest) ≡ l ∷ lines rest
+pub lines_complete : (l rest : List ℕ) → IsComplete l → lines (l ++ rest) ≡ l ∷ lines rest
 lines_complete l rest h = rw h.2 (ap lines (append_assoc h.0 (10 ∷ []) rest) ∙ lines_line h.0 rest h.1)
 
 lines_joined : (ls : List (List ℕ)) (rest : List ℕ) → AreComplete ls → lines (joined ls ++ rest) ≡ ls ++ lines rest
@@ -174,13 +171,9 @@ pub fault_of_hold : (h0 h : Held) (done part : List ℕ) (f : TextFault) → Com
     → (b : List ℕ) → StandsFor h0 b → IsFaultOfAll (b ++ (done ++ part)) f
 fault_of_hold h0 h done part f c none some past b s = fault_of_grown (record { place = h.place; rest = h.rest ++ part }) (b ++ (done ++ part)) f (Comes-hold h0 h done part c none b s) some past
 
-pub told : {A : Type 0} (k : TextKind) (f : TextFault) (read : Result A TextFault) → IsFaultGiven k f read → k ≢ kind.NoMemory → read ≡ Err f
-told kind.NoMemory f read h other = absurd (other refl)
-told _ f read h other = h
-
 -- ---- the end of the text
 
-lines_rest : (rest : List ℕ) → no_feed rest ≡ true → 0 < length rest → lines rest ≡ rest ∷ []
+pub lines_rest : (rest : List ℕ) → no_feed rest ≡ true → 0 < length rest → lines rest ≡ rest ∷ []
 lines_rest [] h some = absurd (omega arith)
 lines_rest (x ∷ []) h some = let p = first_other (x == 10) true h in rw p.0 refl
 lines_rest (x ∷ y ∷ ys) h some =
@@ -220,30 +213,6 @@ IsReadAt-more b piece line h more = subst (λ (text : List ℕ). IsReadUpTo text
 pub line_of_part : (h0 h : Held) (done left b : List ℕ) (line : ℕ) → Comes h0 done h → StandsFor h0 b → line ≡ h.place.count + 1 → IsReadAt (b ++ (done ++ left)) line
 line_of_part h0 h done left b line c s is =
     subst (λ (bytes : List ℕ). IsReadAt bytes line) (append_assoc b done left) (IsReadAt-more (b ++ done) left line (IsReadAt-stands h (b ++ done) line (c b s) is))
-
--- a fault is told, or it is want of memory
-pub fault_told : {A : Type 0} (k : TextKind) (f : TextFault) (read : Result A TextFault) → (k ≢ kind.NoMemory → read ≡ Err f) → IsFaultGiven k f read
-fault_told kind.NoMemory f read h = tt
-fault_told kind.After f read h = h (λ e. cc)
-fault_told kind.Big f read h = h (λ e. cc)
-fault_told kind.Syntax f read h = h (λ e. cc)
-fault_told kind.Form f read h = h (λ e. cc)
-fault_told kind.Header f read h = h (λ e. cc)
-fault_told kind.Version f read h = h (λ e. cc)
-fault_told kind.Processes f read h = h (λ e. cc)
-fault_told kind.TooLong f read h = h (λ e. cc)
-fault_told kind.NoProcess f read h = h (λ e. cc)
-fault_told kind.NotUp f read h = h (λ e. cc)
-fault_told kind.NotDown f read h = h (λ e. cc)
-fault_told kind.Lanes f read h = h (λ e. cc)
-fault_told kind.WrongSsn f read h = h (λ e. cc)
-fault_told kind.NoSend f read h = h (λ e. cc)
-fault_told kind.WrongRsn f read h = h (λ e. cc)
-fault_told kind.Doubled f read h = h (λ e. cc)
-fault_told kind.Unsorted f read h = h (λ e. cc)
-fault_told kind.NoDelivery f read h = h (λ e. cc)
-fault_told kind.Count f read h = h (λ e. cc)
-fault_told kind.Cut f read h = h (λ e. cc)
 
 -- what an unfinished line has however it goes on, it has where it ends here
 pub faulty_line : (h : Held) (line : List ℕ) (f : TextFault) → IsPast (record { place = h.place; rest = h.rest ++ line }) f → with_line h line ≡ Err f

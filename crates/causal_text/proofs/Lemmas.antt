@@ -1,2 +1,3 @@
 -- What crates above may cite of this crate's proofs.
 pub mod Exact
+pub mod Told

@@ -2,7 +2,7 @@ pub mod Lemmas
 mod Canonicals
 mod Complete
 mod Feeds
-mod Fields
+mod ItemCounts
 mod Joined
 mod Outlines
 mod Passed

@@ -9,7 +9,7 @@ use Rattle.causal_text.specs.declared.kind.TextKind.TheVariants.{Form}
 use Rattle.causal_text.specs.declared.shape.Shape.{Shape}
 use Rattle.causal_text.specs.Reading.{◌>>=◌}
 use Rattle.causal_text.specs.Shapes.{or_form, size, number_below, number_at, pid_at, u32_at, det_of, dets_of, dets_at, begins, header_of, send_of, deliver_of, stable_of, crash_of, restart_of, forget_of, end_of, shape_of}
-use Rattle.causal_text.specs.Inside.Outline.{levels, one_more, may_have, fits, items_fit}
+use Rattle.causal_text.specs.Outline.{levels, one_more, may_have, fits, items_fit}
 
 -- no other kind than `Form`
 abbrev IsPlainly : {A : Type 0} → Result A TextKind → Type 0

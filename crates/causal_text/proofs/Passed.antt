@@ -10,7 +10,7 @@ use Rattle.json.specs.Json.{Parse, parse_map, after_end_array, read_key, items_s
 use Rattle.json.proofs.Grammar.{value_is, items_end, items_more, members_end, members_no_key, members_more}
 use Rattle.serde_json.specs.Data.{Num, Data, null, boolean, number, string, array, object, Items, no_items, item, Members, no_members, put}
 use Rattle.serde_json.specs.Read.{number_of, of_json, of_items, of_members, converted}
-use Rattle.causal_text.specs.Inside.Outline.{one_more, is_plain, fits, items_fit}
+use Rattle.causal_text.specs.Outline.{one_more, is_plain, fits, items_fit}
 
 -- ---- one read
 

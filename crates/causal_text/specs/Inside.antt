@@ -1,6 +1,4 @@
 -- What models and private functions keep. No public clause cites these.
-pub mod Given
 pub mod LineByLine
-pub mod Outline
 pub mod Texts
 pub mod Unfinished

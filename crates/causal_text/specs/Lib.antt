@@ -1,9 +1,11 @@
 pub mod Inside
+pub mod Given
 pub mod Lines
 pub mod Reading
 pub mod Shapes
 pub mod Versions
 pub mod Stages
+pub mod Outline
 pub mod Place
 pub mod Spelling
 pub mod Laws

@@ -38,6 +38,9 @@ u8_at i d = number_at (2 ^ 8) i d
 abbrev pub u32_at : ℕ → Data → Result ℕ TextKind
 u32_at i d = number_at (2 ^ 32) i d
 
+abbrev pub u64_at : ℕ → Data → Result ℕ TextKind
+u64_at i d = or_form (option_and_then as_u64 (option_and_then as_number (at i d)))
+
 unfoldable pub pid_at : ℕ → Data → Result Pid TextKind
 pid_at i d = do
   p ← u8_at i d

@@ -10,23 +10,27 @@
 
 /// A text that is handed over in pieces.
 pub mod fed;
+/// The fields of a line.
+pub mod fields;
 /// The faults of a text.
 pub mod kind;
 /// A text has one reading; the canonical text is read back.
 pub mod laws;
 /// Where a reading stands: the lines so far, and one more taken in.
 mod line_reader;
+/// The JSON value that a line is.
+pub mod line_value;
 /// Where a line ends.
-mod lines;
+pub mod lines;
 /// A look at a long line before a tree is built of it.
-mod outline;
+pub mod outline;
 /// A text, whole, to its trace or its first fault.
 pub mod reader;
 /// A trace of which clauses see the recording alone.
 mod recorded;
 /// How a fault prints.
 pub mod report;
-/// What a JSON value says: `whole` of a line, `fields` of its fields.
+/// What the JSON value of a line says.
 mod shape;
 /// What the lines so far have said, and what one more adds.
 mod stage;

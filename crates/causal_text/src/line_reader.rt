@@ -2,7 +2,7 @@
 ghost use Rattle.std.specs.Prelude.{◌≡◌, ◌≢◌, ◌+◌, ◌<◌, ◌≤◌, length, IfSome, IfNone, IfErr};
 ghost use Rattle.causal_text.specs.Stages.{max_text};
 ghost use Rattle.causal_text.specs.Inside.LineByLine.{start, next, ended, IsFaultFrom};
-ghost use Rattle.causal_text.specs.Inside.Given.{GivesText};
+ghost use Rattle.causal_text.specs.Given.{GivesText};
 
 use crate::kind::{TextFault, TextKind};
 use crate::recorded::Recorded;

@@ -1,12 +1,12 @@
 //! A look at a long line before a tree is built of it. A tree takes up to 170 times the bytes of a text that nests deep
-//! or has many small arrays or objects; what a line of a trace may look like takes 20 times its bytes at most.
+//! or has many small arrays or objects; what a line may look like takes 20 times its bytes at most.
 ghost use Rattle.std.specs.Prelude.{◌≡◌, ◌≢◌, ◌<◌, length, true, false, Some, None, Err, IfOk, IfErr, OnOk, OnErr, is_some, slice_index, ◌==◌, IsTrue};
 ghost use Rattle.json.specs.Json.{parse_map, items, members, value};
 ghost use Rattle.json.specs.Reads.{token_of};
 ghost use Rattle.serde_json.specs.Data.{Data, Members, no_members};
 ghost use Rattle.serde_json.specs.Read.{of_json, of_items, of_members, converted, number_of, number_from, read};
-ghost use Rattle.causal_text.specs.Inside.Given.{IsFaultGiven};
-ghost use Rattle.causal_text.specs.Inside.Outline.{levels, one_more, may_have, is_plain, fits, items_fit, shape_in};
+ghost use Rattle.causal_text.specs.Given.{IsFaultGiven, Gives};
+ghost use Rattle.causal_text.specs.Outline.{levels, one_more, may_have, is_plain, fits, items_fit, outline_in, shape_in};
 
 use crate::kind::TextKind;
 use fast_float::Numeral;
@@ -17,7 +17,7 @@ use std::str;
 /// How deep `serde_json` lets arrays and objects nest.
 const MAX_DEPTH: usize = 127;
 
-/// How deep arrays nest in a line of a trace: its fields, a list of determinants, a determinant.
+/// How deep arrays nest in a line: its fields, a list of determinants, a determinant.
 const LEVELS: usize = 3;
 
 fn has_minus(bytes: &[u8]) -> bool
@@ -59,7 +59,7 @@ fn is_in_range(text: &str) -> bool
 fn one_more(count: u32) -> u32
     ensures { result ≡ one_more count }
 {
-    if count < 6 { count + 1 } else { count }
+    if count < 9 { count + 1 } else { count }
 }
 
 /// Whether an array that begins so many levels may have so many items.
@@ -70,7 +70,7 @@ fn may_have(left: usize, count: u32) -> bool
         0 => false,
         1 => count == 4,
         2 => true,
-        _ => count < 6,
+        _ => count < 9,
     }
 }
 
@@ -166,13 +166,24 @@ fn text_fits(alloc: Global, text: &str) -> Result<bool, TextKind>
     }
 }
 
-/// Whether these bytes are a JSON value that may have one of the shapes of a line.
-pub(crate) fn may_have_shape(alloc: Global, bytes: &[u8]) -> Result<bool, TextKind>
-    ensures no { result ≡ Ok false → shape_in bytes.now ≡ Err TextKind.Form }
-    ensures err { IfErr result (λ kind. IsFaultGiven kind kind (shape_in bytes.now)) }
+/// Whether the JSON value that these bytes are has the outline of a line: whether it nests and is as wide as a line may.
+/// It passes the bytes once and builds no tree of them.
+///
+/// # Errors
+/// `Syntax` where they are no JSON value, or `NoMemory` where memory was refused.
+pub fn has_outline(alloc: Global, bytes: &[u8]) -> Result<bool, TextKind>
+    ensures { Gives result (outline_in bytes.now) }
 {
     match str::from_utf8(bytes) {
         Ok(text) => text_fits(alloc, text),
         Err(_) => Err(TextKind::Syntax),
     }
+}
+
+/// Whether these bytes are a JSON value that may have one of the shapes of a line.
+pub(crate) fn may_have_shape(alloc: Global, bytes: &[u8]) -> Result<bool, TextKind>
+    ensures no { result ≡ Ok false → shape_in bytes.now ≡ Err TextKind.Form }
+    ensures err { IfErr result (λ kind. IsFaultGiven kind kind (shape_in bytes.now)) }
+{
+    has_outline(alloc, bytes)
 }

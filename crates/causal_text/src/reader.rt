@@ -1,6 +1,6 @@
 //! From a text, whole or in pieces, to the trace that it spells, or to its first fault.
 ghost use Rattle.std.specs.Prelude.{◌≡◌, ◌≢◌, ◌++◌, ◌+◌, ◌<◌, ◌≤◌, List, [], ℕ, length, IfOk, IfErr};
-ghost use Rattle.causal_text.specs.Inside.Given.{GivesText};
+ghost use Rattle.causal_text.specs.Given.{GivesText};
 ghost use Rattle.causal_text.specs.Inside.LineByLine.{reading};
 ghost use Rattle.causal_text.specs.Pieces.{StandsFor};
 ghost use Rattle.causal_text.specs.Inside.Unfinished.{IsFaultOfAll, with_line, IsPast, ending, taken};

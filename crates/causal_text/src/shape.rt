@@ -1,5 +1,4 @@
 //! From a JSON value to what a line says.
-mod fields;
 mod whole;
 
 use causal_trace::entry::Entry;

@@ -1,18 +1,17 @@
 //! What the lines so far have said, and what one more line adds.
 ghost use Rattle.std.specs.Prelude.{◌≡◌, ◌≤◌, OnOk};
-ghost use Rattle.serde_json.specs.View.{view};
-ghost use Rattle.causal_text.specs.Inside.Given.{Gives, GivesBy};
-ghost use Rattle.causal_text.specs.Stages.{max_text, content, json_of, line_shape, begun, follow, after_line};
+ghost use Rattle.causal_text.specs.Given.{Gives};
+ghost use Rattle.causal_text.specs.Stages.{max_text, line_shape, begun, follow, after_line};
 ghost use Rattle.causal_text.specs.Versions.{version_of};
 
 use crate::kind::TextKind;
+use crate::line_value::{content, json_of};
 use crate::outline::may_have_shape;
 use crate::recorded::Recorded;
 use crate::shape::{Shape, shape_of};
 use crate::version::Version;
 use causal_trace::entry::Entry;
 use causal_trace::fault::TraceFault;
-use serde_json::Value;
 use std::alloc::Global;
 
 pub(crate) const MAX_TEXT: usize = 33_554_432;
@@ -49,34 +48,6 @@ impl From<TraceFault> for TextKind {
             TraceFault::Unsorted => TextKind::Unsorted,
             TraceFault::NoDelivery => TextKind::NoDelivery,
             TraceFault::NoMemory => TextKind::NoMemory,
-        }
-    }
-}
-
-/// The line without its line feed.
-#[tactic(auto, unfolding(crate::specs::Stages::content))]
-fn content(line: &[u8]) -> &[u8]
-    ensures { result.now ≡ content line.now }
-{
-    let n = line.len();
-    if n > 0 && line[n - 1] == b'\n' {
-        &line[..n - 1]
-    } else {
-        line
-    }
-}
-
-fn json_of(alloc: Global, bytes: &[u8]) -> Result<Value, TextKind>
-    ensures { GivesBy view result (json_of bytes.now) }
-{
-    match Value::from_slice(alloc, bytes) {
-        Ok(value) => Ok(value),
-        Err(e) => {
-            if e.is_memory() {
-                Err(TextKind::NoMemory)
-            } else {
-                Err(TextKind::Syntax)
-            }
         }
     }
 }

@@ -1,12 +1,12 @@
 //! The shapes of a line.
 ghost use Rattle.std.specs.Prelude.{◌≡◌};
 ghost use Rattle.serde_json.specs.View.{view};
-ghost use Rattle.causal_text.specs.Inside.Given.{Gives};
-ghost use Rattle.causal_text.specs.Shapes.{header_of, send_of, deliver_of, stable_of, crash_of, restart_of, forget_of, end_of, begins, shape_of};
+ghost use Rattle.causal_text.specs.Given.{Gives};
+ghost use Rattle.causal_text.specs.Shapes.{header_of, send_of, deliver_of, stable_of, crash_of, restart_of, forget_of, end_of, shape_of};
 
+use crate::fields::{begins, det_of, dets_at, pid_at, u32_at};
 use crate::kind::TextKind;
 use crate::shape::Shape;
-use crate::shape::fields::{det_of, dets_at, pid_at, size, u32_at};
 use causal_trace::entry::Entry;
 use serde_json::Value;
 use std::alloc::Global;
@@ -96,13 +96,6 @@ fn end_of(value: &Value) -> Result<Shape, TextKind>
     Ok(Shape::End {
         entries: u32_at(value, 1)?,
     })
-}
-
-// an array of n items, the first of which is the name
-fn begins(value: &Value, name: &str, n: usize) -> bool
-    ensures { result ≡ begins (view value.now) name.now n }
-{
-    value.get(0).and_then(Value::as_str).unwrap_or("") == name && size(value) == n
 }
 
 /// What the value of a line says.

@@ -2,7 +2,7 @@ use Rattle.std.proofs.Common.{◌≡◌, ℕ, ◌+◌, ◌*◌, ◌≤◌, lengt
 use Rattle.json.specs.Json.{items, members, value, parse_map}
 use Rattle.serde_json.specs.Data.{Members, no_members}
 use Rattle.serde_json.specs.Read.{of_items, of_members, converted}
-use Rattle.causal_text.specs.Inside.Outline.{items_fit}
+use Rattle.causal_text.specs.Outline.{items_fit}
 use Rattle.causal_text.proofs.Passed.{AllFit}
 use Rattle.causal_text.proofs.outline.+fits.Given as goal
 

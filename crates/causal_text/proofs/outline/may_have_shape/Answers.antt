@@ -1,25 +1,34 @@
-use Rattle.std.proofs.Common.{◌≡◌, ℕ, List, Bool, false, Result, Some, Ok, Err, ap, ◌∙◌, subst}
-use Rattle.std.specs.Prelude.{IfOk, IsUtf8}
+use Rattle.std.proofs.Common.{◌≡◌, Bool, false, Result, Ok, Err, ap}
+use Rattle.std.specs.Prelude.{IfErr}
 use Rattle.serde_json.specs.Data.{Data}
-use Rattle.serde_json.specs.Read.{read}
 use Rattle.causal_text.specs.declared.kind.TextKind.{TextKind}
 use Rattle.causal_text.specs.declared.kind.TextKind.TheVariants.{Form}
+use Rattle.causal_text.specs.Given.{IsFaultGiven, Gives}
 use Rattle.causal_text.specs.Reading.{◌>>=◌}
 use Rattle.causal_text.specs.Shapes.{shape_of}
-use Rattle.causal_text.specs.Inside.Outline.{levels, fits, shape_in}
-use Rattle.causal_text.proofs.Values.{json_of-utf8, json_of-none}
+use Rattle.causal_text.specs.Outline.{levels, fits}
+use Rattle.causal_text.proofs.Lemmas.Told.{told, fault_told}
 use Rattle.causal_text.proofs.Outlines.{no_shape}
 use Rattle.causal_text.proofs.outline.may_have_shape.Goals as goal
 
-formless : (bytes text : List ℕ) (r : Result Bool TextKind) → text ≡ bytes → IsUtf8 bytes → IfOk r (λ fit. (d : Data) × (read text ≡ Some d) × (fits levels d ≡ fit)) → r ≡ Ok false → shape_in bytes ≡ Err Form
-formless bytes text (Ok fit) same utf8 ok is =
-    let no : fit ≡ false = cc in
-    let value = json_of-utf8 bytes ok.0 utf8 (subst (λ (t : List ℕ). read t ≡ Some ok.0) same ok.1) in
-    ap (λ r. r >>= shape_of) value ∙ no_shape ok.0 (ok.2 ∙ no)
-formless bytes text (Err kind) same utf8 ok is = absurd (let bad : Err kind ≡ Ok false = is in cc)
+formless : (r : Result Data TextKind) → (r >>= λ d. Ok (fits levels d)) ≡ Ok false → (r >>= shape_of) ≡ Err Form
+formless (Ok d) h = no_shape d (let no : fits levels d ≡ false = cc in no)
+formless (Err k) h = absurd (let bad : Err k ≡ Ok false = h in cc)
 
-pub returns-in-Ok-clause-no : goal.returns-in-Ok-clause-no
-returns-in-Ok-clause-no c = formless c.args.bytes.now c.in-Ok.text.now c.text_fits.result c.in-Ok.ensures.cases.0 c.in-Ok.ensures.cases.1 c.text_fits.ensures.ok
+faulty : (r : Result Data TextKind) (k : TextKind) → (r >>= λ d. Ok (fits levels d)) ≡ Err k → (r >>= shape_of) ≡ Err k
+faulty (Ok d) k h = absurd (let bad : Ok (fits levels d) ≡ Err k = h in cc)
+faulty (Err e) k h = (let same : e ≡ k = cc in ap Err same)
 
-pub returns-in-Err-clause-err : goal.returns-in-Err-clause-err
-returns-in-Err-clause-err c = ap (λ r. r >>= shape_of) (json_of-none c.args.bytes.now (λ utf8. absurd (c.in-Err.ensures.cases.0 utf8)))
+on_err : (result : Result Bool TextKind) (r : Result Data TextKind) → Gives result (r >>= λ d. Ok (fits levels d)) → IfErr result (λ k. IsFaultGiven k k (r >>= shape_of))
+on_err (Ok fit) r h = tt
+on_err (Err k) r h = fault_told k k (r >>= shape_of) (λ other. faulty r k (told k k (r >>= λ d. Ok (fits levels d)) h other))
+
+on_no : (result : Result Bool TextKind) (r : Result Data TextKind) → Gives result (r >>= λ d. Ok (fits levels d)) → result ≡ Ok false → (r >>= shape_of) ≡ Err Form
+on_no (Ok fit) r h is = formless r (let no : fit ≡ false = cc in cc)
+on_no (Err k) r h is = absurd (let bad : Err k ≡ Ok false = is in cc)
+
+pub returns-clause-no : goal.returns-clause-no
+returns-clause-no c = on_no c.has_outline.result _ c.has_outline.ensures
+
+pub returns-clause-err : goal.returns-clause-err
+returns-clause-err c = on_err c.has_outline.result _ c.has_outline.ensures

@@ -2,10 +2,10 @@ use Rattle.std.proofs.Common.{◌≢◌, Result, Ok, Err, List, ℕ, IfOk, IfErr
 use Rattle.causal_trace.specs.Rows.{Recording}
 use Rattle.causal_text.specs.declared.kind.TextKind.TheVariants as kind
 use Rattle.causal_text.specs.declared.kind.TextFault.{TextFault}
-use Rattle.causal_text.specs.Inside.Given.{GivesText}
+use Rattle.causal_text.specs.Given.{GivesText}
 use Rattle.causal_text.specs.Inside.LineByLine.{reading}
 use Rattle.causal_text.specs.Spelling.{Spells, IsFirstFault}
-use Rattle.causal_text.proofs.Feeds.{told}
+use Rattle.causal_text.proofs.Lemmas.Told.{told}
 use Rattle.causal_text.proofs.Spellings.{Spells-reading, IsFirstFault-reading}
 use Rattle.causal_text.proofs.reader.read_recorded.Goals as goal
 

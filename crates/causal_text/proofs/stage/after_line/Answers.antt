@@ -5,7 +5,7 @@ use Rattle.causal_text.specs.declared.shape.Shape.{Shape}
 use Rattle.causal_text.specs.declared.stage.Stage.{Stage}
 use Rattle.causal_text.specs.declared.stage.Stage.TheVariants.{Opening, Within, Ended}
 use Rattle.causal_text.specs.declared.version.Version.{Version}
-use Rattle.causal_text.specs.Inside.Given.{Gives}
+use Rattle.causal_text.specs.Given.{Gives}
 use Rattle.causal_text.specs.Stages.{max_text, line_shape, follow, after_line}
 use Rattle.causal_text.proofs.Complete.{in_limit}
 use Rattle.causal_text.proofs.stage.after_line.Goals as goal

@@ -7,7 +7,8 @@ use Rattle.causal_text.specs.declared.kind.TextFault.{TextFault}
 use Rattle.causal_text.specs.Inside.Unfinished.{IsFaultOfAll}
 use Rattle.causal_text.specs.Streams.{IsFaultAfter}
 use Rattle.causal_text.specs.Inside.LineByLine.{reading}
-use Rattle.causal_text.proofs.Feeds.{reading-ending, IsReadAt-stands, IsReadAt-more, told}
+use Rattle.causal_text.proofs.Feeds.{reading-ending, IsReadAt-stands, IsReadAt-more}
+use Rattle.causal_text.proofs.Lemmas.Told.{told}
 use Rattle.causal_text.proofs.Spellings.{Spells-reading, IsFirstFault-reading}
 use Rattle.causal_text.proofs.StreamLemmas.{read_more}
 use Rattle.causal_text.proofs.stream.advance.Goals as goal

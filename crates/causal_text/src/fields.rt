@@ -1,8 +1,9 @@
-//! The items of an array, as numbers, processes and determinants.
+//! The fields of a line, which is an array: its name, and numbers, processes and determinants. What is not there, or is
+//! another thing, is `Form`.
 ghost use Rattle.std.specs.Prelude.{◌≡◌};
 ghost use Rattle.serde_json.specs.View.{view, items_view};
-ghost use Rattle.causal_text.specs.Inside.Given.{Gives};
-ghost use Rattle.causal_text.specs.Shapes.{size, number_at, u8_at, u32_at, pid_at, det_of, dets_of, dets_at};
+ghost use Rattle.causal_text.specs.Given.{Gives};
+ghost use Rattle.causal_text.specs.Shapes.{size, number_at, u8_at, u32_at, u64_at, pid_at, det_of, dets_of, dets_at, begins};
 
 use crate::kind::TextKind;
 use causal_name::{Det, Pid};
@@ -10,8 +11,9 @@ use causal_trace::entry::Dets;
 use serde_json::Value;
 use std::alloc::Global;
 
-#[tactic(auto, using(crate::proofs::Fields::items_len_of_view))]
-pub(crate) fn size(value: &Value) -> usize
+/// How many items an array has; 0 where the value is none.
+#[tactic(auto, using(crate::proofs::ItemCounts::items_len_of_view))]
+pub fn size(value: &Value) -> usize
     ensures { result ≡ size (view value.now) }
 {
     match value.as_array() {
@@ -29,7 +31,8 @@ fn number_at(value: &Value, i: usize, limit: u64) -> Result<u64, TextKind>
     }
 }
 
-pub(crate) fn u8_at(value: &Value, i: usize) -> Result<u8, TextKind>
+/// A number below 2^8.
+pub fn u8_at(value: &Value, i: usize) -> Result<u8, TextKind>
     ensures { result ≡ u8_at i (view value.now) }
 {
     match number_at(value, i, 1 << 8) {
@@ -38,7 +41,8 @@ pub(crate) fn u8_at(value: &Value, i: usize) -> Result<u8, TextKind>
     }
 }
 
-pub(crate) fn u32_at(value: &Value, i: usize) -> Result<u32, TextKind>
+/// A number below 2^32.
+pub fn u32_at(value: &Value, i: usize) -> Result<u32, TextKind>
     ensures { result ≡ u32_at i (view value.now) }
 {
     match number_at(value, i, 1 << 32) {
@@ -47,15 +51,27 @@ pub(crate) fn u32_at(value: &Value, i: usize) -> Result<u32, TextKind>
     }
 }
 
+/// A number below 2^64.
+pub fn u64_at(value: &Value, i: usize) -> Result<u64, TextKind>
+    ensures { result ≡ u64_at i (view value.now) }
+{
+    match value.get(i).and_then(Value::as_u64) {
+        Some(number) => Ok(number),
+        None => Err(TextKind::Form),
+    }
+}
+
+/// A process.
 #[tactic(auto, unfolding(crate::specs::Shapes::pid_at))]
-pub(crate) fn pid_at(value: &Value, i: usize) -> Result<Pid, TextKind>
+pub fn pid_at(value: &Value, i: usize) -> Result<Pid, TextKind>
     ensures { result ≡ pid_at i (view value.now) }
 {
     Ok(Pid(u8_at(value, i)?))
 }
 
+/// The determinant that a value is: `[source,ssn,dest,rsn]`.
 #[tactic(auto, unfolding(crate::specs::Shapes::det_of))]
-pub(crate) fn det_of(value: &Value) -> Result<Det, TextKind>
+pub fn det_of(value: &Value) -> Result<Det, TextKind>
     ensures { result ≡ det_of (view value.now) }
 {
     if size(value) != 4 {
@@ -79,12 +95,23 @@ fn dets_of(alloc: Global, values: &[Value]) -> Result<Dets, TextKind>
     Ok(Dets::new(dets))
 }
 
+/// A list of determinants.
+///
+/// # Errors
+/// `Form`, or `NoMemory` where memory was refused.
 #[tactic(auto, unfolding(crate::specs::Shapes::dets_at))]
-pub(crate) fn dets_at(alloc: Global, value: &Value, i: usize) -> Result<Dets, TextKind>
+pub fn dets_at(alloc: Global, value: &Value, i: usize) -> Result<Dets, TextKind>
     ensures { Gives result (dets_at i (view value.now)) }
 {
     match value.get(i).and_then(Value::as_array) {
         Some(values) => dets_of(alloc, values.as_slice()),
         None => Err(TextKind::Form),
     }
+}
+
+/// Whether a value is an array of n items, the first of which is the name.
+pub fn begins(value: &Value, name: &str, n: usize) -> bool
+    ensures { result ≡ begins (view value.now) name.now n }
+{
+    value.get(0).and_then(Value::as_str).unwrap_or("") == name && size(value) == n
 }
