@@ -3,6 +3,7 @@ mod ClosestLemmas
 mod ComingLemmas
 mod EachLemmas
 mod OrphanLemmas
+mod RangeLemmas
 mod SinceLemmas
 mod StandingLemmas
 mod Told

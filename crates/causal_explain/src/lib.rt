@@ -8,6 +8,7 @@ pub mod down;
 pub mod explaining;
 pub mod explanation;
 mod holdings;
+pub mod range;
 mod standing;
 mod ways;
 
@@ -16,3 +17,4 @@ pub use closest::{Closest, closest_failure};
 pub use down::down_since;
 pub use explaining::explain;
 pub use explanation::{Down, Explanation, Holding, Loss};
+pub use range::{SafeRange, safe_range};
