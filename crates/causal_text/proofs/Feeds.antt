@@ -51,7 +51,7 @@ lines_line : (xs rest : List ℕ) → no_feed xs ≡ true → lines (xs ++ 10 �
 lines_line [] rest h = refl
 lines_line (x ∷ xs) rest h = let p = first_other (x == 10) (no_feed xs) h in rw (p.0, lines_line xs rest p.1) refl
 
-lines_complete : (l rest : List ℕ) → IsComplete l → lines (l ++ rest) ≡ l ∷ lines rest
+pub lines_complete : (l rest : List ℕ) → IsComplete l → lines (l ++ rest) ≡ l ∷ lines rest
 lines_complete l rest h = rw h.2 (ap lines (append_assoc h.0 (10 ∷ []) rest) ∙ lines_line h.0 rest h.1)
 
 lines_joined : (ls : List (List ℕ)) (rest : List ℕ) → AreComplete ls → lines (joined ls ++ rest) ≡ ls ++ lines rest
@@ -180,7 +180,7 @@ told _ f read h other = h
 
 -- ---- the end of the text
 
-lines_rest : (rest : List ℕ) → no_feed rest ≡ true → 0 < length rest → lines rest ≡ rest ∷ []
+pub lines_rest : (rest : List ℕ) → no_feed rest ≡ true → 0 < length rest → lines rest ≡ rest ∷ []
 lines_rest [] h some = absurd (omega arith)
 lines_rest (x ∷ []) h some = let p = first_other (x == 10) true h in rw p.0 refl
 lines_rest (x ∷ y ∷ ys) h some =

@@ -2,5 +2,6 @@
 pub mod Given
 pub mod LineByLine
 pub mod Outline
+pub mod Placed
 pub mod Texts
 pub mod Unfinished

@@ -8,7 +8,9 @@ pub mod Place
 pub mod Spelling
 pub mod Laws
 pub mod FaultLine
+pub mod Sentences
 pub mod Canonical
 pub mod Pieces
+pub mod Before
 pub mod Streams
 pub mod Written

@@ -1,4 +1,7 @@
 //! Why a text is no trace.
+ghost use Rattle.std.specs.Prelude.{◌≡◌};
+ghost use Rattle.causal_text.specs.Sentences.{sentence_of};
+
 use std::alloc::{AllocError, AllocFailed};
 use std::fmt;
 use thiserror::Error;
@@ -59,7 +62,9 @@ impl fmt::Display for TextKind {
 
 impl TextKind {
     /// What is wrong, for people.
-    fn sentence(self) -> &'static str {
+    pub fn sentence(self) -> &'static str
+        ensures { result.now ≡ sentence_of self }
+    {
         match self {
             TextKind::After => "a line follows the end line",
             TextKind::Big => "the text is too long",

@@ -82,7 +82,7 @@ fn json_of(alloc: Global, bytes: &[u8]) -> Result<Value, TextKind>
 }
 
 #[tactic(auto, unfolding(crate::specs::Stages::line_shape))]
-fn line_shape(alloc: Global, line: &[u8]) -> Result<Shape, TextKind>
+pub(crate) fn line_shape(alloc: Global, line: &[u8]) -> Result<Shape, TextKind>
     ensures { Gives result (line_shape line.now) }
 {
     let bytes = content(line);
