@@ -23,7 +23,7 @@ crash_more : (n f g : ℕ) (past : List Entry) (crash : ℕ → Bool) → f ≤ 
 crash_more n f g past crash more h = record { down = h.down; few = omega (arith, h.few, more) }
 
 -- an orphan is one for more faults
-orphan_more : (n f g : ℕ) (past : List Entry) (k : ℕ) → f ≤ g → HasOrphan n f past k → HasOrphan n g past k
+pub orphan_more : (n f g : ℕ) (past : List Entry) (k : ℕ) → f ≤ g → HasOrphan n f past k → HasOrphan n g past k
 orphan_more n f g past k more h =
     record { crash = h.crash; orphan = h.orphan; may_crash = crash_more n f g past h.crash more h.may_crash; is_orphan = h.is_orphan }
 

@@ -6,6 +6,7 @@ mod EachLemmas
 mod LackingLemmas
 mod LossLemmas
 mod OrphanLemmas
+mod RangeLemmas
 mod SinceLemmas
 mod StandingLemmas
 mod Told

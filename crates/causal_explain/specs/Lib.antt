@@ -3,4 +3,5 @@ pub mod Chains
 pub mod Closest
 pub mod Explanations
 pub mod Inside
+pub mod Ranges
 pub mod Since

@@ -10,6 +10,7 @@ pub mod explaining;
 pub mod explanation;
 mod holdings;
 mod lacking;
+pub mod range;
 mod standing;
 mod ways;
 
@@ -19,3 +20,4 @@ pub use closest::{Closest, closest_failure};
 pub use down::down_since;
 pub use explaining::explain;
 pub use explanation::{Down, Explanation, Holding, Loss, LostBy};
+pub use range::{SafeRange, safe_range};

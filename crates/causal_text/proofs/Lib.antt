@@ -1,9 +1,11 @@
 pub mod Lemmas
+mod BeforeLemmas
 mod Canonicals
 mod Complete
 mod Feeds
 mod ItemCounts
 mod Joined
+mod KeptLemmas
 mod Outlines
 mod Passed
 mod Plain

@@ -60,7 +60,7 @@ pub spelled_at_end : (known left : Option (List ℕ)) (xs : List ℕ) (t : Recor
 spelled_at_end None left xs t p e h = tt
 spelled_at_end (Some bytes) left xs t p e h = subst (λ text. Spells text t) (sym (all_read bytes xs left p e)) h
 
-first_of_source : (bytes read piece : List ℕ) (left : Option (List ℕ)) (f : TextFault) → Consumes (Some bytes) left (read ++ piece) → PieceEndsAt piece left → IsFaultAfter piece (read ++ piece) f → IsFirstFault bytes f
+pub first_of_source : (bytes read piece : List ℕ) (left : Option (List ℕ)) (f : TextFault) → Consumes (Some bytes) left (read ++ piece) → PieceEndsAt piece left → IsFaultAfter piece (read ++ piece) f → IsFirstFault bytes f
 first_of_source bytes read [] left f p e h = subst (λ text. IsFirstFault text f) (sym (all_read bytes (read ++ []) left p e)) h
 first_of_source bytes read (x ∷ xs) None f p e h = absurd p
 first_of_source bytes read (x ∷ xs) (Some rest) f p e h = subst (λ text. IsFirstFault text f) (sym p) (h rest)
@@ -74,7 +74,7 @@ TellsOf-faults (Some bytes) mid left stood read (fault.Text f) p s h = λ other.
 TellsOf-faults (Some bytes) mid left stood read fault.Failed p s h = absurd (h read s)
 TellsOf-faults (Some bytes) mid left stood read fault.Unfinished p s h = absurd h
 
-line_of_source : (bytes read piece : List ℕ) (left : Option (List ℕ)) (line : ℕ) → Consumes (Some bytes) left (read ++ piece) → IsReadAt (read ++ piece) line → IsReadUpTo bytes line
+pub line_of_source : (bytes read piece : List ℕ) (left : Option (List ℕ)) (line : ℕ) → Consumes (Some bytes) left (read ++ piece) → IsReadAt (read ++ piece) line → IsReadUpTo bytes line
 line_of_source bytes read piece None line p h = absurd p
 line_of_source bytes read piece (Some rest) line p h = subst (λ text. IsReadUpTo text line) (sym p) (h rest)
 

@@ -13,6 +13,7 @@ pub mod FaultLine
 pub mod Sentences
 pub mod Canonical
 pub mod Pieces
+pub mod Before
 pub mod Streams
 pub mod Fed
 pub mod Written

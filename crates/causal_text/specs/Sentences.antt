@@ -1,8 +1,9 @@
--- What is wrong with a line, for people.
+-- What is wrong with a line, in words.
 use Rattle.std.specs.Prelude.{ℕ, List, codes}
 use Rattle.causal_text.specs.declared.kind.TextKind.{TextKind}
 use Rattle.causal_text.specs.declared.kind.TextKind.TheVariants as kind
 
+-- the sentence of each kind
 abbrev pub kind_sentence : TextKind → List ℕ
 kind_sentence kind.After = codes "a line follows the end line"
 kind_sentence kind.Big = codes "the text is too long"

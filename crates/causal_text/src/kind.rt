@@ -1,4 +1,5 @@
 //! Why a text is no trace.
+
 use std::alloc::{AllocError, AllocFailed};
 use std::fmt;
 use thiserror::Error;

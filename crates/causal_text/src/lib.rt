@@ -4,14 +4,19 @@
 //! one, and within a line the first in the order of [`TextKind`].
 //!
 //! Begin at [`read_trace`] for a text that is there as a whole, or [`read_from`] for one that a reader gives; [`TraceReader`]
-//! reads a piece at a time, and [`FedReader`] the pieces that it is handed. [`text_of`] and [`write_trace`] give the canonical text, [`write_whole`] writes any bytes. [`laws`]
-//! says that a text has one reading.
+//! reads a piece at a time, and [`FedReader`] the pieces that it is handed. [`read_keeping`] keeps what was read, of which
+//! [`before_line`] tells what stands before its fault. [`text_of`] and [`write_trace`] give the canonical text, [`write_whole`]
+//! writes any bytes. [`laws`] says that a text has one reading.
 #![tactic(auto)]
 
+/// What stands before a line, and what the line says.
+pub mod before;
 /// A text that is handed over in pieces.
 pub mod fed;
 /// The fields of a line.
 pub mod fields;
+/// A reading that keeps what was read.
+pub mod kept;
 /// The faults of a text.
 pub mod kind;
 /// A text has one reading; the canonical text is read back.
@@ -31,7 +36,7 @@ mod recorded;
 /// How a fault prints.
 pub mod report;
 /// What the JSON value of a line says.
-mod shape;
+pub mod shape;
 /// What the lines so far have said, and what one more adds.
 mod stage;
 /// A text from a reader of bytes, in pieces, to its trace or its first fault.
@@ -43,10 +48,13 @@ pub mod writer;
 /// Bytes to a writer, call by call.
 pub mod written;
 
+pub use before::{Before, before_line};
 pub use fed::FedReader;
+pub use kept::{Unread, read_keeping};
 pub use kind::{TextFault, TextKind};
 pub use reader::read_trace;
 pub use report::fault_line;
+pub use shape::Shape;
 pub use stream::{Progress, ReaderFault, TraceReader, read_from};
 pub use writer::{text_of, write_trace};
 pub use written::{WriteCause, WriteFault, write_whole};

@@ -1,5 +1,6 @@
 //! A text line by line.
 ghost use Rattle.std.specs.Prelude.{◌≡◌, ◌≢◌, ◌+◌, ◌<◌, ◌≤◌, length, IfSome, IfNone, IfErr};
+ghost use Rattle.causal_text.specs.declared.version.Version.{Version};
 ghost use Rattle.causal_text.specs.Stages.{max_text};
 ghost use Rattle.causal_text.specs.Inside.LineByLine.{start, next, ended, IsFaultFrom};
 ghost use Rattle.causal_text.specs.Given.{GivesText};
@@ -39,6 +40,23 @@ impl LineReader {
             stage: Stage::Opening,
             count: 0,
             size: 0,
+        }
+    }
+
+    /// The number of the next line, counted from 1.
+    pub(crate) fn line(&self) -> u32
+        ensures { result ≡ self.now.count + 1 }
+    {
+        self.count + 1
+    }
+
+    /// The trace so far, where there is one and no end line has come.
+    pub(crate) fn so_far(self) -> Option<Recorded>
+        ensures { IfSome result (λ r. (version : Version) × (self.stage ≡ Stage.Within version r)) }
+    {
+        match self.stage {
+            Stage::Within { trace, .. } => Some(trace),
+            _ => None,
         }
     }
 

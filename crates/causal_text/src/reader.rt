@@ -42,6 +42,14 @@ impl PieceReader {
         }
     }
 
+    /// Want of memory at the line that is being read.
+    pub(crate) fn no_memory(&self) -> TextFault
+        ensures kind { result.kind ≡ TextKind.NoMemory }
+        ensures line { result.line ≡ self.now.place.count + 1 }
+    {
+        self.lines.no_memory()
+    }
+
     /// Takes the rest of a line, with its line feed.
     fn complete(self, alloc: Global, line: &[u8]) -> Result<PieceReader, TextFault>
         requires { 0 < length line.now }

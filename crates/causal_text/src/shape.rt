@@ -6,7 +6,7 @@ pub(crate) use whole::shape_of;
 
 /// What a line says.
 #[derive(Drop)]
-pub(crate) enum Shape {
+pub enum Shape {
     Header { version: u32, processes: u32 },
     Entry { entry: Entry },
     End { entries: u32 },

@@ -53,7 +53,7 @@ impl From<TraceFault> for TextKind {
 }
 
 #[tactic(auto, unfolding(crate::specs::Stages::line_shape))]
-fn line_shape(alloc: Global, line: &[u8]) -> Result<Shape, TextKind>
+pub(crate) fn line_shape(alloc: Global, line: &[u8]) -> Result<Shape, TextKind>
     ensures { Gives result (line_shape line.now) }
 {
     let bytes = content(line);

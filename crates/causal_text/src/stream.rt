@@ -16,7 +16,7 @@ use std::mem;
 use thiserror::Error;
 
 // how many bytes the source is asked for at once
-const PIECE: usize = 4096;
+pub(crate) const PIECE: usize = 4096;
 
 /// Where a reader of a trace stands.
 #[derive(Drop)]
@@ -53,7 +53,7 @@ pub enum ReaderFault {
 }
 
 // the state after one more piece, or at the end where the piece is empty
-fn advance(alloc: Global, pieces: PieceReader, piece: &[u8]) -> Result<State, TextFault>
+pub(crate) fn advance(alloc: Global, pieces: PieceReader, piece: &[u8]) -> Result<State, TextFault>
     ensures ok { IfOk result (λ s. (b : List ℕ) → HasRead (State.Reading pieces) b → HasRead s (b ++ piece.now)) }
     ensures err { IfErr result (λ f. f.kind ≢ TextKind.NoMemory
         → (b : List ℕ) → HasRead (State.Reading pieces) b → IsFaultAfter piece.now (b ++ piece.now) f) }

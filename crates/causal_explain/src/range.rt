@@ -1,0 +1,61 @@
+//! For which numbers of faults a run is safe.
+ghost use Rattle.std.specs.Prelude.{◌≡◌, ◌<◌, ◌≤◌, ℕ, None, IfOk};
+ghost use Rattle.causal_audit.specs.Breaches.{FirstExcess};
+ghost use Rattle.causal_explain.specs.Ranges.{ComesToExcess, IsSafeRange};
+
+use crate::closest::{Closest, closest_failure};
+use causal_audit::{Verdict, first_excess_in, verdict_of};
+use causal_name::NoMemory;
+use causal_trace::trace::Trace;
+use std::alloc::Global;
+
+/// Numbers of faults: those that are at least `from` and, where there is an end, below `below`.
+#[derive(Clone, Copy, Debug, PartialEq, Eq)]
+pub struct SafeRange {
+    pub from: u16,
+    pub below: Option<u16>,
+}
+
+/// For which numbers of faults a run is safe: for those from the greatest number of processes that are down at once up to the first
+/// for which a delivery has an orphan. There may be none between.
+///
+/// At most ten passes over the entries tell the first, and some twenty judgements of the run at most the other
+/// ([`closest_failure`]).
+///
+/// # Errors
+/// `NoMemory` where memory was refused.
+pub fn safe_range(alloc: Global, trace: &Trace) -> Result<SafeRange, NoMemory>
+    ensures { IfOk result (IsSafeRange trace.now.recording) }
+{
+    let from = most_down(trace);
+    match verdict_of(alloc, trace, from)? {
+        Verdict::Accept => match closest_failure(alloc, trace, from)? {
+            Closest::Never => Ok(SafeRange { from, below: None }),
+            Closest::At { faults, .. } => Ok(SafeRange {
+                from,
+                below: Some(faults),
+            }),
+        },
+        _ => Ok(SafeRange {
+            from,
+            below: Some(from),
+        }),
+    }
+}
+
+/// How many processes are down at once at most. Each pass over the entries halves what it may be.
+fn most_down(trace: &Trace) -> u16
+    ensures most { FirstExcess trace.now.recording result None }
+    ensures fewer { (f : ℕ) → f < result → ComesToExcess trace.now.recording f }
+{
+    let mut low = 0;
+    let mut high = trace.processes();
+    while low < high {
+        let asked = low + (high - low) / 2;
+        match first_excess_in(trace, asked) {
+            Some(_) => low = asked + 1,
+            None => high = asked,
+        }
+    }
+    low
+}
