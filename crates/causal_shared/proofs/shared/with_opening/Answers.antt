@@ -1,5 +1,4 @@
-use Rattle.std.proofs.Common.{◌≡◌, ◌∙◌, ap, sym, IfOk}
-use Rattle.std.specs.Prelude.{Ok}
+use Rattle.std.proofs.Common.{◌≡◌, ◌∙◌, ap, sym}
 use Rattle.causal_core.specs.CoreView.{run_of}
 use Rattle.causal_trace.specs.State.{TraceState}
 use Rattle.causal_shared.specs.History.{Held}
