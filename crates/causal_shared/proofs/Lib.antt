@@ -1,3 +1,4 @@
+mod Answered
 mod Lists
 mod Cuts
 mod Shown

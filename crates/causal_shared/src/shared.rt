@@ -7,7 +7,7 @@ ghost use Rattle.causal_protocol.specs.declared.request.Request.TheVariants as A
 ghost use Rattle.causal_protocol.specs.declared.request.Reply.TheVariants as Told;
 ghost use Rattle.causal_shared.specs.History.{instant, IsHistory};
 ghost use Rattle.causal_shared.specs.Limits.{max_seats};
-ghost use Rattle.causal_shared.specs.Locked.{held_of, AnswersAs, IsSafeSnapshot};
+ghost use Rattle.causal_shared.specs.Locked.{held_of, opened_over, AnswersAs, IsSafeSnapshot};
 ghost use Rattle.causal_shared.specs.Finish.{Agrees, IsComplete, IsNoneOrSeat, AllSeated, AreSeatsOf};
 ghost use Rattle.causal_shared.specs.Inside.Settled.{IsMismatch, BeginsAt};
 ghost use Rattle.causal_shared.specs.Finish.{items_together, before_items};
@@ -66,10 +66,8 @@ impl<S: Stable + Send> Shared<S> {
         ensures seats { IfOk result (λ r. AreFresh tag (instant (run_of core)) k r.1.items) }
     {
         let faults = core.faults();
-        let opening = core.trace().try_clone();
         let seats = seats_of(alloc, k, tag, core.trace().len());
-        let locked = Locked::new(alloc, core, k);
-        let ((opening, seats), locked) = both(both(opening, seats), locked)?;
+        let ((locked, opening), seats) = both(with_opening(alloc, core, k), seats)?;
         let shared = Shared {
             locked: Mutex::new(locked),
             tag,
@@ -181,6 +179,23 @@ impl<S: Stable + Send> Shared<S> {
     {
         snapshot_under(&mut self.locked.lock(rt), self.tag, seat)
     }
+}
+
+/// The core as it goes behind the lock, for `k` seats, and a copy of what it has recorded: with this a finish compares what
+/// it finds before the first item.
+fn with_opening<S: Stable>(
+    alloc: Global,
+    core: Core<S>,
+    k: u32,
+) -> Result<(Locked<S>, Trace), NoMemory>
+    requires some { 1 ≤ k }
+    requires few { k ≤ max_seats }
+    ensures locked { IfOk result (λ r. held_of r.0 ≡ opened_over (run_of core) k) }
+    ensures opening { IfOk result (λ r. r.1.recording ≡ (held_of r.0).run.recording) }
+{
+    let opening = core.trace().try_clone();
+    let locked = Locked::new(alloc, core, k);
+    both(locked, opening)
 }
 
 /// New seats, by their numbers.

@@ -1,4 +1,4 @@
-use Rattle.std.proofs.Common.{ℕ, ◌≡◌, ap, sym, ◌∙◌}
+use Rattle.std.proofs.Common.{◌≡◌, ap, sym, ◌∙◌}
 use Rattle.std.specs.Prelude.{Option, Result, Some, Ok, Err}
 use Rattle.causal_shared.specs.declared.fault.FinishFault.{FinishFault}
 use Rattle.causal_core.specs.CoreView.{run_of}
