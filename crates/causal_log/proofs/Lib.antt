@@ -3,5 +3,5 @@ mod EntryLemmas
 mod PartLemmas
 mod PlaceLemmas
 mod RankLemmas
-mod NoteLemmas
 mod HearLemmas
+mod NoteLemmas

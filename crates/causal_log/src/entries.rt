@@ -6,7 +6,6 @@ ghost use Rattle.std.specs.FinMap as fin;
 ghost use Rattle.indexmap.specs.IndexMap.{keys, spare};
 ghost use Rattle.causal_name.specs.Names.{same_det, is_ascending};
 ghost use Rattle.causal_log.specs.Knowledge.{is_carried};
-ghost use Rattle.causal_log.specs.Inside.Parts.{carried_from, dets_carried, Adds, AddsAll};
 ghost use Rattle.causal_log.specs.Inside.Ranks.{has_rank};
 ghost use Rattle.causal_log.specs.Logs.{log_of, learned, item_of, marked, chosen};
 
@@ -111,20 +110,6 @@ pub(crate) fn ranked(entries: &IndexMap<Det, Known>, place: u32) -> Option<(Det,
     None
 }
 
-/// The determinants of the entries that messages carry where so many may fail.
-pub(crate) fn carried_dets(
-    alloc: Global,
-    entries: &IndexMap<Det, Known>,
-    failures: u32,
-) -> Result<Vec<Det>, NoMemory>
-    ensures { IfOk result (λ dets. dets.items ≡ dets_carried failures entries.now.entries) }
-{
-    let carried = entries
-        .iter()
-        .filter(|(_, known)| known.is_within(failures));
-    Ok(carried.map(|(det, _)| *det).collect(alloc)?)
-}
-
 /// The place of a determinant and what is known of it, where it is logged.
 pub(crate) fn place_of(entries: &IndexMap<Det, Known>, det: Det) -> Option<(usize, Known)>
     ensures known { option_map (λ found. found.1) result ≡ fin.get (log_of entries.now.entries) det }
@@ -164,55 +149,6 @@ pub(crate) fn add(entries: &mut IndexMap<Det, Known>, det: Det, heard: Known)
         Ok(_) => {}
         Err(_) => unreachable!(),
     }
-}
-
-/// Copies the entry of a determinant behind some others, where a message carries it.
-fn copy_carried(
-    part: &mut IndexMap<Det, Known>,
-    entries: &IndexMap<Det, Known>,
-    det: Det,
-    f: u16,
-) -> Result<(), NoMemory>
-    ensures { OnOk result (Adds (carried_from f entries.now.entries) det part.old.entries part.new.entries) }
-{
-    let Some(known) = entries.get(&det) else {
-        return Ok(());
-    };
-    if !known.is_carried(f) {
-        return Ok(());
-    }
-    part.insert(det, *known)?;
-    Ok(())
-}
-
-/// Copies the entries of some determinants behind some others, where a message carries them.
-fn copy_dets(
-    part: &mut IndexMap<Det, Known>,
-    entries: &IndexMap<Det, Known>,
-    dets: &[Det],
-    f: u16,
-) -> Result<(), NoMemory>
-    ensures { OnOk result (AddsAll (carried_from f entries.now.entries) dets.now part.old.entries part.new.entries) }
-{
-    for det in dets {
-        copy_carried(part, entries, *det, f)?;
-    }
-    Ok(())
-}
-
-/// The entries of some determinants that a message carries, with room for some more entries.
-pub(crate) fn carried_among(
-    alloc: Global,
-    entries: &IndexMap<Det, Known>,
-    dets: &[Det],
-    f: u16,
-    more: usize,
-) -> Result<IndexMap<Det, Known>, NoMemory>
-    ensures { IfOk result (λ part. AddsAll (carried_from f entries.now.entries) dets.now [] part.entries) }
-{
-    let mut part = IndexMap::with_capacity(alloc, dets.len().saturating_add(more))?;
-    copy_dets(&mut part, entries, dets, f)?;
-    Ok(part)
 }
 
 /// The items of what a message carries of some entries, ascending.

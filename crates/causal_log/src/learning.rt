@@ -30,9 +30,8 @@ pub(crate) fn learn(entries: &mut IndexMap<Det, Known>, notes: &mut Notes, det: 
             put_at(entries, place, joined);
         }
         None => {
-            let count = heard.holders.len();
+            notes.learn(det, &heard);
             add(entries, det, heard);
-            notes.learn(det, count);
         }
     }
 }

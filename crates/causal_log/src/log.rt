@@ -7,7 +7,7 @@ ghost use Rattle.causal_name.specs.Names.{same_det};
 ghost use Rattle.causal_log.specs.Knowledge.{held_by, stable_and_held_by};
 ghost use Rattle.causal_log.specs.Logs.{log_of, learned, absorbed, grown, united, marked, stable_in, unstable_in, unmarked, chosen, named, HaveSame};
 ghost use Rattle.causal_log.specs.Slots.{first_of_slot};
-ghost use Rattle.causal_log.specs.Inside.Parts.{carried_in};
+ghost use Rattle.causal_log.specs.Inside.Parts.{CarriesAs};
 ghost use Rattle.causal_log.specs.declared.known.Known.{Known};
 
 use crate::batch::{Batch, Item};
@@ -143,28 +143,19 @@ impl Log {
     fn carried(&self, alloc: Global, f: u16) -> Result<Vec<Item>, NoMemory>
         ensures { IfOk result (λ items. items.items ≡ chosen f self.now.map) }
     {
-        if self.sorted && !self.notes.serves(f) {
-            return entries::carried(alloc, &self.entries, f);
-        }
-        let part = self.part_carried(alloc, f, 0)?;
+        let part = self.part_carried(f)?;
         entries::chosen(alloc, part, f)
     }
 
-    /// The entries that messages carry, in no order, with room for some more: of the noted determinants, where these are
-    /// few, and else of all.
-    fn part_carried(
-        &self,
-        alloc: Global,
-        f: u16,
-        more: usize,
-    ) -> Result<IndexMap<Det, Known>, NoMemory>
-        ensures { IfOk result (λ part. log_of part.entries ≡ carried_in f self.now.map) }
+    /// Entries of which messages carry what they carry of the log: those that are noted, where the notes say which these are,
+    /// and else all.
+    fn part_carried(&self, f: u16) -> Result<IndexMap<Det, Known>, NoMemory>
+        ensures { IfOk result (λ part. CarriesAs f self.now.map part.entries) }
     {
         if self.notes.serves(f) {
-            return entries::carried_among(alloc, &self.entries, self.notes.few(), f, more);
+            return entries::copied(self.notes.few());
         }
-        let dets = entries::carried_dets(alloc, &self.entries, u32::from(f))?;
-        entries::carried_among(alloc, &self.entries, dets.as_slice(), f, more)
+        entries::copied(&self.entries)
     }
 
     /// What the messages of a step would carry once `grow` has taken in a delivery. The log is not changed. Its only error
@@ -181,7 +172,7 @@ impl Log {
         ensures { IfOk result (λ batch. batch ≡ chosen f (grown carried.now own from me self.now.map)) }
     {
         let items = carried.as_slice();
-        let mut part = self.part_carried(alloc, f, 1)?;
+        let mut part = self.part_carried(f)?;
         hear_items(&mut part, &self.entries, items, from, me, f)?;
         hear_own(&mut part, &self.entries, items, own, me, f)?;
         let items = entries::chosen(alloc, part, f)?;
@@ -295,10 +286,9 @@ impl Log {
             return Ok(());
         }
         self.make_room(1)?;
-        let count = heard.holders.len();
+        self.notes.learn(det, &heard);
         entries::add(&mut self.entries, det, heard);
         self.sorted = false;
-        self.notes.learn(det, count);
         self.room -= 1;
         Ok(())
     }

@@ -1,28 +1,29 @@
 //! What a log notes of its entries, so that it need not read them all: which of them messages carry, and which is the
 //! least of each slot.
-ghost use Rattle.std.specs.Prelude.{◌≡◌, ◌<◌, ◌≤◌, ℕ, Some, [], false, IsTrue, IfOk};
+ghost use Rattle.std.specs.Prelude.{◌≡◌, ◌<◌, ◌≤◌, ℕ, Some, None, [], false, IsTrue, IfOk};
 ghost use Rattle.std.specs.FinMap as fin;
-ghost use Rattle.std.specs.FinSet as set;
 ghost use Rattle.std.specs.Map.{lookup};
 ghost use Rattle.causal_name.specs.Names.{same_slot};
 ghost use Rattle.causal_log.specs.declared.known.Known.{Known};
 ghost use Rattle.causal_log.specs.Knowledge.{joined, is_carried};
 ghost use Rattle.causal_log.specs.Logs.{LogMap, log_of, learned};
-ghost use Rattle.causal_log.specs.Inside.Noted.{IsNoted, Learn, Omits};
-ghost use Rattle.causal_log.specs.Inside.Ranks.{AreSlots};
+ghost use Rattle.causal_log.specs.Inside.Parts.{CarriesAs};
+ghost use Rattle.causal_log.specs.Inside.Noted.{IsNoted, Keeps, Omits};
+ghost use Rattle.causal_log.specs.Inside.Ranks.{AreSlots, FillsSlot};
 
+use crate::entries::copied;
 use crate::known::Known;
 use crate::slots::{fill_slot, refill};
 use causal_name::{Det, NoMemory, Slot};
-use indexmap::{IndexMap, IndexSet};
+use indexmap::IndexMap;
 use std::alloc::Global;
 
 /// What a log notes of its entries. Where there was no room for it, it says nothing from then on, and the log reads its
 /// entries.
 #[derive(Debug, Drop)]
 pub(crate) struct Notes {
-    /// Those that messages carry where fewer than `limit` processes may fail.
-    few: IndexSet<Det>,
+    /// What is known of those that messages carry where fewer than `limit` processes may fail.
+    few: IndexMap<Det, Known>,
     /// At 0 the notes say nothing.
     limit: u32,
     /// The least determinant that is logged for each slot.
@@ -35,7 +36,7 @@ impl Notes {
         ensures { IsNoted result (log_of []) }
     {
         Notes {
-            few: IndexSet::new(alloc),
+            few: IndexMap::new(alloc),
             limit: u32::from(f) + 1,
             slots: IndexMap::new(alloc),
         }
@@ -48,11 +49,11 @@ impl Notes {
         u32::from(f) < self.limit
     }
 
-    /// The determinants among which those are that messages carry.
-    pub(crate) fn few(&self) -> &[Det]
-        ensures { result.now ≡ self.now.few.keys }
+    /// What is known of those that messages carry.
+    pub(crate) fn few(&self) -> &IndexMap<Det, Known>
+        ensures { result.now ≡ self.now.few }
     {
-        self.few.as_slice()
+        &self.few
     }
 
     /// Whether the notes say anything.
@@ -83,11 +84,15 @@ impl Notes {
         self.limit > 0 && known.is_within(self.limit - 1)
     }
 
-    /// Whether a determinant of which more is known than before is noted as before.
-    fn stays(&self, before: &Known, now: &Known) -> bool
-        ensures { result ≡ false → (f : ℕ) → f < self.now.limit → is_carried f now.now ≡ false }
+    /// Notes what is known now of a determinant that messages carry. Where there is no room for it, the notes say nothing from
+    /// then on.
+    fn keep(&mut self, det: Det, known: Known)
+        ensures { Keeps det known self.old self.new }
     {
-        !self.notes(before) || self.notes(now)
+        match self.few.insert(det, known) {
+            Ok(_) => {}
+            Err(_) => self.limit = 0,
+        }
     }
 
     /// What is known of a determinant that is logged once more is heard of it. Where messages carry it no more, it is noted
@@ -97,37 +102,54 @@ impl Notes {
         ensures noted { (log : LogMap) → fin.get log det ≡ Some known → IsNoted self.old log → IsNoted self.new (learned log det heard) }
     {
         let joined = known.joined(heard);
-        if !self.stays(&known, &joined) {
+        if self.notes(&joined) {
+            self.keep(det, joined);
+        } else if self.notes(&known) {
             self.omit(det);
         }
         joined
     }
 
-    /// Notes a determinant that was not logged, and of which so many holders are known now.
-    pub(crate) fn learn(&mut self, det: Det, count: u32)
-        ensures { (heard : Known) → set.len heard.holders ≡ count → Learn (det, heard) self.old self.new }
+    /// Notes a determinant that was not logged, and of which this is heard, where messages carry it.
+    fn note(&mut self, det: Det, heard: &Known)
+        ensures carried { (log : LogMap) → fin.get log det ≡ None → IsNoted self.old log →
+            (f : ℕ) → f < self.new.limit → CarriesAs f (learned log det heard.now) self.new.few.entries }
+        ensures limit { 0 < self.new.limit → self.new.limit ≡ self.old.limit }
+        ensures slots { self.new.slots.entries ≡ self.old.slots.entries }
+    {
+        let known = Known::nothing().joined(*heard);
+        if self.notes(&known) {
+            self.keep(det, known);
+        }
+    }
+
+    /// Notes the slot of a determinant. Where there is no room for it, the notes say nothing from then on.
+    fn fill(&mut self, det: Det)
+        ensures few { self.new.few.entries ≡ self.old.few.entries }
+        ensures limit { 0 < self.new.limit → self.new.limit ≡ self.old.limit }
+        ensures slots { 0 < self.new.limit → FillsSlot det self.old.slots.entries self.new.slots.entries }
     {
         if self.limit == 0 {
             return;
         }
-        if self.few.len() == self.few.capacity() || self.slots.len() == self.slots.capacity() {
+        if !fill_slot(&mut self.slots, det) {
             self.limit = 0;
-            return;
         }
-        fill_slot(&mut self.slots, det);
-        if count < self.limit {
-            match self.few.insert(det) {
-                Ok(_) => {}
-                Err(_) => unreachable!(),
-            }
-        }
+    }
+
+    /// Notes a determinant that was not logged, and of which this is heard.
+    pub(crate) fn learn(&mut self, det: Det, heard: &Known)
+        ensures { (log : LogMap) → fin.get log det ≡ None → IsNoted self.old log → IsNoted self.new (learned log det heard.now) }
+    {
+        self.note(det, heard);
+        self.fill(det);
     }
 
     /// Goes on where entries were taken out that messages carry no more, and these determinants are left: the slots are
     /// filled anew. Takes no memory; where there is no room for it the notes say nothing.
     pub(crate) fn leave(&mut self, left: &[Det])
         ensures limit { self.new.limit ≤ self.old.limit }
-        ensures few { self.new.few.keys ≡ self.old.few.keys }
+        ensures few { self.new.few.entries ≡ self.old.few.entries }
         ensures slots { 0 < self.new.limit → AreSlots left.now self.new.slots.entries }
     {
         if self.limit > 0 && !refill(&mut self.slots, left) {
@@ -148,11 +170,11 @@ impl Notes {
 
     /// The same notes.
     pub(crate) fn try_clone(&self) -> Result<Notes, NoMemory>
-        ensures few { IfOk result (λ copy. copy.few.keys ≡ self.now.few.keys) }
+        ensures few { IfOk result (λ copy. copy.few.entries ≡ self.now.few.entries) }
         ensures limit { IfOk result (λ copy. copy.limit ≡ self.now.limit) }
         ensures slots { IfOk result (λ copy. copy.slots.entries ≡ self.now.slots.entries) }
     {
-        let few = self.few.clone()?;
+        let few = copied(&self.few)?;
         let slots = self.slots.clone()?;
         Ok(Notes {
             few,

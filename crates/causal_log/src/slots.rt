@@ -7,18 +7,23 @@ use crate::ranks::is_below;
 use causal_name::{Det, Slot};
 use indexmap::IndexMap;
 
-/// Fills a determinant's slot, in room made before, unless a lesser one does.
-pub(crate) fn fill_slot(slots: &mut IndexMap<Slot, Det>, det: Det)
-    requires { 1 ≤ spare slots.old }
-    ensures { FillsSlot det slots.old.entries slots.new.entries }
+/// Fills a determinant's slot, unless a lesser one does, in the room that there is. Says whether it sufficed: a slot that is
+/// filled already needs none.
+pub(crate) fn fill_slot(slots: &mut IndexMap<Slot, Det>, det: Det) -> bool
+    ensures filled { IsTrue result → FillsSlot det slots.old.entries slots.new.entries }
+    ensures succeeds { 1 ≤ spare slots.old → IsTrue result }
 {
     let slot = det.slot();
     let found = slots.get(&slot).copied();
-    if is_below(&det, found) {
-        match slots.insert(slot, det) {
-            Ok(_) => {}
-            Err(_) => unreachable!(),
-        }
+    if !is_below(&det, found) {
+        return true;
+    }
+    if found.is_none() && slots.len() == slots.capacity() {
+        return false;
+    }
+    match slots.insert(slot, det) {
+        Ok(_) => true,
+        Err(_) => false,
     }
 }
 
@@ -29,10 +34,9 @@ pub(crate) fn refill(slots: &mut IndexMap<Slot, Det>, dets: &[Det]) -> bool
 {
     slots.clear();
     for det in dets {
-        if slots.len() == slots.capacity() {
+        if !fill_slot(slots, *det) {
             return false;
         }
-        fill_slot(slots, *det);
     }
     true
 }

@@ -3,7 +3,6 @@ use Rattle.std.specs.FinMap as fin
 use Rattle.causal_log.specs.Knowledge.{nothing_known, joined}
 use Rattle.causal_log.specs.Logs.{log_of, learned}
 use Rattle.causal_log.specs.Inside.Noted.{IsNoted}
-use Rattle.causal_log.proofs.NoteLemmas.{noted_learned}
 use Rattle.causal_log.proofs.learning.learn.Goals as goal
 use Rattle.causal_log.proofs.learning.learn.Goals.{After-put_at}
 
@@ -24,4 +23,4 @@ returns-in-Some-clause-noted c = λ is.
 pub returns-in-None-clause-noted : goal.returns-in-None-clause-noted
 returns-in-None-clause-noted c = λ is.
     subst (IsNoted c.learn.new.self) (sym c.add.ensures.learned)
-    (noted_learned c.args.notes.now c.learn.new.self (log_of c.args.entries.now.entries) (c.args.det, c.args.heard) is (c.learn.ensures c.args.heard (sym c.len-count.ensures.counted)))
+    (c.learn.ensures (log_of c.args.entries.now.entries) (sym c.in-None.ensures.known) is)

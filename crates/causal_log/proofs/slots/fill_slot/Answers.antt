@@ -13,11 +13,11 @@ below c =
     (ap (λ s. lookup (same_slot s) c.args.slots.now.entries) (sym c.slot-slot.ensures) ∙ sym (c.copied-found.ensures ∙ c.get.ensures.value))
     ∙ sym c.is_below.ensures
 
-pub returns-in-Ok : goal.returns-in-Ok
-returns-in-Ok c = λ dets are.
+pub returns-in-Ok-clause-filled : goal.returns-in-Ok-clause-filled
+returns-in-Ok-clause-filled c = λ fits dets are.
     slots_put dets c.args.det c.args.slots.now.entries are c.insert.new.self.entries
     (λ q. c.in-Ok.ensures.updates.0 q ∙ ap (λ s. cond (same_slot s q) (Some c.args.det) (lookup (same_slot q) c.args.slots.now.entries)) c.slot-slot.ensures)
-    (below (goal.at.returns-in-Ok c).After-is_below ∙ c.if-is_below.true)
+    (below (goal.at.returns-in-Ok-clause-filled c).After-is_below ∙ c.if-not-is_below.false)
 
-pub returns-else-is_below : goal.returns-else-is_below
-returns-else-is_below c = λ dets are. slots_kept dets c.args.det c.args.slots.now.entries are (below (goal.at.returns-else-is_below c).After-is_below ∙ c.if-is_below.false)
+pub returns-then-not-is_below-clause-filled : goal.returns-then-not-is_below-clause-filled
+returns-then-not-is_below-clause-filled c = λ fits dets are. slots_kept dets c.args.det c.args.slots.now.entries are (below (goal.at.returns-then-not-is_below-clause-filled c).After-is_below ∙ c.if-not-is_below.true)

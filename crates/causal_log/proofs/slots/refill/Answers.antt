@@ -6,5 +6,5 @@ use Rattle.causal_log.proofs.slots.refill.Goals as goal
 pub loop-det-preserved : goal.loop-det-preserved
 loop-det-preserved c = record {
   slots = subst (λ ds. AreSlots ds c.fill_slot.new.slots.entries) (sym (take_more c.args.dets.now c.loop-det.det-index _ c.loop-det-test.true))
-      (c.fill_slot.ensures (take c.loop-det.det-index c.args.dets.now) c.loop-det.invariant.slots);
+      (c.fill_slot.ensures.filled c.if-not-fill_slot.false (take c.loop-det.det-index c.args.dets.now) c.loop-det.invariant.slots);
 }

@@ -1,9 +1,9 @@
 use Rattle.std.proofs.Common.{◌≡◌, ◌∙◌, ap, sym, subst, true}
 use Rattle.causal_name.specs.Names.{is_ascending}
 use Rattle.causal_log.specs.Logs.{log_of, grown, chosen, dets_of}
-use Rattle.causal_log.specs.Inside.Parts.{carried_in}
+use Rattle.causal_log.specs.Inside.Parts.{CarriesAs}
 use Rattle.causal_log.proofs.Lemmas.ChosenLemmas.{chosen_ascend}
-use Rattle.causal_log.proofs.PartLemmas.{carries_part, same_chosen}
+use Rattle.causal_log.proofs.PartLemmas.{same_chosen}
 use Rattle.causal_log.proofs.log.Log.choose_grown.Goals as goal
 
 pub hear_items-requires : goal.hear_items-requires
@@ -15,7 +15,7 @@ new-requires c = subst (λ items. is_ascending (dets_of items) ≡ true) (sym c.
 pub returns : goal.returns
 returns c =
     let log = log_of c.self.inside.entries.entries in
-    let start = carries_part c.args.f log c.in_ok-part.part.entries (c.in_ok-part.ensures ∙ sym (ap (λ log. carried_in c.args.f log.map) c.self.view_is)) in
+    let start = subst (λ log. CarriesAs c.args.f log.map c.in_ok-part.part.entries) (sym c.self.view_is) c.in_ok-part.ensures in
     c.new.ensures
     ∙ c.in_ok-items.ensures
     ∙ same_chosen c.args.f (grown c.as_slice-items.result.now c.args.own c.args.from c.args.me log) c.hear_own.new.part.entries

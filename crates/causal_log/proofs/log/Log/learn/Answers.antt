@@ -1,11 +1,11 @@
 use Rattle.std.proofs.Common.{◌≡◌, ◌∙◌, ap, sym, subst, length, unwrap_or, true≢false, arith}
 use Rattle.std.proofs.lemmas.List.{length-map}
+use Rattle.std.specs.Option.{option_map}
 use Rattle.std.specs.FinMap as fin
 use Rattle.causal_name.specs.Names.{is_ascending}
 use Rattle.causal_log.specs.Knowledge.{nothing_known, joined}
 use Rattle.causal_log.specs.Logs.{log_of, learned}
 use Rattle.causal_log.specs.Inside.Noted.{IsNoted}
-use Rattle.causal_log.proofs.NoteLemmas.{noted_learned}
 use Rattle.causal_log.proofs.log.Log.learn.Goals.{After-put_at}
 use Rattle.causal_log.proofs.log.Log.learn.Goals as goal
 
@@ -36,5 +36,10 @@ invariant_of-self-2 c =
       few = omega (arith, room, c.in_ok-make_room.ensures.ok, c.self-2.invariant.few, c.add.ensures.len, length-map c.self-2.inside.entries.entries (λ e. e.0), length-map c.add.new.entries.entries (λ e. e.0));
       sure = omega (arith, c.self-2.invariant.sure, c.add.ensures.spare);
       noted = subst (IsNoted c.learn.new.self) (sym c.add.ensures.learned)
-          (noted_learned c.self-2.inside.notes c.learn.new.self (log_of c.self-2.inside.entries.entries) (c.args.det, c.args.heard) c.self-2.invariant.noted (c.learn.ensures c.args.heard (sym c.len-count.ensures.counted)));
+          (c.learn.ensures (log_of c.self-2.inside.entries.entries)
+          (ap (λ log. fin.get log.map c.args.det) c.self-2.view_is
+          ∙ ap (λ m. fin.get m c.args.det) c.make_room.ensures.map
+          ∙ sym (ap (λ log. fin.get log.map c.args.det) c.self.view_is)
+          ∙ sym c.place_of.ensures.known
+          ∙ ap (option_map (λ found. found.1)) c.in_default.is) c.self-2.invariant.noted);
     }

@@ -1,4 +1,4 @@
-use Rattle.std.proofs.Common.{◌≡◌, ◌∙◌, ◌||◌, ◌++◌, ◌∷◌, [], Bool, true, false, ap, sym, subst, refl}
+use Rattle.std.proofs.Common.{◌≡◌, ◌∙◌, ◌||◌, ◌++◌, ◌∷◌, [], Bool, true, false, ap, sym, subst, refl, rules}
 use Rattle.std.proofs.lemmas.List.Folds.{list_any-append}
 use Rattle.std.specs.List.{list_any}
 use Rattle.std.specs.List.Sorted.{IsStrictlySortedBy}
@@ -40,7 +40,7 @@ invariant_of-self-2 c =
     let before = c.self.inside.dets.keys in (
       c.insert.ensures.ordered,
       slots_like (before ++ c.args.det ∷ []) c.insert.new.self.keys c.fill_slot.new.slots.entries (λ q. members (goal.at.invariant_of-self-2 c).In-Ok q)
-          (c.fill_slot.ensures before (subst (AreSlots before) (sym c.reserve.ensures.entries) c.self.invariant.1)),
+          (c.fill_slot.ensures.filled (c.fill_slot.ensures.succeeds (search rules)) before (subst (AreSlots before) (sym c.reserve.ensures.entries) c.self.invariant.1)),
     )
 
 pub returns-clause-ok : goal.returns-clause-ok
