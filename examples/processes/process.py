@@ -64,8 +64,8 @@ class Process:
     def send(self, to, body):
         incarnation, ssn, clock = self.recorder.send(to)
         carried = {det: holders for det, holders in self.log.items() if len(holders) <= self.faults}
-        message = {"kind": "message", "source": self.number, "to": to, "ssn": ssn, "body": body, "carried": listing(carried)}
-        message.update(incarnation=incarnation, clock=clock)
+        named = {"source": self.number, "incarnation": incarnation, "ssn": ssn, "clock": clock}
+        message = {"kind": "message", **named, "to": to, "body": body, "carried": listing(carried)}
         if self.rule == "early":
             for holders in carried.values():
                 holders.add(to)
