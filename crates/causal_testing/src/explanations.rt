@@ -133,7 +133,7 @@ fn least_crash_set(holders: &[Holding], down: &[Down]) -> Holders {
 fn tells_loss(entries: &[Entry], told: &Explanation) -> bool {
     let crash = least_crash_set(told.holders.as_slice(), told.down.as_slice());
     let lacking = first_lacking(entries, told.chain.as_slice(), told.det);
-    det_at(entries, told.delivery) == Some(told.det)
+    det_at(entries, told.delivery as usize) == Some(told.det)
         && !is_stable(entries, told.det)
         && told.crash == crash
         && !crash.contains(told.orphan)

@@ -8,6 +8,11 @@ use causal_trace::entry::Entry;
 use causal_trace::trace::Trace;
 use std::alloc::Global;
 
+/// A position as verdicts have it; a trace has far fewer entries than there are such numbers.
+fn position_of(k: usize) -> u32 {
+    u32::try_from(k).unwrap_or(u32::MAX)
+}
+
 /// How the first delivery with an orphan fails, in the state after these entries.
 fn first_orphan(
     alloc: Global,
@@ -19,8 +24,8 @@ fn first_orphan(
     for k in 0..entries.len() {
         if let Some(least) = least_orphan(alloc, entries, n, sets.as_slice(), k)? {
             return Ok(Some(Verdict::Orphan {
-                instant: entries.len() as u32,
-                delivery: k as u32,
+                instant: position_of(entries.len()),
+                delivery: position_of(k),
                 crash: least.crash,
                 orphan: least.orphan,
             }));
@@ -34,7 +39,7 @@ fn failure(alloc: Global, entries: &[Entry], n: u16, f: u16) -> Result<Option<Ve
     let down = down_set(entries, n);
     if down.len() > u32::from(f) {
         return Ok(Some(Verdict::Exceeded {
-            instant: entries.len() as u32,
+            instant: position_of(entries.len()),
             down,
         }));
     }

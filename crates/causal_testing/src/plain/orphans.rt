@@ -73,7 +73,7 @@ pub(crate) fn least_orphan(
     sets: &[Holders],
     k: usize,
 ) -> Result<Option<LeastOrphan>, NoMemory> {
-    let Some(det) = det_at(entries, k as u32) else {
+    let Some(det) = det_at(entries, k) else {
         return Ok(None);
     };
     let dependents = dependents(alloc, entries, n, k)?;

@@ -10,7 +10,7 @@ use causal_trace::limits::{MAX_ENTRIES, MAX_LISTED, MAX_RESTARTS};
 pub(crate) struct Run<'a> {
     pub(crate) processes: u16,
     pub(crate) entries: &'a [Entry],
-    pub(crate) listed: u32,
+    pub(crate) listed: usize,
 }
 
 /// How many messages the process's present lane has sent.
@@ -39,7 +39,7 @@ fn has_delivered(entries: &[Entry], p: Pid, message: MsgName) -> bool {
 /// Whether the entry is a delivery of the message by the process.
 fn delivers_message(entries: &[Entry], entry: &Entry, p: Pid, message: MsgName) -> bool {
     match entry {
-        Entry::Deliver { to, send, .. } => *to == p && message_at(entries, *send) == Some(message),
+        Entry::Deliver { to, send, .. } => *to == p && message_at(entries, *send as usize) == Some(message),
         _ => false,
     }
 }
@@ -47,7 +47,7 @@ fn delivers_message(entries: &[Entry], entry: &Entry, p: Pid, message: MsgName) 
 /// Whether the determinant is that of a delivery so far.
 fn is_delivered(entries: &[Entry], det: Det) -> bool {
     for position in 0..entries.len() {
-        if det_at(entries, position as u32) == Some(det) {
+        if det_at(entries, position) == Some(det) {
             return true;
         }
     }
@@ -65,8 +65,8 @@ fn are_delivered(entries: &[Entry], own: Option<Det>, listed: &Dets) -> bool {
 }
 
 /// Where the entry at a position sends to the process: the message.
-fn message_to(entries: &[Entry], send: u32, p: Pid) -> Option<MsgName> {
-    match entries.get(send as usize)? {
+fn message_to(entries: &[Entry], send: usize, p: Pid) -> Option<MsgName> {
+    match entries.get(send)? {
         Entry::Send { to, .. } if *to == p => message_at(entries, send),
         _ => None,
     }
@@ -75,7 +75,7 @@ fn message_to(entries: &[Entry], send: u32, p: Pid) -> Option<MsgName> {
 /// What stands against any entry that lists so many determinants.
 fn length_fault(run: Run<'_>, listed: usize) -> Option<TraceFault> {
     let is_full =
-        run.entries.len() >= MAX_ENTRIES || listed > MAX_LISTED.saturating_sub(run.listed as usize);
+        run.entries.len() >= MAX_ENTRIES || listed > MAX_LISTED.saturating_sub(run.listed);
     is_full.then_some(TraceFault::TooLong)
 }
 
@@ -109,7 +109,7 @@ fn deliver_fault(run: Run<'_>, to: Pid, send: u32, rsn: u32, listed: &Dets) -> O
     if let Some(fault) = up_fault(run, to) {
         return Some(fault);
     }
-    let Some(message) = message_to(run.entries, send, to) else {
+    let Some(message) = message_to(run.entries, send as usize, to) else {
         return Some(TraceFault::NoSend);
     };
     if rsn as usize != deliveries(run.entries, to) {

@@ -119,8 +119,8 @@ pub(crate) fn lanes_of(alloc: Global, entries: &[Entry]) -> Result<Vec<Option<La
 }
 
 /// The message that the entry at a position sends.
-pub(crate) fn message_at(entries: &[Entry], send: u32) -> Option<MsgName> {
-    match entries.get(send as usize)? {
+pub(crate) fn message_at(entries: &[Entry], send: usize) -> Option<MsgName> {
+    match entries.get(send)? {
         Entry::Send { from, ssn, .. } => Some(MsgName {
             source: *from,
             ssn: *ssn,
@@ -140,10 +140,10 @@ pub(crate) fn det_from(to: Pid, rsn: u32, message: MsgName) -> Det {
 }
 
 /// The determinant of the delivery at a position.
-pub(crate) fn det_at(entries: &[Entry], position: u32) -> Option<Det> {
-    match entries.get(position as usize)? {
+pub(crate) fn det_at(entries: &[Entry], position: usize) -> Option<Det> {
+    match entries.get(position)? {
         Entry::Deliver { to, send, rsn, .. } => {
-            Some(det_from(*to, *rsn, message_at(entries, *send)?))
+            Some(det_from(*to, *rsn, message_at(entries, *send as usize)?))
         }
         _ => None,
     }

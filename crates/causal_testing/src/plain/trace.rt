@@ -10,7 +10,7 @@ use std::alloc::Global;
 pub(crate) struct PlainTrace {
     processes: u16,
     entries: Vec<Entry>,
-    listed: u32,
+    listed: usize,
 }
 
 impl PlainTrace {
@@ -35,7 +35,7 @@ impl PlainTrace {
         if let Some(fault) = fault_of(run, &entry) {
             return Err(fault);
         }
-        self.listed = self.listed.saturating_add(entry.listed() as u32);
+        self.listed = self.listed.saturating_add(entry.listed());
         self.entries.push(entry)?;
         Ok(())
     }
