@@ -127,22 +127,17 @@ def passes():
             yield kind, every, {"error": error}
 
 
-def library_in(folder):
-    """The library that refuses, built into the folder."""
-    library = os.path.join(folder, "refuse.so")
-    compiler = os.environ.get("CC", "cc")
-    source = os.path.join(HERE, "refuse.c")
-    subprocess.run([compiler, "-shared", "-fPIC", "-O2", "-o", library, source, "-ldl", "-lpthread"], check=True)
-    return library
-
-
 def main():
     given = argparse.ArgumentParser(description=__doc__.split("\n\n")[0])
     given.add_argument("--program", default=PROGRAM)
     given.add_argument("--seconds", type=float, default=float("inf"))
     words = given.parse_args()
     with tempfile.TemporaryDirectory() as folder, concurrent.futures.ThreadPoolExecutor(os.cpu_count()) as pool:
-        tries = Tries(words.program, library_in(folder), folder, words.seconds)
+        library = os.path.join(folder, "refuse.so")
+        source = os.path.join(HERE, "refuse.c")
+        compiler = os.environ.get("CC", "cc")
+        subprocess.run([compiler, "-shared", "-fPIC", "-O2", "-o", library, source, "-ldl", "-lpthread"], check=True)
+        tries = Tries(words.program, library, folder, words.seconds)
         plain = {}
         for name, said, text, status in RUNS:
             plain[name] = tries.once(said, text, kind="none")

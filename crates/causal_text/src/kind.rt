@@ -1,5 +1,4 @@
 //! Why a text is no trace.
-
 use std::alloc::{AllocError, AllocFailed};
 use std::fmt;
 use thiserror::Error;
