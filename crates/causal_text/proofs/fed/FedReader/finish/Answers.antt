@@ -1,5 +1,6 @@
 use Rattle.std.proofs.Common.{◌∙◌}
-use Rattle.causal_text.proofs.Feeds.{reading-ending, told}
+use Rattle.causal_text.proofs.Feeds.{reading-ending}
+use Rattle.causal_text.proofs.Lemmas.Told.{told}
 use Rattle.causal_text.proofs.Spellings.{Spells-reading, IsFirstFault-reading}
 use Rattle.causal_text.proofs.fed.FedReader.finish.Goals as goal
 
