@@ -114,18 +114,21 @@ def wrong_reasons():
     return len(told), wrong
 
 
-# Where things stand in the picture, by the layout (crates/causal_picture/specs/Layout.antt): the first process at 64 and each 40 below
+# Where things stand in the picture, by the layout (crates/causal_picture/specs/Layout.antt): the first process at 92 and each 40 below
 # the one before it, from 80 to 230, and its shade from edge to edge; the first entry at 110 and each 30 to the right of the one before
-# it; the instant in the middle after the fourth, down to 50 + 3 * 40.
-ROWS = ["80 64H230", "80 104H230", "80 144H230"]
-SHADED = ["0 104H520"]
-INSTANT = ["215 42V170"]
-CHAIN = ["140,104 170,104 200,144"]
+# it; the instant in the middle after the fourth, down to 92 + 3 * 40. Beside the instant each process is named.
+ROWS = ["80 92H230", "80 132H230", "80 172H230"]
+SHADED = ["0 132H600"]
+INSTANT = ["215 70V212"]
+CHAIN = ["140,132 170,132 200,172"]
+NAMED = ["process 0", "process 1: holder", "process 2: orphan"]
+VERDICT = ["orphan f=1: process 2 depends on the delivery of line 3"]
 
 
 def wrong_in_the_picture():
     """Tells where orphan.svg, which has to be XML, is not as the layout has it, and gives how often: three processes with a line each,
-    of which the crash set of the answer is shaded, one dashed line at the instant 4, and the chain from line 3 by line 4 to line 5."""
+    of which the crash set of the answer is shaded, one dashed line at the instant 4, the chain from line 3 by line 4 to line 5, and in
+    words the verdict, and beside the instant who is an orphan and who holds the determinant."""
     root = xml.etree.ElementTree.fromstring(bytes_of("orphan.svg"))
     name = "{http://www.w3.org/2000/svg}"
     paths = [path.attrib for path in root.iter(name + "path") if "transform" not in path.attrib]
@@ -133,7 +136,11 @@ def wrong_in_the_picture():
     shaded = [path["d"][1:] for path in paths if path.get("stroke-width") == "34"]
     dashed = [path["d"][1:] for path in paths if path.get("stroke-dasharray") == "7 4"]
     chain = [line.attrib["points"].strip() for line in root.iter(name + "polyline")]
+    words = [text for text in root.iter(name + "text") if text.text]
+    named = [text.text for text in words if text.get("dx") == "9"]
+    verdict = [text.text for text in words if text.get("font-weight") == "bold"]
     facts = {"lines": (solid, ROWS), "shade": (shaded, SHADED), "instant": (dashed, INSTANT), "chain": (chain, CHAIN)}
+    facts |= {"names": (named, NAMED), "verdict": (verdict, VERDICT)}
     wrong = 0
     for fact, (shown, wanted) in facts.items():
         if shown != wanted:

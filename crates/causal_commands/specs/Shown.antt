@@ -17,7 +17,7 @@ use Rattle.causal_workers.specs.Lines.{verdict_line}
 -- what a view shows of a recording that is judged so for f: the line of the verdict, and below it why it is so; or its picture
 abbrev pub IsShowing : View → Recording → ℕ → Judged → List ℕ → Type 0
 IsShowing Reason r f judged out = (reason : List ℕ) × IsReason r f judged.verdict reason × (out ≡ verdict_line f judged ++ reason)
-IsShowing Picture r f judged out = IsDrawing r judged.verdict out
+IsShowing Picture r f judged out = IsDrawing r f judged.verdict out
 
 -- the text spells a trace that is judged so for f, and this is shown of it
 pub record IsShown (view : View) (text : List ℕ) (f : ℕ) (judged : Judged) (out : List ℕ) : Type 0 where

@@ -145,7 +145,7 @@ fn showing(
 {
     match view {
         View::Reason => reasoned(alloc, trace, f, judged),
-        View::Picture => drawing_of(alloc, trace, judged.verdict),
+        View::Picture => drawing_of(alloc, trace, f, judged.verdict),
     }
 }
 

@@ -1,29 +1,79 @@
--- Which positions of a chain are among the entries shown.
-use Rattle.std.proofs.Common.{◌≡◌, ℕ, ◌≤◌, List, [], ◌∷◌, arith}
-use Rattle.std.specs.Prelude.{min, Option, Some, None, IfSome}
-use Rattle.std.specs.List.{All}
-use Rattle.std.proofs.lemmas.List.Elements.{All-nil, All-cons, All-weaker}
+-- Which entries have a place in a picture.
+use Rattle.std.proofs.Common.{◌≡◌, ℕ, ◌+◌, ◌-◌, ◌<◌, ◌≤◌, suc, true, false, Bool, refl, inl, inr, arith}
+use Rattle.std.specs.Prelude.{◌||◌, ◌&&◌, nat_le, nat_lt, min, if◌then◌else◌, length, Option, Some, None, IfSome}
+use Rattle.std.proofs.lemmas.Bool.{le-leb, lt-ltb, ltb-true, ltb-false}
+use Rattle.causal_trace.specs.Rows.{Recording}
 use Rattle.causal_picture.specs.declared.focus.Focus.{Focus}
+use Rattle.causal_picture.specs.declared.stretch.Grid.{Grid}
 use Rattle.causal_picture.specs.declared.stretch.Stretch.{Stretch}
-use Rattle.causal_picture.specs.Stretches.{least_of, stretch_around, IsNearShown, ShowsChain}
+use Rattle.causal_picture.specs.Stretches.{first_around, in_one, in_two, around, around_chain, grid_around, instant_of, least_of, is_within, is_shown, IsWithin, ReachesInstant, ShowsFirst}
 
--- the least is at most where it began, and at most each
-least-bounds : (n : ℕ) (ks : List ℕ) → (least_of n ks ≤ n) × All (λ k. least_of n ks ≤ k) ks
-least-bounds n [] = (omega arith, All-nil (λ k. n ≤ k))
-least-bounds n (k ∷ ks) =
-    let rest = least-bounds (min n k) ks in
-    let low : least_of n (k ∷ ks) ≤ min n k = rest.0 in
-    (omega arith, All-cons (λ j. least_of n (k ∷ ks) ≤ j) k ks (omega arith) rest.1)
+-- a position from the first of a stretch on, and before its end, is one of it
+within-true : (s : Stretch) (k : ℕ) → s.first ≤ k → k < s.first + s.count → is_within s k ≡ true
+within-true s k low high = rw (le-leb s.first k low, lt-ltb (k - s.first) s.count (omega arith)) refl
 
--- one that is not below the least is shown where it is near the instant
-near_shown : (entries : ℕ) (f : Focus) (k : ℕ)
-    → least_of entries f.chain.now ≤ k → IsNearShown entries f (stretch_around entries (Some f)) k
-near_shown entries f k low before near = (omega arith, omega arith)
+shown-early : (g : Grid) (k : ℕ) → is_within g.early k ≡ true → is_shown g k ≡ true
+shown-early g k h = rw h refl
 
--- so each of the chain, where there is a focus
-pub chain_shown : (entries : ℕ) (focus : Option Focus) (s : Stretch)
-    → s ≡ stretch_around entries focus → IfSome focus (λ f. ShowsChain entries f s)
-chain_shown entries None s is = tt
-chain_shown entries (Some f) s is = rw is
-    (All-weaker (λ k. least_of entries f.chain.now ≤ k) (IsNearShown entries f (stretch_around entries (Some f)))
-    (near_shown entries f) f.chain.now (least-bounds entries f.chain.now).1)
+shown-late : (g : Grid) (k : ℕ) → is_within g.late k ≡ true → is_shown g k ≡ true
+shown-late g k h = elim (is_within g.early k) as (λ b. (b || is_within g.late k) ≡ true) [ true ↦ refl | false ↦ h ]
+
+-- what is asked of the places of so many entries around an instant, where a chain begins at its least position
+record IsGood (entries least t : ℕ) (g : Grid) : Type 0 where
+  within : IsWithin entries g
+  few : g.early.count + g.late.count ≤ 200
+  instant : 0 < t → is_shown g (t - 1) ≡ true
+  first : least < t → is_shown g least ≡ true
+
+one-good : (entries n least t : ℕ) → t ≤ entries → first_around entries least t ≤ least → IsGood entries least t (in_one entries n (first_around entries least t))
+one-good entries n least t inside near =
+    let first = first_around entries least t in
+    let g = in_one entries n first in
+    record {
+      within = record { before = omega arith; within = omega arith };
+      few = omega arith;
+      instant = λ some. shown-early g (t - 1) (within-true g.early (t - 1) (omega arith) (omega arith));
+      first = λ before. shown-early g least (within-true g.early least near (omega arith));
+    }
+
+two-good : (entries n least t : ℕ) → t ≤ entries → least < first_around entries least t → IsGood entries least t (in_two entries n least t)
+two-good entries n least t inside far =
+    let g = in_two entries n least t in
+    let before : least + 200 < t = omega arith in
+    record {
+      within = record { before = omega arith; within = omega arith };
+      few = omega arith;
+      instant = λ some. shown-late g (t - 1) (within-true g.late (t - 1) (omega arith) (omega arith));
+      first = λ below. shown-early g least (within-true g.early least (omega arith) (omega arith));
+    }
+
+either-good : (entries n least t : ℕ) → t ≤ entries → IsGood entries least t (around_chain entries n least t)
+either-good entries n least t inside =
+    let first = first_around entries least t in
+    elim (nat_lt least first) as (λ b. nat_lt least first ≡ b → IsGood entries least t (if b then in_two entries n least t else in_one entries n first)) [
+      | true ↦ λ is. two-good entries n least t inside (ltb-true least first is)
+      | false ↦ λ is. one-good entries n least t inside (ltb-false least first is)
+    ] refl
+
+placed-good : (entries n : ℕ) (f : Focus) → IsGood entries (least_of entries f.chain.now) (instant_of entries f) (around entries n f)
+placed-good entries n f = either-good entries n (least_of entries f.chain.now) (instant_of entries f) (omega arith)
+
+-- the places lie in the run
+pub grid-within : (r : Recording) (focus : Option Focus) (g : Grid) → g ≡ grid_around r focus → IsWithin (length r.past) g
+grid-within r None g is = rw is (record { before = omega arith; within = omega arith })
+grid-within r (Some f) g is = rw is (placed-good (length r.past) r.processes f).within
+
+-- there are at most 200
+pub grid-few : (r : Recording) (focus : Option Focus) (g : Grid) → g ≡ grid_around r focus → g.early.count + g.late.count ≤ 200
+grid-few r None g is = rw is (omega arith)
+grid-few r (Some f) g is = rw is (placed-good (length r.past) r.processes f).few
+
+-- the entry before the instant has one
+pub grid-reaches : (r : Recording) (focus : Option Focus) (g : Grid) → g ≡ grid_around r focus → IfSome focus (ReachesInstant (length r.past) g)
+grid-reaches r None g is = tt
+grid-reaches r (Some f) g is = rw is (placed-good (length r.past) r.processes f).instant
+
+-- so has the first of the chain
+pub grid-first : (r : Recording) (focus : Option Focus) (g : Grid) → g ≡ grid_around r focus → IfSome focus (ShowsFirst (length r.past) g)
+grid-first r None g is = tt
+grid-first r (Some f) g is = rw is (placed-good (length r.past) r.processes f).first

@@ -1,11 +1,9 @@
 -- What stands around the events.
-use Rattle.std.specs.Prelude.{ℕ, ◌+◌, ◌-◌, Bool, if◌then◌else◌, ◌==◌, List, [], ◌++◌, codes, decimal}
-use Rattle.causal_picture.specs.declared.marks.Mark.{Mark}
-use Rattle.causal_picture.specs.declared.stretch.Stretch.{Stretch}
-use Rattle.causal_picture.specs.Layout.{width_of, height_of, right_of, bottom_of, y_of}
+use Rattle.std.specs.Prelude.{ℕ, ◌+◌, ◌-◌, Bool, if◌then◌else◌, ◌==◌, nat_lt, List, [], ◌++◌, codes, decimal}
+use Rattle.causal_picture.specs.declared.stretch.Grid.{Grid}
+use Rattle.causal_picture.specs.Layout.{width_of, height_of, columns_of, right_of, row_of, bottom_of, x_of_instant, y_of}
 use Rattle.causal_picture.specs.Titles.{line_of}
 use Rattle.causal_picture.specs.Shapes.{level_text, upright_text}
-use Rattle.causal_picture.specs.Drawn.{up_text, up_until}
 
 -- the root's tag
 unfoldable pub root_text : ℕ → ℕ → List ℕ
@@ -29,33 +27,50 @@ ground_text =
     codes "<defs><marker id='arrowhead' viewBox='0 0 10 10' refX='16' refY='5' markerWidth='8' markerHeight='8' markerUnits='userSpaceOnUse' orient='auto'><path d='M0 0L10 5L0 10z' fill='#555'/></marker></defs>\n<rect width='100%' height='100%' fill='white'/>\n"
 
 -- what the picture begins with
-unfoldable pub head_text : Stretch → ℕ → ℕ → List ℕ
-head_text s processes entries = root_text (width_of s) (height_of processes) ++ (heading_text ++ (description_text processes s.count entries (line_of s.first) ++ ground_text))
+unfoldable pub head_text : Grid → ℕ → List ℕ
+head_text g entries =
+    root_text (width_of g) (height_of g.processes)
+    ++ (heading_text ++ (description_text g.processes (columns_of g) entries (line_of g.early.first) ++ ground_text))
+
+-- a shade that fills so much of a row
+unfoldable pub shade_line : ℕ → ℕ → ℕ → List ℕ
+shade_line width y height =
+    codes "<path d='M0 " ++ (decimal y ++ (codes "H" ++ (decimal width ++ (codes "' fill='none' stroke='#ffe3b3' stroke-width='" ++ (decimal height
+    ++ codes "'/>\n")))))
 
 -- the shade behind the line of a process of the crash set
-unfoldable pub shade_text : Bool → ℕ → ℕ → List ℕ
-shade_text is_shaded width y = if is_shaded then level_text 0 width y (codes "stroke='#ffe3b3' stroke-width='34'") else []
-
--- the line of a process that is up as the stretch begins
-unfoldable pub first_up_text : Bool → ℕ → ℕ → List ℕ
-first_up_text is_up to y = if is_up then up_text 80 to y else []
+abbrev pub shade_text : Grid → ℕ → Bool → List ℕ
+shade_text g p is_shaded = if is_shaded then shade_line (width_of g) (y_of g p) (row_of g.processes - 6) else []
 
 unfoldable pub process_title : ℕ → List ℕ
 process_title p = codes "<g><title>process " ++ (decimal p ++ codes "</title>\n")
 
 unfoldable pub process_name : ℕ → ℕ → List ℕ
 process_name p y =
-    codes "<text x='72' y='" ++ (decimal y ++ (codes "' dy='4' text-anchor='end' fill='#222'>process " ++ (decimal p ++ codes "</text>\n</g>\n")))
+    codes "<text x='72' y='" ++ (decimal y ++ (codes "' dy='4' text-anchor='end' fill='#222'>process " ++ (decimal p ++ codes "</text>\n")))
 
 -- the dotted line of a process, from end to end
 unfoldable pub dotted_text : ℕ → ℕ → List ℕ
 dotted_text right y = level_text 80 right y (codes "stroke='#999' stroke-dasharray='1 5'")
 
--- the line of a process: dotted, and solid while the process is up, as far as that begins before the stretch
-unfoldable pub process_text : Stretch → List Mark → ℕ → Bool → Bool → List ℕ
-process_text s marks p is_shaded is_up =
-    process_title p ++ (shade_text is_shaded (width_of s) (y_of p) ++ (dotted_text (right_of s) (y_of p)
-    ++ (first_up_text is_up (up_until s marks p 0) (y_of p) ++ process_name p (y_of p))))
+-- the name of a process above its line
+unfoldable pub name_above : ℕ → ℕ → ℕ → List ℕ
+name_above p x y =
+    codes "<text x='" ++ (decimal x ++ (codes "' y='" ++ (decimal y ++ (codes "' dy='-5' text-anchor='middle' font-size='10' fill='#777'>process " ++ (decimal p
+    ++ codes "</text>\n")))))
+
+-- the same, where the line reaches so far
+abbrev pub name_again : Grid → ℕ → ℕ → List ℕ
+name_again g p x = if nat_lt x (right_of g) then name_above p x (y_of g p) else []
+
+-- the name of a process at the left end of its line, and again where that is far
+unfoldable pub names_text : Grid → ℕ → List ℕ
+names_text g p = process_name p (y_of g p) ++ (name_again g p 680 ++ (name_again g p 1280 ++ name_again g p 1880))
+
+-- the row of a process: its shade, its dotted line, and its names
+unfoldable pub row_text : Grid → ℕ → Bool → List ℕ
+row_text g p is_shaded =
+    process_title p ++ (shade_text g p is_shaded ++ (dotted_text (right_of g) (y_of g p) ++ (names_text g p ++ codes "</g>\n")))
 
 unfoldable pub cut_title : ℕ → List ℕ → List ℕ
 cut_title hidden side = codes "<g><title>" ++ (decimal hidden ++ (codes " entries " ++ (side ++ codes " are not shown</title>\n")))
@@ -65,7 +80,7 @@ cut_line x bottom = upright_text x bottom (codes "stroke='#555' stroke-dasharray
 
 unfoldable pub cut_label : ℕ → List ℕ → ℕ → List ℕ → List ℕ
 cut_label hidden side x anchor =
-    codes "<text x='" ++ (decimal x ++ (codes "' y='16' text-anchor='" ++ (anchor ++ (codes "' fill='#555'>" ++ (decimal hidden ++ (codes " entries " ++ (side
+    codes "<text x='" ++ (decimal x ++ (codes "' y='38' text-anchor='" ++ (anchor ++ (codes "' fill='#555'>" ++ (decimal hidden ++ (codes " entries " ++ (side
     ++ codes "</text>\n</g>\n")))))))
 
 -- a mark where so many entries are hidden: a dotted line and the words
@@ -77,8 +92,9 @@ cut_mark hidden side x anchor bottom =
 abbrev pub cut_text : ℕ → List ℕ → ℕ → List ℕ → ℕ → List ℕ
 cut_text hidden side x anchor bottom = if hidden == 0 then [] else cut_mark hidden side x anchor bottom
 
--- the marks where the run is cut on either side
-unfoldable pub cuts_text : Stretch → ℕ → ℕ → List ℕ
-cuts_text s processes entries =
-    cut_text s.first (codes "before") 80 (codes "start") (bottom_of processes)
-    ++ cut_text (entries - (s.first + s.count)) (codes "after") (right_of s) (codes "end") (bottom_of processes)
+-- the marks where the run is cut: before the entries that are shown, between them and after them
+unfoldable pub cuts_text : Grid → ℕ → List ℕ
+cuts_text g entries =
+    cut_text g.early.first (codes "before") (x_of_instant g g.early.first) (codes "start") (bottom_of g.processes)
+    ++ (cut_text (g.late.first - (g.early.first + g.early.count)) (codes "between") (x_of_instant g g.late.first) (codes "middle") (bottom_of g.processes)
+    ++ cut_text (entries - (g.late.first + g.late.count)) (codes "after") (x_of_instant g (g.late.first + g.late.count)) (codes "end") (bottom_of g.processes))

@@ -1,7 +1,7 @@
 -- What the shapes mean, below the rows.
 use Rattle.std.specs.Prelude.{ℕ, List, ◌++◌, codes, decimal}
 use Rattle.causal_picture.specs.declared.shapes.Shape.{Shape}
-use Rattle.causal_picture.specs.declared.shapes.Shape.TheVariants.{OpenDot, Dot, Square, Cross, Ring, Triangle, Halo, Shade}
+use Rattle.causal_picture.specs.declared.shapes.Shape.TheVariants.{OpenDot, Dot, Square, Cross, Ring, Triangle, Halo, Shade, FaintDot, Diamond, OpenDiamond}
 use Rattle.causal_picture.specs.Shapes.{shape_text}
 
 unfoldable pub label_text : ℕ → ℕ → List ℕ → List ℕ
@@ -14,13 +14,13 @@ key_text x y shape label = shape_text x y shape ++ label_text x y label
 
 unfoldable pub upper_text : ℕ → List ℕ
 upper_text y =
-    key_text 90 y OpenDot (codes "send") ++ (key_text 190 y Dot (codes "delivery") ++ (key_text 290 y Cross (codes "crash")
-    ++ key_text 390 y Ring (codes "restart")))
+    key_text 20 y OpenDot (codes "send") ++ (key_text 120 y FaintDot (codes "sent again") ++ (key_text 220 y Dot (codes "delivery")
+    ++ (key_text 320 y Cross (codes "crash") ++ (key_text 420 y Ring (codes "restart") ++ key_text 520 y Square (codes "stable")))))
 
 unfoldable pub lower_text : ℕ → List ℕ
 lower_text y =
-    key_text 90 y Square (codes "stable") ++ (key_text 190 y Triangle (codes "forgetting") ++ (key_text 290 y Halo (codes "chain")
-    ++ key_text 390 y Shade (codes "crash set")))
+    key_text 20 y Triangle (codes "forgetting") ++ (key_text 120 y Halo (codes "chain") ++ (key_text 220 y Shade (codes "crash set")
+    ++ (key_text 320 y Diamond (codes "holder") ++ key_text 420 y OpenDiamond (codes "orphan"))))
 
 -- two rows of shapes with what they mean
 unfoldable pub legend_text : ℕ → ℕ → List ℕ

@@ -1,3 +1,4 @@
+pub mod Captions
 pub mod Drawn
 pub mod Frames
 pub mod Inside
@@ -5,7 +6,10 @@ pub mod Layout
 pub mod Legends
 pub mod Marks
 pub mod Overlays
+pub mod Panels
 pub mod Pictures
+pub mod Resent
+pub mod Roles
 pub mod Shapes
 pub mod Stretches
 pub mod Titles

@@ -1,31 +1,30 @@
 -- What is drawn over the events.
-use Rattle.std.specs.Prelude.{ℕ, ◌-◌, Bool, ◌&&◌, nat_le, nat_lt, if◌then◌else◌, List, [], ◌∷◌, ◌++◌, codes, decimal, flat_map, Option, None}
+use Rattle.std.specs.Prelude.{ℕ, if◌then◌else◌, List, [], ◌∷◌, ◌++◌, codes, decimal, flat_map, Option, None}
 use Rattle.std.specs.List.{filter_map}
 use Rattle.std.specs.Option.{option_map}
 use Rattle.causal_trace.specs.declared.entry.Entry.{Entry}
 use Rattle.causal_picture.specs.declared.overlay.Point.{Point}
 use Rattle.causal_picture.specs.declared.marks.Mark.{Mark}
-use Rattle.causal_picture.specs.declared.stretch.Stretch.{Stretch}
+use Rattle.causal_picture.specs.declared.focus.Orphan.{Orphan}
+use Rattle.causal_picture.specs.declared.stretch.Grid.{Grid}
 use Rattle.causal_picture.specs.Layout.{x_of, x_of_instant, y_of, bottom_of}
+use Rattle.causal_picture.specs.Roles.{processes_text}
+use Rattle.causal_picture.specs.Stretches.{is_shown}
 use Rattle.causal_picture.specs.Marks.{mark_at, process_of}
 use Rattle.causal_picture.specs.declared.shapes.Shape.TheVariants.{Halo}
 use Rattle.causal_picture.specs.Shapes.{shape_text, upright_text}
 
--- whether the entry at a position is one of a stretch
-abbrev pub is_within : Stretch → ℕ → Bool
-is_within s position = nat_le s.first position && nat_lt (position - s.first) s.count
-
 -- where an event stands
-abbrev pub point_of : Stretch → Mark → Point
-point_of s m = record { x = x_of s m.position; y = y_of (process_of m.event).0 }
+abbrev pub point_of : Grid → Mark → Point
+point_of g m = record { x = x_of g m.position; y = y_of g (process_of m.event).0 }
 
 -- where the entry at a position stands, if it is shown
-abbrev pub point_at : List Entry → Stretch → ℕ → Option Point
-point_at past s position = if is_within s position then option_map (point_of s) (mark_at past position) else None
+abbrev pub point_at : List Entry → Grid → ℕ → Option Point
+point_at past g position = if is_shown g position then option_map (point_of g) (mark_at past position) else None
 
 -- where the entries of a chain stand that are shown
-abbrev pub points_of : List Entry → Stretch → List ℕ → List Point
-points_of past s chain = filter_map (point_at past s) chain
+abbrev pub points_of : List Entry → Grid → List ℕ → List Point
+points_of past g chain = filter_map (point_at past g) chain
 
 -- a corner of a line
 abbrev pub corner_text : Point → List ℕ
@@ -64,16 +63,16 @@ instant_line x bottom = upright_text x bottom (codes "stroke='#0072b2' stroke-wi
 unfoldable pub instant_label : ℕ → ℕ → ℕ → List ℕ
 instant_label x y instant =
     codes "<text x='" ++ (decimal x ++ (codes "' y='" ++ (decimal y ++ (codes "' dy='14' text-anchor='middle' fill='#0072b2'>instant " ++ (decimal instant
-    ++ codes "</text>\n</g>\n")))))
+    ++ codes "</text>\n")))))
 
 -- the same, where some of it is shown
 abbrev pub shown_chain : List Point → List ℕ
 shown_chain [] = []
 shown_chain (p ∷ ps) = chain_text (p ∷ ps)
 
--- the instant: a vertical line between the entries before and after it
-unfoldable pub instant_text : Stretch → ℕ → ℕ → List ℕ
-instant_text s processes instant =
-    instant_title instant
-    ++ (instant_line (x_of_instant s instant) (bottom_of processes)
-    ++ instant_label (x_of_instant s instant) (bottom_of processes) instant)
+-- the instant: a vertical line between the entries before and after it, and beside it the processes
+unfoldable pub instant_text : Grid → ℕ → Option Orphan → List ℕ
+instant_text g t orphan =
+    instant_title t
+    ++ (instant_line (x_of_instant g t) (bottom_of g.processes)
+    ++ (instant_label (x_of_instant g t) (bottom_of g.processes) t ++ (processes_text g (x_of_instant g t) orphan ++ codes "</g>\n")))

@@ -2,7 +2,7 @@
 use Rattle.std.specs.Prelude.{ℕ, ◌+◌, ◌-◌, ◌/◌, List, ◌++◌, codes, decimal}
 use Rattle.causal_picture.specs.declared.marks.Event.{Event}
 use Rattle.causal_picture.specs.declared.shapes.Shape.{Shape}
-use Rattle.causal_picture.specs.declared.shapes.Shape.TheVariants.{OpenDot, Dot, Square, Cross, Ring, Triangle, Halo, Shade}
+use Rattle.causal_picture.specs.declared.shapes.Shape.TheVariants.{OpenDot, Dot, Square, Cross, Ring, Triangle, Halo, Shade, FaintDot, Diamond, OpenDiamond}
 use Rattle.causal_picture.specs.declared.marks.Event.TheVariants.{Send, Delivery, Stable, Crash, Restart, Forget}
 
 -- How a shape is drawn about the origin, as the attributes of a path.
@@ -15,6 +15,9 @@ attributes_of Ring = codes "d='M-7 0a7 7 0 1 0 14 0a7 7 0 1 0-14 0z' fill='white
 attributes_of Triangle = codes "d='M0-6L6 4H-6z' fill='#a0549b'"
 attributes_of Halo = codes "d='M-9 0a9 9 0 1 0 18 0a9 9 0 1 0-18 0z' fill='none' stroke='#d55e00' stroke-width='2'"
 attributes_of Shade = codes "d='M-9-9H9V9H-9z' fill='#ffe3b3'"
+attributes_of FaintDot = codes "d='M-4.5 0a4.5 4.5 0 1 0 9 0a4.5 4.5 0 1 0-9 0z' fill='white' stroke='#222' stroke-width='1.5' opacity='0.4'"
+attributes_of Diamond = codes "d='M0-8L6 0L0 8L-6 0z' fill='#0072b2'"
+attributes_of OpenDiamond = codes "d='M0-8L6 0L0 8L-6 0z' fill='white' stroke='#c00000' stroke-width='2'"
 
 -- the shape of an event
 abbrev pub shape_of : Event → Shape
@@ -41,7 +44,7 @@ level_text from to y stroke =
 
 -- an upright line, from above the processes' lines to the bottom
 unfoldable pub upright_text : ℕ → ℕ → List ℕ → List ℕ
-upright_text x bottom stroke = codes "<path d='M" ++ (decimal x ++ (codes " 42V" ++ (decimal bottom ++ (codes "' fill='none' " ++ (stroke ++ codes "/>\n")))))
+upright_text x bottom stroke = codes "<path d='M" ++ (decimal x ++ (codes " 70V" ++ (decimal bottom ++ (codes "' fill='none' " ++ (stroke ++ codes "/>\n")))))
 
 -- what ends an arrow
 abbrev pub arrow_end : List ℕ

@@ -1,13 +1,13 @@
-//! What stands around the events: the head of the picture, the processes' lines, the marks where the run is cut, the
-//! legend.
+//! What stands around the events: the head of the picture, the processes' rows, the marks where the run is cut.
 ghost use Rattle.std.specs.Prelude.{◌≡◌, ◌≤◌, ◌+◌, ◌++◌, OnOk, string_bytes};
 ghost use Rattle.causal_picture.specs.Frames as frames;
+ghost use Rattle.causal_picture.specs.Stretches as stretches;
 
-use crate::layout::{bottom_of, height_of, right_of, width_of, y_of};
-use crate::marked::{push_up, up_until};
-use crate::marks::Mark;
+use crate::layout::{
+    bottom_of, columns_of, height_of, right_of, row_of, width_of, x_of_instant, y_of,
+};
 use crate::shapes::{push_level, push_upright};
-use crate::stretch::Stretch;
+use crate::stretch::Grid;
 use crate::titles::line_of;
 use std::alloc::AllocError;
 
@@ -35,7 +35,7 @@ fn push_heading(out: &mut String) -> Result<(), AllocError>
 fn push_description(
     out: &mut String,
     processes: u16,
-    count: u32,
+    count: u64,
     entries: u32,
     line: u64,
 ) -> Result<(), AllocError>
@@ -61,52 +61,48 @@ fn push_ground(out: &mut String) -> Result<(), AllocError>
 
 /// What the picture begins with.
 #[tactic(auto, unfolding(crate::specs::Frames::head_text))]
-pub fn push_head(
-    out: &mut String,
-    stretch: Stretch,
-    processes: u16,
-    entries: u32,
-) -> Result<(), AllocError>
-    ensures { OnOk result (string_bytes out.new ≡ string_bytes out.old ++ frames.head_text stretch processes entries) }
+pub fn push_head(out: &mut String, grid: Grid, entries: u32) -> Result<(), AllocError>
+    ensures { OnOk result (string_bytes out.new ≡ string_bytes out.old ++ frames.head_text grid entries) }
 {
-    push_root(out, width_of(stretch), height_of(processes))?;
+    push_root(out, width_of(grid), height_of(grid.processes))?;
     push_heading(out)?;
     push_description(
         out,
-        processes,
-        stretch.count,
+        grid.processes,
+        columns_of(grid),
         entries,
-        line_of(stretch.first),
+        line_of(grid.early.first),
     )?;
     push_ground(out)
 }
 
+/// How a shade is drawn that fills so much of a row.
+#[tactic(auto, unfolding(crate::specs::Frames::shade_line))]
+fn push_shade_line(out: &mut String, width: u64, y: u32, height: u32) -> Result<(), AllocError>
+    ensures { OnOk result (string_bytes out.new ≡ string_bytes out.old ++ frames.shade_line width y height) }
+{
+    write!(
+        out,
+        "<path d='M0 {y}H{width}' fill='none' stroke='#ffe3b3' stroke-width='{height}'/>\n"
+    )
+}
+
 /// The shade behind the line of a process of the crash set.
-#[tactic(auto, unfolding(crate::specs::Frames::shade_text))]
-fn push_shade(out: &mut String, is_shaded: bool, width: u64, y: u32) -> Result<(), AllocError>
-    ensures { OnOk result (string_bytes out.new ≡ string_bytes out.old ++ frames.shade_text is_shaded width y) }
+fn push_shade(out: &mut String, grid: Grid, process: u16, is_shaded: bool) -> Result<(), AllocError>
+    ensures { OnOk result (string_bytes out.new ≡
+        string_bytes out.old ++ frames.shade_text grid process is_shaded) }
 {
     if is_shaded {
-        push_level(out, 0, width, y, "stroke='#ffe3b3' stroke-width='34'")
+        let height = row_of(grid.processes) - 6;
+        push_shade_line(out, width_of(grid), y_of(grid, process), height)
     } else {
         Ok(())
     }
 }
 
-/// The line of a process that is up as the stretch begins.
-#[tactic(auto, unfolding(crate::specs::Frames::first_up_text))]
-fn push_first_up(out: &mut String, is_up: bool, to: u64, y: u32) -> Result<(), AllocError>
-    ensures { OnOk result (string_bytes out.new ≡ string_bytes out.old ++ frames.first_up_text is_up to y) }
-{
-    if is_up {
-        push_up(out, 80, to, y)
-    } else {
-        Ok(())
-    }
-}
-
+/// The beginning of what is drawn of a process.
 #[tactic(auto, unfolding(crate::specs::Frames::process_title))]
-fn push_process_title(out: &mut String, process: u16) -> Result<(), AllocError>
+pub fn push_process_title(out: &mut String, process: u16) -> Result<(), AllocError>
     ensures { OnOk result (string_bytes out.new ≡ string_bytes out.old ++ frames.process_title process) }
 {
     write!(out, "<g><title>process {process}</title>\n")
@@ -118,8 +114,40 @@ fn push_process_name(out: &mut String, process: u16, y: u32) -> Result<(), Alloc
 {
     write!(
         out,
-        "<text x='72' y='{y}' dy='4' text-anchor='end' fill='#222'>process {process}</text>\n</g>\n"
+        "<text x='72' y='{y}' dy='4' text-anchor='end' fill='#222'>process {process}</text>\n"
     )
+}
+
+/// The name of a process above its line, where the line reaches so far.
+fn push_name_again(out: &mut String, grid: Grid, process: u16, x: u64) -> Result<(), AllocError>
+    ensures { OnOk result (string_bytes out.new ≡ string_bytes out.old ++ frames.name_again grid process x) }
+{
+    if x < right_of(grid) {
+        push_name_above(out, process, x, y_of(grid, process))
+    } else {
+        Ok(())
+    }
+}
+
+#[tactic(auto, unfolding(crate::specs::Frames::name_above))]
+fn push_name_above(out: &mut String, process: u16, x: u64, y: u32) -> Result<(), AllocError>
+    ensures { OnOk result (string_bytes out.new ≡ string_bytes out.old ++ frames.name_above process x y) }
+{
+    write!(
+        out,
+        "<text x='{x}' y='{y}' dy='-5' text-anchor='middle' font-size='10' fill='#777'>process {process}</text>\n"
+    )
+}
+
+/// The name of a process at the left end of its line, and again where that is far.
+#[tactic(auto, unfolding(crate::specs::Frames::names_text))]
+fn push_names(out: &mut String, grid: Grid, process: u16) -> Result<(), AllocError>
+    ensures { OnOk result (string_bytes out.new ≡ string_bytes out.old ++ frames.names_text grid process) }
+{
+    push_process_name(out, process, y_of(grid, process))?;
+    push_name_again(out, grid, process, 680)?;
+    push_name_again(out, grid, process, 1280)?;
+    push_name_again(out, grid, process, 1880)
 }
 
 /// The dotted line of a process, from end to end.
@@ -130,27 +158,23 @@ fn push_dotted(out: &mut String, right: u64, y: u32) -> Result<(), AllocError>
     push_level(out, 80, right, y, "stroke='#999' stroke-dasharray='1 5'")
 }
 
-/// The line of a process: dotted, and solid while the process is up, as far as that begins before the stretch. It is
-/// solid again from each restart on, which is drawn with the restart.
-#[tactic(auto, unfolding(crate::specs::Frames::process_text))]
-pub fn push_process(
+/// The row of a process: its shade, its dotted line, and its names. Where the process is up, its line is drawn solid
+/// over this.
+#[tactic(auto, unfolding(crate::specs::Frames::row_text))]
+pub fn push_row(
     out: &mut String,
-    stretch: Stretch,
-    marks: &[Mark],
+    grid: Grid,
     process: u16,
     is_shaded: bool,
-    is_up: bool,
 ) -> Result<(), AllocError>
     ensures { OnOk result (string_bytes out.new ≡
-        string_bytes out.old ++ frames.process_text stretch marks.now process is_shaded is_up) }
+        string_bytes out.old ++ frames.row_text grid process is_shaded) }
 {
-    let y = y_of(process);
-    let to = up_until(stretch, marks, process, 0);
     push_process_title(out, process)?;
-    push_shade(out, is_shaded, width_of(stretch), y)?;
-    push_dotted(out, right_of(stretch), y)?;
-    push_first_up(out, is_up, to, y)?;
-    push_process_name(out, process, y)
+    push_shade(out, grid, process, is_shaded)?;
+    push_dotted(out, right_of(grid), y_of(grid, process))?;
+    push_names(out, grid, process)?;
+    out.push_str("</g>\n")
 }
 
 #[tactic(auto, unfolding(crate::specs::Frames::cut_title))]
@@ -183,7 +207,7 @@ fn push_cut_label(
 {
     write!(
         out,
-        "<text x='{x}' y='16' text-anchor='{anchor}' fill='#555'>{hidden} entries {side}</text>\n</g>\n"
+        "<text x='{x}' y='38' text-anchor='{anchor}' fill='#555'>{hidden} entries {side}</text>\n</g>\n"
     )
 }
 
@@ -224,19 +248,42 @@ fn push_cut(
     }
 }
 
-/// The marks where the run is cut on either side.
+/// The marks where the run is cut: before the entries that are shown, between them and after them.
 #[tactic(auto, unfolding(crate::specs::Frames::cuts_text))]
-pub fn push_cuts(
-    out: &mut String,
-    stretch: Stretch,
-    processes: u16,
-    entries: u32,
-) -> Result<(), AllocError>
-    requires { stretch.first + stretch.count ≤ entries }
-    ensures { OnOk result (string_bytes out.new ≡ string_bytes out.old ++ frames.cuts_text stretch processes entries) }
+pub fn push_cuts(out: &mut String, grid: Grid, entries: u32) -> Result<(), AllocError>
+    requires { stretches.IsWithin entries grid }
+    ensures { OnOk result (string_bytes out.new ≡ string_bytes out.old ++ frames.cuts_text grid entries) }
 {
-    let after = entries - (stretch.first + stretch.count);
+    let Grid {
+        early,
+        late,
+        processes,
+    } = grid;
+    let between = late.first - (early.first + early.count);
+    let after = entries - (late.first + late.count);
     let bottom = bottom_of(processes);
-    push_cut(out, stretch.first, "before", 80, "start", bottom)?;
-    push_cut(out, after, "after", right_of(stretch), "end", bottom)
+    push_cut(
+        out,
+        early.first,
+        "before",
+        x_of_instant(grid, early.first),
+        "start",
+        bottom,
+    )?;
+    push_cut(
+        out,
+        between,
+        "between",
+        x_of_instant(grid, late.first),
+        "middle",
+        bottom,
+    )?;
+    push_cut(
+        out,
+        after,
+        "after",
+        x_of_instant(grid, late.first + late.count),
+        "end",
+        bottom,
+    )
 }

@@ -1,66 +1,184 @@
 //! Where things stand in a picture, in its units: x grows to the right and y downwards.
-ghost use Rattle.std.specs.Prelude.{◌≡◌, ◌≤◌};
+ghost use Rattle.std.specs.Prelude.{◌≡◌, ◌≤◌, ◌<◌, ◌^◌};
 ghost use Rattle.causal_picture.specs.Layout as layout;
+ghost use Rattle.causal_picture.specs.Stretches as stretches;
 
-use crate::stretch::Stretch;
+use crate::stretch::{Grid, Stretch};
 
 /// The left end of the processes' lines.
 const LEFT: u64 = 80;
 
-/// How far one entry stands from the next.
-const COLUMN: u64 = 30;
+/// How far one entry stands from the next at most.
+const WIDEST_COLUMN: u64 = 30;
+
+/// How wide all columns are at most.
+const ALL_COLUMNS: u64 = 2200;
 
 /// The line of the first process.
-const TOP: u32 = 64;
+const TOP: u32 = 92;
 
-/// How far one process's line stands from the next.
-const ROW: u32 = 40;
+/// How far one process's line stands from the next at most, and at least.
+const HIGHEST_ROW: u32 = 40;
 
-/// The x of the entry at a position; of one before the stretch the left end of the lines.
-pub fn x_of(stretch: Stretch, position: u32) -> u64
-    ensures { result ≡ layout.x_of stretch position }
-{
-    LEFT + COLUMN * (u64::from(position) + 1).saturating_sub(u64::from(stretch.first))
+const LOWEST_ROW: u32 = 16;
+
+/// How high all rows are at most, as far as they are no lower than the lowest.
+const ALL_ROWS: u32 = 560;
+
+/// A part of the picture whose entries follow one another: these entries, and where its lines begin and end.
+#[derive(Clone, Copy, Debug)]
+pub struct Panel {
+    pub stretch: Stretch,
+    pub left: u64,
+    pub right: u64,
 }
 
-/// The y of a process's line.
-pub fn y_of(process: u16) -> u32
-    ensures { result ≡ layout.y_of process }
+/// Whether the entry at a position is one of a stretch.
+fn is_within(stretch: Stretch, position: u32) -> bool
+    ensures { result ≡ stretches.is_within stretch position }
 {
-    TOP + ROW * u32::from(process)
+    stretch.first <= position && position - stretch.first < stretch.count
 }
 
-/// The x of an instant: between the entries before and after it.
-pub fn x_of_instant(stretch: Stretch, instant: u32) -> u64
-    ensures { result ≡ layout.x_of_instant stretch instant }
+/// Whether the entry at a position is shown.
+pub fn is_shown(grid: Grid, position: u32) -> bool
+    ensures { result ≡ stretches.is_shown grid position }
 {
-    LEFT + COLUMN / 2 + COLUMN * u64::from(instant.saturating_sub(stretch.first))
+    is_within(grid.early, position) || is_within(grid.late, position)
+}
+
+/// How many entries of a stretch stand before a position.
+fn passed(stretch: Stretch, position: u32) -> u64
+    ensures value { result ≡ layout.passed stretch position }
+    ensures small { result < 2 ^ 32 }
+{
+    u64::from(position.saturating_sub(stretch.first).min(stretch.count))
+}
+
+/// How many of the entries shown stand before a position.
+fn columns_before(grid: Grid, position: u32) -> u64
+    ensures value { result ≡ layout.columns_before grid position }
+    ensures small { result < 2 ^ 33 }
+{
+    passed(grid.early, position) + passed(grid.late, position)
+}
+
+/// How many entries are shown.
+pub fn columns_of(grid: Grid) -> u64
+    ensures value { result ≡ layout.columns_of grid }
+    ensures small { result < 2 ^ 33 }
+{
+    u64::from(grid.early.count) + u64::from(grid.late.count)
+}
+
+/// How far one entry stands from the next: 30, or less where all together would be wider than 2,200.
+pub fn column_of(grid: Grid) -> u64
+    ensures value { result ≡ layout.column_of grid }
+    ensures narrow { result ≤ 30 }
+{
+    WIDEST_COLUMN.min(ALL_COLUMNS / (columns_of(grid) + 1))
+}
+
+/// The x of an instant: in the middle between the entries before and after it.
+#[tactic(auto, using(crate::proofs::Sizes::columns_small))]
+pub fn x_of_instant(grid: Grid, instant: u32) -> u64
+    ensures value { result ≡ layout.x_of_instant grid instant }
+    ensures small { result < 2 ^ 39 }
+{
+    let column = column_of(grid);
+    LEFT + column / 2 + column * columns_before(grid, instant)
+}
+
+/// The x of the entry at a position; of one that is not shown where the run is cut.
+#[tactic(auto, using(crate::proofs::Sizes::columns_small))]
+pub fn x_of(grid: Grid, position: u32) -> u64
+    ensures value { result ≡ layout.x_of grid position }
+    ensures small { result < 2 ^ 39 }
+{
+    if is_shown(grid, position) {
+        LEFT + column_of(grid) * (columns_before(grid, position) + 1)
+    } else {
+        x_of_instant(grid, position)
+    }
 }
 
 /// The right end of the processes' lines.
-pub fn right_of(stretch: Stretch) -> u64
-    ensures { result ≡ layout.right_of stretch }
+#[tactic(auto, using(crate::proofs::Sizes::columns_fit))]
+pub fn right_of(grid: Grid) -> u64
+    ensures value { result ≡ layout.right_of grid }
+    ensures narrow { result ≤ 2280 }
 {
-    LEFT + COLUMN * (u64::from(stretch.count) + 1)
+    LEFT + column_of(grid) * (columns_of(grid) + 1)
+}
+
+/// How wide the picture is: as its lines or its words need.
+pub fn width_of(grid: Grid) -> u64
+    ensures value { result ≡ layout.width_of grid }
+    ensures narrow { result ≤ 2400 }
+{
+    (right_of(grid) + 120).max(600)
+}
+
+/// The entries up to the cut, or all where there is none.
+pub fn early_panel(grid: Grid) -> Panel
+    ensures { result ≡ layout.early_panel grid }
+{
+    let right = if grid.late.count == 0 {
+        right_of(grid)
+    } else {
+        x_of_instant(grid, grid.late.first)
+    };
+    Panel {
+        stretch: grid.early,
+        left: LEFT,
+        right,
+    }
+}
+
+/// The entries from the cut on.
+pub fn late_panel(grid: Grid) -> Panel
+    ensures { result ≡ layout.late_panel grid }
+{
+    Panel {
+        stretch: grid.late,
+        left: x_of_instant(grid, grid.late.first),
+        right: right_of(grid),
+    }
+}
+
+/// How far one process's line stands from the next: 40, or less where all together would be higher than 560, but no
+/// less than 16.
+pub fn row_of(processes: u16) -> u32
+    ensures value { result ≡ layout.row_of processes }
+    ensures low { result ≤ 40 }
+    ensures high { 16 ≤ result }
+{
+    LOWEST_ROW.max(HIGHEST_ROW.min(ALL_ROWS / (u32::from(processes) + 1)))
+}
+
+/// The y of a process's line.
+#[tactic(auto, using(crate::proofs::Sizes::rows_small))]
+pub fn y_of(grid: Grid, process: u16) -> u32
+    ensures value { result ≡ layout.y_of grid process }
+    ensures below { 92 ≤ result }
+{
+    TOP + row_of(grid.processes) * u32::from(process)
 }
 
 /// The lower end of what stands above the legend.
+#[tactic(auto, using(crate::proofs::Sizes::rows_small))]
 pub fn bottom_of(processes: u16) -> u32
-    ensures { result ≡ layout.bottom_of processes }
+    ensures value { result ≡ layout.bottom_of processes }
+    ensures low { result < 2 ^ 22 }
 {
-    ROW * u32::from(processes) + 50
+    TOP + row_of(processes) * u32::from(processes)
 }
 
-/// How wide the picture is: as its lines or its legend needs.
-pub fn width_of(stretch: Stretch) -> u64
-    ensures { result ≡ layout.width_of stretch }
-{
-    (right_of(stretch) + 20).max(520)
-}
-
-/// How high the picture is.
+/// How high the picture is: with 20 processes and fewer at most 740.
+#[tactic(auto, using(crate::proofs::Sizes::rows_fit))]
 pub fn height_of(processes: u16) -> u32
-    ensures { result ≡ layout.height_of processes }
+    ensures value { result ≡ layout.height_of processes }
+    ensures low { processes ≤ 20 → result ≤ 740 }
 {
     bottom_of(processes) + 80
 }

@@ -28,20 +28,23 @@ fn push_key(out: &mut String, x: u64, y: u32, shape: Shape, label: &str) -> Resu
 fn push_upper(out: &mut String, y: u32) -> Result<(), AllocError>
     ensures { OnOk result (string_bytes out.new ≡ string_bytes out.old ++ legends.upper_text y) }
 {
-    push_key(out, 90, y, Shape::OpenDot, "send")?;
-    push_key(out, 190, y, Shape::Dot, "delivery")?;
-    push_key(out, 290, y, Shape::Cross, "crash")?;
-    push_key(out, 390, y, Shape::Ring, "restart")
+    push_key(out, 20, y, Shape::OpenDot, "send")?;
+    push_key(out, 120, y, Shape::FaintDot, "sent again")?;
+    push_key(out, 220, y, Shape::Dot, "delivery")?;
+    push_key(out, 320, y, Shape::Cross, "crash")?;
+    push_key(out, 420, y, Shape::Ring, "restart")?;
+    push_key(out, 520, y, Shape::Square, "stable")
 }
 
 #[tactic(auto, unfolding(crate::specs::Legends::lower_text))]
 fn push_lower(out: &mut String, y: u32) -> Result<(), AllocError>
     ensures { OnOk result (string_bytes out.new ≡ string_bytes out.old ++ legends.lower_text y) }
 {
-    push_key(out, 90, y, Shape::Square, "stable")?;
-    push_key(out, 190, y, Shape::Triangle, "forgetting")?;
-    push_key(out, 290, y, Shape::Halo, "chain")?;
-    push_key(out, 390, y, Shape::Shade, "crash set")
+    push_key(out, 20, y, Shape::Triangle, "forgetting")?;
+    push_key(out, 120, y, Shape::Halo, "chain")?;
+    push_key(out, 220, y, Shape::Shade, "crash set")?;
+    push_key(out, 320, y, Shape::Diamond, "holder")?;
+    push_key(out, 420, y, Shape::OpenDiamond, "orphan")
 }
 
 /// Two rows of shapes with what they mean.

@@ -4,9 +4,11 @@
 //! Begin at [`picture_of`]; a [`Focus`] says what is shown beside the run itself.
 #![tactic(auto)]
 
-/// Who is down as the stretch begins.
+/// The verdict, above the picture.
+mod caption;
+/// Who is down as a stretch begins.
 mod down;
-/// What is shown beside the run: an instant, a crash set, a chain.
+/// What is shown beside the run: an instant, a crash set, a chain, an orphan.
 pub mod focus;
 /// What stands around the marks.
 mod frame;
@@ -20,8 +22,14 @@ mod marked;
 pub mod marks;
 /// What lies over the marks.
 mod overlay;
+/// The lines and the marks of entries that follow one another.
+mod panel;
 /// The whole text of a picture.
 pub mod picture;
+/// Which messages are sent again.
+mod resent;
+/// The processes at the instant.
+mod roles;
 /// The shape of each mark.
 mod shapes;
 /// Which entries are shown.
@@ -29,5 +37,5 @@ pub mod stretch;
 /// The title of each mark.
 mod titles;
 
-pub use focus::Focus;
+pub use focus::{Focus, Orphan};
 pub use picture::picture_of;

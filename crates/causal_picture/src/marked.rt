@@ -1,13 +1,14 @@
-//! How the events of a stretch are drawn.
+//! How the events of a panel are drawn.
 ghost use Rattle.std.specs.Prelude.{◌≡◌, ◌++◌, OnOk, string_bytes};
 ghost use Rattle.std.specs.List.{find};
 ghost use Rattle.std.specs.Option.{option_copied};
 ghost use Rattle.causal_picture.specs.Drawn as drawn;
 
-use crate::layout::{right_of, x_of, y_of};
+use crate::layout::{Panel, column_of, x_of, y_of};
 use crate::marks::{Event, Mark};
+use crate::resent::is_resent;
 use crate::shapes::{push_bent, push_level, push_shape, push_straight, shape_of};
-use crate::stretch::Stretch;
+use crate::stretch::Grid;
 use crate::titles::{line_of, push_title};
 use causal_name::{Det, Pid};
 use causal_trace::Trace;
@@ -37,13 +38,14 @@ fn line_end(marks: &[Mark], process: u16, from: u32) -> Option<&Mark>
     marks.iter().find(|mark| ends_line(process, from, mark))
 }
 
-/// The x up to which a process's line is solid that is so from a position on: that of its next crash, or the right end.
-pub fn up_until(stretch: Stretch, marks: &[Mark], process: u16, from: u32) -> u64
-    ensures { result ≡ drawn.up_until stretch marks.now process from }
+/// The x up to which a process's line is solid that is so from a position on: that of its next crash, or the right end of
+/// the panel.
+pub fn up_until(grid: Grid, panel: Panel, marks: &[Mark], process: u16, from: u32) -> u64
+    ensures { result ≡ drawn.up_until grid panel marks.now process from }
 {
     match line_end(marks, process, from) {
-        Some(mark) => x_of(stretch, mark.position),
-        None => right_of(stretch),
+        Some(mark) => x_of(grid, mark.position),
+        None => panel.right,
     }
 }
 
@@ -54,105 +56,149 @@ pub fn push_up(out: &mut String, from: u64, to: u64, y: u32) -> Result<(), Alloc
     push_level(out, from, to, y, "stroke='#222' stroke-width='1.5'")
 }
 
-/// The arrow of a delivery: from the entry that sends its message, or from the left end of the sender's line where
-/// that stands before the stretch.
+/// The arrow of a delivery, from the entry that sends its message; where that is not shown, from where the run is cut.
 fn push_arrow(
     out: &mut String,
-    stretch: Stretch,
+    grid: Grid,
     position: u32,
     det: Det,
     send: u32,
 ) -> Result<(), AllocError>
-    ensures { OnOk result (string_bytes out.new ≡ string_bytes out.old ++ drawn.arrow_text stretch position det send) }
+    ensures { OnOk result (string_bytes out.new ≡ string_bytes out.old ++ drawn.arrow_text grid position det send) }
 {
-    let from = x_of(stretch, send);
-    let to = x_of(stretch, position);
-    let y = y_of(u16::from(det.dest.0));
+    let from = x_of(grid, send);
+    let to = x_of(grid, position);
+    let y = y_of(grid, u16::from(det.dest.0));
     if det.source.0 == det.dest.0 {
         push_bent(out, from, to, y)
     } else {
-        push_straight(out, from, y_of(u16::from(det.source.0)), to, y)
-    }
-}
-
-/// What leads to an event or on from it: the arrow of a delivery, and the line of a process that comes up.
-#[tactic(auto, unfolding(crate::specs::Drawn::link_text))]
-fn push_link(
-    out: &mut String,
-    stretch: Stretch,
-    marks: &[Mark],
-    mark: &Mark,
-) -> Result<(), AllocError>
-    ensures { OnOk result (string_bytes out.new ≡ string_bytes out.old ++ drawn.link_text stretch marks.now mark.now) }
-{
-    match mark.event {
-        Event::Delivery { det, send } => push_arrow(out, stretch, mark.position, det, send),
-        Event::Restart { who } => push_return(out, stretch, marks, mark.position, who),
-        _ => Ok(()),
+        push_straight(out, from, y_of(grid, u16::from(det.source.0)), to, y)
     }
 }
 
 /// The line of a process from its restart on.
 fn push_return(
     out: &mut String,
-    stretch: Stretch,
+    grid: Grid,
+    panel: Panel,
     marks: &[Mark],
     position: u32,
     who: Pid,
 ) -> Result<(), AllocError>
     ensures { OnOk result (string_bytes out.new ≡
-        string_bytes out.old ++ drawn.return_text stretch marks.now position who) }
+        string_bytes out.old ++ drawn.return_text grid panel marks.now position who) }
 {
     let process = u16::from(who.0);
-    let to = up_until(stretch, marks, process, position);
-    push_up(out, x_of(stretch, position), to, y_of(process))
+    let to = up_until(grid, panel, marks, process, position);
+    push_up(out, x_of(grid, position), to, y_of(grid, process))
 }
 
-/// The number of an entry's line, above its column.
-#[tactic(auto, unfolding(crate::specs::Drawn::number_text))]
-fn push_number(out: &mut String, x: u64, line: u64) -> Result<(), AllocError>
-    ensures { OnOk result (string_bytes out.new ≡ string_bytes out.old ++ drawn.number_text x line) }
-{
-    write!(
-        out,
-        "<text x='{x}' y='34' text-anchor='middle' font-size='9' fill='#777'>{line}</text>\n"
-    )
-}
-
-/// An event: its title, the number of its line above its column, what leads to it or on from it, and its shape.
-#[tactic(auto, unfolding(crate::specs::Drawn::mark_text))]
-fn push_mark(
+/// What leads to an event or on from it: the arrow of a delivery, and the line of a process that comes up.
+#[tactic(auto, unfolding(crate::specs::Drawn::link_text))]
+fn push_link(
     out: &mut String,
-    trace: &Trace,
-    stretch: Stretch,
+    grid: Grid,
+    panel: Panel,
     marks: &[Mark],
     mark: &Mark,
 ) -> Result<(), AllocError>
     ensures { OnOk result (string_bytes out.new ≡
-        string_bytes out.old ++ drawn.mark_text trace.now.recording.past stretch marks.now mark.now) }
+        string_bytes out.old ++ drawn.link_text grid panel marks.now mark.now) }
 {
-    let x = x_of(stretch, mark.position);
-    let y = y_of(u16::from(mark.event.process().0));
-    out.push_str("<g>")?;
+    match mark.event {
+        Event::Delivery { det, send } => push_arrow(out, grid, mark.position, det, send),
+        Event::Restart { who } => push_return(out, grid, panel, marks, mark.position, who),
+        _ => Ok(()),
+    }
+}
+
+#[tactic(auto, unfolding(crate::specs::Drawn::level_number))]
+fn push_level_number(out: &mut String, x: u64, line: u64) -> Result<(), AllocError>
+    ensures { OnOk result (string_bytes out.new ≡ string_bytes out.old ++ drawn.level_number x line) }
+{
+    write!(
+        out,
+        "<text x='{x}' y='62' text-anchor='middle' font-size='9' fill='#777'>{line}</text>\n"
+    )
+}
+
+#[tactic(auto, unfolding(crate::specs::Drawn::upright_number))]
+fn push_upright_number(out: &mut String, x: u64, line: u64) -> Result<(), AllocError>
+    ensures { OnOk result (string_bytes out.new ≡ string_bytes out.old ++ drawn.upright_number x line) }
+{
+    write!(
+        out,
+        "<text transform='translate({x},66)rotate(-90)' dy='3' font-size='9' fill='#777'>{line}</text>\n"
+    )
+}
+
+/// The number of an entry's line above its column: level where the columns are wide, else upright.
+fn push_number(out: &mut String, grid: Grid, position: u32) -> Result<(), AllocError>
+    ensures { OnOk result (string_bytes out.new ≡ string_bytes out.old ++ drawn.number_text grid position) }
+{
+    if column_of(grid) < 28 {
+        push_upright_number(out, x_of(grid, position), line_of(position))
+    } else {
+        push_level_number(out, x_of(grid, position), line_of(position))
+    }
+}
+
+/// The beginning of what is drawn of an event, which is faint where a message is sent again.
+fn push_group(out: &mut String, is_faint: bool) -> Result<(), AllocError>
+    ensures { OnOk result (string_bytes out.new ≡ string_bytes out.old ++ drawn.group_text is_faint) }
+{
+    if is_faint {
+        out.push_str("<g opacity='0.4'>")
+    } else {
+        out.push_str("<g>")
+    }
+}
+
+/// The shape of an event, on the line of its process.
+#[tactic(auto, unfolding(crate::specs::Drawn::sign_text))]
+fn push_sign(out: &mut String, grid: Grid, mark: &Mark) -> Result<(), AllocError>
+    ensures { OnOk result (string_bytes out.new ≡ string_bytes out.old ++ drawn.sign_text grid mark.now) }
+{
+    let x = x_of(grid, mark.position);
+    let y = y_of(grid, u16::from(mark.event.process().0));
+    push_shape(out, x, y, shape_of(&mark.event))
+}
+
+/// An event: its title, the number of its line above its column, what leads to it or on from it, and its shape; faint
+/// where a message is sent again. It reads the entries before the event.
+#[tactic(auto, unfolding(crate::specs::Drawn::mark_text))]
+fn push_mark(
+    out: &mut String,
+    trace: &Trace,
+    grid: Grid,
+    panel: Panel,
+    marks: &[Mark],
+    mark: &Mark,
+) -> Result<(), AllocError>
+    ensures { OnOk result (string_bytes out.new ≡
+        string_bytes out.old ++ drawn.mark_text trace.now.recording grid panel marks.now mark.now) }
+{
+    push_group(out, is_resent(trace, mark))?;
     push_title(out, trace, mark)?;
-    push_number(out, x, line_of(mark.position))?;
-    push_link(out, stretch, marks, mark)?;
-    push_shape(out, x, y, shape_of(&mark.event))?;
+    push_number(out, grid, mark.position)?;
+    push_link(out, grid, panel, marks, mark)?;
+    push_sign(out, grid, mark)?;
     out.push_str("</g>\n")
 }
 
-/// The events of a stretch, in their order.
+/// The events of a panel, in their order.
 pub fn push_marks(
     out: &mut String,
     trace: &Trace,
-    stretch: Stretch,
+    grid: Grid,
+    panel: Panel,
     marks: &[Mark],
 ) -> Result<(), AllocError>
     ensures { OnOk result (string_bytes out.new ≡
-        string_bytes out.old ++ drawn.marks_text trace.now.recording.past stretch marks.now) }
+        string_bytes out.old ++ drawn.marks_text trace.now.recording grid panel marks.now) }
 {
     for mark in marks {
-        push_mark(out, trace, stretch, marks, mark)?;
+        push_mark(out, trace, grid, panel, marks, mark)?;
     }
     Ok(())
 }

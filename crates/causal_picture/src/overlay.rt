@@ -1,11 +1,13 @@
 //! What is drawn over the events: the chain and the instant.
-ghost use Rattle.std.specs.Prelude.{◌≡◌, ◌++◌, IfOk, OnOk, string_bytes};
+ghost use Rattle.std.specs.Prelude.{◌≡◌, ◌<◌, ◌++◌, IfOk, OnOk, string_bytes};
 ghost use Rattle.causal_picture.specs.Overlays as overlays;
 
-use crate::layout::{bottom_of, x_of, x_of_instant, y_of};
+use crate::focus::Focus;
+use crate::layout::{bottom_of, is_shown, x_of, x_of_instant, y_of};
 use crate::marks::mark_at;
+use crate::roles::push_processes;
 use crate::shapes::{Shape, push_shape, push_upright};
-use crate::stretch::Stretch;
+use crate::stretch::Grid;
 use causal_name::NoMemory;
 use causal_trace::Trace;
 use std::alloc::{AllocError, Global};
@@ -17,24 +19,17 @@ pub struct Point {
     pub y: u32,
 }
 
-/// Whether the entry at a position is one of a stretch.
-fn is_within(stretch: Stretch, position: u32) -> bool
-    ensures { result ≡ overlays.is_within stretch position }
-{
-    stretch.first <= position && position - stretch.first < stretch.count
-}
-
 /// Where the entry at a position stands, if it is shown.
-fn point_at(trace: &Trace, stretch: Stretch, position: u32) -> Option<Point>
-    ensures { result ≡ overlays.point_at trace.now.recording.past stretch position }
+fn point_at(trace: &Trace, grid: Grid, position: u32) -> Option<Point>
+    ensures { result ≡ overlays.point_at trace.now.recording.past grid position }
 {
-    if !is_within(stretch, position) {
+    if !is_shown(grid, position) {
         return None;
     }
     let mark = mark_at(trace, position)?;
     Some(Point {
-        x: x_of(stretch, position),
-        y: y_of(u16::from(mark.event.process().0)),
+        x: x_of(grid, position),
+        y: y_of(grid, u16::from(mark.event.process().0)),
     })
 }
 
@@ -42,14 +37,14 @@ fn point_at(trace: &Trace, stretch: Stretch, position: u32) -> Option<Point>
 pub fn points_of(
     alloc: Global,
     trace: &Trace,
-    stretch: Stretch,
+    grid: Grid,
     chain: &[u32],
 ) -> Result<Vec<Point>, NoMemory>
-    ensures { IfOk result (λ found. found.items ≡ overlays.points_of trace.now.recording.past stretch chain.now) }
+    ensures { IfOk result (λ found. found.items ≡ overlays.points_of trace.now.recording.past grid chain.now) }
 {
     let mut points = Vec::new(alloc);
     for position in chain {
-        if let Some(point) = point_at(trace, stretch, *position) {
+        if let Some(point) = point_at(trace, grid, *position) {
             points.push(point)?;
         }
     }
@@ -143,7 +138,7 @@ fn push_instant_label(out: &mut String, x: u64, y: u32, instant: u32) -> Result<
 {
     write!(
         out,
-        "<text x='{x}' y='{y}' dy='14' text-anchor='middle' fill='#0072b2'>instant {instant}</text>\n</g>\n"
+        "<text x='{x}' y='{y}' dy='14' text-anchor='middle' fill='#0072b2'>instant {instant}</text>\n"
     )
 }
 
@@ -159,22 +154,25 @@ fn push_instant_line(out: &mut String, x: u64, bottom: u32) -> Result<(), AllocE
     )
 }
 
-/// The instant: a vertical line between the entries before and after it.
+/// The instant: a vertical line between the entries before and after it, and beside it the processes.
 #[tactic(auto, unfolding(crate::specs::Overlays::instant_text))]
 pub fn push_instant(
     out: &mut String,
-    stretch: Stretch,
-    processes: u16,
+    grid: Grid,
     instant: u32,
+    focus: &Focus<'_>,
 ) -> Result<(), AllocError>
+    requires { grid.processes < 257 }
     ensures { OnOk result (string_bytes out.new ≡
-        string_bytes out.old ++ overlays.instant_text stretch processes instant) }
+        string_bytes out.old ++ overlays.instant_text grid instant focus.now.orphan) }
 {
-    let x = x_of_instant(stretch, instant);
-    let bottom = bottom_of(processes);
+    let x = x_of_instant(grid, instant);
+    let bottom = bottom_of(grid.processes);
     push_instant_title(out, instant)?;
     push_instant_line(out, x, bottom)?;
-    push_instant_label(out, x, bottom, instant)
+    push_instant_label(out, x, bottom, instant)?;
+    push_processes(out, grid, x, focus)?;
+    out.push_str("</g>\n")
 }
 
 /// The chain, where some of it is shown.

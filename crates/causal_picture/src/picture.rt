@@ -1,67 +1,43 @@
 //! A whole picture.
-ghost use Rattle.std.specs.Prelude.{◌≡◌, ◌≤◌, ◌<◌, ◌+◌, ◌++◌, IfOk, OnOk, length, string_bytes};
-ghost use Rattle.std.specs.FinSet.{contains};
+ghost use Rattle.std.specs.Prelude.{◌≡◌, ◌<◌, ◌++◌, IfOk, OnOk, length, string_bytes};
 ghost use Rattle.std.specs.Option.{option_copied};
-ghost use Rattle.causal_trace.specs.State.{entries_of, past_at};
-ghost use Rattle.causal_picture.specs.Inside.Downs.{ShowsDown};
 ghost use Rattle.causal_picture.specs.Pictures as pictures;
+ghost use Rattle.causal_picture.specs.Stretches as stretches;
 
-use crate::down::down_after;
+use crate::caption::push_caption;
 use crate::focus::Focus;
-use crate::frame::{push_cuts, push_head, push_process};
+use crate::frame::{push_cuts, push_head, push_row};
 use crate::layout::bottom_of;
 use crate::legend::push_legend;
-use crate::marked::push_marks;
-use crate::marks::{Mark, marks_of};
 use crate::overlay::{points_of, push_instant, push_shown_chain};
-use crate::stretch::{Stretch, stretch_around};
+use crate::panel::{push_early, push_late};
+use crate::stretch::{Grid, grid_around};
 use causal_holders::Holders;
 use causal_name::NoMemory;
 use causal_trace::Trace;
 use std::alloc::{AllocError, Global};
 
-/// The line of one process, shaded where it is in the crash set.
-fn push_row(
+/// The row of one process, shaded where it is in the crash set.
+fn push_shaded_row(
     out: &mut String,
-    stretch: Stretch,
-    marks: &[Mark],
+    grid: Grid,
     crash: Holders,
-    down: Holders,
     process: u16,
 ) -> Result<(), AllocError>
     requires { process < 256 }
-    ensures { OnOk result (string_bytes out.new ≡
-        string_bytes out.old ++ pictures.row_text stretch marks.now crash (contains down) process) }
+    ensures { OnOk result (string_bytes out.new ≡ string_bytes out.old ++ pictures.shaded_row grid crash process) }
 {
-    let is_shaded = crash.contains(process as u8);
-    let is_up = !down.contains(process as u8);
-    push_process(out, stretch, marks, process, is_shaded, is_up)
+    push_row(out, grid, process, crash.contains(process as u8))
 }
 
-/// Who is down as the stretch begins.
-fn down_before(trace: &Trace, stretch: Stretch) -> Holders
-    requires { stretch.first + stretch.count ≤ length trace.now.recording.past }
-    ensures { ShowsDown (past_at (entries_of trace.now.recording) stretch.first) result }
-{
-    down_after(&trace.entries()[..stretch.first as usize])
-}
-
-/// The lines of all processes, each with its name.
+/// The rows of all processes.
 #[tactic(auto, unfolding(crate::specs::Pictures::rows_text))]
-fn push_rows(
-    out: &mut String,
-    trace: &Trace,
-    stretch: Stretch,
-    marks: &[Mark],
-    crash: Holders,
-) -> Result<(), AllocError>
-    requires { stretch.first + stretch.count ≤ length trace.now.recording.past }
+fn push_rows(out: &mut String, trace: &Trace, grid: Grid, crash: Holders) -> Result<(), AllocError>
     ensures { OnOk result (string_bytes out.new ≡
-        string_bytes out.old ++ pictures.rows_text trace.now.recording stretch marks.now crash) }
+        string_bytes out.old ++ pictures.rows_text trace.now.recording grid crash) }
 {
-    let down = down_before(trace, stretch);
     for process in 0..trace.processes() {
-        push_row(out, stretch, marks, crash, down, process)?;
+        push_shaded_row(out, grid, crash, process)?;
     }
     Ok(())
 }
@@ -82,16 +58,17 @@ fn push_focus(
     alloc: Global,
     out: &mut String,
     trace: &Trace,
-    stretch: Stretch,
+    grid: Grid,
     focus: &Focus<'_>,
 ) -> Result<(), NoMemory>
+    requires { grid.processes < 257 }
     ensures { OnOk result (string_bytes out.new ≡
-        string_bytes out.old ++ pictures.focus_text trace.now.recording stretch focus.now) }
+        string_bytes out.old ++ pictures.focus_text trace.now.recording grid focus.now) }
 {
-    let points = points_of(alloc, trace, stretch, focus.chain)?;
+    let points = points_of(alloc, trace, grid, focus.chain)?;
     let instant = focus.instant.min(trace.len());
     push_shown_chain(out, &points)?;
-    push_instant(out, stretch, trace.processes(), instant)?;
+    push_instant(out, grid, instant, focus)?;
     Ok(())
 }
 
@@ -100,53 +77,55 @@ fn push_any_focus(
     alloc: Global,
     out: &mut String,
     trace: &Trace,
-    stretch: Stretch,
+    grid: Grid,
     focus: Option<&Focus<'_>>,
 ) -> Result<(), NoMemory>
+    requires { grid.processes < 257 }
     ensures { OnOk result (string_bytes out.new ≡
-        string_bytes out.old ++ pictures.any_focus_text trace.now.recording stretch (option_copied focus.entry)) }
+        string_bytes out.old ++ pictures.any_focus_text trace.now.recording grid (option_copied focus.entry)) }
 {
     match focus {
-        Some(focus) => push_focus(alloc, out, trace, stretch, focus),
+        Some(focus) => push_focus(alloc, out, trace, grid, focus),
         None => Ok(()),
     }
 }
 
-/// What lies over the lines and the events: the focus, the marks where the run is cut, and the legend.
+/// What lies over the lines and the events: the marks where the run is cut, the verdict, and the legend.
 #[tactic(auto, unfolding(crate::specs::Pictures::close_text))]
 fn push_close(
     out: &mut String,
-    stretch: Stretch,
-    processes: u16,
+    grid: Grid,
     entries: u32,
+    faults: u16,
+    focus: Option<&Focus<'_>>,
 ) -> Result<(), AllocError>
-    requires { stretch.first + stretch.count ≤ entries }
+    requires { stretches.IsWithin entries grid }
     ensures { OnOk result (string_bytes out.new ≡
-        string_bytes out.old ++ pictures.close_text stretch processes entries) }
+        string_bytes out.old ++ pictures.close_text grid entries faults (option_copied focus.entry)) }
 {
-    let bottom = bottom_of(processes);
-    push_cuts(out, stretch, processes, entries)?;
+    let bottom = bottom_of(grid.processes);
+    push_cuts(out, grid, entries)?;
+    push_caption(out, faults, focus)?;
     push_legend(out, bottom + 38, bottom + 62)?;
     out.push_str("</svg>\n")
 }
 
-/// What is drawn of the run: its processes' lines, then its events over these.
+/// What is drawn of the run: its processes' rows, then its events over these.
 #[tactic(auto, unfolding(crate::specs::Pictures::run_text))]
 fn push_run(
     alloc: Global,
     out: &mut String,
     trace: &Trace,
-    stretch: Stretch,
+    grid: Grid,
     crash: Holders,
 ) -> Result<(), NoMemory>
-    requires { stretch.first + stretch.count ≤ length trace.now.recording.past }
+    requires { stretches.IsWithin (length trace.now.recording.past) grid }
     ensures { OnOk result (string_bytes out.new ≡
-        string_bytes out.old ++ pictures.run_text trace.now.recording stretch crash) }
+        string_bytes out.old ++ pictures.run_text trace.now.recording grid crash) }
 {
-    let marks = marks_of(alloc, trace, stretch)?;
-    push_rows(out, trace, stretch, &marks, crash)?;
-    push_marks(out, trace, stretch, &marks)?;
-    Ok(())
+    push_rows(out, trace, grid, crash)?;
+    push_early(alloc, out, trace, grid)?;
+    push_late(alloc, out, trace, grid)
 }
 
 #[tactic(auto, unfolding(crate::specs::Pictures::picture))]
@@ -154,37 +133,40 @@ fn push_picture(
     alloc: Global,
     out: &mut String,
     trace: &Trace,
+    faults: u16,
     focus: Option<&Focus<'_>>,
 ) -> Result<(), NoMemory>
     ensures { OnOk result (string_bytes out.new ≡
-        string_bytes out.old ++ pictures.picture trace.now.recording (option_copied focus.entry)) }
+        string_bytes out.old ++ pictures.picture trace.now.recording faults (option_copied focus.entry)) }
 {
     let entries = trace.len();
-    let processes = trace.processes();
-    let stretch = stretch_around(trace, focus);
-    push_head(out, stretch, processes, entries)?;
-    push_run(alloc, out, trace, stretch, crash_of(focus))?;
-    push_any_focus(alloc, out, trace, stretch, focus)?;
-    push_close(out, stretch, processes, entries)?;
+    let grid = grid_around(trace, focus);
+    push_head(out, grid, entries)?;
+    push_run(alloc, out, trace, grid, crash_of(focus))?;
+    push_any_focus(alloc, out, trace, grid, focus)?;
+    push_close(out, grid, entries, faults, focus)?;
     Ok(())
 }
 
-/// The space-time diagram of a recorded run, as the text of a picture in SVG 1.1. All processes are shown, one below
-/// the other, and at most 200 entries ([`stretch_around`]); where the run is cut, a mark says how many entries are
-/// hidden there. Each entry shown has a title that begins with the line on which it stands in the trace's text.
+/// The space-time diagram of a recorded run that is audited for so many faults, as the text of a picture in SVG 1.1. All
+/// processes are shown, one below the other, and at most 200 entries ([`grid_around`]); where the run is cut, a mark says
+/// how many entries are hidden there. Each entry shown has a title that begins with the line on which it stands in the
+/// trace's text. No focus says that the run is accepted, a focus without an orphan that too many processes are down.
 ///
-/// It takes time as the entries and the chain; the text is as long as the processes, the entries shown and the chain.
+/// It takes time as the entries, once for each of them that is shown and sends or delivers a message, and as the chain.
+/// The text is as long as the processes, the entries shown and the chain.
 ///
 /// # Errors
 /// `NoMemory` where memory was refused.
 pub fn picture_of(
     alloc: Global,
     trace: &Trace,
+    faults: u16,
     focus: Option<&Focus<'_>>,
 ) -> Result<Vec<u8>, NoMemory>
-    ensures { IfOk result (λ text. text.items ≡ pictures.picture trace.now.recording (option_copied focus.entry)) }
+    ensures { IfOk result (λ text. text.items ≡ pictures.picture trace.now.recording faults (option_copied focus.entry)) }
 {
     let mut out = String::new(alloc);
-    push_picture(alloc, &mut out, trace, focus)?;
+    push_picture(alloc, &mut out, trace, faults, focus)?;
     Ok(out.into_bytes())
 }

@@ -6,7 +6,7 @@ ghost use Rattle.causal_picture.specs.Shapes as shapes;
 use crate::marks::Event;
 use std::alloc::AllocError;
 
-/// What stands at a place: one form for each kind of event, and those of the focus.
+/// What stands at a place: one form for each kind of event, that of a message sent again, and those of the focus.
 #[derive(Clone, Copy, Debug)]
 pub enum Shape {
     OpenDot,
@@ -15,8 +15,11 @@ pub enum Shape {
     Cross,
     Ring,
     Triangle,
+    FaintDot,
     Halo,
     Shade,
+    Diamond,
+    OpenDiamond,
 }
 
 impl Shape {
@@ -38,6 +41,12 @@ impl Shape {
             Shape::Halo =>
                 "d='M-9 0a9 9 0 1 0 18 0a9 9 0 1 0-18 0z' fill='none' stroke='#d55e00' stroke-width='2'",
             Shape::Shade => "d='M-9-9H9V9H-9z' fill='#ffe3b3'",
+            Shape::FaintDot => {
+                "d='M-4.5 0a4.5 4.5 0 1 0 9 0a4.5 4.5 0 1 0-9 0z' fill='white' stroke='#222' stroke-width='1.5' opacity='0.4'"
+            }
+            Shape::Diamond => "d='M0-8L6 0L0 8L-6 0z' fill='#0072b2'",
+            Shape::OpenDiamond =>
+                "d='M0-8L6 0L0 8L-6 0z' fill='white' stroke='#c00000' stroke-width='2'",
         }
     }
 }
@@ -92,7 +101,7 @@ pub fn push_level(
 pub fn push_upright(out: &mut String, x: u64, bottom: u32, stroke: &str) -> Result<(), AllocError>
     ensures { OnOk result (string_bytes out.new ≡ string_bytes out.old ++ shapes.upright_text x bottom stroke.now) }
 {
-    write!(out, "<path d='M{x} 42V{bottom}' fill='none' {stroke}/>\n")
+    write!(out, "<path d='M{x} 70V{bottom}' fill='none' {stroke}/>\n")
 }
 
 /// An arrow from one process's line to another's.

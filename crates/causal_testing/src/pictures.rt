@@ -11,6 +11,9 @@ use causal_trace::trace::Trace;
 use std::alloc::{AllocError, Global};
 use std::test::Fail;
 
+/// How a mark begins that is drawn faint.
+const FAINT: &[u8] = b"<g opacity='0.4'>";
+
 /// Whether this stands between two quoted values, or before the first: blanks, letters and an equals sign, last.
 fn names_a_value(piece: &[u8]) -> bool {
     let Some((last, words)) = piece.split_last() else {
@@ -88,7 +91,7 @@ fn marks_in(text: &[u8]) -> usize {
 
 /// Whether the picture of a trace is well formed, and has a mark for each entry, or for 200 where there are more.
 fn is_pictured(alloc: Global, trace: &Trace, focus: Option<&Focus<'_>>) -> Result<bool, Fail> {
-    let text = picture_of(alloc, trace, focus)?;
+    let text = picture_of(alloc, trace, 1, focus)?;
     let shown = (trace.len() as usize).min(200);
     Ok(is_well_formed(alloc, text.as_slice())? && marks_in(text.as_slice()) == shown)
 }
@@ -121,6 +124,7 @@ fn ring_is_pictured(alloc: Global, ring: &Trace) -> Result<bool, Fail> {
         instant: 4,
         crash,
         chain: &[1, 2, 3],
+        orphan: None,
     };
     is_pictured(alloc, ring, Some(&focus))
 }
@@ -139,6 +143,7 @@ fn is_pictured_twice(alloc: Global, trace: &Trace) -> Result<bool, Fail> {
         instant: trace.len() / 2,
         crash: Holders::none(),
         chain: &[],
+        orphan: None,
     };
     Ok(is_pictured(alloc, trace, None)? && is_pictured(alloc, trace, Some(&focus))?)
 }
@@ -231,19 +236,30 @@ fn push_words(out: &mut String, trace: &Trace, entry: &Entry) -> Result<(), Allo
 /// at position 0 line 2.
 fn push_beginning(out: &mut String, trace: &Trace, position: u32) -> Result<(), AllocError> {
     let line = u64::from(position) + 2;
-    write!(out, "<g><title>line {line}: ")?;
+    write!(out, "<title>line {line}: ")?;
     if let Some(entry) = trace.entry(position) {
         push_words(out, trace, entry)?;
     }
     out.push_str("</title>")
 }
 
-/// The lines of a picture with which the marks of entries begin.
+/// The title of the mark that a line begins, be it faint or not; of another line something else.
+fn title_in(line: &[u8]) -> &[u8] {
+    let group = if line.starts_with(FAINT) {
+        FAINT
+    } else {
+        b"<g>".as_slice()
+    };
+    line.strip_prefix(group).unwrap_or(line)
+}
+
+/// The lines of a picture with which the marks of entries begin, from their titles on.
 fn beginnings(alloc: Global, text: &[u8]) -> Result<Vec<&[u8]>, AllocError> {
     let mut found = Vec::new(alloc);
     for line in text.split(|byte| *byte == b'\n') {
-        if line.starts_with(b"<g><title>line ") {
-            found.push(line)?;
+        let title = title_in(line);
+        if title.starts_with(b"<title>line ") {
+            found.push(title)?;
         }
     }
     Ok(found)
@@ -260,7 +276,7 @@ fn lines_like(text: &[u8], wanted: &[u8]) -> usize {
 #[test]
 fn titles_tell_what_is_logged(rt: HostRuntime) -> Result<(), Fail> {
     let ring = read_trace(rt.alloc(), RING.as_bytes())?;
-    let text = picture_of(rt.alloc(), &ring, None)?;
+    let text = picture_of(rt.alloc(), &ring, 1, None)?;
     for title in [
         "<g><title>line 3: process 1 delivers message 0 of process 0, and logs [0,0,1,0]</title>",
         "<g><title>line 5: process 2 delivers message 0 of process 1, and logs [0,0,1,0] [1,0,2,0]</title>",
@@ -287,36 +303,51 @@ fn titled(
     )
 }
 
-/// Whether just one of these marks has the title of each entry from a position on and below another, and none that of another
-/// entry.
+/// Entries that follow one another: the position of the first, and that after the last.
+type Part = (u32, u32);
+
+/// Whether the entry at a position is one of these.
+fn is_in(parts: &[Part], position: u32) -> bool {
+    parts
+        .iter()
+        .any(|(first, end)| *first <= position && position < *end)
+}
+
+/// Whether just one of these marks has the title of each entry of these parts, and none that of another entry.
 fn are_marks_of(
     alloc: Global,
     marks: &[&[u8]],
     trace: &Trace,
-    first: u32,
-    end: u32,
+    parts: &[Part],
 ) -> Result<bool, AllocError> {
     let mut right = true;
     for position in 0..trace.len() {
-        let shown = first <= position && position < end;
-        let wanted = if shown { 1 } else { 0 };
+        let wanted = if is_in(parts, position) { 1 } else { 0 };
         right = titled(alloc, marks, trace, position)? == wanted && right;
     }
     Ok(right)
 }
 
-/// Whether the picture of a trace shows the entries from a position on, up to the 200th of them, and no others.
-fn shows_from(
+/// How many positions of a trace are in these parts.
+fn count_of(trace: &Trace, parts: &[Part]) -> usize {
+    (0..trace.len())
+        .filter(|position| is_in(parts, *position))
+        .count()
+}
+
+/// Whether the picture of a trace shows the entries of these parts, and no others.
+fn shows(
     alloc: Global,
     trace: &Trace,
     focus: Option<&Focus<'_>>,
-    first: u32,
+    parts: &[Part],
 ) -> Result<bool, Fail> {
-    let text = picture_of(alloc, trace, focus)?;
+    let text = picture_of(alloc, trace, 1, focus)?;
     let marks = beginnings(alloc, text.as_slice())?;
-    let end = first.saturating_add(200).min(trace.len());
-    let shown = end.saturating_sub(first) as usize;
-    Ok(marks.len() == shown && are_marks_of(alloc, marks.as_slice(), trace, first, end)?)
+    Ok(
+        marks.len() == count_of(trace, parts)
+            && are_marks_of(alloc, marks.as_slice(), trace, parts)?,
+    )
 }
 
 /// The same, where the picture shows an instant and a chain too.
@@ -325,14 +356,15 @@ fn shows_around(
     trace: &Trace,
     instant: u32,
     chain: &[u32],
-    first: u32,
+    parts: &[Part],
 ) -> Result<bool, Fail> {
     let focus = Focus {
         instant,
         crash: Holders::none(),
         chain,
+        orphan: None,
     };
-    shows_from(alloc, trace, Some(&focus), first)
+    shows(alloc, trace, Some(&focus), parts)
 }
 
 /// Whether a trace that is no longer than what is shown is shown from its beginning, with an instant in its middle and with none.
@@ -340,8 +372,8 @@ fn shows_all(alloc: Global, trace: &Trace) -> Result<bool, Fail> {
     let middle = trace.len() / 2;
     Ok(
         (11..=200).contains(&trace.len())
-            && shows_from(alloc, trace, None, 0)?
-            && shows_around(alloc, trace, middle, &[], 0)?,
+            && shows(alloc, trace, None, &[(0, trace.len())])?
+            && shows_around(alloc, trace, middle, &[], &[(0, trace.len())])?,
     )
 }
 
@@ -354,20 +386,22 @@ fn each_entry_shown_has_one_mark_with_its_title(rt: HostRuntime) -> Result<(), F
     Ok(())
 }
 
-/// An instant and a chain, and the first entry that is shown of a run that is longer than that. Of this 200 entries are shown: 190
-/// before the instant and 10 from it on, or fewer where the chain begins earlier.
-const SHOWN: [(u32, &[u32], u32); 5] = [
-    (50, &[], 0),
-    (230, &[], 40),
-    (230, &[33, 200], 33),
-    (230, &[100], 40),
-    (230, &[9], 30),
+/// An instant and a chain, and what is shown of a run that is longer than that: 190 entries before the instant and 10 from it on, or
+/// fewer where the chain begins earlier. Where 200 do not reach back to the chain's first, 9 entries before that and 31 from it on are
+/// shown, and 150 before the instant and 10 from it on.
+const SHOWN: [(u32, &[u32], &[Part]); 6] = [
+    (50, &[], &[(0, 200)]),
+    (230, &[], &[(40, 240)]),
+    (230, &[33, 200], &[(33, 233)]),
+    (230, &[100], &[(40, 240)]),
+    (230, &[29], &[(20, 60), (80, 240)]),
+    (230, &[4, 100], &[(0, 40), (80, 240)]),
 ];
 
 /// The first of these that are not shown so, if there is one.
 fn not_shown(alloc: Global, trace: &Trace) -> Result<Option<usize>, Fail> {
-    for (place, (instant, chain, first)) in SHOWN.iter().enumerate() {
-        if !shows_around(alloc, trace, *instant, chain, *first)? {
+    for (place, (instant, chain, parts)) in SHOWN.iter().enumerate() {
+        if !shows_around(alloc, trace, *instant, chain, parts)? {
             return Ok(Some(place));
         }
     }
@@ -377,8 +411,41 @@ fn not_shown(alloc: Global, trace: &Trace) -> Result<Option<usize>, Fail> {
 #[test]
 fn each_entry_shown_of_a_longer_run(rt: HostRuntime) -> Result<(), Fail> {
     let trace = trace_of(rt.alloc(), &mut Walk::new(7, 0), 4, 800)?;
-    assert!(rt; trace.len() > 260 && shows_from(rt.alloc(), &trace, None, 0)?);
+    assert!(rt; trace.len() > 260 && shows(rt.alloc(), &trace, None, &[(0, 200)])?);
     assert_eq!(rt; not_shown(rt.alloc(), &trace)?, None);
+    Ok(())
+}
+
+/// A run of which process 1 crashes, restarts, and repeats what it did: it sends its message once more.
+const REPEATED: &str = r#"["trace",1,3]
+["send",0,1,0]
+["deliver",1,0,0,[[0,0,1,0]]]
+["send",1,2,0]
+["crash",1]
+["restart",1,[]]
+["deliver",1,0,0,[[0,0,1,0]]]
+["send",1,2,0]
+["deliver",2,6,0,[[1,0,2,0]]]
+["end",8]
+"#;
+
+/// Of the run above the message that is sent again is drawn faint, on line 8 and where it is delivered on line 9; all else is not.
+#[test]
+fn a_message_sent_again_is_faint(rt: HostRuntime) -> Result<(), Fail> {
+    let trace = read_trace(rt.alloc(), REPEATED.as_bytes())?;
+    let text = picture_of(rt.alloc(), &trace, 1, None)?;
+    let faint = text
+        .as_slice()
+        .split(|byte| *byte == b'\n')
+        .filter(|line| line.starts_with(FAINT))
+        .count();
+    assert_eq!(rt; faint, 2);
+    for line in [
+        "<g opacity='0.4'><title>line 8: process 1 sends message 0 to process 2</title>",
+        "<g opacity='0.4'><title>line 9: process 2 delivers message 0 of process 1, and logs [1,0,2,0]</title>",
+    ] {
+        assert_eq!(rt; lines_like(text.as_slice(), line.as_bytes()), 1, "{line}");
+    }
     Ok(())
 }
 
@@ -391,7 +458,7 @@ const OF_FOCUS: [&str; 3] = [
 
 /// The lines that a focus adds to the picture of a trace.
 fn added(alloc: Global, trace: &Trace, focus: Option<&Focus<'_>>) -> Result<Vec<u8>, Fail> {
-    let text = picture_of(alloc, trace, focus)?;
+    let text = picture_of(alloc, trace, 1, focus)?;
     let mut lines = Vec::new(alloc);
     for line in text.as_slice().split(|byte| *byte == b'\n') {
         if OF_FOCUS.iter().any(|end| line.ends_with(end.as_bytes())) {
@@ -402,13 +469,13 @@ fn added(alloc: Global, trace: &Trace, focus: Option<&Focus<'_>>) -> Result<Vec<
     Ok(lines)
 }
 
-/// By the layout the lines of processes 0 and 2 stand at 64 and 144, those of positions 0 and 3 at 110 and 200, the instant after
-/// the last of six entries at 275, below 3 rows at 170. There is no process 7, no position 77, and no instant 9.
+/// By the layout the lines of processes 0 and 2 stand at 92 and 172, those of positions 0 and 3 at 110 and 200, the instant after
+/// the last of six entries at 275, below 3 rows at 212. There is no process 7, no position 77, and no instant 9.
 const ADDED: &str = "\
-    <path d='M0 64H520' fill='none' stroke='#ffe3b3' stroke-width='34'/>\n\
-    <path d='M0 144H520' fill='none' stroke='#ffe3b3' stroke-width='34'/>\n\
-    <polyline points='110,64 200,144 ' fill='none' stroke='#d55e00' stroke-width='4' stroke-opacity='0.75'/>\n\
-    <path d='M275 42V170' fill='none' stroke='#0072b2' stroke-width='2' stroke-dasharray='7 4'/>\n";
+    <path d='M0 92H600' fill='none' stroke='#ffe3b3' stroke-width='34'/>\n\
+    <path d='M0 172H600' fill='none' stroke='#ffe3b3' stroke-width='34'/>\n\
+    <polyline points='110,92 200,172 ' fill='none' stroke='#d55e00' stroke-width='4' stroke-opacity='0.75'/>\n\
+    <path d='M275 70V212' fill='none' stroke='#0072b2' stroke-width='2' stroke-dasharray='7 4'/>\n";
 
 /// Whether a focus adds these lines to the picture of a ring.
 fn focus_adds(alloc: Global, ring: &Trace, lines: &str) -> Result<bool, Fail> {
@@ -420,6 +487,7 @@ fn focus_adds(alloc: Global, ring: &Trace, lines: &str) -> Result<bool, Fail> {
         instant: 9,
         crash,
         chain: &[0, 3, 77],
+        orphan: None,
     };
     Ok(added(alloc, ring, Some(&focus))?.as_slice() == lines.as_bytes())
 }

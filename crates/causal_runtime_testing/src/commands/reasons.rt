@@ -284,63 +284,83 @@ struct Drawn {
     lines: &'static str,
 }
 
-/// By the layout process p has its line at 64 + 40 p, the entry at position k stands at 110 + 30 k, the instant t at 95 + 30 t, and what
-/// stands below three rows begins at 170.
+/// By the layout process p has its line at 92 + 40 p, the entry at position k stands at 110 + 30 k, the instant t at 95 + 30 t, and what
+/// stands below three rows begins at 212.
 const DRAWN: [Drawn; 5] = [
     Drawn {
         name: "1 may crash, and 2 depends on its delivery by positions 1, 2 and 3",
         text: texts::PASSED_ON_BARE,
         f: 1,
         lines: "\
-            <path d='M0 104H520' fill='none' stroke='#ffe3b3' stroke-width='34'/>\n\
-            <polyline points='140,104 170,104 200,144 ' fill='none' stroke='#d55e00' stroke-width='4' stroke-opacity='0.75'/>\n\
-            <path d='M215 42V170' fill='none' stroke='#0072b2' stroke-width='2' stroke-dasharray='7 4'/>\n",
+            <path d='M0 132H600' fill='none' stroke='#ffe3b3' stroke-width='34'/>\n\
+            <polyline points='140,132 170,132 200,172 ' fill='none' stroke='#d55e00' stroke-width='4' stroke-opacity='0.75'/>\n\
+            <path d='M215 70V212' fill='none' stroke='#0072b2' stroke-width='2' stroke-dasharray='7 4'/>\n\
+            <text x='215' y='132' dx='9' dy='-5' font-size='10' fill='#0072b2'>process 1: holder</text>\n\
+            <text x='215' y='172' dx='9' dy='-5' font-size='10' fill='#0072b2'>process 2: orphan</text>\n\
+            <text x='10' y='20' font-size='14' font-weight='bold' fill='#222'>orphan f=1: process 2 depends on the delivery of line 3</text>\n",
     },
     Drawn {
         name: "1 and 2 may crash, and 0 depends on the delivery of 1 by all that follows in the ring",
         text: texts::RING,
         f: 2,
         lines: "\
-            <path d='M0 104H520' fill='none' stroke='#ffe3b3' stroke-width='34'/>\n\
-            <path d='M0 144H520' fill='none' stroke='#ffe3b3' stroke-width='34'/>\n\
-            <polyline points='140,104 170,104 200,144 230,144 260,64 ' fill='none' stroke='#d55e00' stroke-width='4' stroke-opacity='0.75'/>\n\
-            <path d='M275 42V170' fill='none' stroke='#0072b2' stroke-width='2' stroke-dasharray='7 4'/>\n",
+            <path d='M0 132H600' fill='none' stroke='#ffe3b3' stroke-width='34'/>\n\
+            <path d='M0 172H600' fill='none' stroke='#ffe3b3' stroke-width='34'/>\n\
+            <polyline points='140,132 170,132 200,172 230,172 260,92 ' fill='none' stroke='#d55e00' stroke-width='4' stroke-opacity='0.75'/>\n\
+            <path d='M275 70V212' fill='none' stroke='#0072b2' stroke-width='2' stroke-dasharray='7 4'/>\n\
+            <text x='275' y='92' dx='9' dy='-5' font-size='10' fill='#0072b2'>process 0: orphan</text>\n\
+            <text x='275' y='132' dx='9' dy='-5' font-size='10' fill='#0072b2'>process 1: holder</text>\n\
+            <text x='275' y='172' dx='9' dy='-5' font-size='10' fill='#0072b2'>process 2: holder</text>\n\
+            <text x='10' y='20' font-size='14' font-weight='bold' fill='#222'>orphan f=2: process 0 depends on the delivery of line 3</text>\n",
     },
     Drawn {
         name: "1 and 2 are down after 8 entries",
         text: texts::RING_CRASHED,
         f: 1,
         lines: "\
-            <path d='M0 104H520' fill='none' stroke='#ffe3b3' stroke-width='34'/>\n\
-            <path d='M0 144H520' fill='none' stroke='#ffe3b3' stroke-width='34'/>\n\
-            <path d='M335 42V170' fill='none' stroke='#0072b2' stroke-width='2' stroke-dasharray='7 4'/>\n",
+            <path d='M0 132H600' fill='none' stroke='#ffe3b3' stroke-width='34'/>\n\
+            <path d='M0 172H600' fill='none' stroke='#ffe3b3' stroke-width='34'/>\n\
+            <path d='M335 70V212' fill='none' stroke='#0072b2' stroke-width='2' stroke-dasharray='7 4'/>\n\
+            <text x='10' y='20' font-size='14' font-weight='bold' fill='#222'>exceeded f=1: the shaded processes are down</text>\n",
     },
     Drawn {
         name: "a message passed on, and no fault",
         text: texts::PASSED_ON_BARE,
         f: 0,
-        lines: "",
+        lines: "\
+            <text x='10' y='20' font-size='14' font-weight='bold' fill='#222'>accept f=0: no delivery has an orphan</text>\n",
     },
     Drawn {
         name: "a ring, and one fault",
         text: texts::RING,
         f: 1,
-        lines: "",
+        lines: "\
+            <text x='10' y='20' font-size='14' font-weight='bold' fill='#222'>accept f=1: no delivery has an orphan</text>\n",
     },
 ];
 
-/// How the lines of a picture end that show a verdict: the shade behind a process, the chain, and the instant.
-const OF_VERDICT: [&str; 3] = [
+/// How the lines of a picture end that show a verdict: the shade behind a process, the chain, the instant, and who is what there.
+const OF_VERDICT: [&str; 5] = [
     " stroke='#ffe3b3' stroke-width='34'/>",
     " stroke='#d55e00' stroke-width='4' stroke-opacity='0.75'/>",
     " stroke='#0072b2' stroke-width='2' stroke-dasharray='7 4'/>",
+    ": orphan</text>",
+    ": holder</text>",
 ];
+
+/// How the line of a picture begins that tells the verdict in words.
+const IN_WORDS: &[u8] = b"<text x='10' y='20' ";
+
+/// Whether the line of a picture shows the verdict.
+fn shows_verdict(line: &[u8]) -> bool {
+    line.starts_with(IN_WORDS) || OF_VERDICT.iter().any(|end| line.ends_with(end.as_bytes()))
+}
 
 /// The lines of a picture that show the verdict.
 fn lines_of_verdict(alloc: Global, picture: &[u8]) -> Result<Vec<u8>, Fail> {
     let mut lines = Vec::new(alloc);
     for line in picture.split(|byte| *byte == b'\n') {
-        if OF_VERDICT.iter().any(|end| line.ends_with(end.as_bytes())) {
+        if shows_verdict(line) {
             lines.extend_from_slice(line)?;
             lines.push(b'\n')?;
         }

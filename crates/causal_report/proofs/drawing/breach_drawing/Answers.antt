@@ -1,18 +1,25 @@
-use Rattle.std.proofs.Common.{refl, sym, subst}
+use Rattle.std.proofs.Common.{refl, sym, subst, ap, ◌∙◌}
+use Rattle.std.specs.Prelude.{Some}
 use Rattle.std.proofs.lemmas.Result.{IfOk-weaker}
 use Rattle.causal_trace.specs.Past.{instant}
 use Rattle.causal_explain.specs.Chains.{IsShortestChain}
+use Rattle.causal_report.specs.Drawings.{holders_of}
 use Rattle.causal_report.proofs.drawing.breach_drawing.Goals as goal
 
 pub returns : goal.returns
 returns c =
     let b = c.args.breach.now in
+    let past = c.args.trace.now.recording.past in
+    let x = c.in_ok-explanation.explanation in
+    let told = c.in_ok-explanation.ensures in
+    let held = c.holders_of.ensures ∙ ap holders_of c.as_slice-2.ensures.value in
     IfOk-weaker c.picture_of.result _ _
     (λ text same. record {
-      focus = record { instant = b.instant; crash = b.crash; chain = c.as_slice.result };
+      focus = _;
       at_instant = refl;
       crashed = refl;
-      linked = subst (IsShortestChain (instant c.args.trace.now.recording.past b.instant) b.delivery b.orphan) (sym c.as_slice.ensures.value) c.in_ok-explanation.ensures.chain;
+      linked = subst (IsShortestChain (instant past b.instant) b.delivery b.orphan) (sym c.as_slice.ensures.value) told.chain;
+      orphaned = (x.det, told.det, x.holders.items, record { held = told.holders; shows = ap (λ h. Some (record { process = b.orphan; delivery = b.delivery; holders = h })) held });
       pictured = same;
     })
     c.picture_of.ensures

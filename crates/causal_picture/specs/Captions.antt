@@ -1,0 +1,31 @@
+-- The verdict, above the picture.
+use Rattle.std.specs.Prelude.{ℕ, List, ◌++◌, codes, decimal, Option, Some, None}
+use Rattle.causal_picture.specs.declared.focus.Focus.{Focus}
+use Rattle.causal_picture.specs.declared.focus.Orphan.{Orphan}
+use Rattle.causal_picture.specs.Titles.{line_of}
+
+-- `orphan f=1: process 2 depends on the delivery of line 3`
+abbrev pub orphan_text : ℕ → Orphan → List ℕ
+orphan_text faults o =
+    codes "orphan f=" ++ (decimal faults ++ (codes ": process " ++ (decimal o.process ++ (codes " depends on the delivery of line "
+    ++ decimal (line_of o.delivery)))))
+
+-- an orphan, or too many processes that are down
+abbrev pub breach_of : ℕ → Option Orphan → List ℕ
+breach_of faults (Some o) = orphan_text faults o
+breach_of faults None = codes "exceeded f=" ++ (decimal faults ++ codes ": the shaded processes are down")
+
+abbrev pub breach_text : ℕ → Focus → List ℕ
+breach_text faults f = breach_of faults f.orphan
+
+-- the verdict; that of no focus is that the run is safe
+unfoldable pub verdict_text : ℕ → Option Focus → List ℕ
+verdict_text faults (Some f) = breach_text faults f
+verdict_text faults None = codes "accept f=" ++ (decimal faults ++ codes ": no delivery has an orphan")
+
+unfoldable pub opening_text : List ℕ
+opening_text = codes "<text x='10' y='20' font-size='14' font-weight='bold' fill='#222'>"
+
+-- the verdict, in the picture's upper left corner
+unfoldable pub caption_text : ℕ → Option Focus → List ℕ
+caption_text faults focus = opening_text ++ (verdict_text faults focus ++ codes "</text>\n")

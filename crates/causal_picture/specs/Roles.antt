@@ -1,0 +1,46 @@
+-- The processes at the instant.
+use Rattle.std.specs.Prelude.{ℕ, ◌==◌, Bool, if◌then◌else◌, List, [], ◌++◌, codes, decimal, flat_map, Option, Some, None}
+use Rattle.std.specs.List.{range_with_len}
+use Rattle.std.specs.FinSet.{contains}
+use Rattle.causal_picture.specs.declared.focus.Orphan.{Orphan}
+use Rattle.causal_picture.specs.declared.roles.Role.{Role}
+use Rattle.causal_picture.specs.declared.roles.Role.TheVariants as role
+use Rattle.causal_picture.specs.declared.shapes.Shape.TheVariants.{Diamond, OpenDiamond}
+use Rattle.causal_picture.specs.declared.stretch.Grid.{Grid}
+use Rattle.causal_picture.specs.Layout.{y_of}
+use Rattle.causal_picture.specs.Shapes.{shape_text}
+
+-- what a process's name is followed by
+abbrev pub words_of : Role → List ℕ
+words_of role.Orphan = codes ": orphan"
+words_of role.Holder = codes ": holder"
+words_of role.Other = codes ""
+
+-- the orphan, one that holds the determinant, or neither
+abbrev pub role_beside : Orphan → ℕ → Role
+role_beside o p = if o.process == p then role.Orphan else (if contains o.holders p then role.Holder else role.Other)
+
+-- the same, where a delivery has an orphan
+abbrev pub role_of : Option Orphan → ℕ → Role
+role_of (Some o) p = role_beside o p
+role_of None p = role.Other
+
+-- the sign of a role
+abbrev pub sign_text : ℕ → ℕ → Role → List ℕ
+sign_text x y role.Orphan = shape_text x y OpenDiamond
+sign_text x y role.Holder = shape_text x y Diamond
+sign_text x y role.Other = []
+
+-- the name of a process beside a place on its line, with its role
+unfoldable pub name_text : ℕ → ℕ → ℕ → List ℕ → List ℕ
+name_text x y p words =
+    codes "<text x='" ++ (decimal x ++ (codes "' y='" ++ (decimal y ++ (codes "' dx='9' dy='-5' font-size='10' fill='#0072b2'>process " ++ (decimal p
+    ++ (words ++ codes "</text>\n"))))))
+
+-- a process at the instant: its sign, and its name
+unfoldable pub process_text : Grid → ℕ → Option Orphan → ℕ → List ℕ
+process_text g x o p = sign_text x (y_of g p) (role_of o p) ++ name_text x (y_of g p) p (words_of (role_of o p))
+
+-- all processes at the instant
+unfoldable pub processes_text : Grid → ℕ → Option Orphan → List ℕ
+processes_text g x o = flat_map (process_text g x o) (range_with_len 0 g.processes)

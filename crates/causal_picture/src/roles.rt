@@ -1,0 +1,114 @@
+//! The processes at the instant: the name of each again, and a sign at the orphan and at each holder.
+ghost use Rattle.std.specs.Prelude.{◌≡◌, ◌<◌, ◌++◌, OnOk, string_bytes};
+ghost use Rattle.causal_picture.specs.Roles as roles;
+
+use crate::focus::{Focus, Orphan};
+use crate::layout::y_of;
+use crate::shapes::{Shape, push_shape};
+use crate::stretch::Grid;
+use std::alloc::AllocError;
+
+/// What a process is at the instant, where a delivery has an orphan.
+#[derive(Clone, Copy, Debug)]
+pub enum Role {
+    /// It depends on the delivery, and would be left without the determinant.
+    Orphan,
+    /// Its volatile log has the determinant.
+    Holder,
+    Other,
+}
+
+impl Role {
+    /// What its name is followed by.
+    fn words(self) -> &'static str
+        ensures { result.now ≡ roles.words_of self }
+    {
+        match self {
+            Role::Orphan => ": orphan",
+            Role::Holder => ": holder",
+            Role::Other => "",
+        }
+    }
+}
+
+/// The role of a process.
+fn role_of(focus: &Focus<'_>, process: u16) -> Role
+    requires { process < 256 }
+    ensures { result ≡ roles.role_of focus.now.orphan process }
+{
+    match &focus.orphan {
+        Some(orphan) => role_beside(orphan, process),
+        None => Role::Other,
+    }
+}
+
+fn role_beside(orphan: &Orphan, process: u16) -> Role
+    requires { process < 256 }
+    ensures { result ≡ roles.role_beside orphan.now process }
+{
+    if u16::from(orphan.process) == process {
+        Role::Orphan
+    } else if orphan.holders.contains(process as u8) {
+        Role::Holder
+    } else {
+        Role::Other
+    }
+}
+
+/// The sign of a role.
+fn push_sign(out: &mut String, x: u64, y: u32, role: Role) -> Result<(), AllocError>
+    ensures { OnOk result (string_bytes out.new ≡ string_bytes out.old ++ roles.sign_text x y role) }
+{
+    match role {
+        Role::Orphan => push_shape(out, x, y, Shape::OpenDiamond),
+        Role::Holder => push_shape(out, x, y, Shape::Diamond),
+        Role::Other => Ok(()),
+    }
+}
+
+/// The name of a process beside a place on its line, with its role.
+#[tactic(auto, unfolding(crate::specs::Roles::name_text))]
+fn push_name(out: &mut String, x: u64, y: u32, process: u16, words: &str) -> Result<(), AllocError>
+    ensures { OnOk result (string_bytes out.new ≡ string_bytes out.old ++ roles.name_text x y process words.now) }
+{
+    write!(
+        out,
+        "<text x='{x}' y='{y}' dx='9' dy='-5' font-size='10' fill='#0072b2'>process {process}{words}</text>\n"
+    )
+}
+
+/// A process at the instant: its sign, and its name.
+#[tactic(auto, unfolding(crate::specs::Roles::process_text))]
+fn push_process(
+    out: &mut String,
+    grid: Grid,
+    x: u64,
+    focus: &Focus<'_>,
+    process: u16,
+) -> Result<(), AllocError>
+    requires { process < 256 }
+    ensures { OnOk result (string_bytes out.new ≡
+        string_bytes out.old ++ roles.process_text grid x focus.now.orphan process) }
+{
+    let y = y_of(grid, process);
+    let role = role_of(focus, process);
+    push_sign(out, x, y, role)?;
+    push_name(out, x, y, process, role.words())
+}
+
+/// All processes at the instant.
+#[tactic(auto, unfolding(crate::specs::Roles::processes_text))]
+pub fn push_processes(
+    out: &mut String,
+    grid: Grid,
+    x: u64,
+    focus: &Focus<'_>,
+) -> Result<(), AllocError>
+    requires { grid.processes < 257 }
+    ensures { OnOk result (string_bytes out.new ≡ string_bytes out.old ++ roles.processes_text grid x focus.now.orphan) }
+{
+    for process in 0..grid.processes {
+        push_process(out, grid, x, focus, process)?;
+    }
+    Ok(())
+}
