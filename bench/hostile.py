@@ -27,6 +27,10 @@ SHAPES = {
     "released": "a determinant is forgotten and listed in turn, while very many deliveries of it and others stand",
     "forgotten": "256 processes; a message goes from each to the next one, and the last entry forgets the first delivery's determinant, "
     "on which the last process depends by a chain over all",
+    "everywhere": "one process crashes and restarts 192 times and replays 160 deliveries, and each time another process comes to depend on "
+    "them and lists all: for as many faults as there are processes all are open to the end",
+    "reaching": "64 processes with 192 crashes and restarts, and one message on its way: each delivery soon reaches all processes, and two "
+    "hold its determinant",
 }
 LINES = {
     "objects": "one line of objects with an empty name",
@@ -207,6 +211,43 @@ def forgotten(part, rng):
     return n, entries
 
 
+def everywhere(part, rng):
+    """Process 1 delivers the messages of 0 in all of its lanes; each lane sends to a process of its own."""
+    lanes, count = max(1, MAX_RESTARTS // part), max(1, 160 // part)
+    dets = [(0, i, 1, i) for i in range(count)]
+    entries = [("send", 0, 1, i) for i in range(count)]
+    for lane in range(lanes + 1):
+        if lane:
+            entries += [("crash", 1), ("restart", 1, [])]
+        entries += [("deliver", 1, i, i, [dets[i]], dets[i]) for i in range(count)]
+        own = (1, 0, lane + 2, 0)
+        entries.append(("send", 1, lane + 2, 0))
+        entries.append(("deliver", lane + 2, len(entries) - 1, 0, [*dets, own], own))
+    return lanes + 3, entries
+
+
+def reaching(part, rng):
+    """One message goes from process to process; each list names the delivery and the one before it. A process restarts with its
+    whole log. A process sends a message of the same number to another one in each of its lanes."""
+    n, limit, restarts = 64, MAX_ENTRIES // part, max(1, MAX_RESTARTS // part)
+    sent, delivered, lanes, logs = [0] * n, [0] * n, [0] * n, [set() for _ in range(n)]
+    entries, carried, at, done = [], [], 0, 0
+    while len(entries) + 4 <= limit:
+        if done < restarts and len(entries) >= (done + 1) * limit // (restarts + 1):
+            p = done % n if done % n != at else (done + 1) % n
+            entries += [("crash", p), ("restart", p, sorted(logs[p]))]
+            sent[p], delivered[p], lanes[p], done = 0, 0, lanes[p] + 1, done + 1
+        to = (at + 1 + sent[at] + 17 * lanes[at]) % n
+        det = (at, sent[at], to, delivered[to])
+        entries.append(("send", at, to, sent[at]))
+        sent[at] += 1
+        entries.append(("deliver", to, len(entries) - 1, delivered[to], sorted({*carried, det}), det))
+        delivered[to] += 1
+        logs[to].update(carried, [det])
+        carried, at = [det], to
+    return n, entries
+
+
 MAKERS = {
     "colliding": lambda part, rng: self_deliveries(part, rng, True),
     "scattered": lambda part, rng: self_deliveries(part, rng, False),
@@ -218,11 +259,13 @@ MAKERS = {
     "shared": shared,
     "released": released,
     "forgotten": forgotten,
+    "everywhere": everywhere,
+    "reaching": reaching,
 }
 
 
 # For so many faults and more an early instant is unsafe: each of these runs logs for fewer.
-EARLY_FROM = {"down": 3, "shared": 2, "forgotten": 2}
+EARLY_FROM = {"down": 3, "shared": 2, "forgotten": 2, "reaching": 2}
 
 
 def answer_of(shape, f, n, entries):

@@ -35,6 +35,7 @@ EARLY = {
     "orphaned": FAULTS,
     "shared": ("2", "8", "n"),
     "forgotten": ("2", "8", "n"),
+    "reaching": ("2", "8", "n"),
 }
 
 
@@ -131,7 +132,7 @@ def plan_of_stable():
 
 def plan_of_hostile():
     """The same of the traces that were made to be slow: those that cost most come first."""
-    order = ["released", "replayed", "colliding", "scattered", "late", "early", "down", "shared", "forgotten", "orphaned"]
+    order = ["released", "replayed", "colliding", "scattered", "late", "early", "down", "shared", "forgotten", "everywhere", "reaching", "orphaned"]
     return [("lists", "safe", "1", 1)] + [(shape, "hostile", f, 1) for f in ("n", "8", "2") for shape in order]
 
 
