@@ -15,6 +15,7 @@ from timed import HERE, INPUTS, LIMIT, Measured, once, target_line
 PROGRAM = os.path.join(HERE, "out", "runtime_bench")
 KINDS = ("ring", "echo", "tally")
 SIZES = (2, 64, 256)
+FAULTS = (0, 1, 2, 8, "n")
 SEATS = (1, 2, 4, 8)
 CALLS = {"refusals": 800_000, "deliveries": 24_000}
 
@@ -93,27 +94,37 @@ def measure_cores(given):
         "A core whose processes send a message for each that they get: round a ring, to and fro between pairs, and between "
         "process 0 and the others. What is on its way is delivered in the order in which it was sent, until the trace is "
         f"full or {given.core_seconds} s have gone by. For *f* = 0 each delivery lists its own determinant alone, so that the "
-        "trace is full of entries. For *f* = 1 lists grow until 1,048,576 determinants are listed. The thousands are those "
-        "deliveries that were made one after the other; *a listed one* is a determinant that a delivery lists.",
-        ["kind", "n", "f", "entries", "listed", "ended", "deliveries/s", "µs each", "ns a listed one", "fastest thousand ms", "slowest ms", "slowest / fastest"],
+        "trace is full of entries. For more faults lists grow until 1,048,576 determinants are listed. The thousands are those "
+        "deliveries that were made one after the other; *a listed one* is a determinant that a delivery lists. *text* is the "
+        "making of the text of the same trace, after the run.",
+        ["kind", "n", "f", "entries", "listed", "ended", "deliveries/s", "µs each", "ns a listed one", "fastest thousand ms", "slowest ms", "slowest / fastest",
+         "text ms", "deliveries / text"],
         3,
         "µs each",
     )
-    for f in (0, 1):
+    for fault in FAULTS:
         for kind in KINDS:
             for n in SIZES:
+                f = n if fault == "n" else fault
+                if fault != "n" and f >= n:
+                    continue
                 told = best(["core", kind, n, f, given.core_seconds], 3, 0.7)
                 if told is None:
                     part.wrong.append(f"core {kind} {n} {f}: no figures")
                     continue
-                entries, deliveries, listed, nanos, fastest, slowest = told
+                entries, deliveries, listed, nanos, fastest, slowest, writing = told
                 ended = "time" if nanos > given.core_seconds * 1e9 else "entries" if entries > MAX_ENTRIES - 9 else "listed"
                 part.row(kind, n, f, f"{entries:,}", f"{listed:,}", ended, f"{deliveries / nanos * 1e9:,.0f}",
                          f"{nanos / deliveries / 1e3:.2f}", f"{nanos / listed:.0f}", f"{fastest / 1e6:.2f}", f"{slowest / 1e6:.2f}",
-                         f"{slowest / fastest:.2f}")
+                         f"{slowest / fastest:.2f}", f"{writing / 1e6:.1f}", f"{nanos / writing:.2f}")
                 if f == 0:
                     name = f"`{kind}` of {n}, f = 0, up to {entries:,} entries: the slowest thousand deliveries / the fastest"
-                    part.targets.append(target_line(name, slowest / fastest, 3.0, ended == "time"))
+                    part.targets.append(target_line(name, slowest / fastest, 2.0, ended == "time"))
+                else:
+                    name = f"`{kind}` of {n}, f = {f}, {listed:,} listed: ns for each listed determinant / 60"
+                    part.targets.append(target_line(name, nanos / listed / 60, 1.0, ended == "time"))
+                    name = f"`{kind}` of {n}, f = {f}, {listed:,} listed: the deliveries / the making of the text"
+                    part.targets.append(target_line(name, nanos / writing, 3.0, ended == "time"))
     return part
 
 

@@ -9,7 +9,7 @@ import argparse
 import sys
 from collections import deque
 
-from generate import MAX_ENTRIES, MAX_RESTARTS
+from generate import MAX_ENTRIES, MAX_LISTED, MAX_RESTARTS
 
 MAX_SCRIPT = 1_048_576
 ROOM = 9  # entries that have to be left for a delivery or a restart
@@ -19,6 +19,25 @@ SCRIPTS = {
     "be too long",
     "echo": "128 pairs that echo each other, up to the limit on entries",
     "tally": "a tally of 256, of which process 0 crashes and replays its 255 deliveries up to the limit on entries",
+    "ring for 2": "the ring for two failures: no list has more than the 255 determinants that there are, and the crashes end where "
+    "so long lists would come near the limit on listed determinants",
+    "ring for 3": "the same for as many failures as there are processes",
+    "tally of 64 for 8": "a tally of 64 for eight failures, in the same way",
+    "tally for 2": "a tally of 256 for two failures, in the same way",
+    "tally for 256": "the same for as many failures as there are processes",
+    "flushes": "128 pairs that echo each other for no failure; then each process flushes what it logs, and forgets it",
+}
+# kind, number of processes, failures, parameter, and who crashes
+RUNS = {
+    "ring": ("ring", 3, 1, 255, 1),
+    "echo": ("echo", 256, 0, 255, None),
+    "tally": ("tally", 256, 1, 0, 0),
+    "ring for 2": ("ring", 3, 2, 255, 1),
+    "ring for 3": ("ring", 3, 3, 255, 1),
+    "tally of 64 for 8": ("tally", 64, 8, 0, 0),
+    "tally for 2": ("tally", 256, 2, 0, 0),
+    "tally for 256": ("tally", 256, 256, 0, 0),
+    "flushes": ("echo", 256, 0, 255, None),
 }
 TEXTS = {
     "long lines": "1,048,576 bytes of deliveries, the last line of which is none of a script",
@@ -33,6 +52,7 @@ class Processes:
         self.kind, self.n, self.param, self.limit = kind, n, param, limit
         self.lines = [f"start {kind} {n} {f}" + ("" if kind == "tally" else f" {param}")]
         self.entries = self.deliveries = self.restarts = 0
+        self.made = self.listed = 0  # determinants in all, and how many are listed at most
         self.sent = [[] for _ in range(n)]
         self.got = [[] for _ in range(n)]
         self.totals = [0] * n
@@ -66,11 +86,17 @@ class Processes:
     def has_room(self):
         return self.entries + ROOM <= self.limit
 
+    def lists(self):
+        """A list has no more than all determinants."""
+        self.listed += self.made
+
     def deliver(self, q, p, number, is_new=True):
         self.lines.append(f"deliver {q} {p} {number}")
         self.got[q].append((p, number))
         self.entries += 1
         self.deliveries += 1
+        self.made += is_new
+        self.lists()
         self.send(q, self.reaction(q, p, self.sent[p][number][1]), is_new)
 
     def deliver_all(self):
@@ -82,6 +108,7 @@ class Processes:
         self.lines += [f"crash {p}", f"restart {p}"]
         self.entries += 2
         self.restarts += 1
+        self.lists()
         before, self.got[p], self.sent[p], self.totals[p] = self.got[p], [], [], 0
         self.send(p, self.beginning(p), False)
         for name in before:
@@ -89,18 +116,30 @@ class Processes:
                 return
             self.deliver(p, *name, False)
 
+    def replays_fit(self, p):
+        """Whether one more replay of p's deliveries, with lists of all determinants, stays within the limit."""
+        return self.listed + (len(self.got[p]) + 1) * self.made <= MAX_LISTED
 
-def f_of(script):
-    """Where a process crashes one may be down. For none, lists stay short, so that the entries are what ends an echo."""
-    return 0 if script == "echo" else 1
+    def flush_and_forget(self, p):
+        """For no failure a process logs what it delivered, and nothing else."""
+        self.lines += [f"flush {p}", f"forget {p}"]
+        self.entries += len(self.got[p]) + (len(self.got[p]) > 0)
 
 
 def run(script, part):
-    n, param, crashing = {"ring": (3, 255, 1), "echo": (256, 255, None), "tally": (256, 0, 0)}[script]
-    run = Processes(script, n, f_of(script), param, MAX_ENTRIES // part)
+    kind, n, f, param, crashing = RUNS[script]
+    flushes = script == "flushes"
+    # a flush takes an entry for each delivery, of which each has a send, and a forgetting one for each process
+    limit = MAX_ENTRIES // part
+    run = Processes(kind, n, f, param, (limit - n) * 2 // 3 if flushes else limit)
     run.deliver_all()
+    if flushes:
+        for p in range(n):
+            run.flush_and_forget(p)
     # the crash takes an entry too
     while crashing is not None and run.restarts < MAX_RESTARTS // part and run.entries + 1 + ROOM <= run.limit:
+        if f > 1 and not run.replays_fit(crashing):
+            break
         run.crash_and_replay(crashing)
     return run
 
@@ -121,7 +160,7 @@ def make(script, part=1):
                       "bytes": len(text), "answer": f"fault line={lines} Script", "status": 2}
     made = run(script, part)
     text = "\n".join(made.lines) + "\n"
-    return text, {"script": script, "processes": made.n, "f": f_of(script), "commands": len(made.lines) - 1, "entries": made.entries,
+    return text, {"script": script, "processes": made.n, "f": RUNS[script][2], "commands": len(made.lines) - 1, "entries": made.entries,
                   "deliveries": made.deliveries, "bytes": len(text), "answer": f'["end",{made.entries}]', "status": 0}
 
 

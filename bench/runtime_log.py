@@ -19,6 +19,8 @@ causal_log: causal_name causal_holders indexmap thiserror
 runtime_log: anyhow causal_name causal_log
 """
 RUNS = 5
+RINGS = ((2, 1), (64, 1), (2, 2), (64, 2), (64, 8))
+KEYS = (1_024, 16_384)
 
 
 def newest(paths):
@@ -74,6 +76,45 @@ def best(runs):
     return {processes: [min(run[processes][i][0] for run in runs) / 1e6 for i in range(len(runs[0][processes]))] for processes in runs[0]}
 
 
+def least(words, place):
+    """The figures of the fastest of the runs, by the time at this place."""
+    runs = [list(map(int, subprocess.run([PROGRAM, *map(str, words)], capture_output=True, text=True, check=True).stdout.split())) for _ in range(RUNS)]
+    return min(runs, key=lambda run: run[place])
+
+
+def lists():
+    """A message round a ring, with lists as long as they get."""
+    lines = [
+        "",
+        "A message round a ring, up to 1,000,000 determinants that deliveries list; the log's part of a delivery alone.",
+        "",
+        "| processes | f | deliveries | listed | ns a listed one |",
+        "|---|---|---|---|---|",
+    ]
+    for processes, faults in RINGS:
+        _, _, deliveries, listed, took = least(("lists", processes, faults), 4)
+        lines.append(f"| {processes} | {faults} | {deliveries:,} | {listed:,} | {took / listed:.0f} |")
+    return lines
+
+
+def keys():
+    """Determinants that were chosen to collide, and the targets."""
+    lines = [
+        "",
+        "Determinants that a log takes in and tells of: *alike* share a group of a hash table whose seed is fixed, *any* are as many "
+        "others.",
+        "",
+        "| determinants | alike ms | any ms |",
+        "|---|---|---|",
+    ]
+    targets = []
+    for count in KEYS:
+        _, alike, others = least(("keys", count), 1)
+        lines.append(f"| {count:,} | {alike / 1e6:.2f} | {others / 1e6:.2f} |")
+        targets.append((f"{count:,} determinants chosen to collide / as many others", alike / others, 1.3))
+    return lines, targets
+
+
 def section():
     """The part of RESULTS.md, and what was answered wrongly."""
     try:
@@ -105,7 +146,11 @@ def section():
             log, index, scan = (times[name][processes][i] for name in ("log", "index", "scan"))
             logged = runs["log"][0][processes][i][1]
             lines.append(f"| {processes} | {i * 1000:,} to {i * 1000 + 1000:,} | {logged:,} | {log:.1f} | {index:.1f} | {scan:.1f} | {log / index:.2f} |")
+    collided, targets = keys()
+    lines += lists() + collided
     lines += ["", "| Target | At most | Measured | Met |", "|---|---|---|---|"]
+    for name, value, bound in targets:
+        lines.append(f"| {name} | {bound:.1f} | {value:.2f} | {'yes' if value <= bound else 'no'} |")
     for processes, each in times["log"].items():
         whole = sum(each) / sum(times["index"][processes])
         first = next(i for i, (_, logged, _) in enumerate(runs["log"][0][processes]) if logged >= 1000) + 1

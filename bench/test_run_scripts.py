@@ -47,6 +47,8 @@ class Run:
         self.fresh = lambda p: Process(kind, self.n, p, int(param[0]) if param else 0)
         self.up = [self.fresh(p) for p in range(self.n)]
         self.past = [[] for _ in range(self.n)]
+        self.stable = [0] * self.n
+        self.kept = [0] * self.n
         self.entries = sum(len(each.sent) for each in self.up)
         self.deliveries = self.restarts = 0
 
@@ -80,6 +82,18 @@ class Run:
         self.entries += 1 + len(self.up[p].sent)
         self.restarts += 1
 
+    def flush(self, p):
+        """What the process delivered and did not flush before: it logs nothing else, where none may fail."""
+        assert self.up[p] is not None and self.f == 0
+        new = len(self.up[p].received) - self.stable[p]
+        self.stable[p] += new
+        self.kept[p] += new
+        self.entries += new
+
+    def forget(self, p):
+        self.entries += self.kept[p] > 0
+        self.kept[p] = 0
+
 
 class Scripts(unittest.TestCase):
     def check(self, script, part):
@@ -104,7 +118,17 @@ class Scripts(unittest.TestCase):
         for script in run_scripts.SCRIPTS:
             with self.subTest(script=script):
                 run = self.check(script, 1)
-                self.assertTrue(run.restarts == generate.MAX_RESTARTS or run.entries + 10 > generate.MAX_ENTRIES)
+                if run_scripts.RUNS[script][2] < 2 and script != "flushes":
+                    self.assertTrue(run.restarts == generate.MAX_RESTARTS or run.entries + 10 > generate.MAX_ENTRIES)
+
+    def test_flushes_come_near_the_limit(self):
+        self.assertGreater(self.check("flushes", 1).entries, generate.MAX_ENTRIES * 9 // 10)
+
+    def test_crashes_for_more_failures(self):
+        for script, (_, _, faults, _, crashing) in run_scripts.RUNS.items():
+            if faults > 1:
+                with self.subTest(script=script):
+                    self.assertEqual(crashing in (0, 1), self.check(script, 1).restarts > 0)
 
     def test_texts_of_full_length(self):
         for script in run_scripts.TEXTS:

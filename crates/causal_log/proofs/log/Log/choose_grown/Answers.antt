@@ -1,4 +1,4 @@
-use Rattle.std.proofs.Common.{◌≡◌, ◌∙◌, ap, sym, subst, true}
+use Rattle.std.proofs.Common.{◌≡◌, ◌∙◌, sym, subst, true}
 use Rattle.causal_name.specs.Names.{is_ascending}
 use Rattle.causal_log.specs.Logs.{log_of, grown, chosen, dets_of}
 use Rattle.causal_log.specs.Inside.Parts.{CarriesAs}
