@@ -171,9 +171,9 @@ fn determinants_run_out(rt: HostRuntime) {
     assert!(rt; listed(rt.alloc()) == Ok(true));
 }
 
-/// Reserves room for two entries and pushes them.
+/// Reserves room for two entries, and for two stable ones, and pushes two.
 fn grow(alloc: Global, trace: &mut Trace) -> Result<(), TraceFault> {
-    if trace.reserve(2).is_err() {
+    if trace.reserve(2).is_err() || trace.reserve_stable(2).is_err() {
         return Err(TraceFault::NoMemory);
     }
     push_all(

@@ -32,7 +32,8 @@ impl<'a> Share<'a> {
     /// memory.
     pub fn judged<G: Gate>(self, part: &mut Part<'a>, worker: u32, gate: &G) -> Option<Breach>
         requires { IsPartOf self part.old }
-        ensures { Tells self.entry.prepared.now self.entry.from self.entry.to result }
+        ensures found { Tells self.entry.prepared.now self.entry.from self.entry.to result }
+        ensures passed { G.passed gate.now worker }
     {
         gate.enter(worker);
         part.least()

@@ -2,5 +2,8 @@ use Rattle.std.proofs.Common.{subst}
 use Rattle.causal_audit.specs.Parts.{LeastOf}
 use Rattle.causal_workers.proofs.share.Share.judged.Goals as goal
 
-pub returns : goal.returns
-returns g c = subst (λ followed. LeastOf followed c.least.result) c.requires c.least.ensures
+pub returns-clause-found : goal.returns-clause-found
+returns-clause-found g c = subst (λ followed. LeastOf followed c.least.result) c.requires c.least.ensures
+
+pub returns-clause-passed : goal.returns-clause-passed
+returns-clause-passed g c = c.enter.ensures
