@@ -1,0 +1,35 @@
+-- Verdicts on one trace for several numbers of faults.
+use Rattle.std.specs.Prelude.{◌≡◌, ℕ, List, [], ◌∷◌, ◌++◌, length, drop, replicate}
+use Rattle.causal_trace.specs.Past.{deliveries_in}
+use Rattle.causal_trace.specs.Rows.{Recording}
+use Rattle.causal_text.specs.Spelling.{Spells}
+use Rattle.causal_text.specs.declared.kind.TextFault.{TextFault}
+use Rattle.causal_audit.specs.Verdicts.{IsVerdict}
+use Rattle.causal_workers.specs.declared.judged.Judged.{Judged}
+use Rattle.nixu.specs.declared.summary.Summary.{Summary}
+use Rattle.nixu.specs.Summaries.{summary_of, TellsFault}
+
+-- the verdict on a recording for f, and how many entries and deliveries it has
+pub record IsJudged (r : Recording) (f : ℕ) (judged : Judged) : Type 0 where
+  pub verdict : IsVerdict r f judged.verdict
+  pub entries : judged.entries ≡ length r.past
+  pub deliveries : judged.deliveries ≡ deliveries_in r.past
+
+-- the struct tells the verdict on the recording for f
+abbrev pub TellsJudged : Recording → ℕ → Summary → Type 0
+TellsJudged r f told = (judged : Judged) × IsJudged r f judged × (told ≡ summary_of judged)
+
+-- each struct tells that for the number of faults that has its place
+abbrev pub TellEach : Recording → List ℕ → List Summary → Type 0
+TellEach r [] [] = Unit {0}
+TellEach r (f ∷ fs) (told ∷ more) = TellsJudged r f told × TellEach r fs more
+TellEach r fs told = ⊥
+
+-- the text spells a trace, the first structs tell the verdicts on it, and those behind them are as they were
+abbrev pub TellsVerdicts : List ℕ → List ℕ → List Summary → List Summary → Type 0
+TellsVerdicts text faults old new =
+    (r : Recording) × Spells text r × ((told : List Summary) × TellEach r faults told × (new ≡ told ++ drop (length faults) old))
+
+-- so many of the first structs tell the first fault of the text, and those behind them are as they were
+abbrev pub TellsFaults : List ℕ → ℕ → List Summary → List Summary → Type 0
+TellsFaults text n old new = (told : Summary) × TellsFault text told × (new ≡ replicate n told ++ drop n old)

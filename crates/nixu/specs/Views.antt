@@ -1,0 +1,31 @@
+-- What the program prints of a text.
+use Rattle.std.specs.Prelude.{◌≡◌, ℕ, List, ◌++◌}
+use Rattle.causal_trace.specs.Rows.{Recording}
+use Rattle.causal_text.specs.declared.kind.TextFault.{TextFault}
+use Rattle.causal_text.specs.FaultLine.{fault_line}
+use Rattle.causal_text.specs.Spelling.{Spells, IsFirstFault}
+use Rattle.causal_report.specs.Drawings.{IsDrawing}
+use Rattle.causal_report.specs.Reasons.{IsReason}
+use Rattle.causal_workers.specs.declared.judged.Judged.{Judged}
+use Rattle.causal_workers.specs.Lines.{verdict_line}
+use Rattle.nixu.specs.Each.{IsJudged}
+use Rattle.nixu.specs.declared.views.View.{View}
+use Rattle.nixu.specs.declared.views.View.TheVariants.{Line, Reason, Picture}
+
+-- what a view shows of a recording that is judged so for f: the line of the verdict, that and below it why it is so, or a picture
+abbrev pub IsShowing : View → Recording → ℕ → Judged → List ℕ → Type 0
+IsShowing Line r f judged bytes = bytes ≡ verdict_line f judged
+IsShowing Reason r f judged bytes = (reason : List ℕ) × IsReason r judged.verdict reason × (bytes ≡ verdict_line f judged ++ reason)
+IsShowing Picture r f judged bytes = IsDrawing r judged.verdict bytes
+
+-- the recording is judged so for f, and the view shows this of it
+abbrev pub IsShownOf : View → Recording → ℕ → List ℕ → Type 0
+IsShownOf view r f bytes = (judged : Judged) × IsJudged r f judged × IsShowing view r f judged bytes
+
+-- the text spells a trace, of which the view shows this for f
+abbrev pub IsShown : View → List ℕ → ℕ → List ℕ → Type 0
+IsShown view text f bytes = (r : Recording) × Spells text r × IsShownOf view r f bytes
+
+-- the text spells no trace, and this is the line of its first fault
+abbrev pub IsFaultLine : List ℕ → List ℕ → Type 0
+IsFaultLine text bytes = (fault : TextFault) × IsFirstFault text fault × (bytes ≡ fault_line fault)

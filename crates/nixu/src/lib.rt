@@ -1,0 +1,23 @@
+//! The auditor of recorded runs, for programs in C and in whatever calls C.
+//!
+//! Each function here that is exported is one of `include/nixu.h`, which has the same promises in C's words. None has state
+//! of its own, prints, aborts, starts a thread or waits, so each may be called in any thread, and in several at once. None
+//! keeps a pointer that it was given. What is allocated is given back before the call returns.
+//!
+//! Begin at [`audit::nixu_audit`].
+#![tactic(auto)]
+
+/// Texts that are judged.
+pub mod audit;
+/// What the numbers of faults say.
+pub mod faults;
+/// From a text to what is judged of its trace.
+mod judged;
+/// What is written into a caller's buffer.
+mod room;
+/// Answers, and the numbers of faults.
+pub mod status;
+/// What is told of a text.
+pub mod summary;
+/// Bytes that the program prints.
+pub mod views;
