@@ -3,7 +3,6 @@ use Rattle.std.specs.Prelude.{◌≡◌, ℕ, List, [], ◌∷◌, ◌++◌, len
 use Rattle.causal_trace.specs.Past.{deliveries_in}
 use Rattle.causal_trace.specs.Rows.{Recording}
 use Rattle.causal_text.specs.Spelling.{Spells}
-use Rattle.causal_text.specs.declared.kind.TextFault.{TextFault}
 use Rattle.causal_audit.specs.Verdicts.{IsVerdict}
 use Rattle.causal_workers.specs.declared.judged.Judged.{Judged}
 use Rattle.nixu.specs.declared.summary.Summary.{Summary}
