@@ -1,0 +1,4 @@
+pub mod Deliveries
+pub mod Inside
+pub mod Sentences
+pub mod Wrongs
