@@ -15,8 +15,8 @@ use Rattle.nixu.specs.declared.views.View.TheVariants.{Line, Reason, Picture}
 -- what a view shows of a recording that is judged so for f: the line of the verdict, that and below it why it is so, or a picture
 abbrev pub IsShowing : View → Recording → ℕ → Judged → List ℕ → Type 0
 IsShowing Line r f judged bytes = bytes ≡ verdict_line f judged
-IsShowing Reason r f judged bytes = (reason : List ℕ) × IsReason r judged.verdict reason × (bytes ≡ verdict_line f judged ++ reason)
-IsShowing Picture r f judged bytes = IsDrawing r judged.verdict bytes
+IsShowing Reason r f judged bytes = (reason : List ℕ) × IsReason r f judged.verdict reason × (bytes ≡ verdict_line f judged ++ reason)
+IsShowing Picture r f judged bytes = IsDrawing r f judged.verdict bytes
 
 -- the recording is judged so for f, and the view shows this of it
 abbrev pub IsShownOf : View → Recording → ℕ → List ℕ → Type 0

@@ -155,7 +155,7 @@ fn showing(
     match view {
         View::Line => verdict_line(alloc, faults, judged),
         View::Reason => reasoned(alloc, trace, faults, judged),
-        View::Picture => drawing_of(alloc, trace, judged.verdict),
+        View::Picture => drawing_of(alloc, trace, faults, judged.verdict),
     }
 }
 
