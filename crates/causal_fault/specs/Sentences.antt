@@ -3,7 +3,7 @@ use Rattle.std.specs.Prelude.{ℕ, ◌+◌, List, ◌++◌, Option, Some, None, 
 use Rattle.causal_name.specs.declared.Det.{Det}
 use Rattle.causal_name.specs.declared.MsgName.{MsgName}
 use Rattle.causal_text.specs.declared.kind.TextFault.{TextFault}
-use Rattle.causal_text.specs.Sentences.{sentence_of}
+use Rattle.causal_text.specs.Sentences.{kind_sentence}
 use Rattle.causal_fault.specs.declared.wrong.Wrong.{Wrong}
 use Rattle.causal_fault.specs.declared.wrong.Wrong.TheVariants as wrong
 
@@ -58,7 +58,7 @@ in_numbers line (wrong.Entries given entries) = wrong_count line given entries
 
 -- `line 4: the text ends without an end line`
 abbrev pub plain : TextFault → List ℕ
-plain fault = begun fault.line (codes ": " ++ sentence_of fault.kind)
+plain fault = begun fault.line (codes ": " ++ kind_sentence fault.kind)
 
 -- the sentence of a fault, where it is known what is wrong with its line or not
 abbrev pub sentence : TextFault → Option Wrong → List ℕ
