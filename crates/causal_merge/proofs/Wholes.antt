@@ -1,0 +1,74 @@
+-- From what is kept of all lines to what is said of the text.
+use Rattle.std.proofs.Common.{◌≡◌, ℕ, ◌+◌, ◌<◌, List, length, reverse, true, false, Option, Some, None, Ok, Err, IfSome, slice_index_or, inl, inr, ap, sym, ◌∙◌, subst, arith}
+use Rattle.std.proofs.lemmas.List.{length-reverse}
+use Rattle.causal_trace.specs.Limits.{IsProcessCount}
+use Rattle.causal_trace.specs.Rows.{Recording}
+use Rattle.causal_text.specs.Lines.{lines}
+use Rattle.causal_merge.specs.declared.event.Run.{Run}
+use Rattle.causal_merge.specs.declared.event.Line.{Line}
+use Rattle.causal_merge.specs.declared.event.Placed.{Placed}
+use Rattle.causal_merge.specs.declared.fault.MergeKind.TheVariants as kind
+use Rattle.causal_merge.specs.declared.fault.MergeFault.{MergeFault}
+use Rattle.causal_merge.specs.declared.gathered.Gathered.{Gathered}
+use Rattle.causal_merge.specs.Said.{IsWhole, LacksHeader}
+use Rattle.causal_merge.specs.Order.{IsMergedOrder}
+use Rattle.causal_merge.specs.Merged.{merged}
+use Rattle.causal_merge.specs.Merging.{Merges, IsFirstFault}
+use Rattle.causal_merge.specs.Inside.Gathering.{Gathers, HasRead}
+use Rattle.causal_merge.proofs.Prefixes.{reading-length}
+
+pub few_of : (g : Gathered) (said : List Line) (run : Run) → Gathers g said → g.run ≡ Some run → IsProcessCount run.processes
+few_of g said run h is = subst (λ (o : Option Run). IfSome o (λ r. IsProcessCount r.processes)) is h.few
+
+pub whole_of : (g : Gathered) (said : List Line) (run : Run) → Gathers g said → g.run ≡ Some run → ((p : ℕ) → p < run.processes → slice_index_or g.headed p false ≡ true) → IsWhole said run
+whole_of g said run h is set =
+    let few = few_of g said run h is in
+    record {
+      first = sym h.run ∙ is;
+      headed = λ p less. (let most = few.1 in sym (h.headed p (omega (arith, less, most))) ∙ set p less);
+    }
+
+pub lacks_one : (g : Gathered) (said : List Line) (run : Run) (p : ℕ) → Gathers g said → g.run ≡ Some run → p < run.processes → slice_index_or g.headed p false ≡ false → LacksHeader said
+lacks_one g said run p h is less unset =
+    let few = few_of g said run h is in
+    let most = few.1 in
+    inr (record { run = run; first = sym h.run ∙ is; process = p; within = less; missing = sym (h.headed p (omega (arith, less, most))) ∙ unset })
+
+pub lacks_all : (g : Gathered) (said : List Line) → Gathers g said → g.run ≡ None → LacksHeader said
+lacks_all g said h is = inl (sym h.run ∙ is)
+
+pub merges : (text : List ℕ) (g : Gathered) (run : Run) (order : List Placed) (r : Recording) → HasRead g (reverse (lines text)) → ((said : List Line) → Gathers g said → IsWhole said run) → IsMergedOrder g.events.items order
+    → r.processes ≡ run.processes → merged run.processes (reverse order) ≡ Ok r.past → Merges text r g.torn.items
+merges text g run order r read whole ordered processes entries = record {
+  said = read.0;
+  says = read.1;
+  run = run;
+  whole = whole read.0 read.2;
+  processes = processes;
+  order = order;
+  ordered = subst (λ (events : List Placed). IsMergedOrder events order) read.2.events ordered;
+  entries = entries;
+  torn_lines = read.2.torn;
+}
+
+missing_at : ℕ → MergeFault
+missing_at n = record { line = n + 1; kind = kind.NoHeader }
+
+pub header_fault : (text : List ℕ) (g : Gathered) (f : MergeFault) → HasRead g (reverse (lines text)) → ((said : List Line) → Gathers g said → LacksHeader said × (f ≡ record { line = length said + 1; kind = kind.NoHeader })) → IsFirstFault text f
+unfolding missing_at
+header_fault text g f read lacks =
+    let h = lacks read.0 read.2 in
+    let count : length read.0 ≡ length (lines text) = reading-length (reverse (lines text)) read.0 read.1 ∙ length-reverse (lines text) in
+    inr (inl (record { said = read.0; says = read.1; lacks = h.0; is = h.1 ∙ ap missing_at count }))
+
+pub event_fault : (text : List ℕ) (g : Gathered) (run : Run) (order : List Placed) (f : MergeFault) → HasRead g (reverse (lines text)) → ((said : List Line) → Gathers g said → IsWhole said run) → IsMergedOrder g.events.items order
+    → merged run.processes (reverse order) ≡ Err f → IsFirstFault text f
+event_fault text g run order f read whole ordered faulty = inr (inr (record {
+  said = read.0;
+  says = read.1;
+  run = run;
+  whole = whole read.0 read.2;
+  order = order;
+  ordered = subst (λ (events : List Placed). IsMergedOrder events order) read.2.events ordered;
+  faulty = faulty;
+}))

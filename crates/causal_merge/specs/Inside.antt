@@ -1,0 +1,4 @@
+-- What private functions keep. No public clause cites these.
+pub mod Gathering
+pub mod Sends
+pub mod Merger

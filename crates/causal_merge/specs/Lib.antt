@@ -1,0 +1,9 @@
+pub mod Shapes
+pub mod Torn
+pub mod Said
+pub mod Reading
+pub mod Order
+pub mod Merged
+pub mod Merging
+pub mod FaultLine
+pub mod Inside

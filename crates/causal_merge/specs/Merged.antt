@@ -1,0 +1,90 @@
+-- The entries that events become, and what stands against an event, in the merged order. Lists have the newest first.
+use Rattle.std.specs.Prelude.{ℕ, ◌==◌, ◌&&◌, not, nat_lt, if◌then◌else◌, Bool, true, false, List, [], ◌∷◌, length, Option, Some, None, option_map, unwrap_or, Result, Ok, Err}
+use Rattle.causal_name.specs.declared.Pid.{Pid}
+use Rattle.causal_name.specs.declared.Det.{Det}
+use Rattle.causal_trace.specs.declared.entry.Entry.{Entry}
+use Rattle.causal_trace.specs.declared.entry.Entry.TheVariants as entry
+use Rattle.causal_trace.specs.Past.{lane}
+use Rattle.causal_trace.specs.Rows.{passes_limit, first_fault}
+use Rattle.causal_text.specs.declared.kind.TextKind.TheVariants.{TooLong, NoProcess}
+use Rattle.causal_text.specs.Reading.{◌>>=◌}
+use Rattle.causal_text.specs.Stages.{kind_of}
+use Rattle.causal_merge.specs.declared.event.Act.{Act}
+use Rattle.causal_merge.specs.declared.event.Act.TheVariants.{Send, Deliver, Stable, Crash, Restart, Forget}
+use Rattle.causal_merge.specs.declared.event.Event.{Event}
+use Rattle.causal_merge.specs.declared.event.Placed.{Placed}
+use Rattle.causal_merge.specs.declared.fault.MergeKind.{MergeKind}
+use Rattle.causal_merge.specs.declared.fault.MergeKind.TheVariants as kind
+use Rattle.causal_merge.specs.declared.fault.MergeFault.{MergeFault}
+use Rattle.causal_merge.specs.declared.sends.SendName.{SendName}
+
+-- whether two names are those of one send
+abbrev pub same_send : SendName → SendName → Bool
+same_send a b = a.source.0 == b.source.0 && (a.lane == b.lane && a.ssn == b.ssn)
+
+-- the position of the send of that source, incarnation and number
+abbrev pub send_position : List Entry → SendName → Option ℕ
+send_position [] name = None
+send_position (entry.Send from to ssn ∷ past) name =
+    if same_send (record { source = from; lane = lane past from.0; ssn = ssn }) name then Some (length past) else send_position past name
+send_position (_ ∷ past) name = send_position past name
+
+-- The entry that an event becomes after this past. A delivery names the position of its send, and its own where there
+-- is none, which is that of no send.
+abbrev pub entry_of : List Entry → Pid → Act → Entry
+entry_of past p (Send to ssn) = entry.Send p to ssn
+entry_of past p (Deliver source lane ssn rsn listed) =
+    entry.Deliver p (unwrap_or (send_position past (record { source = source; lane = lane; ssn = ssn })) (length past)) rsn listed
+entry_of past p (Stable det) = entry.Stable det
+entry_of past p Crash = entry.Crash p
+entry_of past p (Restart listed) = entry.Restart p listed
+entry_of past p (Forget listed) = entry.Forget p listed
+
+-- the determinants that an event lists
+abbrev pub listed_by : Act → List Det
+listed_by (Deliver source lane ssn rsn listed) = listed
+listed_by (Restart listed) = listed
+listed_by (Forget listed) = listed
+listed_by _ = []
+
+-- whether the other process that an act names, if any, is one of n
+abbrev pub has_other : ℕ → Act → Bool
+has_other n (Send to ssn) = nat_lt to.0 n
+has_other n (Deliver source lane ssn rsn listed) = nat_lt source.0 n
+has_other n _ = true
+
+-- whether each process that an event names is one of n
+abbrev pub has_processes : ℕ → Event → Bool
+has_processes n e = nat_lt e.process.0 n && has_other n e.act
+
+-- whether the newest of these events has the clock and the process of the next one
+abbrev pub is_twice : List Placed → Event → Bool
+is_twice [] e = false
+is_twice (last ∷ before) e = last.event.clock == e.clock && last.event.process.0 == e.process.0
+
+-- what stands against the next event after these, before it is an entry, in the order in which it is asked
+abbrev pub early_fault : ℕ → List Placed → List Entry → Event → Option MergeKind
+early_fault n before past e =
+    if is_twice before e then Some kind.Twice else
+    if passes_limit past (length (listed_by e.act)) then Some (kind.Line TooLong) else
+    if not (has_processes n e) then Some (kind.Line NoProcess) else
+    None
+
+-- the first of two kinds that there is
+abbrev pub or_later : Option MergeKind → Option MergeKind → Option MergeKind
+or_later (Some k) later = Some k
+or_later None later = later
+
+-- what stands against the next event: that, or what stands against its entry in a trace
+abbrev pub event_fault : ℕ → List Placed → List Entry → Event → Option MergeKind
+event_fault n before past e = or_later (early_fault n before past e) (option_map (λ f. kind.Line (kind_of f)) (first_fault n past (entry_of past e.process e.act)))
+
+-- one more event becomes its entry, where nothing stands against it
+abbrev pub with_event : List Entry → Placed → Option MergeKind → Result (List Entry) MergeFault
+with_event past e None = Ok (entry_of past e.event.process e.event.act ∷ past)
+with_event past e (Some k) = Err (record { line = e.line; kind = k })
+
+-- the entries of these events in a run of n processes; else the fault of the oldest that has one
+abbrev pub merged : ℕ → List Placed → Result (List Entry) MergeFault
+merged n [] = Ok []
+merged n (e ∷ before) = merged n before >>= λ past. with_event past e (event_fault n before past e.event)

@@ -1,0 +1,52 @@
+-- What the lines of a text say, or the first fault of a line.
+use Rattle.std.specs.Prelude.{ℕ, ◌+◌, ◌==◌, ◌&&◌, nat_lt, if◌then◌else◌, List, [], ◌∷◌, length, sum_by, Option, unwrap_or, Result, Ok, Err, Bool}
+use Rattle.serde_json.specs.Data.{Data}
+use Rattle.causal_text.specs.declared.kind.TextKind.{TextKind}
+use Rattle.causal_text.specs.declared.kind.TextKind.TheVariants.{Big, Header, NoProcess}
+use Rattle.causal_text.specs.Reading.{◌>>=◌}
+use Rattle.causal_text.specs.Stages.{content, json_of}
+use Rattle.causal_merge.specs.declared.event.Run.{Run}
+use Rattle.causal_merge.specs.declared.event.Line.{Line}
+use Rattle.causal_merge.specs.declared.event.Line.TheVariants as says
+use Rattle.causal_merge.specs.declared.fault.MergeKind.TheVariants as kind
+use Rattle.causal_merge.specs.declared.fault.MergeFault.{MergeFault}
+use Rattle.causal_merge.specs.Shapes.{line_of}
+use Rattle.causal_merge.specs.Torn.{is_blank, is_torn}
+use Rattle.causal_merge.specs.Said.{run_in}
+
+-- how many bytes the recordings may have in all
+abbrev pub max_text : ℕ
+max_text = 67108864
+
+-- what bytes say of which this is the JSON value, or which are none
+abbrev pub value_says : List ℕ → Result Data TextKind → Result Line TextKind
+value_says bytes (Ok d) = line_of d
+value_says bytes (Err k) = if is_torn bytes then Ok says.Torn else Err k
+
+-- what the bytes of a line say, its line feed left out
+unfoldable pub bytes_say : List ℕ → Result Line TextKind
+bytes_say bytes = if is_blank bytes then Ok says.Blank else value_says bytes (json_of bytes)
+
+-- whether two headers say the same of their run
+abbrev pub same_run : Run → Run → Bool
+same_run a b = a.processes == b.processes && a.number == b.number
+
+-- a header says of its run what the first one says, and its process is one of the run
+abbrev pub agreed : Option Run → Line → Result Line TextKind
+agreed first (says.Header process run) =
+    if same_run (unwrap_or first run) run then (if nat_lt process.0 run.processes then Ok (says.Header process run) else Err NoProcess) else Err Header
+agreed first said = Ok said
+
+-- what the next line says after a first header, or none, where it goes up to byte number `end` of the text
+abbrev pub next_line : Option Run → ℕ → List ℕ → Result Line TextKind
+next_line first end line = if nat_lt max_text end then Err Big else (bytes_say (content line) >>= agreed first)
+
+-- one more line, where it has no fault
+abbrev pub with_line : List Line → Result Line TextKind → Result (List Line) MergeFault
+with_line said (Ok said_next) = Ok (said_next ∷ said)
+with_line said (Err k) = Err (record { line = length said + 1; kind = kind.Line k })
+
+-- what these lines say, the newest first in both lists; else the fault of the oldest that has one
+abbrev pub reading : List (List ℕ) → Result (List Line) MergeFault
+reading [] = Ok []
+reading (line ∷ before) = reading before >>= λ said. with_line said (next_line (run_in said) (sum_by length (line ∷ before)) line)

@@ -1,0 +1,32 @@
+//! The recordings of the processes of one run, merged into one trace.
+//!
+//! Begin at [`merge_text`]: it reads the lines of all recordings, in any order, and gives the trace that they make, or the
+//! first fault; [`fault_line`] is the line that it prints as.
+#![tactic(auto)]
+
+/// What a line says.
+mod event;
+/// The faults of recordings.
+pub mod fault;
+/// What the lines so far have said.
+mod gathered;
+/// From the bytes of a line to what it says.
+mod line;
+/// From the recordings to the trace.
+pub mod merge;
+/// From events in the merged order to entries.
+mod merger;
+/// The merged order.
+mod order;
+/// The lines of a text.
+mod reading;
+/// How a fault prints.
+pub mod report;
+/// Where each message was sent.
+mod sends;
+/// Lines that say nothing.
+mod torn;
+
+pub use fault::{MergeFault, MergeKind};
+pub use merge::{Merged, merge_text};
+pub use report::fault_line;

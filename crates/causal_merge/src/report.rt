@@ -1,0 +1,29 @@
+//! How a fault prints.
+ghost use Rattle.std.specs.Prelude.{◌≡◌, IfOk};
+ghost use Rattle.causal_merge.specs.FaultLine.{named_line, fault_line};
+
+use crate::fault::{MergeFault, MergeKind};
+use causal_name::NoMemory;
+use causal_text::kind::TextFault;
+use causal_text::report;
+use std::alloc::Global;
+
+fn named_line(alloc: Global, line: u32, name: &str) -> Result<Vec<u8>, NoMemory>
+    ensures { IfOk result (λ text. text.items ≡ named_line line name.now) }
+{
+    let text = format!(in alloc; "fault line={line} {name}\n")?;
+    Ok(text.into_bytes())
+}
+
+/// The line that a fault prints as: `fault line=3 Twice`, with a line feed. `NoMemory` is answered only where a growth
+/// was refused.
+pub fn fault_line(alloc: Global, fault: &MergeFault) -> Result<Vec<u8>, NoMemory>
+    ensures { IfOk result (λ text. text.items ≡ fault_line fault.now) }
+{
+    let line = fault.line;
+    match fault.kind {
+        MergeKind::NoHeader => named_line(alloc, line, "NoHeader"),
+        MergeKind::Twice => named_line(alloc, line, "Twice"),
+        MergeKind::Line(kind) => report::fault_line(alloc, &TextFault { line, kind }),
+    }
+}

@@ -1,0 +1,72 @@
+//! Where each message was sent: found in a sorted index, so that no search passes over the run.
+ghost use Rattle.std.specs.Prelude.{◌≡◌, ◌∷◌, ◌<◌, ◌≤◌, [], List, ℕ, length, OnOk, IfErr};
+ghost use Rattle.causal_trace.specs.declared.entry.Entry.{Entry};
+ghost use Rattle.causal_trace.specs.Limits.{max_entries};
+ghost use Rattle.causal_merge.specs.Merged.{send_position};
+ghost use Rattle.causal_merge.specs.Inside.Sends.{IsOf};
+
+use causal_name::Pid;
+use causal_text::kind::TextKind;
+use causal_trace::entry::Entry;
+use std::alloc::Global;
+use std::collections::BTreeMap;
+
+/// A send: its process, the process's incarnation, and its number there.
+#[derive(Clone, Copy, Debug, PartialEq, Eq, PartialOrd, Ord)]
+pub(crate) struct SendName {
+    pub source: Pid,
+    pub lane: u32,
+    pub ssn: u32,
+}
+
+/// The position of each send, and the present incarnation of each process. A look-up and an entry more take a time that
+/// grows as the logarithm of the number of sends.
+#[derive(Drop)]
+pub(crate) struct Sends {
+    positions: BTreeMap<SendName, u32>,
+    lanes: [u32; 256],
+}
+
+impl Sends {
+    /// Of no entries.
+    pub(crate) fn new(alloc: Global) -> Sends
+        ensures { IsOf result [] }
+    {
+        Sends {
+            positions: BTreeMap::new(alloc),
+            lanes: [0; 256],
+        }
+    }
+
+    /// The position of a send.
+    pub(crate) fn position(&self, name: SendName) -> Option<u32>
+        ensures { (past : List Entry) → IsOf self.now past → result ≡ send_position past name }
+    {
+        self.positions.get(&name).copied()
+    }
+
+    /// Notes the entry that comes next, at this position.
+    pub(crate) fn note(&mut self, entry: &Entry, position: u32) -> Result<(), TextKind>
+        requires { position ≤ max_entries }
+        ensures ok { OnOk result ((past : List Entry) → IsOf self.old past → position ≡ length past
+            → IsOf self.new (entry.now ∷ past)) }
+        ensures err { IfErr result (λ kind. kind ≡ TextKind.NoMemory) }
+    {
+        match entry {
+            Entry::Send { from, ssn, .. } => {
+                let name = SendName {
+                    source: *from,
+                    lane: self.lanes[from.0 as usize],
+                    ssn: *ssn,
+                };
+                self.positions.insert(name, position)?;
+            }
+            Entry::Restart { who, .. } => {
+                let lane = self.lanes[who.0 as usize].saturating_add(1);
+                self.lanes[who.0 as usize] = lane;
+            }
+            _ => {}
+        }
+        Ok(())
+    }
+}
