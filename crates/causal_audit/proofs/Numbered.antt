@@ -100,32 +100,6 @@ numbered_det n (e ∷ past) i k a (inr m) none =
 
 -- the positions, with one more entry
 
-pub positions_none : ArePositions [] []
-positions_none = record { count = refl; each = λ i h. absurd (omega (arith, h)) }
-
-pub positions_more : (e : Entry) (past : List Entry) (ps : List ℕ) → is_delivery e ≡ true → ArePositions past ps → ArePositions (e ∷ past) (ps ++ length past ∷ [])
-positions_more e past ps is p = record {
-  count = omega (arith, p.count, length-append ps (length past ∷ []), one_more e past is);
-  each = λ i h.
-      elim (cases_lt i (length ps)) [
-        | inl low ↦ inl (subst (IsNumbered past i) (sym (get_or-append ps (length past ∷ []) 0 i low)) (p.each i low))
-        | inr high ↦
-            let last : i ≡ length ps = omega (arith, h, high, length-append ps (length past ∷ [])) in
-            inr (ap (slice_index (ps ++ length past ∷ [])) last ∙ get_or-append_seam ps (length past) [] 0, is, last ∙ p.count)
-      ];
-}
-
-pub positions_same : (e : Entry) (past : List Entry) (ps : List ℕ) → is_delivery e ≡ false → ArePositions past ps → ArePositions (e ∷ past) ps
-positions_same e past ps is p = record { count = p.count ∙ sym (no_more e past is); each = λ i h. inl (p.each i h) }
-  where
-    no_more : (e : Entry) (past : List Entry) → is_delivery e ≡ false → deliveries_in (e ∷ past) ≡ deliveries_in past
-    no_more (Send from to ssn) past h = refl
-    no_more (Deliver to send rsn listed) past h = absurd (false≢true (sym h))
-    no_more (Stable det) past h = refl
-    no_more (Crash who) past h = refl
-    no_more (Restart who listed) past h = refl
-    no_more (Forget who listed) past h = refl
-
 -- a delivery has a determinant
 pub numbered_some : (n : ℕ) (past : List Entry) (i k : ℕ) → AreAccepted n past → IsNumbered past i k → (d : Det) × (det_at past k ≡ Some d)
 numbered_some n past i k formed numbered =

@@ -56,18 +56,6 @@ module _ (n : ℕ) (past : List Entry) (formed : AreAccepted n past) (i p l : �
         | inr left ↦ inr (left.0, left.1, left.2, left.3, left.4, omega (arith, left.5, precedes_less n past formed j v direct))
       ]
 
--- what the spreads of a run say
-pub stays_until : (n : ℕ) (past : List Entry) → AreAccepted n past → (events : List Event) → Stands past events → (spreads : List ℕ) → AreSpreads past events spreads → (k : ℕ) → StaysUntil past k (get_or spreads k 0)
-stays_until n past formed events stands spreads are k v p l before of reach =
-    elim (stays_or_left n past formed k p l of v reach) [
-      | inl same ↦ same
-      | inr left ↦
-          let lanes : lane_of events left.0 ≡ lane_of events k = (stands.same_lane left.0 k p p l l left.3 of).1 (refl, refl) in
-          let low : get_or spreads k 0 ≤ left.1 = are.each k left.0 left.1 (event_below past k p l of) left.2 lanes left.4 in
-          let none : ⊥ = omega (arith, before, left.5, low) in
-          absurd none
-    ]
-
 -- ---- the receiver of a delivery is the process of its event
 
 receiver_named : (past : List Entry) (e : Entry) (d : Det) (p : ℕ) → det_of past e ≡ Some d → actor e ≡ Some p → p ≡ d.dest.0

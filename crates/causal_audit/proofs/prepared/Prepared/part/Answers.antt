@@ -26,6 +26,7 @@ invariant_of-result c =
     } in (
       subst (λ (x : Recording). AreWindows x s.f s.end (take many (drop from c.deref.result.now))) same
           (subst (λ list. AreWindows r s.f s.end (take many (drop from list))) (sym c.deref.ensures.value) part),
+      omega arith,
       c.in_ok-room.ensures,
     )
 
