@@ -22,6 +22,11 @@ not_first : (a b c : Bool) → a ≡ false → c ≡ true → (not (a && b) && c
 not_first true b c h k = absurd (false≢true (sym h))
 not_first false b c h k = k
 
+not_second : (a b c : Bool) → b ≡ false → c ≡ true → (not (a && b) && c) ≡ true
+not_second true true c h k = absurd (false≢true (sym h))
+not_second true false c h k = k
+not_second false b c h k = k
+
 apart_and : (a c : Bool) → a ≡ false → c ≡ true → (not a && c) ≡ true
 apart_and true c h k = absurd (false≢true (sym h))
 apart_and false c h k = k

@@ -1,6 +1,6 @@
 -- Which entries of a walk mention the determinants of the deliveries of a group.
-use Rattle.std.proofs.Common.{ℕ, ◌≡◌, ◌+◌, ◌++◌, ◌<◌, ◌≤◌, inl, inr, Bool, true, false, List, [], ◌∷◌, length, min, take, Some, refl, sym, ap, subst, ◌∙◌, arith}
-use Rattle.std.specs.Prelude.{◌↔◌, ◌||◌, ◌==◌, Contains}
+use Rattle.std.proofs.Common.{ℕ, ◌≡◌, ◌+◌, ◌++◌, ◌<◌, ◌≤◌, inl, inr, List, [], ◌∷◌, length, min, take, sym, ap, subst, ◌∙◌, arith}
+use Rattle.std.specs.Prelude.{◌||◌, ◌==◌, Contains}
 use Rattle.std.proofs.Math.ListN.{set}
 use Rattle.std.specs.Ordering.{nat_cmp}
 use Rattle.std.specs.FinSet.{FinSet, contains, empty, insert}
@@ -9,12 +9,8 @@ use Rattle.std.proofs.lemmas.Bool.Decides.{eqb_tells}
 use Rattle.std.proofs.lemmas.List.{get_or-set_same, get_or-set_other, take_min}
 use Rattle.std.proofs.Math.Seq.{take-length}
 use Rattle.std.proofs.lemmas.List.Elements.{Contains-push, Contains-push_cases, Contains-append_left}
-use Rattle.causal_trace.specs.declared.entry.Entry.{Entry}
-use Rattle.causal_trace.specs.Past.{det_at, has}
-use Rattle.causal_audit.specs.Quiet.{mentioned_by}
-use Rattle.causal_audit.specs.Inside.Group.{AreMarked, HaveMarked, IsMarked, IsPut, IsUntouchedBefore}
-use Rattle.causal_audit.specs.Inside.Reaching.{row, window_at}
-use Rattle.causal_audit.specs.declared.scan.Window.{Window}
+use Rattle.causal_audit.specs.Inside.Group.{HaveMarked, IsPut}
+use Rattle.causal_audit.specs.Inside.Reaching.{row}
 use Rattle.causal_audit.proofs.Shown.{inserted}
 
 abbrev Sets : Type 0

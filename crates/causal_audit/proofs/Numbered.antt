@@ -1,9 +1,7 @@
 -- Deliveries by their numbers.
-use Rattle.std.proofs.Common.{ℕ, zero, suc, ◌≡◌, ◌+◌, ◌-◌, drop, ◌<◌, ◌≤◌, inl, inr, true, false, List, [], ◌∷◌, ◌++◌, length, Option, Some, None, refl, sym, ap, subst, ◌∙◌, arith, length-append}
-use Rattle.std.specs.Prelude.{◌==◌, slice_index}
+use Rattle.std.proofs.Common.{ℕ, zero, suc, ◌≡◌, ◌+◌, ◌-◌, drop, ◌<◌, ◌≤◌, inl, inr, true, List, [], ◌∷◌, length, Option, Some, None, refl, sym, ap, subst, ◌∙◌, arith}
+use Rattle.std.specs.Prelude.{◌==◌}
 use Rattle.std.specs.Option.{option_map, option_and_then}
-use Rattle.std.proofs.Math.ListN.{get_or-append}
-use Rattle.std.proofs.Math.Seq.{get_or-append_seam}
 use Rattle.std.proofs.lemmas.Bool.{false≢true, cases_lt, cond-true, cond-false}
 use Rattle.std.proofs.lemmas.Bool.Decides.{eqb_tells}
 use Rattle.causal_name.specs.declared.Pid.{Pid}
@@ -13,7 +11,7 @@ use Rattle.causal_trace.specs.declared.entry.Entry.TheVariants.{Send, Deliver, S
 use Rattle.causal_trace.specs.Past.{instant, entry_at, det_at, det_of, det_from, message_sent, deliveries_in}
 use Rattle.causal_trace.specs.Rows.{AreAccepted}
 use Rattle.causal_trace.proofs.Lemmas.Accepted.{delivers_sent}
-use Rattle.causal_audit.specs.Numbers.{is_delivery, IsNumbered, ArePositions}
+use Rattle.causal_audit.specs.Numbers.{is_delivery, IsNumbered}
 use Rattle.causal_trace.proofs.Lemmas.AtInstants.{instants_stay, one_more_instant}
 use Rattle.causal_audit.proofs.Legal.{sent_is}
 use Rattle.causal_audit.proofs.Lemmas.NumberLemmas.{no_fewer, one_more}

@@ -8,7 +8,7 @@ use Rattle.causal_trace.proofs.Lemmas.Instants.{det_beyond}
 use Rattle.causal_audit.specs.declared.breach.Breach.{Breach}
 use Rattle.causal_audit.specs.Breaches.{IsFirstBreach}
 use Rattle.causal_audit.specs.Verdicts.{IsLeastOrphan}
-use Rattle.causal_trace.proofs.Lemmas.AtInstants.{instant_length, accepted_then}
+use Rattle.causal_trace.proofs.Lemmas.AtInstants.{accepted_then}
 
 -- a delivery that is still to come has no orphan
 pub not_yet : (n f : ℕ) (past : List Entry) (k : ℕ) → length past ≤ k → HasOrphan n f past k → ⊥

@@ -13,7 +13,7 @@ use Rattle.causal_trace.specs.Dependence.{is_delivery_of, Delivers}
 use Rattle.causal_trace.proofs.Lemmas.Accepted.{accepted_forward}
 use Rattle.causal_clock.specs.declared.Event.{Event}
 use Rattle.causal_clock.specs.Timeline.{lane_of}
-use Rattle.causal_audit.specs.Inside.Spreads.{AreSpreads, with_delivered, spread_at}
+use Rattle.causal_audit.specs.Inside.Spreads.{with_delivered, spread_at}
 use Rattle.causal_audit.proofs.Link.{delivers_below}
 
 -- ---- the entry that delivers

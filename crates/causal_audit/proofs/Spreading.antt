@@ -1,5 +1,5 @@
 -- How long a delivery stays with its receiver.
-use Rattle.std.proofs.Common.{ℕ, ◌≡◌, ◌<◌, ◌≤◌, inl, inr, true, false, cond, List, [], ◌∷◌, length, get_or, Option, Some, None, refl, sym, ap, subst, ◌∙◌, arith}
+use Rattle.std.proofs.Common.{ℕ, ◌≡◌, ◌<◌, ◌≤◌, inl, inr, true, false, cond, List, [], ◌∷◌, length, Option, Some, None, refl, sym, ap, subst, ◌∙◌, arith}
 use Rattle.std.specs.Prelude.{◌⊎◌, ◌==◌}
 use Rattle.std.specs.Option.{option_map}
 use Rattle.std.proofs.lemmas.Bool.{cases_lt, false≢true, eqb-true, eq-eqb, or_from}
@@ -12,12 +12,8 @@ use Rattle.causal_trace.specs.Rows.{AreAccepted}
 use Rattle.causal_trace.specs.Dependence.{actor, IsEventOf, Delivers, DirectlyPrecedes, in_order, by_message, Reaches, itself, onward}
 use Rattle.causal_trace.proofs.Lemmas.Accepted.{accepted_forward}
 use Rattle.causal_trace.proofs.Lemmas.Reached.{event_below}
-use Rattle.causal_clock.specs.declared.Event.{Event}
-use Rattle.causal_clock.specs.Timeline.{lane_of}
 use Rattle.causal_audit.specs.Laws.{gone}
-use Rattle.causal_audit.specs.Spread.{StaysUntil, StaysAlone, CoveredHasNone}
-use Rattle.causal_audit.specs.Inside.Spreads.{AreSpreads}
-use Rattle.causal_audit.specs.Inside.Stands.{Stands}
+use Rattle.causal_audit.specs.Spread.{StaysAlone, CoveredHasNone}
 use Rattle.causal_trace.proofs.Lemmas.Happened.{event_once}
 use Rattle.causal_trace.proofs.Lemmas.AtInstants.{instant_length, det_then}
 use Rattle.causal_audit.proofs.Lemmas.Judged.{exposed}

@@ -56,6 +56,10 @@ and_none : (w b : Bool) → b ≡ false → (not w && b) ≡ false
 and_none true b h = refl
 and_none false b h = h
 
+crashed_down : (w b : Bool) → not w ≡ true → b ≡ false → (w || b) ≡ false
+crashed_down true b h k = absurd (false≢true h)
+crashed_down false b h k = k
+
 -- who holds a determinant is up
 pub holder_up : (n : ℕ) (past : List Entry) (d : Det) (p : ℕ) → AreAccepted n past → logs past p d ≡ true → is_down past p ≡ false
 holder_up n [] d p formed h = refl
@@ -84,6 +88,11 @@ crash_held : (w was down held : Bool) → held ≡ (was && not down) → (not w 
 crash_held true true down held h = refl
 crash_held true false down held h = refl
 crash_held false was down held h = h
+
+restart_held : (w listed was down held : Bool) → listed ≡ false → (w ≡ true → was ≡ false) → held ≡ (was && not down) → ((w && listed) || held) ≡ (was && not (not w && down))
+restart_held true listed true down held none out h = absurd (false≢true (sym (out refl)))
+restart_held true listed false down held none out h = ap (λ b. b || held) none ∙ h
+restart_held false listed was down held none out h = h
 
 held_next : (e : Entry) (past : List Entry) (d : Det) (members : FinSet nat_cmp) (p : ℕ) (was : Bool) → has (mentioned_by e) d ≡ false → restarts_one members e ≡ false → (was ≡ true → contains members p ≡ true)
     → logs past p d ≡ (was && not (is_down past p)) → logs (e ∷ past) p d ≡ (was && not (is_down (e ∷ past) p))

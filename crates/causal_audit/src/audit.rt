@@ -69,7 +69,8 @@ pub fn horizon_in(
 {
     let end = deciding_in(trace, excess);
     let first = beginning(trace.entries(), end);
-    match least_by(alloc, trace, f, first)? {
+    let early = least_by(alloc, trace, f, first)?;
+    match early {
         Some(breach) => Ok(breach.instant),
         None => Ok(end),
     }
