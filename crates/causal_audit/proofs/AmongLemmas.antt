@@ -167,16 +167,6 @@ module _ (r : Recording) (f : ℕ) where
   ]
   among_later last end positions (Some b) up later one = (omega (arith, one.0, up), one.1)
 
-  -- one position more
-  pub among_more : (end until : ℕ) (positions : List ℕ) (k : ℕ) (one other : Option Breach) → until ≡ horizon end one → LeastAmongBy r f end positions one → FirstBreachBy r f until k other
-      → LeastAmongBy r f end (positions ++ k ∷ []) (earlier one other)
-  among_more end until positions k one other reach so_far next = among_joined end until positions (k ∷ []) one other reach so_far (among_one until k other next)
-
-  -- and where its delivery has none by then, the least stays
-  pub among_same : (end until : ℕ) (positions : List ℕ) (k : ℕ) (one : Option Breach) → until ≡ horizon end one → LeastAmongBy r f end positions one → FirstBreachBy r f until k None
-      → LeastAmongBy r f end (positions ++ k ∷ []) one
-  among_same end until positions k one reach so_far next = joined_same end until positions (k ∷ []) one reach so_far (among_one until k None next)
-
   -- where a delivery has no orphan from some instant on, its first breach by that instant is its first
   pub first_until : (end until k : ℕ) (found : Option Breach) → HasNoOrphanFrom r f k until end → FirstBreachBy r f (min until end) k found → FirstBreachBy r f end k found
   first_until end until k None later none = λ t low has. elim (cases_lt t until) [

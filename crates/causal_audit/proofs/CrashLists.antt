@@ -1,5 +1,5 @@
 -- The lists of the crashes of each process.
-use Rattle.std.proofs.Common.{ℕ, ◌≡◌, ◌+◌, ◌<◌, inl, inr, List, [], ◌∷◌, length, Option, Some, None, sym, ap, subst, ◌∙◌, arith}
+use Rattle.std.proofs.Common.{ℕ, ◌≡◌, ◌+◌, ◌<◌, inl, inr, List, [], ◌∷◌, length, Some, None, sym, ap, subst, ◌∙◌, arith}
 use Rattle.std.specs.Prelude.{◌⊎◌, ◌==◌, Contains}
 use Rattle.std.specs.List.{All}
 use Rattle.std.proofs.Math.ListN.{get_or-eq_default}
@@ -15,11 +15,6 @@ use Rattle.causal_audit.specs.Inside.Crashes.{AreCrashes}
 use Rattle.causal_audit.specs.Inside.Filed.{Ascends, list_at, with_added}
 use Rattle.causal_audit.specs.Spread.{IsCrashOf}
 use Rattle.causal_audit.proofs.Filings.{added_ascend, added_cases, added_has, added_keeps, ascend_weaker}
-
--- the process that an entry crashes
-abbrev pub crashed_by : Entry → Option Pid
-crashed_by (Crash who) = Some who
-crashed_by _ = None
 
 -- a crash among the earlier entries is one with one more entry
 older_crash : (e : Entry) (past : List Entry) (p v : ℕ) → IsCrashOf past p v → IsCrashOf (e ∷ past) p v

@@ -83,9 +83,6 @@ module _ (n f : ℕ) (past : List Entry) (k : ℕ) (d : Det) (formed : AreAccept
       let parts = not_parts (contains s.dependents p) (contains s.holders p) (sym (contains-difference nat_cmp_total s.dependents s.holders p) ∙ h) in
       ((sight.dependents p).0 parts.0, sym (sight.holders p) ∙ parts.1)
 
-  pub not_stable : s.stable ≡ true → HasOrphan n f past k → ⊥
-  not_stable stable has = false≢true (sym (exposed n f past k d at has).unstable ∙ sym sight.stable ∙ stable)
-
   pub not_many : f < len crash → HasOrphan n f past k → ⊥
   not_many many has = omega (arith, many, crash_counted, (exposed n f past k d at has).few)
 

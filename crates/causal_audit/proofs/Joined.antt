@@ -174,11 +174,3 @@ module _ (r : Recording) (f : ℕ) where
   pub first_whole : (k : ℕ) (found : Option Breach) → FirstBreachBy r f (length r.past) k found → FirstBreach r f k found
   first_whole k None none = none
   first_whole k (Some b) first = first.1
-
-  pub least_whole : (from to : ℕ) (found : Option Breach) → LeastBreachBy r f (length r.past) from to found → LeastBreach r f from to found
-  least_whole from to None none = none
-  least_whole from to (Some b) least = least.1
-
-  pub least_bounded : (from to : ℕ) (found : Option Breach) → LeastBreach r f from to found → LeastBreachBy r f (length r.past) from to found
-  least_bounded from to None none = none
-  least_bounded from to (Some b) least = (least.first.within, least)

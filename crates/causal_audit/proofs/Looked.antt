@@ -23,6 +23,7 @@ use Rattle.causal_audit.specs.Quiet.{mentioned_by}
 use Rattle.causal_audit.proofs.Covering.{gone_many, holds_until, mentioned_next, none_mention, stands_until}
 use Rattle.causal_audit.proofs.Cursors.{cursor_later}
 use Rattle.causal_audit.proofs.Lasting.{none_later, thin_ends}
+use Rattle.causal_audit.proofs.Steps.{entry_then}
 
 module _ (look : Look) (formed : AreAccepted look.run.trace.now.recording.processes look.run.trace.now.recording.past) (stop : Stop) (at : IsStop look stop) (mention change : ℕ) (up : stop.t ≤ change) (low : change ≤ mention) (early : mention ≤ look.end)
     (none : HasNoneUntil look.mentions.now stop.t mention) (unrestarted : RestartsNone look.run.trace.now.recording.past (union stop.cover.down stop.cover.holders) stop.t change) where
@@ -36,7 +37,8 @@ module _ (look : Look) (formed : AreAccepted look.run.trace.now.recording.proces
   within = omega (arith, low, early, look.within)
 
   unmentioned : MentionsNone past look.det stop.t change
-  unmentioned = none_mention past look.det look.mentions.now look.mentioned stop.t change mention low none
+  unmentioned v e above below there =
+      none_mention (instant past look.end) look.det look.mentions.now look.mentioned stop.t change mention low none v e above below (entry_then past look.end v (omega (arith, below, low, early)) look.within ∙ there)
 
   -- the stretch up to the next change is passed
   pub passed_to : (s : Stretch) (next : ℕ) → s.first ≡ stop.t → s.last ≡ change → StandsBy s.standing look.most look.det.dest.0 (union stop.cover.down stop.cover.holders) → change < next → next ≤ look.end + 1
@@ -67,8 +69,8 @@ module _ (look : Look) (formed : AreAccepted look.run.trace.now.recording.proces
 
       told : (mention == change) ≡ has (mentioned_by e) look.det
       told =
-          mentioned_next past look.det look.mentions.now look.mentioned look.only stop.t mention none change up low
-          (λ same. subst (Contains look.mentions.now) same (found (omega (arith, same, below)))) e there
+          mentioned_next (instant past look.end) look.det look.mentions.now look.mentioned look.only stop.t mention none change up low
+          (λ same. subst (Contains look.mentions.now) same (found (omega (arith, same, below)))) e (entry_then past look.end change below look.within ∙ there)
 
       holders_then : Shows cover.holders (λ p. logs (instant past (change + 1)) p look.det)
       holders_then =

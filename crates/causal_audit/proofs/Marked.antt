@@ -1,6 +1,6 @@
 -- Which entries of a walk mention the determinants of the deliveries of a group.
-use Rattle.std.proofs.Common.{ℕ, ◌≡◌, ◌+◌, ◌++◌, ◌<◌, ◌≤◌, inl, inr, Bool, true, false, List, [], ◌∷◌, length, min, take, Some, refl, sym, ap, subst, ◌∙◌, arith}
-use Rattle.std.specs.Prelude.{◌↔◌, ◌||◌, ◌==◌, Contains}
+use Rattle.std.proofs.Common.{ℕ, ◌≡◌, ◌+◌, ◌++◌, ◌<◌, ◌≤◌, inl, inr, List, [], ◌∷◌, length, min, take, sym, ap, subst, ◌∙◌, arith}
+use Rattle.std.specs.Prelude.{◌||◌, ◌==◌, Contains}
 use Rattle.std.proofs.Math.ListN.{set}
 use Rattle.std.specs.Ordering.{nat_cmp}
 use Rattle.std.specs.FinSet.{FinSet, contains, empty, insert}
@@ -9,12 +9,8 @@ use Rattle.std.proofs.lemmas.Bool.Decides.{eqb_tells}
 use Rattle.std.proofs.lemmas.List.{get_or-set_same, get_or-set_other, take_min}
 use Rattle.std.proofs.Math.Seq.{take-length}
 use Rattle.std.proofs.lemmas.List.Elements.{Contains-push, Contains-push_cases, Contains-append_left}
-use Rattle.causal_trace.specs.declared.entry.Entry.{Entry}
-use Rattle.causal_trace.specs.Past.{det_at, has}
-use Rattle.causal_audit.specs.Quiet.{mentioned_by}
-use Rattle.causal_audit.specs.Inside.Group.{AreMarked, HaveMarked, IsMarked, IsPut, IsUntouchedBefore}
-use Rattle.causal_audit.specs.Inside.Reaching.{row, window_at}
-use Rattle.causal_audit.specs.declared.scan.Window.{Window}
+use Rattle.causal_audit.specs.Inside.Group.{HaveMarked, IsPut}
+use Rattle.causal_audit.specs.Inside.Reaching.{row}
 use Rattle.causal_audit.proofs.Shown.{inserted}
 
 abbrev Sets : Type 0
@@ -56,9 +52,6 @@ take_all xs i many =
     let same : min i (length xs) ≡ length xs = omega (arith, many) in
     sym (take_min i xs) ∙ ap (λ n. take n xs) same ∙ take-length xs
 
-pub marked_none : (start place : ℕ) (rows : Sets) → HaveMarked start place [] rows rows
-marked_none start place rows i j low = (λ h. inl h, λ h. elim h [ inl old ↦ old | inr new ↦ absurd (omega (arith, new.1.1)) ])
-
 pub marked_more : (start place position : ℕ) (done : List ℕ) (old mid new : Sets) → length mid ≡ length old → HaveMarked start place done old mid → IsPut start place position mid new → HaveMarked start place (done ++ position ∷ []) old new
 marked_more start place position done old mid new same marked is i j low =
     let before = marked i j low in
@@ -78,32 +71,3 @@ marked_more start place position done old mid new same marked is i j low =
         ]
       ],
     )
-
--- ---- before what position nothing is touched
-
-pub untouched_earlier : (past : List Entry) (a b : ℕ) (window : Window) → b ≤ a → IsUntouchedBefore past a window → IsUntouchedBefore past b window
-untouched_earlier past a b window low is = record {
-  made = omega (arith, low, is.made);
-  unmentioned = λ d at v e from below. is.unmentioned d at v e from (omega (arith, below, low));
-}
-
--- ---- one place more
-
-pub same_truth : (a b : Bool) → (a ≡ true) ↔ (b ≡ true) → a ≡ b
-same_truth true b same = sym (same.0 refl)
-same_truth false true same = same.1 refl
-same_truth false false same = refl
-
-pub marked_next : (past : List Entry) (start : ℕ) (windows : List Window) (place : ℕ) (old new : Sets) → length new ≡ length old
-    → ((i j : ℕ) → i < length old → (j ≡ place → ⊥) → (contains (row new i) j ≡ true) ↔ (contains (row old i) j ≡ true))
-    → IsMarked past start place (window_at windows place) new → AreMarked past start windows place old → AreMarked past start windows (place + 1) new
-marked_next past start windows place old new same others here before j low i d e inside at there =
-    elim (eqb_tells j place) [
-      | inl is ↦
-          subst (λ x. det_at past (window_at windows x).position ≡ Some d → contains (row new i) x ≡ has (mentioned_by e) d) (sym is.1)
-          (λ made. here i d e inside made there) at
-      | inr apart ↦
-          let within : i < length old = omega (arith, inside, same) in
-          let ne : j ≡ place → ⊥ = apart.1 in
-          same_truth (contains (row new i) j) (contains (row old i) j) (others i j within ne) ∙ before j (omega (arith, low, ne)) i d e within at there
-    ]

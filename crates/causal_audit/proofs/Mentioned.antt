@@ -195,19 +195,6 @@ mentions_done e past numbers lists are = record {
   ];
 }
 
-pub mentions_none : AreMentions [] [] []
-mentions_none = record {
-  ascend = λ k d low. absurd (omega (arith, low));
-  mentioned = λ d v e at. absurd (let x : None ≡ Some e = at in cc);
-  only = λ d v listed. absurd (nothing v listed);
-}
-  where
-    empty : List ℕ
-    empty = []
-
-    nothing : (v : ℕ) → Contains empty v → ⊥
-    nothing v listed = omega (arith, listed.1)
-
 pub mentions_ascend : (past : List Entry) (numbers : Numbers) (lists : List (List ℕ)) → AreMentions past numbers lists → (d : Det) → IsNonDecreasing (mentions_of numbers lists d)
 mentions_ascend past numbers lists are d = list_of (number_of numbers d)
   where

@@ -1,9 +1,7 @@
 -- Deliveries by their numbers.
-use Rattle.std.proofs.Common.{ℕ, zero, suc, ◌≡◌, ◌+◌, ◌-◌, drop, ◌<◌, ◌≤◌, inl, inr, true, false, List, [], ◌∷◌, ◌++◌, length, Option, Some, None, refl, sym, ap, subst, ◌∙◌, arith, length-append}
-use Rattle.std.specs.Prelude.{◌==◌, slice_index}
+use Rattle.std.proofs.Common.{ℕ, zero, suc, ◌≡◌, ◌+◌, ◌-◌, drop, ◌<◌, ◌≤◌, inl, inr, true, List, [], ◌∷◌, length, Option, Some, None, refl, sym, ap, subst, ◌∙◌, arith}
+use Rattle.std.specs.Prelude.{◌==◌}
 use Rattle.std.specs.Option.{option_map, option_and_then}
-use Rattle.std.proofs.Math.ListN.{get_or-append}
-use Rattle.std.proofs.Math.Seq.{get_or-append_seam}
 use Rattle.std.proofs.lemmas.Bool.{false≢true, cases_lt, cond-true, cond-false}
 use Rattle.std.proofs.lemmas.Bool.Decides.{eqb_tells}
 use Rattle.causal_name.specs.declared.Pid.{Pid}
@@ -13,7 +11,7 @@ use Rattle.causal_trace.specs.declared.entry.Entry.TheVariants.{Send, Deliver, S
 use Rattle.causal_trace.specs.Past.{instant, entry_at, det_at, det_of, det_from, message_sent, deliveries_in}
 use Rattle.causal_trace.specs.Rows.{AreAccepted}
 use Rattle.causal_trace.proofs.Lemmas.Accepted.{delivers_sent}
-use Rattle.causal_audit.specs.Numbers.{is_delivery, IsNumbered, ArePositions}
+use Rattle.causal_audit.specs.Numbers.{is_delivery, IsNumbered}
 use Rattle.causal_trace.proofs.Lemmas.AtInstants.{instants_stay, one_more_instant}
 use Rattle.causal_audit.proofs.Legal.{sent_is}
 use Rattle.causal_audit.proofs.Lemmas.NumberLemmas.{no_fewer, one_more}
@@ -99,32 +97,6 @@ numbered_det n (e ∷ past) i k a (inr m) none =
     some (Forget who listed) past a h none = false≢true h
 
 -- the positions, with one more entry
-
-pub positions_none : ArePositions [] []
-positions_none = record { count = refl; each = λ i h. absurd (omega (arith, h)) }
-
-pub positions_more : (e : Entry) (past : List Entry) (ps : List ℕ) → is_delivery e ≡ true → ArePositions past ps → ArePositions (e ∷ past) (ps ++ length past ∷ [])
-positions_more e past ps is p = record {
-  count = omega (arith, p.count, length-append ps (length past ∷ []), one_more e past is);
-  each = λ i h.
-      elim (cases_lt i (length ps)) [
-        | inl low ↦ inl (subst (IsNumbered past i) (sym (get_or-append ps (length past ∷ []) 0 i low)) (p.each i low))
-        | inr high ↦
-            let last : i ≡ length ps = omega (arith, h, high, length-append ps (length past ∷ [])) in
-            inr (ap (slice_index (ps ++ length past ∷ [])) last ∙ get_or-append_seam ps (length past) [] 0, is, last ∙ p.count)
-      ];
-}
-
-pub positions_same : (e : Entry) (past : List Entry) (ps : List ℕ) → is_delivery e ≡ false → ArePositions past ps → ArePositions (e ∷ past) ps
-positions_same e past ps is p = record { count = p.count ∙ sym (no_more e past is); each = λ i h. inl (p.each i h) }
-  where
-    no_more : (e : Entry) (past : List Entry) → is_delivery e ≡ false → deliveries_in (e ∷ past) ≡ deliveries_in past
-    no_more (Send from to ssn) past h = refl
-    no_more (Deliver to send rsn listed) past h = absurd (false≢true (sym h))
-    no_more (Stable det) past h = refl
-    no_more (Crash who) past h = refl
-    no_more (Restart who listed) past h = refl
-    no_more (Forget who listed) past h = refl
 
 -- a delivery has a determinant
 pub numbered_some : (n : ℕ) (past : List Entry) (i k : ℕ) → AreAccepted n past → IsNumbered past i k → (d : Det) × (det_at past k ≡ Some d)

@@ -8,7 +8,7 @@ use Rattle.causal_trace.proofs.Lemmas.Instants.{det_beyond}
 use Rattle.causal_audit.specs.declared.breach.Breach.{Breach}
 use Rattle.causal_audit.specs.Breaches.{IsFirstBreach}
 use Rattle.causal_audit.specs.Verdicts.{IsLeastOrphan}
-use Rattle.causal_trace.proofs.Lemmas.AtInstants.{instant_length, accepted_then}
+use Rattle.causal_trace.proofs.Lemmas.AtInstants.{accepted_then}
 
 -- a delivery that is still to come has no orphan
 pub not_yet : (n f : ℕ) (past : List Entry) (k : ℕ) → length past ≤ k → HasOrphan n f past k → ⊥
@@ -17,12 +17,6 @@ not_yet n f past k above has = let e : None ≡ Some has.is_orphan.det = sym (de
 module _ (r : Recording) (formed : IsWellFormed r) (t : ℕ) (x : Entry) (below : t < length r.past) (next : instant r.past (t + 1) ≡ x ∷ instant r.past t) where
   pub accepted_next : AreAccepted r.processes (x ∷ instant r.past t)
   accepted_next = subst (AreAccepted r.processes) next (accepted_then r.processes r.past (t + 1) formed.accepted)
-
-  length_here : length (instant r.past t) ≡ t
-  length_here = instant_length r.past t (omega (arith, below))
-
-  pub length_next : length (x ∷ instant r.past t) ≡ t + 1
-  length_next = omega (arith, length_here)
 
 pub first_breach_is : (r : Recording) (f k t : ℕ) (b : Breach) → t < length r.past → ((u : ℕ) → u ≤ t → HasOrphan r.processes f (instant r.past u) k → ⊥) → b.instant ≡ t + 1 → b.delivery ≡ k
     → IsLeastOrphan r.processes f (instant r.past (t + 1)) k b.crash b.orphan → IsFirstBreach r f k b

@@ -13,7 +13,7 @@ use Rattle.causal_trace.specs.Dependence.{is_delivery_of, Delivers}
 use Rattle.causal_trace.proofs.Lemmas.Accepted.{accepted_forward}
 use Rattle.causal_clock.specs.declared.Event.{Event}
 use Rattle.causal_clock.specs.Timeline.{lane_of}
-use Rattle.causal_audit.specs.Inside.Spreads.{AreSpreads, with_delivered, spread_at}
+use Rattle.causal_audit.specs.Inside.Spreads.{with_delivered, spread_at}
 use Rattle.causal_audit.proofs.Link.{delivers_below}
 
 -- ---- the entry that delivers
@@ -160,9 +160,3 @@ module _ (n : ℕ) (past : List Entry) (formed : AreAccepted n past) (events : L
                 omega (arith, get_or-set_other noted i k first 0 other.1, low)
           ];
     }
-
-  pub spreads_done : (spreads outs : List ℕ) → AreSpreadsFrom past events 0 spreads outs → AreSpreads past events spreads
-  spreads_done spreads outs are = record {
-    count = are.count;
-    each = λ k s j inside onward lanes delivers. are.each k s j (omega arith) inside onward lanes delivers;
-  }

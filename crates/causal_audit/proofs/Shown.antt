@@ -36,10 +36,6 @@ and_true : (a b : Bool) → b ≡ true → a ≡ (a && b)
 and_true true b h = sym h
 and_true false b h = refl
 
-and_false : (a b : Bool) → b ≡ false → false ≡ (a && b)
-and_false true b h = sym h
-and_false false b h = refl
-
 not_and_true : (a b : Bool) → b ≡ true → not a ≡ not (a && b)
 not_and_true a b h = ap not (and_true a b h)
 
@@ -55,14 +51,8 @@ module _ (s : FinSet nat_cmp) (test : ℕ → Bool) (shown : Shows s test) (p : 
     pub shows_listed : more ≡ true → Shows (insert s p) (λ q. ((p == q) && more) || test q)
     shows_listed is q = shows_with q ∙ ap (λ b. b || test q) (and_true (p == q) more is)
 
-    pub shows_unlisted : more ≡ false → Shows s (λ q. ((p == q) && more) || test q)
-    shows_unlisted is q = shown q ∙ ap (λ b. b || test q) (and_false (p == q) more is)
-
     pub shows_forgotten : more ≡ true → Shows (remove s p) (λ q. not ((p == q) && more) && test q)
     shows_forgotten is q = shows_without q ∙ ap (λ b. b && test q) (not_and_true (p == q) more is)
-
-    pub shows_unforgotten : more ≡ false → Shows s (λ q. not ((p == q) && more) && test q)
-    shows_unforgotten is q = shown q ∙ ap (λ b. not b && test q) (and_false (p == q) more is)
 
 pub shows_none : (test : ℕ → Bool) → ((p : ℕ) → test p ≡ false) → Shows empty test
 shows_none test none p = contains-empty nat_cmp p ∙ sym (none p)

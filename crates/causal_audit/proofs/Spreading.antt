@@ -1,5 +1,5 @@
 -- How long a delivery stays with its receiver.
-use Rattle.std.proofs.Common.{ℕ, ◌≡◌, ◌<◌, ◌≤◌, inl, inr, true, false, cond, List, [], ◌∷◌, length, get_or, Option, Some, None, refl, sym, ap, subst, ◌∙◌, arith}
+use Rattle.std.proofs.Common.{ℕ, ◌≡◌, ◌<◌, ◌≤◌, inl, inr, true, false, cond, List, [], ◌∷◌, length, Option, Some, None, refl, sym, ap, subst, ◌∙◌, arith}
 use Rattle.std.specs.Prelude.{◌⊎◌, ◌==◌}
 use Rattle.std.specs.Option.{option_map}
 use Rattle.std.proofs.lemmas.Bool.{cases_lt, false≢true, eqb-true, eq-eqb, or_from}
@@ -12,12 +12,8 @@ use Rattle.causal_trace.specs.Rows.{AreAccepted}
 use Rattle.causal_trace.specs.Dependence.{actor, IsEventOf, Delivers, DirectlyPrecedes, in_order, by_message, Reaches, itself, onward}
 use Rattle.causal_trace.proofs.Lemmas.Accepted.{accepted_forward}
 use Rattle.causal_trace.proofs.Lemmas.Reached.{event_below}
-use Rattle.causal_clock.specs.declared.Event.{Event}
-use Rattle.causal_clock.specs.Timeline.{lane_of}
 use Rattle.causal_audit.specs.Laws.{gone}
-use Rattle.causal_audit.specs.Spread.{StaysUntil, StaysAlone, CoveredHasNone}
-use Rattle.causal_audit.specs.Inside.Spreads.{AreSpreads}
-use Rattle.causal_audit.specs.Inside.Stands.{Stands}
+use Rattle.causal_audit.specs.Spread.{StaysAlone, CoveredHasNone}
 use Rattle.causal_trace.proofs.Lemmas.Happened.{event_once}
 use Rattle.causal_trace.proofs.Lemmas.AtInstants.{instant_length, det_then}
 use Rattle.causal_audit.proofs.Lemmas.Judged.{exposed}
@@ -55,18 +51,6 @@ module _ (n : ℕ) (past : List Entry) (formed : AreAccepted n past) (i p l : �
         | inl here ↦ next_stays j v (reach_later n past formed i j r) here direct
         | inr left ↦ inr (left.0, left.1, left.2, left.3, left.4, omega (arith, left.5, precedes_less n past formed j v direct))
       ]
-
--- what the spreads of a run say
-pub stays_until : (n : ℕ) (past : List Entry) → AreAccepted n past → (events : List Event) → Stands past events → (spreads : List ℕ) → AreSpreads past events spreads → (k : ℕ) → StaysUntil past k (get_or spreads k 0)
-stays_until n past formed events stands spreads are k v p l before of reach =
-    elim (stays_or_left n past formed k p l of v reach) [
-      | inl same ↦ same
-      | inr left ↦
-          let lanes : lane_of events left.0 ≡ lane_of events k = (stands.same_lane left.0 k p p l l left.3 of).1 (refl, refl) in
-          let low : get_or spreads k 0 ≤ left.1 = are.each k left.0 left.1 (event_below past k p l of) left.2 lanes left.4 in
-          let none : ⊥ = omega (arith, before, left.5, low) in
-          absurd none
-    ]
 
 -- ---- the receiver of a delivery is the process of its event
 

@@ -1,9 +1,10 @@
 -- From one instant of a recorded run to the next, by the entry read there.
-use Rattle.std.proofs.Common.{ℕ, ◌≡◌, ◌+◌, ◌<◌, ◌≤◌, inl, inr, List, [], ◌∷◌, length, get_or, Some, sym, ap, subst, ◌∙◌, arith}
+use Rattle.std.specs.Prelude.{◌==◌}
+use Rattle.std.proofs.Common.{ℕ, ◌≡◌, ◌+◌, ◌<◌, ◌≤◌, inl, inr, List, [], ◌∷◌, length, get_or, reverse, take, Some, sym, ap, subst, ◌∙◌, arith}
 use Rattle.std.specs.Ordering.{nat_cmp}
 use Rattle.std.specs.FinSet.{FinSet, empty, len}
-use Rattle.std.proofs.lemmas.Bool.{cases_lt}
-use Rattle.std.proofs.lemmas.List.{length-reverse}
+use Rattle.std.proofs.lemmas.Bool.{cases_lt, cond-false, ne_eqb}
+use Rattle.std.proofs.lemmas.List.{length-reverse, take_all}
 use Rattle.causal_name.specs.Sets.{count_below}
 use Rattle.causal_trace.specs.declared.entry.Entry.{Entry}
 use Rattle.causal_trace.specs.Past.{instant, entry_at, is_down}
@@ -13,7 +14,7 @@ use Rattle.causal_trace.proofs.Lemmas.Instants.{past_more}
 use Rattle.causal_audit.specs.Inside.Sights.{Shows}
 use Rattle.causal_holders.proofs.Lemmas.Counting.{count_below-none}
 use Rattle.causal_audit.proofs.Between.{next_entry}
-use Rattle.causal_trace.proofs.Lemmas.AtInstants.{read_instant, accepted_then}
+use Rattle.causal_trace.proofs.Lemmas.AtInstants.{read_instant, accepted_then, instants_stay, one_more_instant}
 use Rattle.causal_audit.proofs.Shown.{shows_none, down_members, counted}
 
 module _ (r : Recording) (es : List Entry) (read : es ≡ entries_of r) where
@@ -57,3 +58,18 @@ entry_read r es read i e below is =
     let same : found.0 ∷ instant r.past i ≡ e ∷ instant r.past i = sym found.2 ∙ next_state r es read i e below is in
     let one : found.0 ≡ e = cc same in
     found.1 ∙ ap (λ x. Some x) one
+
+-- an entry before an instant is the same at each later one
+pub entry_then : (past : List Entry) (t v : ℕ) → v < t → t ≤ length past → entry_at (instant past t) v ≡ entry_at past v
+entry_then [] t v below within = absurd (omega (arith, below, within))
+entry_then (e ∷ past) t v below within =
+    elim (cases_lt (length past) t) [
+      | inl h ↦ let is : t ≡ length past + 1 = omega (arith, h, within) in ap (λ u. entry_at (instant (e ∷ past) u) v) is ∙ ap (λ x. entry_at x v) (one_more_instant e past)
+      | inr h ↦
+          ap (λ x. entry_at x v) (instants_stay e past t h) ∙ entry_then past t v below h
+          ∙ sym (cond-false (v == length past) (Some e) (entry_at past v) (ne_eqb v (length past) (λ is. omega (arith, below, h, is))))
+    ]
+
+-- the first entries make an instant
+pub begins : (r : Recording) (es : List Entry) → es ≡ entries_of r → (t : ℕ) → t ≤ length r.past → past_at (take t es) (length (take t es)) ≡ instant r.past t
+begins r es read t within = ap reverse (take_all (length (take t es)) (take t es) (omega arith)) ∙ state_at r es read t within

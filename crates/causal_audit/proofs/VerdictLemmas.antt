@@ -1,5 +1,5 @@
 -- The verdict, from the first excess and the least breach.
-use Rattle.std.proofs.Common.{ℕ, ◌+◌, ◌<◌, ◌≤◌, length, None, refl, arith}
+use Rattle.std.proofs.Common.{ℕ, ◌+◌, ◌<◌, ◌≤◌, length, Option, Some, None, refl, arith}
 use Rattle.causal_name.specs.Sets.{count_below}
 use Rattle.causal_trace.specs.Past.{instant, is_down, deliveries_in}
 use Rattle.causal_trace.specs.Rows.{Recording}
@@ -28,7 +28,7 @@ module _ (r : Recording) (f : ℕ) where
       let now : IsNumbered r.past then.0 k = numbered_later r.past t then.0 k within then.2 in
       (then.0, numbered_below r.past then.0 k now, now)
 
-  pub no_orphan_ever : LeastBreach r f 0 (deliveries_in r.past) None → (t : ℕ) → NoOrphanBefore t
+  no_orphan_ever : LeastBreach r f 0 (deliveries_in r.past) None → (t : ℕ) → NoOrphanBefore t
   no_orphan_ever none t u early within k has =
       let n = number_of u k within has in
       none n.0 k u (omega arith) n.1 n.2 within has
@@ -84,3 +84,11 @@ module _ (r : Recording) (f : ℕ) where
           least = here;
         },
       )
+
+  -- the least breach by its own instant is that by any later one
+  pub least_later : (end : ℕ) (b : Breach) (found : Option Breach) → b.instant ≤ end → IsLeastBreach r f 0 (deliveries_in r.past) b → LeastBreachBy r f b.instant 0 (deliveries_in r.past) found
+      → LeastBreachBy r f end 0 (deliveries_in r.past) found
+  least_later end b None low least none =
+      let here = least.first.least in
+      absurd (none least.number b.delivery b.instant least.least_from least.below_to least.numbered (omega arith) (record { crash = _; orphan = b.orphan; may_crash = here.may_crash; is_orphan = here.is_orphan }))
+  least_later end b (Some x) low least one = (omega (arith, one.0, low), one.1)

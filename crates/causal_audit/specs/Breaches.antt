@@ -63,6 +63,12 @@ LeastBreachBy r f end from to found = MatchOption found
     ((i k t : ℕ) → from ≤ i → i < to → IsNumbered r.past i k → t ≤ end → HasOrphan r.processes f (instant r.past t) k → ⊥)
     (λ b. (b.instant ≤ end) × IsLeastBreach r f from to b)
 
+-- the least breach by the instant `end` is that which decides, in a run with this first excess
+abbrev pub IsHorizon : Recording → ℕ → Option Excess → ℕ → Type 0
+IsHorizon r f excess end =
+    (found : Option Breach) → LeastBreachBy r f end 0 (deliveries_in r.past) found
+    → LeastBreachBy r f (deciding (length r.past) excess) 0 (deliveries_in r.past) found
+
 -- the verdict is that of every run whose first excess is this one, and whose least breach is the other, as far as the last
 -- instant that can decide
 abbrev pub Decides : Option Excess → Option Breach → Verdict → Type 0

@@ -4,7 +4,7 @@ ghost use Rattle.std.specs.Prelude.{◌≡◌, ◌≤◌, ◌<◌, ◌∷◌, tr
 ghost use Rattle.std.specs.List.Sorted.{IsNonDecreasing};
 ghost use Rattle.causal_trace.specs.declared.entry.Entry.{Entry};
 ghost use Rattle.causal_trace.specs.Limits.{max_entries};
-ghost use Rattle.causal_trace.specs.Past.{is_stable};
+ghost use Rattle.causal_trace.specs.Past.{instant, is_stable};
 ghost use Rattle.causal_trace.specs.Rows.{IsWellFormed};
 ghost use Rattle.causal_audit.specs.Inside.Ahead.{HasNoneUntil};
 ghost use Rattle.causal_audit.specs.Inside.Changes.{AreMentionsOf, HasMentions};
@@ -19,7 +19,7 @@ use causal_holders::Holders;
 use causal_name::Det;
 use causal_trace::entry::Entry;
 
-/// What is looked at: a determinant with its mentions, up to the instant `end` of the run. It is thin where it is not
+/// What is looked at: a determinant with its mentions before the instant `end` of the run, up to that. It is thin where it is not
 /// stable and at most `most` processes are down or hold it.
 #[derive(Clone, Copy)]
 pub struct Look<'a> {
@@ -30,8 +30,8 @@ pub struct Look<'a> {
     pub end: u32,
     ghost within: { end ≤ length run.trace.now.recording.past },
     ghost ascending: { IsNonDecreasing mentions.now },
-    ghost mentioned: { HasMentions run.trace.now.recording.past det mentions.now },
-    ghost only: { AreMentionsOf run.trace.now.recording.past det mentions.now } by { AreMentionsOf-prop _ _ _ },
+    ghost mentioned: { HasMentions (instant run.trace.now.recording.past end) det mentions.now },
+    ghost only: { AreMentionsOf (instant run.trace.now.recording.past end) det mentions.now } by { AreMentionsOf-prop _ _ _ },
 }
 
 /// The instant that a look has come to, with who is down and holds the determinant then, and how it stands by that; past the end

@@ -1,5 +1,6 @@
 //! One look at each determinant that is mentioned.
 ghost use Rattle.std.specs.Prelude.{◌≡◌, ◌≤◌, IfOk, IfSome, length};
+ghost use Rattle.causal_trace.specs.Past.{instant};
 ghost use Rattle.causal_audit.specs.Inside.Kept.{AreMentionsKept};
 
 use crate::look::Look;
@@ -40,7 +41,7 @@ impl<'a> Looks<'a> {
         end: u32,
     ) -> Result<Looks<'a>, NoMemory>
         requires within { end ≤ length run.now.trace.now.recording.past }
-        requires mentioned { AreMentionsKept run.now.trace.now.recording.past mentions.now }
+        requires mentioned { AreMentionsKept (instant run.now.trace.now.recording.past end) mentions.now }
         ensures { IfOk result (AreAllLooks run.now.trace.now.recording most end) }
     {
         let mut found = Vec::with_capacity(alloc, mentions.lists.len())?;

@@ -3,7 +3,7 @@ ghost use Rattle.std.specs.Prelude.{◌≡◌, ◌≤◌, IfOk, length};
 ghost use Rattle.causal_audit.specs.Parts.{AreEnough, LeastOf, part_of};
 
 use crate::breach::Breach;
-use crate::group::ordered::put_side_by_side;
+use crate::group::ordered::put_in_order;
 use crate::group::room::Room;
 use crate::mentions::{Mentions, mentions_in};
 use crate::outline::Outline;
@@ -45,8 +45,9 @@ impl Prepared {
     /// Prepares a trace for f up to the instant `end`, which is at most its length. One look at each determinant tells which
     /// deliveries need not be followed: the least breach of the others is that of the run.
     ///
-    /// It takes time and memory as the entries and the determinants that they list, and for each delivery the logarithm of
-    /// what a look found. A look passes the mentions of its determinant, and the restarts of processes that were down or held it.
+    /// It takes time and memory as the entries, and as the determinants that those before the end list, and for each delivery the
+    /// logarithm of what a look found. A look passes the mentions of its determinant, and the restarts of processes that were down or
+    /// held it.
     ///
     /// # Errors
     /// `NoMemory` where memory was refused.
@@ -59,14 +60,14 @@ impl Prepared {
         let entries = trace.entries();
         let lasting_from = lasting_from(entries);
         let turns = Turns::of(alloc, entries)?;
-        let mentions = mentions_in(alloc, entries)?;
+        let mentions = mentions_in(alloc, &entries[..end as usize])?;
         let outline = Outline {
             trace,
             lasting_from,
             turns: &turns,
         };
         let mut windows = windows_of(alloc, outline, &mentions, f, end)?;
-        put_side_by_side(trace, &mentions, &mut windows)?;
+        put_in_order(trace, &mentions, &mut windows)?;
         Ok(Prepared {
             run,
             lasting_from,
@@ -109,6 +110,7 @@ impl Prepared {
         let scan = Scan {
             outline,
             mentions: &self.mentions,
+            end: self.end,
         };
         Ok(Part {
             scan,
@@ -132,14 +134,15 @@ pub struct Part<'a> {
 
 impl<'a> Model for Part<'a> {
     ghost use Rattle.causal_audit.specs.Parts.{Followed};
+    ghost use Rattle.std.specs.Prelude.{◌≤◌};
     ghost use Rattle.causal_audit.specs.Inside.Group.{HasRoom};
     ghost use Rattle.causal_audit.specs.Inside.Scans.{AreWindows, positions_of};
 
     ghost Value = { Followed };
 
-    ghost view = { λ a. record { run = a.scan; f = a.f; end = a.end; positions = positions_of a.windows.now } };
+    ghost view = { λ a. record { run = a.scan.run; f = a.f; end = a.end; positions = positions_of a.windows.now } };
 
-    ghost invariant = { λ a. AreWindows a.scan a.f a.end a.windows.now × HasRoom a.end a.room };
+    ghost invariant = { λ a. AreWindows a.scan.run a.f a.end a.windows.now × (a.end ≤ a.scan.end) × HasRoom a.end a.room };
 }
 
 impl Part<'_> {

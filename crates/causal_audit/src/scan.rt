@@ -1,4 +1,4 @@
-//! What is read of a recorded run to follow deliveries, and which of them are followed.
+//! What is read of a recorded run, up to an instant, to follow deliveries, and which of them are followed.
 ghost use Rattle.std.specs.Prelude.{◌≤◌, min};
 ghost use Rattle.std.specs.List.{All};
 
@@ -6,23 +6,23 @@ use crate::mentions::Mentions;
 use crate::outline::Outline;
 use std::marker::Model;
 
-/// What is read of a recorded run to follow the messages of a delivery: the outline of the run, and what mentions each
-/// determinant. It is seen as the recording.
+/// What is read of a recorded run to follow the messages of a delivery up to the instant `end`: the outline of the run, and what
+/// mentions each determinant before that instant. It is seen as the run and the instant.
 #[derive(Drop)]
 pub struct Scan<'a> {
     pub outline: Outline<'a>,
     pub mentions: &'a Mentions,
+    pub end: u32,
 }
 
 impl<'a> Model for Scan<'a> {
-    ghost use Rattle.causal_trace.specs.Rows.{Recording};
-    ghost use Rattle.causal_audit.specs.Inside.Kept.{AreMentionsKept};
+    ghost use Rattle.causal_audit.specs.Inside.Scans.{IsScanned, Scanned};
 
-    ghost Value = { Recording };
+    ghost Value = { Scanned };
 
-    ghost view = { λ scan. scan.outline.trace.now.recording };
+    ghost view = { λ scan. record { run = scan.outline.trace.now.recording; end = scan.end } };
 
-    ghost invariant = { λ scan. AreMentionsKept scan.outline.trace.now.recording.past scan.mentions.now };
+    ghost invariant = { λ scan. IsScanned (record { run = scan.outline.trace.now.recording; end = scan.end }) scan.mentions.now };
 }
 
 /// A delivery that is to be followed: the position of its entry, and an instant from which on it has no orphan any

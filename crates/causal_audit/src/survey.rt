@@ -1,7 +1,7 @@
 //! The survey of a run: which deliveries are not seen to be covered throughout, and until when each may be uncovered. It
 //! needs no clock.
 ghost use Rattle.std.specs.Prelude.{◌≡◌, ◌+◌, ◌≤◌, ◌<◌, IfOk, OnOk, Some, length};
-ghost use Rattle.causal_trace.specs.Past.{det_at};
+ghost use Rattle.causal_trace.specs.Past.{det_at, instant};
 ghost use Rattle.causal_audit.specs.Inside.Among.{HasNoOrphanFrom};
 ghost use Rattle.causal_audit.specs.Inside.AllLooks.{AreAllLooks};
 ghost use Rattle.causal_audit.specs.Inside.Kept.{AreMentionsKept};
@@ -111,7 +111,7 @@ pub fn windows_of(
     end: u32,
 ) -> Result<Vec<Window>, NoMemory>
     requires within { end ≤ length outline.trace.now.recording.past }
-    requires mentioned { AreMentionsKept outline.trace.now.recording.past mentions.now }
+    requires mentioned { AreMentionsKept (instant outline.trace.now.recording.past end) mentions.now }
     ensures { IfOk result (λ windows. AreGathered (asked_of outline.entry.trace.now.recording f end) end windows.items) }
 {
     let entries = outline.trace.entries();

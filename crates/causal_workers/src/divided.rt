@@ -9,7 +9,7 @@ ghost use Rattle.causal_workers.specs.Inside.Shares.{AreTasksAfter, Covers, Foll
 use crate::gate::Gate;
 use crate::share::{Share, Started, Task};
 use causal_audit::{
-    Breach, GROUP, Prepared, Verdict, decided, deciding_in, earlier, first_excess_in,
+    Breach, GROUP, Prepared, Verdict, decided, earlier, first_excess_in, horizon_in,
 };
 use causal_name::NoMemory;
 use causal_trace::trace::Trace;
@@ -42,8 +42,9 @@ impl From<NoMemory> for AuditFault {
 
 /// The verdict on a trace for f, by 1 to 64 workers: the same for every number of them. Worker 0 is the calling thread,
 /// and begins when all others have been started. Each worker calls the gate's `enter` once with its number, also where
-/// no delivery is left for it. Before the others are started the calling thread prepares the run; the deliveries that must be
-/// followed are divided among the workers, in groups that one walk over the entries follows.
+/// no delivery is left for it. Before the others are started the calling thread prepares the run, up to an instant beyond which
+/// nothing decides; the deliveries that must be followed are divided among the workers, in groups that one walk over the entries
+/// follows.
 ///
 /// # Errors
 /// `NoMemory` where memory was refused: all is taken before the first worker is started.
@@ -63,7 +64,7 @@ pub fn audit<G: Gate + Sync, R: Threads + Wait>(
     ensures alone { result ≡ Err AuditFault.NoWorker → 2 ≤ workers }
 {
     let excess = first_excess_in(trace, f);
-    let end = deciding_in(trace, &excess);
+    let end = horizon_in(alloc, trace, f, &excess)?;
     let prepared = Prepared::of(alloc, trace, f, end)?;
     let least = least_of_all(rt, alloc, trace, &prepared, workers, gate)?;
     Ok(decided(excess, least))

@@ -1,6 +1,7 @@
 -- Which deliveries a scan follows.
 use Rattle.std.specs.Prelude.{ℕ, ◌<◌, ◌≤◌, List, length, map}
 use Rattle.std.specs.List.{All}
+use Rattle.causal_trace.specs.Past.{instant}
 use Rattle.causal_trace.specs.Rows.{Recording}
 use Rattle.causal_audit.specs.Inside.Among.{HasNoOrphanFrom}
 use Rattle.causal_audit.specs.declared.mentions.Mentions.{Mentions}
@@ -23,10 +24,20 @@ pub record AreWindows (r : Recording) (f end : ℕ) (windows : List Window) : Ty
   pub below : All (λ (window : Window). window.position < end) windows
   pub none_later : All (IsWindow r f end) windows
 
--- a run is prepared for its audit: where no process is released any more, who is down, what mentions each determinant, and the
--- windows of the deliveries that are followed
+-- a run that is read up to an instant
+pub record Scanned : Type 0 where
+  pub run : Recording
+  pub end : ℕ
+
+-- for each determinant the positions before that instant are known at which it is mentioned
+pub record IsScanned (s : Scanned) (mentions : Mentions) : Type 0 where
+  pub within : s.end ≤ length s.run.past
+  pub mentioned : AreMentionsKept (instant s.run.past s.end) mentions
+
+-- a run is prepared for its audit: where no process is released any more, who is down, what mentions each determinant before
+-- the instant `end`, and the windows of the deliveries that are followed
 pub record IsPrepared (r : Recording) (f end lasting_from : ℕ) (turns : Turns) (mentions : Mentions) (windows : List Window) : Type 0 where
   pub lasting : NoneReleasedFrom r.past lasting_from
   pub turned : AreTurnsKept r.past turns
-  pub mentioned : AreMentionsKept r.past mentions
+  pub mentioned : AreMentionsKept (instant r.past end) mentions
   pub followed : AreWindows r f end windows

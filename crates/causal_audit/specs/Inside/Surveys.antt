@@ -5,7 +5,7 @@ use Rattle.std.specs.List.Sorted.{IsStrictlyIncreasing}
 use Rattle.causal_name.specs.declared.Det.{Det}
 use Rattle.causal_trace.specs.declared.entry.Entry.{Entry}
 use Rattle.causal_trace.specs.Limits.{max_entries}
-use Rattle.causal_trace.specs.Past.{det_at}
+use Rattle.causal_trace.specs.Past.{det_at, instant}
 use Rattle.causal_trace.specs.Rows.{Recording, IsWellFormed}
 use Rattle.causal_audit.specs.declared.scan.Window.{Window}
 use Rattle.causal_audit.specs.declared.mentions.Mentions.{Mentions}
@@ -29,7 +29,7 @@ pub record IsSurvey (r : Recording) (end : ℕ) (mentions : Mentions) (crashes :
   pub formed : IsWellFormed r
   pub within : end ≤ length r.past
   pub short : length r.past ≤ max_entries
-  pub mentioned : AreMentionsKept r.past mentions
+  pub mentioned : AreMentionsKept (instant r.past end) mentions
   pub crashed : AreCrashes r.past crashes
   pub staying : AreSpreads r.past (acts_of r.past) stays
 

@@ -1,5 +1,5 @@
 //! Which entries of a walk mention the determinants of the deliveries of a group.
-ghost use Rattle.std.specs.Prelude.{◌≡◌, ◌≤◌, ◌<◌, ◌↔◌, ℕ, Some, true, length, vec_capacity};
+ghost use Rattle.std.specs.Prelude.{◌≡◌, ◌+◌, ◌≤◌, ◌<◌, ◌↔◌, ℕ, Some, true, length, vec_capacity};
 ghost use Rattle.std.specs.FinSet as set;
 ghost use Rattle.std.specs.List.{All};
 ghost use Rattle.std.specs.List.Sorted.{IsNonDecreasing};
@@ -55,8 +55,9 @@ fn first_in(positions: &[u32], bound: u32) -> u32
 impl Scan<'_> {
     /// The position of a delivery, or the first at which its determinant is mentioned, or a bound, if that is less.
     fn first_touched(&self, window: Window, bound: u32) -> u32
+        requires { bound ≤ self.now.end }
         ensures bound { result ≤ bound }
-        ensures first { IsUntouchedBefore self.now.past result window }
+        ensures first { IsUntouchedBefore self.now.run.past result window }
     {
         let first = bound.min(window.position);
         let Some(det) = self.outline.trace.det_at(window.position) else {
@@ -67,8 +68,9 @@ impl Scan<'_> {
 
     /// The first of the deliveries of a group and of the mentions of their determinants, or a bound, if that is less.
     pub fn start_of(&self, windows: &[Window], bound: u32) -> u32
+        requires { bound ≤ self.now.end }
         ensures bound { result ≤ bound }
-        ensures first { All (IsUntouchedBefore self.now.past result) windows.now }
+        ensures first { All (IsUntouchedBefore self.now.run.past result) windows.now }
     {
         let mut first = bound;
         for window in windows {
@@ -79,12 +81,13 @@ impl Scan<'_> {
 
     /// Puts a place into the rows of the entries that mention the determinant of its delivery.
     fn mark_window(&self, rows: &mut Vec<Holders>, start: u32, place: u8, window: Window)
+        requires within { start + length rows.old.items ≤ self.now.end }
         requires fresh { (i : ℕ) → i < length rows.old.items → set.contains (row rows.old.items i) place ≡ true → ⊥ }
         ensures count { length rows.new.items ≡ length rows.old.items }
         ensures room { vec_capacity rows.new ≡ vec_capacity rows.old }
         ensures others { (i j : ℕ) → i < length rows.old.items → (j ≡ place → ⊥) →
             (set.contains (row rows.new.items i) j ≡ true) ↔ (set.contains (row rows.old.items i) j ≡ true) }
-        ensures marked { IsMarked self.now.past start place window rows.new.items }
+        ensures marked { IsMarked self.now.run.past start place window rows.new.items }
     {
         if let Some(det) = self.outline.trace.det_at(window.position) {
             mark(rows, start, place, self.mentions.list(det));
@@ -94,10 +97,11 @@ impl Scan<'_> {
     /// Puts the place of each delivery of a group into the rows of the entries that mention its determinant.
     pub fn mark_all(&self, rows: &mut Vec<Holders>, start: u32, windows: &[Window])
         requires few { length windows.now ≤ 256 }
+        requires within { start + length rows.old.items ≤ self.now.end }
         requires none { (i : ℕ) → row rows.old.items i ≡ set.empty }
         ensures count { length rows.new.items ≡ length rows.old.items }
         ensures room { vec_capacity rows.new ≡ vec_capacity rows.old }
-        ensures marked { AreMarked self.now.past start windows.now (length windows.now) rows.new.items }
+        ensures marked { AreMarked self.now.run.past start windows.now (length windows.now) rows.new.items }
     {
         for (place, window) in windows.iter().enumerate() {
             self.mark_window(rows, start, place as u8, *window);

@@ -1,4 +1,4 @@
-//! Deliveries that share a determinant are followed side by side.
+//! In which order deliveries are followed: those that are open until the same instant side by side.
 ghost use Rattle.std.specs.Prelude.{IsPermutation};
 
 use crate::mentions::Mentions;
@@ -17,18 +17,21 @@ fn place_of(trace: &Trace, mentions: &Mentions, position: u32) -> usize {
     }
 }
 
-/// Puts the windows of one determinant side by side: first those that nothing mentions, then in the order in which they are
-/// first mentioned. A group then has few determinants, and a mention is passed by few groups.
+/// Puts the windows in the order of their ends, so that a few long ones do not make the walks of all groups long. Those with one
+/// end stand by their determinants: first those that nothing mentions, then in the order in which they are first mentioned. A
+/// group then has few determinants, and a mention is passed by few groups.
 ///
 /// # Errors
 /// `NoMemory` where memory was refused.
-pub fn put_side_by_side(
+pub fn put_in_order(
     trace: &Trace,
     mentions: &Mentions,
     windows: &mut Vec<Window>,
 ) -> Result<(), NoMemory>
     ensures { IsPermutation windows.old.items windows.new.items }
 {
-    windows.sort_by_cached_key(|window: &Window| place_of(trace, mentions, window.position))?;
+    windows.sort_by_cached_key(|window: &Window| {
+        (window.until, place_of(trace, mentions, window.position))
+    })?;
     Ok(())
 }

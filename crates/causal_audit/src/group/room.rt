@@ -76,12 +76,12 @@ impl Scan<'_> {
     pub fn begin(&self, room: &mut Room, start: u32, end: u32, windows: &[Window])
         requires few { length windows.now ≤ 256 }
         requires ordered { start ≤ end }
-        requires within { end ≤ length self.now.past }
-        requires from { All (IsUntouchedBefore self.now.past start) windows.now }
+        requires within { end ≤ self.now.end }
+        requires from { All (IsUntouchedBefore self.now.run.past start) windows.now }
         requires room { HasRoom end room.old }
         ensures room { (entries : ℕ) → HasRoom entries room.old → HasRoom entries room.new }
         ensures rows { HasRowsFor start end room.new }
-        ensures begun { IsFollowed self.now windows.now start start room.new }
+        ensures begun { IsFollowed self.now.run windows.now start start room.new }
     {
         room.reach.begin(start, end, windows);
         make_empty(&mut room.mentioned, (end - start) as usize);

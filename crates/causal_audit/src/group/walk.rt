@@ -60,12 +60,12 @@ impl Scan<'_> {
     /// The least breach of the deliveries of a group, if it comes by the instant `end`: a walk from the first of them, or an
     /// earlier mention of one of their determinants, up to the last instant at which one may have an orphan.
     fn least_in(&self, f: u16, end: u32, windows: &[Window], room: &mut Room) -> Option<Breach>
-        requires within { end ≤ length self.now.past }
+        requires within { end ≤ self.now.end }
         requires few { length windows.now ≤ 256 }
-        requires windows { All (IsWindow self.now f end) windows.now }
+        requires windows { All (IsWindow self.now.run f end) windows.now }
         requires room { HasRoom end room.old }
         ensures room { (entries : ℕ) → HasRoom entries room.old → HasRoom entries room.new }
-        ensures found { LeastAmongBy self.now f end (positions_of windows.now) result }
+        ensures found { LeastAmongBy self.now.run f end (positions_of windows.now) result }
     {
         let last = last_of(windows, end);
         let start = self.start_of(windows, last);
@@ -86,12 +86,12 @@ impl Scan<'_> {
         windows: &[Window],
         room: &mut Room,
     ) -> Option<Breach>
-        requires within { end ≤ length self.now.past }
+        requires within { end ≤ self.now.end }
         requires below { All (λ window. window.position < end) windows.now }
-        requires windows { All (IsWindow self.now f end) windows.now }
+        requires windows { All (IsWindow self.now.run f end) windows.now }
         requires room { HasRoom end room.old }
         ensures room { (entries : ℕ) → HasRoom entries room.old → HasRoom entries room.new }
-        ensures found { LeastAmongBy self.now f end (positions_of windows.now) result }
+        ensures found { LeastAmongBy self.now.run f end (positions_of windows.now) result }
     {
         let mut least = None;
         let mut until = end;

@@ -1,6 +1,3 @@
-use Rattle.std.proofs.Common.{subst, length}
-use Rattle.causal_trace.specs.Past.{deliveries_in}
-use Rattle.causal_audit.specs.Breaches.{LeastBreachBy}
 use Rattle.causal_audit.proofs.Lemmas.OneVerdict.{one_verdict}
 use Rattle.causal_workers.proofs.divided.audit.Goals as goal
 
@@ -10,7 +7,7 @@ returns-clause-verdict g c =
     let f = c.args.f in
     let found = c.in_ok-least.least in
     c.decided.ensures r f c.first_excess_in-excess.ensures
-    (subst (λ end. LeastBreachBy r f end 0 (deliveries_in r.past) found) c.deciding_in-end.ensures.value (c.in_ok-prepared.ensures.enough found c.in_ok-least.ensures.least))
+    (c.in_ok-end.ensures.decides found (c.in_ok-prepared.ensures.enough found c.in_ok-least.ensures.least))
 
 pub returns-clause-only : goal.returns-clause-only
 returns-clause-only g c = λ other is. one_verdict c.args.trace.now.recording c.args.f other c.decided.result is (returns-clause-verdict g c)

@@ -1,6 +1,7 @@
-use Rattle.std.proofs.Common.{◌≤◌, length, arith}
+use Rattle.std.proofs.Common.{◌≤◌, length, ◌∙◌, arith}
 use Rattle.causal_trace.specs.Past.{instant, logs}
-use Rattle.causal_audit.proofs.Begun.{unheard_until}
+use Rattle.causal_audit.proofs.Begun.{unheard_before}
+use Rattle.causal_audit.proofs.Steps.{entry_then}
 use Rattle.causal_audit.proofs.Shown.{shows_none}
 use Rattle.causal_audit.proofs.Turned.{passed_down}
 use Rattle.causal_audit.proofs.look.Look.start.Goals as goal
@@ -11,7 +12,10 @@ returns-clause-stop c =
     let past = look.run.trace.now.recording.past in
     let t = c.first_of-t.result in
     let within : t ≤ length past = omega (arith, c.first_of-t.ensures.before, c.requires, look.within) in
-    let unheard = unheard_until past t look.det look.mentions.now t look.mentioned c.first_of-t.ensures.none (omega arith) within in
+    let inside : t ≤ look.end = omega (arith, c.first_of-t.ensures.before, c.requires) in
+    let unheard =
+    unheard_before past t look.det t
+    (λ v e above below at. look.mentioned v e (entry_then past look.end v (omega (arith, below, inside)) look.within ∙ at) (c.first_of-t.ensures.none v above below)) (omega arith) within in
     let walk = passed_down past look.run.turns.now t c.from-turns.result look.run.turned c.from-turns.ensures in
     record {
       within = omega (arith, c.first_of-t.ensures.before, c.requires);

@@ -1,5 +1,6 @@
 use Rattle.std.proofs.Common.{ℕ, Vec, Global, List, map, sym, subst}
 use Rattle.std.specs.List.Sorted.{IsNonDecreasing}
+use Rattle.causal_trace.specs.Past.{instant}
 use Rattle.causal_audit.specs.Inside.Changes.{AreMentionsOf, HasMentions}
 use Rattle.causal_audit.proofs.Mentioned.{mentions_ascend}
 use Rattle.causal_audit.proofs.looks.Looks.of.Goals as goal
@@ -9,12 +10,12 @@ positions list = list.items
 
 pub invariant_of-look : goal.invariant_of-look
 invariant_of-look c =
-    let r = c.args.run.now.trace.now.recording in
+    let past = instant c.args.run.now.trace.now.recording.past c.args.end in
     let mentions = c.args.mentions.now in
     let det = c.det-det.result in
     record {
       within = c.requires.within;
-      ascending = subst IsNonDecreasing (sym c.list.ensures) (mentions_ascend r.past mentions.numbers (map positions mentions.lists.items) c.requires.mentioned det);
-      mentioned = subst (HasMentions r.past det) (sym c.list.ensures) (c.requires.mentioned.mentioned det);
-      only = subst (AreMentionsOf r.past det) (sym c.list.ensures) (c.requires.mentioned.only det);
+      ascending = subst IsNonDecreasing (sym c.list.ensures) (mentions_ascend past mentions.numbers (map positions mentions.lists.items) c.requires.mentioned det);
+      mentioned = subst (HasMentions past det) (sym c.list.ensures) (c.requires.mentioned.mentioned det);
+      only = subst (AreMentionsOf past det) (sym c.list.ensures) (c.requires.mentioned.only det);
     }

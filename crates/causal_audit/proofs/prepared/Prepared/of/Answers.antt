@@ -11,6 +11,7 @@ use Rattle.causal_audit.specs.Parts.{AreEnough}
 use Rattle.causal_audit.specs.Lasting.{NoneReleasedFrom}
 use Rattle.causal_audit.proofs.AmongLemmas.{among_all, among_wider}
 use Rattle.causal_audit.proofs.Uncovered.{any_other}
+use Rattle.causal_audit.proofs.Steps.{begins}
 use Rattle.causal_audit.proofs.Windowed.{of_positions}
 use Rattle.causal_audit.proofs.prepared.Prepared.of.Goals as goal
 
@@ -28,8 +29,7 @@ pub windows_of-requires-clause-mentioned : goal.windows_of-requires-clause-menti
 windows_of-requires-clause-mentioned c =
     let entries = c.entries-entries.result.now in
     let past = c.args.trace.now.recording.past in
-    let whole : past_at entries (length entries) ≡ past = past_whole entries ∙ ap reverse c.entries-entries.ensures.value ∙ reverse-reverse past in
-    subst (λ p. AreMentionsKept p c.in_ok-mentions.mentions) whole c.in_ok-mentions.ensures
+    subst (λ p. AreMentionsKept p c.in_ok-mentions.mentions) (begins c.args.trace.now.recording entries c.entries-entries.ensures.value c.args.end c.requires) c.in_ok-mentions.ensures
 
 pub invariant_of-result : goal.invariant_of-result
 invariant_of-result c =
@@ -39,12 +39,12 @@ invariant_of-result c =
     let whole : past_at entries (length entries) ≡ past = past_whole entries ∙ ap reverse c.entries-entries.ensures.value ∙ reverse-reverse past in
     let all = c.in_ok-windows.ensures in
     let gathered = c.in_ok-windows.windows.items in
-    let windows = c.put_side_by_side.new.windows.items in
-    let moved = c.put_side_by_side.ensures in
+    let windows = c.put_in_order.new.windows.items in
+    let moved = c.put_in_order.ensures in
     let prepared : IsPrepared r c.args.f c.args.end c.lasting_from-lasting_from.result c.in_ok-turns.turns c.in_ok-mentions.mentions windows = record {
       lasting = subst (λ p. NoneReleasedFrom p c.lasting_from-lasting_from.result) whole c.lasting_from-lasting_from.ensures;
       turned = subst (λ p. AreTurnsKept p c.in_ok-turns.turns) whole c.in_ok-turns.ensures;
-      mentioned = subst (λ p. AreMentionsKept p c.in_ok-mentions.mentions) whole c.in_ok-mentions.ensures;
+      mentioned = subst (λ p. AreMentionsKept p c.in_ok-mentions.mentions) (begins r entries c.entries-entries.ensures.value c.args.end c.requires) c.in_ok-mentions.ensures;
       followed = record {
         within = c.requires;
         below = All-permutation (λ (window : Window). window.position < c.args.end) gathered windows moved (of_positions (λ k. k < c.args.end) gathered all.uncovered.before);
@@ -59,9 +59,9 @@ returns-clause-enough c =
     let f = c.args.f in
     let end = c.args.end in
     let gathered = positions_of c.in_ok-windows.windows.items in
-    let positions = positions_of c.put_side_by_side.new.windows.items in
+    let positions = positions_of c.put_in_order.new.windows.items in
     let moved : IsPermutation gathered positions =
-    IsPermutation-map (λ (window : Window). window.position) c.in_ok-windows.windows.items c.put_side_by_side.new.windows.items c.put_side_by_side.ensures in
+    IsPermutation-map (λ (window : Window). window.position) c.in_ok-windows.windows.items c.put_in_order.new.windows.items c.put_in_order.ensures in
     let enough : AreEnough r f end (record { run = r; f = f; end = end; positions = positions }) =
     λ found least.
     among_all r f end gathered found c.entries-entries.ensures.formed.accepted c.requires

@@ -1,4 +1,4 @@
-use Rattle.std.proofs.Common.{ℕ, ◌≡◌, ◌<◌, ◌-◌, take, drop, ap, subst, sym, ◌∙◌}
+use Rattle.std.proofs.Common.{ℕ, ◌≡◌, ◌<◌, ◌-◌, take, drop, ap, subst, sym, ◌∙◌, arith}
 use Rattle.std.specs.List.{take-map, drop-map}
 use Rattle.std.proofs.lemmas.List.Elements.{All-drop, All-take}
 use Rattle.causal_trace.specs.Rows.{Recording}
@@ -26,6 +26,7 @@ invariant_of-result c =
     } in (
       subst (λ (x : Recording). AreWindows x s.f s.end (take many (drop from c.deref.result.now))) same
           (subst (λ list. AreWindows r s.f s.end (take many (drop from list))) (sym c.deref.ensures.value) part),
+      omega arith,
       c.in_ok-room.ensures,
     )
 

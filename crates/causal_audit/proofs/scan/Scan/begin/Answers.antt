@@ -4,6 +4,7 @@ use Rattle.causal_trace.specs.Past.{instant, is_down}
 use Rattle.causal_trace.proofs.Lemmas.AtInstants.{instant_length}
 use Rattle.causal_audit.specs.declared.scan.Window.{Window}
 use Rattle.causal_audit.specs.Inside.Group.{position_at}
+use Rattle.causal_audit.specs.Inside.Scans.{Scanned}
 use Rattle.causal_audit.specs.Inside.Sights.{IsSight, Shows}
 use Rattle.causal_audit.proofs.Reaching.{none_in}
 use Rattle.causal_audit.proofs.Begun.{unheard_before}
@@ -15,16 +16,17 @@ zero = record { position = 0; until = 0 }
 
 pub returns-clause-begun : goal.returns-clause-begun
 returns-clause-begun c =
-    let r = c.args.self.now in
+    let r = c.args.self.now.run in
     let windows = c.args.windows.now in
     let start = c.args.start in
     let run = c.self.inside.outline.trace.now.recording in
     let turns = c.self.inside.outline.turns.now in
     let walk = passed_down run.past turns start c.from.result c.self.inside.outline.turned c.from.ensures in
-    let early : start ≤ length r.past = omega (arith, c.requires.ordered, c.requires.within) in
-    let within : start ≤ length run.past = subst (λ x. start ≤ length x.past) (sym c.self.view_is) early in
+    let inside : c.args.end ≤ c.self.inside.end = subst (λ (s : Scanned). c.args.end ≤ s.end) (sym c.self.view_is) c.requires.within in
+    let within : start ≤ length run.past = omega (arith, c.requires.ordered, inside, c.self.invariant.within) in
+    let early : start ≤ length r.past = subst (λ (s : Scanned). start ≤ length s.run.past) c.self.view_is within in
     let shown : Shows c.down-down.result (λ p. is_down (instant r.past start) p) =
-    subst (λ x. Shows c.down-down.result (λ p. is_down (instant x.past start) p)) c.self.view_is (c.down-down.ensures run.past start within walk.0 walk.1) in
+    subst (λ (s : Scanned). Shows c.down-down.result (λ p. is_down (instant s.run.past start) p)) c.self.view_is (c.down-down.ensures run.past start within walk.0 walk.1) in
     record {
       start_is = c.begin.ensures.rows.start;
       told = λ j d low at. c.begin.ensures.begins (instant r.past start) j (instant_length r.past start early) low;

@@ -14,7 +14,7 @@ use Rattle.causal_audit.proofs.scan.Scan.least_within.Goals as goal
 
 pub loop-group-init : goal.loop-group-init
 loop-group-init c =
-    let r = c.args.self.now in
+    let r = c.args.self.now.run in
     let same = c.into_iter-group-iterator.ensures.into_iter_gives in
     let size : chunks_size c.into_iter-group-iterator.result ≡ 256 = ap chunks_size same ∙ c.chunks-group-items.ensures.size in
     let rest : chunks_rest c.into_iter-group-iterator.result ≡ c.args.windows.now = ap chunks_rest same ∙ c.chunks-group-items.ensures.rest in
@@ -32,7 +32,7 @@ loop-group-init c =
 
 pub loop-group-preserved-in-Some-least_in : goal.loop-group-preserved-in-Some-least_in
 loop-group-preserved-in-Some-least_in c =
-    let r = c.args.self.now in
+    let r = c.args.self.now.run in
     let f = c.args.f in
     let end = c.args.end in
     let invariant = c.loop-group.invariant in
@@ -63,7 +63,7 @@ loop-group-preserved-in-Some-least_in c =
 
 pub loop-group-preserved : goal.loop-group-preserved
 loop-group-preserved c =
-    let r = c.args.self.now in
+    let r = c.args.self.now.run in
     let f = c.args.f in
     let end = c.args.end in
     let invariant = c.loop-group.invariant in
@@ -92,7 +92,7 @@ loop-group-preserved c =
 
 pub least_in-requires-clause-windows : goal.least_in-requires-clause-windows
 least_in-requires-clause-windows c k window low u from before =
-    let r = c.args.self.now in
+    let r = c.args.self.now.run in
     let invariant = c.loop-group.invariant in
     let group = c.in-Some.group.now in
     let over = IsWindow r c.args.f c.args.end in
@@ -100,7 +100,7 @@ least_in-requires-clause-windows c k window low u from before =
 
 pub returns-clause-found : goal.returns-clause-found
 returns-clause-found c =
-    let r = c.args.self.now in
+    let r = c.args.self.now.run in
     let invariant = c.loop-group.invariant in
     let done = invariant.least.0 in
     let none : chunks_rest c.loop-group.group-iterator ≡ [] = nil_from_length _ c.in-None.ensures.steps.1.0 in

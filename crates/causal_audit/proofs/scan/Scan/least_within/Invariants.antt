@@ -14,9 +14,9 @@ invariant-loop-group l = record {
   finite : goal.iterator-loop-group.is_finite l.group-iterator;
   size : chunks_size l.group-iterator ≡ 256;
   early : All (λ window. window.position < l.end) (chunks_rest l.group-iterator);
-  none_later : All (IsWindow l.self l.f l.end) (chunks_rest l.group-iterator);
+  none_later : All (IsWindow l.self.run l.f l.end) (chunks_rest l.group-iterator);
   within : l.until ≤ l.end;
   room : (entries : ℕ) → HasRoom entries l.fn.room → HasRoom entries l.room;
   bound : l.until ≡ horizon l.end l.least;
-  least : (done : List Window) × (done ++ chunks_rest l.group-iterator ≡ l.windows) × LeastAmongBy l.self l.f l.end (positions_of done) l.least;
+  least : (done : List Window) × (done ++ chunks_rest l.group-iterator ≡ l.windows) × LeastAmongBy l.self.run l.f l.end (positions_of done) l.least;
 }

@@ -10,6 +10,6 @@ abbrev pub invariant-loop-place : goal.invariant-loop-place
 invariant-loop-place l = record {
   count : length l.rows.items ≡ length l.fn.rows.items;
   room : vec_capacity l.rows ≡ vec_capacity l.fn.rows;
-  marked : AreMarked l.self.past l.start l.windows l.place l.rows.items;
+  marked : AreMarked l.self.run.past l.start l.windows l.place l.rows.items;
   ahead : (i j : ℕ) → l.place ≤ j → i < length l.rows.items → contains (row l.rows.items i) j ≡ true → ⊥;
 }

@@ -1,12 +1,14 @@
 use Rattle.std.proofs.Common.{◌≡◌, ◌∙◌, ◌+◌, ◌<◌, inl, inr, length, Some, refl, subst, sym, arith}
 use Rattle.std.specs.Prelude.{Contains}
 use Rattle.std.specs.FinSet.{contains}
-use Rattle.causal_trace.specs.Past.{has}
+use Rattle.causal_trace.specs.Past.{has, instant}
 use Rattle.causal_audit.specs.Quiet.{mentioned_by}
 use Rattle.causal_audit.specs.Inside.Group.{IsMarked}
 use Rattle.causal_audit.specs.Inside.Filed.{lists_in, mentions_of}
 use Rattle.causal_audit.specs.Inside.Reaching.{row}
+use Rattle.causal_audit.specs.Inside.Scans.{Scanned}
 use Rattle.causal_audit.proofs.Covering.{mentioned_listed}
+use Rattle.causal_audit.proofs.Steps.{entry_then}
 use Rattle.causal_audit.proofs.scan.Scan.mark_window.Goals as goal
 
 pub returns-in-Some-clause-marked : goal.returns-in-Some-clause-marked
@@ -16,13 +18,14 @@ returns-in-Some-clause-marked c =
     let rows = c.mark.new.rows.items in
     let det = c.in-Some.det in
     let list = mentions_of scan.mentions.now.numbers (lists_in scan.mentions.now.lists.items) det in
-    subst (λ run. IsMarked run.past c.args.start c.args.place c.args.window rows) c.self.view_is (λ i d e inside at there.
+    subst (λ (s : Scanned). IsMarked s.run.past c.args.start c.args.place c.args.window rows) c.self.view_is (λ i d e inside at there.
     let one : Some det ≡ Some d = c.in-Some.ensures ∙ at in
     let same : det ≡ d = cc one in
     let low : i < length c.args.rows.now.items = omega (arith, inside, c.mark.ensures.count) in
     let marked = c.mark.ensures.marked i c.args.place low in
+    let early : c.args.start + i < scan.end = subst (λ (s : Scanned). c.args.start + i < s.end) (sym c.self.view_is) (omega (arith, low, c.requires.within)) in
     subst (λ x. contains (row rows i) c.args.place ≡ has (mentioned_by e) x) same
-    (mentioned_listed past det list (c.self.invariant.mentioned det) (c.self.invariant.only det) (c.args.start + i) e there (contains (row rows i) c.args.place) (
+    (mentioned_listed (instant past scan.end) det list (c.self.invariant.mentioned.mentioned det) (c.self.invariant.mentioned.only det) (c.args.start + i) e (entry_then past scan.end (c.args.start + i) early c.self.invariant.within ∙ there) (contains (row rows i) c.args.place) (
       λ h. elim (marked.0 h) [
         | inl old ↦ absurd (c.requires.fresh i low old)
         | inr new ↦ subst (λ l. Contains l (c.args.start + i)) c.list.ensures new.1

@@ -7,5 +7,5 @@ use Rattle.causal_audit.proofs.scan.Scan.start_of.Given as goal
 abbrev pub invariant-loop-window : goal.invariant-loop-window
 invariant-loop-window l = record {
   bound : l.first ≤ l.bound;
-  first : (i : ℕ) (window : Window) → i < l.window-index → IsUntouchedBefore l.self.past l.first (slice_index_or l.windows i window);
+  first : (i : ℕ) (window : Window) → i < l.window-index → IsUntouchedBefore l.self.run.past l.first (slice_index_or l.windows i window);
 }
