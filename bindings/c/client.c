@@ -1,0 +1,120 @@
+/* Does what a file of tasks asks for, and answers in the form that bindings/test compares with the program's answers.
+
+   client TASKS    each line of TASKS is "WORD FAULTS PATH"; for each task "LENGTH\n" and that many bytes are printed
+
+   The words: line, explain, draw: what the call gives; audit: the verdict's line out of the struct; each: the lines for 0, 1, 2, 3
+   faults of a text that is read once; sentence: that of the text's fault, empty where it has none. */
+#include "text.h"
+
+#include <stdarg.h>
+#include <stdio.h>
+#include <stdlib.h>
+#include <string.h>
+
+enum { MOST = 8192, FAULTS = 4 };
+
+typedef struct answer {
+  char at[MOST];
+  size_t length;
+} answer;
+
+static void say(answer *to, const char *form, ...) {
+  va_list given;
+  va_start(given, form);
+  to->length += (size_t)vsnprintf(to->at + to->length, MOST - to->length, form, given);
+  va_end(given);
+}
+
+static void say_set(answer *to, const nixu_verdict *told) {
+  const char *before = "";
+  for (int p = 0; p < 256; p++)
+    if (told->processes[p]) {
+      say(to, "%s%d", before, p);
+      before = ",";
+    }
+  if (!*before) say(to, "-");
+}
+
+static void say_verdict(answer *to, const nixu_verdict *told, unsigned f) {
+  switch (told->kind) {
+  case NIXU_ACCEPTED:
+    say(to, "accept f=%u entries=%u deliveries=%u\n", f, told->entries, told->deliveries);
+    break;
+  case NIXU_EXCEEDED:
+    say(to, "exceeded f=%u instant=%u down=", f, told->instant);
+    say_set(to, told);
+    say(to, "\n");
+    break;
+  case NIXU_ORPHAN:
+    say(to, "orphan f=%u instant=%u delivery=%u crash=", f, told->instant, told->delivery);
+    say_set(to, told);
+    say(to, " orphan=%u\n", told->orphan);
+    break;
+  default:
+    say(to, "fault line=%u %s\n", told->line, fault_name(told->fault));
+  }
+}
+
+static uint32_t audit(answer *to, bytes text, uint16_t faults) {
+  nixu_verdict told;
+  uint32_t status = nixu_audit(text.at, text.length, faults, &told);
+  if (status <= NIXU_FAULT) say_verdict(to, &told, faults);
+  return status;
+}
+
+static uint32_t audit_each(answer *to, bytes text) {
+  static const uint16_t faults[FAULTS] = {0, 1, 2, 3};
+  nixu_verdict told[FAULTS];
+  uint32_t status = nixu_audit_each(text.at, text.length, faults, FAULTS, told, FAULTS);
+  for (int i = 0; i < FAULTS && status <= NIXU_FAULT; i++) say_verdict(to, &told[i], faults[i]);
+  return status;
+}
+
+static uint32_t sentence(answer *to, bytes text, uint16_t faults) {
+  nixu_verdict told;
+  uint32_t status = nixu_audit(text.at, text.length, faults, &told);
+  return status == NIXU_FAULT ? nixu_fault_text(told.fault, (uint8_t *)to->at, MOST, &to->length) : status;
+}
+
+static shows *call_of(const char *word) {
+  if (!strcmp(word, "line")) return nixu_line;
+  if (!strcmp(word, "explain")) return nixu_explain;
+  return strcmp(word, "draw") ? NULL : nixu_draw;
+}
+
+static void print(const void *at, size_t length) {
+  printf("%zu\n", length);
+  fwrite(at, 1, length, stdout);
+}
+
+static uint32_t print_task(const char *word, bytes text, uint16_t faults) {
+  answer told = {"", 0};
+  bytes all;
+  shows *call = call_of(word);
+  uint32_t status;
+  if (call) {
+    status = shown(call, text, faults, &all);
+    print(all.at, all.length);
+    free(all.at);
+    return status;
+  }
+  if (!strcmp(word, "audit")) status = audit(&told, text, faults);
+  else if (!strcmp(word, "each")) status = audit_each(&told, text);
+  else status = sentence(&told, text, faults);
+  print(told.at, told.length);
+  return status;
+}
+
+int main(int argc, char **argv) {
+  char word[16], path[MOST];
+  unsigned faults;
+  FILE *tasks = argc == 2 ? fopen(argv[1], "r") : NULL;
+  int wrong = !tasks || nixu_version() != NIXU_VERSION;
+  while (!wrong && fscanf(tasks, "%15s %u %8191[^\n]", word, &faults, path) == 3) {
+    bytes text = read_file(path);
+    wrong = !text.at || print_task(word, text, (uint16_t)faults) > NIXU_FAULT;
+    free(text.at);
+  }
+  if (tasks) fclose(tasks);
+  return wrong;
+}

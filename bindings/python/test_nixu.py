@@ -1,0 +1,81 @@
+"""Calls whose answers are worked out by hand: the tables of examples/README.md and of docs/FORMAT.md."""
+import os
+import threading
+import unittest
+
+import nixu
+
+EXAMPLES = os.path.join(os.path.dirname(os.path.abspath(__file__)), "..", "..", "examples")
+
+
+def example(name: str) -> bytes:
+    with open(os.path.join(EXAMPLES, name), "rb") as file:
+        return file.read()
+
+
+class Calls(unittest.TestCase):
+    def test_an_orphan_is_told(self):
+        self.assertEqual(nixu.audit(example("ring.jsonl"), 2), nixu.Orphan(6, 3, 6, 1, frozenset({1, 2}), 0))
+
+    def test_too_many_down_are_told(self):
+        told = nixu.audit(example("crashes.jsonl"), 1)
+        self.assertIsInstance(told, nixu.Exceeded)
+        self.assertEqual((told.instant, told.down), (8, {1, 2}))
+
+    def test_several_numbers_of_faults_are_told_in_their_order(self):
+        told = nixu.audit_each(example("ring.jsonl"), [2, 0, 1])
+        self.assertEqual([type(one) for one in told], [nixu.Orphan, nixu.Accepted, nixu.Accepted])
+
+    def test_no_number_of_faults_may_be_asked_for(self):
+        self.assertEqual(nixu.audit_each(example("ring.jsonl"), []), [])
+
+    def test_a_fault_is_told_by_each_call(self):
+        for call in (nixu.audit, nixu.line, nixu.explain, nixu.draw):
+            self.is_told(call, example("skipped.jsonl"), 0)
+        self.is_told(nixu.audit_each, example("skipped.jsonl"), [0, 1])
+        self.is_told(nixu.audit_each, example("skipped.jsonl"), [])
+
+    def is_told(self, call, text, faults):
+        with self.assertRaises(nixu.Fault) as raised:
+            call(text, faults)
+        self.assertEqual((raised.exception.line, raised.exception.kind), (2, nixu.FaultKind.WrongSsn))
+        self.assertEqual(str(raised.exception), "line 2: the send sequence number is not the next one")
+
+    def test_a_text_of_no_bytes_is_cut(self):
+        with self.assertRaises(nixu.Fault) as raised:
+            nixu.audit(b"", 0)
+        self.assertEqual((raised.exception.line, raised.exception.kind), (1, nixu.FaultKind.Cut))
+
+    def test_what_is_shown_is_what_stands_beside_the_examples(self):
+        text = example("orphan.jsonl")
+        self.assertEqual(nixu.line(text, 1), "orphan f=1 instant=4 delivery=1 crash=1 orphan=2\n")
+        self.assertEqual(nixu.explain(text, 1).encode(), example("orphan.txt"))
+        self.assertEqual(nixu.draw(text, 1).encode(), example("orphan.svg"))
+
+    def test_a_number_of_faults_is_not_cut(self):
+        for faults in (-1, 65_536, 65_537):
+            for call in (nixu.audit, nixu.line):
+                self.assertRaises(ValueError, call, example("ring.jsonl"), faults)
+            self.assertRaises(ValueError, nixu.audit_each, example("ring.jsonl"), [faults])
+        self.assertIsInstance(nixu.audit(example("ring.jsonl"), 65_535), nixu.Orphan)
+
+    def test_each_fault_has_a_sentence_of_its_own(self):
+        self.assertEqual(len({kind.sentence for kind in nixu.FaultKind}), 20)
+
+    def test_threads_may_call_side_by_side(self):
+        text, wrong = example("ring.jsonl"), []
+        wanted = nixu.explain(text, 2)
+
+        def ask():
+            wrong.extend(0 for _ in range(100) if nixu.explain(text, 2) != wanted)
+
+        threads = [threading.Thread(target=ask) for _ in range(4)]
+        for thread in threads:
+            thread.start()
+        for thread in threads:
+            thread.join()
+        self.assertEqual(wrong, [])
+
+
+if __name__ == "__main__":
+    unittest.main()
