@@ -115,10 +115,7 @@ fn lacked(count: u32, lacking: u32) -> Verdict {
 fn the_plain_program_finds_what_is_lacking(rt: HostRuntime) -> Result<(), Fail> {
     for lacking in 0..3 {
         let trace = passed_on(rt.alloc(), 3, lacking)?;
-        assert_eq!(rt;
-            plain::judge(rt.alloc(), &trace, 2)?,
-            lacked(3, lacking)
-        );
+        assert_eq!(rt; plain::judge(rt.alloc(), &trace, 2)?, lacked(3, lacking));
     }
     Ok(())
 }

@@ -220,10 +220,7 @@ fn the_plain_program_finds_these_losses_in_a_small_run(rt: HostRuntime) -> Resul
 #[test]
 fn before_these_losses_it_finds_none(rt: HostRuntime) -> Result<(), Fail> {
     let trace = losing(rt.alloc(), 1, &[])?;
-    assert_eq!(rt;
-        plain::judge(rt.alloc(), &trace, 2)?,
-        Verdict::Accept
-    );
+    assert_eq!(rt; plain::judge(rt.alloc(), &trace, 2)?, Verdict::Accept);
     Ok(())
 }
 

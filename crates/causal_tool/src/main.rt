@@ -4,6 +4,7 @@
 //! [`run_and_tell`] of `run`. All go from any reader to any writer, and their clauses are what the program promises. What the words
 //! of the command line ask for is told by `causal_words`. `main` adds the standard streams and the exit status.
 #![tactic(auto)]
+
 ghost use Rattle.std.specs.Prelude.{◌≡◌};
 ghost use Rattle.std.specs.Process.{exit_status};
 ghost use Rattle.causal_commands.specs.Endings.{status_of};

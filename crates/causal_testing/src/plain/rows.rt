@@ -39,7 +39,8 @@ fn has_delivered(entries: &[Entry], p: Pid, message: MsgName) -> bool {
 /// Whether the entry is a delivery of the message by the process.
 fn delivers_message(entries: &[Entry], entry: &Entry, p: Pid, message: MsgName) -> bool {
     match entry {
-        Entry::Deliver { to, send, .. } => *to == p && message_at(entries, *send as usize) == Some(message),
+        Entry::Deliver { to, send, .. } => *to == p
+            && message_at(entries, *send as usize) == Some(message),
         _ => false,
     }
 }
@@ -74,8 +75,8 @@ fn message_to(entries: &[Entry], send: usize, p: Pid) -> Option<MsgName> {
 
 /// What stands against any entry that lists so many determinants.
 fn length_fault(run: Run<'_>, listed: usize) -> Option<TraceFault> {
-    let is_full =
-        run.entries.len() >= MAX_ENTRIES || listed > MAX_LISTED.saturating_sub(run.listed);
+    let is_full = run.entries.len() >= MAX_ENTRIES
+        || listed > MAX_LISTED.saturating_sub(run.listed);
     is_full.then_some(TraceFault::TooLong)
 }
 

@@ -63,9 +63,7 @@ pub(crate) fn down_set(entries: &[Entry], n: u16) -> Holders {
 
 /// Whether one of the entries writes the determinant to stable storage.
 pub(crate) fn is_stable(entries: &[Entry], wanted: Det) -> bool {
-    entries
-        .iter()
-        .any(|entry| matches!(entry, Entry::Stable { det } if *det == wanted))
+    entries.iter().any(|entry| matches!(entry, Entry::Stable { det } if *det == wanted))
 }
 
 /// Whether the entry restarts a process.
