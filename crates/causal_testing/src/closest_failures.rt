@@ -74,7 +74,7 @@ fn told(alloc: Global, trace: &Trace, f: u16, verdict: Verdict) -> Result<Option
 
 /// Compares what is told of a trace for f with what has to be told, if it is accepted.
 fn compare(alloc: Global, trace: &Trace, f: u16, counts: &mut Counts) -> Result<(), NoMemory> {
-    let verdict = judge(alloc, trace, f)?;
+    let verdict = verdict_on(alloc, trace, f)?;
     if let Some(told) = told(alloc, trace, f, verdict)? {
         let foretold = foretold(alloc, trace, f)?;
         count(counts, f, told, foretold);
