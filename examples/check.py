@@ -108,7 +108,7 @@ def wrong_reasons():
     wrong = 0
     for shown, (trace, f) in told.items():
         verdict, *facts = bytes_of(shown).decode().splitlines()
-        if [verdict, *(fact.split(": ")[0] for fact in facts)] != reasons.told(bytes_of(trace), f):
+        if [verdict, *(fact.split(": ")[0] for fact in facts)] != reasons.told(bytes_of(trace), f, facts):
             wrong += 1
             print(f"{shown} does not tell what the model tells of {trace} for {f}")
     return len(told), wrong

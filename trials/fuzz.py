@@ -7,11 +7,14 @@ beside this file. Each difference is printed with its input. Everything is decid
 import argparse
 import collections
 import concurrent.futures
+import json
 import os
 import random
+import re
 import subprocess
 import sys
 
+import reasons
 import scripts
 import traces
 
@@ -73,7 +76,7 @@ def random_trace(rng):
     """The lines of a trace of few processes, and whether it needs the second version."""
     n = rng.choice((1, 2, 2, 3, 3, 3, 4))
     trace = traces.Trace(n)
-    wanted = rng.choice((0, 2, 5, 8, 12, 18, 25))
+    wanted = rng.choice((0, 2, 5, 8, 12, 18, 25, 40))
     for _ in range(6 * wanted):
         if len(trace.entries) >= wanted:
             break
@@ -94,6 +97,42 @@ def recorded_run(rng):
     """The lines of a trace that a run of the plain model makes, of so few processes that all crash sets can be tried."""
     text, _ = scripts.ran(random_script(rng, 0.0, (1, 2, 3, 3, 4, 5)))
     return text.splitlines()
+
+
+def raised(lines, by):
+    """The same of processes whose numbers are greater by so much, of 256; those below them do nothing."""
+    entries = [json.loads(line) for line in lines]
+    for entry in entries:
+        lift(entry, by)
+    return [json.dumps(entry, separators=(",", ":")) for entry in entries]
+
+
+def lift(entry, by):
+    word = entry[0]
+    if word == "trace":
+        entry[1:] = [2, 256]
+    elif word == "stable":
+        lift_det(entry[1], by)
+    elif word != "end":
+        entry[1] += by
+        if word == "send":
+            entry[2] += by
+        for det in entry[-1] if word in ("deliver", "restart", "forget") else []:
+            lift_det(det, by)
+
+
+def lift_det(det, by):
+    det[0] += by
+    det[2] += by
+
+
+def raised_line(line, by):
+    """A verdict's line, of processes whose numbers are greater by so much."""
+    def lifted(found):
+        numbers = found[2].split(",")
+        return found[1] + ",".join(str(int(number) + by) if number != "-" else number for number in numbers)
+
+    return re.sub(r"\b((?:down|crash|orphan)=)(\S+)", lifted, line)
 
 
 NUMBERS = ("0", "1", "2", "3", "7", "64", "65", "255", "256", "257", "65536", "4294967295", "4294967296",
@@ -152,9 +191,44 @@ def number_places(line):
 def audit_case(rng):
     lines = recorded_run(rng) if rng.random() < 0.3 else random_trace(rng)
     f = rng.choice((0, 1, 1, 1, 2, 2, 3, 5, 65535))
-    workers = rng.choice((1, 1, 2, 3, 5))
+    words = ["audit", "--faults", str(f), "--workers", str(rng.choice((1, 1, 2, 3, 5)))]
     text = damaged(rng, lines)
-    return ["audit", "--faults", str(f), "--workers", str(workers)], text, lambda: traces.audited(text, f)
+    return words, text, lambda _: traces.audited(text, f)
+
+
+def raised_case(rng):
+    """A trace whose processes have numbers around 63, or the greatest: its verdict is that of the trace with small ones, raised."""
+    lines, f, by = whole_trace(rng), rng.choice((0, 1, 1, 2, 3)), rng.choice((61, 62, 252))
+    text, small = ("\n".join(raised(lines, by)) + "\n").encode(), ("\n".join(lines) + "\n").encode()
+    return ["audit", "--faults", str(f)], text, lambda _: raised_answer(small, f, by)
+
+
+def whole_trace(rng):
+    while True:
+        lines = random_trace(rng)
+        try:
+            traces.read(("\n".join(lines) + "\n").encode())
+            return lines
+        except traces.Fault:
+            continue
+
+
+def raised_answer(small, f, by):
+    line, status = traces.audited(small, f)
+    return raised_line(line, by), status
+
+
+def explain_case(rng):
+    """A whole trace, mostly: what damage does is seen by the audit."""
+    lines = recorded_run(rng) if rng.random() < 0.3 else random_trace(rng)
+    f = rng.choice((0, 1, 1, 1, 2, 2, 3))
+    text = damaged(rng, lines) if rng.random() < 0.1 else ("\n".join(lines) + "\n").encode()
+    return ["explain", "--faults", str(f)], text, lambda said: explained(text, f, said)
+
+
+def explained(text, f, said):
+    line, status = traces.audited(text, f)
+    return "\n".join([line] if status == 2 else reasons.told(text, f, said.splitlines())), status
 
 
 # ---- scripts
@@ -215,15 +289,32 @@ def run_case(rng):
         text = text[:at] + rng.choice(junk) + text[at:]
     elif kind < 0.25:
         text = text[:at] + text[at + 1 :]
-    return ["run"], text, lambda: scripts.ran(text)
+    return ["run"], text, lambda _: scripts.ran(text)
 
 
 # ---- both
 
+MAKERS = {"audit": [audit_case, audit_case, raised_case], "explain": [explain_case], "run": [run_case]}
+
+# What a trial of all cases has to meet at least once in so many.
+LEAST = {"accept": 10, "exceeded": 50, "orphan crash=-": 50, "orphan": 100, "with a replay": 50, "with a forgetting": 20, "with a stable": 20}
+
+
+def features(text):
+    """What stands in a trace that tests of its verdict want to have met."""
+    sends = re.findall(rb'^\["deliver",\d+,(\d+),', text, re.MULTILINE)
+    yield from ["with a replay"] * (len(set(sends)) < len(sends))
+    yield from ["with a forgetting"] * (b'"forget"' in text)
+    yield from ["with a stable"] * (b'"stable"' in text)
+
 
 def one(program, words, text):
+    """What the program prints, of the lines of `explain` the words before the colon, and its status."""
     ended = subprocess.run([program, *words], input=text, capture_output=True, timeout=60)
-    return ended.stdout.decode("utf-8", "replace"), ended.returncode
+    said = ended.stdout.decode("utf-8", "replace")
+    if words[0] == "explain":
+        said = "".join(line.split(":")[0] + "\n" for line in said.splitlines())
+    return said, ended.returncode
 
 
 def chunk(program, makers, seed, count):
@@ -231,20 +322,16 @@ def chunk(program, makers, seed, count):
     rng, wrong, met = random.Random(seed), [], collections.Counter()
     for _ in range(count):
         words, text, model = rng.choice(makers)(rng)
-        wanted, status = model()
         got = one(program, words, text)
+        wanted, status = model(got[0])
         wanted = wanted if wanted.endswith("\n") else wanted + "\n"
         if got != (wanted, status):
             wrong.append((words, text, (wanted, status), got))
         first = wanted.split("\n", 1)[0].split(" ")
         met[" ".join(word for word in first if not any(c.isdigit() for c in word)) or first[0][:8]] += 1
+        if words[0] != "run" and status != 2:
+            met.update(features(text))
     return wrong, met
-
-
-def makers_for(program):
-    """A case of each command that the program has."""
-    said = subprocess.run([program, "--help"], capture_output=True, text=True, check=True).stdout
-    return [maker for name, maker in (("audit", audit_case), ("run", run_case)) if f"\n  {name} " in said]
 
 
 def main():
@@ -253,9 +340,9 @@ def main():
     given.add_argument("--cases", type=int, default=20_000)
     given.add_argument("--seed", type=int, default=1)
     given.add_argument("--jobs", type=int, default=os.cpu_count())
-    given.add_argument("--only", choices=("audit", "run"))
+    given.add_argument("--only", choices=("audit", "explain", "run"))
     words = given.parse_args()
-    makers = {"audit": [audit_case], "run": [run_case], None: makers_for(words.program)}[words.only]
+    makers = MAKERS[words.only] if words.only else [maker for makers in MAKERS.values() for maker in makers]
     wrong, met = 0, collections.Counter()
     with concurrent.futures.ProcessPoolExecutor(words.jobs) as pool:
         starts = range(0, words.cases, CHUNK)
@@ -271,8 +358,11 @@ def main():
                 print(f"DIFFERENT {' '.join(said)}\n  input {text!r}\n  wanted {wanted!r}\n  got    {got!r}")
     for answer, times in sorted(met.items(), key=lambda row: -row[1]):
         print(f"{times:7} {answer}")
-    print(f"{sum(met.values())} cases, {wrong} different")
-    sys.exit(1 if wrong else 0)
+    rare = [] if words.only else [answer for answer, most in LEAST.items() if met[answer] * most < words.cases]
+    for answer in rare:
+        print(f"TOO FEW {answer}")
+    print(f"{words.cases} cases, {wrong} different")
+    sys.exit(1 if wrong or rare else 0)
 
 
 if __name__ == "__main__":

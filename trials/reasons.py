@@ -1,6 +1,8 @@
 """A plain model of what `explain` tells of a trace that is refused, from docs/FORMAT.md alone: of each line the words before the
 colon. It judges the trace by the plain model of the auditor (traces.py), reads the entries over for each fact, and shares no code
 with the product. It is for small traces."""
+import re
+
 import traces
 
 
@@ -39,21 +41,21 @@ def lanes(entries):
     """Of each send and delivery the process and how often it had restarted; None of another entry."""
     restarts, found = {}, []
     for word, fields in entries:
-        restarts[fields[0]] = restarts.get(fields[0], 0) + (word == "restart") if word != "stable" else 0
-        found.append((fields[0], restarts[fields[0]]) if word in ("send", "deliver") else None)
+        if word == "restart":
+            restarts[fields[0]] = restarts.get(fields[0], 0) + 1
+        found.append((fields[0], restarts.get(fields[0], 0)) if word in ("send", "deliver") else None)
     return found, restarts
 
 
-def chain_to(entries, k, p):
-    """The shortest chain from the delivery at position k to an event of p's present lane, of which there has to be one alone."""
+def chain_to(entries, k, p, told):
+    """A shortest chain from the delivery at position k to an event of p's present lane: the one that is told, where it is one."""
     found, restarts = lanes(entries)
     present = (p, restarts.get(p, 0))
     chains = [[k]]
     while chains:
         arrived = [chain for chain in chains if found[chain[-1]] == present]
         if arrived:
-            assert len(arrived) == 1, "several chains are shortest"
-            return arrived[0]
+            return told if told in arrived else arrived[0]
         chains = [chain + [j] for chain in chains for j in range(len(entries)) if precedes(entries, found, chain[-1], j)]
     return None
 
@@ -94,7 +96,7 @@ def downs(trace, t):
             yield f"down process={p} line={turned(ups) + 2}"
 
 
-def facts_of_orphan(trace, t, k, crash, orphan):
+def facts_of_orphan(trace, t, k, crash, orphan, chain_told):
     entries, over = trace.entries[:t], logs_over(trace.entries[:t], trace.n)
     det = trace.dets[k]
     yield f"delivery line={k + 2} process={det[2]} source={det[0]} ssn={det[1]} rsn={det[3]}"
@@ -109,7 +111,7 @@ def facts_of_orphan(trace, t, k, crash, orphan):
             yield f"loss process={p} line={turned(has) + 2} by={entries[turned(has)][0]}"
     yield from downs(trace, t)
     yield from (f"crash process={p}" for p in sorted(crash))
-    chain = chain_to(entries, k, orphan)
+    chain = chain_to(entries, k, orphan, chain_told)
     yield from (f"chain line={i + 2} process={entries[i][1][0]}" for i in chain)
     lacking = [i for i in chain if entries[i][0] == "deliver" and det not in over[i + 1][entries[i][1][0]]]
     for i in lacking[:1]:
@@ -118,14 +120,28 @@ def facts_of_orphan(trace, t, k, crash, orphan):
     yield f"orphan process={orphan}"
 
 
-def told(text, f):
-    """The verdict's line, and of each line below it the words before the colon, where the verdict refuses the trace."""
+def closest(text, f, n):
+    """What comes closest to failing in a trace that is accepted: the verdict for the least number of faults that refuses it."""
+    for faults in range(f + 1, n + 1):
+        line, status = traces.audited(text, faults)
+        if status == 1:
+            said = dict(word.split("=") for word in line.split()[1:])
+            return f"closest faults={faults} line={int(said['delivery']) + 2} until={int(said['instant']) + 1} orphan={said['orphan']}"
+    return "closest faults=-"
+
+
+def told(text, f, facts):
+    """The verdict's line, and of each line below it the words before the colon. Of several shortest chains it is that of the facts that
+    the program told."""
     line = traces.audited(text, f)[0]
     kind, *words = line.split()
     said = dict(word.split("=") for word in words)
     trace = traces.read(text)
+    if kind == "accept":
+        return [line, closest(text, f, trace.n)]
     t = int(said["instant"])
     if kind == "exceeded":
         return [line, *facts_of_excess(trace, t)]
     crash = [] if said["crash"] == "-" else map(int, said["crash"].split(","))
-    return [line, *facts_of_orphan(trace, t, int(said["delivery"]), crash, int(said["orphan"]))]
+    chain = [int(re.match(r"chain line=(\d+)", fact)[1]) - 2 for fact in facts if fact.startswith("chain ")]
+    return [line, *facts_of_orphan(trace, t, int(said["delivery"]), crash, int(said["orphan"]), chain)]

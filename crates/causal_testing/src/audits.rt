@@ -119,7 +119,7 @@ fn too_many_are_down(rt: HostRuntime) -> Result<(), Fail> {
 }
 
 /// The first determinant is forgotten by the one that delivered it, and then by the only other that held it.
-const FORGOTTEN: &str = r#"["trace",2,3]
+pub(crate) const FORGOTTEN: &str = r#"["trace",2,3]
 ["send",0,1,0]
 ["deliver",1,0,0,[[0,0,1,0]]]
 ["send",1,2,0]

@@ -1,12 +1,12 @@
 //! Verdicts and lines that were worked out by hand, for several numbers of workers, and that two workers run together.
 ghost use Rattle.std.specs.Prelude.{⊤};
 
-use crate::swept_runs::{HALF, Loss, losing, lost};
 use causal_audit::Verdict;
 use causal_holders::Holders;
 use causal_samples::texts::{DELIVERED, DOUBLED, EMPTY, ORPHAN_AT_ONCE, RING, RING_CRASHED, TIE};
 use causal_samples::{Line, push};
 use causal_text::{TextFault, TextKind, read_trace};
+use causal_trace::fault::TraceFault;
 use causal_trace::trace::Trace;
 use causal_workers::{AuditTextFault, Gate, Judged, OpenGate, audit, audit_text, verdict_line};
 use std::alloc::Global;
@@ -163,7 +163,7 @@ fn an_orphan_is_told_however_long_the_run_goes_on(rt: HostRuntime) -> Result<(),
         crash: Holders::none(),
         orphan: 3,
     };
-    for more in 0..400 {
+    for more in [0, 1, 62, 63, 64, 399] {
         assert!(rt;
             is_told(&rt, rt.alloc(), ORPHAN_AT_ONCE, more, &orphan)?,
             "{more} more entries"
@@ -178,7 +178,7 @@ fn an_excess_is_told_however_long_the_run_goes_on(rt: HostRuntime) -> Result<(),
     down.insert(1);
     down.insert(2);
     let exceeded = Verdict::Exceeded { instant: 8, down };
-    for more in 0..600 {
+    for more in [0, 1, 62, 63, 64, 599] {
         assert!(rt;
             is_told(&rt, rt.alloc(), RING_CRASHED, more, &exceeded)?,
             "{more} more entries"
@@ -278,10 +278,46 @@ fn audit_workers_overlap(rt: HostRuntime) -> Result<(), Fail> {
     Ok(())
 }
 
+/// Process 0 sends so many messages to process 1, which lists each as it delivers it; then 1 sends to 2, which lists nothing of them.
+fn passed_on_bare(alloc: Global, count: u32) -> Result<Trace, TraceFault> {
+    let mut trace = Trace::new(alloc, 3)?;
+    for number in 0..count {
+        let send = trace.len();
+        push(alloc, &mut trace, Line::Send(0, 1, number))?;
+        push(
+            alloc,
+            &mut trace,
+            Line::Deliver(1, send, number, &[(0, number, 1, number)]),
+        )?;
+    }
+    let send = trace.len();
+    push(alloc, &mut trace, Line::Send(1, 2, 0))?;
+    push(
+        alloc,
+        &mut trace,
+        Line::Deliver(2, send, 0, &[(1, 0, 2, 0)]),
+    )?;
+    Ok(trace)
+}
+
+/// More than two groups of deliveries, all of which are followed for one: with 1 down, 2 depends on the first, which nobody has.
+const MANY: u32 = 600;
+
+fn lost() -> Verdict {
+    let mut crash = Holders::none();
+    crash.insert(1);
+    Verdict::Orphan {
+        instant: 1_202,
+        delivery: 1,
+        crash,
+        orphan: 2,
+    }
+}
+
 #[test]
-fn workers_overlap_that_have_deliveries_to_sweep(rt: HostRuntime) -> Result<(), Fail> {
-    let trace = losing(rt.alloc(), HALF, &[Loss::Last, Loss::First])?;
-    assert!(rt; have_met(&rt, rt.alloc(), &trace, 2, lost(HALF, Loss::Last))?);
+fn workers_overlap_that_have_deliveries_to_follow(rt: HostRuntime) -> Result<(), Fail> {
+    let trace = passed_on_bare(rt.alloc(), MANY)?;
+    assert!(rt; have_met(&rt, rt.alloc(), &trace, 1, lost())?);
     Ok(())
 }
 
@@ -347,10 +383,10 @@ fn each_worker_enters_once_also_without_work(rt: HostRuntime) -> Result<(), Fail
 }
 
 #[test]
-fn each_worker_enters_once_that_has_deliveries_to_sweep(rt: HostRuntime) -> Result<(), Fail> {
-    let trace = losing(rt.alloc(), HALF, &[Loss::Last, Loss::First])?;
+fn each_worker_enters_once_that_has_deliveries_to_follow(rt: HostRuntime) -> Result<(), Fail> {
+    let trace = passed_on_bare(rt.alloc(), MANY)?;
     for entered in ENTERED {
-        let met = have_entered(&rt, rt.alloc(), &trace, 2, entered, lost(HALF, Loss::Last))?;
+        let met = have_entered(&rt, rt.alloc(), &trace, 1, entered, lost())?;
         let (workers, _) = entered;
         assert!(rt; met, "{workers} workers");
     }

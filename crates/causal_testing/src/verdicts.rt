@@ -1,6 +1,5 @@
-//! The plain judgement of traces of a few entries, with verdicts that were worked out by hand.
-use crate::plain::judge;
-use causal_audit::Verdict;
+//! Verdicts on traces of a few entries, worked out by hand: those of the audit, and of the judgement by tables.
+use causal_audit::{Tables, Verdict, judge, verdict_of};
 use causal_holders::Holders;
 use causal_samples::{Line, RING, push_all, traced};
 use std::alloc::Global;
@@ -41,11 +40,13 @@ fn verdict(said: Said<'_>) -> Verdict {
     }
 }
 
-/// What the plain judgement says of the trace of n processes of a case, or `None` where it is no trace.
+/// The verdict on the trace of n processes of a case, or `None` where it is no trace, or two are given.
 fn judged(alloc: Global, n: u16, case: Case<'_>) -> Option<Verdict> {
     let mut trace = traced(alloc, n, case.0).ok()?;
     push_all(alloc, &mut trace, case.1).ok()?;
-    judge(alloc, &trace, case.2).ok()
+    let verdict = verdict_of(alloc, &trace, case.2).ok()?;
+    let tables = Tables::of(alloc, &trace).ok()?;
+    (judge(&tables, case.2) == verdict).then_some(verdict)
 }
 
 fn check_all(rt: &impl Abort, alloc: Global, n: u16, cases: &[Case<'_>]) {

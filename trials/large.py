@@ -1,0 +1,165 @@
+#!/usr/bin/env python3
+"""Runs the built program on runs of so many deliveries that several workers have some to follow, with verdicts worked out by hand.
+Small runs of the same shapes are judged by the plain model (traces.py) first, which has to say the same.
+
+    trials/large.py [--program PATH]
+"""
+import argparse
+import os
+import subprocess
+import sys
+
+import fuzz
+import scripts
+import traces
+
+WORKERS = (1, 2, 3, 5, 64)
+
+
+def text_of(n, entries):
+    lines = [("trace", 2, n), *entries, ("end", len(entries))]
+    return "".join(scripts.spelled(line) + "\n" for line in lines).encode()
+
+
+def orphan(f, instant, delivery, crash, process):
+    return f"orphan f={f} instant={instant} delivery={delivery} crash={traces.joined(crash)} orphan={process}"
+
+
+def accepted(f, entries):
+    return f"accept f={f} entries={len(entries)} deliveries={sum(entry[0] == 'deliver' for entry in entries)}"
+
+
+def received(count):
+    """0 sends so many messages to 1, which lists each as it delivers it."""
+    entries = []
+    for number in range(count):
+        entries.append(("send", 0, 1, number))
+        entries.append(("deliver", 1, len(entries) - 1, number, [[0, number, 1, number]]))
+    return entries
+
+
+def unlisted(count):
+    """1 then sends to 2, which lists nothing of them: with 1 down, 2 depends on the first, which nobody has."""
+    entries = received(count)
+    entries += [("send", 1, 2, 0), ("deliver", 2, len(entries), 0, [[1, 0, 2, 0]])]
+    return 3, entries, 1, orphan(1, 2 * count + 2, 1, [1], 2)
+
+
+def passed_on(count, lacking):
+    """1 then sends to 2, which lists them all, and 2 to 3, which lists all but one. Two hold each, so all are followed for two."""
+    entries, send = received(count), 2 * count
+    listed = [[0, number, 1, number] for number in range(count)]
+    entries += [("send", 1, 2, 0), ("deliver", 2, send, 0, [*listed, [1, 0, 2, 0]])]
+    del listed[lacking]
+    entries += [("send", 2, 3, 0), ("deliver", 3, send + 2, 0, [*listed, [1, 0, 2, 0], [2, 0, 3, 0]])]
+    return 4, entries, 2, orphan(2, send + 4, 2 * lacking + 1, [1, 2], 3)
+
+
+# What 2 and 3 have of the first delivery, what 1 delivers in each incarnation, what 0 delivers halfway, and what 2 delivers of 1.
+FIRST, AGAIN, MIDDLE, PASSED = [0, 0, 2, 0], [0, 1, 1, 0], [0, 2, 0, 0], [1, 0, 2, 1]
+
+# 0 sends to 2, and that to 3, which lists both deliveries; then 0 sends to 1.
+BEGINNING = [
+    ("send", 0, 2, 0),
+    ("deliver", 2, 0, 0, [FIRST]),
+    ("send", 2, 3, 0),
+    ("deliver", 3, 2, 0, [FIRST, [2, 0, 3, 0]]),
+    ("send", 0, 1, 1),
+    ("deliver", 1, 4, 0, [AGAIN]),
+]
+
+
+def replays(count):
+    """1 delivers again what it delivered in the beginning, in so many incarnations."""
+    return [("crash", 1), ("restart", 1, [AGAIN]), ("deliver", 1, 4, 0, [AGAIN])] * count
+
+
+def loss(kind, send):
+    """How a delivery gets an orphan where two may crash, as the next entries, and the verdict that comes of it first."""
+    if kind == "first":
+        return [("forget", 3, [FIRST])], orphan(2, send + 1, 1, [2], 3)
+    if kind == "both":
+        return [("forget", 3, [FIRST, PASSED])], orphan(2, send + 1, 1, [2], 3)
+    if kind == "middle":
+        return [("forget", 0, [MIDDLE])], orphan(2, send + 1, send // 2 + 1, [], 0)
+    return [("send", 1, 1, 1), ("deliver", 1, send, 1, [])], orphan(2, send + 2, send + 1, [], 1)
+
+
+def losing(half, kinds):
+    """1 delivers one message in twice so many incarnations; between them 0 delivers one of its own, and what 1 sends is passed on to 2
+    and to 3. Until the losses whoever depends on a delivery holds its determinant, or more than two do."""
+    entries = BEGINNING + replays(half)
+    entries += [("send", 0, 0, 2), ("deliver", 0, len(entries), 0, [MIDDLE]), *replays(half)]
+    send = len(entries)
+    entries += [
+        ("send", 1, 2, 0),
+        ("deliver", 2, send, 1, [AGAIN, PASSED]),
+        ("send", 2, 3, 1),
+        ("deliver", 3, send + 2, 1, [AGAIN, PASSED, [2, 1, 3, 1]]),
+    ]
+    said = accepted(2, entries)
+    for at, kind in enumerate(kinds):
+        more, verdict = loss(kind, len(entries))
+        said = verdict if at == 0 else said
+        entries += more
+    return 4, entries, 2, said
+
+
+def losing_early(early, late):
+    """The same, where 3 forgets the first delivery between two rows of incarnations, and 1 lists nothing of a delivery in the end."""
+    entries = BEGINNING + replays(early)
+    instant = len(entries) + 1
+    entries += [("forget", 3, [FIRST]), *replays(late)]
+    entries += [("send", 1, 1, 0), ("deliver", 1, len(entries), 1, [])]
+    return 4, entries, 2, orphan(2, instant, 1, [2], 3)
+
+
+def replayed(count):
+    """1 delivers a message, and again in so many incarnations; then it sends to 2, which lists it too. Two hold what they share."""
+    again = [("crash", 1), ("restart", 1, [[0, 0, 1, 0]]), ("deliver", 1, 0, 0, [[0, 0, 1, 0]])]
+    entries = [("send", 0, 1, 0), again[2], *again * count]
+    entries += [("send", 1, 2, 0), ("deliver", 2, len(entries), 0, [[0, 0, 1, 0], [1, 0, 2, 0]])]
+    return 4, entries, 2, accepted(2, entries)
+
+
+ORDERS = (("last", "first", "middle"), ("middle", "last", "first"), ("first", "middle", "last"), ("both", "middle", "last"), ())
+SMALL = [
+    unlisted(3),
+    *(passed_on(3, lacking) for lacking in range(3)),
+    *(losing(1, kinds) for kinds in ORDERS),
+    losing_early(1, 1),
+    replayed(3),
+]
+LARGE = [
+    unlisted(4097),
+    *(passed_on(600, lacking) for lacking in (0, 255, 256, 300, 511, 512, 599)),
+    *(losing(95, kinds) for kinds in ORDERS),
+    losing_early(5, 185),
+    replayed(190),
+]
+
+
+def main():
+    given = argparse.ArgumentParser(description=__doc__.split("\n\n")[0])
+    given.add_argument("--program", default=fuzz.PROGRAM)
+    program = given.parse_args().program
+    wrong = 0
+    for n, entries, f, wanted in SMALL:
+        said = traces.audited(text_of(n, entries), f)[0]
+        if said != wanted:
+            wrong += 1
+            print(f"the model says {said}, and not {wanted}")
+    for n, entries, f, wanted in SMALL + LARGE:
+        text = text_of(n, entries)
+        for workers in WORKERS:
+            words = [program, "audit", "--faults", str(f), "--workers", str(workers)]
+            said = subprocess.run(words, input=text, capture_output=True, timeout=60).stdout.decode().rstrip("\n")
+            if said != wanted:
+                wrong += 1
+                print(f"{len(entries)} entries, {workers} workers: the program says {said}, and not {wanted}")
+    print(f"{len(SMALL)} small runs and {len(LARGE)} large ones by {len(WORKERS)} numbers of workers, {wrong} wrong")
+    sys.exit(1 if wrong else 0)
+
+
+if __name__ == "__main__":
+    main()
