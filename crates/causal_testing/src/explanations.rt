@@ -168,15 +168,20 @@ fn closest_of(alloc: Global, text: &str, f: u16) -> Result<Option<Closest>, Fail
     Ok(closest(alloc, &trace, f, verdict)?)
 }
 
+/// Processes 1 and 2.
+fn both() -> Holders {
+    let mut both = Holders::none();
+    both.insert(1);
+    both.insert(2);
+    both
+}
+
 /// What the ring has where two may crash.
 fn ring_breach() -> Breach {
-    let mut crash = Holders::none();
-    crash.insert(1);
-    crash.insert(2);
     Breach {
         instant: 6,
         delivery: 1,
-        crash,
+        crash: both(),
         orphan: 0,
     }
 }
@@ -197,18 +202,17 @@ fn what_comes_closest_is_told(rt: HostRuntime) -> Result<(), Fail> {
 // A verdict names a breach where a delivery has an orphan, and nowhere else.
 #[test]
 fn verdicts_name_their_breaches(rt: HostRuntime) -> Result<(), Fail> {
-    let breach = ring_breach();
     let orphan = Verdict::Orphan {
         instant: 6,
         delivery: 1,
-        crash: breach.crash,
+        crash: both(),
         orphan: 0,
     };
-    assert_eq!(rt; orphan.breach(), Some(breach));
+    assert_eq!(rt; orphan.breach(), Some(ring_breach()));
     assert_eq!(rt; Verdict::Accept.breach(), None);
     let exceeded = Verdict::Exceeded {
         instant: 6,
-        down: breach.crash,
+        down: both(),
     };
     assert_eq!(rt; exceeded.breach(), None);
     Ok(())
