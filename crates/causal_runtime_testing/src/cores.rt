@@ -1,5 +1,5 @@
-//! Scripts with the traces that they have to record, faults of memory and of stores, the limit on entries, and random
-//! calls, on cores of the kinds of process that come with the runtime.
+//! Scripts with the traces that they have to record, faults of memory and of stores, and the limit on entries, on cores of the kinds
+//! of process that come with the runtime.
 use crate::runtime::*;
 use causal_core::{Core, CoreFault, Delivered, FlushFault, Reply, Restarted, StartFault};
 use causal_log::Stable;
@@ -11,7 +11,6 @@ use std::alloc::Global;
 pub(crate) mod doubles;
 mod faults;
 mod limits;
-mod random;
 mod recovery;
 pub(crate) mod scripts;
 

@@ -9,8 +9,6 @@ mod cores;
 #[cfg(test)]
 mod logs;
 #[cfg(test)]
-mod random_logs;
-#[cfg(test)]
 mod runs;
 #[cfg(test)]
 mod runtime;
