@@ -2,6 +2,7 @@
 
    REFUSE_KIND   memory, thread, read or write
    REFUSE_AT     the number of the first call that fails, from 1; 0 lets none fail
+   REFUSE_SPAN   how many calls in a row fail, 1 where nothing is said
    REFUSE_ALL    1: all calls from that one on fail
    REFUSE_ERROR  for read and write: the error's number; 0 makes a write take no byte
    REFUSE_COUNT  a file into which the number of calls is written at the end
@@ -21,13 +22,14 @@
 #include <unistd.h>
 
 static const char *kind = "";
-static long at, all, error;
+static long at, span = 1, all, error;
 static atomic_long calls;
 
 __attribute__((constructor)) static void begin(void) {
     const char *said;
     if ((said = getenv("REFUSE_KIND"))) kind = said;
     if ((said = getenv("REFUSE_AT"))) at = strtol(said, NULL, 10);
+    if ((said = getenv("REFUSE_SPAN"))) span = strtol(said, NULL, 10);
     if ((said = getenv("REFUSE_ALL"))) all = strtol(said, NULL, 10);
     if ((said = getenv("REFUSE_ERROR"))) error = strtol(said, NULL, 10);
 }
@@ -53,7 +55,7 @@ __attribute__((destructor)) static void end(void) { tell(); }
 static int fails(const char *word) {
     if (strcmp(kind, word)) return 0;
     long call = ++calls;
-    return at && (call == at || (all && call > at));
+    return at && call >= at && (all || call < at + span);
 }
 
 void *malloc(size_t size) {

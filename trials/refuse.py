@@ -63,6 +63,15 @@ STREAMS = [("read", (errno.EIO, errno.EINTR)), ("write", (errno.EIO, errno.EINTR
 MADE_AGAIN = ("help", errno.EINTR)
 
 
+def library_in(folder):
+    """The library to preload, built in a folder."""
+    library = os.path.join(folder, "refuse.so")
+    source = os.path.join(HERE, "refuse.c")
+    compiler = os.environ.get("CC", "cc")
+    subprocess.run([compiler, "-shared", "-fPIC", "-O2", "-o", library, source, "-ldl", "-lpthread"], check=True)
+    return library
+
+
 class Tries:
     def __init__(self, program, library, folder, seconds):
         self.program, self.library, self.folder = program, library, folder
@@ -133,11 +142,7 @@ def main():
     given.add_argument("--seconds", type=float, default=float("inf"))
     words = given.parse_args()
     with tempfile.TemporaryDirectory() as folder, concurrent.futures.ThreadPoolExecutor(os.cpu_count()) as pool:
-        library = os.path.join(folder, "refuse.so")
-        source = os.path.join(HERE, "refuse.c")
-        compiler = os.environ.get("CC", "cc")
-        subprocess.run([compiler, "-shared", "-fPIC", "-O2", "-o", library, source, "-ldl", "-lpthread"], check=True)
-        tries = Tries(words.program, library, folder, words.seconds)
+        tries = Tries(words.program, library_in(folder), folder, words.seconds)
         plain = {}
         for name, said, text, status in RUNS:
             plain[name] = tries.once(said, text, kind="none")

@@ -1,0 +1,63 @@
+//! The processes of the runs: a ring of three.
+use crate::cores::{Boxed, run, started};
+use crate::seats::served;
+use crate::told::{TRIES, refused};
+use causal_name::NoMemory;
+use causal_process::Ring;
+use causal_shared::shared::Shared;
+use std::alloc::Global;
+use std::sync::Wait;
+use std::thread::Threads;
+
+/// How many processes there are.
+const PROCESSES: u8 = 3;
+
+/// How many hops the message makes.
+const HOPS: u8 = 9;
+
+// A function that makes a box and hands it out would hide what it makes, so each run makes its own.
+
+/// Makes the processes of a core, and a spare, and runs them; whether they were run.
+fn made_core<R: Print + Eprint + Threads + Wait>(rt: &R, alloc: Global) -> Result<bool, NoMemory> {
+    let mut boxes: Vec<Boxed> = Vec::new(alloc);
+    for me in 0..PROCESSES {
+        boxes.push(Box::new(alloc, Ring::new(u16::from(PROCESSES), me, HOPS))?)?;
+    }
+    let spare: Boxed = Box::new(alloc, Ring::new(u16::from(PROCESSES), 1, HOPS))?;
+    Ok(run(rt, alloc, boxes, spare))
+}
+
+/// The same of a shared runtime of one seat. Where its opening is refused, the core is dropped.
+fn made_seat<R: Print + Eprint + Threads + Wait>(rt: &R, alloc: Global) -> Result<bool, NoMemory> {
+    let mut boxes: Vec<Boxed> = Vec::new(alloc);
+    for me in 0..PROCESSES {
+        boxes.push(Box::new(alloc, Ring::new(u16::from(PROCESSES), me, HOPS))?)?;
+    }
+    let spare: Boxed = Box::new(alloc, Ring::new(u16::from(PROCESSES), 1, HOPS))?;
+    let Some(core) = started(rt, alloc, boxes) else {
+        return Ok(false);
+    };
+    match Shared::open(alloc, core, 1, 7) {
+        Ok((shared, seats)) => Ok(served(rt, alloc, shared, seats, spare)),
+        Err(fault) => Ok(refused(rt, "shared.open", &fault, true)),
+    }
+}
+
+/// Whether there was memory for the processes, and they were run.
+fn is_made<P: Eprint>(rt: &P, made: Result<bool, NoMemory>) -> bool {
+    match made {
+        Ok(is_run) => is_run,
+        Err(fault) => refused(rt, "boxes", &fault, true),
+    }
+}
+
+/// Runs a core and then a seat, each with new processes until memory is refused neither for them nor for what they begin in.
+pub fn are_run<R: Print + Eprint + Threads + Wait>(rt: &R, alloc: Global) -> bool {
+    let mut by_core = false;
+    let mut by_seat = false;
+    for _ in 0..TRIES {
+        by_core = by_core || is_made(rt, made_core(rt, alloc));
+        by_seat = by_seat || (by_core && is_made(rt, made_seat(rt, alloc)));
+    }
+    by_seat
+}

@@ -1,0 +1,51 @@
+//! A script that is run.
+use crate::told::{TRIES, refused};
+use causal_run::run_script;
+use causal_script::{Script, parse_script};
+use causal_trace::trace::Trace;
+use std::alloc::Global;
+use std::sync::Wait;
+
+const SCRIPT: &str =
+    "start ring 3 1 2\ndeliver 1 0 0\ndeliver 2 1 0\ndeliver 0 2 0\nflush 2\nforget 2\n\
+    crash 1\nrestart 1\ndeliver 1 0 0\n";
+
+fn parsed<P: Print + Eprint>(rt: &P, alloc: Global) -> Option<Script> {
+    for _ in 0..TRIES {
+        match parse_script(alloc, SCRIPT.as_bytes()) {
+            Ok(script) => return Some(script),
+            Err(fault) => refused(rt, "parse_script", &fault, true),
+        };
+    }
+    None
+}
+
+fn run_once<R: Print + Eprint + Wait>(rt: &R, alloc: Global, script: &Script) -> Option<Trace> {
+    if script.n == 0 || script.n > 256 {
+        return None;
+    }
+    match run_script(rt, alloc, script) {
+        Ok(trace) => Some(trace),
+        Err(fault) => {
+            refused(rt, "run_script", &fault, true);
+            None
+        }
+    }
+}
+
+fn run<R: Print + Eprint + Wait>(rt: &R, alloc: Global, script: &Script) -> Option<Trace> {
+    for _ in 0..TRIES {
+        if let Some(trace) = run_once(rt, alloc, script) {
+            return Some(trace);
+        }
+    }
+    None
+}
+
+/// The trace of the script's run, which is asked for until there is memory for it.
+pub fn recorded<R: Print + Eprint + Wait>(rt: &R, alloc: Global) -> Option<Trace> {
+    match parsed(rt, alloc) {
+        Some(script) => run(rt, alloc, &script),
+        None => None,
+    }
+}

@@ -1,0 +1,298 @@
+//! The calls of a shared runtime, by one seat.
+ghost use Rattle.std.specs.Prelude.{◌≤◌};
+
+use crate::cores::Boxed;
+use crate::readings::is_judged;
+use crate::told::{TRIES, came, refused};
+use causal_log::MemStable;
+use causal_name::Pid;
+use causal_shared::fault::SharedFault;
+use causal_shared::seat::Seat;
+use causal_shared::shared::{Shared, finish};
+use std::alloc::Global;
+use std::sync::Wait;
+use std::thread::Threads;
+
+// What is asked of the calls below is always so. Without it they would be refused as hiding what a box behind the lock does.
+
+/// A call of a seat, with its numbers in their order.
+#[derive(Clone, Copy)]
+enum Call {
+    Deliver(u8, u8, u32),
+    Crash(u8),
+    Flush(u8),
+    Forget(u8),
+    Pending(u8),
+    Snapshot,
+}
+
+impl Call {
+    fn name(self) -> &'static str {
+        match self {
+            Call::Deliver(..) => "shared.deliver",
+            Call::Crash(_) => "shared.crash",
+            Call::Flush(_) => "shared.flush",
+            Call::Forget(_) => "shared.forget",
+            Call::Pending(_) => "shared.pending",
+            Call::Snapshot => "shared.snapshot",
+        }
+    }
+}
+
+/// Once round the ring, and then process 1 goes down.
+const BEFORE: [Call; 6] = [
+    Call::Deliver(1, 0, 0),
+    Call::Deliver(2, 1, 0),
+    Call::Deliver(0, 2, 0),
+    Call::Flush(2),
+    Call::Forget(2),
+    Call::Crash(1),
+];
+
+/// What it had delivered, and what is seen then.
+const AFTER: [Call; 3] = [Call::Deliver(1, 0, 0), Call::Pending(1), Call::Snapshot];
+
+/// How many items the seat has, and how many entries it has seen.
+fn sitting(seat: &Seat) -> (u32, u32) {
+    (seat.count(), seat.seen())
+}
+
+/// What a refusal leaves: one that the core has told is an item, which changes nothing but what a flush had stored.
+fn left_by(fault: SharedFault, before: (u32, u32)) -> (u32, u32) {
+    let (count, seen) = before;
+    match fault {
+        SharedFault::Core(_) => (count.saturating_add(1), seen),
+        SharedFault::Flush(stopped) => {
+            (count.saturating_add(1), seen.saturating_add(stopped.done))
+        }
+        _ => before,
+    }
+}
+
+/// A call that makes an item.
+fn asked<R: Wait>(
+    rt: &R,
+    shared: &Shared<MemStable>,
+    seat: &mut Seat,
+    call: Call,
+) -> Result<(), SharedFault>
+    requires { 1 ≤ TRIES }
+{
+    match call {
+        Call::Deliver(q, source, ssn) => {
+            match shared.deliver(rt, seat, Pid(q), Pid(source), ssn) {
+                Ok(_) => Ok(()),
+                Err(fault) => Err(fault),
+            }
+        }
+        Call::Crash(p) => match shared.crash(rt, seat, Pid(p)) {
+            Ok(_) => Ok(()),
+            Err(fault) => Err(fault),
+        },
+        Call::Flush(p) => match shared.flush(rt, seat, Pid(p)) {
+            Ok(_) => Ok(()),
+            Err(fault) => Err(fault),
+        },
+        Call::Forget(p) => match shared.forget(rt, seat, Pid(p)) {
+            Ok(_) => Ok(()),
+            Err(fault) => Err(fault),
+        },
+        Call::Pending(_) | Call::Snapshot => Ok(()),
+    }
+}
+
+/// Makes such a call once; whether it came through.
+fn recorded<R: Print + Eprint + Wait>(
+    rt: &R,
+    shared: &Shared<MemStable>,
+    seat: &mut Seat,
+    call: Call,
+) -> bool
+    requires { 1 ≤ TRIES }
+{
+    let before = sitting(seat);
+    match asked(rt, shared, seat, call) {
+        Ok(()) => came(rt, call.name(), &seat.seen()),
+        Err(fault) => {
+            let is_left = sitting(seat) == left_by(fault, before);
+            refused(rt, call.name(), &fault, is_left)
+        }
+    }
+}
+
+fn pending<R: Print + Eprint + Wait>(
+    rt: &R,
+    shared: &Shared<MemStable>,
+    seat: &Seat,
+    call: Call,
+    q: u8,
+) -> bool
+    requires { 1 ≤ TRIES }
+{
+    match shared.pending(rt, seat, Pid(q)) {
+        Ok(names) => came(rt, call.name(), &names.len()),
+        Err(fault) => refused(rt, call.name(), &fault, true),
+    }
+}
+
+fn snapshot<R: Print + Eprint + Wait>(
+    rt: &R,
+    shared: &Shared<MemStable>,
+    seat: &mut Seat,
+    call: Call,
+) -> bool
+    requires { 1 ≤ TRIES }
+{
+    let before = sitting(seat);
+    match shared.snapshot(rt, seat) {
+        Ok(shown) => came(rt, call.name(), &shown.trace.len()),
+        Err(fault) => refused(rt, call.name(), &fault, sitting(seat) == before),
+    }
+}
+
+/// Makes a call once; whether it came through.
+fn made<R: Print + Eprint + Wait>(
+    rt: &R,
+    shared: &Shared<MemStable>,
+    seat: &mut Seat,
+    call: Call,
+) -> bool
+    requires { 1 ≤ TRIES }
+{
+    match call {
+        Call::Pending(q) => pending(rt, shared, seat, call, q),
+        Call::Snapshot => snapshot(rt, shared, seat, call),
+        _ => recorded(rt, shared, seat, call),
+    }
+}
+
+/// Makes a call until it comes through.
+fn made_again<R: Print + Eprint + Wait>(
+    rt: &R,
+    shared: &Shared<MemStable>,
+    seat: &mut Seat,
+    call: Call,
+) -> bool
+    requires { 1 ≤ TRIES }
+{
+    let mut is_made = false;
+    for _ in 0..TRIES {
+        is_made = is_made || made(rt, shared, seat, call);
+    }
+    is_made
+}
+
+fn all_made<R: Print + Eprint + Wait>(
+    rt: &R,
+    shared: &Shared<MemStable>,
+    seat: &mut Seat,
+    calls: &[Call],
+) -> bool
+    requires { 1 ≤ TRIES }
+{
+    let mut are_made = true;
+    for call in calls {
+        are_made = are_made && made_again(rt, shared, seat, *call);
+    }
+    are_made
+}
+
+/// A restart gives the spare back where it is refused.
+fn restarted<R: Print + Eprint + Wait>(
+    rt: &R,
+    shared: &Shared<MemStable>,
+    seat: &mut Seat,
+    spare: Boxed,
+) -> Option<Boxed>
+    requires { 1 ≤ TRIES }
+{
+    let before = sitting(seat);
+    match shared.restart(rt, seat, Pid(1), spare) {
+        Ok(_) => {
+            came(rt, "shared.restart", &seat.seen());
+            None
+        }
+        Err(back) => {
+            let is_left = sitting(seat) == left_by(back.fault, before);
+            refused(rt, "shared.restart", &back.fault, is_left);
+            Some(back.spare)
+        }
+    }
+}
+
+/// Restarts process 1 by the spare, until it comes through.
+fn restarted_again<R: Print + Eprint + Wait>(
+    rt: &R,
+    shared: &Shared<MemStable>,
+    seat: &mut Seat,
+    spare: Boxed,
+) -> bool
+    requires { 1 ≤ TRIES }
+{
+    let mut spare = Some(spare);
+    for _ in 0..TRIES {
+        spare = match spare {
+            Some(boxed) => restarted(rt, shared, seat, boxed),
+            None => None,
+        };
+    }
+    spare.is_none()
+}
+
+/// Makes each call of a seat until it comes through.
+fn all_calls<R: Print + Eprint + Wait>(
+    rt: &R,
+    shared: &Shared<MemStable>,
+    seat: &mut Seat,
+    spare: Boxed,
+) -> bool
+    requires { 1 ≤ TRIES }
+{
+    all_made(rt, shared, seat, &BEFORE)
+        && restarted_again(rt, shared, seat, spare)
+        && all_made(rt, shared, seat, &AFTER)
+}
+
+/// The same, by the first of the seats.
+fn all_calls_of<R: Print + Eprint + Wait>(
+    rt: &R,
+    shared: &Shared<MemStable>,
+    seats: &mut Vec<Seat>,
+    spare: Boxed,
+) -> bool
+    requires { 1 ≤ TRIES }
+{
+    match seats.first_mut() {
+        Some(seat) => all_calls(rt, shared, seat, spare),
+        None => false,
+    }
+}
+
+/// What a finished runtime has recorded.
+fn ended<R: Print + Eprint + Threads + Wait>(
+    rt: &R,
+    alloc: Global,
+    shared: Shared<MemStable>,
+    seats: Vec<Seat>,
+) -> bool
+    requires { 1 ≤ TRIES }
+{
+    match finish(shared, seats) {
+        Ok(finished) => is_judged(rt, alloc, finished.core.trace()),
+        Err(fault) => refused(rt, "finish", &fault, false),
+    }
+}
+
+/// All calls of a shared runtime, and what it has then recorded.
+pub fn served<R: Print + Eprint + Threads + Wait>(
+    rt: &R,
+    alloc: Global,
+    shared: Shared<MemStable>,
+    seats: Vec<Seat>,
+    spare: Boxed,
+) -> bool
+    requires { 1 ≤ TRIES }
+{
+    let mut seats = seats;
+    all_calls_of(rt, &shared, &mut seats, spare) && ended(rt, alloc, shared, seats)
+}
