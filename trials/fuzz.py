@@ -22,6 +22,7 @@ HERE = os.path.dirname(os.path.abspath(__file__))
 PROGRAM = os.path.join(os.path.dirname(HERE), "crates", "causal_tool", "out", "causal_tool")
 CHUNK = 250  # cases that one worker makes from one seed
 KINDS = ("ring", "echo", "tally")
+LONG = 1 / 800  # of the traces so many have more deliveries that stay open than one worker follows at once
 
 
 # ---- traces
@@ -135,6 +136,49 @@ def raised_line(line, by):
     return re.sub(r"\b((?:down|crash|orphan)=)(\S+)", lifted, line)
 
 
+def long_run(rng):
+    """The lines of a trace with so many deliveries that several workers have some to follow, and its number of processes. Mostly
+    each process logs what it depends on, so that the trace is safe to the end, or to a late instant, for any number of faults."""
+    n = rng.choice((2, 2, 3))
+    trace = traces.Trace(n)
+    wanted = rng.randrange(520, 600) if n == 2 else rng.randrange(290, 340)
+    careless = rng.choice((0.0, 0.0, 0.0005, 0.003))
+    carried, waiting = {}, []  # what the sender's log had, of each send; sends that may be delivered
+    while len(trace.dets) < wanted:
+        p, here = rng.randrange(n), len(trace.entries)
+        process = trace.processes[p]
+        try:
+            if not process.up:
+                trace.push("restart", [p, []])
+            elif rng.random() < 0.001:
+                trace.push("crash", [p])
+            elif rng.random() < 0.55 or not waiting:
+                trace.push("send", [p, rng.randrange(n), process.sends])
+                carried[here] = frozenset(process.log)
+                waiting.append(here)
+            else:
+                k = waiting.pop(rng.randrange(len(waiting)))
+                source, q, ssn = trace.entries[k][1]
+                receiver = trace.processes[q]
+                own = (source, ssn, q, receiver.deliveries)
+                listed = sorted((carried[k] | {own}) - receiver.log)
+                if rng.random() < careless:
+                    listed.remove(rng.choice(listed))
+                trace.push("deliver", [q, k, own[3], [list(det) for det in listed]])
+        except traces.Fault:
+            continue
+    lines = [("trace", 1, n), *[(word, *fields) for word, fields in trace.entries], ("end", len(trace.entries))]
+    return n, [scripts.spelled(line) for line in lines]
+
+
+def long_case(rng):
+    n, lines = long_run(rng)
+    f = rng.choice((n, n, 65535, n - 1))
+    workers = rng.choice((2, 3, 5, 16, 64))
+    text = ("\n".join(lines) + "\n").encode()
+    return ["audit", "--faults", str(f), "--workers", str(workers)], text, lambda _: traces.audited(text, f)
+
+
 NUMBERS = ("0", "1", "2", "3", "7", "64", "65", "255", "256", "257", "65536", "4294967295", "4294967296",
            "18446744073709551615", "18446744073709551616", "-1", "-0", "0.0", "1e0", "1e400", "00", "01", "null", '"0"',
            "[]", "{}", "true", "9" * 320)
@@ -189,6 +233,8 @@ def number_places(line):
 
 
 def audit_case(rng):
+    if rng.random() < LONG:
+        return long_case(rng)
     lines = recorded_run(rng) if rng.random() < 0.3 else random_trace(rng)
     f = rng.choice((0, 1, 1, 1, 2, 2, 3, 5, 65535))
     words = ["audit", "--faults", str(f), "--workers", str(rng.choice((1, 1, 2, 3, 5)))]

@@ -1,5 +1,5 @@
 -- The least breach of the deliveries at given positions.
-use Rattle.std.proofs.Common.{ℕ, ◌≡◌, ◌<◌, ◌≤◌, inl, inr, Bool, true, false, List, [], ◌∷◌, ◌++◌, Option, Some, None, length, refl, sym, subst, arith}
+use Rattle.std.proofs.Common.{ℕ, ◌≡◌, ◌+◌, ◌<◌, ◌≤◌, inl, inr, Bool, true, false, List, [], ◌∷◌, ◌++◌, Option, Some, None, length, refl, sym, subst, arith}
 use Rattle.std.specs.Prelude.{◌⊎◌, Contains, if◌then◌else◌, min}
 use Rattle.std.proofs.lemmas.Bool.{cases_lt}
 use Rattle.std.proofs.lemmas.Bool.Decides.{nat_tests}
@@ -13,9 +13,22 @@ use Rattle.causal_audit.specs.Earlier.{comes_before, earlier}
 use Rattle.causal_audit.specs.Numbers.{IsNumbered}
 use Rattle.causal_audit.specs.Breaches.{IsFirstBreach, LeastBreachBy}
 use Rattle.causal_audit.specs.Inside.Among.{FirstBreachBy, HasNoOrphanBy, HasNoOrphanFrom, IsLeastAmong, LeastAmongBy, horizon}
-use Rattle.causal_audit.proofs.Joined.{before_least, not_before_least}
 use Rattle.causal_audit.proofs.Lemmas.NumberLemmas.{has_number}
-use Rattle.causal_audit.proofs.Numbered.{numbered_later, numbered_below, numbered_some}
+use Rattle.causal_audit.proofs.Numbered.{numbered_later, numbered_below, numbered_one, numbered_some}
+
+-- what is no earlier than a is no earlier than what comes before a
+pub before_least : (a b : Breach) (k t : ℕ) → comes_before b a ≡ true → (a.instant ≤ t) × (a.instant ≡ t → a.delivery ≤ k) → (b.instant ≤ t) × (b.instant ≡ t → b.delivery ≤ k)
+before_least a b k t h later =
+    let first : b.instant ≤ a.instant = grind (arith, nat_tests) in
+    let second : b.instant ≡ a.instant → b.delivery ≤ a.delivery = λ e. grind (arith, nat_tests) in
+    (omega (arith, first, later.0), λ e. let same : a.instant ≡ t = omega (arith, first, later.0, e) in omega (arith, later.1 same, second (omega (arith, same, e))))
+
+-- and than what does not come after a
+pub not_before_least : (a b : Breach) (k t : ℕ) → comes_before b a ≡ false → (b.instant ≤ t) × (b.instant ≡ t → b.delivery ≤ k) → (a.instant ≤ t) × (a.instant ≡ t → a.delivery ≤ k)
+not_before_least a b k t h later =
+    let first : a.instant ≤ b.instant = grind (arith, nat_tests) in
+    let second : a.instant ≡ b.instant → a.delivery ≤ b.delivery = λ e. grind (arith, nat_tests) in
+    (omega (arith, first, later.0), λ e. let same : b.instant ≡ t = omega (arith, first, later.0, e) in omega (arith, later.1 same, second (omega (arith, same, e))))
 
 module _ (r : Recording) (f : ℕ) where
   -- the first breach of a delivery is no later than any of its orphans
@@ -152,12 +165,6 @@ module _ (r : Recording) (f : ℕ) where
     },
   )
 
-  -- and where none of them has one by then, the least stays
-  pub joined_same : (end until : ℕ) (positions more : List ℕ) (one : Option Breach) → until ≡ horizon end one → LeastAmongBy r f end positions one → LeastAmongBy r f until more None
-      → LeastAmongBy r f end (positions ++ more) one
-  joined_same end until positions more None reach so_far next = among_joined end until positions more None None reach so_far next
-  joined_same end until positions more (Some a) reach so_far next = among_joined end until positions more (Some a) None reach so_far next
-
   -- where none has one after an instant, the least by that instant is the least by a later one
   pub among_later : (last end : ℕ) (positions : List ℕ) (found : Option Breach) → last ≤ end → ((k u : ℕ) → Contains positions k → last < u → u ≤ end → HasOrphan r.processes f (instant r.past u) k → ⊥)
       → LeastAmongBy r f last positions found → LeastAmongBy r f end positions found
@@ -175,14 +182,10 @@ module _ (r : Recording) (f : ℕ) where
   ]
   first_until end until k (Some b) later one = (omega (arith, one.0), one.1)
 
-  -- a breach by the horizon is the new one
-  pub horizon_more : (end : ℕ) (one : Option Breach) (b : Breach) → b.instant ≤ horizon end one → b.instant ≡ horizon end (earlier one (Some b))
-  horizon_more end None b low = refl
-  horizon_more end (Some a) b low = by_choice (comes_before b a) refl
-    where
-      by_choice : (x : Bool) → comes_before b a ≡ x → b.instant ≡ horizon end (if x then Some b else Some a)
-      by_choice true before = refl
-      by_choice false before = grind (arith, nat_tests)
+  -- a breach that is known comes by the bound
+  pub horizon_within : (end : ℕ) (positions : List ℕ) (found : Option Breach) → LeastAmongBy r f end positions found → horizon end found ≤ end
+  horizon_within end positions None none = omega arith
+  horizon_within end positions (Some b) one = one.0
 
   -- Where each other delivery has no orphan by then, it is the least of all.
   pub among_all : (end : ℕ) (positions : List ℕ) (found : Option Breach) → AreAccepted r.processes r.past → end ≤ length r.past
@@ -216,3 +219,30 @@ module _ (r : Recording) (f : ℕ) where
               ];
         },
       )
+
+-- ---- the deliveries one by one
+
+-- the least of those with a number below i
+pub record IsLeastBelow (r : Recording) (f end i : ℕ) (found : Option Breach) : Type 0 where
+  pub positions : List ℕ
+  pub each : (j k : ℕ) → j < i → IsNumbered r.past j k → Contains positions k
+  pub least : LeastAmongBy r f end positions found
+
+pub below_none : (r : Recording) (f end : ℕ) → IsLeastBelow r f end 0 None
+below_none r f end = record { positions = []; each = λ j k low. absurd (omega (arith, low)); least = among_none r f end }
+
+pub below_more : (r : Recording) (f end i k : ℕ) (one other : Option Breach) → IsNumbered r.past i k → IsLeastBelow r f end i one → FirstBreachBy r f end k other → IsLeastBelow r f end (i + 1) (earlier one other)
+below_more r f end i k one other here so_far next = record {
+  positions = so_far.positions ++ k ∷ [];
+  each = λ j m low is. elim (cases_lt j i) [
+    | inl old ↦ Contains-append_left so_far.positions (k ∷ []) m (so_far.each j m old is)
+    | inr new ↦
+        let same : j ≡ i = omega (arith, low, new) in
+        subst (Contains (so_far.positions ++ k ∷ [])) (numbered_one r.past i k m here (subst (λ x. IsNumbered r.past x m) same is)) (Contains-push so_far.positions k)
+  ];
+  least = among_push r f end so_far.positions k one other so_far.least next;
+}
+
+pub below_all : (r : Recording) (f end : ℕ) (found : Option Breach) → AreAccepted r.processes r.past → end ≤ length r.past → IsLeastBelow r f end (deliveries_in r.past) found → LeastBreachBy r f end 0 (deliveries_in r.past) found
+below_all r f end found formed within all =
+    among_all r f end all.positions found formed within (λ k d at. let n = has_number r.past k d at in inl (all.each n.0 k n.1 n.2)) all.least

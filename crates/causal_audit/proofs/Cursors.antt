@@ -52,4 +52,5 @@ pub ahead_later : (changes : Changes) (from to : ℕ) (ahead : Ahead) → from �
 ahead_later changes from to ahead up are = record {
   mentions = cursor_later changes.mentions.now from to ahead.mentions up are.mentions;
   firsts = cursor_later changes.firsts.now from to ahead.firsts up are.firsts;
+  turns = cursor_later changes.turns.now from to ahead.turns up are.turns;
 }

@@ -1,14 +1,13 @@
 -- Orphans, by what is known of a delivery at an instant.
 use Rattle.std.proofs.Common.{ℕ, ◌≡◌, ◌<◌, ◌≤◌, inl, inr, Bool, true, false, List, Some, refl, sym, ap, subst, ◌∙◌, arith}
-use Rattle.std.specs.Prelude.{◌&&◌, ◌||◌, not}
+use Rattle.std.specs.Prelude.{◌&&◌, not}
 use Rattle.std.specs.Ordering.{nat_cmp}
 use Rattle.std.specs.Cmp.{nat_cmp_total}
-use Rattle.std.specs.FinSet.{FinSet, contains, empty, union, difference, len, contains-empty, contains-union, contains-difference}
+use Rattle.std.specs.FinSet.{FinSet, contains, empty, union, difference, len, contains-empty, contains-difference}
 use Rattle.std.proofs.lemmas.Bool.{false≢true, or_cases}
 use Rattle.causal_name.specs.declared.Det.{Det}
 use Rattle.causal_name.specs.Sets.{count_below}
 use Rattle.causal_holders.specs.Members.{IsLeast}
-use Rattle.causal_holders.proofs.Lemmas.Counting.{members_counted}
 use Rattle.causal_trace.specs.declared.entry.Entry.{Entry}
 use Rattle.causal_trace.specs.Past.{is_down, logs, det_at}
 use Rattle.causal_trace.specs.Dependence.{Depends}
@@ -18,6 +17,7 @@ use Rattle.causal_audit.specs.declared.sight.Sight.{Sight}
 use Rattle.causal_audit.specs.Inside.Sights.{IsSight, IsUnheard, Shows}
 use Rattle.causal_audit.specs.Laws.{gone}
 use Rattle.causal_audit.specs.Verdicts.{IsLeastOrphan}
+use Rattle.causal_audit.proofs.Staying.{gone_many, gone_shown}
 use Rattle.causal_audit.proofs.Lemmas.Judged.{exposed, crash_contains, orphan_without, gone_crash, gone_orphan}
 use Rattle.causal_audit.proofs.Legal.{event_inside}
 use Rattle.causal_audit.proofs.Shown.{shows_none, down_inside, logs_inside}
@@ -38,21 +38,6 @@ not_parts false b h = absurd (false≢true h)
 pub depends_inside : (n : ℕ) (past : List Entry) (k p : ℕ) → AreAccepted n past → Depends past k p → p < n
 depends_inside n past k p formed d = event_inside n past formed d.event p _ d.present
 
--- as many processes are in a set that shows who is down or holds the determinant
-pub gone_counted : (n : ℕ) (past : List Entry) (k : ℕ) (d : Det) → AreAccepted n past → (s : Sight) → IsSight past k d s → len (union s.down s.holders) ≡ count_below n (gone past d)
-gone_counted n past k d formed s sight =
-    members_counted n (union s.down s.holders) (gone past d) (record {
-      process = λ q h.
-          elim (or_cases (is_down past q) (logs past q d) (sym (shown q) ∙ h)) [
-            | inl down ↦ down_inside n past q formed down
-            | inr held ↦ logs_inside n past q d formed held
-          ];
-      member = λ q low. shown q;
-    })
-  where
-    shown : (q : ℕ) → contains (union s.down s.holders) q ≡ gone past d q
-    shown q = contains-union nat_cmp_total s.down s.holders q ∙ (λ i. sight.down q i || sight.holders q i)
-
 module _ (n f : ℕ) (past : List Entry) (k : ℕ) (d : Det) (formed : AreAccepted n past) (at : det_at past k ≡ Some d) (s : Sight) (sight : IsSight past k d s) where
   abbrev crash : FinSet nat_cmp
   crash = union s.down s.holders
@@ -61,7 +46,7 @@ module _ (n f : ℕ) (past : List Entry) (k : ℕ) (d : Det) (formed : AreAccept
   unheld = difference s.dependents s.holders
 
   crash_is : (q : ℕ) → contains crash q ≡ gone past d q
-  crash_is q = contains-union nat_cmp_total s.down s.holders q ∙ (λ i. sight.down q i || sight.holders q i)
+  crash_is q = gone_shown n past d formed s.down s.holders sight.down sight.holders q
 
   crash_inside : (q : ℕ) → contains crash q ≡ true → q < n
   crash_inside q h =
@@ -71,7 +56,7 @@ module _ (n f : ℕ) (past : List Entry) (k : ℕ) (d : Det) (formed : AreAccept
       ]
 
   crash_counted : len crash ≡ count_below n (gone past d)
-  crash_counted = gone_counted n past k d formed s sight
+  crash_counted = gone_many n past d formed s.down s.holders sight.down sight.holders
 
   unheld_is : (p : ℕ) → Depends past k p → logs past p d ≡ false → contains unheld p ≡ true
   unheld_is p depends without =

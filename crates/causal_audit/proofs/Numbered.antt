@@ -43,14 +43,6 @@ numbered_one (e ∷ past) i j k (inl a) (inr b) = absurd (omega (arith, numbered
 numbered_one (e ∷ past) i j k (inr a) (inl b) = absurd (omega (arith, numbered_below past i k b, a.2))
 numbered_one (e ∷ past) i j k (inr a) (inr b) = omega (arith, a.0, b.0)
 
--- deliveries are numbered in their order
-pub numbered_order : (past : List Entry) (i m j k : ℕ) → IsNumbered past i j → IsNumbered past m k → i ≤ m → j ≤ k
-numbered_order [] i m j k a b h = absurd a
-numbered_order (e ∷ past) i m j k (inl a) (inl b) h = numbered_order past i m j k a b h
-numbered_order (e ∷ past) i m j k (inl a) (inr b) h = omega (arith, numbered_place past i j a, b.0)
-numbered_order (e ∷ past) i m j k (inr a) (inl b) h = absurd (omega (arith, numbered_below past m k b, a.2, h))
-numbered_order (e ∷ past) i m j k (inr a) (inr b) h = omega (arith, a.0, b.0)
-
 -- a delivery has the same number at each later instant
 pub numbered_later : (past : List Entry) (t i k : ℕ) → t ≤ length past → IsNumbered (instant past t) i k → IsNumbered past i k
 numbered_later [] t i k within n = elsewhere (0 - t) n
@@ -95,8 +87,6 @@ numbered_det n (e ∷ past) i k a (inr m) none =
     some (Crash who) past a h none = false≢true h
     some (Restart who listed) past a h none = false≢true h
     some (Forget who listed) past a h none = false≢true h
-
--- the positions, with one more entry
 
 -- a delivery has a determinant
 pub numbered_some : (n : ℕ) (past : List Entry) (i k : ℕ) → AreAccepted n past → IsNumbered past i k → (d : Det) × (det_at past k ≡ Some d)

@@ -5,7 +5,7 @@ use Rattle.std.proofs.Math.ListN.{set}
 use Rattle.std.specs.Ordering.{nat_cmp}
 use Rattle.std.specs.Cmp.{nat_cmp_total}
 use Rattle.std.specs.FinSet.{FinSet, contains, empty, len, len-insert, remove, same_set, nat_cmp-IsAntisymmetric, union, difference, insert, contains-empty, contains-union, contains-difference}
-use Rattle.std.proofs.lemmas.Bool.{false≢true, or_cases, and_parts, eqb-true, eq-eqb, ne_eqb}
+use Rattle.std.proofs.lemmas.Bool.{false≢true, and_parts, eqb-true, eq-eqb, ne_eqb}
 use Rattle.std.proofs.lemmas.Bool.Decides.{eqb_tells}
 use Rattle.std.proofs.lemmas.List.{get_or-set_same, get_or-set_other, length-set}
 use Rattle.causal_name.specs.declared.Pid.{Pid}
@@ -19,12 +19,12 @@ use Rattle.causal_trace.proofs.Lemmas.Accepted.{accepted_forward, delivers_sent,
 use Rattle.causal_trace.proofs.Lemmas.Reached.{event_below, reaches_begins, reaches_old, depends_restarted}
 use Rattle.causal_audit.specs.declared.reach.Reach.{Reach}
 use Rattle.causal_audit.specs.declared.scan.Window.{Window}
-use Rattle.causal_audit.specs.Inside.Reaching.{AreOwnRows, IsNewly, IsReach, SeesReach, TellsReached, row, window_at}
+use Rattle.causal_audit.specs.Inside.Reaching.{AreOwnRows, IsNewly, IsPut, IsReach, SeesReach, TellsReached, row, window_at}
 use Rattle.causal_audit.specs.Inside.Sights.{TellsNextReach}
-use Rattle.causal_audit.proofs.Dependence.{IsNoTurn, reaches_more, depends_more, depends_before}
+use Rattle.causal_audit.proofs.Between.{IsNoTurn, reaches_more, depends_more, depends_before}
 use Rattle.causal_audit.proofs.Legal.{sent_event}
-use Rattle.causal_audit.proofs.Scanned.{send_tells, delivery_tells}
-use Rattle.causal_audit.proofs.Spreading.{reach_later}
+use Rattle.causal_audit.proofs.Reached.{send_tells, delivery_tells}
+use Rattle.causal_audit.proofs.Receivers.{reach_later}
 use Rattle.causal_audit.proofs.Shown.{inserted, removed, crash_inside, restart_inside}
 
 abbrev Sets : Type 0
@@ -37,10 +37,9 @@ pub record Told (past : List Entry) (start k j : ℕ) (reached present : Sets) :
   pub ahead : (i : ℕ) → i < length reached → length past ≤ start + i → (contains (row reached i) j ≡ true) ↔ (start + i ≡ k)
   pub depends : (p : ℕ) → (contains (row present p) j ≡ true) ↔ Depends past k p
 
--- whether its place is among the new ones
-pub record Newly (past : List Entry) (e : Entry) (k j : ℕ) (newly : FinSet nat_cmp) : Type 0 where
-  pub sound : contains newly j ≡ true → Reaches (e ∷ past) k (length past)
-  pub complete : (p : ℕ) → actor e ≡ Some p → Reaches (e ∷ past) k (length past) → (contains newly j ≡ true) ⊎ Depends past k p
+-- what the rows of a reach tell
+pub is_told : (past : List Entry) (k j : ℕ) (reach : Reach) → Told past reach.start k j reach.reached.items reach.present.items → IsReach past k j reach
+is_told past k j reach told = record { early = told.early; behind = told.behind; ahead = told.ahead; depends = told.depends }
 
 -- nothing is in the empty set
 pub none_in : (j : ℕ) → contains {R = nat_cmp} empty j ≡ true → ⊥
@@ -123,7 +122,7 @@ module _ (n : ℕ) (past : List Entry) (start k j : ℕ) (reached present : Sets
 
   -- a send
   pub sent : (d : Det) (from to : Pid) (ssn here : ℕ) → AreAccepted n (Send from to ssn ∷ past) → start + here ≡ length past → here < length reached → (k ≡ length past → det_at (Send from to ssn ∷ past) k ≡ Some d)
-      → Told (Send from to ssn ∷ past) start k j (set reached here (row present from.0)) present × Newly past (Send from to ssn) k j empty
+      → Told (Send from to ssn ∷ past) start k j (set reached here (row present from.0)) present × IsNewly past (Send from to ssn) k j empty
   sent d from to ssn here formed long inside at =
       let e = Send from to ssn in
       let tells : TellsNextReach past e k (contains (row present from.0) j) = send_tells n past k (λ p. contains (row present p) j) told.depends d from to ssn formed at in
@@ -140,59 +139,36 @@ module _ (n : ℕ) (past : List Entry) (start k j : ℕ) (reached present : Sets
         record { sound = λ h. absurd (none_in j h); complete = λ p of reach. inr (known p of reach) },
       )
 
-  -- an entry of stable storage
-  pub stored : (det : Det) → AreAccepted n (Stable det ∷ past) → Told (Stable det ∷ past) start k j reached present × Newly past (Stable det) k j empty
-  stored det formed = (
-    record {
-      early = told.early;
-      behind = behind_same (Stable det) formed refl;
-      ahead = ahead_same (Stable det) formed;
-      depends = depends_same (Stable det) formed (λ p. (refl, refl)) (λ p of. absurd (let x : None ≡ Some p = of in cc));
-    },
-    record { sound = λ h. absurd (none_in j h); complete = λ p of. absurd (let x : None ≡ Some p = of in cc) },
+  -- an entry that is no event
+  idle : (e : Entry) → AreAccepted n (e ∷ past) → actor e ≡ None → (rows : Sets) → ((p : ℕ) → (contains (row rows p) j ≡ true) ↔ Depends (e ∷ past) k p) → Told (e ∷ past) start k j reached rows × IsNewly past e k j empty
+  idle e formed none rows depends = (
+    record { early = told.early; behind = behind_same e formed none; ahead = ahead_same e formed; depends = depends },
+    record { sound = λ h. absurd (none_in j h); complete = λ p of. absurd (let x : None ≡ Some p = sym none ∙ of in cc) },
   )
+
+  -- an entry of stable storage
+  pub stored : (det : Det) → AreAccepted n (Stable det ∷ past) → Told (Stable det ∷ past) start k j reached present × IsNewly past (Stable det) k j empty
+  stored det formed = idle (Stable det) formed refl present (depends_same (Stable det) formed (λ p. (refl, refl)) (λ p of. absurd (let x : None ≡ Some p = of in cc)))
 
   -- a forgetting
-  pub forgotten : (who : Pid) (listed : List Det) → AreAccepted n (Forget who listed ∷ past) → Told (Forget who listed ∷ past) start k j reached present × Newly past (Forget who listed) k j empty
-  forgotten who listed formed = (
-    record {
-      early = told.early;
-      behind = behind_same (Forget who listed) formed refl;
-      ahead = ahead_same (Forget who listed) formed;
-      depends = depends_same (Forget who listed) formed (λ p. (refl, refl)) (λ p of. absurd (let x : None ≡ Some p = of in cc));
-    },
-    record { sound = λ h. absurd (none_in j h); complete = λ p of. absurd (let x : None ≡ Some p = of in cc) },
-  )
+  pub forgotten : (who : Pid) (listed : List Det) → AreAccepted n (Forget who listed ∷ past) → Told (Forget who listed ∷ past) start k j reached present × IsNewly past (Forget who listed) k j empty
+  forgotten who listed formed = idle (Forget who listed) formed refl present (depends_same (Forget who listed) formed (λ p. (refl, refl)) (λ p of. absurd (let x : None ≡ Some p = of in cc)))
 
   -- a crash
-  pub crashed : (who : Pid) → n ≤ length present → AreAccepted n (Crash who ∷ past) → Told (Crash who ∷ past) start k j reached (set present who.0 empty) × Newly past (Crash who) k j empty
-  crashed who few formed = (
-    record {
-      early = told.early;
-      behind = behind_same (Crash who) formed refl;
-      ahead = ahead_same (Crash who) formed;
-      depends =
-          depends_removed (Crash who) formed who.0 (omega (arith, few, crash_inside n past who formed.1)) refl
-          (λ p apart. (ap (λ b. b || is_down past p) (ne_eqb who.0 p (λ h. apart (sym h))), refl))
-          (λ d. false≢true (sym d.up ∙ ap (λ b. b || is_down past who.0) (eq-eqb who.0 who.0 refl)));
-    },
-    record { sound = λ h. absurd (none_in j h); complete = λ p of. absurd (let x : None ≡ Some p = of in cc) },
-  )
+  pub crashed : (who : Pid) → n ≤ length present → AreAccepted n (Crash who ∷ past) → Told (Crash who ∷ past) start k j reached (set present who.0 empty) × IsNewly past (Crash who) k j empty
+  crashed who few formed =
+      idle (Crash who) formed refl (set present who.0 empty)
+      (depends_removed (Crash who) formed who.0 (omega (arith, few, crash_inside n past who formed.1)) refl
+      (λ p apart. (ap (λ b. b || is_down past p) (ne_eqb who.0 p (λ h. apart (sym h))), refl))
+      (λ d. false≢true (sym d.up ∙ ap (λ b. b || is_down past who.0) (eq-eqb who.0 who.0 refl))))
 
   -- a restart
-  pub restarted : (who : Pid) (listed : List Det) → n ≤ length present → AreAccepted n (Restart who listed ∷ past) → Told (Restart who listed ∷ past) start k j reached (set present who.0 empty) × Newly past (Restart who listed) k j empty
-  restarted who listed few formed = (
-    record {
-      early = told.early;
-      behind = behind_same (Restart who listed) formed refl;
-      ahead = ahead_same (Restart who listed) formed;
-      depends =
-          depends_removed (Restart who listed) formed who.0 (omega (arith, few, restart_inside n past who listed formed.1)) refl
-          (λ p apart. let other = ne_eqb who.0 p (λ h. apart (sym h)) in (ap (λ b. not b && is_down past p) other, ap (λ b. cond b (lane past p + 1) (lane past p)) other))
-          (λ d. depends_restarted (Restart who listed) past k who.0 (ap (λ b. cond b (lane past who.0 + 1) (lane past who.0)) (eq-eqb who.0 who.0 refl)) refl d);
-    },
-    record { sound = λ h. absurd (none_in j h); complete = λ p of. absurd (let x : None ≡ Some p = of in cc) },
-  )
+  pub restarted : (who : Pid) (listed : List Det) → n ≤ length present → AreAccepted n (Restart who listed ∷ past) → Told (Restart who listed ∷ past) start k j reached (set present who.0 empty) × IsNewly past (Restart who listed) k j empty
+  restarted who listed few formed =
+      idle (Restart who listed) formed refl (set present who.0 empty)
+      (depends_removed (Restart who listed) formed who.0 (omega (arith, few, restart_inside n past who listed formed.1)) refl
+      (λ p apart. let other = ne_eqb who.0 p (λ h. apart (sym h)) in (ap (λ b. not b && is_down past p) other, ap (λ b. cond b (lane past p + 1) (lane past p)) other))
+      (λ d. depends_restarted (Restart who listed) past k who.0 (ap (λ b. cond b (lane past who.0 + 1) (lane past who.0)) (eq-eqb who.0 who.0 refl)) refl d))
 
   module _ (to : Pid) (send rsn : ℕ) (listed : List Det) (formed : AreAccepted n (Deliver to send rsn listed ∷ past)) (r : ℕ) (at : start + r ≡ length past) (inside : r < length reached) (brought : FinSet nat_cmp) (is_brought : (p l : ℕ) → IsEventOf past send p l → (contains brought j ≡ true) ↔ Reaches past k send) where
     abbrev pub e : Entry
@@ -247,7 +223,7 @@ module _ (n : ℕ) (past : List Entry) (start k j : ℕ) (reached present : Sets
     newly = difference hit (row present to.0)
 
     -- a delivery
-    pub delivered : to.0 < length present → Told (e ∷ past) start k j (set reached r hit) (set present to.0 hit) × Newly past e k j newly
+    pub delivered : to.0 < length present → Told (e ∷ past) start k j (set reached r hit) (set present to.0 hit) × IsNewly past e k j newly
     delivered room = (
       record { early = told.early; behind = behind_set e formed r at inside hit tells; ahead = ahead_set e formed r at hit; depends = depends_set room },
       record {
@@ -273,15 +249,13 @@ module _ (n : ℕ) (past : List Entry) (start k j : ℕ) (reached present : Sets
 -- what is told of an entry that is known by an equation is what a reach sees
 pub seen : (x y : Entry) (t : ℕ) (old new : Reach) (newly : FinSet nat_cmp) → x ≡ y
     → ((n : ℕ) (past : List Entry) (k j : ℕ) (d : Det) → n ≤ 256 → AreAccepted n (y ∷ past) → length past ≡ t → (k ≡ t → det_at (y ∷ past) k ≡ Some d)
-    → Told past old.start k j old.reached.items old.present.items → Told (y ∷ past) new.start k j new.reached.items new.present.items × Newly past y k j newly)
+    → Told past old.start k j old.reached.items old.present.items → Told (y ∷ past) new.start k j new.reached.items new.present.items × IsNewly past y k j newly)
     → SeesReach x t old new newly
 seen x y t old new newly same sees n past k j d few formed long at is =
     subst (λ z. AreAccepted n (z ∷ past) → (k ≡ t → det_at (z ∷ past) k ≡ Some d) → IsReach (z ∷ past) k j new × IsNewly past z k j newly) (sym same)
     (λ legal made.
-    let after = sees n past k j d few legal long made (record { early = is.early; behind = is.behind; ahead = is.ahead; depends = is.depends }) in (
-      record { early = after.0.early; behind = after.0.behind; ahead = after.0.ahead; depends = after.0.depends },
-      record { sound = after.1.sound; complete = after.1.complete },
-    ))
+    let after = sees n past k j d few legal long made (record { early = is.early; behind = is.behind; ahead = is.ahead; depends = is.depends }) in
+    (is_told (y ∷ past) k j new after.0, after.1))
     formed at
 
 -- none reaches an event before the walk
@@ -298,66 +272,27 @@ told_at reach v from n past k j p l formed is at =
     subst (λ x. (contains (row reach.reached.items (v - reach.start)) j ≡ true) ↔ Reaches past k x) same
     (is.behind (v - reach.start) p l (subst (λ x. IsEventOf past x p l) (sym same) at))
 
--- what the rows of a reach tell
-pub is_told : (past : List Entry) (k j : ℕ) (reach : Reach) → Told past reach.start k j reach.reached.items reach.present.items → IsReach past k j reach
-is_told past k j reach told = record { early = told.early; behind = told.behind; ahead = told.ahead; depends = told.depends }
-
 -- the rows of the entries, with one place more
 
 -- no place is in a row
 pub own_none : (windows : List Window) (start : ℕ) (rows : Sets) → ((i : ℕ) → row rows i ≡ empty) → AreOwnRows windows start 0 rows
 own_none windows start rows none i j inside = (λ h. absurd (none_in j (ap (λ s. contains s j) (sym (none i)) ∙ h)), λ h. absurd (omega (arith, h.0)))
 
-module _ (windows : List Window) (start : ℕ) (rows : Sets) (place r : ℕ) (is : (window_at windows place).position ≡ start + r) (own : AreOwnRows windows start place rows) where
-  -- a place whose delivery has no row
-  pub own_same : length rows ≤ r → AreOwnRows windows start (place + 1) rows
-  own_same beyond i j inside =
-      let before = own i j inside in (
-        λ h. let was = before.0 h in (omega (arith, was.0), was.1),
-        λ h. before.1 (
-          elim (eqb_tells place j) [
-            | inl now ↦ absurd (omega (arith, is, ap (λ x. (window_at windows x).position) now.1, h.1, beyond, inside))
-            | inr other ↦ let ne : place ≡ j → ⊥ = other.1 in omega (arith, h.0, ne)
-          ],
-          h.1,
-        ),
-      )
-
-  -- one place is put into its row
-  pub own_more : r < length rows → AreOwnRows windows start (place + 1) (set rows r (insert (row rows r) place))
-  own_more inside i j within =
-      let low : i < length rows = omega (arith, within, length-set rows r (insert (row rows r) place)) in
-      elim (eqb_tells i r) [
-        | inl here ↦
-            let same : contains (row (set rows r (insert (row rows r) place)) i) j ≡ ((place == j) || contains (row rows i) j) =
-            ap (λ x. contains (row (set rows r (insert (row rows r) place)) x) j) here.1 ∙ ap (λ s. contains s j) (get_or-set_same rows r (insert (row rows r) place) empty inside) ∙ inserted (row rows r) place j
-            ∙ ap (λ x. (place == j) || contains (row rows x) j) (sym here.1) in (
-              λ h. elim (or_cases (place == j) (contains (row rows i) j) (sym same ∙ h)) [
-                | inl now ↦ let at : place ≡ j = eqb-true place j now in (omega (arith, at), omega (arith, ap (λ x. (window_at windows x).position) at, is, here.1))
-                | inr old ↦ let before = (own i j low).0 old in (omega (arith, before.0), before.1)
-              ],
-              λ h. same ∙ elim (eqb_tells place j) [
-                | inl now ↦ ap (λ b. b || contains (row rows i) j) now.0
-                | inr apart ↦ or_old (place == j) (contains (row rows i) j) ((own i j low).1 (let ne : place ≡ j → ⊥ = apart.1 in omega (arith, h.0, ne), h.1))
-              ],
-            )
-        | inr apart ↦
-            let same : row (set rows r (insert (row rows r) place)) i ≡ row rows i = get_or-set_other rows r i (insert (row rows r) place) empty apart.1 in
-            let before = own i j low in (
-              λ h. let was = before.0 (ap (λ s. contains s j) (sym same) ∙ h) in (omega (arith, was.0), was.1),
-              λ h. ap (λ s. contains s j) same ∙ before.1 (
-                elim (eqb_tells place j) [
-                  | inl now ↦ absurd (apart.1 (omega (arith, is, ap (λ x. (window_at windows x).position) now.1, h.1)))
-                  | inr other ↦ let ne : place ≡ j → ⊥ = other.1 in omega (arith, h.0, ne)
-                ],
-                h.1,
-              ),
-            )
-      ]
-    where
-      or_old : (a b : Bool) → b ≡ true → (a || b) ≡ true
-      or_old true b h = refl
-      or_old false b h = h
+-- one place is put into its row
+pub own_more : (windows : List Window) (start place : ℕ) (old new : Sets) → length new ≡ length old → AreOwnRows windows start place old → IsPut start place (window_at windows place).position old new → AreOwnRows windows start (place + 1) new
+own_more windows start place old new same own is i j within =
+    let low : i < length old = omega (arith, within, same) in
+    let here = is i j low in
+    let before = own i j low in (
+      λ h. elim (here.0 h) [
+        | inl was ↦ let at = before.0 was in (omega (arith, at.0), at.1)
+        | inr now ↦ (omega (arith, now.0), ap (λ x. (window_at windows x).position) now.0 ∙ sym now.1)
+      ],
+      λ h. here.1 (elim (eqb_tells j place) [
+        | inl at ↦ inr (at.1, sym h.1 ∙ ap (λ x. (window_at windows x).position) at.1)
+        | inr apart ↦ inl (before.1 (let ne : j ≡ place → ⊥ = apart.1 in omega (arith, h.0, ne), h.1))
+      ]),
+    )
 
 -- before the walk
 pub begun : (past : List Entry) (windows : List Window) (start j : ℕ) (reached present : Sets) → length past ≡ start → j < length windows → start ≤ (window_at windows j).position

@@ -1,35 +1,134 @@
--- Until when those who are down, hold a determinant or depend on a delivery are still so.
-use Rattle.std.proofs.Common.{ℕ, ◌≡◌, ◌+◌, ◌<◌, ◌≤◌, inl, inr, Bool, true, false, cond, List, [], ◌∷◌, length, Some, refl, sym, ap, subst, ◌∙◌, arith}
-use Rattle.std.specs.Prelude.{◌||◌, ◌&&◌, ◌==◌, not}
-use Rattle.std.specs.Cmp.{nat_cmp_total}
-use Rattle.std.specs.Ordering.{nat_cmp}
-use Rattle.std.specs.FinSet.{FinSet, contains, union, difference, contains-union, contains-difference}
-use Rattle.std.proofs.lemmas.Bool.{cases_lt, false≢true, ne_eqb, eqb-true, or_cases, or_left, or_right, and_parts, false_from_ne_true}
-use Rattle.std.proofs.lemmas.Bool.Decides.{eqb_tells}
+-- Until when those who are down or hold a determinant are still so, and how it stands until then.
+use Rattle.std.proofs.Common.{ℕ, ◌≡◌, ◌+◌, ◌<◌, ◌≤◌, inl, inr, Bool, true, false, List, [], ◌∷◌, length, refl, sym, ap, subst, ◌∙◌, arith, Some, zero, suc, ◌-◌}
+use Rattle.std.specs.Prelude.{◌||◌, ◌&&◌, ◌==◌, not, ◌↔◌, Contains, if◌then◌else◌, min}
+use Rattle.std.proofs.lemmas.Bool.{cases_lt, false≢true, ne_eqb, eqb-true, or_cases, and_parts, false_from_ne_true, or_right, eq-eqb}
 use Rattle.causal_name.specs.declared.Det.{Det}
-use Rattle.causal_name.specs.declared.Pid.{Pid}
-use Rattle.causal_holders.proofs.Lemmas.Counting.{count_below-within}
+use Rattle.causal_name.specs.Names.{same_det}
+use Rattle.causal_name.specs.Sets.{count_below}
+use Rattle.causal_holders.proofs.Lemmas.Counting.{count_below-within, count_below-le, members_counted}
 use Rattle.causal_trace.specs.declared.entry.Entry.{Entry}
 use Rattle.causal_trace.specs.declared.entry.Entry.TheVariants.{Send, Deliver, Stable, Crash, Restart, Forget}
-use Rattle.causal_trace.specs.Past.{instant, entry_at, det_at, is_down, is_stable, lane, logs, has}
-use Rattle.causal_trace.specs.Rows.{AreAccepted}
-use Rattle.causal_trace.specs.Dependence.{actor, IsEventOf, Reaches, itself, Depends}
-use Rattle.causal_trace.specs.Judgement.{HasOrphan}
-use Rattle.causal_trace.proofs.Lemmas.Accepted.{delivers_up}
-use Rattle.causal_trace.proofs.Lemmas.AtInstants.{accepted_then, instant_length, det_then}
-use Rattle.causal_trace.proofs.Lemmas.Reached.{reaches_begins, depends_restarted}
-use Rattle.causal_audit.specs.declared.sight.Sight.{Sight}
-use Rattle.causal_audit.specs.Laws.{gone, IsExposed}
-use Rattle.causal_audit.specs.Quiet.{mentioned_by}
-use Rattle.causal_audit.specs.Inside.Sights.{Shows, IsSight}
-use Rattle.causal_audit.specs.Inside.Staying.{restarts_one, RestartsNone, MentionsNone, ReachesNone, members, later, GoneStay, HoldersStay, SightStays, NoneNewly}
-use Rattle.causal_audit.proofs.Begun.{onward_to}
-use Rattle.causal_audit.proofs.Between.{logs_stay, stable_stays, next_entry}
-use Rattle.causal_audit.proofs.Dependence.{IsNoTurn, depends_more, depends_before}
-use Rattle.causal_audit.proofs.Lasting.{gone_more}
-use Rattle.causal_audit.proofs.Legal.{delivery_event}
-use Rattle.causal_audit.proofs.Lemmas.Judged.{exposed, unexposed}
+use Rattle.causal_trace.specs.Past.{instant, is_down, is_stable, logs, has, entry_at}
+use Rattle.causal_audit.specs.Laws.{gone}
+use Rattle.causal_audit.specs.Inside.Standing.{IsThinAt, RulesOut, StandsBy}
+use Rattle.causal_audit.specs.Lasting.{may_release, NoneReleasedFrom, IsOver, OrphansEnd}
+use Rattle.causal_trace.proofs.Lemmas.AtInstants.{instants_stay, one_more_instant, last_instant, instant_length, det_then, accepted_then}
+use Rattle.causal_audit.proofs.Lemmas.Judged.{exposed}
 use Rattle.causal_audit.proofs.Orphaned.{not_yet}
+use Rattle.std.specs.Cmp.{nat_cmp_total}
+use Rattle.std.specs.Ordering.{nat_cmp}
+use Rattle.std.specs.FinSet.{FinSet, contains, difference, contains-difference, union, len, contains-union}
+use Rattle.causal_name.specs.declared.Pid.{Pid}
+use Rattle.causal_trace.specs.Rows.{AreAccepted}
+use Rattle.causal_trace.proofs.Lemmas.Accepted.{delivers_up}
+use Rattle.causal_audit.specs.Quiet.{mentioned_by}
+use Rattle.causal_audit.specs.Inside.Staying.{restarts_one, GoneStay, HoldersStay, MentionsNone, RestartsNone}
+use Rattle.causal_audit.proofs.Begun.{onward_to}
+use Rattle.causal_audit.proofs.Between.{logs_stay, next_entry}
+use Rattle.std.proofs.lemmas.Bool.Decides.{eqb_tells}
+use Rattle.causal_trace.specs.Judgement.{HasOrphan}
+use Rattle.causal_audit.specs.Inside.Ahead.{HasNoneUntil}
+use Rattle.causal_audit.specs.Inside.Changes.{AreMentionsOf, HasMentions}
+use Rattle.causal_audit.specs.Inside.Sights.{Shows}
+use Rattle.causal_audit.specs.declared.thin.Standing.{Standing}
+use Rattle.causal_audit.specs.declared.thin.Standing.TheVariants.{Kept, Thin, Bare}
+use Rattle.causal_audit.proofs.Shown.{down_inside, logs_inside}
+
+-- ==== when a delivery has no orphan any more
+
+-- ---- what each entry from a position on keeps holds at the later instants
+
+abbrev Keeps : (List Entry → Type 0) → List Entry → ℕ → Type 0
+Keeps P [] t = Unit {0}
+Keeps P (e ∷ past) t = Keeps P past t × (t ≤ length past → P past → P (e ∷ past))
+
+kept : (P : List Entry → Type 0) (past : List Entry) (t u : ℕ) → Keeps P past t → t ≤ u → u ≤ length past → P (instant past t) → P (instant past u)
+kept P [] t u keeps up within h = let same : t ≡ u = omega (arith, up, within) in subst (λ x. P (instant [] x)) same h
+kept P (e ∷ past) t u keeps up within h =
+    elim (cases_lt (length past) u) [
+      | inl last ↦ elim (cases_lt (length past) t) [
+        | inl late ↦ let same : t ≡ u = omega (arith, up, within, late) in subst (λ x. P (instant (e ∷ past) x)) same h
+        | inr before ↦
+            let at : u ≡ length past + 1 = omega (arith, last, within) in
+            let here : P past = subst P (last_instant past) (kept P past t (length past) keeps.0 before (omega arith) (subst P (instants_stay e past t before) h)) in
+            subst P (sym (ap (λ x. instant (e ∷ past) x) at ∙ one_more_instant e past)) (keeps.1 before here)
+      ]
+      | inr early ↦ subst P (sym (instants_stay e past u early)) (kept P past t u keeps.0 up early (subst P (instants_stay e past t (omega (arith, up, early))) h))
+    ]
+
+-- ---- what is stable stays stable
+
+pub or_more : (a b : Bool) → b ≡ true → (a || b) ≡ true
+or_more true b h = refl
+or_more false b h = h
+
+pub stable_more : (e : Entry) (past : List Entry) (d : Det) → is_stable past d ≡ true → is_stable (e ∷ past) d ≡ true
+stable_more (Send from to ssn) past d h = h
+stable_more (Deliver to send rsn listed) past d h = h
+stable_more (Stable det) past d h = or_more (same_det d det) (is_stable past d) h
+stable_more (Crash who) past d h = h
+stable_more (Restart who listed) past d h = h
+stable_more (Forget who listed) past d h = h
+
+keeps_stable : (past : List Entry) (t : ℕ) (d : Det) → Keeps (λ p. is_stable p d ≡ true) past t
+keeps_stable [] t d = tt
+keeps_stable (e ∷ past) t d = (keeps_stable past t d, λ _ h. stable_more e past d h)
+
+-- ---- who is down or holds a determinant stays so where none is released
+
+or_between : (a b c : Bool) → (a || b) ≡ true → (a || (c || b)) ≡ true
+or_between true b c h = refl
+or_between false b c h = or_more c b h
+
+or_turned : (w a b : Bool) → (a || b) ≡ true → ((w || a) || (not w && b)) ≡ true
+or_turned true a b h = refl
+or_turned false a b h = h
+
+pub gone_more : (e : Entry) (past : List Entry) (d : Det) (p : ℕ) → may_release e ≡ false → gone past d p ≡ true → gone (e ∷ past) d p ≡ true
+gone_more (Send from to ssn) past d p stays h = h
+gone_more (Deliver to send rsn listed) past d p stays h = or_between (is_down past p) (logs past p d) (to.0 == p && has listed d) h
+gone_more (Stable det) past d p stays h = h
+gone_more (Crash who) past d p stays h = or_turned (who.0 == p) (is_down past p) (logs past p d) h
+gone_more (Restart who listed) past d p stays h = absurd (false≢true (sym stays))
+gone_more (Forget who listed) past d p stays h = absurd (false≢true (sym stays))
+
+keeps_gone : (n f : ℕ) (past : List Entry) (t : ℕ) (d : Det) → NoneReleasedFrom past t → Keeps (λ p. f < count_below n (gone p d)) past t
+keeps_gone n f [] t d none = tt
+keeps_gone n f (e ∷ past) t d none = (
+  keeps_gone n f past t d none.0,
+  λ late many. omega (arith, many, count_below-within n (gone past d) (gone (e ∷ past) d) (λ p _ h. gone_more e past d p (none.1 late) h)),
+)
+
+-- ---- the end
+
+-- so a determinant that is over is stable, or more than f are down or hold it, at each later instant
+over_then : (n f : ℕ) (past : List Entry) (d : Det) (t u : ℕ) → IsOver n f past t d → t ≤ u → u ≤ length past → is_stable (instant past u) d ≡ false → count_below n (gone (instant past u) d) ≤ f → ⊥
+over_then n f past d t u (inl stable) up within unstable few = false≢true (sym unstable ∙ kept (λ p. is_stable p d ≡ true) past t u (keeps_stable past t d) up within stable)
+over_then n f past d t u (inr many) up within unstable few = omega (arith, few, kept (λ p. f < count_below n (gone p d)) past t u (keeps_gone n f past t d many.0) up within many.1)
+
+pub thin_ends : (n most : ℕ) (past : List Entry) (d : Det) (t u : ℕ) → IsOver n most past t d → t ≤ u → u ≤ length past → IsThinAt n most past d u → ⊥
+thin_ends n most past d t u over up within thin = over_then n most past d t u over up within thin.unstable thin.few
+
+pub orphans_end : OrphansEnd
+orphans_end n f past k d t u at over up within has =
+    elim (cases_lt k u) [
+      | inr ahead ↦ not_yet n f (instant past u) k (omega (arith, ahead, instant_length past u within)) has
+      | inl made ↦
+          let e = exposed n f (instant past u) k d (det_then past u k made within ∙ at) has in
+          over_then n f past d t u over up within e.unstable e.few
+    ]
+
+-- ---- from which position on none is released
+
+pub none_beyond : (past : List Entry) (t : ℕ) → length past ≤ t → NoneReleasedFrom past t
+none_beyond [] t above = tt
+none_beyond (e ∷ past) t above = (none_beyond past t (omega (arith, above)), λ low. absurd (omega (arith, above, low)))
+
+pub none_later : (past : List Entry) (t u : ℕ) → t ≤ u → NoneReleasedFrom past t → NoneReleasedFrom past u
+none_later [] t u up none = tt
+none_later (e ∷ past) t u up none = (none_later past t u up none.0, λ late. none.1 (omega (arith, up, late)))
+
+-- ==== until when those who are down or hold a determinant are still so
 
 -- ---- those who are down or hold it
 
@@ -115,55 +214,6 @@ holders_stay n past d members t u p formed up within unmentioned unrestarted ins
 pub difference_shown : (s t : FinSet nat_cmp) (p : ℕ) (held down : Bool) → contains s p ≡ held → contains t p ≡ down → contains (difference s t) p ≡ (held && not down)
 difference_shown s t p held down h k = contains-difference nat_cmp_total s t p ∙ (λ i. h i && not (k i))
 
--- ---- those who depend on a delivery
-
-no_crash : (who : Pid) (past : List Entry) (p : ℕ) → (who.0 == p) ≡ false → IsNoTurn (Crash who) past p
-no_crash who past p other = (ap (λ b. b || is_down past p) other, refl)
-
-no_restart : (who : Pid) (listed : List Det) (past : List Entry) (p : ℕ) → (who.0 == p) ≡ false → IsNoTurn (Restart who listed) past p
-no_restart who listed past p other = (ap (λ b. not b && is_down past p) other, ap (λ b. cond b (lane past p + 1) (lane past p)) other)
-
--- who depends with one more entry did so without it, where that newly reaches nobody
-module _ (n : ℕ) (past : List Entry) (k p : ℕ) where
-  depends_once : (e : Entry) → AreAccepted n (e ∷ past) → IsNoTurn e past p → (actor e ≡ Some p → Reaches (e ∷ past) k (length past) → Depends past k p) → Depends (e ∷ past) k p → Depends past k p
-  depends_once e formed same known d =
-      elim (depends_before n e past k p formed same d) [
-        | inl old ↦ old
-        | inr new ↦ known new.0 new.1
-      ]
-
-  depends_older : (e : Entry) → AreAccepted n (e ∷ past) → (actor e ≡ Some p → Reaches (e ∷ past) k (length past) → Depends past k p) → Depends (e ∷ past) k p → Depends past k p
-  depends_older (Send from to ssn) formed known d = depends_once (Send from to ssn) formed (refl, refl) known d
-  depends_older (Deliver to send rsn listed) formed known d = depends_once (Deliver to send rsn listed) formed (refl, refl) known d
-  depends_older (Stable det) formed known d = depends_once (Stable det) formed (refl, refl) known d
-  depends_older (Crash who) formed known d =
-      elim (eqb_tells who.0 p) [
-        | inl here ↦ absurd (false≢true (sym d.up ∙ ap (λ b. b || is_down past p) here.0))
-        | inr apart ↦ depends_once (Crash who) formed (no_crash who past p apart.0) known d
-      ]
-  depends_older (Restart who listed) formed known d =
-      elim (eqb_tells who.0 p) [
-        | inl here ↦ absurd (depends_restarted (Restart who listed) past k p (ap (λ b. cond b (lane past p + 1) (lane past p)) here.0) refl d)
-        | inr apart ↦ depends_once (Restart who listed) formed (no_restart who listed past p apart.0) known d
-      ]
-  depends_older (Forget who listed) formed known d = depends_once (Forget who listed) formed (refl, refl) known d
-
--- who depended without it does so with it, if up, where it restarts none of these
-module _ (past : List Entry) (k p : ℕ) (members : FinSet nat_cmp) (inside : contains members p ≡ true) (was : is_down past p ≡ false → Depends past k p) where
-  depends_newer : (e : Entry) → restarts_one members e ≡ false → is_down (e ∷ past) p ≡ false → Depends (e ∷ past) k p
-  depends_newer (Send from to ssn) out up = depends_more (Send from to ssn) past k p (refl, refl) (was up)
-  depends_newer (Deliver to send rsn listed) out up = depends_more (Deliver to send rsn listed) past k p (refl, refl) (was up)
-  depends_newer (Stable det) out up = depends_more (Stable det) past k p (refl, refl) (was up)
-  depends_newer (Crash who) out up =
-      elim (eqb_tells who.0 p) [
-        | inl here ↦ absurd (false≢true (sym up ∙ ap (λ b. b || is_down past p) here.0))
-        | inr apart ↦ let same = no_crash who past p apart.0 in depends_more (Crash who) past k p same (was (sym same.0 ∙ up))
-      ]
-  depends_newer (Restart who listed) out up =
-      let same = no_restart who listed past p (restarts_other members who p out inside) in
-      depends_more (Restart who listed) past k p same (was (sym same.0 ∙ up))
-  depends_newer (Forget who listed) out up = depends_more (Forget who listed) past k p (refl, refl) (was up)
-
 -- the instant after an entry
 pub entry_then : (past : List Entry) (v : ℕ) (e : Entry) → v < length past → entry_at past v ≡ Some e → instant past (v + 1) ≡ e ∷ instant past v
 entry_then past v e below at =
@@ -172,99 +222,120 @@ entry_then past v e below at =
     let same : found.0 ≡ e = cc one in
     found.2 ∙ ap (λ x. x ∷ instant past v) same
 
--- ---- what is known of a delivery
+-- ==== a walk over the entries that may change who is down or holds a determinant, and how the determinant stands between them
 
-not_parts : (a b : Bool) → (a && not b) ≡ true → (a ≡ true) × (b ≡ false)
-not_parts true true h = absurd (false≢true h)
-not_parts true false h = (refl, refl)
-not_parts false b h = absurd (false≢true h)
+-- ---- an orphan survives
 
-module _ (n : ℕ) (past : List Entry) (k : ℕ) (d : Det) (s : Sight) (t u : ℕ) (formed : AreAccepted n past) (up : t ≤ u) (within : u ≤ length past) (unmentioned : MentionsNone past d t u) (unrestarted : RestartsNone past (members s) t u) (unreached : ReachesNone past k t u)
-    (sight : IsSight (instant past t) k d s) where
-  gone_member : (p : ℕ) → gone (instant past t) d p ≡ true → contains (members s) p ≡ true
-  gone_member p here =
-      contains-union nat_cmp_total (union s.down s.holders) s.dependents p
-      ∙ or_left (contains (union s.down s.holders) p) (contains s.dependents p) (contains-union nat_cmp_total s.down s.holders p ∙ (λ i. sight.down p i || sight.holders p i) ∙ here)
+-- one that is out of a set leaves one fewer for it
+all_but : (n : ℕ) (set : ℕ → Bool) (p : ℕ) → p < n → set p ≡ false → count_below n set < n
+all_but zero set p low out = absurd (omega (arith, low))
+all_but (suc n) set p low out =
+    elim (cases_lt p n) [
+      | inl below ↦ omega (arith, all_but n set p below out, one (set n))
+      | inr above ↦
+          let is : set n ≡ false = ap set (omega (arith, low, above)) ∙ out in
+          omega (arith, count_below-le n set, ap {B = ℕ} (λ b. if b then 1 else 0) is)
+    ]
+  where
+    one : (b : Bool) → (if b then 1 else 0) ≤ 1
+    one true = omega arith
+    one false = omega arith
 
-  depends_member : (p : ℕ) → Depends (instant past t) k p → contains (members s) p ≡ true
-  depends_member p here =
-      contains-union nat_cmp_total (union s.down s.holders) s.dependents p
-      ∙ or_right (contains (union s.down s.holders) p) (contains s.dependents p) ((sight.dependents p).1 here)
+-- so at most all processes but one are in its crash set
+pub of_most : (n f most : ℕ) (past : List Entry) (k : ℕ) → most ≡ min f (n - 1) → HasOrphan n f past k → HasOrphan n most past k
+of_most n f most past k is has = record {
+  crash = has.crash;
+  orphan = has.orphan;
+  may_crash = record { down = has.may_crash.down; few = omega (arith, is, has.may_crash.few, all_but n has.crash has.orphan has.is_orphan.process has.is_orphan.survives) };
+  is_orphan = has.is_orphan;
+}
 
-  held_then : (p : ℕ) → logs (instant past u) p d ≡ (logs (instant past t) p d && not (is_down (instant past u) p))
-  held_then p =
-      holders_stay n past d (members s) t u p formed up within unmentioned unrestarted
-      (λ held. gone_member p (or_right (is_down (instant past t) p) (logs (instant past t) p d) held))
+-- ---- those who are down or hold a determinant, as a set
 
-  stable_then : is_stable (instant past t) d ≡ is_stable (instant past u) d
-  stable_then =
-      onward_to (λ x. is_stable (instant past t) d ≡ is_stable x d) past t u up within
-      (λ v e above below at same. same ∙ stable_stays e (instant past v) d (unmentioned v e above below at)) refl
+module _ (n : ℕ) (past : List Entry) (d : Det) (formed : AreAccepted n past) (down holders : FinSet nat_cmp) (downs : Shows down (λ p. is_down past p)) (holds : Shows holders (λ p. logs past p d)) where
+  pub gone_shown : (q : ℕ) → contains (union down holders) q ≡ gone past d q
+  gone_shown q = contains-union nat_cmp_total down holders q ∙ (λ i. downs q i || holds q i)
 
-  abbrev Kept : ℕ → List Entry → Type 0
-  Kept p x = (Depends x k p → Depends (instant past t) k p) × (Depends (instant past t) k p → is_down x p ≡ false → Depends x k p)
+  pub gone_many : len (union down holders) ≡ count_below n (gone past d)
+  gone_many =
+      members_counted n (union down holders) (gone past d) (record {
+        process = λ q h.
+            elim (or_cases (is_down past q) (logs past q d) (sym (gone_shown q) ∙ h)) [
+              | inl fell ↦ down_inside n past q formed fell
+              | inr held ↦ logs_inside n past q d formed held
+            ];
+        member = λ q low. gone_shown q;
+      })
 
-  depends_then : (p : ℕ) → Kept p (instant past u)
-  depends_then p =
-      onward_to (Kept p) past t u up within
-      (λ v e above below at h.
-      let next = entry_then past v e (omega (arith, below, within)) at in
-      let legal : AreAccepted n (e ∷ instant past v) = subst (AreAccepted n) next (accepted_then n past (v + 1) formed) in (
-        λ new. h.0 (depends_older n (instant past v) k p e legal (λ of reach. unreached v e p above below at of reach) new),
-        λ was alive. depends_newer (instant past v) k p (members s) (depends_member p was) (h.1 was) e (unrestarted v e above below at) alive,
-      ))
-      (λ h. h, λ h _. h)
+-- a position below the next mention is none
+pub beyond : (change mention : ℕ) → change ≤ mention → (mention == change) ≡ false → change < mention
+beyond change mention low apart =
+    elim (cases_lt change mention) [
+      | inl less ↦ less
+      | inr more ↦ absurd (false≢true (sym apart ∙ eq-eqb mention change (omega (arith, low, more))))
+    ]
 
-  sight_then : (down : FinSet nat_cmp) → Shows down (λ p. is_down (instant past u) p) → IsSight (instant past u) k d (later down s)
-  sight_then down fell = record {
-    down = fell;
-    holders = λ p. difference_shown s.holders down p (logs (instant past t) p d) (is_down (instant past u) p) (sight.holders p) (fell p) ∙ sym (held_then p);
-    stable = sight.stable ∙ stable_then;
-    dependents = λ p. (
-      λ inside.
-          let parts = not_parts (contains s.dependents p) (contains down p) (sym (contains-difference nat_cmp_total s.dependents down p) ∙ inside) in
-          (depends_then p).1 ((sight.dependents p).0 parts.0) (sym (fell p) ∙ parts.1),
-      λ depends. difference_shown s.dependents down p true false ((sight.dependents p).1 ((depends_then p).0 depends)) (fell p ∙ depends.up),
-    );
-  }
+pub unmentioned_at : (past : List Entry) (d : Det) (mentions : List ℕ) → HasMentions past d mentions → (t next : ℕ) → HasNoneUntil mentions t next → (v : ℕ) → t ≤ v → v < next → (e : Entry) → entry_at past v ≡ Some e → has (mentioned_by e) d ≡ false
+unmentioned_at past d mentions mentioned t next none v above below e there = mentioned v e there (none v above below)
 
-  exposed_then : (f : ℕ) → IsExposed n f (instant past u) k d → IsExposed n f (instant past t) k d
-  exposed_then f e = record {
-    unstable = stable_then ∙ e.unstable;
-    few = omega (arith, e.few, count_below-within n (gone (instant past t) d) (gone (instant past u) d) (λ p _ here. gone_stay past d (members s) t u p up within unmentioned unrestarted (gone_member p here) here));
-    orphan = e.orphan;
-    process = e.process;
-    depends = (depends_then e.orphan).0 e.depends;
-    without = false_from_ne_true (logs (instant past t) e.orphan d) (λ held. false≢true (sym e.without ∙ held_then e.orphan ∙ (λ i. held i && not (e.depends.up i))));
-  }
+-- whether an entry mentions the determinant is told by the list of its mentions
+pub mentioned_listed : (past : List Entry) (d : Det) (mentions : List ℕ) → HasMentions past d mentions → AreMentionsOf past d mentions → (v : ℕ) (e : Entry) → entry_at past v ≡ Some e → (told : Bool) → (told ≡ true) ↔ Contains mentions v → told ≡ has (mentioned_by e) d
+mentioned_listed past d mentions mentioned only v e there true same =
+    let of = only v (same.0 refl) in
+    let is : Some of.0 ≡ Some e = sym of.1 ∙ there in
+    let one : of.0 ≡ e = cc is in
+    sym (ap (λ x. has (mentioned_by x) d) (sym one) ∙ of.2)
+mentioned_listed past d mentions mentioned only v e there false same = sym (mentioned v e there (λ listed. false≢true (same.1 listed)))
 
-  -- the delivery itself newly reaches its process
-  own_reach : det_at past k ≡ Some d → t ≤ k → k < u → ⊥
-  own_reach at above below =
-      let found = next_entry past k (omega (arith, below, within)) in
-      let long : length (instant past k) ≡ k = instant_length past k (omega (arith, below, within)) in
-      let made : det_at (found.0 ∷ instant past k) k ≡ Some d = ap (λ x. det_at x k) (sym found.2) ∙ det_then past (k + 1) k (omega arith) (omega (arith, below, within)) ∙ at in
-      let event = delivery_event (found.0 ∷ instant past k) k d made in
-      newest event.0 event.1 long found.0 (λ of reach. unreached k found.0 event.0 above below found.1 of reach) event.2
-    where
-      newest : (p l : ℕ) → length (instant past k) ≡ k → (e : Entry) → (actor e ≡ Some p → Reaches (e ∷ instant past k) k (length (instant past k)) → Depends (instant past k) k p) → IsEventOf (e ∷ instant past k) k p l → ⊥
-      newest p l long e known (inl older) = omega (arith, long, reaches_begins (instant past k) k k (itself p l older))
-      newest p l long e known (inr own) =
-          let depends : Depends (instant past k) k p = known own.1 (subst (Reaches (e ∷ instant past k) k) own.0 (itself p l (inr own))) in
-          omega (arith, long, reaches_begins (instant past k) k depends.event depends.reached)
+-- whether an entry mentions the determinant is told by the next mention
+pub mentioned_next : (past : List Entry) (d : Det) (mentions : List ℕ) → HasMentions past d mentions → AreMentionsOf past d mentions → (t next : ℕ) → HasNoneUntil mentions t next
+    → (v : ℕ) → t ≤ v → v ≤ next → (next ≡ v → Contains mentions v) → (e : Entry) → entry_at past v ≡ Some e → (next == v) ≡ has (mentioned_by e) d
+mentioned_next past d mentions mentioned only t next none v above low found e there =
+    elim (eqb_tells next v) [
+      | inl here ↦
+          let of = only v (found here.1) in
+          let is : Some of.0 ≡ Some e = sym of.1 ∙ there in
+          let same : of.0 ≡ e = cc is in
+          here.0 ∙ sym (ap (λ x. has (mentioned_by x) d) (sym same) ∙ of.2)
+      | inr apart ↦ apart.0 ∙ sym (unmentioned_at past d mentions mentioned t next none v above (beyond v next low apart.0) e there)
+    ]
 
-  none_then : (f : ℕ) → det_at past k ≡ Some d → HasOrphan n f (instant past u) k → HasOrphan n f (instant past t) k
-  none_then f at has =
-      elim (cases_lt k u) [
-        | inr coming ↦ absurd (not_yet n f (instant past u) k (omega (arith, coming, instant_length past u within)) has)
-        | inl passed ↦ elim (cases_lt k t) [
-          | inr ahead ↦ absurd (own_reach at ahead passed)
-          | inl made ↦ unexposed n f (instant past t) k d (det_then past t k made (omega (arith, up, within)) ∙ at) (exposed_then f (exposed n f (instant past u) k d (det_then past u k passed within ∙ at) has))
-        ]
-      ]
+-- ---- until an entry mentions it or restarts one of them
 
-pub sight_stays : SightStays
-sight_stays n past k d s t u down formed up within unmentioned unrestarted unreached fell sight = sight_then n past k d s t u formed up within unmentioned unrestarted unreached sight down fell
+module _ (n : ℕ) (past : List Entry) (formed : AreAccepted n past) (d : Det) (t next : ℕ) (within : next ≤ length past) (unmentioned : MentionsNone past d t next) where
+  module _ (down holders : FinSet nat_cmp) (unrestarted : RestartsNone past (union down holders) t next) (downs : Shows down (λ p. is_down (instant past t) p)) (holds : Shows holders (λ p. logs (instant past t) p d)) where
+    legal : (u : ℕ) → AreAccepted n (instant past u)
+    legal u = accepted_then n past u formed
 
-pub none_newly : NoneNewly
-none_newly n f past k d s t u formed at up within unmentioned unrestarted unreached sight has = none_then n past k d s t u formed up within unmentioned unrestarted unreached sight f at has
+    -- the holders that are not down then still hold it
+    pub holds_until : (u : ℕ) → t ≤ u → u ≤ next → (fell : FinSet nat_cmp) → Shows fell (λ p. is_down (instant past u) p) → Shows (difference holders fell) (λ p. logs (instant past u) p d)
+    holds_until u up low fell falls p =
+        difference_shown holders fell p (logs (instant past t) p d) (is_down (instant past u) p) (holds p) (falls p)
+        ∙ sym (holders_stay n past d (union down holders) t u p formed up (omega (arith, low, within))
+        (λ v e above below. unmentioned v e above (omega (arith, below, low))) (λ v e above below. unrestarted v e above (omega (arith, below, low)))
+        (λ held. gone_shown n (instant past t) d (legal t) down holders downs holds p ∙ or_right (is_down (instant past t) p) (logs (instant past t) p d) held))
+
+    -- and all of them are still down or hold it
+    gone_until : (u : ℕ) → t ≤ u → u ≤ next → (p : ℕ) → gone (instant past t) d p ≡ true → gone (instant past u) d p ≡ true
+    gone_until u up low p here =
+        gone_stay past d (union down holders) t u p up (omega (arith, low, within))
+        (λ v e above below. unmentioned v e above (omega (arith, below, low))) (λ v e above below. unrestarted v e above (omega (arith, below, low)))
+        (gone_shown n (instant past t) d (legal t) down holders downs holds p ∙ here) here
+
+    -- so it stands as it did
+    pub stands_until : (most : ℕ) (s : Standing) → StandsBy s most d.dest.0 (union down holders) → (u : ℕ) → t ≤ u → u ≤ next → RulesOut s n most past d u
+    stands_until most Kept many u up low = λ thin.
+        omega (
+          arith,
+          thin.few,
+          many,
+          gone_many n (instant past t) d (legal t) down holders downs holds,
+          count_below-within n (gone (instant past t) d) (gone (instant past u) d) (λ p _ here. gone_until u up low p here),
+        )
+    stands_until most Thin here u up low = λ bare. false≢true (sym bare.receiver ∙ gone_until u up low d.dest.0 (sym (gone_shown n (instant past t) d (legal t) down holders downs holds d.dest.0) ∙ here))
+    stands_until most Bare here u up low = tt
+
+-- where nothing is left to come nothing mentions it
+pub none_mention : (past : List Entry) (d : Det) (mentions : List ℕ) → HasMentions past d mentions → (t next last : ℕ) → next ≤ last → HasNoneUntil mentions t last → MentionsNone past d t next
+none_mention past d mentions mentioned t next last low none v e above below there =
+    unmentioned_at past d mentions mentioned t last none v above (omega (arith, below, low)) e there

@@ -3,8 +3,8 @@ pub mod Ahead
 pub mod AllLooks
 pub mod Among
 pub mod BreachAt
+pub mod ByProcess
 pub mod Changes
-pub mod Crashes
 pub mod Filed
 pub mod Followed
 pub mod Group

@@ -1,6 +1,7 @@
 //! How a recorded run fails: a delivery that has an orphan, or too many processes down.
 ghost use Rattle.std.specs.Prelude.{◌≡◌};
 ghost use Rattle.causal_audit.specs.Earlier.{earlier};
+ghost use Rattle.causal_audit.specs.Inside.Among.{horizon};
 
 use causal_holders::Holders;
 
@@ -46,5 +47,15 @@ pub fn earlier(one: Option<Breach>, other: Option<Breach>) -> Option<Breach>
         (Some(a), Some(b)) => { if b.comes_before(&a) { Some(b) } else { Some(a) } }
         (Some(a), None) => Some(a),
         (None, b) => b,
+    }
+}
+
+/// The last instant at which a breach can still come first: that of the least breach so far, or `end`.
+pub(crate) fn horizon(end: u32, least: &Option<Breach>) -> u32
+    ensures { result ≡ horizon end least.now }
+{
+    match least {
+        Some(breach) => breach.instant,
+        None => end,
     }
 }

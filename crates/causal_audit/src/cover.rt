@@ -1,6 +1,7 @@
 //! Who is down and who holds a determinant, and how the determinant stands by that.
 ghost use Rattle.std.specs.Prelude.{◌≡◌};
 ghost use Rattle.std.specs.FinSet as set;
+ghost use Rattle.causal_name.specs.declared.Det.{Det};
 ghost use Rattle.causal_trace.specs.Past.{has};
 ghost use Rattle.causal_audit.specs.Quiet.{mentioned_by};
 ghost use Rattle.causal_audit.specs.Inside.Sights.{ShowsDownAfter, ShowsHoldersAfter};
@@ -10,7 +11,6 @@ use crate::holding::holders_after;
 use crate::sight::down_after;
 use crate::thin::Standing;
 use causal_holders::Holders;
-use causal_name::Det;
 use causal_trace::entry::Entry;
 
 /// Who is down and who holds a determinant at an instant.
@@ -44,12 +44,12 @@ impl Cover {
 
     /// Takes in one more entry, which mentions the determinant or does not, where these are down before it: a holder that is
     /// down has crashed since, and holds it no longer.
-    pub fn see(&mut self, down: Holders, entry: &Entry, det: Det, mentioned: bool)
+    pub fn see(&mut self, down: Holders, entry: &Entry, mentioned: bool)
         ensures down { ShowsDownAfter entry.now down self.new.down }
-        ensures holders { ShowsHoldersAfter (mentioned ≡ has (mentioned_by entry.now) det)
-            entry.now det (set.difference self.old.holders down) self.new.holders }
+        ensures holders { (d : Det) → ShowsHoldersAfter (mentioned ≡ has (mentioned_by entry.now) d)
+            entry.now d (set.difference self.old.holders down) self.new.holders }
     {
         self.down = down_after(down, entry);
-        self.holders = holders_after(self.holders.minus(down), entry, det, mentioned);
+        self.holders = holders_after(self.holders.minus(down), entry, mentioned);
     }
 }

@@ -2,7 +2,7 @@
 ghost use Rattle.std.specs.Prelude.{◌≡◌, ◌≤◌, ◌<◌, ℕ, length};
 ghost use Rattle.causal_trace.specs.Past.{deliveries_in};
 ghost use Rattle.causal_audit.specs.Breaches.{Decides, FirstBreach, FirstExcess, LeastBreachBy};
-ghost use Rattle.causal_audit.specs.Inside.Among.{FirstBreachBy, horizon};
+ghost use Rattle.causal_audit.specs.Inside.Among.{FirstBreachBy};
 ghost use Rattle.causal_audit.specs.Numbers.{IsNumbered};
 ghost use Rattle.causal_audit.specs.Verdicts.{IsVerdict};
 ghost use Rattle.causal_audit.specs.declared.verdict.Verdict.{Verdict};
@@ -20,13 +20,12 @@ pub fn first_excess(tables: &Tables, f: u16) -> Option<Excess>
     first_excess_in(tables.trace(), f)
 }
 
-/// How the delivery of number i first has an orphan, if it has one by the instant `end`.
-fn first_breach_by(tables: &Tables, f: u16, end: u32, i: u32) -> Option<Breach>
-    requires number { i < deliveries_in tables.now.past }
+/// How the delivery at position k first has an orphan, if it has one by the instant `end`.
+fn first_breach_at(tables: &Tables, f: u16, end: u32, k: u32) -> Option<Breach>
+    requires delivery { (i : ℕ) × IsNumbered tables.now.past i k }
     requires within { end ≤ length tables.now.past }
-    ensures { (k : ℕ) → IsNumbered tables.now.past i k → FirstBreachBy tables.now f end k result }
+    ensures { FirstBreachBy tables.now f end k result }
 {
-    let k = tables.position(i);
     let Some(det) = tables.det_at(k) else {
         unreachable!()
     };
@@ -39,32 +38,19 @@ pub fn first_breach(tables: &Tables, f: u16, i: u32) -> Option<Breach>
     requires { i < deliveries_in tables.now.past }
     ensures { (k : ℕ) → IsNumbered tables.now.past i k → FirstBreach tables.now f k result }
 {
-    first_breach_by(tables, f, tables.entries(), i)
-}
-
-/// The last instant at which a breach can still come first.
-fn horizon(end: u32, least: &Option<Breach>) -> u32
-    ensures { result ≡ horizon end least.now }
-{
-    match least {
-        Some(breach) => breach.instant,
-        None => end,
-    }
+    first_breach_at(tables, f, tables.entries(), tables.position(i))
 }
 
 /// The least breach of all deliveries, by instant and then by position, if it comes by the instant `end`; None where none
-/// does. No instant is looked at that is later than `end` or than a breach that was found.
+/// does.
 fn least_by(tables: &Tables, f: u16, end: u32) -> Option<Breach>
     requires { end ≤ length tables.now.past }
     ensures { LeastBreachBy tables.now f end 0 (deliveries_in tables.now.past) result }
 {
     let mut least = None;
     for i in 0..tables.deliveries() {
-        let until = horizon(end, &least);
-        if until <= tables.position(i) {
-            return least;
-        }
-        least = earlier(least, first_breach_by(tables, f, until, i));
+        let found = first_breach_at(tables, f, end, tables.position(i));
+        least = earlier(least, found);
     }
     least
 }

@@ -26,8 +26,8 @@ pub mod verdict;
 
 // The recording's index: what is read of a run before anything is followed.
 
-/// The crashes of each process.
-mod crashes;
+/// The crashes of each process, and its restarts.
+mod by_process;
 /// Lists of positions by numbers.
 mod lists;
 /// Which entries mention each determinant.
@@ -38,8 +38,6 @@ mod numbering;
 mod outline;
 /// From which position on no process is released.
 mod releases;
-/// The restarts of each process.
-mod restarts;
 /// How long each entry stays with its process.
 mod spreads;
 /// The crashes and restarts, in order.

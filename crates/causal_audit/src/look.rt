@@ -127,8 +127,7 @@ impl<'a> Look<'a> {
         if is_written(entry, self.det) {
             return Some(stretch);
         }
-        stop.cover
-            .see(stop.turns.down(), entry, self.det, mention == last);
+        stop.cover.see(stop.turns.down(), entry, mention == last);
         stop.standing = stop.cover.standing(self.most, self.det.dest.0);
         let lasting = self.run.lasting_from <= last + 1;
         if lasting && stop.standing.is_kept() {

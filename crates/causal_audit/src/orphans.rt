@@ -8,11 +8,11 @@ ghost use Rattle.causal_audit.specs.Inside.Followed.{AreFollowed, IsReachedBy};
 
 use crate::breach::Breach;
 use crate::changes::Changes;
-use crate::outline::Outline;
 use crate::sight::Sight;
 use causal_holders::Holders;
 use causal_name::Det;
 use causal_trace::entry::Entry;
+use causal_trace::trace::Trace;
 
 /// How the delivery at position k has an orphan at the instant t; None where it has none. It has none before it is made.
 pub fn breach_at(sight: &Sight, f: u16, k: u32, t: u32) -> Option<Breach>
@@ -43,42 +43,36 @@ pub fn is_reached(entry: &Entry, dependents: Holders, newly: bool) -> bool
 }
 
 /// How the delivery at position k, whose determinant this is, first has an orphan, if it has one by the instant `end`. Only
-/// the instants after a change are looked at, from the delivery or the first mention of its determinant on, until no later
-/// one can have an orphan: from `lasting_from` on no entry releases a process. A crash is no change, and a restart only where
-/// the process was down, held the determinant or depended on the delivery after the last one.
+/// the instants after a change are looked at.
 pub fn first_orphan(
-    run: &Outline<'_>,
+    trace: &Trace,
     changes: &Changes<'_>,
     f: u16,
     end: u32,
     k: u32,
     det: Det,
 ) -> Option<Breach>
-    requires within { end ≤ length run.now.trace.now.recording.past }
-    requires delivery { det_at run.now.trace.now.recording.past k ≡ Some det }
-    requires changes { AreFollowed run.now.trace.now.recording.past k det end changes.now }
-    ensures { FirstBreachBy run.now.trace.now.recording f end k result }
+    requires within { end ≤ length trace.now.recording.past }
+    requires delivery { det_at trace.now.recording.past k ≡ Some det }
+    requires changes { AreFollowed trace.now.recording.past k det end changes.now }
+    ensures { FirstBreachBy trace.now.recording f end k result }
 {
-    let entries = run.trace.entries();
-    let mut t = changes.start(k);
-    let mut ahead = changes.ahead(run.turns, t);
-    let mut sight = Sight::begin(ahead.turns.down());
+    let entries = trace.entries();
+    let mut ahead = changes.ahead();
+    let mut sight = Sight::begin(Holders::none());
+    let mut t = 0;
     while t < end {
-        let next = ahead.next(run.trace, sight.members(), t, end);
+        let next = ahead.next(t, end);
         let change = next.position;
         if change == end {
             return None;
         }
         let entry = &entries[change as usize];
-        sight = sight.later(ahead.turns.down());
         let reached = is_reached(entry, sight.dependents, next.newly);
-        sight.see(entry, det, next.mentioned, reached);
+        sight.see(entry, next.mentioned, reached);
         t = change + 1;
         if let Some(found) = breach_at(&sight, f, k, t) {
             return Some(found);
-        }
-        if sight.is_over(f, run.lasting_from <= t) {
-            return None;
         }
     }
     None

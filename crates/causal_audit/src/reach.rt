@@ -3,7 +3,7 @@ ghost use Rattle.std.specs.Prelude.{◌≡◌, ◌<◌, ◌≤◌, ℕ, List, If
 ghost use Rattle.std.specs.FinSet as set;
 ghost use Rattle.std.specs.List.{All};
 ghost use Rattle.causal_trace.specs.declared.entry.Entry.{Entry};
-ghost use Rattle.causal_audit.specs.Inside.Reaching.{AreOwnRows, HasRowOf, HasRowRoom, HasRows, IsReach, SeesReach, TellsReached, row, window_at};
+ghost use Rattle.causal_audit.specs.Inside.Reaching.{AreOwnRows, HasRowOf, HasRowRoom, HasRows, IsPut, IsReach, SeesReach, TellsReached, row, window_at};
 
 use crate::scan::Window;
 use causal_holders::Holders;
@@ -34,6 +34,21 @@ pub fn set_at(rows: &[Holders], i: usize) -> Holders
     }
 }
 
+/// Puts a place into the row of the entry at a position, where it has one. The first row is of the entry at `start`.
+pub fn put(rows: &mut Vec<Holders>, start: u32, place: u8, position: u32)
+    ensures count { length rows.new.items ≡ length rows.old.items }
+    ensures room { vec_capacity rows.new ≡ vec_capacity rows.old }
+    ensures put { IsPut start place position rows.old.items rows.new.items }
+{
+    if position < start {
+        return;
+    }
+    let i = (position - start) as usize;
+    if i < rows.len() {
+        rows[i].insert(place);
+    }
+}
+
 /// Puts the place of each of these deliveries into the row of its own entry, where that has one. The first row is of
 /// the entry at `start`.
 fn mark_own(rows: &mut Vec<Holders>, start: u32, windows: &[Window])
@@ -45,10 +60,7 @@ fn mark_own(rows: &mut Vec<Holders>, start: u32, windows: &[Window])
     ensures own { AreOwnRows windows.now start (length windows.now) rows.new.items }
 {
     for (place, window) in windows.iter().enumerate() {
-        let i = (window.position - start) as usize;
-        if i < rows.len() {
-            rows[i].insert(place as u8);
-        }
+        put(rows, start, place as u8, window.position);
     }
 }
 

@@ -1,16 +1,11 @@
 //! What is known of one delivery at an instant, and what one more entry makes of it. Where the delivery has an orphan is
 //! told by counting: no crash set is tried.
-ghost use Rattle.std.specs.Prelude.{◌≡◌, ◌∷◌, List, Some, true};
+ghost use Rattle.std.specs.Prelude.{◌≡◌};
 ghost use Rattle.std.specs.FinSet as set;
-ghost use Rattle.causal_name.specs.declared.Det.{Det};
-ghost use Rattle.causal_trace.specs.declared.entry.Entry.{Entry};
-ghost use Rattle.causal_trace.specs.Past.{is_stable};
-ghost use Rattle.causal_audit.specs.Inside.Staying.{later, members};
-ghost use Rattle.causal_audit.specs.Inside.Sights.{ExposesLeast, IsSightAfter, IsSightBegun, ShowsDependentsAfter, ShowsDownAfter, TellsOver};
+ghost use Rattle.causal_audit.specs.Inside.Sights.{ExposesLeast, IsSightAfter, IsSightBegun, ShowsDependentsAfter, ShowsDownAfter, ShowsStableAfter};
 
 use crate::holding::holders_after;
 use causal_holders::Holders;
-use causal_name::Det;
 use causal_trace::entry::Entry;
 
 /// What is known of one delivery at an instant: who is down, who holds its determinant, whether that is stable, and who
@@ -58,12 +53,12 @@ pub fn down_after(down: Holders, entry: &Entry) -> Holders
     }
 }
 
-/// Whether the determinant is stable after one more entry.
-fn stable_after(stable: bool, entry: &Entry, det: Det) -> bool
-    ensures { (past : List Entry) → stable ≡ is_stable past det → result ≡ is_stable (entry.now ∷ past) det }
+/// Whether a determinant is stable after one more entry, which mentions it or does not.
+fn stable_after(stable: bool, entry: &Entry, mentioned: bool) -> bool
+    ensures { ShowsStableAfter entry.now mentioned stable result }
 {
     match entry {
-        Entry::Stable { det: written } => det == *written || stable,
+        Entry::Stable { .. } => mentioned || stable,
         _ => stable,
     }
 }
@@ -108,34 +103,14 @@ impl Sight {
         }
     }
 
-    /// Those who are down, hold the determinant or depend on the delivery.
-    pub fn members(self) -> Holders
-        ensures { result ≡ members self }
-    {
-        self.down.union(self.holders).union(self.dependents)
-    }
-
-    /// What is known at a later instant at which these are down, if nothing else has changed for the delivery and none of its
-    /// members has restarted: a holder or a dependent that is down has crashed since.
-    pub fn later(self, down: Holders) -> Sight
-        ensures { result ≡ later down self }
-    {
-        Sight {
-            down,
-            holders: self.holders.minus(down),
-            stable: self.stable,
-            dependents: self.dependents.minus(down),
-        }
-    }
-
-    /// Takes in one more entry, which mentions this determinant or not, and which its delivery reaches or not.
-    pub fn see(&mut self, entry: &Entry, det: Det, mentioned: bool, reached: bool)
-        ensures { IsSightAfter entry.now det mentioned reached self.old self.new }
+    /// Takes in one more entry, which mentions the determinant or not, and which the delivery reaches or not.
+    pub fn see(&mut self, entry: &Entry, mentioned: bool, reached: bool)
+        ensures { IsSightAfter entry.now mentioned reached self.old self.new }
     {
         *self = Sight {
             down: down_after(self.down, entry),
-            holders: holders_after(self.holders, entry, det, mentioned),
-            stable: stable_after(self.stable, entry, det),
+            holders: holders_after(self.holders, entry, mentioned),
+            stable: stable_after(self.stable, entry, mentioned),
             dependents: dependents_after(self.dependents, entry, reached),
         };
     }
@@ -149,27 +124,13 @@ impl Sight {
         if self.stable {
             return None;
         }
+        let Some(orphan) = self.dependents.minus(self.holders).least() else {
+            return None;
+        };
         let crash = self.down.union(self.holders);
         if crash.len() > u32::from(f) {
             return None;
         }
-        match self.dependents.minus(self.holders).least() {
-            None => None,
-            Some(orphan) => Some(Exposed { crash, orphan }),
-        }
-    }
-
-    /// Whether the delivery has no orphan now or later: its determinant is stable, or more than f processes are down or
-    /// hold it and `lasting` tells that no later entry releases one of them.
-    pub fn is_over(self, f: u16, lasting: bool) -> bool
-        ensures { TellsOver f lasting self result }
-    {
-        if self.stable {
-            return true;
-        }
-        if !lasting {
-            return false;
-        }
-        self.down.union(self.holders).len() > u32::from(f)
+        Some(Exposed { crash, orphan })
     }
 }

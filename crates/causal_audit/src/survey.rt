@@ -7,7 +7,7 @@ ghost use Rattle.causal_audit.specs.Inside.AllLooks.{AreAllLooks};
 ghost use Rattle.causal_audit.specs.Inside.Kept.{AreMentionsKept};
 ghost use Rattle.causal_audit.specs.Inside.Surveys.{AreGathered, asked_of, most_of};
 
-use crate::crashes::{crashes_in, first_crash};
+use crate::by_process::ByProcess;
 use crate::looks::Looks;
 use crate::mentions::Mentions;
 use crate::outline::Outline;
@@ -23,22 +23,20 @@ use std::marker::Model;
 pub struct Survey<'a, 'r> {
     outline: Outline<'r>,
     mentions: &'a Mentions,
-    crashes: &'a [Vec<u32>],
+    crashes: &'a ByProcess,
     stays: &'a [u32],
     f: u16,
     end: u32,
 }
 
 impl<'a, 'r> Model for Survey<'a, 'r> {
-    ghost use Rattle.causal_audit.specs.Inside.Filed.{lists_in};
     ghost use Rattle.causal_audit.specs.Inside.Surveys.{Asked, IsSurvey};
 
     ghost Value = { Asked };
 
     ghost view = { λ a. record { run = a.outline.trace.now.recording; f = a.f; end = a.end } };
 
-    ghost invariant = { λ a. IsSurvey a.outline.trace.now.recording a.end a.mentions.now (lists_in a.crashes.now)
-        a.stays.now };
+    ghost invariant = { λ a. IsSurvey a.outline.trace.now.recording a.end a.mentions.now a.crashes.now a.stays.now };
 }
 
 impl Survey<'_, '_> {
@@ -53,7 +51,7 @@ impl Survey<'_, '_> {
         let Some(thins) = looks.find(det) else {
             return self.end + 1;
         };
-        let crash = first_crash(self.crashes, det.dest.0, k, self.end);
+        let crash = self.crashes.next_of(det.dest.0, k + 1, self.end);
         thins.uncovered_until(k, self.stays[k as usize], crash, self.end)
     }
 
@@ -115,12 +113,12 @@ pub fn windows_of(
     ensures { IfOk result (λ windows. AreGathered (asked_of outline.entry.trace.now.recording f end) end windows.items) }
 {
     let entries = outline.trace.entries();
-    let crashes = crashes_in(alloc, entries)?;
+    let crashes = ByProcess::of(alloc, entries, false)?;
     let stays = stays_of(alloc, entries)?;
     let survey = Survey {
         outline,
         mentions,
-        crashes: crashes.as_slice(),
+        crashes: &crashes,
         stays: stays.as_slice(),
         f,
         end,

@@ -15,8 +15,6 @@ use crate::events::clocks_of;
 use crate::lanes::{LANES, lanes_of, write_firsts};
 use crate::mentions::{Mentions, mentions_in};
 use crate::orphans::first_orphan;
-use crate::outline::Outline;
-use crate::releases::lasting_from;
 use crate::turns::Turns;
 use causal_clock::Clocks;
 use causal_name::{Det, NoMemory};
@@ -26,13 +24,12 @@ use std::alloc::Global;
 use std::marker::Model;
 
 /// What is kept of a recorded run to judge it: a copy of its trace, the positions of its deliveries, a clock of its
-/// entries, the position from which on no process is released, and where something may change for a delivery. It is seen as the recording.
+/// entries, and where something may change for a delivery. It is seen as the recording.
 #[derive(Drop)]
 pub struct Tables {
     trace: Trace,
     positions: Vec<u32>,
     clocks: Clocks,
-    lasting_from: u32,
     mentions: Mentions,
     turns: Turns,
     lanes: Vec<Vec<u32>>,
@@ -47,7 +44,7 @@ impl Model for Tables {
 
     ghost view = { λ a. a.trace.recording };
 
-    ghost invariant = { λ a. AreTables a.trace.recording a.positions.items a.clocks.events a.lasting_from
+    ghost invariant = { λ a. AreTables a.trace.recording a.positions.items a.clocks.events
         × AreIndexes a.trace.recording a.clocks.events a.mentions.numbers (lists_in a.mentions.lists.items)
         a.turns (lists_in a.lanes.items) };
 }
@@ -63,7 +60,6 @@ impl Tables {
         let entries = trace.entries();
         let positions = positions_of(alloc, entries)?;
         let clocks = clocks_of(alloc, trace)?;
-        let lasting_from = lasting_from(entries);
         let mentions = mentions_in(alloc, entries)?;
         let turns = Turns::of(alloc, entries)?;
         let lanes = lanes_of(alloc, entries, &clocks)?;
@@ -72,7 +68,6 @@ impl Tables {
             trace,
             positions,
             clocks,
-            lasting_from,
             mentions,
             turns,
             lanes,
@@ -125,11 +120,6 @@ impl Tables {
         requires within { end ≤ length self.now.past }
         ensures { FirstBreachBy self.now f end k result }
     {
-        let run = Outline {
-            trace: &self.trace,
-            lasting_from: self.lasting_from,
-            turns: &self.turns,
-        };
         let mentions = self.mentions.list(det);
         let mut room = [0; LANES];
         let firsts = &mut room[..self.lanes.len()];
@@ -137,8 +127,9 @@ impl Tables {
         let changes = Changes {
             mentions,
             firsts: &*firsts,
+            turns: self.turns.positions.as_slice(),
         };
-        first_orphan(&run, &changes, f, end, k, det)
+        first_orphan(&self.trace, &changes, f, end, k, det)
     }
 }
 

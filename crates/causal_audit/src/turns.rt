@@ -10,7 +10,7 @@ ghost use Rattle.causal_audit.specs.Inside.Filed.{AreTurns, past_of};
 ghost use Rattle.causal_audit.specs.Inside.Sights.{Shows};
 ghost use Rattle.causal_audit.specs.Inside.Staying.{RestartsNone, restarts_one};
 
-use crate::restarts::Restarts;
+use crate::by_process::ByProcess;
 use crate::sight::down_after;
 use causal_holders::Holders;
 use causal_name::NoMemory;
@@ -26,7 +26,7 @@ const FEW: u32 = 8;
 pub struct Turns {
     pub positions: Vec<u32>,
     pub downs: Vec<Holders>,
-    pub restarts: Restarts,
+    pub restarts: ByProcess,
     ghost ascending: { IsNonDecreasing positions.items },
     ghost counted: { length downs.items ≡ length positions.items },
 }
@@ -96,7 +96,7 @@ impl Turns {
             down = down_after(down, entry);
             note_turn(&mut positions, &mut downs, entry, down, i as u32)?;
         }
-        let restarts = Restarts::of(alloc, entries)?;
+        let restarts = ByProcess::of(alloc, entries, true)?;
         Ok(Turns {
             positions,
             downs,

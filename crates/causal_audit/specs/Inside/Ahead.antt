@@ -14,15 +14,17 @@ pub record IsCursor (list : List ℕ) (from : ℕ) (cursor : Cursor) : Type 0 wh
 abbrev pub HasNoneUntil : List ℕ → ℕ → ℕ → Type 0
 HasNoneUntil list from next = (v : ℕ) → from ≤ v → v < next → Contains list v → ⊥
 
--- cursors over the two lists that have passed only positions below `from`
+-- cursors over the lists that have passed only positions below `from`
 pub record AreAhead (changes : Changes) (from : ℕ) (ahead : Ahead) : Type 0 where
   pub mentions : IsCursor changes.mentions.now from ahead.mentions
   pub firsts : IsCursor changes.firsts.now from ahead.firsts
+  pub turns : IsCursor changes.turns.now from ahead.turns
 
--- from `from` on neither list has a position below `next`
+-- from `from` on none of the lists has a position below `next`
 pub record AreNoneUntil (changes : Changes) (from next : ℕ) : Type 0 where
   pub mentions : HasNoneUntil changes.mentions.now from next
   pub firsts : HasNoneUntil changes.firsts.now from next
+  pub turns : HasNoneUntil changes.turns.now from next
 
 -- whether the next change is one of the mentions
 abbrev pub TellsMention : Changes → ℕ → ℕ → Next → Type 0

@@ -1,5 +1,5 @@
 -- The lists of positions that tables keep, so that only changes are looked at.
-use Rattle.std.specs.Prelude.{◌≡◌, ℕ, ◌+◌, ◌<◌, ◌≤◌, ◌⊎◌, ◌==◌, Bool, true, false, if◌then◌else◌, List, [], ◌∷◌, ◌++◌, length, map, Option, Some, None, slice_set, slice_index_or, Contains}
+use Rattle.std.specs.Prelude.{◌≡◌, ℕ, ◌+◌, ◌<◌, ◌≤◌, ◌⊎◌, true, if◌then◌else◌, List, [], ◌∷◌, ◌++◌, length, map, Option, Some, None, slice_set, slice_index_or, Contains}
 use Rattle.std.specs.Global.{Vec}
 use Rattle.std.specs.List.{All}
 use Rattle.std.specs.List.Sorted.{IsNonDecreasing}
@@ -9,7 +9,6 @@ use Rattle.std.specs.FinSet.{FinSet}
 use Rattle.causal_name.specs.declared.Det.{Det}
 use Rattle.causal_name.specs.Names.{same_det}
 use Rattle.causal_trace.specs.declared.entry.Entry.{Entry}
-use Rattle.causal_trace.specs.declared.entry.Entry.TheVariants.{Restart}
 use Rattle.causal_trace.specs.Past.{entry_at, has, instant, is_down}
 use Rattle.causal_trace.specs.State.{past_at}
 use Rattle.causal_trace.specs.Dependence.{IsEventOf}
@@ -47,16 +46,6 @@ pub record AreTurns (past : List Entry) (list : List ℕ) (downs : List (FinSet 
   pub turned : HasTurns past list
   pub counted : length downs ≡ length list
   pub shown : (i : ℕ) (s : FinSet nat_cmp) → i < length list → Shows (slice_index_or downs i s) (λ p. is_down (instant past (slice_index_or list i 0 + 1)) p)
-
--- whether an entry restarts this process
-abbrev pub is_restart_of : ℕ → Entry → Bool
-is_restart_of p (Restart who listed) = who.0 == p
-is_restart_of p _ = false
-
--- for each process an ascending list of positions; an entry whose position is not in it does not restart the process
-pub record AreRestarts (past : List Entry) (lists : List (List ℕ)) : Type 0 where
-  pub ascend : All (Ascends (length past)) lists
-  pub restarted : (p v : ℕ) (e : Entry) → entry_at past v ≡ Some e → (Contains (list_at lists p) v → ⊥) → is_restart_of p e ≡ false
 
 -- all events of the list are of one lane
 abbrev pub AreOfOneLane : List Event → List ℕ → Type 0

@@ -7,7 +7,7 @@ use Rattle.causal_name.specs.declared.Det.{Det}
 use Rattle.causal_trace.specs.declared.entry.Entry.{Entry}
 use Rattle.causal_trace.specs.Dependence.{actor, IsEventOf, Reaches}
 use Rattle.causal_audit.specs.declared.changes.Changes.{Changes}
-use Rattle.causal_audit.specs.Inside.Changes.{AreMentionsOf, HasMentions}
+use Rattle.causal_audit.specs.Inside.Changes.{AreMentionsOf, HasMentions, HasTurns}
 
 -- each entry below `end` that k reaches is in the list, or comes after one of its lane that k reaches
 abbrev pub HasFirstsUntil : List Entry → ℕ → ℕ → List ℕ → Type 0
@@ -21,12 +21,13 @@ pub record AreFirstsBelow (past : List Entry) (k end : ℕ) (list : List ℕ) : 
   pub reached : (v : ℕ) → v < end → Contains list v → Reaches past k v
   pub first : HasFirstsUntil past k end list
 
--- they have each position below `end` at which the determinant d of the delivery at k is mentioned, or k newly
--- reaches a process
+-- they have each position below `end` at which the determinant d of the delivery at k is mentioned, k newly reaches a
+-- process, or a process crashes or restarts
 pub record AreFollowed (past : List Entry) (k : ℕ) (d : Det) (end : ℕ) (changes : Changes) : Type 0 where
   pub mentioned : HasMentions past d changes.mentions.now
   pub only : AreMentionsOf past d changes.mentions.now
   pub firsts : AreFirstsBelow past k end changes.firsts.now
+  pub turned : HasTurns past changes.turns.now
 
 -- an event is reached where it is newly, or where its process depends on the delivery already
 abbrev pub IsReachedBy : Entry → FinSet nat_cmp → Bool → Bool → Type 0

@@ -11,7 +11,7 @@ use Rattle.causal_audit.specs.Quiet.{mentioned_by}
 use Rattle.causal_audit.specs.Inside.Among.{HasNoOrphanBy, LeastAmongBy}
 use Rattle.causal_audit.specs.Inside.Held.{IsDeliveredTo, IsHeldSo}
 use Rattle.causal_audit.specs.Inside.Reaching.{HasRowRoom, HasRows, IsNewly, IsReach, row, window_at}
-use Rattle.causal_audit.specs.Inside.Scans.{positions_of}
+use Rattle.causal_audit.specs.Inside.Scans.{IsDeliveryAt, positions_of}
 use Rattle.causal_audit.specs.Inside.Sights.{IsSight}
 use Rattle.causal_audit.specs.Inside.Staying.{MentionsNone}
 use Rattle.causal_audit.specs.declared.breach.Breach.{Breach}
@@ -29,13 +29,7 @@ pub record IsUntouchedBefore (past : List Entry) (start : ℕ) (window : Window)
   pub made : start ≤ window.position
   pub unmentioned : (d : Det) → det_at past window.position ≡ Some d → MentionsNone past d 0 start
 
--- in the row of the entry at a position, if there is one, the place is in now; the rows begin with that of the entry at `start`
-abbrev pub IsPut : ℕ → ℕ → ℕ → List (FinSet nat_cmp) → List (FinSet nat_cmp) → Type 0
-IsPut start place position old new =
-    (i j : ℕ) → i < length old
-    → (contains (row new i) j ≡ true) ↔ ((contains (row old i) j ≡ true) ⊎ ((j ≡ place) × (start + i ≡ position)))
-
--- and so it is in the rows of the entries at these positions
+-- in the rows of the entries at these positions, if there are such, the place is in now
 abbrev pub HaveMarked : ℕ → ℕ → List ℕ → List (FinSet nat_cmp) → List (FinSet nat_cmp) → Type 0
 HaveMarked start place positions old new =
     (i j : ℕ) → i < length old
@@ -63,13 +57,14 @@ IsKnown r windows t j s = (d : Det) → det_at r.past (position_at windows j) �
 abbrev pub AreKnown : Recording → List Window → ℕ → List Sight → Type 0
 AreKnown r windows t sights = (j : ℕ) → j < length windows → IsKnown r windows t j (sight_at sights j)
 
--- the entry of a step is that at its position; for each delivery it is told whether it newly reaches the entry's process, and
--- whether the entry mentions its determinant
+-- the entry of a step is that at its position; each window is of a delivery, of which it is told whether it newly reaches the
+-- entry's process, and whether the entry mentions its determinant
 pub record IsStep (r : Recording) (windows : List Window) (s : Step) : Type 0 where
   pub formed : IsWellFormed r
   pub short : length r.past ≤ max_entries
   pub below : s.t < length r.past
   pub next : instant r.past (s.t + 1) ≡ s.entry.now ∷ instant r.past s.t
+  pub made : (j : ℕ) → j < length windows → IsDeliveryAt r.past (position_at windows j)
   pub newly : (j : ℕ) (d : Det) → j < length windows → det_at r.past (position_at windows j) ≡ Some d
       → IsNewly (instant r.past s.t) s.entry.now (position_at windows j) j s.newly
   pub mentioned : (j : ℕ) (d : Det) → j < length windows → det_at r.past (position_at windows j) ≡ Some d

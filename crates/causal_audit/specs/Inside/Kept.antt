@@ -1,16 +1,17 @@
 -- What is kept of turns and of mentions, told of the values that keep it.
-use Rattle.std.specs.Prelude.{◌≡◌, ℕ, List}
+use Rattle.std.specs.Prelude.{◌≡◌, ℕ, true, List}
 use Rattle.std.specs.List.{All}
 use Rattle.causal_name.specs.declared.Det.{Det}
 use Rattle.causal_trace.specs.declared.entry.Entry.{Entry}
 use Rattle.causal_audit.specs.declared.mentions.Mentions.{Mentions}
 use Rattle.causal_audit.specs.declared.turns.Turns.{Turns}
-use Rattle.causal_audit.specs.Inside.Filed.{Ascends, AreMentions, AreMentionsWith, AreRestarts, AreTurns, lists_in, mentions_of}
+use Rattle.causal_audit.specs.Inside.ByProcess.{AreTurnsOf}
+use Rattle.causal_audit.specs.Inside.Filed.{Ascends, AreMentions, AreMentionsWith, AreTurns, lists_in, mentions_of}
 
 -- the positions of the crashes and restarts are kept, who is down after each, and the restarts of each process
 pub record AreTurnsKept (past : List Entry) (turns : Turns) : Type 0 where
   pub turned : AreTurns past turns.positions.items turns.downs.items
-  pub restarted : AreRestarts past (lists_in turns.restarts.lists.items)
+  pub restarted : AreTurnsOf true past (lists_in turns.restarts.lists.items)
 
 -- for each determinant the positions of the entries that mention it are kept, and no others
 abbrev pub AreMentionsKept : List Entry → Mentions → Type 0

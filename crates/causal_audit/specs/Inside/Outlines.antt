@@ -16,10 +16,6 @@ pub NoneReleasedFrom-prop : (past : List Entry) (t : ℕ) → IsProp (NoneReleas
 NoneReleasedFrom-prop [] t = Unit-prop
 NoneReleasedFrom-prop (e ∷ past) t = Prim.hlevel (props, NoneReleasedFrom-prop past t)
 
--- that these are the crashes and restarts of a run
-pub AreTurnsKept-prop : (past : List Entry) (turns : Turns) → IsProp (AreTurnsKept past turns)
-AreTurnsKept-prop past turns = Prim.hlevel props
-
 -- that there is an entry of which something holds
 one_entry : (o : Option Entry) (f : Entry → Bool) → IsProp ((e : Entry) × (o ≡ Some e) × (f e ≡ true))
 one_entry o f x y =
@@ -30,6 +26,10 @@ one_entry o f x y =
   where
     options_set : IsSet (Option Entry)
     options_set = Prim.hlevel (props, codes)
+
+-- that these are the crashes and restarts of a run
+pub AreTurnsKept-prop : (past : List Entry) (turns : Turns) → IsProp (AreTurnsKept past turns)
+AreTurnsKept-prop past turns = Prim.hlevel (props, one_entry)
 
 -- that a list has positions of entries alone that mention a determinant
 pub AreMentionsOf-prop : (past : List Entry) (d : Det) (list : List ℕ) → IsProp (AreMentionsOf past d list)

@@ -29,6 +29,12 @@ pub record IsReach (past : List Entry) (k j : ℕ) (reach : Reach) : Type 0 wher
       → (contains (row reach.reached.items i) j ≡ true) ↔ (reach.start + i ≡ k)
   pub depends : (p : ℕ) → (contains (row reach.present.items p) j ≡ true) ↔ Depends past k p
 
+-- in the row of the entry at a position, if there is one, the place is in now; the rows begin with that of the entry at `start`
+abbrev pub IsPut : ℕ → ℕ → ℕ → List (FinSet nat_cmp) → List (FinSet nat_cmp) → Type 0
+IsPut start place position old new =
+    (i j : ℕ) → i < length old
+    → (contains (row new i) j ≡ true) ↔ ((contains (row old i) j ≡ true) ⊎ ((j ≡ place) × (start + i ≡ position)))
+
 -- each row from the one of the entry at `start` on has just those of the first `count` places whose positions it is
 abbrev pub AreOwnRows : List Window → ℕ → ℕ → List (FinSet nat_cmp) → Type 0
 AreOwnRows windows start count rows =

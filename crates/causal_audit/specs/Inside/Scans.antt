@@ -1,7 +1,9 @@
 -- Which deliveries a scan follows.
-use Rattle.std.specs.Prelude.{ℕ, ◌<◌, ◌≤◌, List, length, map}
+use Rattle.std.specs.Prelude.{◌≡◌, ℕ, ◌≤◌, List, length, map, Some}
 use Rattle.std.specs.List.{All}
-use Rattle.causal_trace.specs.Past.{instant}
+use Rattle.causal_name.specs.declared.Det.{Det}
+use Rattle.causal_trace.specs.declared.entry.Entry.{Entry}
+use Rattle.causal_trace.specs.Past.{det_at, instant}
 use Rattle.causal_trace.specs.Rows.{Recording}
 use Rattle.causal_audit.specs.Inside.Among.{HasNoOrphanFrom}
 use Rattle.causal_audit.specs.declared.mentions.Mentions.{Mentions}
@@ -14,14 +16,18 @@ use Rattle.causal_audit.specs.Inside.Kept.{AreMentionsKept, AreTurnsKept}
 abbrev pub positions_of : List Window → List ℕ
 positions_of windows = map (λ window. window.position) windows
 
+-- the entry at position k is a delivery
+abbrev pub IsDeliveryAt : List Entry → ℕ → Type 0
+IsDeliveryAt past k = (d : Det) × (det_at past k ≡ Some d)
+
 -- from the window's instant on up to the instant `end` its delivery has no orphan
 abbrev pub IsWindow : Recording → ℕ → ℕ → Window → Type 0
 IsWindow r f end window = HasNoOrphanFrom r f window.position window.until end
 
--- the windows are of deliveries before the instant `end` of the run, and each is the whole of what may be uncovered by then
+-- the windows are of deliveries of the run, and each is the whole of what may be uncovered by the instant `end`
 pub record AreWindows (r : Recording) (f end : ℕ) (windows : List Window) : Type 0 where
   pub within : end ≤ length r.past
-  pub below : All (λ (window : Window). window.position < end) windows
+  pub deliveries : All (λ (window : Window). IsDeliveryAt r.past window.position) windows
   pub none_later : All (IsWindow r f end) windows
 
 -- a run that is read up to an instant

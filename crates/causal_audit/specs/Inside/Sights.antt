@@ -11,7 +11,6 @@ use Rattle.causal_trace.specs.Judgement.{HasOrphan}
 use Rattle.causal_trace.specs.Dependence.{actor, Reaches, Depends}
 use Rattle.causal_audit.specs.declared.sight.Sight.{Sight}
 use Rattle.causal_audit.specs.declared.sight.Exposed.{Exposed}
-use Rattle.causal_audit.specs.Inside.Releases.{IsOverAt}
 use Rattle.causal_audit.specs.Quiet.{mentioned_by}
 use Rattle.causal_audit.specs.Verdicts.{IsLeastOrphan}
 
@@ -59,10 +58,15 @@ ShowsDependentsAfter e reached before after =
 abbrev pub IsSightBegun : FinSet nat_cmp → Sight → Type 0
 IsSightBegun down s = (past : List Entry) (k : ℕ) (d : Det) → Shows down (λ p. is_down past p) → IsUnheard past k d → IsSight past k d s
 
--- the sight after one more entry, which mentions d or not, and which the delivery reaches or not
-abbrev pub IsSightAfter : Entry → Det → Bool → Bool → Sight → Sight → Type 0
-IsSightAfter e d mentioned reached before after =
-    (n : ℕ) (past : List Entry) (k : ℕ) → AreAccepted n (e ∷ past) → mentioned ≡ has (mentioned_by e) d
+-- and of whether a determinant is stable, with one more entry, which mentions it or not
+abbrev pub ShowsStableAfter : Entry → Bool → Bool → Bool → Type 0
+ShowsStableAfter e mentioned before after =
+    (past : List Entry) (d : Det) → mentioned ≡ has (mentioned_by e) d → before ≡ is_stable past d → after ≡ is_stable (e ∷ past) d
+
+-- the sight after one more entry, which mentions the determinant or not, and which the delivery reaches or not
+abbrev pub IsSightAfter : Entry → Bool → Bool → Sight → Sight → Type 0
+IsSightAfter e mentioned reached before after =
+    (n : ℕ) (past : List Entry) (k : ℕ) (d : Det) → AreAccepted n (e ∷ past) → mentioned ≡ has (mentioned_by e) d
     → TellsNextReach past e k reached → IsSight past k d before → IsSight (e ∷ past) k d after
 
 -- the orphan of each delivery of which this is the sight, and its least crash set; None where it has none
@@ -70,8 +74,3 @@ abbrev pub ExposesLeast : ℕ → Sight → Option Exposed → Type 0
 ExposesLeast f s found =
     (n : ℕ) (past : List Entry) (k : ℕ) (d : Det) → AreAccepted n past → det_at past k ≡ Some d → IsSight past k d s
     → MatchOption found (HasOrphan n f past k → ⊥) (λ x. IsLeastOrphan n f past k x.crash x.orphan)
-
--- where it is told so, each delivery of which this is the sight has no orphan any more
-abbrev pub TellsOver : ℕ → Bool → Sight → Bool → Type 0
-TellsOver f lasting s over =
-    (n : ℕ) (past : List Entry) (k : ℕ) (d : Det) → AreAccepted n past → IsSight past k d s → over ≡ true → IsOverAt n f past d lasting

@@ -1,15 +1,15 @@
--- How long each event stays with its lane, as it is noted entry by entry.
-use Rattle.std.specs.Prelude.{◌≡◌, ℕ, ◌<◌, ◌≤◌, List, [], ◌∷◌, ◌++◌, length, None, slice_index_or, slice_set, min}
+-- How long each entry stays with its process, as it is noted entry by entry.
+use Rattle.std.specs.Prelude.{◌≡◌, ℕ, ◌<◌, ◌≤◌, List, length, slice_index_or, slice_set, min}
+use Rattle.std.specs.Option.{option_map_or}
 use Rattle.causal_trace.specs.declared.entry.Entry.{Entry}
 use Rattle.causal_trace.specs.declared.entry.Entry.TheVariants.{Deliver, Send}
+use Rattle.causal_trace.specs.Past.{entry_at}
 use Rattle.causal_trace.specs.Dependence.{Delivers}
-use Rattle.causal_clock.specs.declared.Event.{Event}
-use Rattle.causal_clock.specs.Timeline.{lane_of}
 
--- for each event a position, before which no send of its lane from it on is delivered
-pub record AreSpreads (past : List Entry) (events : List Event) (spreads : List ℕ) : Type 0 where
+-- for each entry a position, before which no send of its process from it on is delivered
+pub record AreSpreads (past : List Entry) (whose : ℕ → ℕ) (spreads : List ℕ) : Type 0 where
   pub count : length spreads ≡ length past
-  pub each : (k s j : ℕ) → k < length past → k ≤ s → lane_of events s ≡ lane_of events k → Delivers past j s → slice_index_or spreads k 0 ≤ j
+  pub each : (k s j : ℕ) → k < length past → k ≤ s → whose s ≡ whose k → Delivers past j s → slice_index_or spreads k 0 ≤ j
 
 -- the list with the position i at the place of the send that an entry delivers
 abbrev pub with_delivered : Entry → ℕ → List ℕ → List ℕ
@@ -30,7 +30,6 @@ acting (Send from to ssn) = from.0
 acting (Deliver to send rsn listed) = to.0
 acting _ = 0
 
--- an event for each entry, whose lane is the process
-abbrev pub acts_of : List Entry → List Event
-acts_of [] = []
-acts_of (e ∷ past) = acts_of past ++ record { lane = acting e; send = None } ∷ []
+-- that of the entry at a position
+abbrev pub process_at : List Entry → ℕ → ℕ
+process_at past i = option_map_or acting (entry_at past i) 0

@@ -7,7 +7,7 @@ use Rattle.causal_trace.specs.State.{entries_of}
 use Rattle.causal_trace.specs.Dependence.{IsEventOf, Delivers}
 use Rattle.causal_clock.specs.declared.Event.{Event}
 use Rattle.causal_clock.specs.Timeline.{Timeline, lane_of, send_of}
-use Rattle.causal_audit.specs.Inside.Spreads.{AreSpreads, acts_of}
+use Rattle.causal_audit.specs.Inside.Spreads.{AreSpreads, process_at}
 
 -- the clock has an event for each entry, at its position: two sends or deliveries are of one lane of the clock exactly
 -- where they are of one lane of one process, and an event receives just what the delivery at its position delivers
@@ -37,4 +37,4 @@ pub record CanMirror (e : Entry) (clock : Timeline) (present : List ℕ) : Type 
 
 -- for each well-formed run of these entries, the oldest first, a list tells how long each stays with its process
 abbrev pub StaysOf : List Entry → List ℕ → Type 0
-StaysOf entries stays = (r : Recording) → IsWellFormed r → entries ≡ entries_of r → AreSpreads r.past (acts_of r.past) stays
+StaysOf entries stays = (r : Recording) → IsWellFormed r → entries ≡ entries_of r → AreSpreads r.past (process_at r.past) stays

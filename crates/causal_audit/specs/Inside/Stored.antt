@@ -5,19 +5,16 @@ use Rattle.causal_trace.specs.Rows.{Recording, IsWellFormed}
 use Rattle.causal_clock.specs.declared.Event.{Event}
 use Rattle.causal_audit.specs.Inside.Filed.{AreLanes, AreMentions, Numbers}
 use Rattle.causal_audit.specs.Inside.Kept.{AreTurnsKept}
-use Rattle.causal_audit.specs.Lasting.{NoneReleasedFrom}
 use Rattle.causal_audit.specs.Numbers.{ArePositions}
 use Rattle.causal_audit.specs.Inside.Stands.{Stands}
 use Rattle.causal_audit.specs.declared.turns.Turns.{Turns}
 
--- the positions of its deliveries, a clock whose events stand for its entries, and a position from which on no entry
--- releases a process
-pub record AreTables (r : Recording) (positions : List ℕ) (events : List Event) (lasting_from : ℕ) : Type 0 where
+-- the positions of its deliveries, and a clock whose events stand for its entries
+pub record AreTables (r : Recording) (positions : List ℕ) (events : List Event) : Type 0 where
   pub formed : IsWellFormed r
   pub short : length r.past ≤ max_entries
   pub numbered : ArePositions r.past positions
   pub stands : Stands r.past events
-  pub lasting : NoneReleasedFrom r.past lasting_from
 
 -- where something may change for a delivery: for each determinant the entries that mention it, the crashes and restarts
 -- with who is down after each, and the events of each lane, of which there are few

@@ -1,19 +1,19 @@
 -- What a survey of the deliveries of a run reads, and what it gathers.
-use Rattle.std.specs.Prelude.{◌≡◌, ℕ, ◌-◌, ◌<◌, ◌≤◌, ◌⊎◌, min, List, length, Some, Contains}
+use Rattle.std.specs.Prelude.{ℕ, ◌-◌, ◌<◌, ◌≤◌, ◌⊎◌, false, min, List, length, Contains}
 use Rattle.std.specs.List.{All}
 use Rattle.std.specs.List.Sorted.{IsStrictlyIncreasing}
-use Rattle.causal_name.specs.declared.Det.{Det}
-use Rattle.causal_trace.specs.declared.entry.Entry.{Entry}
 use Rattle.causal_trace.specs.Limits.{max_entries}
-use Rattle.causal_trace.specs.Past.{det_at, instant}
+use Rattle.causal_trace.specs.Past.{instant}
 use Rattle.causal_trace.specs.Rows.{Recording, IsWellFormed}
 use Rattle.causal_audit.specs.declared.scan.Window.{Window}
 use Rattle.causal_audit.specs.declared.mentions.Mentions.{Mentions}
-use Rattle.causal_audit.specs.Inside.Crashes.{AreCrashes}
-use Rattle.causal_audit.specs.Inside.Scans.{IsWindow, positions_of}
+use Rattle.causal_audit.specs.declared.by_process.ByProcess.{ByProcess}
+use Rattle.causal_audit.specs.Inside.ByProcess.{AreTurnsOf}
+use Rattle.causal_audit.specs.Inside.Filed.{lists_in}
+use Rattle.causal_audit.specs.Inside.Scans.{IsDeliveryAt, IsWindow, positions_of}
 use Rattle.causal_audit.specs.Inside.Among.{HasNoOrphanBy}
 use Rattle.causal_audit.specs.Inside.Kept.{AreMentionsKept}
-use Rattle.causal_audit.specs.Inside.Spreads.{AreSpreads, acts_of}
+use Rattle.causal_audit.specs.Inside.Spreads.{AreSpreads, process_at}
 
 -- which run a survey is of, for which f, and up to which instant it asks
 pub record Asked : Type 0 where
@@ -25,21 +25,17 @@ abbrev pub asked_of : Recording → ℕ → ℕ → Asked
 asked_of r f end = record { run = r; f = f; end = end }
 
 -- the run is well formed, and this is kept of it
-pub record IsSurvey (r : Recording) (end : ℕ) (mentions : Mentions) (crashes : List (List ℕ)) (stays : List ℕ) : Type 0 where
+pub record IsSurvey (r : Recording) (end : ℕ) (mentions : Mentions) (crashes : ByProcess) (stays : List ℕ) : Type 0 where
   pub formed : IsWellFormed r
   pub within : end ≤ length r.past
   pub short : length r.past ≤ max_entries
   pub mentioned : AreMentionsKept (instant r.past end) mentions
-  pub crashed : AreCrashes r.past crashes
-  pub staying : AreSpreads r.past (acts_of r.past) stays
+  pub crashed : AreTurnsOf false r.past (lists_in crashes.lists.items)
+  pub staying : AreSpreads r.past (process_at r.past) stays
 
 -- how many processes a crash set has at most that leaves an orphan: that survives
 abbrev pub most_of : Recording → ℕ → ℕ
 most_of r f = min f (r.processes - 1)
-
--- the entry at position k is a delivery
-abbrev pub IsDeliveryAt : List Entry → ℕ → Type 0
-IsDeliveryAt past k = (d : Det) × (det_at past k ≡ Some d)
 
 -- these ascending positions are of deliveries before position `below`, and each other delivery before it has no orphan by
 -- the instant `end`

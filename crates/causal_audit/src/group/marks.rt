@@ -3,31 +3,13 @@ ghost use Rattle.std.specs.Prelude.{◌≡◌, ◌+◌, ◌≤◌, ◌<◌, ◌�
 ghost use Rattle.std.specs.FinSet as set;
 ghost use Rattle.std.specs.List.{All};
 ghost use Rattle.std.specs.List.Sorted.{IsNonDecreasing};
-ghost use Rattle.causal_name.specs.declared.Det.{Det};
-ghost use Rattle.causal_trace.specs.declared.entry.Entry.{Entry};
-ghost use Rattle.causal_trace.specs.Past.{det_at, entry_at, has};
-ghost use Rattle.causal_audit.specs.Quiet.{mentioned_by};
 ghost use Rattle.causal_audit.specs.Inside.Ahead.{HasNoneUntil};
-ghost use Rattle.causal_audit.specs.Inside.Group.{AreMarked, HaveMarked, IsUntouchedBefore, IsMarked, IsPut};
+ghost use Rattle.causal_audit.specs.Inside.Group.{AreMarked, HaveMarked, IsUntouchedBefore, IsMarked};
 ghost use Rattle.causal_audit.specs.Inside.Reaching.{row};
 
+use crate::reach::put;
 use crate::scan::{Scan, Window};
 use causal_holders::Holders;
-
-/// Puts a place into the row of the entry at a position, where it has one. The first row is of the entry at `start`.
-fn put(rows: &mut Vec<Holders>, start: u32, place: u8, position: u32)
-    ensures count { length rows.new.items ≡ length rows.old.items }
-    ensures room { vec_capacity rows.new ≡ vec_capacity rows.old }
-    ensures put { IsPut start place position rows.old.items rows.new.items }
-{
-    if position < start {
-        return;
-    }
-    let i = (position - start) as usize;
-    if i < rows.len() {
-        rows[i].insert(place);
-    }
-}
 
 /// Puts a place into the rows of the entries at these positions.
 fn mark(rows: &mut Vec<Holders>, start: u32, place: u8, positions: &[u32])

@@ -45,12 +45,9 @@ fn see_one(
     ensures found { FirstBreachBy trace.now.recording f (step.now.t + 1) (position_at windows.now place) result }
 {
     let k = windows[usize::from(place)].position;
-    let Some(det) = trace.det_at(k) else {
-        return None;
-    };
     let mut sight = sights[usize::from(place)];
     let reached = is_reached(step.entry, sight.dependents, step.newly.contains(place));
-    sight.see(step.entry, det, step.mentioned.contains(place), reached);
+    sight.see(step.entry, step.mentioned.contains(place), reached);
     sights[usize::from(place)] = sight;
     breach_at(&sight, f, k, step.t + 1)
 }

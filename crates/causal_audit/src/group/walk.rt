@@ -1,11 +1,11 @@
 //! The least breach of the deliveries of a group, by one walk over the entries.
-ghost use Rattle.std.specs.Prelude.{◌≡◌, ◌≤◌, ◌<◌, ℕ, length, min};
+ghost use Rattle.std.specs.Prelude.{◌≤◌, ℕ, length};
 ghost use Rattle.std.specs.List.{All};
 ghost use Rattle.causal_audit.specs.Inside.Among.{LeastAmongBy};
 ghost use Rattle.causal_audit.specs.Inside.Group.{HasRoom, HasRowsFor, HaveNone, IsFollowed};
-ghost use Rattle.causal_audit.specs.Inside.Scans.{IsWindow, positions_of};
+ghost use Rattle.causal_audit.specs.Inside.Scans.{IsDeliveryAt, IsWindow, positions_of};
 
-use crate::breach::{Breach, earlier};
+use crate::breach::{Breach, earlier, horizon};
 use crate::group::held::{held_by, hold};
 use crate::group::room::{Room, places_of};
 use crate::group::seen::{Step, see_step};
@@ -29,6 +29,7 @@ fn follow(
     requires few { length windows.now ≤ 256 }
     requires ordered { start ≤ end }
     requires within { end ≤ length trace.now.recording.past }
+    requires deliveries { All (λ window. IsDeliveryAt trace.now.recording.past window.position) windows.now }
     requires rows { HasRowsFor start end room.old }
     requires begun { IsFollowed trace.now.recording windows.now start start room.old }
     requires none { HaveNone trace.now.recording f windows.now start }
@@ -62,6 +63,7 @@ impl Scan<'_> {
     fn least_in(&self, f: u16, end: u32, windows: &[Window], room: &mut Room) -> Option<Breach>
         requires within { end ≤ self.now.end }
         requires few { length windows.now ≤ 256 }
+        requires deliveries { All (λ window. IsDeliveryAt self.now.run.past window.position) windows.now }
         requires windows { All (IsWindow self.now.run f end) windows.now }
         requires room { HasRoom end room.old }
         ensures room { (entries : ℕ) → HasRoom entries room.old → HasRoom entries room.new }
@@ -87,19 +89,16 @@ impl Scan<'_> {
         room: &mut Room,
     ) -> Option<Breach>
         requires within { end ≤ self.now.end }
-        requires below { All (λ window. window.position < end) windows.now }
+        requires deliveries { All (λ window. IsDeliveryAt self.now.run.past window.position) windows.now }
         requires windows { All (IsWindow self.now.run f end) windows.now }
         requires room { HasRoom end room.old }
         ensures room { (entries : ℕ) → HasRoom entries room.old → HasRoom entries room.new }
         ensures found { LeastAmongBy self.now.run f end (positions_of windows.now) result }
     {
         let mut least = None;
-        let mut until = end;
         for group in windows.chunks(GROUP) {
-            if let Some(found) = self.least_in(f, until, group, room) {
-                until = found.instant;
-                least = earlier(least, Some(found));
-            }
+            let found = self.least_in(f, horizon(end, &least), group, room);
+            least = earlier(least, found);
         }
         least
     }

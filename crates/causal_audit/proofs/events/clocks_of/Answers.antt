@@ -6,7 +6,7 @@ use Rattle.causal_trace.specs.Rows.{AreAccepted}
 use Rattle.causal_audit.specs.Inside.Stands.{Mirrors, Stands}
 use Rattle.causal_trace.proofs.Lemmas.AtInstants.{accepted_then, last_instant}
 use Rattle.causal_audit.proofs.Mirrored.{mirrors_none}
-use Rattle.causal_audit.proofs.Walked.{if_ok}
+use Rattle.causal_audit.proofs.Reached.{if_ok}
 use Rattle.causal_audit.proofs.Steps.{next_state, no_entry}
 use Rattle.causal_audit.proofs.events.clocks_of.Goals as goal
 

@@ -1,9 +1,25 @@
-use Rattle.std.proofs.Common.{subst}
+use Rattle.std.proofs.Common.{ℕ, length, Option, Some, None, arith, subst}
+use Rattle.causal_trace.specs.Rows.{Recording}
+use Rattle.causal_audit.specs.declared.breach.Breach.{Breach}
+use Rattle.causal_audit.specs.Breaches.{FirstBreach}
 use Rattle.causal_audit.specs.Inside.Among.{FirstBreachBy}
-use Rattle.causal_audit.proofs.Joined.{first_whole}
+use Rattle.causal_audit.proofs.Numbered.{numbered_one}
 use Rattle.causal_audit.proofs.judging.first_breach.Goals as goal
+
+pub first_breach_at-requires-clause-delivery : goal.first_breach_at-requires-clause-delivery
+first_breach_at-requires-clause-delivery c = (c.args.i, c.position.ensures)
+
+pub first_breach_at-requires-clause-within : goal.first_breach_at-requires-clause-within
+first_breach_at-requires-clause-within c = omega (arith, c.entries.ensures.length)
+
+-- by the last instant there is no bound
+whole : (r : Recording) (f k : ℕ) (found : Option Breach) → FirstBreachBy r f (length r.past) k found → FirstBreach r f k found
+whole r f k None none = none
+whole r f k (Some b) first = first.1
 
 pub returns : goal.returns
 returns c = λ k n.
     let r = c.args.tables.now in
-    first_whole r c.args.f k c.first_breach_by.result (subst (λ end. FirstBreachBy r c.args.f end k c.first_breach_by.result) c.entries.ensures.length (c.first_breach_by.ensures k n))
+    whole r c.args.f k c.first_breach_at.result
+    (subst (λ x. FirstBreachBy r c.args.f (length r.past) x c.first_breach_at.result) (numbered_one r.past c.args.i c.position.result k c.position.ensures n)
+    (subst (λ end. FirstBreachBy r c.args.f end c.position.result c.first_breach_at.result) c.entries.ensures.length c.first_breach_at.ensures))

@@ -1,4 +1,4 @@
-use Rattle.std.proofs.Common.{ℕ, ◌≡◌, ◌≤◌, ◌-◌, length}
+use Rattle.std.proofs.Common.{ℕ, ◌≤◌, ◌-◌, length}
 use Rattle.causal_trace.specs.Past.{instant}
 use Rattle.causal_trace.specs.Judgement.{HasOrphan}
 use Rattle.causal_audit.specs.Inside.Ahead.{AreAhead}
@@ -8,12 +8,11 @@ use Rattle.causal_audit.proofs.orphans.first_orphan.Given as goal
 -- the sight is that of this instant, and the delivery has had no orphan so far
 abbrev pub invariant-loop-t : goal.invariant-loop-t
 invariant-loop-t l = record {
-  within : l.t ≤ length l.run.trace.now.recording.past;
+  within : l.t ≤ length l.trace.recording.past;
   ahead : AreAhead l.fn.changes l.t l.ahead;
-  turns : l.ahead.turns.turns.now ≡ l.run.turns.now;
-  sight : IsSight (instant l.run.trace.now.recording.past l.t) l.k l.det l.sight;
-  before : (u : ℕ) → u ≤ l.t → HasOrphan l.run.trace.now.recording.processes l.f (instant l.run.trace.now.recording.past u) l.k → ⊥;
+  sight : IsSight (instant l.trace.recording.past l.t) l.k l.fn.det l.sight;
+  before : (u : ℕ) → u ≤ l.t → HasOrphan l.trace.recording.processes l.f (instant l.trace.recording.past u) l.k → ⊥;
 }
 
 abbrev pub decreases-loop-t : goal.decreases-loop-t
-decreases-loop-t l = length l.run.trace.now.recording.past - l.t
+decreases-loop-t l = length l.trace.recording.past - l.t

@@ -1,5 +1,5 @@
 use Rattle.std.proofs.Common.{arith}
-use Rattle.causal_audit.proofs.Lasting.{none_beyond}
+use Rattle.causal_audit.proofs.Staying.{none_beyond}
 use Rattle.causal_audit.proofs.releases.lasting_after.Goals as goal
 
 pub returns-then-may_release : goal.returns-then-may_release

@@ -1,4 +1,4 @@
-use Rattle.causal_audit.proofs.Dependence.{sent_reached, sent_unreached, delivered_reached, delivered_unreached, stored, forgotten, crashed, restarted}
+use Rattle.causal_audit.proofs.Between.{sent_reached, sent_unreached, delivered_reached, delivered_unreached, stored, forgotten, crashed, restarted}
 use Rattle.causal_audit.proofs.sight.dependents_after.Goals as goal
 
 pub returns-then-reached : goal.returns-then-reached

@@ -2,9 +2,8 @@ use Rattle.std.proofs.Common.{◌≡◌, ◌+◌, ◌-◌, ◌<◌, length, Some
 use Rattle.std.specs.Prelude.{slice_set}
 use Rattle.std.proofs.lemmas.List.{length-set}
 use Rattle.causal_trace.specs.Past.{entry_at}
-use Rattle.causal_audit.specs.Inside.Spreads.{acts_of, spread_at, with_delivered}
-use Rattle.causal_audit.proofs.Acting.{act_at}
-use Rattle.causal_audit.proofs.Outward.{AreSpreadsFrom, noted_length, spreads_begun, spreads_next}
+use Rattle.causal_audit.specs.Inside.Spreads.{process_at, spread_at, with_delivered}
+use Rattle.causal_audit.proofs.Receivers.{process_is, AreSpreadsFrom, noted_length, spreads_begun, spreads_next}
 use Rattle.causal_audit.proofs.Steps.{how_many, entry_read}
 use Rattle.causal_audit.proofs.spreads.stays_of.Goals as goal
 
@@ -15,7 +14,7 @@ loop-i-init c = record {
   lanes = refl;
   stays = λ r formed read.
       let many = how_many r c.args.entries.now read in
-      spreads_begun r.processes r.past formed.accepted (acts_of r.past) _ c.in_ok-stays.stays.items _ many (omega (arith, c.in_ok-stays.ensures.len, many));
+      spreads_begun r.processes r.past formed.accepted (process_at r.past) _ c.in_ok-stays.stays.items _ many (omega (arith, c.in_ok-stays.ensures.len, many));
 }
 
 pub loop-i-preserved : goal.loop-i-preserved
@@ -37,8 +36,8 @@ loop-i-preserved c =
           let many = how_many r c.args.entries.now read in
           let here : i < length r.past = omega (arith, below, many) in
           let at : entry_at r.past i ≡ Some e = entry_read r c.args.entries.now read i e here c.index-entries-i.is in
-          subst (λ list. AreSpreadsFrom r.past (acts_of r.past) i list c.note_spread.new.outs) (sym written)
-          (subst (λ list. AreSpreadsFrom r.past (acts_of r.past) i (slice_set (with_delivered e i c.loop-i.stays.items) i first) list) (sym outs)
-          (spreads_next r.processes r.past formed.accepted (acts_of r.past) i c.acting.result e c.loop-i.stays.items c.loop-i.outs at here (act_at r.past i e at ∙ sym c.acting.ensures) (omega (arith, c.loop-i.invariant.lanes, c.acting.type_inv))
-          (subst (λ x. AreSpreadsFrom r.past (acts_of r.past) x c.loop-i.stays.items c.loop-i.outs) (sym back) (c.loop-i.invariant.stays r formed read))));
+          subst (λ list. AreSpreadsFrom r.past (process_at r.past) i list c.note_spread.new.outs) (sym written)
+          (subst (λ list. AreSpreadsFrom r.past (process_at r.past) i (slice_set (with_delivered e i c.loop-i.stays.items) i first) list) (sym outs)
+          (spreads_next r.processes r.past formed.accepted (process_at r.past) i c.acting.result e c.loop-i.stays.items c.loop-i.outs at here (process_is r.past i e at ∙ sym c.acting.ensures) (omega (arith, c.loop-i.invariant.lanes, c.acting.type_inv))
+          (subst (λ x. AreSpreadsFrom r.past (process_at r.past) x c.loop-i.stays.items c.loop-i.outs) (sym back) (c.loop-i.invariant.stays r formed read))));
     }

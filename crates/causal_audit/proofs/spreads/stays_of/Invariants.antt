@@ -1,8 +1,8 @@
 use Rattle.std.proofs.Common.{◌≡◌, ◌≤◌, length}
 use Rattle.causal_trace.specs.Rows.{Recording, IsWellFormed}
 use Rattle.causal_trace.specs.State.{entries_of}
-use Rattle.causal_audit.specs.Inside.Spreads.{acts_of}
-use Rattle.causal_audit.proofs.Outward.{AreSpreadsFrom}
+use Rattle.causal_audit.specs.Inside.Spreads.{process_at}
+use Rattle.causal_audit.proofs.Receivers.{AreSpreadsFrom}
 use Rattle.causal_audit.proofs.spreads.stays_of.Given as goal
 
 -- those of the entries from i on
@@ -11,7 +11,7 @@ invariant-loop-i l = record {
   within : l.i ≤ length l.entries;
   count : length l.stays.items ≡ length l.entries;
   lanes : length l.outs ≡ 256;
-  stays : (r : Recording) → IsWellFormed r → l.entries ≡ entries_of r → AreSpreadsFrom r.past (acts_of r.past) l.i l.stays.items l.outs;
+  stays : (r : Recording) → IsWellFormed r → l.entries ≡ entries_of r → AreSpreadsFrom r.past (process_at r.past) l.i l.stays.items l.outs;
 }
 
 abbrev pub decreases-loop-i : goal.decreases-loop-i

@@ -1,10 +1,10 @@
-use Rattle.std.proofs.Common.{◌≡◌, length, reverse, ap, subst, sym, ◌∙◌}
+use Rattle.std.proofs.Common.{◌≡◌, false, length, reverse, ap, subst, sym, ◌∙◌}
 use Rattle.std.proofs.lemmas.List.{reverse-reverse}
 use Rattle.causal_trace.specs.State.{past_at}
 use Rattle.causal_trace.proofs.Lemmas.Instants.{past_whole}
-use Rattle.causal_audit.specs.Inside.Crashes.{AreCrashes}
+use Rattle.causal_audit.specs.Inside.ByProcess.{AreTurnsOf}
 use Rattle.causal_audit.specs.Inside.Filed.{lists_in}
-use Rattle.causal_audit.specs.Inside.Spreads.{AreSpreads, acts_of}
+use Rattle.causal_audit.specs.Inside.Spreads.{AreSpreads, process_at}
 use Rattle.causal_audit.proofs.survey.windows_of.Goals as goal
 
 pub invariant_of-survey : goal.invariant_of-survey
@@ -18,8 +18,6 @@ invariant_of-survey c =
       within = c.requires.within;
       short = c.entries-entries.ensures.few;
       mentioned = c.requires.mentioned;
-      crashed =
-          subst (λ lists. AreCrashes past (lists_in lists)) (sym c.as_slice.ensures.value)
-          (subst (λ p. AreCrashes p (lists_in c.in_ok-crashes.crashes.items)) whole c.in_ok-crashes.ensures);
-      staying = subst (AreSpreads past (acts_of past)) (sym c.as_slice-2.ensures.value) (c.in_ok-stays.ensures r c.entries-entries.ensures.formed c.entries-entries.ensures.value);
+      crashed = subst (λ p. AreTurnsOf false p (lists_in c.in_ok-crashes.crashes.lists.items)) whole c.in_ok-crashes.ensures;
+      staying = subst (AreSpreads past (process_at past)) (sym c.as_slice.ensures.value) (c.in_ok-stays.ensures r c.entries-entries.ensures.formed c.entries-entries.ensures.value);
     }

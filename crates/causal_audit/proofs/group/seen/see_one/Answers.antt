@@ -1,33 +1,21 @@
-use Rattle.std.proofs.Common.{◌≡◌, ◌∙◌, ◌+◌, ◌<◌, length, Some, None, sym, ap, subst, arith}
+use Rattle.std.proofs.Common.{◌≡◌, ◌∙◌, ◌+◌, ◌<◌, length, sym, ap, subst, arith}
 use Rattle.std.proofs.Math.ListN.{set}
 use Rattle.std.specs.FinSet.{empty}
 use Rattle.std.proofs.lemmas.List.{get_or-set_same, get_or_default}
 use Rattle.std.specs.Prelude.{false}
-use Rattle.causal_trace.specs.Past.{det_at}
 use Rattle.causal_audit.specs.declared.sight.Sight.{Sight}
 use Rattle.causal_audit.specs.Inside.BreachAt.{TellsBreachAt}
 use Rattle.causal_audit.specs.Inside.Followed.{IsReachedBy}
 use Rattle.causal_audit.specs.Inside.Group.{IsKnown, position_at, sight_at}
 use Rattle.causal_audit.specs.Inside.Sights.{IsSightAfter}
-use Rattle.causal_audit.proofs.GroupSeen.{known_next, found_next, none_there}
+use Rattle.causal_audit.proofs.GroupWalk.{known_next, found_next}
 use Rattle.causal_audit.proofs.group.seen.see_one.Goals as goal
 
 abbrev zero : Sight
 zero = record { down = empty; holders = empty; stable = false; dependents = empty }
 
-pub returns-in_default-clause-found : goal.returns-in_default-clause-found
-returns-in_default-clause-found c =
-    let r = c.args.trace.now.recording in
-    let windows = c.args.windows.now in
-    let step = c.requires.step in
-    let missing : det_at r.past (position_at windows c.args.place) ≡ None = ap (λ x. det_at r.past (position_at windows x)) (sym c.from.ensures) ∙ sym c.det_at.ensures ∙ c.in_default.is in
-    none_there r windows c.args.step.now step c.args.f (position_at windows c.args.place) (c.args.step.now.t + 1) (omega (arith, step.below)) missing
-
 pub overflow_add-step : goal.overflow_add-step
 overflow_add-step c = omega (arith, c.requires.step.below, c.requires.step.short)
-
-made : (c : goal.After-breach_at) → det_at c.args.trace.now.recording.past (position_at c.args.windows.now c.args.place) ≡ Some c.in-Some.det
-made c = ap (λ x. det_at c.args.trace.now.recording.past (position_at c.args.windows.now x)) (sym c.from.ensures) ∙ sym c.in-Some.ensures
 
 after : (c : goal.After-breach_at) → IsKnown c.args.trace.now.recording c.args.windows.now (c.args.step.now.t + 1) c.args.place c.see.new.self
 after c =
@@ -40,10 +28,10 @@ after c =
     let hit = c.is_reached-reached.result in
     let inside : c.from-2.result < length sights = omega (arith, c.from-2.ensures, c.ranges.place.fits, c.requires.room) in
     let is : before ≡ sight_at sights place = c.index.ensures ∙ get_or_default sights c.from-2.result before zero inside ∙ ap (sight_at sights) c.from-2.ensures in
-    known_next r windows s c.requires.step place c.requires.inside c.in-Some.det (made c) before c.see.new.self hit
+    known_next r windows s c.requires.step place c.requires.inside before c.see.new.self hit
     (subst (IsKnown r windows s.t place) (sym is) c.requires.known)
     (subst (λ b. IsReachedBy s.entry.now before.dependents b hit) c.contains.ensures c.is_reached-reached.ensures)
-    (subst (λ b. IsSightAfter s.entry.now c.in-Some.det b hit before c.see.new.self) c.contains-2.ensures c.see.ensures)
+    (subst (λ b. IsSightAfter s.entry.now b hit before c.see.new.self) c.contains-2.ensures c.see.ensures)
 
 pub returns-clause-known : goal.returns-clause-known
 returns-clause-known c =
@@ -57,5 +45,5 @@ returns-clause-known c =
 pub returns-clause-found : goal.returns-clause-found
 returns-clause-found c =
     let windows = c.args.windows.now in
-    found_next c.args.trace.now.recording windows c.args.step.now c.requires.step c.args.place c.args.f c.in-Some.det (made c) c.see.new.self c.breach_at.result c.requires.none (after c)
+    found_next c.args.trace.now.recording windows c.args.step.now c.requires.step c.args.place c.args.f c.requires.inside c.see.new.self c.breach_at.result c.requires.none (after c)
     (subst (λ x. TellsBreachAt c.args.f (position_at windows x) (c.args.step.now.t + 1) c.see.new.self c.breach_at.result) c.from.ensures c.breach_at.ensures)

@@ -4,9 +4,8 @@ use Rattle.causal_trace.specs.Judgement.{HasOrphan}
 use Rattle.causal_audit.specs.Inside.Among.{LeastAmongBy}
 use Rattle.causal_audit.specs.Inside.Scans.{positions_of}
 use Rattle.causal_audit.specs.Inside.Reaching.{row}
-use Rattle.causal_audit.proofs.GroupSeen.{place_of}
+use Rattle.causal_audit.proofs.GroupWalk.{place_of, held_then, mentions_here, is_step, told_after, room_stays, none_of_all}
 use Rattle.causal_audit.specs.Inside.Held.{IsHeldBy, IsHeldSo}
-use Rattle.causal_audit.proofs.GroupWalk.{held_then, mentions_here, is_step, told_after, room_stays, none_of_all}
 use Rattle.causal_audit.proofs.Steps.{next_state, entry_read}
 use Rattle.causal_audit.proofs.group.walk.follow.Goals as goal
 
@@ -41,7 +40,7 @@ see_step-requires-clause-step c =
     is_step r c.args.windows.now c.args.start c.loop-t.room _ i.followed formed below
     (next_state r c.entries-entries.result.now c.entries-entries.ensures.value t x below c.index-entries-t.is) c.see-newly.new.self c.see-newly.ensures.sees
     c.entries-entries.ensures.few from (omega (arith, i.rows.mentioned, c.loop-t.auto.t, c.loop-t-test.true)) marks
-    (entry_read r c.entries-entries.result.now c.entries-entries.ensures.value t x below c.index-entries-t.is)
+    (entry_read r c.entries-entries.result.now c.entries-entries.ensures.value t x below c.index-entries-t.is) (λ j low. c.requires.deliveries j (record { position = 0; until = 0 }) low)
 
 pub returns-in-Some-clause-room : goal.returns-in-Some-clause-room
 returns-in-Some-clause-room c entries has =

@@ -1,7 +1,7 @@
 use Rattle.std.proofs.Common.{◌≡◌, ◌+◌, ◌<◌, length, Some, sym, subst, ◌∙◌, arith}
 use Rattle.causal_audit.specs.Inside.Filed.{number_of}
 use Rattle.causal_audit.specs.Inside.Thins.{AreThins}
-use Rattle.causal_audit.proofs.Mentioned.{number_below}
+use Rattle.causal_audit.proofs.Filings.{number_below}
 use Rattle.causal_audit.proofs.looks.Looks.find.Goals as goal
 
 pub index-requires : goal.index-requires

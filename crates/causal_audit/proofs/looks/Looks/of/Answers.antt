@@ -2,7 +2,7 @@ use Rattle.std.proofs.Common.{ℕ, Vec, Global, List, map, sym, subst}
 use Rattle.std.specs.List.Sorted.{IsNonDecreasing}
 use Rattle.causal_trace.specs.Past.{instant}
 use Rattle.causal_audit.specs.Inside.Changes.{AreMentionsOf, HasMentions}
-use Rattle.causal_audit.proofs.Mentioned.{mentions_ascend}
+use Rattle.causal_audit.proofs.Filings.{mentions_ascend}
 use Rattle.causal_audit.proofs.looks.Looks.of.Goals as goal
 
 abbrev positions : Vec ℕ Global → List ℕ

@@ -1,8 +1,7 @@
 use Rattle.std.proofs.Common.{◌<◌, ◌∷◌, ◌++◌, [], length, sym, ap, subst, ◌∙◌, arith}
 use Rattle.std.proofs.lemmas.List.{length-map}
 use Rattle.causal_audit.specs.Inside.Filed.{AreMentionsWith, lists_in, with_added}
-use Rattle.causal_audit.proofs.Filings.{on_ok}
-use Rattle.causal_audit.proofs.Mentioned.{number_below, mentions_more, mentions_alike}
+use Rattle.causal_audit.proofs.Filings.{on_ok, number_below, mentions_more, mentions_alike}
 use Rattle.causal_audit.proofs.mentions.Mentions.add.Goals as goal
 
 pub add_to-requires : goal.add_to-requires

@@ -3,7 +3,7 @@ use Rattle.std.specs.Prelude.{Some}
 use Rattle.std.specs.Option.{option_map_or}
 use Rattle.std.proofs.lemmas.List.{get_or-map}
 use Rattle.causal_audit.specs.Inside.Filed.{list_at, number_of}
-use Rattle.causal_audit.proofs.Mentioned.{number_below}
+use Rattle.causal_audit.proofs.Filings.{number_below}
 use Rattle.causal_audit.proofs.mentions.Mentions.list.Goals as goal
 
 abbrev positions : Vec ℕ Global → List ℕ

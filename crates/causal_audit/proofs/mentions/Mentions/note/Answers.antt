@@ -1,7 +1,6 @@
 use Rattle.std.proofs.Common.{map, subst}
 use Rattle.causal_audit.specs.Inside.Filed.{AreMentionsWith}
-use Rattle.causal_audit.proofs.Filings.{on_ok}
-use Rattle.causal_audit.proofs.Mentioned.{mentions_begun, mentions_done}
+use Rattle.causal_audit.proofs.Filings.{on_ok, mentions_begun, mentions_done}
 use Rattle.causal_audit.proofs.mentions.Mentions.note.Goals as goal
 
 pub returns : goal.returns

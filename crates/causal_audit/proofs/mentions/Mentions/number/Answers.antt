@@ -2,7 +2,7 @@ use Rattle.std.proofs.Common.{ℕ, ◌≡◌, ◌∷◌, ◌++◌, [], Vec, Glob
 use Rattle.std.specs.List.{All}
 use Rattle.std.proofs.lemmas.List.{length-map, map-append}
 use Rattle.causal_audit.specs.Inside.Filed.{Ascends, lists_in, mentions_of, number_of}
-use Rattle.causal_audit.proofs.Mentioned.{new_same, new_ascend}
+use Rattle.causal_audit.proofs.Filings.{new_same, new_ascend}
 use Rattle.causal_audit.proofs.mentions.Mentions.number.Goals as goal
 
 -- the lists after a push of an empty one

@@ -2,7 +2,7 @@ use Rattle.std.proofs.Common.{◌≡◌, get_or, reverse, Some, sym, ap, subst, 
 use Rattle.std.proofs.lemmas.List.{reverse-reverse}
 use Rattle.causal_audit.specs.Inside.Filed.{number_of}
 use Rattle.causal_audit.specs.declared.numbering.Node.{Node}
-use Rattle.causal_audit.proofs.NumberedDets.{node_of}
+use Rattle.causal_audit.proofs.Filings.{node_of}
 use Rattle.causal_audit.proofs.numbering.Numbering.det.Goals as goal
 
 pub returns : goal.returns

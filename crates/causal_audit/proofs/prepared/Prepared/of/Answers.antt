@@ -1,11 +1,11 @@
-use Rattle.std.proofs.Common.{◌≡◌, ◌<◌, inl, length, reverse, ap, subst, ◌∙◌}
+use Rattle.std.proofs.Common.{◌≡◌, inl, length, reverse, ap, subst, ◌∙◌}
 use Rattle.std.specs.Prelude.{IsPermutation}
 use Rattle.std.proofs.lemmas.List.{reverse-reverse}
 use Rattle.std.proofs.lemmas.List.Sorted.{All-permutation, Contains-permutation, IsPermutation-map, IsPermutation-sym}
 use Rattle.causal_trace.specs.State.{past_at}
 use Rattle.causal_trace.proofs.Lemmas.Instants.{past_whole}
 use Rattle.causal_audit.specs.Inside.Kept.{AreMentionsKept, AreTurnsKept}
-use Rattle.causal_audit.specs.Inside.Scans.{IsPrepared, IsWindow, positions_of}
+use Rattle.causal_audit.specs.Inside.Scans.{IsDeliveryAt, IsPrepared, IsWindow, positions_of}
 use Rattle.causal_audit.specs.declared.scan.Window.{Window}
 use Rattle.causal_audit.specs.Parts.{AreEnough}
 use Rattle.causal_audit.specs.Lasting.{NoneReleasedFrom}
@@ -47,7 +47,7 @@ invariant_of-result c =
       mentioned = subst (λ p. AreMentionsKept p c.in_ok-mentions.mentions) (begins r entries c.entries-entries.ensures.value c.args.end c.requires) c.in_ok-mentions.ensures;
       followed = record {
         within = c.requires;
-        below = All-permutation (λ (window : Window). window.position < c.args.end) gathered windows moved (of_positions (λ k. k < c.args.end) gathered all.uncovered.before);
+        deliveries = All-permutation (λ (window : Window). IsDeliveryAt past window.position) gathered windows moved (of_positions (IsDeliveryAt past) gathered all.uncovered.deliveries);
         none_later = All-permutation (IsWindow r c.args.f c.args.end) gathered windows moved all.none_later;
       };
     } in

@@ -1,14 +1,14 @@
-use Rattle.std.proofs.Common.{ℕ, ◌≡◌, ◌<◌, ◌-◌, take, drop, ap, subst, sym, ◌∙◌, arith}
+use Rattle.std.proofs.Common.{ℕ, ◌≡◌, ◌-◌, take, drop, ap, subst, sym, ◌∙◌, arith}
 use Rattle.std.specs.List.{take-map, drop-map}
 use Rattle.std.proofs.lemmas.List.Elements.{All-drop, All-take}
 use Rattle.causal_trace.specs.Rows.{Recording}
 use Rattle.causal_audit.specs.Parts.{Followed, part_of}
 use Rattle.causal_audit.specs.declared.scan.Window.{Window}
-use Rattle.causal_audit.specs.Inside.Scans.{AreWindows, IsWindow, positions_of}
+use Rattle.causal_audit.specs.Inside.Scans.{AreWindows, IsDeliveryAt, IsWindow, positions_of}
 use Rattle.causal_audit.proofs.prepared.Prepared.part.Goals as goal
 
-abbrev is_early : ℕ → Window → Type 0
-is_early end window = window.position < end
+abbrev is_of_delivery : Recording → Window → Type 0
+is_of_delivery r window = IsDeliveryAt r.past window.position
 
 pub invariant_of-result : goal.invariant_of-result
 invariant_of-result c =
@@ -21,7 +21,7 @@ invariant_of-result c =
     let windows = s.windows.items in
     let part : AreWindows r s.f s.end (take many (drop from windows)) = record {
       within = followed.within;
-      below = All-take (is_early s.end) many (drop from windows) (All-drop (is_early s.end) from windows followed.below);
+      deliveries = All-take (is_of_delivery r) many (drop from windows) (All-drop (is_of_delivery r) from windows followed.deliveries);
       none_later = All-take (IsWindow r s.f s.end) many (drop from windows) (All-drop (IsWindow r s.f s.end) from windows followed.none_later);
     } in (
       subst (λ (x : Recording). AreWindows x s.f s.end (take many (drop from c.deref.result.now))) same

@@ -5,7 +5,7 @@ use Rattle.causal_trace.specs.Past.{has, instant}
 use Rattle.causal_audit.specs.Quiet.{mentioned_by}
 use Rattle.causal_audit.specs.Inside.Group.{IsUntouchedBefore}
 use Rattle.causal_audit.specs.Inside.Scans.{Scanned}
-use Rattle.causal_audit.proofs.Mentioned.{mentions_ascend}
+use Rattle.causal_audit.proofs.Filings.{mentions_ascend}
 use Rattle.causal_audit.proofs.Steps.{entry_then}
 use Rattle.causal_audit.proofs.scan.Scan.first_touched.Goals as goal
 

@@ -1,14 +1,14 @@
 use Rattle.std.proofs.Common.{◌≤◌, length, sym, subst, arith}
+use Rattle.std.specs.List.{All}
 use Rattle.causal_trace.specs.Past.{instant}
 use Rattle.causal_trace.specs.Judgement.{HasOrphan}
 use Rattle.causal_trace.proofs.Lemmas.AtInstants.{instant_length}
 use Rattle.causal_audit.specs.declared.scan.Window.{Window}
 use Rattle.causal_audit.specs.Inside.Among.{LeastAmongBy}
 use Rattle.causal_audit.specs.Inside.Group.{HaveNone, position_at}
-use Rattle.causal_audit.specs.Inside.Scans.{Scanned, positions_of}
+use Rattle.causal_audit.specs.Inside.Scans.{IsDeliveryAt, Scanned, positions_of}
 use Rattle.causal_audit.proofs.AmongLemmas.{among_later}
-use Rattle.causal_audit.proofs.GroupSeen.{place_of}
-use Rattle.causal_audit.proofs.GroupWalk.{room_within}
+use Rattle.causal_audit.proofs.GroupWalk.{place_of, room_within}
 use Rattle.causal_audit.proofs.Orphaned.{not_yet}
 use Rattle.causal_audit.proofs.scan.Scan.least_in.Goals as goal
 
@@ -24,6 +24,9 @@ follow-requires-clause-none c =
     let whole : c.args.self.now.end ≤ length r.past = subst (λ (s : Scanned). s.end ≤ length s.run.past) c.self.view_is c.self.invariant.within in
     let inside : u ≤ length r.past = omega (arith, below, c.start_of-start.ensures.bound, c.last_of-last.ensures.bound, c.requires.within, whole) in
     not_yet r.processes c.args.f (instant r.past u) (position_at windows j) (omega (arith, below, (c.start_of-start.ensures.first j zero low).made, instant_length r.past u inside)) has)
+
+pub follow-requires-clause-deliveries : goal.follow-requires-clause-deliveries
+follow-requires-clause-deliveries c = subst (λ (s : Scanned). All (λ (window : Window). IsDeliveryAt s.run.past window.position) c.args.windows.now) (sym c.self.view_is) c.requires.deliveries
 
 pub begin-requires-clause-room : goal.begin-requires-clause-room
 begin-requires-clause-room c = room_within c.args.end c.last_of-last.result c.args.room.now c.last_of-last.ensures.bound c.requires.room

@@ -1,10 +1,10 @@
-use Rattle.std.proofs.Common.{ℕ, ◌≡◌, ◌≤◌, ◌<◌, ◌++◌, List}
+use Rattle.std.proofs.Common.{ℕ, ◌≡◌, ◌++◌, List}
 use Rattle.std.specs.List.{All}
 use Rattle.std.specs.Slice.Iter.{chunks_rest, chunks_size}
-use Rattle.causal_audit.specs.Inside.Among.{LeastAmongBy, horizon}
+use Rattle.causal_audit.specs.Inside.Among.{LeastAmongBy}
 use Rattle.causal_audit.specs.Inside.Group.{HasRoom}
 use Rattle.causal_audit.specs.declared.scan.Window.{Window}
-use Rattle.causal_audit.specs.Inside.Scans.{IsWindow, positions_of}
+use Rattle.causal_audit.specs.Inside.Scans.{IsDeliveryAt, IsWindow, positions_of}
 use Rattle.causal_audit.proofs.scan.Scan.least_within.Given as goal
 
 -- the least of the groups so far
@@ -13,10 +13,8 @@ invariant-loop-group l = record {
   next : goal.iterator-loop-group.can_next l.group-iterator;
   finite : goal.iterator-loop-group.is_finite l.group-iterator;
   size : chunks_size l.group-iterator ≡ 256;
-  early : All (λ window. window.position < l.end) (chunks_rest l.group-iterator);
+  deliveries : All (λ (window : Window). IsDeliveryAt l.self.run.past window.position) (chunks_rest l.group-iterator);
   none_later : All (IsWindow l.self.run l.f l.end) (chunks_rest l.group-iterator);
-  within : l.until ≤ l.end;
   room : (entries : ℕ) → HasRoom entries l.fn.room → HasRoom entries l.room;
-  bound : l.until ≡ horizon l.end l.least;
   least : (done : List Window) × (done ++ chunks_rest l.group-iterator ≡ l.windows) × LeastAmongBy l.self.run l.f l.end (positions_of done) l.least;
 }

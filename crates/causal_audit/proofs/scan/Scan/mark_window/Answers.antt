@@ -7,7 +7,7 @@ use Rattle.causal_audit.specs.Inside.Group.{IsMarked}
 use Rattle.causal_audit.specs.Inside.Filed.{lists_in, mentions_of}
 use Rattle.causal_audit.specs.Inside.Reaching.{row}
 use Rattle.causal_audit.specs.Inside.Scans.{Scanned}
-use Rattle.causal_audit.proofs.Covering.{mentioned_listed}
+use Rattle.causal_audit.proofs.Staying.{mentioned_listed}
 use Rattle.causal_audit.proofs.Steps.{entry_then}
 use Rattle.causal_audit.proofs.scan.Scan.mark_window.Goals as goal
 

@@ -9,12 +9,12 @@ returns-then-len-from c n past k d formed at sight =
     let many : c.args.f < len (union c.args.self.down c.args.self.holders) = omega (arith, c.len.ensures.counted, c.from.ensures, ap len c.union-crash.ensures) in
     not_many n c.args.f past k d formed at c.args.self sight many
 
-pub returns-in-None : goal.returns-in-None
-returns-in-None c n past k d formed at sight =
-    let none : difference c.args.self.dependents c.args.self.holders ≡ empty = sym c.minus.ensures ∙ c.in-None.ensures in
+pub returns-in_default : goal.returns-in_default
+returns-in_default c n past k d formed at sight =
+    let none : difference c.args.self.dependents c.args.self.holders ≡ empty = sym c.minus.ensures ∙ c.in_default.ensures in
     not_none n c.args.f past k d formed at c.args.self sight none
 
-pub returns-in-Some : goal.returns-in-Some
-returns-in-Some c n past k d formed at sight =
+pub returns : goal.returns
+returns c n past k d formed at sight =
     let least : IsLeast (difference c.args.self.dependents c.args.self.holders) c.in-Some.orphan = rw c.minus.ensures at c.in-Some.ensures in
     rw c.union-crash.ensures (least_orphan_is n c.args.f past k d formed at c.args.self sight c.if-self.false (omega (arith, c.len.ensures.counted, c.from.ensures, ap len c.union-crash.ensures)) c.in-Some.orphan least)

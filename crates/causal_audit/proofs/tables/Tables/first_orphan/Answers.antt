@@ -3,11 +3,11 @@ use Rattle.std.specs.Prelude.{Contains}
 use Rattle.std.specs.List.{All}
 use Rattle.std.specs.List.Sorted.{IsNonDecreasing}
 use Rattle.causal_trace.specs.Past.{det_at}
-use Rattle.causal_audit.specs.Inside.Changes.{AreMentionsOf, HasMentions}
+use Rattle.causal_audit.specs.Inside.Changes.{AreMentionsOf, HasMentions, HasTurns}
 use Rattle.causal_audit.specs.Inside.Filed.{Ascends, AreFirsts, AreReached, list_at}
 use Rattle.causal_audit.proofs.Firsts.{firsts_listed, firsts_reached}
 use Rattle.causal_trace.proofs.Lemmas.AtInstants.{det_within}
-use Rattle.causal_audit.proofs.Mentioned.{mentions_ascend}
+use Rattle.causal_audit.proofs.Filings.{mentions_ascend}
 use Rattle.causal_audit.proofs.tables.Tables.first_orphan.Goals as goal
 
 abbrev positions : Vec ℕ Global → List ℕ
@@ -53,6 +53,7 @@ first_orphan-requires-clause-changes c =
         reached = λ v early. firsts_reached r.processes r.past kept.formed.accepted events kept.stands lanes indexes.in_lanes c.args.k c.args.det at c.entries.result c.write_firsts.new.firsts reached v (omega (arith, early, c.requires.within, c.entries.ensures.length));
         first = firsts_listed r.processes r.past kept.formed.accepted events kept.stands lanes indexes.in_lanes c.args.k c.args.det at c.write_firsts.new.firsts firsts c.args.end;
       };
+      turned = subst (HasTurns r.past) (sym c.as_slice.ensures.value) indexes.turned.turned.turned;
     }
 
 pub returns : goal.returns
@@ -64,4 +65,5 @@ invariant_of-changes c =
     record {
       mentions_ascend = subst IsNonDecreasing (sym c.list-mentions.ensures) (mentions_ascend c.self.inside.trace.recording.past c.self.inside.mentions.numbers mentions c.self.invariant.1.mentioned c.args.det);
       firsts_ascend = c.write_firsts.ensures.ascending;
+      turns_ascend = subst IsNonDecreasing (sym c.as_slice.ensures.value) c.self.inside.turns.ascending;
     }

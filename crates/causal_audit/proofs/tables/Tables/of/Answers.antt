@@ -4,7 +4,6 @@ use Rattle.causal_trace.specs.State.{past_at}
 use Rattle.causal_trace.proofs.Lemmas.Instants.{past_whole}
 use Rattle.causal_audit.specs.Inside.Filed.{AreLanes, AreMentions}
 use Rattle.causal_audit.specs.Inside.Kept.{AreTurnsKept}
-use Rattle.causal_audit.specs.Lasting.{NoneReleasedFrom}
 use Rattle.causal_audit.specs.Numbers.{ArePositions}
 use Rattle.causal_audit.proofs.tables.Tables.of.Goals as goal
 
@@ -20,7 +19,6 @@ invariant_of-result c =
         short = omega (arith, c.entries-entries.ensures.few);
         numbered = subst (λ p. ArePositions p c.in_ok-positions.positions.items) whole c.in_ok-positions.ensures;
         stands = c.in_ok-clocks.ensures;
-        lasting = subst (λ p. NoneReleasedFrom p c.lasting_from-lasting_from.result) whole c.lasting_from-lasting_from.ensures;
       },
       record {
         mentioned = subst (λ p. AreMentions p c.in_ok-mentions.mentions.numbers (map positions c.in_ok-mentions.mentions.lists.items)) whole c.in_ok-mentions.ensures;

@@ -1,0 +1,8 @@
+use Rattle.std.proofs.Common.{sym, ◌∙◌}
+use Rattle.causal_audit.proofs.Numbered.{numbered_det}
+use Rattle.causal_audit.proofs.judging.first_breach_at.Goals as goal
+
+pub unreachable-requires : goal.unreachable-requires
+unreachable-requires c =
+    let r = c.args.tables.now in
+    numbered_det r.processes r.past c.requires.delivery.0 c.args.k c.det_at.ensures.formed.accepted c.requires.delivery.1 (sym c.det_at.ensures.value ∙ c.in_default.is)
