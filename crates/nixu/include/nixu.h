@@ -33,9 +33,10 @@ uint32_t nixu_version(void);
 /* ---- statuses ---- */
 
 #define NIXU_OK        0 /* done */
-#define NIXU_FAULT     1 /* the text spells no trace, and its first fault is told */
+#define NIXU_FAULT     1 /* the first fault of the text is told, or what first stands against the entry */
 #define NIXU_NO_MEMORY 2 /* memory was refused */
 #define NIXU_MISUSED   3 /* the call says itself when */
+#define NIXU_CLOSED    4 /* no reader, or no trace, is open there, and nothing was done */
 
 /* ---- the verdict on a text ---- */
 
@@ -70,6 +71,36 @@ uint32_t nixu_audit(const uint8_t *text, size_t length, uint16_t faults, nixu_ve
    NIXU_NO_MEMORY. */
 uint32_t nixu_audit_each(const uint8_t *text, size_t length, const uint16_t *faults, size_t count, nixu_verdict *told,
                          size_t room);
+
+/* ---- a reader that is fed, for a run that is judged while it is recorded ---- */
+
+/* Zero it before its first use: `nixu_reader reader = {0};`. Its fields are the library's, and it is not copied. An open
+   one holds memory until it is finished or closed. */
+typedef struct nixu_reader {
+  void *held;
+  uint32_t full;
+} nixu_reader;
+
+/* Opens a reader that has read nothing.
+
+   NIXU_OK. NIXU_MISUSED: one is open there. NIXU_NO_MEMORY. */
+uint32_t nixu_reader_open(nixu_reader *reader);
+
+/* Reads one more piece of the text, of any length; an empty one changes nothing. The first fault is told as soon as a line
+   has one, however the text goes on.
+
+   NIXU_OK. NIXU_FAULT: `told` is written, and the reader is closed. NIXU_NO_MEMORY: the reader is closed. NIXU_CLOSED. */
+uint32_t nixu_reader_feed(nixu_reader *reader, const uint8_t *piece, size_t length, nixu_verdict *told);
+
+/* Ends the text, and tells the verdicts for `count` numbers of faults, as nixu_audit_each does. The reader is closed but
+   after NIXU_MISUSED.
+
+   NIXU_OK, NIXU_FAULT: the first `count` of `told` are written. NIXU_MISUSED: `room` is less than `count`.
+   NIXU_NO_MEMORY. NIXU_CLOSED. */
+uint32_t nixu_reader_finish(nixu_reader *reader, const uint16_t *faults, size_t count, nixu_verdict *told, size_t room);
+
+/* Gives back what a reader holds. Where none is open, as in one that is zeroed or closed, it does nothing. */
+void nixu_reader_close(nixu_reader *reader);
 
 /* ---- what the program prints ---- */
 
@@ -130,6 +161,7 @@ NIXU_CHECKED(orphan, offsetof(nixu_verdict, orphan) == 20);
 NIXU_CHECKED(line, offsetof(nixu_verdict, line) == 24);
 NIXU_CHECKED(fault, offsetof(nixu_verdict, fault) == 28);
 NIXU_CHECKED(processes, offsetof(nixu_verdict, processes) == 32);
+NIXU_CHECKED(reader, sizeof(nixu_reader) == 16 && offsetof(nixu_reader, held) == 0 && offsetof(nixu_reader, full) == 8);
 
 #ifdef __cplusplus
 }
