@@ -1,4 +1,5 @@
 pub mod Each
+pub mod Entries
 pub mod Failures
 pub mod Fed
 pub mod Held

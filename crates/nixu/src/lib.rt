@@ -4,7 +4,8 @@
 //! of its own, prints, aborts, starts a thread or waits, so each may be called in any thread, and in several at once. None
 //! keeps a pointer that it was given. What is allocated is given back before the call returns, but for what a handle holds.
 //!
-//! Begin at [`audit::nixu_audit`]. [`reader::nixu_reader_feed`] takes a text in pieces.
+//! Begin at [`audit::nixu_audit`]. [`reader::nixu_reader_feed`] takes a text in pieces, [`recorder::nixu_trace_push`] entries
+//! without text.
 #![tactic(auto)]
 
 /// Texts that are judged.
@@ -21,10 +22,14 @@ pub mod kept;
 mod parts;
 /// Texts that come in pieces.
 pub mod reader;
+/// Traces that are made entry by entry.
+pub mod recorder;
 /// What is written into a caller's buffer.
 mod room;
 /// Answers, and the numbers of faults.
 pub mod status;
+/// Entries, as C has them.
+pub mod step;
 /// What is told of a text.
 pub mod summary;
 #[cfg(test)]

@@ -3,9 +3,14 @@ use crate::audit::{nixu_audit, nixu_audit_each, nixu_version};
 use crate::faults::nixu_fault_text;
 use crate::held::Handle;
 use crate::reader::{nixu_reader_close, nixu_reader_feed, nixu_reader_finish, nixu_reader_open};
+use crate::recorder::{
+    nixu_trace_audit, nixu_trace_close, nixu_trace_open, nixu_trace_push, nixu_trace_text,
+};
 use crate::status::{CLOSED, FAULT, MISUSED, OK};
+use crate::step::{Determinant, Step};
 use crate::summary::Summary;
 use crate::views::{nixu_draw, nixu_explain, nixu_line};
+use std::alloc::Global;
 use std::process::Abort;
 
 // Process 1 tells nobody what it delivered, and process 2 depends on it.
@@ -146,4 +151,92 @@ fn a_fault_is_told_before_the_text_has_ended(rt: HostRuntime) {
         nixu_reader_feed(alloc, &mut reader, b"]", &mut told),
         CLOSED
     );
+}
+
+fn entry(kind: u32, source: u8, dest: u8) -> Step {
+    Step {
+        kind,
+        ssn: 0,
+        rsn: 0,
+        send: 0,
+        source,
+        dest,
+        who: 0,
+    }
+}
+
+const FIRST: Determinant = Determinant {
+    ssn: 0,
+    rsn: 0,
+    source: 0,
+    dest: 1,
+};
+
+const SECOND: Determinant = Determinant {
+    ssn: 0,
+    rsn: 0,
+    source: 1,
+    dest: 2,
+};
+
+fn push(rt: &impl Abort, alloc: Global, trace: &mut Handle, entry: &Step, listed: &[Determinant]) {
+    let mut fault = 99;
+    assert_eq!(rt;
+        nixu_trace_push(alloc, trace, entry, listed, &mut fault),
+        OK
+    );
+    assert_eq!(rt; fault, 99);
+}
+
+#[test]
+fn a_trace_is_made_of_entries(rt: HostRuntime) {
+    let alloc = rt.alloc();
+    let mut trace = Handle::closed(alloc);
+    assert_eq!(rt; nixu_trace_open(alloc, &mut trace, 3), OK);
+    push(&rt, alloc, &mut trace, &entry(0, 0, 1), &[]);
+    push(&rt, alloc, &mut trace, &entry(1, 0, 1), &[FIRST]);
+    push(&rt, alloc, &mut trace, &entry(0, 1, 2), &[]);
+    let second = Step {
+        send: 2,
+        ..entry(1, 0, 2)
+    };
+    push(&rt, alloc, &mut trace, &second, &[SECOND]);
+    let mut told = unwritten();
+    assert_eq!(rt; nixu_trace_audit(alloc, &mut trace, 1, &mut told), OK);
+    tells_the_orphan(&rt, &told);
+    let (mut out, mut needed) = ([9u8; 200], 0);
+    assert_eq!(rt;
+        nixu_trace_text(alloc, &mut trace, &mut out, &mut needed),
+        OK
+    );
+    assert_eq!(rt; needed, ORPHANED.len());
+    assert_eq!(rt; &out[..ORPHANED.len()], ORPHANED);
+    nixu_trace_close(alloc, &mut trace);
+    assert_eq!(rt;
+        nixu_trace_text(alloc, &mut trace, &mut out, &mut needed),
+        CLOSED
+    );
+}
+
+#[test]
+fn what_stands_against_an_entry_is_told(rt: HostRuntime) {
+    let alloc = rt.alloc();
+    let mut trace = Handle::closed(alloc);
+    let mut fault = 99;
+    assert_eq!(rt; nixu_trace_open(alloc, &mut trace, 257), MISUSED);
+    assert_eq!(rt; nixu_trace_open(alloc, &mut trace, 2), OK);
+    assert_eq!(rt;
+        nixu_trace_push(alloc, &mut trace, &entry(0, 0, 2), &[], &mut fault),
+        FAULT
+    );
+    assert_eq!(rt; fault, 9);
+    assert_eq!(rt;
+        nixu_trace_push(alloc, &mut trace, &entry(6, 0, 1), &[], &mut fault),
+        MISUSED
+    );
+    assert_eq!(rt;
+        nixu_trace_push(alloc, &mut trace, &entry(3, 0, 1), &[FIRST], &mut fault),
+        MISUSED
+    );
+    nixu_trace_close(alloc, &mut trace);
 }
