@@ -268,7 +268,7 @@ def draw(text: bytes, faults: int) -> str:
 
 
 class Reader:
-    """Reads a text in pieces, for a run that is judged while it is recorded. One at a time may call it."""
+    """Reads a text in pieces, for a run that is judged while it is recorded. It stays on its thread."""
 
     def __init__(self) -> None:
         self._handle = _Handle()
@@ -314,7 +314,7 @@ class Reader:
 
 
 class Trace:
-    """A trace of 1 to 256 processes that is made entry by entry, without text. One at a time may call it."""
+    """A trace of 1 to 256 processes that is made entry by entry, without text. It stays on its thread."""
 
     def __init__(self, processes: int) -> None:
         self._handle = _Handle()

@@ -24,8 +24,9 @@
 //!
 //! A [`Reader`] is fed with the pieces of a text while the run is recorded. A [`Trace`] is made of entries, without text.
 //!
-//! Every call may be made from any thread, and keeps nothing of what it was given. What the library itself asks of memory may
-//! be refused, and is told as [`Error::NoMemory`]; the vectors and strings of this package are as those of any other.
+//! Every call may be made from any thread, and keeps nothing of what it was given; a reader or a trace stays on its thread. What the
+//! library itself asks of memory may be refused, and is told as [`Error::NoMemory`]; the vectors and strings of this package are as
+//! those of any other.
 
 mod fault;
 mod foreign;

@@ -8,7 +8,7 @@
      nothing else that the call is given. Such a pointer may be null where its length is 0: a text of no bytes is one that
      has a fault, and a room of no bytes takes none. No other pointer may be null.
    - No pointer is kept. Nothing is printed, no signal is raised, no thread is started or waited for, and there is no state
-     but what the caller holds. Calls may run in any number of threads; a handle is used by one call at a time.
+     but what the caller holds. Calls may run in any number of threads; a reader or a trace stays on the thread that opened it.
    - Memory is asked for by malloc and realloc, and given back before the call returns, but for what a handle holds.
    - It must not be called in a signal handler, nor in the forked child of a process with threads.
    - The answer is one of the statuses. What a status does not say to be written is as it was before the call.
