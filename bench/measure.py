@@ -468,7 +468,9 @@ def main():
             text, found = MEASURES[part](given, began)
             sections[name] = facts_of(part, given, load, began) + "\n\n" + text.strip("\n")
             wrong += found
-    written = HEAD + "".join(f"\n## {name}\n\n{sections[name].strip()}\n" for name in SECTIONS.values() if name in sections)
+    # Behind its own sections stand those that other scripts write.
+    names = sorted(sections, key=lambda name: list(SECTIONS.values()).index(name) if name in SECTIONS.values() else len(SECTIONS))
+    written = HEAD + "".join(f"\n## {name}\n\n{sections[name].strip()}\n" for name in names)
     with open(given.out, "w") as file:
         file.write(written)
     print(written)

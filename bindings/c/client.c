@@ -3,7 +3,9 @@
    client TASKS    each line of TASKS is "WORD FAULTS PATH"; for each task "LENGTH\n" and that many bytes are printed
 
    The words: line, explain, draw: what the call gives; audit: the verdict's line out of the struct; each: the lines for 0, 1, 2, 3
-   faults of a text that is read once; sentence: that of the text's fault, empty where it has none. */
+   faults of a text that is read once; fed: as audit, of the text in pieces of many lengths; sentence: that of the text's fault,
+   empty where it has none; entries: of a file of entries (entries.h), the verdict's line and then the text of the trace. */
+#include "entries.h"
 #include "text.h"
 
 #include <stdarg.h>
@@ -70,6 +72,27 @@ static uint32_t audit_each(answer *to, bytes text) {
   return status;
 }
 
+/* A length of a piece, from 0 to 63, of which the next one follows. */
+static size_t next_length(uint32_t *from) {
+  *from = *from * 1103515245u + 12345u;
+  return *from >> 16 & 63u;
+}
+
+static uint32_t fed(answer *to, bytes text, uint16_t faults) {
+  nixu_reader reader = {0};
+  nixu_verdict told;
+  uint32_t from = (uint32_t)text.length, status = nixu_reader_open(&reader);
+  for (size_t at = 0, length; status == NIXU_OK && at < text.length; at += length) {
+    length = next_length(&from);
+    if (length > text.length - at) length = text.length - at;
+    status = nixu_reader_feed(&reader, text.at + at, length, &told);
+  }
+  if (status == NIXU_OK) status = nixu_reader_finish(&reader, &faults, 1, &told, 1);
+  nixu_reader_close(&reader);
+  if (status <= NIXU_FAULT) say_verdict(to, &told, faults);
+  return status;
+}
+
 static uint32_t sentence(answer *to, bytes text, uint16_t faults) {
   nixu_verdict told;
   uint32_t status = nixu_audit(text.at, text.length, faults, &told);
@@ -87,6 +110,46 @@ static void print(const void *at, size_t length) {
   fwrite(at, 1, length, stdout);
 }
 
+/* The text of a trace, behind what has been said of it. */
+static uint32_t print_trace(nixu_trace *trace, const answer *said) {
+  size_t needed = 0, written;
+  uint32_t status = nixu_trace_text(trace, NULL, 0, &needed);
+  uint8_t *text = malloc(needed + 1);
+  if (!text) return NIXU_NO_MEMORY;
+  if (status == NIXU_OK) status = nixu_trace_text(trace, text, needed, &written);
+  printf("%zu\n%s", said->length + needed, said->at);
+  fwrite(text, 1, needed, stdout);
+  free(text);
+  return status;
+}
+
+/* Where something stands against an entry, that is told at the line on which it would stand. */
+static uint32_t print_recording(nixu_trace *trace, const recording *all, uint16_t faults) {
+  answer told = {"", 0};
+  nixu_verdict verdict;
+  size_t at;
+  uint32_t fault, status = push_all(trace, all, &at, &fault, NULL);
+  if (status == NIXU_FAULT) {
+    say(&told, "fault line=%zu %s\n", at + 2, fault_name(fault));
+    print(told.at, told.length);
+  }
+  if (status == NIXU_OK) status = nixu_trace_audit(trace, faults, &verdict);
+  if (status != NIXU_OK) return status;
+  say_verdict(&told, &verdict, faults);
+  return print_trace(trace, &told);
+}
+
+static uint32_t print_entries(const char *path, uint16_t faults) {
+  nixu_trace trace = {0};
+  recording all;
+  uint32_t status = NIXU_MISUSED;
+  if (read_recording(path, &all) && (status = nixu_trace_open(&trace, all.processes)) == NIXU_OK)
+    status = print_recording(&trace, &all, faults);
+  nixu_trace_close(&trace);
+  free_recording(&all);
+  return status;
+}
+
 static uint32_t print_task(const char *word, bytes text, uint16_t faults) {
   answer told = {"", 0};
   bytes all;
@@ -100,6 +163,7 @@ static uint32_t print_task(const char *word, bytes text, uint16_t faults) {
   }
   if (!strcmp(word, "audit")) status = audit(&told, text, faults);
   else if (!strcmp(word, "each")) status = audit_each(&told, text);
+  else if (!strcmp(word, "fed")) status = fed(&told, text, faults);
   else status = sentence(&told, text, faults);
   print(told.at, told.length);
   return status;
@@ -111,6 +175,10 @@ int main(int argc, char **argv) {
   FILE *tasks = argc == 2 ? fopen(argv[1], "r") : NULL;
   int wrong = !tasks || nixu_version() != NIXU_VERSION;
   while (!wrong && fscanf(tasks, "%15s %u %8191[^\n]", word, &faults, path) == 3) {
+    if (!strcmp(word, "entries")) {
+      wrong = print_entries(path, (uint16_t)faults) > NIXU_FAULT;
+      continue;
+    }
     bytes text = read_file(path);
     wrong = !text.at || print_task(word, text, (uint16_t)faults) > NIXU_FAULT;
     free(text.at);

@@ -1,4 +1,5 @@
-/* Calls at the edges of what the header allows: null pointers, small rooms, numbers that no fault has, a text that is too long.
+/* Calls at the edges of what the header allows: null pointers, small rooms, numbers that no fault has, a text that is too long,
+   handles that are zeroed, closed or open already.
 
    edges FILE [long]    a file that spells a trace; with a second word a text of the greatest length is tried too */
 #include "text.h"
@@ -70,6 +71,73 @@ static void try_places(bytes text) {
   expect(!memcmp(&alone, &told[1], sizeof alone), "is the same");
 }
 
+static void try_no_reader(nixu_reader *reader) {
+  static const uint16_t faults[] = {1};
+  nixu_verdict told;
+  memset(&told, 0xa5, sizeof told);
+  expect(nixu_reader_feed(reader, NULL, 0, &told) == NIXU_CLOSED, "no reader is fed");
+  expect(nixu_reader_finish(reader, faults, 1, &told, 1) == NIXU_CLOSED, "no reader is finished");
+  nixu_reader_close(reader);
+  expect(is_filled(&told, sizeof told), "nothing was written then");
+  expect(!reader->held && !reader->full, "no reader is open");
+}
+
+static void try_reader(bytes text) {
+  static const uint16_t faults[] = {1, 1};
+  nixu_reader reader = {0};
+  nixu_verdict told, alone;
+  try_no_reader(&reader);
+  expect(nixu_reader_open(&reader) == NIXU_OK && nixu_reader_open(&reader) == NIXU_MISUSED, "a reader is opened once");
+  expect(nixu_reader_feed(&reader, NULL, 0, &told) == NIXU_OK, "a piece may be empty");
+  for (size_t at = 0; at < text.length; at++)
+    expect(nixu_reader_feed(&reader, text.at + at, 1, &told) == NIXU_OK, "a piece may be a byte");
+  expect(nixu_reader_finish(&reader, faults, 2, &told, 1) == NIXU_MISUSED, "two verdicts have no room in one place");
+  expect(nixu_reader_finish(&reader, faults, 1, &told, 1) == NIXU_OK, "the reader is open still");
+  expect(nixu_audit(text.at, text.length, 1, &alone) == NIXU_OK && !memcmp(&alone, &told, sizeof told), "one verdict");
+  try_no_reader(&reader);
+  expect(nixu_reader_open(&reader) == NIXU_OK, "a reader is opened again");
+  nixu_reader_close(&reader);
+  try_no_reader(&reader);
+  expect(nixu_reader_open(&reader) == NIXU_OK, "and again");
+  expect(nixu_reader_feed(&reader, (const uint8_t *)"[]\n", 3, &told) == NIXU_FAULT, "the fault of a line is told");
+  expect(told.kind == NIXU_FAULTY && told.line == 1 && told.fault == NIXU_FORM, "that fault is Form at line 1");
+  try_no_reader(&reader);
+}
+
+static void try_no_trace(nixu_trace *trace) {
+  static const nixu_entry crash = {NIXU_CRASH, 0, 0, 0, 0, 0, 0};
+  nixu_verdict told;
+  uint32_t fault = 77;
+  size_t needed = 77;
+  memset(&told, 0xa5, sizeof told);
+  expect(nixu_trace_push(trace, &crash, NULL, 0, &fault) == NIXU_CLOSED, "no trace takes an entry");
+  expect(nixu_trace_audit(trace, 1, &told) == NIXU_CLOSED, "no trace has a verdict");
+  expect(nixu_trace_text(trace, NULL, 0, &needed) == NIXU_CLOSED, "no trace has a text");
+  nixu_trace_close(trace);
+  expect(is_filled(&told, sizeof told) && fault == 77 && needed == 77, "nothing was written then");
+  expect(!trace->held && !trace->full, "no trace is open");
+}
+
+static void try_trace(void) {
+  static const nixu_entry crash = {NIXU_CRASH, 0, 0, 0, 0, 0, 255}, other = {NIXU_FORGET + 1, 0, 0, 0, 0, 0, 0};
+  static const nixu_determinant listed = {0, 0, 0, 0};
+  nixu_trace trace = {0};
+  nixu_verdict told;
+  uint32_t fault = 77;
+  try_no_trace(&trace);
+  expect(nixu_trace_open(&trace, 0) == NIXU_MISUSED && nixu_trace_open(&trace, 257) == NIXU_MISUSED, "1 to 256 processes");
+  expect(nixu_trace_open(&trace, 256) == NIXU_OK && nixu_trace_open(&trace, 2) == NIXU_MISUSED, "a trace is opened once");
+  expect(nixu_trace_push(&trace, &other, NULL, 0, &fault) == NIXU_MISUSED, "no entry has such a kind");
+  expect(nixu_trace_push(&trace, &crash, &listed, 1, &fault) == NIXU_MISUSED, "a crash lists nothing");
+  expect(fault == 77, "no fault was told");
+  expect(nixu_trace_push(&trace, &crash, NULL, 0, &fault) == NIXU_OK && fault == 77, "process 255 crashes");
+  expect(nixu_trace_push(&trace, &crash, NULL, 0, &fault) == NIXU_FAULT && fault == NIXU_NOT_UP, "it is down");
+  expect(nixu_trace_audit(&trace, 1, &told) == NIXU_OK && told.kind == NIXU_ACCEPTED && told.entries == 1, "one may be down");
+  expect(nixu_trace_audit(&trace, 0, &told) == NIXU_OK && told.kind == NIXU_EXCEEDED && told.processes[255], "none may be");
+  nixu_trace_close(&trace);
+  try_no_trace(&trace);
+}
+
 static void try_long_text(void) {
   nixu_verdict told;
   uint8_t *blank = malloc(LONGEST + 1);
@@ -89,6 +157,8 @@ int main(int argc, char **argv) {
   try_rooms(text);
   try_faults();
   try_places(text);
+  try_reader(text);
+  try_trace();
   if (argc > 2) try_long_text();
   free(text.at);
   printf("%d edges are wrong\n", wrong);

@@ -1,7 +1,9 @@
-/* Refuses each allocation of each call in turn, one alone and all from it on, for each file that is named. A refused call has to leave
-   no block and nothing changed; made again it has to give what it gives where nothing is refused.
+/* Refuses each allocation of each call in turn, one alone and all from it on, for each file that is named. A refused call has to
+   leave no block and nothing changed; made again it has to give what it gives where nothing is refused. A file whose name ends
+   with .entries is one of entries (entries.h); the others are texts.
 
    Link with -Wl,--wrap=malloc,--wrap=realloc,--wrap=free; blocks are counted while a call runs. */
+#include "entries.h"
 #include "text.h"
 
 #include <stdio.h>
@@ -71,6 +73,49 @@ static uint32_t draw(bytes text, written *to) {
   return nixu_draw(text.at, text.length, 1, to->out, ROOM, &to->needed);
 }
 
+/* A text in two pieces. After an error nothing is left open. */
+static uint32_t fed(bytes text, written *to) {
+  static const uint16_t faults[FAULTS] = {0, 2, 1};
+  nixu_reader reader = {0};
+  size_t half = text.length / 2;
+  uint32_t status = nixu_reader_open(&reader);
+  if (status == NIXU_OK) status = nixu_reader_feed(&reader, text.at, half, to->told);
+  if (status == NIXU_OK) status = nixu_reader_feed(&reader, text.at + half, text.length - half, to->told);
+  if (status == NIXU_OK) status = nixu_reader_finish(&reader, faults, FAULTS, to->told, FAULTS);
+  return reader.held || reader.full ? NIXU_CLOSED : status;
+}
+
+static recording all;
+
+/* From now on nothing is refused, and the push is made again: the trace has to be as it was. */
+static int is_freed(void) {
+  int was_refused = first_refused != 0;
+  first_refused = 0;
+  return was_refused;
+}
+
+static uint32_t recorded_by(nixu_trace *trace) {
+  size_t at;
+  uint32_t fault, status = nixu_trace_open(trace, all.processes);
+  return status == NIXU_OK ? push_all(trace, &all, &at, &fault, is_freed) : status;
+}
+
+static uint32_t entries_audit(bytes text, written *to) {
+  nixu_trace trace = {0};
+  uint32_t status = recorded_by(&trace);
+  if (status == NIXU_OK) status = nixu_trace_audit(&trace, 1, to->told);
+  nixu_trace_close(&trace);
+  return trace.held || trace.full || text.at ? NIXU_CLOSED : status;
+}
+
+static uint32_t entries_text(bytes text, written *to) {
+  nixu_trace trace = {0};
+  uint32_t status = recorded_by(&trace);
+  if (status == NIXU_OK) status = nixu_trace_text(&trace, to->out, ROOM, &to->needed);
+  nixu_trace_close(&trace);
+  return trace.held || trace.full || text.at ? NIXU_CLOSED : status;
+}
+
 /* Calls, with the allocation of that number refused, from 1; with none where it is 0. */
 static uint32_t called(tried *call, bytes text, written *to, long refused) {
   memset(to, 0xa5, sizeof *to);
@@ -114,17 +159,41 @@ static long try_call(tried *call, const char *name, const char *path, bytes text
   return growths;
 }
 
+static long try_text(const char *path) {
+  bytes text = read_file(path);
+  if (!text.at) return 0;
+  long growths = try_call(audit, "nixu_audit", path, text);
+  growths += try_call(audit_each, "nixu_audit_each", path, text);
+  growths += try_call(line, "nixu_line", path, text);
+  growths += try_call(explain, "nixu_explain", path, text);
+  growths += try_call(draw, "nixu_draw", path, text);
+  growths += try_call(fed, "a fed reader", path, text);
+  free(text.at);
+  return growths;
+}
+
+static long try_entries(const char *path) {
+  bytes none = {NULL, 0};
+  long growths = 0;
+  if (read_recording(path, &all)) {
+    growths += try_call(entries_audit, "nixu_trace_audit", path, none);
+    growths += try_call(entries_text, "nixu_trace_text", path, none);
+  }
+  free_recording(&all);
+  return growths;
+}
+
+static int is_of_entries(const char *path) {
+  const char *end = strrchr(path, '.');
+  return end && !strcmp(end, ".entries");
+}
+
 int main(int argc, char **argv) {
   long growths = 0;
   for (int i = 1; i < argc; i++) {
-    bytes text = read_file(argv[i]);
-    if (!text.at) return 1;
-    growths += try_call(audit, "nixu_audit", argv[i], text);
-    growths += try_call(audit_each, "nixu_audit_each", argv[i], text);
-    growths += try_call(line, "nixu_line", argv[i], text);
-    growths += try_call(explain, "nixu_explain", argv[i], text);
-    growths += try_call(draw, "nixu_draw", argv[i], text);
-    free(text.at);
+    long more = is_of_entries(argv[i]) ? try_entries(argv[i]) : try_text(argv[i]);
+    expect(more > 0, "nothing was refused", "a file", argv[i]);
+    growths += more;
   }
   printf("%ld allocations were refused, alone and with all after; %ld wrong\n", growths, wrong);
   return wrong || !growths;

@@ -5,6 +5,7 @@ words are those of ../c/client.c.
 """
 from __future__ import annotations
 
+import random
 import sys
 
 import nixu
@@ -32,8 +33,49 @@ def verdict(word: str, text: bytes, f: int) -> str:
         return said(nixu.audit(text, f), f)
     if word == "each":
         return "".join(map(said, nixu.audit_each(text, FAULTS), FAULTS))
+    if word == "fed":
+        return said(fed(text, f), f)
+    if word == "entries":
+        return recorded(text.decode(), f)
     nixu.audit(text, f)
     return ""
+
+
+def fed(text: bytes, f: int) -> nixu.Verdict:
+    """The text in pieces of many lengths."""
+    at, chosen = 0, random.Random(len(text))
+    with nixu.Reader() as reader:
+        while at < len(text):
+            length = chosen.randrange(64)
+            reader.feed(text[at : at + length])
+            at += length
+        return reader.finish(f)
+
+
+def entry(line: str) -> nixu.Entry:
+    """An entry of a file of entries, whose form ../c/entries.h tells."""
+    kind, ssn, rsn, send, source, dest, who, _, *behind = map(int, line.split())
+    listed = [nixu.Determinant(*behind[i : i + 4]) for i in range(0, len(behind), 4)]
+    return {
+        0: lambda: nixu.Send(source, dest, ssn),
+        1: lambda: nixu.Deliver(dest, send, rsn, listed),
+        2: lambda: nixu.Stable(nixu.Determinant(source, ssn, dest, rsn)),
+        3: lambda: nixu.Crash(who),
+        4: lambda: nixu.Restart(who, listed),
+        5: lambda: nixu.Forget(who, listed),
+    }[kind]()
+
+
+def recorded(file: str, f: int) -> str:
+    """The verdict's line and the trace's text, or what stands against an entry, at the line on which it would stand."""
+    processes, *lines = file.splitlines()
+    with nixu.Trace(int(processes)) as trace:
+        for i, line in enumerate(lines):
+            try:
+                trace.push(entry(line))
+            except nixu.Refused as refused:
+                return f"fault line={i + 2} {refused.kind.name}\n"
+        return said(trace.audit(f), f) + trace.text()
 
 
 def answer(word: str, text: bytes, f: int) -> str:

@@ -4,6 +4,8 @@
     if isinstance(told, nixu.Orphan):
         print(f"process {told.orphan} is an orphan after {told.instant} entries")
 
+A Reader is fed with the pieces of a text while the run is recorded. A Trace is made of entries, without text.
+
 The shared object is made by `bindings/python/build`. It is looked for where the variable NIXU_SO says, else in out/ beside this file.
 """
 from __future__ import annotations
@@ -12,14 +14,15 @@ import ctypes
 import enum
 import os
 from dataclasses import dataclass
-from typing import Sequence, Union
+from typing import NamedTuple, Sequence, Union
 
 __all__ = ["Accepted", "Exceeded", "Orphan", "Verdict", "Fault", "FaultKind", "audit", "audit_each", "line", "explain", "draw", "VERSION"]
+__all__ += ["Reader", "Trace", "Refused", "Entry", "Send", "Deliver", "Stable", "Crash", "Restart", "Forget", "Determinant"]
 
 VERSION = 1
 """The version of the interface for which this module was written."""
 
-_OK, _FAULT, _NO_MEMORY = 0, 1, 2
+_OK, _FAULT, _NO_MEMORY, _MISUSED, _CLOSED = range(5)
 
 
 @dataclass(frozen=True)
@@ -59,7 +62,7 @@ Verdict = Union[Accepted, Exceeded, Orphan]
 
 
 class FaultKind(enum.IntEnum):
-    """What is wrong with a line. The names are those that the program prints."""
+    """What is wrong with a line, or stands against an entry. The names are those that the program prints."""
 
     After = 1
     Big = 2
@@ -99,6 +102,69 @@ class Fault(ValueError):
         self.kind = kind
 
 
+class Refused(ValueError):
+    """Something stands against an entry: this first."""
+
+    def __init__(self, kind: FaultKind) -> None:
+        super().__init__(kind.sentence)
+        self.kind = kind
+
+
+class Determinant(NamedTuple):
+    """The determinant of a delivery. Lists of them ascend as tuples do."""
+
+    source: int
+    ssn: int
+    dest: int
+    rsn: int
+
+
+class Send(NamedTuple):
+    """`sender` sends its message number `ssn` to `to`."""
+
+    sender: int
+    to: int
+    ssn: int
+
+
+class Deliver(NamedTuple):
+    """`to` delivers the message of the send entry at a position, as its delivery number `rsn`, and logs what is listed."""
+
+    to: int
+    send: int
+    rsn: int
+    listed: Sequence[Determinant] = ()
+
+
+class Stable(NamedTuple):
+    """The determinant is in stable storage from here on."""
+
+    determinant: Determinant
+
+
+class Crash(NamedTuple):
+    """`who` goes down."""
+
+    who: int
+
+
+class Restart(NamedTuple):
+    """`who` comes up with what is listed in its log."""
+
+    who: int
+    listed: Sequence[Determinant] = ()
+
+
+class Forget(NamedTuple):
+    """`who` takes what is listed out of its log."""
+
+    who: int
+    listed: Sequence[Determinant] = ()
+
+
+Entry = Union[Send, Deliver, Stable, Crash, Restart, Forget]
+
+
 class _Summary(ctypes.Structure):
     _fields_ = [
         ("kind", ctypes.c_uint32),
@@ -111,6 +177,19 @@ class _Summary(ctypes.Structure):
         ("fault", ctypes.c_uint32),
         ("processes", ctypes.c_uint8 * 256),
     ]
+
+
+class _Handle(ctypes.Structure):
+    _fields_ = [("held", ctypes.c_void_p), ("full", ctypes.c_uint32)]
+
+
+class _Determinant(ctypes.Structure):
+    _fields_ = [("ssn", ctypes.c_uint32), ("rsn", ctypes.c_uint32), ("source", ctypes.c_uint8), ("dest", ctypes.c_uint8)]
+
+
+class _Entry(ctypes.Structure):
+    _fields_ = [*((name, ctypes.c_uint32) for name in ("kind", "ssn", "rsn", "send"))]
+    _fields_ += [(name, ctypes.c_uint8) for name in ("source", "dest", "who")]
 
 
 def _loaded() -> ctypes.CDLL:
@@ -128,12 +207,26 @@ def _loaded() -> ctypes.CDLL:
     for call in (library.nixu_line, library.nixu_explain, library.nixu_draw):
         call.argtypes = [*text, ctypes.c_uint16, *bytes_out]
     library.nixu_fault_text.argtypes = [ctypes.c_uint32, *bytes_out]
-    for name in ("version", "audit", "audit_each", "line", "explain", "draw", "fault_text"):
+    handle, faults = ctypes.POINTER(_Handle), [ctypes.POINTER(ctypes.c_uint16), size]
+    library.nixu_reader_open.argtypes = [handle]
+    library.nixu_reader_feed.argtypes = [handle, *text, structs]
+    library.nixu_reader_finish.argtypes = [handle, *faults, structs, size]
+    library.nixu_trace_open.argtypes = [handle, ctypes.c_uint16]
+    listed = [ctypes.POINTER(_Determinant), size]
+    library.nixu_trace_push.argtypes = [handle, ctypes.POINTER(_Entry), *listed, ctypes.POINTER(ctypes.c_uint32)]
+    library.nixu_trace_audit.argtypes = [handle, ctypes.c_uint16, structs]
+    library.nixu_trace_text.argtypes = [handle, *bytes_out]
+    for name in _ANSWERING:
         getattr(library, f"nixu_{name}").restype = ctypes.c_uint32
+    for close in (library.nixu_reader_close, library.nixu_trace_close):
+        close.argtypes, close.restype = [handle], None
     if library.nixu_version() != VERSION:
         raise ImportError(f"{path} has version {library.nixu_version()}, and this module is for {VERSION}")
     return library
 
+
+_ANSWERING = ["version", "audit", "audit_each", "line", "explain", "draw", "fault_text"]
+_ANSWERING += ["reader_open", "reader_feed", "reader_finish", "trace_open", "trace_push", "trace_audit", "trace_text"]
 
 _library = _loaded()
 
@@ -174,6 +267,118 @@ def draw(text: bytes, faults: int) -> str:
     return _shown(_library.nixu_draw, 196_608, text, faults)
 
 
+class Reader:
+    """Reads a text in pieces, for a run that is judged while it is recorded. It stays on its thread."""
+
+    def __init__(self) -> None:
+        self._handle = _Handle()
+        _check(_library.nixu_reader_open(self._handle))
+
+    def feed(self, piece: bytes) -> None:
+        """Reads one more piece, of any length.
+
+        Raises Fault with the text's first fault, as soon as a line has one, and MemoryError. The reader is closed then, and each
+        further call raises RuntimeError.
+        """
+        told = _Summary()
+        status = _library.nixu_reader_feed(self._handle, piece, len(piece), told)
+        if status == _FAULT:
+            raise Fault(told.line, FaultKind(told.fault))
+        _check(status)
+
+    def finish(self, faults: int) -> Verdict:
+        """Ends the text, and tells the verdict on the trace that the pieces spell. Raises as feed does; the reader is closed."""
+        return self.finish_each([faults])[0]
+
+    def finish_each(self, faults: Sequence[int]) -> list[Verdict]:
+        """The same for several numbers of faults, in their order. Where no number is asked for a fault is not told."""
+        count = len(faults)
+        told = (_Summary * count)()
+        status = _library.nixu_reader_finish(self._handle, (ctypes.c_uint16 * count)(*map(_number, faults)), count, told, count)
+        if status != _FAULT:
+            _check(status)
+        return [_verdict(status, one) for one in told]
+
+    def close(self) -> None:
+        """Gives back what the reader holds. What is closed already stays so."""
+        _library.nixu_reader_close(self._handle)
+
+    def __enter__(self) -> Reader:
+        return self
+
+    def __exit__(self, *_: object) -> None:
+        self.close()
+
+    def __del__(self) -> None:
+        self.close()
+
+
+class Trace:
+    """A trace of 1 to 256 processes that is made entry by entry, without text. It stays on its thread."""
+
+    def __init__(self, processes: int) -> None:
+        self._handle = _Handle()
+        status = _library.nixu_trace_open(self._handle, _fits(processes, 65_535))
+        if status == _MISUSED:
+            raise ValueError("a trace has 1 to 256 processes")
+        _check(status)
+
+    def push(self, entry: Entry) -> None:
+        """Adds an entry at the end.
+
+        Raises Refused with what first stands against it, and MemoryError. The trace is as it was then.
+        """
+        listed, fault = getattr(entry, "listed", ()), ctypes.c_uint32()
+        dets = (_Determinant * len(listed))(*map(_determinant, listed))
+        status = _library.nixu_trace_push(self._handle, _entry(entry), dets, len(listed), fault)
+        if status == _FAULT:
+            raise Refused(FaultKind(fault.value))
+        _check(status)
+
+    def audit(self, faults: int) -> Verdict:
+        """The verdict on the entries so far, with up to `faults` processes down at once. Raises MemoryError."""
+        told = _Summary()
+        return _verdict(_library.nixu_trace_audit(self._handle, _number(faults), told), told)
+
+    def text(self) -> str:
+        """The text of the trace so far, which `audit` reads. Raises MemoryError."""
+        needed = ctypes.c_size_t()
+        _check(_library.nixu_trace_text(self._handle, None, 0, needed))
+        out = ctypes.create_string_buffer(needed.value)
+        _check(_library.nixu_trace_text(self._handle, out, needed.value, needed))
+        return ctypes.string_at(out, needed.value).decode()
+
+    def close(self) -> None:
+        """Gives back what the trace holds. What is closed already stays so."""
+        _library.nixu_trace_close(self._handle)
+
+    def __enter__(self) -> Trace:
+        return self
+
+    def __exit__(self, *_: object) -> None:
+        self.close()
+
+    def __del__(self) -> None:
+        self.close()
+
+
+def _determinant(det: Determinant) -> _Determinant:
+    source, ssn, dest, rsn = det
+    return _Determinant(_fits(ssn), _fits(rsn), _fits(source, 255), _fits(dest, 255))
+
+
+def _entry(entry: Entry) -> _Entry:
+    if isinstance(entry, Send):
+        return _Entry(kind=0, source=_fits(entry.sender, 255), dest=_fits(entry.to, 255), ssn=_fits(entry.ssn))
+    if isinstance(entry, Deliver):
+        return _Entry(kind=1, dest=_fits(entry.to, 255), send=_fits(entry.send), rsn=_fits(entry.rsn))
+    if isinstance(entry, Stable):
+        det = _determinant(entry.determinant)
+        return _Entry(kind=2, source=det.source, dest=det.dest, ssn=det.ssn, rsn=det.rsn)
+    kinds = {Crash: 3, Restart: 4, Forget: 5}
+    return _Entry(kind=kinds[type(entry)], who=_fits(entry.who, 255))
+
+
 def _shown(call, room: int, text: bytes, faults: int) -> str:
     """What a call gives. It is asked with a first room, and once more where that was too small."""
     out, needed = ctypes.create_string_buffer(room), ctypes.c_size_t()
@@ -207,8 +412,16 @@ def _number(faults: int) -> int:
     return faults
 
 
+def _fits(number: int, most: int = 2**32 - 1) -> int:
+    if not 0 <= number <= most:
+        raise ValueError(f"the number has to be from 0 to {most}")
+    return number
+
+
 def _check(status: int) -> None:
     if status == _NO_MEMORY:
         raise MemoryError("the audit was refused memory")
+    if status == _CLOSED:
+        raise RuntimeError("it is closed")
     if status != _OK:
         raise RuntimeError(f"the library answers with the status {status}, which has no meaning here")

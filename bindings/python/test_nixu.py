@@ -62,6 +62,59 @@ class Calls(unittest.TestCase):
     def test_each_fault_has_a_sentence_of_its_own(self):
         self.assertEqual(len({kind.sentence for kind in nixu.FaultKind}), 20)
 
+    def test_a_reader_stands_for_all_that_it_was_fed(self):
+        with nixu.Reader() as reader:
+            for byte in example("ring.jsonl"):
+                reader.feed(bytes([byte]))
+            told = reader.finish_each([2, 1])
+        self.assertEqual(told, [nixu.Orphan(6, 3, 6, 1, frozenset({1, 2}), 0), nixu.Accepted(6, 3)])
+
+    def test_a_reader_tells_a_fault_at_its_line_and_is_closed_then(self):
+        head, line, _ = example("skipped.jsonl").split(b"\n", 2)
+        reader = nixu.Reader()
+        reader.feed(head + b"\n" + line)
+        with self.assertRaises(nixu.Fault) as raised:
+            reader.feed(b"\n")
+        self.assertEqual((raised.exception.line, raised.exception.kind), (2, nixu.FaultKind.WrongSsn))
+        self.assertRaises(RuntimeError, reader.feed, b"")
+        self.assertRaises(RuntimeError, reader.finish, 0)
+        reader.close()
+
+    def test_a_text_that_does_not_end_is_cut(self):
+        with self.assertRaises(nixu.Fault) as raised:
+            nixu.Reader().finish(0)
+        self.assertEqual((raised.exception.line, raised.exception.kind), (1, nixu.FaultKind.Cut))
+
+    def orphaned(self):
+        """The entries of orphan.jsonl."""
+        trace = nixu.Trace(3)
+        trace.push(nixu.Send(0, 1, 0))
+        trace.push(nixu.Deliver(1, 0, 0, [nixu.Determinant(0, 0, 1, 0)]))
+        trace.push(nixu.Send(1, 2, 0))
+        trace.push(nixu.Deliver(2, 2, 0, [nixu.Determinant(1, 0, 2, 0)]))
+        return trace
+
+    def test_a_trace_is_that_of_its_entries(self):
+        with self.orphaned() as trace:
+            self.assertEqual(trace.audit(1), nixu.Orphan(4, 2, 4, 1, frozenset({1}), 2))
+            self.assertEqual(trace.text().encode(), example("orphan.jsonl"))
+        self.assertRaises(RuntimeError, trace.text)
+
+    def test_what_stands_against_an_entry_is_told(self):
+        trace = self.orphaned()
+        refused = {nixu.Crash(3): "NoProcess", nixu.Send(0, 1, 0): "WrongSsn", nixu.Restart(0): "NotDown"}
+        for entry, name in refused.items():
+            with self.assertRaises(nixu.Refused) as raised:
+                trace.push(entry)
+            self.assertEqual(raised.exception.kind, nixu.FaultKind[name])
+        self.assertRaises(ValueError, trace.push, nixu.Crash(256))
+        self.assertEqual(trace.text().encode(), example("orphan.jsonl"))
+
+    def test_a_trace_has_1_to_256_processes(self):
+        for processes in (-1, 0, 257, 65_537):
+            self.assertRaises(ValueError, nixu.Trace, processes)
+        self.assertEqual(nixu.Trace(256).text(), '["trace",2,256]\n["end",0]\n')
+
     def test_threads_may_call_side_by_side(self):
         text, wrong = example("ring.jsonl"), []
         wanted = nixu.explain(text, 2)

@@ -1,6 +1,6 @@
 //! Does what a file of tasks asks for, and answers in the form that bindings/test compares with the program's answers: the form and the
 //! words are those of ../c/client.c.
-use nixu::{Audit, Error, Verdict};
+use nixu::{Audit, Determinant, Entry, Error, Reader, Trace, Verdict};
 use std::io::{self, Write};
 
 fn set(processes: &[u8]) -> String {
@@ -43,6 +43,50 @@ fn sentence(text: &[u8], faults: u16) -> Result<String, Error> {
     }
 }
 
+/// The text in pieces of many lengths.
+fn fed(text: &[u8], faults: u16) -> Result<Audit, Error> {
+    let mut reader = Reader::new()?;
+    let (mut from, mut rest) = (text.len() as u32, text);
+    while !rest.is_empty() {
+        from = from.wrapping_mul(1_103_515_245).wrapping_add(12_345);
+        let (piece, behind) = rest.split_at(rest.len().min((from >> 16 & 63) as usize));
+        reader.feed(piece)?;
+        rest = behind;
+    }
+    reader.finish(faults)
+}
+
+/// An entry of a file of entries, whose form ../c/entries.h tells.
+fn entry(line: &str) -> Option<Entry> {
+    let numbers: Vec<u32> = line.split(' ').map(str::parse).collect::<Result<_, _>>().ok()?;
+    let &[kind, ssn, rsn, send, source, dest, who, _, ref behind @ ..] = &numbers[..] else { return None };
+    let (source, dest, who) = (source as u8, dest as u8, who as u8);
+    let determinant = |det: &[u32]| Determinant { source: det[0] as u8, ssn: det[1], dest: det[2] as u8, rsn: det[3] };
+    let listed = behind.chunks(4).map(determinant).collect();
+    match kind {
+        0 => Some(Entry::Send { from: source, to: dest, ssn }),
+        1 => Some(Entry::Deliver { to: dest, send, rsn, listed }),
+        2 => Some(Entry::Stable(Determinant { source, ssn, dest, rsn })),
+        3 => Some(Entry::Crash { who }),
+        4 => Some(Entry::Restart { who, listed }),
+        5 => Some(Entry::Forget { who, listed }),
+        _ => None,
+    }
+}
+
+/// The verdict's line and the trace's text, or what stands against an entry, at the line on which it would stand.
+fn recorded(file: &str, faults: u16) -> Result<String, Error> {
+    let mut lines = file.lines();
+    let mut trace = Trace::new(lines.next().and_then(|line| line.parse().ok()).unwrap_or(0))?;
+    for (i, line) in lines.enumerate() {
+        match trace.push(&entry(line).ok_or(Error::OtherVersion)?) {
+            Err(Error::Refused(kind)) => return Ok(format!("fault line={} {kind:?}\n", i + 2)),
+            told => told?,
+        }
+    }
+    Ok(said(&trace.audit(faults)?, faults) + &trace.text()?)
+}
+
 fn answer(word: &str, text: &[u8], faults: u16) -> Result<String, Error> {
     match word {
         "line" => or_fault(nixu::line(text, faults)),
@@ -50,6 +94,8 @@ fn answer(word: &str, text: &[u8], faults: u16) -> Result<String, Error> {
         "draw" => or_fault(nixu::draw(text, faults)),
         "audit" => or_fault(nixu::audit(text, faults).map(|told| said(&told, faults))),
         "each" => each(text),
+        "fed" => or_fault(fed(text, faults).map(|told| said(&told, faults))),
+        "entries" => recorded(&String::from_utf8_lossy(text), faults),
         _ => sentence(text, faults),
     }
 }

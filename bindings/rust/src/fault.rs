@@ -9,6 +9,12 @@ use std::fmt::{self, Display, Formatter};
 pub enum Error {
     /// The text spells no trace.
     Fault(Fault),
+    /// Something stands against an entry: this first.
+    Refused(FaultKind),
+    /// A trace can't have so many processes.
+    Processes,
+    /// An earlier call failed, and the reader is closed since.
+    Closed,
     /// Memory was refused.
     NoMemory,
     /// The library's answer is none of the version for which this package was written.
@@ -20,6 +26,7 @@ impl Error {
     pub(crate) fn of_status(status: u32) -> Error {
         match status {
             foreign::NO_MEMORY => Error::NoMemory,
+            foreign::CLOSED => Error::Closed,
             _ => Error::OtherVersion,
         }
     }
@@ -29,6 +36,9 @@ impl Display for Error {
     fn fmt(&self, to: &mut Formatter<'_>) -> fmt::Result {
         match self {
             Error::Fault(fault) => fault.fmt(to),
+            Error::Refused(kind) => kind.fmt(to),
+            Error::Processes => to.write_str("a trace has 1 to 256 processes"),
+            Error::Closed => to.write_str("an earlier call failed"),
             Error::NoMemory => to.write_str("memory was refused"),
             Error::OtherVersion => to.write_str("the library is of another version"),
         }
@@ -59,7 +69,7 @@ impl Display for Fault {
     }
 }
 
-/// What is wrong with a line. The names are those that the program prints.
+/// What is wrong with a line, or stands against an entry. The names are those that the program prints.
 #[derive(Clone, Copy, Debug, PartialEq, Eq, Hash)]
 #[repr(u32)]
 pub enum FaultKind {
@@ -130,7 +140,7 @@ impl FaultKind {
         FaultKind::Cut,
     ];
 
-    fn numbered(number: u32) -> Option<FaultKind> {
+    pub(crate) fn numbered(number: u32) -> Option<FaultKind> {
         FaultKind::ALL.into_iter().find(|kind| *kind as u32 == number)
     }
 }

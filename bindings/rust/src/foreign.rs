@@ -1,8 +1,13 @@
 //! The calls of nixu.h. This is the only file with code that the compiler doesn't check.
 
+use std::os::raw::c_void;
+use std::ptr;
+
 pub const OK: u32 = 0;
 pub const FAULT: u32 = 1;
 pub const NO_MEMORY: u32 = 2;
+pub const MISUSED: u32 = 3;
+pub const CLOSED: u32 = 4;
 
 /// `nixu_verdict`.
 #[repr(C)]
@@ -37,6 +42,50 @@ impl Default for Summary {
     }
 }
 
+/// `nixu_reader` and `nixu_trace`. It is freed by nobody: whoever has one closes it.
+#[repr(C)]
+#[derive(Debug)]
+pub struct Handle {
+    held: *mut c_void,
+    full: u32,
+}
+
+const _: () = assert!(std::mem::size_of::<Handle>() == 16);
+
+impl Handle {
+    /// One where nothing is open.
+    pub fn closed() -> Handle {
+        Handle { held: ptr::null_mut(), full: 0 }
+    }
+}
+
+/// `nixu_determinant`.
+#[repr(C)]
+#[derive(Clone, Copy)]
+pub struct Determinant {
+    pub ssn: u32,
+    pub rsn: u32,
+    pub source: u8,
+    pub dest: u8,
+}
+
+const _: () = assert!(std::mem::size_of::<Determinant>() == 12);
+
+/// `nixu_entry`.
+#[repr(C)]
+#[derive(Clone, Copy, Default)]
+pub struct Entry {
+    pub kind: u32,
+    pub ssn: u32,
+    pub rsn: u32,
+    pub send: u32,
+    pub source: u8,
+    pub dest: u8,
+    pub who: u8,
+}
+
+const _: () = assert!(std::mem::size_of::<Entry>() == 20);
+
 type ShowsInC = unsafe extern "C" fn(*const u8, usize, u16, *mut u8, usize, *mut usize) -> u32;
 
 extern "C" {
@@ -54,6 +103,27 @@ extern "C" {
     fn nixu_explain(text: *const u8, length: usize, faults: u16, out: *mut u8, room: usize, needed: *mut usize) -> u32;
     fn nixu_draw(text: *const u8, length: usize, faults: u16, out: *mut u8, room: usize, needed: *mut usize) -> u32;
     fn nixu_fault_text(fault: u32, out: *mut u8, room: usize, needed: *mut usize) -> u32;
+    fn nixu_reader_open(reader: *mut Handle) -> u32;
+    fn nixu_reader_feed(reader: *mut Handle, piece: *const u8, length: usize, told: *mut Summary) -> u32;
+    fn nixu_reader_finish(
+        reader: *mut Handle,
+        faults: *const u16,
+        count: usize,
+        told: *mut Summary,
+        room: usize,
+    ) -> u32;
+    fn nixu_reader_close(reader: *mut Handle);
+    fn nixu_trace_open(trace: *mut Handle, processes: u16) -> u32;
+    fn nixu_trace_push(
+        trace: *mut Handle,
+        entry: *const Entry,
+        listed: *const Determinant,
+        count: usize,
+        fault: *mut u32,
+    ) -> u32;
+    fn nixu_trace_audit(trace: *mut Handle, faults: u16, told: *mut Summary) -> u32;
+    fn nixu_trace_text(trace: *mut Handle, out: *mut u8, room: usize, needed: *mut usize) -> u32;
+    fn nixu_trace_close(trace: *mut Handle);
 }
 
 /// One of the calls that give bytes.
@@ -99,4 +169,51 @@ pub fn fault_text(fault: u32, out: &mut [u8]) -> Shown {
     // SAFETY: the slice is as long as it says; its bytes and the number are lent to this call alone.
     let status = unsafe { nixu_fault_text(fault, out.as_mut_ptr(), out.len(), &mut needed) };
     Shown { status, needed }
+}
+
+pub fn reader_open(reader: &mut Handle) -> u32 {
+    // SAFETY: the handle is one of a reader, and lent to this call alone.
+    unsafe { nixu_reader_open(reader) }
+}
+
+pub fn reader_feed(reader: &mut Handle, piece: &[u8], told: &mut Summary) -> u32 {
+    // SAFETY: the handle is one of a reader; it and the struct are lent to this call alone, and a slice is as long as it says.
+    unsafe { nixu_reader_feed(reader, piece.as_ptr(), piece.len(), told) }
+}
+
+pub fn reader_finish(reader: &mut Handle, faults: &[u16], told: &mut [Summary]) -> u32 {
+    // SAFETY: the handle is one of a reader; it and the structs are lent to this call alone, and slices are as long as they say.
+    unsafe { nixu_reader_finish(reader, faults.as_ptr(), faults.len(), told.as_mut_ptr(), told.len()) }
+}
+
+pub fn reader_close(reader: &mut Handle) {
+    // SAFETY: the handle is one of a reader, and lent to this call alone.
+    unsafe { nixu_reader_close(reader) }
+}
+
+pub fn trace_open(trace: &mut Handle, processes: u16) -> u32 {
+    // SAFETY: the handle is one of a trace, and lent to this call alone.
+    unsafe { nixu_trace_open(trace, processes) }
+}
+
+pub fn trace_push(trace: &mut Handle, entry: &Entry, listed: &[Determinant], fault: &mut u32) -> u32 {
+    // SAFETY: the handle is one of a trace; it and the number are lent to this call alone, and a slice is as long as it says.
+    unsafe { nixu_trace_push(trace, entry, listed.as_ptr(), listed.len(), fault) }
+}
+
+pub fn trace_audit(trace: &mut Handle, faults: u16, told: &mut Summary) -> u32 {
+    // SAFETY: the handle is one of a trace; it and the struct are lent to this call alone.
+    unsafe { nixu_trace_audit(trace, faults, told) }
+}
+
+pub fn trace_text(trace: &mut Handle, out: &mut [u8]) -> Shown {
+    let mut needed = 0;
+    // SAFETY: the handle is one of a trace; it, the bytes and the number are lent to this call alone.
+    let status = unsafe { nixu_trace_text(trace, out.as_mut_ptr(), out.len(), &mut needed) };
+    Shown { status, needed }
+}
+
+pub fn trace_close(trace: &mut Handle) {
+    // SAFETY: the handle is one of a trace, and lent to this call alone.
+    unsafe { nixu_trace_close(trace) }
 }

@@ -22,14 +22,21 @@
 //! # Ok::<(), Error>(())
 //! ```
 //!
-//! Every call may be made from any thread, and keeps nothing of what it was given. What the library itself asks of memory may
-//! be refused, and is told as [`Error::NoMemory`]; the vectors and strings of this package are as those of any other.
+//! A [`Reader`] is fed with the pieces of a text while the run is recorded. A [`Trace`] is made of entries, without text.
+//!
+//! Every call may be made from any thread, and keeps nothing of what it was given; a reader or a trace stays on its thread. What the
+//! library itself asks of memory may be refused, and is told as [`Error::NoMemory`]; the vectors and strings of this package are as
+//! those of any other.
 
 mod fault;
 mod foreign;
+mod reader;
+mod trace;
 mod verdict;
 
 pub use fault::{Error, Fault, FaultKind};
+pub use reader::Reader;
+pub use trace::{Determinant, Entry, Trace};
 pub use verdict::{Audit, Verdict};
 
 use foreign::{Shows, Summary};

@@ -1,5 +1,5 @@
 //! Calls whose answers are worked out by hand: the tables of examples/README.md and of docs/FORMAT.md.
-use nixu::{Audit, Error, Fault, FaultKind, Verdict};
+use nixu::{Audit, Determinant, Entry, Error, Fault, FaultKind, Reader, Trace, Verdict};
 use std::thread;
 
 fn example(name: &str) -> Vec<u8> {
@@ -79,4 +79,75 @@ fn threads_may_call_side_by_side() {
         let threads: Vec<_> = (0..4).map(|_| scope.spawn(is_told)).collect();
         assert!(threads.into_iter().all(|thread| thread.join().unwrap()));
     });
+}
+
+#[test]
+fn a_reader_stands_for_all_that_it_was_fed() {
+    let text = example("ring.jsonl");
+    let mut reader = Reader::new().unwrap();
+    for byte in text.chunks(1) {
+        assert_eq!(reader.feed(byte), Ok(()));
+    }
+    let told = reader.finish_each(&[2, 1]).unwrap();
+    let verdict = Verdict::Orphan { instant: 6, delivery: 1, crash: vec![1, 2], orphan: 0 };
+    let accepted = Audit { entries: 6, deliveries: 3, verdict: Verdict::Accepted };
+    assert_eq!(told, [Audit { entries: 6, deliveries: 3, verdict }, accepted]);
+}
+
+#[test]
+fn a_reader_tells_a_fault_at_its_line_and_is_closed_then() {
+    let text = example("skipped.jsonl");
+    let second_line = text.iter().enumerate().filter(|(_, byte)| **byte == b'\n').nth(1).unwrap().0;
+    let mut reader = Reader::new().unwrap();
+    assert_eq!(reader.feed(&text[..second_line]), Ok(()));
+    let fault = Error::Fault(Fault { line: 2, kind: FaultKind::WrongSsn });
+    assert_eq!(reader.feed(&text[second_line..=second_line]), Err(fault));
+    assert_eq!(reader.feed(b""), Err(Error::Closed));
+    assert_eq!(reader.finish(0), Err(Error::Closed));
+}
+
+#[test]
+fn a_text_that_does_not_end_is_cut() {
+    let reader = Reader::new().unwrap();
+    assert_eq!(reader.finish(0), Err(Error::Fault(Fault { line: 1, kind: FaultKind::Cut })));
+}
+
+/// The entries of orphan.jsonl.
+fn orphaned() -> Trace {
+    let own = |source, dest| vec![Determinant { source, ssn: 0, dest, rsn: 0 }];
+    let mut trace = Trace::new(3).unwrap();
+    for entry in [
+        Entry::Send { from: 0, to: 1, ssn: 0 },
+        Entry::Deliver { to: 1, send: 0, rsn: 0, listed: own(0, 1) },
+        Entry::Send { from: 1, to: 2, ssn: 0 },
+        Entry::Deliver { to: 2, send: 2, rsn: 0, listed: own(1, 2) },
+    ] {
+        trace.push(&entry).unwrap();
+    }
+    trace
+}
+
+#[test]
+fn a_trace_is_that_of_its_entries() {
+    let mut trace = orphaned();
+    let verdict = Verdict::Orphan { instant: 4, delivery: 1, crash: vec![1], orphan: 2 };
+    assert_eq!(trace.audit(1), Ok(Audit { entries: 4, deliveries: 2, verdict }));
+    assert_eq!(trace.text().unwrap().as_bytes(), example("orphan.jsonl"));
+}
+
+#[test]
+fn what_stands_against_an_entry_is_told() {
+    let mut trace = orphaned();
+    let refused = |kind| Err(Error::Refused(kind));
+    assert_eq!(trace.push(&Entry::Crash { who: 3 }), refused(FaultKind::NoProcess));
+    assert_eq!(trace.push(&Entry::Send { from: 0, to: 1, ssn: 0 }), refused(FaultKind::WrongSsn));
+    assert_eq!(trace.push(&Entry::Restart { who: 0, listed: vec![] }), refused(FaultKind::NotDown));
+    assert_eq!(trace.text().unwrap().as_bytes(), example("orphan.jsonl"));
+}
+
+#[test]
+fn a_trace_has_1_to_256_processes() {
+    assert_eq!(Trace::new(0).err(), Some(Error::Processes));
+    assert_eq!(Trace::new(257).err(), Some(Error::Processes));
+    assert_eq!(Trace::new(256).unwrap().text().unwrap(), "[\"trace\",2,256]\n[\"end\",0]\n");
 }

@@ -8,7 +8,7 @@
      nothing else that the call is given. Such a pointer may be null where its length is 0: a text of no bytes is one that
      has a fault, and a room of no bytes takes none. No other pointer may be null.
    - No pointer is kept. Nothing is printed, no signal is raised, no thread is started or waited for, and there is no state
-     but what the caller holds. Calls may run in any number of threads; a handle is used by one call at a time.
+     but what the caller holds. Calls may run in any number of threads; a reader or a trace stays on the thread that opened it.
    - Memory is asked for by malloc and realloc, and given back before the call returns, but for what a handle holds.
    - It must not be called in a signal handler, nor in the forked child of a process with threads.
    - The answer is one of the statuses. What a status does not say to be written is as it was before the call.
@@ -33,9 +33,10 @@ uint32_t nixu_version(void);
 /* ---- statuses ---- */
 
 #define NIXU_OK        0 /* done */
-#define NIXU_FAULT     1 /* the text spells no trace, and its first fault is told */
+#define NIXU_FAULT     1 /* the first fault of the text is told, or what first stands against the entry */
 #define NIXU_NO_MEMORY 2 /* memory was refused */
 #define NIXU_MISUSED   3 /* the call says itself when */
+#define NIXU_CLOSED    4 /* no reader, or no trace, is open there, and nothing was done */
 
 /* ---- the verdict on a text ---- */
 
@@ -70,6 +71,96 @@ uint32_t nixu_audit(const uint8_t *text, size_t length, uint16_t faults, nixu_ve
    NIXU_NO_MEMORY. */
 uint32_t nixu_audit_each(const uint8_t *text, size_t length, const uint16_t *faults, size_t count, nixu_verdict *told,
                          size_t room);
+
+/* ---- a reader that is fed, for a run that is judged while it is recorded ---- */
+
+/* Zero it before its first use: `nixu_reader reader = {0};`. Its fields are the library's, and it is not copied. An open
+   one holds memory until it is finished or closed. */
+typedef struct nixu_reader {
+  void *held;
+  uint32_t full;
+} nixu_reader;
+
+/* Opens a reader that has read nothing.
+
+   NIXU_OK. NIXU_MISUSED: one is open there. NIXU_NO_MEMORY. */
+uint32_t nixu_reader_open(nixu_reader *reader);
+
+/* Reads one more piece of the text, of any length; an empty one changes nothing. The first fault is told as soon as a line
+   has one, however the text goes on.
+
+   NIXU_OK. NIXU_FAULT: `told` is written, and the reader is closed. NIXU_NO_MEMORY: the reader is closed. NIXU_CLOSED. */
+uint32_t nixu_reader_feed(nixu_reader *reader, const uint8_t *piece, size_t length, nixu_verdict *told);
+
+/* Ends the text, and tells the verdicts for `count` numbers of faults, as nixu_audit_each does. The reader is closed but
+   after NIXU_MISUSED.
+
+   NIXU_OK, NIXU_FAULT: the first `count` of `told` are written. NIXU_MISUSED: `room` is less than `count`.
+   NIXU_NO_MEMORY. NIXU_CLOSED. */
+uint32_t nixu_reader_finish(nixu_reader *reader, const uint16_t *faults, size_t count, nixu_verdict *told, size_t room);
+
+/* Gives back what a reader holds. Where none is open, as in one that is zeroed or closed, it does nothing. */
+void nixu_reader_close(nixu_reader *reader);
+
+/* ---- entries without text, for a recorder in the same process ---- */
+
+/* Zero it before its first use, as a reader. An open one holds memory until it is closed. */
+typedef struct nixu_trace {
+  void *held;
+  uint32_t full;
+} nixu_trace;
+
+/* The determinant of a delivery. */
+typedef struct nixu_determinant {
+  uint32_t ssn;   /* the message's send sequence number */
+  uint32_t rsn;   /* the receive sequence number */
+  uint8_t source; /* the message's sender */
+  uint8_t dest;   /* the receiver */
+} nixu_determinant;
+
+#define NIXU_SEND    0 /* source, dest, ssn */
+#define NIXU_DELIVER 1 /* dest, send, rsn, and what it lists */
+#define NIXU_STABLE  2 /* source, ssn, dest, rsn: the determinant */
+#define NIXU_CRASH   3 /* who */
+#define NIXU_RESTART 4 /* who, and what it lists */
+#define NIXU_FORGET  5 /* who, and what it lists */
+
+/* An entry, but for the determinants that it lists. A field that its kind does not name is not read. */
+typedef struct nixu_entry {
+  uint32_t kind;  /* one of the six above */
+  uint32_t ssn;   /* the send sequence number */
+  uint32_t rsn;   /* the receive sequence number */
+  uint32_t send;  /* the position of the send entry, from 0 */
+  uint8_t source; /* the sender */
+  uint8_t dest;   /* the receiver */
+  uint8_t who;    /* the process that crashes, restarts or forgets */
+} nixu_entry;
+
+/* Opens a trace of so many processes, 1 to 256, that has no entries.
+
+   NIXU_OK. NIXU_MISUSED: one is open there, or a trace cannot have so many. NIXU_NO_MEMORY. */
+uint32_t nixu_trace_open(nixu_trace *trace, uint16_t processes);
+
+/* Adds an entry at the end, with the `count` determinants that it lists, in ascending order.
+
+   NIXU_OK. NIXU_FAULT: `fault` is written, the number of what first stands against the entry, one of the faults from
+   NIXU_TOO_LONG to NIXU_NO_DELIVERY below. NIXU_MISUSED: there is no such kind, or it lists none and `count` is not 0.
+   NIXU_NO_MEMORY. NIXU_CLOSED. */
+uint32_t nixu_trace_push(nixu_trace *trace, const nixu_entry *entry, const nixu_determinant *listed, size_t count,
+                         uint32_t *fault);
+
+/* Tells the verdict on the entries so far, with up to `faults` processes down at once. The trace stays open.
+
+   NIXU_OK: `told` is written. NIXU_NO_MEMORY. NIXU_CLOSED. */
+uint32_t nixu_trace_audit(nixu_trace *trace, uint16_t faults, nixu_verdict *told);
+
+/* The text of the trace so far, which the calls above read. The trace stays open.
+
+   NIXU_OK: the bytes are given. NIXU_NO_MEMORY. NIXU_CLOSED. */
+uint32_t nixu_trace_text(nixu_trace *trace, uint8_t *out, size_t room, size_t *needed);
+
+/* Gives back what a trace holds. Where none is open, as in one that is zeroed or closed, it does nothing. */
+void nixu_trace_close(nixu_trace *trace);
 
 /* ---- what the program prints ---- */
 
@@ -130,6 +221,20 @@ NIXU_CHECKED(orphan, offsetof(nixu_verdict, orphan) == 20);
 NIXU_CHECKED(line, offsetof(nixu_verdict, line) == 24);
 NIXU_CHECKED(fault, offsetof(nixu_verdict, fault) == 28);
 NIXU_CHECKED(processes, offsetof(nixu_verdict, processes) == 32);
+NIXU_CHECKED(reader, sizeof(nixu_reader) == 16 && offsetof(nixu_reader, held) == 0 && offsetof(nixu_reader, full) == 8);
+NIXU_CHECKED(trace, sizeof(nixu_trace) == 16 && offsetof(nixu_trace, held) == 0 && offsetof(nixu_trace, full) == 8);
+NIXU_CHECKED(determinant, sizeof(nixu_determinant) == 12);
+NIXU_CHECKED(determinant_ssn, offsetof(nixu_determinant, ssn) == 0);
+NIXU_CHECKED(determinant_rsn, offsetof(nixu_determinant, rsn) == 4);
+NIXU_CHECKED(determinant_source, offsetof(nixu_determinant, source) == 8);
+NIXU_CHECKED(determinant_dest, offsetof(nixu_determinant, dest) == 9);
+NIXU_CHECKED(entry, sizeof(nixu_entry) == 20 && offsetof(nixu_entry, kind) == 0);
+NIXU_CHECKED(entry_ssn, offsetof(nixu_entry, ssn) == 4);
+NIXU_CHECKED(entry_rsn, offsetof(nixu_entry, rsn) == 8);
+NIXU_CHECKED(entry_send, offsetof(nixu_entry, send) == 12);
+NIXU_CHECKED(entry_source, offsetof(nixu_entry, source) == 16);
+NIXU_CHECKED(entry_dest, offsetof(nixu_entry, dest) == 17);
+NIXU_CHECKED(entry_who, offsetof(nixu_entry, who) == 18);
 
 #ifdef __cplusplus
 }

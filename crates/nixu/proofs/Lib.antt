@@ -1,1 +1,3 @@
+mod AsBox
 mod Each
+mod PartsValues

@@ -24,10 +24,13 @@ TellEach r [] [] = Unit {0}
 TellEach r (f ∷ fs) (told ∷ more) = TellsJudged r f told × TellEach r fs more
 TellEach r fs told = ⊥
 
--- the text spells a trace, the first structs tell the verdicts on it, and those behind them are as they were
+-- the first structs tell the verdicts on the recording, and those behind them are as they were
+abbrev pub FirstTell : Recording → List ℕ → List Summary → List Summary → Type 0
+FirstTell r faults old new = (told : List Summary) × TellEach r faults told × (new ≡ told ++ drop (length faults) old)
+
+-- the text spells a trace, and the first structs tell the verdicts on it
 abbrev pub TellsVerdicts : List ℕ → List ℕ → List Summary → List Summary → Type 0
-TellsVerdicts text faults old new =
-    (r : Recording) × Spells text r × ((told : List Summary) × TellEach r faults told × (new ≡ told ++ drop (length faults) old))
+TellsVerdicts text faults old new = (r : Recording) × Spells text r × FirstTell r faults old new
 
 -- so many of the first structs tell the first fault of the text, and those behind them are as they were
 abbrev pub TellsFaults : List ℕ → ℕ → List Summary → List Summary → Type 0

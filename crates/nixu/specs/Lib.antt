@@ -1,5 +1,8 @@
 pub mod Each
+pub mod Entries
 pub mod Failures
+pub mod Fed
+pub mod Held
 pub mod Numbers
 pub mod Room
 pub mod Summaries

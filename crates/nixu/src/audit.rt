@@ -1,10 +1,7 @@
 //! Texts that are judged, as the program's `audit` judges them.
-ghost use Rattle.std.specs.Prelude.{◌≡◌, ◌≤◌, ◌<◌, ◌↔◌, ◌++◌, drop, length, IfOk, IfErr};
-ghost use Rattle.nixu.specs.Each.{TellEach, TellsJudged, TellsVerdicts, TellsFaults};
-ghost use Rattle.nixu.specs.Failures.{IsFailureOf};
+ghost use Rattle.std.specs.Prelude.{◌≡◌, ◌≤◌, ◌<◌, ◌⊎◌, ◌↔◌, ◌++◌, drop, length, IfOk};
+ghost use Rattle.nixu.specs.Each.{TellEach, FirstTell, TellsJudged, TellsVerdicts, TellsFaults};
 ghost use Rattle.nixu.specs.Summaries.{TellsVerdict, TellsFault};
-ghost use Rattle.causal_trace.specs.Rows.{Recording};
-ghost use Rattle.causal_text.specs.Spelling.{Spells};
 
 use crate::judged::{Failure, judged_of, judged_text, trace_of};
 use crate::status::{FAULT, MISUSED, NO_MEMORY, OK};
@@ -65,11 +62,8 @@ pub extern "C" fn nixu_audit_each(
     if told.len() < faults.len() {
         return MISUSED;
     }
-    match summaries_of(alloc, text, faults) {
-        Ok(summaries) => {
-            told[..faults.len()].copy_from_slice(summaries.as_slice());
-            OK
-        }
+    match trace_of(alloc, text) {
+        Ok(trace) => tell_each(alloc, &trace, faults, told),
         Err(Failure::Fault(fault)) => {
             told[..faults.len()].fill(fault_summary(fault));
             FAULT
@@ -78,15 +72,22 @@ pub extern "C" fn nixu_audit_each(
     }
 }
 
-/// What tells of the verdict for each number of faults on the trace that a text spells.
-fn summaries_of(alloc: Global, text: &[u8], faults: &[u16]) -> Result<Vec<Summary>, Failure>
-    ensures ok { IfOk result (λ told. (r : Recording) × Spells text.now r × TellEach r faults.now told.items) }
-    ensures count { IfOk result (λ told. length told.items ≡ length faults.now) }
-    ensures err { IfErr result (IsFailureOf text.now) }
+/// Tells the verdicts for several numbers of faults on a trace: `told[i]` is that for `faults[i]`.
+///
+/// It answers [`OK`]; or [`NO_MEMORY`], after which `told` is as it was.
+pub(crate) fn tell_each(alloc: Global, trace: &Trace, faults: &[u16], told: &mut [Summary]) -> u32
+    requires { length faults.now ≤ length told.old }
+    ensures ok { result ≡ OK → FirstTell trace.now.recording faults.now told.old told.new }
+    ensures kept { result ≡ NO_MEMORY → told.new ≡ told.old }
+    ensures status { (result ≡ OK) ⊎ (result ≡ NO_MEMORY) }
 {
-    let trace = trace_of(alloc, text)?;
-    let summaries = each_of(alloc, &trace, faults)?;
-    Ok(summaries)
+    match each_of(alloc, trace, faults) {
+        Ok(summaries) => {
+            told[..faults.len()].copy_from_slice(summaries.as_slice());
+            OK
+        }
+        Err(NoMemory) => NO_MEMORY,
+    }
 }
 
 /// What tells of the verdict for each number of faults on a trace.
@@ -102,7 +103,7 @@ fn each_of(alloc: Global, trace: &Trace, faults: &[u16]) -> Result<Vec<Summary>,
 }
 
 /// What tells of the verdict on a trace.
-fn summary_for(alloc: Global, trace: &Trace, faults: u16) -> Result<Summary, NoMemory>
+pub(crate) fn summary_for(alloc: Global, trace: &Trace, faults: u16) -> Result<Summary, NoMemory>
     ensures { IfOk result (TellsJudged trace.now.recording faults) }
 {
     match judged_of(alloc, trace, faults) {

@@ -7,14 +7,18 @@ use causal_text::TextKind;
 /// The text spells a trace, and the answer is given.
 pub const OK: u32 = 0;
 
-/// The text spells no trace, and its first fault is given.
+/// The first fault of the text is told, or what first stands against the entry.
 pub const FAULT: u32 = 1;
 
 /// Memory was asked for and refused.
 pub const NO_MEMORY: u32 = 2;
 
-/// The call itself is wrong: there are fewer places than numbers of faults, or no fault has the number.
+/// The call itself is wrong: there are fewer places than numbers of faults, no fault or entry has the number, something is
+/// open there already, or a trace cannot have so many processes.
 pub const MISUSED: u32 = 3;
+
+/// No reader, or no trace, is open there.
+pub const CLOSED: u32 = 4;
 
 /// The number of a kind of fault, from 1 in the order of [`TextKind`]; 0 for want of memory, which is no fault of a text.
 pub(crate) fn number_of(kind: TextKind) -> u32

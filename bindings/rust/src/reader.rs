@@ -1,0 +1,73 @@
+//! Texts that come in pieces.
+use crate::fault::{Error, Fault};
+use crate::foreign::{self, Handle, Summary};
+use crate::verdict::{self, Audit};
+
+/// Reads a text in pieces, for a run that is judged while it is recorded.
+///
+/// ```
+/// let mut reader = nixu::Reader::new()?;
+/// for piece in ["[\"trace\",1,2]\n[\"se", "nd\",0,1,0]\n", "[\"end\",1]\n"] {
+///     reader.feed(piece.as_bytes())?;
+/// }
+/// assert_eq!(reader.finish(1)?.entries, 1);
+/// # Ok::<(), nixu::Error>(())
+/// ```
+#[derive(Debug)]
+pub struct Reader(Handle);
+
+impl Reader {
+    /// A reader that has read nothing.
+    ///
+    /// # Errors
+    /// [`Error::NoMemory`].
+    pub fn new() -> Result<Reader, Error> {
+        let mut reader = Reader(Handle::closed());
+        match foreign::reader_open(&mut reader.0) {
+            foreign::OK => Ok(reader),
+            status => Err(Error::of_status(status)),
+        }
+    }
+
+    /// Reads one more piece, of any length.
+    ///
+    /// # Errors
+    /// [`Error::Fault`] with the first fault of the text, as soon as a line has one; and [`Error::NoMemory`]. After an error the
+    /// reader is closed, and each further call tells [`Error::Closed`].
+    pub fn feed(&mut self, piece: &[u8]) -> Result<(), Error> {
+        let mut told = Summary::default();
+        match foreign::reader_feed(&mut self.0, piece, &mut told) {
+            foreign::OK => Ok(()),
+            foreign::FAULT => Err(Fault::told(&told)),
+            status => Err(Error::of_status(status)),
+        }
+    }
+
+    /// The verdict on the trace that the pieces spell, with up to `faults` processes down at once.
+    ///
+    /// # Errors
+    /// [`Error::Fault`] where they spell none, [`Error::NoMemory`], and [`Error::Closed`] after an earlier error.
+    pub fn finish(mut self, faults: u16) -> Result<Audit, Error> {
+        let mut told = [Summary::default()];
+        let status = foreign::reader_finish(&mut self.0, &[faults], &mut told);
+        verdict::told(status, &told[0])
+    }
+
+    /// The verdicts for several numbers of faults, in their order.
+    ///
+    /// # Errors
+    /// As for [`Reader::finish`], but where no number is asked for a fault is not told.
+    pub fn finish_each(mut self, faults: &[u16]) -> Result<Vec<Audit>, Error> {
+        let mut told = vec![Summary::default(); faults.len()];
+        match foreign::reader_finish(&mut self.0, faults, &mut told) {
+            status @ (foreign::OK | foreign::FAULT) => told.iter().map(|told| verdict::told(status, told)).collect(),
+            status => Err(Error::of_status(status)),
+        }
+    }
+}
+
+impl Drop for Reader {
+    fn drop(&mut self) {
+        foreign::reader_close(&mut self.0);
+    }
+}

@@ -1,0 +1,22 @@
+-- What is owned behind a pointer that may hold a reader or a trace.
+use Rattle.std.specs.Prelude.{ℕ, Option, Some, None}
+use Rattle.std.specs.Box.Ownership.{box_owns}
+use Rattle.std.specs.Coded.{coded_option}
+use Rattle.libc.specs.Heap.{chunk}
+use Rattle.nixu.specs.contracts.kept.Kept.{the_row}
+use base.Fml.{Fml, ftrue}
+use base.Stored.{Coded}
+use denote.RawPtr.{Ptr}
+
+-- a box of the C library's heap, or nothing
+abbrev pub held_owns : Ptr → Option the_row.Denot → Fml
+held_owns at None = ftrue
+held_owns at (Some x) = box_owns chunk the_row at x
+
+-- how many there are
+abbrev pub count_of : Option the_row.Denot → ℕ
+count_of None = 0
+count_of (Some x) = 1
+
+abbrev pub held_coded : Coded (Option the_row.Denot)
+held_coded = coded_option the_row.coded
