@@ -30,3 +30,6 @@ mod torn;
 pub use fault::{MergeFault, MergeKind};
 pub use merge::{Merged, merge_text};
 pub use report::fault_line;
+
+#[cfg(test)]
+mod tests;
