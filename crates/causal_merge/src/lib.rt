@@ -26,6 +26,8 @@ pub mod report;
 mod sends;
 /// Lines that say nothing.
 mod torn;
+/// The JSON value of a line.
+mod value;
 
 pub use fault::{MergeFault, MergeKind};
 pub use merge::{Merged, merge_text};
