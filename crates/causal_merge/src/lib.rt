@@ -10,6 +10,8 @@ mod event;
 pub mod fault;
 /// What the lines so far have said.
 mod gathered;
+/// What a fault may come from.
+mod hint;
 /// From the bytes of a line to what it says.
 mod line;
 /// From the recordings to the trace.
