@@ -1,3 +1,4 @@
 mod Known
+mod MergeLemmas
 mod PrintLemmas
 mod ReadLemmas

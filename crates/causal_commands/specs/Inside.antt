@@ -2,4 +2,5 @@
 pub mod Answers
 pub mod Printed
 pub mod Judged
+pub mod Merged
 pub mod Told

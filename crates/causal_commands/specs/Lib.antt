@@ -2,6 +2,8 @@ pub mod Inside
 pub mod Endings
 pub mod Shown
 pub mod Judgements
+pub mod Merges
+pub mod Reading
 pub mod Reasons
 pub mod Runs
 pub mod Streams

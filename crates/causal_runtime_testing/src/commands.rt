@@ -1,6 +1,7 @@
 //! What the program's commands write to a text, and how they end, where readers and writers give and take little, or fail.
 mod cut;
 mod forged;
+mod merging;
 mod reading;
 mod reasons;
 mod running;

@@ -9,8 +9,11 @@ ghost use Rattle.std.specs.Prelude.{◌≡◌};
 ghost use Rattle.std.specs.Process.{exit_status};
 ghost use Rattle.causal_commands.specs.Endings.{status_of};
 
+mod merging;
+
+use crate::merging::complain_of_recordings;
 pub use causal_commands::audit_stream;
-use causal_commands::{Told, audit_and_tell, run_and_tell, show_and_tell};
+use causal_commands::{Told, audit_and_tell, merge_and_tell, run_and_tell, show_and_tell};
 use causal_text::TextFault;
 use causal_words::{Asked, Refused, read_words};
 use causal_workers::OpenGate;
@@ -60,6 +63,11 @@ fn main(rt: HostRuntime) -> ExitCode {
                 view,
             ),
         ),
+        Ok(Asked::Merge) => {
+            let merging = merge_and_tell(rt.alloc(), &mut rt.reader(), &mut io::writer(&rt));
+            let ended = complain_of_recordings(&rt, "causal_tool merge", merging);
+            told::<TextFault>(&rt, Told { ended, fault: None })
+        }
         Ok(Asked::Run) => told(
             &rt,
             run_and_tell(&rt, rt.alloc(), &mut rt.reader(), &mut io::writer(&rt)),

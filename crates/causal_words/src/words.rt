@@ -4,6 +4,7 @@ ghost use Rattle.clap.specs.Values.{kind_of};
 ghost use Rattle.causal_words.specs.Inside.Refusals.{refusal};
 ghost use Rattle.causal_words.specs.Words.{HasWorkers};
 
+use crate::merging::merge;
 use causal_commands::{Ended, View};
 use clap::error::ErrorKind;
 use clap::{Arg, ArgMatches, Command, Error, value_parser};
@@ -119,6 +120,8 @@ pub enum Asked {
     Audit { faults: u16, workers: u32 },
     /// The same audit by one worker, and what shows why its verdict is so.
     Show { view: View, faults: u16 },
+    /// The trace that recordings make.
+    Merge,
     /// The trace of a script's run.
     Run,
 }
@@ -206,6 +209,7 @@ pub fn parsed<'a, S: AsStr>(alloc: Global, words: &'a [S]) -> Result<Option<Aske
         }
         Some(("explain", given)) => Ok(shown(given, View::Reason)),
         Some(("draw", given)) => Ok(shown(given, View::Picture)),
+        Some(("merge", _)) => Ok(Some(Asked::Merge)),
         Some(("run", _)) => Ok(Some(Asked::Run)),
         _ => Ok(None),
     }
@@ -263,5 +267,6 @@ fn command<'a>(alloc: Global) -> Result<Command<'a>, AllocError> {
         .subcommand(audit)?
         .subcommand(explain)?
         .subcommand(draw)?
+        .subcommand(merge(alloc))?
         .subcommand(run)
 }
