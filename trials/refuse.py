@@ -29,6 +29,8 @@ CRASHED = RING.replace('["end",6]', '["crash",1]\n["crash",2]\n["end",8]')
 REPLAY = "start ring 3 1 2\ndeliver 1 0 0\ndeliver 2 1 0\ndeliver 0 2 0\ncrash 1\nrestart 1\ndeliver 1 0 0\n"
 FLUSHES = "start tally 3 1\ndeliver 0 2 0\ndeliver 2 0 0\nflush 2\nflush 2\nflush 0\n"
 
+MESSAGE = '["recording",0,1,2,7]\n["send",0,2,1,0]\n["send"\n["recording",1,1,2,7]\n["deliver",1,3,0,0,0,0,[[0,0,1,0]]]\n'
+
 TEXTS = [
     ("an accepted trace", RING, 0),
     ("an orphan, and a process that lost the determinant", RESTARTED, 1),
@@ -42,6 +44,8 @@ RUNS = [
     ("audit of a text with a fault", ["audit", "--faults", "1"], RING.replace('"end",6', '"end",7'), 2),
     *((f"explain, {name}", ["explain", "--faults", "1"], text, status) for name, text, status in TEXTS),
     *((f"draw, {name}", ["draw", "--faults", "1"], text, status) for name, text, status in TEXTS),
+    ("merge, with a torn line", ["merge"], MESSAGE, 0),
+    ("merge of recordings with a fault", ["merge"], MESSAGE.replace('"send",0,2', '"send",0,4'), 2),
     ("run, a replay", ["run"], REPLAY, 0),
     ("run, flushes", ["run"], FLUSHES, 0),
     ("run, a refused command", ["run"], REPLAY + "crash 9\n", 2),
@@ -107,14 +111,15 @@ class Tries:
 
 def is_refusal(got, plain, kind, trouble, is_made_again):
     """The trouble's status with its line on standard error. What was written before a write was refused may stand on standard
-    output. Where memory was refused that the program can do without, or the call is made again, the answer may be that of an
-    undisturbed run."""
+    output, and what is said of recordings before that line. Where memory was refused that the program can do without, or the call is
+    made again, the answer may be that of an undisturbed run."""
     status, out, err = got
     if got == plain:
         return kind == "memory" or is_made_again
     expected, lines = trouble
     written = plain[1].startswith(out) if kind == "write" else out == ""
-    return status == expected and err in lines and written
+    before = ("", plain[2]) if kind == "write" else ("",)
+    return status == expected and err in [said + line for said in before for line in lines] and written
 
 
 def passes():
