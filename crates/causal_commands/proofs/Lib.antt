@@ -1,3 +1,4 @@
 mod Known
 mod PrintLemmas
 mod ReadLemmas
+mod Refusals

@@ -1,7 +1,11 @@
 pub mod Inside
 pub mod Endings
+pub mod Hints
 pub mod Shown
 pub mod Judgements
+pub mod Ranges
 pub mod Reasons
+pub mod Remarks
+pub mod Complaints
 pub mod Runs
 pub mod Streams

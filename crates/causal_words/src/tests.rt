@@ -9,6 +9,7 @@ fn statuses(rt: HostRuntime) {
     for (ended, status, text) in [
         (Ended::Accepted, 0, None),
         (Ended::Breached, 1, None),
+        (Ended::Ranged, 0, None),
         (Ended::Faulted, 2, None),
         (Ended::Ran, 0, None),
         (Ended::Refused, 2, None),
@@ -64,6 +65,13 @@ fn words_that_ask_to_show(rt: HostRuntime) -> Result<(), Fail> {
     Ok(())
 }
 
+#[test]
+fn words_that_ask_for_a_range(rt: HostRuntime) -> Result<(), Fail> {
+    let words = ["causal_tool", "explain"];
+    assert_eq!(rt; parsed(rt.alloc(), words.as_slice())?, Some(Asked::Range));
+    Ok(())
+}
+
 // words after the program's name, and how they are refused
 const REFUSED: [(&[&str], ErrorKind, Refused); 20] = [
     (&[], ErrorKind::MissingSubcommand, Refused::Status(3)),
@@ -73,7 +81,7 @@ const REFUSED: [(&[&str], ErrorKind, Refused); 20] = [
         Refused::Status(3),
     ),
     (
-        &["explain"],
+        &["draw"],
         ErrorKind::MissingRequiredArgument,
         Refused::Status(3),
     ),
