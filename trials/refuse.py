@@ -43,6 +43,9 @@ RUNS = [
     ("audit, two workers", ["audit", "--faults", "1", "--workers", "2"], RING, 0),
     ("audit of a text with a fault", ["audit", "--faults", "1"], RING.replace('"end",6', '"end",7'), 2),
     *((f"explain, {name}", ["explain", "--faults", "1"], text, status) for name, text, status in TEXTS),
+    ("explain for all numbers of faults", ["explain"], CRASHED, 0),
+    ("explain for all numbers of faults, a text with a fault", ["explain"], RING + "[]", 2),
+    ("audit of a text with a faulty entry", ["audit", "--faults", "1"], RING.replace('["end",6]', '["crash",9]\n["end",7]'), 2),
     *((f"draw, {name}", ["draw", "--faults", "1"], text, status) for name, text, status in TEXTS),
     ("merge, with a torn line", ["merge"], MESSAGE, 0),
     ("merge of recordings with a fault", ["merge"], MESSAGE.replace('"send",0,2', '"send",0,4'), 2),
@@ -105,21 +108,30 @@ class Tries:
                 continue
             self.tried += 1
             self.survived += got == plain
-            if not is_refusal(got, plain, kind, trouble[kind], is_made_again):
+            reason = reason_of(words, refuse.get("error"))
+            if not is_refusal(got, plain, kind, trouble[kind], reason, is_made_again):
                 self.wrong.append((name, kind, at, every, refuse, got))
 
 
-def is_refusal(got, plain, kind, trouble, is_made_again):
-    """The trouble's status with its line on standard error. What was written before a write was refused may stand on standard
-    output, and what is said of recordings before that line. Where memory was refused that the program can do without, or the call is
-    made again, the answer may be that of an undisturbed run."""
+def reason_of(words, error):
+    """What the program says below the line of a stream that failed with this error; it takes none for the help."""
+    return f"causal_tool {words[0]}: {os.strerror(error)} (os error {error})\n" if error and words != ["--help"] else ""
+
+
+def is_refusal(got, plain, kind, trouble, reason, is_made_again):
+    """The trouble's status with its line on standard error, and the system's reason below it. What was written before a write was
+    refused may stand on standard output, and what is said of a fault before the line. Where memory was refused that the program can
+    do without, or the call is made again, the answer may be that of an undisturbed run, and less may be said of a fault on standard
+    error."""
     status, out, err = got
     if got == plain:
         return kind == "memory" or is_made_again
+    if kind == "memory" and (status, out) == plain[:2] == (2, plain[1]):
+        return True
     expected, lines = trouble
     written = plain[1].startswith(out) if kind == "write" else out == ""
-    before = ("", plain[2]) if kind == "write" else ("",)
-    return status == expected and err in [said + line for said in before for line in lines] and written
+    before = plain[2] if kind == "write" else ""
+    return status == expected and err in [before + line + reason for line in lines] and written
 
 
 def passes():

@@ -2,3 +2,4 @@ mod Known
 mod MergeLemmas
 mod PrintLemmas
 mod ReadLemmas
+mod Refusals

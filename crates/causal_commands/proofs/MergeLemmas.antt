@@ -4,7 +4,7 @@ use Rattle.std.specs.Prelude.{IfSome}
 use Rattle.std.specs.Io.KnownBytes.{Appends, Keeps}
 use Rattle.causal_merge.specs.declared.fault.MergeFault.{MergeFault}
 use Rattle.causal_commands.specs.declared.ended.Ended.{Ended}
-use Rattle.causal_commands.specs.declared.ended.Ended.TheVariants.{Accepted, Breached, Merged, Faulted, Ran, Refused, ReadFault, WriteFault, NoMemory, NoWorker, FinishFault}
+use Rattle.causal_commands.specs.declared.ended.Ended.TheVariants.{Accepted, Breached, Ranged, Merged, Faulted, Ran, Refused, ReadFault, WriteFault, NoMemory, NoWorker, FinishFault}
 use Rattle.causal_commands.specs.declared.merging.Merging.{Merging}
 use Rattle.causal_commands.specs.Merges.{IsAnswerSo, WritesSo, WritesMergeFor, read_of}
 use Rattle.causal_commands.specs.Inside.Merged.{IsMergeFor, IsSilentMerge}
@@ -13,6 +13,7 @@ use Rattle.causal_commands.proofs.Known.{IfSome-weaker}
 answered : (text torn : List ℕ) (told : Option MergeFault) (old new : Option (List ℕ)) (e : Ended) (out : List ℕ) → IsAnswerSo e text torn told out → Appends old new out → WritesSo e text torn told old new
 answered text torn told old new Accepted out p a = absurd p
 answered text torn told old new Breached out p a = absurd p
+answered text torn told old new Ranged out p a = absurd p
 answered text torn told old new Merged out p a = (out, p, a)
 answered text torn told old new Faulted out p a = (out, p, a)
 answered text torn told old new Ran out p a = absurd p
@@ -37,6 +38,7 @@ merged_first known old new m out bytes n same p some a =
 silent : (e : Ended) (text torn : List ℕ) (told : Option MergeFault) (old new : Option (List ℕ)) → IsSilentMerge e → Keeps old new → torn ≡ [] → told ≡ None → WritesSo e text torn told old new
 silent Accepted text torn told old new s k t f = absurd s
 silent Breached text torn told old new s k t f = absurd s
+silent Ranged text torn told old new s k t f = absurd s
 silent Merged text torn told old new s k t f = absurd s
 silent Faulted text torn told old new s k t f = absurd s
 silent Ran text torn told old new s k t f = absurd s

@@ -8,6 +8,8 @@ pub enum Ended {
     Accepted,
     /// The line of a trace that is not accepted was written.
     Breached,
+    /// The numbers of faults for which a trace is safe were written.
+    Ranged,
     /// The trace of merged recordings was written.
     Merged,
     /// The line of a text's, a script's or recordings' first fault was written.
@@ -37,7 +39,7 @@ impl Ended {
         ensures { result ≡ status_of self }
     {
         match self {
-            Ended::Accepted | Ended::Merged | Ended::Ran => 0,
+            Ended::Accepted | Ended::Ranged | Ended::Merged | Ended::Ran => 0,
             Ended::Breached => 1,
             Ended::Faulted | Ended::Refused => 2,
             Ended::ReadFault | Ended::WriteFault => 4,
@@ -52,6 +54,7 @@ impl Ended {
         match self {
             Ended::Accepted
             | Ended::Breached
+            | Ended::Ranged
             | Ended::Merged
             | Ended::Faulted
             | Ended::Ran

@@ -9,6 +9,7 @@ fn statuses(rt: HostRuntime) {
     for (ended, status, text) in [
         (Ended::Accepted, 0, None),
         (Ended::Breached, 1, None),
+        (Ended::Ranged, 0, None),
         (Ended::Merged, 0, None),
         (Ended::Faulted, 2, None),
         (Ended::Ran, 0, None),
@@ -72,6 +73,13 @@ fn words_that_ask_to_show(rt: HostRuntime) -> Result<(), Fail> {
     Ok(())
 }
 
+#[test]
+fn words_that_ask_for_a_range(rt: HostRuntime) -> Result<(), Fail> {
+    let words = ["causal_tool", "explain"];
+    assert_eq!(rt; parsed(rt.alloc(), words.as_slice())?, Some(Asked::Range));
+    Ok(())
+}
+
 // words after the program's name, and how they are refused
 const REFUSED: [(&[&str], ErrorKind, Refused); 22] = [
     (&[], ErrorKind::MissingSubcommand, Refused::Status(3)),
@@ -81,7 +89,7 @@ const REFUSED: [(&[&str], ErrorKind, Refused); 22] = [
         Refused::Status(3),
     ),
     (
-        &["explain"],
+        &["draw"],
         ErrorKind::MissingRequiredArgument,
         Refused::Status(3),
     ),
