@@ -151,7 +151,7 @@ def compare(given):
 # ---- hostile recordings
 
 
-FACTOR, ROOM = 24, 100_000_000  # it may take so many times its bytes of memory, and what a short line and the program take
+FACTOR, ROOM = 32, 100_000_000  # it may take so many times its bytes of memory, and what a short line and the program take
 SLACK = 2.0  # seconds by which the longer may take more than its share of the time of the shorter
 
 # what begins it, what is repeated, with a number that ascends where it says so, what ends it, and the first line of the answer
