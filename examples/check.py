@@ -10,6 +10,7 @@ checks what follows from the layout of pictures, and of record.py that it shows 
 import argparse
 import json
 import os
+import pty
 import re
 import subprocess
 import sys
@@ -171,6 +172,174 @@ def wrong_runs(program):
     return wrong
 
 
+# What is said on standard error of texts that are no traces, for F = 1, each line after the name of the program and the command.
+HEADER_2, HEADER_3 = '["trace",1,2]', '["trace",1,3]'
+SENT, DELIVERED = '["send",0,1,0]', '["deliver",1,0,0,[[0,0,1,0]]]'
+COMPLAINTS = [
+    ([HEADER_2, '["send",0,1,1]'], ["line 2: process 0 sends with the number 1, and its next is 0", "the entries before line 2: accept f=1 entries=0 deliveries=0"]),
+    (
+        [HEADER_2, SENT, '["deliver",1,1,0,[]]'],
+        ["line 3: there is no earlier send to process 1 at position 1, which is line 3", "the entries before line 3: accept f=1 entries=1 deliveries=0"],
+    ),
+    ([HEADER_2, SENT, '["deliver",1,0,1,[]]'], ["line 3: process 1 delivers with the number 1, and its next is 0", "the entries before line 3: accept f=1 entries=1 deliveries=0"]),
+    (
+        [HEADER_2, SENT, DELIVERED, '["deliver",1,0,1,[[0,0,1,1]]]'],
+        ["line 4: process 1 has delivered message 0 of process 0 already, at line 3", "the entries before line 4: accept f=1 entries=2 deliveries=1"],
+    ),
+    (
+        [HEADER_2, SENT, DELIVERED, '["crash",1]', '["restart",1,[[0,0,1,0],[0,0,1,1]]]'],
+        ["line 5: there is no delivery of the determinant [0,0,1,1]", "the entries before line 5: accept f=1 entries=3 deliveries=1"],
+    ),
+    (
+        [HEADER_3, SENT, DELIVERED, '["send",1,2,0]', '["deliver",2,2,0,[[1,0,2,0]]]', '["deliver",2,2,1,[]]'],
+        ["line 6: process 2 has delivered message 0 of process 1 already, at line 5", "the entries before line 6: orphan f=1 instant=4 delivery=1 crash=1 orphan=2"],
+    ),
+    ([HEADER_2, SENT, '["end",2]'], ["line 3: the end line counts 2 entries, and there are 1"]),
+    ([HEADER_2, SENT], ["line 3: the text ends without an end line"]),
+    ([HEADER_2, "send 0 1 0"], ["line 2: the line is not a JSON value"]),
+]
+
+
+# What `draw` says of skipped.jsonl for F = 1, and `run` of a script that starts with too many processes.
+UNDRAWN = (
+    "causal_tool draw: line 2: process 0 sends with the number 1, and its next is 0\n"
+    "causal_tool draw: the entries before line 2: accept f=1 entries=0 deliveries=0\n"
+)
+REFUSED_START = (
+    "causal_tool run: line 1: this is no line of a script here\n"
+    "causal_tool run: expected there: start ring N F H, start echo N F H or start tally N F, with N 1 to 256, F 0 to 65535 and H 0 to 255\n"
+)
+
+
+def wrong_complaints(program):
+    """Tells each of these texts of which the program says something else, as a text that ends with a line feed and as one whose last
+    line is unfinished, and gives how many there are and how many are wrong."""
+    wrong = 0
+    for lines, said in COMPLAINTS:
+        for end in ("", "\n") if "text ends" not in said[0] else ("\n",):
+            text, wanted = ("\n".join(lines) + end).encode(), "".join(f"causal_tool audit: {line}\n" for line in said)
+            ended = subprocess.run([program, "audit", "--faults", "1"], input=text, capture_output=True)
+            if (ended.stderr.decode(), ended.returncode) != (wanted, 2):
+                wrong += 1
+                print(f"of {text!r} the program says {ended.stderr.decode()!r}, wanted {wanted!r}")
+    return len(COMPLAINTS), wrong
+
+
+def wrong_streams(program):
+    """Tells what the program does with streams and is no habit of a good one, and gives how many there are and how many are wrong: a
+    text with a fault leaves no picture; a reader of the answer that has gone makes no noise; the system's reason stands below the line
+    of a stream that failed; a script that is refused is told with the name of the command; at a terminal it says what it reads."""
+    fault, trace = bytes_of("skipped.jsonl"), bytes_of("orphan.jsonl")
+
+    def ended(words, **streams):
+        done = subprocess.run([program, *words], stderr=subprocess.PIPE, **{"stdout": subprocess.PIPE, **streams})
+        return done.stdout, done.stderr.decode(), done.returncode
+
+    reading, closed = os.pipe()
+    os.close(reading)
+    full, folder = os.open("/dev/full", os.O_WRONLY), os.open(HERE, os.O_RDONLY)
+    typing, terminal = pty.openpty()
+    os.write(typing, trace + b"\x04")
+    tries = [
+        (("draw", "--faults", "1"), {"input": fault}, (b"", UNDRAWN, 2)),
+        (("audit", "--faults", "1"), {"input": trace, "stdout": closed}, (None, "", 4)),
+        (
+            ("audit", "--faults", "1"),
+            {"input": trace, "stdout": full},
+            (None, "write fault\ncausal_tool audit: No space left on device (os error 28)\n", 4),
+        ),
+        (("explain",), {"stdin": folder}, (b"", "read fault\ncausal_tool explain: Is a directory (os error 21)\n", 4)),
+        (("run",), {"input": b"start ring 300 1 2\n"}, (b"fault line=1 Script\n", REFUSED_START, 2)),
+        (
+            ("audit", "--faults", "0"),
+            {"stdin": terminal},
+            (b"accept f=0 entries=4 deliveries=2\n", "causal_tool audit: reading a trace from the terminal; end it with control-D\n", 0),
+        ),
+    ]
+    wrong = 0
+    for words, streams, wanted in tries:
+        got = ended(words, **streams)
+        if got != wanted:
+            wrong += 1
+            print(f"{' '.join(words)}: wanted {wanted!r}, the program gives {got!r}")
+    for stream in (closed, full, folder, typing, terminal):
+        os.close(stream)
+    return len(tries), wrong
+
+
+# Where the page for `man` and the completions for bash stand.
+SHELL = os.path.join(TOP, "docs", "shell")
+
+
+def helped(program, *words):
+    """The options that a command's help names, and the commands."""
+    text = subprocess.run([program, *words, "--help"], capture_output=True).stdout.decode()
+    commands = re.search(r"Commands:\n((?:  .*\n)+)", text)
+    return set(re.findall(r"--[a-z]+", text.split("Options:\n")[1].split("\n\n")[0])), re.findall(r"^  (\w+)", commands[1], re.M) if commands else []
+
+
+def completed(*words):
+    """The words that the completions for bash offer behind these."""
+    script = 'source "$0"; COMP_WORDS=("$@"); COMP_CWORD=$(($# - 1)); _causal_tool; printf "%s\\n" "${COMPREPLY[@]}"'
+    file = os.path.join(SHELL, "causal_tool.bash")
+    return set(subprocess.run(["bash", "-c", script, file, "causal_tool", *words, ""], capture_output=True).stdout.decode().split())
+
+
+def wrong_pages(program):
+    """Tells each word of the program's help that the page for `man` or the completions for bash lack, and each that they have beyond
+    it, and gives how many commands there are and how many words are wrong."""
+    with open(os.path.join(SHELL, "causal_tool.1")) as file:
+        page = file.read().replace("\\-", "-")
+    options, commands = helped(program)
+    known, wrong = set(options), 0
+    offered = {(): set(commands) | options}
+    for command in set(commands) - {"help"}:
+        offered[(command,)] = helped(program, command)[0]
+        known |= offered[(command,)]
+    for words, wanted in offered.items():
+        if completed(*words) != wanted:
+            wrong += 1
+            print(f"causal_tool.bash offers {sorted(completed(*words))} after {words}, the help has {sorted(wanted)}")
+    named = set(re.findall(r"--[a-z]+", page))
+    for word in sorted((named ^ known) | {command for command in set(commands) - {"help"} if f"\n.B {command}\n" not in page}):
+        wrong += 1
+        print(f"causal_tool.1 and the help differ in {word}")
+    return len(commands), wrong
+
+
+# For which numbers of faults traces are safe.
+RANGES = {
+    "ring.jsonl": ["accept from=0 to=1", "orphan from=2"],
+    "orphan.jsonl": ["accept from=0 to=0", "orphan from=1"],
+    "unlogged.jsonl": ["orphan from=0"],
+    "crash.jsonl": ["exceeded to=0", "orphan from=1"],
+    "replay.jsonl": ["exceeded to=0", "accept from=1 to=1", "orphan from=2"],
+    "recorded.jsonl": ["exceeded to=0", "accept from=1"],
+}
+
+
+def wrong_ranges(program):
+    """Tells each of these traces for which the plain model, asked for each number, or the program tells other numbers."""
+    wrong = 0
+    for trace, wanted in RANGES.items():
+        text = bytes_of(trace)
+        kinds = [traces.audited(text, f)[0].split()[0] for f in range(traces.read(text).n + 1)]
+        first, end = kinds.index("orphan") if "orphan" in kinds else None, kinds.count("exceeded")
+        answers = {"model": [
+            *([f"exceeded to={end - 1}"] if end else []),
+            *([f"accept from={end}" + (f" to={first - 1}" if first is not None else "")] if "accept" in kinds else []),
+            *([f"orphan from={first}"] if first is not None else []),
+        ]}
+        if program:
+            ended = subprocess.run([program, "explain"], input=text, capture_output=True)
+            answers["program"] = [line.split(": ")[0] for line in ended.stdout.decode().splitlines()]
+        for who, said in answers.items():
+            if said != wanted:
+                wrong += 1
+                print(f"{trace} for all numbers of faults: {wanted!r}, the {who} says {said!r}")
+    return len(RANGES), wrong
+
+
 # Each word that a line of a trace begins with.
 KINDS = {"trace", "send", "deliver", "stable", "crash", "restart", "forget", "end"}
 
@@ -227,7 +396,10 @@ def main():
     if unmet:
         wrong += len(unmet)
         print(f"no row for {', '.join(sorted(unmet))}")
-    for answers, mistaken in (wrong_in_the_format(), wrong_reasons()):
+    asked = [wrong_in_the_format(), wrong_reasons(), wrong_ranges(program)]
+    if program:
+        asked += [wrong_complaints(program), wrong_streams(program), wrong_pages(program)]
+    for answers, mistaken in asked:
         count, wrong = count + answers, wrong + mistaken
     wrong += wrong_in_the_picture() + (not is_shown_by_record())
     for shown, (word, trace, f) in SHOWN.items() if program else ():

@@ -7,6 +7,8 @@ import json
 import re
 import sys
 
+from traces import json_of
+
 MAX_TEXT, MAX_ENTRIES, MAX_LISTED, MAX_RESTARTS = 67_108_864, 65_536, 1_048_576, 192
 U8, U32, U64 = 2**8, 2**32, 2**64
 BEHIND = "what this line names stands behind it, by the clocks: a clock was not carried along"
@@ -84,21 +86,13 @@ def is_torn(line):
     return TORN.fullmatch(line) is not None and line.count(b"[") > line.count(b"]")
 
 
-def no_constant(word):
-    raise ValueError(word)
-
-
-def integer(word):
-    """`-0` is no unsigned integer."""
-    return -0.0 if word == "-0" else int(word)
-
-
-def finite(word):
-    """A number beyond the greatest float is no JSON value for the program."""
-    value = float(word)
-    if value in (float("inf"), float("-inf")):
-        raise ValueError(word)
-    return value
+def is_whole(line):
+    """Whether a line is a JSON value."""
+    try:
+        json_of(line)
+    except (ValueError, RecursionError):
+        return False
+    return True
 
 
 def read(text):
@@ -111,7 +105,7 @@ def read(text):
         if not line.strip(b" \t\r"):
             continue
         try:
-            value = json.loads(line.decode("utf-8"), parse_constant=no_constant, parse_int=integer, parse_float=finite)
+            value = json_of(line)
         except (ValueError, RecursionError):
             if is_torn(line):
                 torn.append(count)

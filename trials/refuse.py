@@ -29,6 +29,8 @@ CRASHED = RING.replace('["end",6]', '["crash",1]\n["crash",2]\n["end",8]')
 REPLAY = "start ring 3 1 2\ndeliver 1 0 0\ndeliver 2 1 0\ndeliver 0 2 0\ncrash 1\nrestart 1\ndeliver 1 0 0\n"
 FLUSHES = "start tally 3 1\ndeliver 0 2 0\ndeliver 2 0 0\nflush 2\nflush 2\nflush 0\n"
 
+MESSAGE = '["recording",0,1,2,7]\n["send",0,2,1,0]\n["send"\n["recording",1,1,2,7]\n["deliver",1,3,0,0,0,0,[[0,0,1,0]]]\n'
+
 TEXTS = [
     ("an accepted trace", RING, 0),
     ("an orphan, and a process that lost the determinant", RESTARTED, 1),
@@ -41,7 +43,12 @@ RUNS = [
     ("audit, two workers", ["audit", "--faults", "1", "--workers", "2"], RING, 0),
     ("audit of a text with a fault", ["audit", "--faults", "1"], RING.replace('"end",6', '"end",7'), 2),
     *((f"explain, {name}", ["explain", "--faults", "1"], text, status) for name, text, status in TEXTS),
+    ("explain for all numbers of faults", ["explain"], CRASHED, 0),
+    ("explain for all numbers of faults, a text with a fault", ["explain"], RING + "[]", 2),
+    ("audit of a text with a faulty entry", ["audit", "--faults", "1"], RING.replace('["end",6]', '["crash",9]\n["end",7]'), 2),
     *((f"draw, {name}", ["draw", "--faults", "1"], text, status) for name, text, status in TEXTS),
+    ("merge, with a torn line", ["merge"], MESSAGE, 0),
+    ("merge of recordings with a fault", ["merge"], MESSAGE.replace('"send",0,2', '"send",0,4'), 2),
     ("run, a replay", ["run"], REPLAY, 0),
     ("run, flushes", ["run"], FLUSHES, 0),
     ("run, a refused command", ["run"], REPLAY + "crash 9\n", 2),
@@ -110,20 +117,30 @@ class Tries:
                 continue
             self.tried += 1
             self.survived += got == plain
-            if not is_refusal(got, plain, kind, trouble[kind], is_made_again):
+            reason = reason_of(words, refuse.get("error"))
+            if not is_refusal(got, plain, kind, trouble[kind], reason, is_made_again):
                 self.wrong.append((name, kind, at, every, refuse, got))
 
 
-def is_refusal(got, plain, kind, trouble, is_made_again):
-    """The trouble's status with its line on standard error. What was written before a write was refused may stand on standard
-    output. Where memory was refused that the program can do without, or the call is made again, the answer may be that of an
-    undisturbed run."""
+def reason_of(words, error):
+    """What the program says below the line of a stream that failed with this error; it takes none for the help."""
+    return f"causal_tool {words[0]}: {os.strerror(error)} (os error {error})\n" if error and words != ["--help"] else ""
+
+
+def is_refusal(got, plain, kind, trouble, reason, is_made_again):
+    """The trouble's status with its line on standard error, and the system's reason below it. What was written before a write was
+    refused may stand on standard output, and what is said of a fault before the line. Where memory was refused that the program can
+    do without, or the call is made again, the answer may be that of an undisturbed run, and less may be said of a fault on standard
+    error."""
     status, out, err = got
     if got == plain:
         return kind == "memory" or is_made_again
+    if kind == "memory" and (status, out) == plain[:2] == (2, plain[1]):
+        return True
     expected, lines = trouble
     written = plain[1].startswith(out) if kind == "write" else out == ""
-    return status == expected and err in lines and written
+    before = plain[2] if kind == "write" else ""
+    return status == expected and err in [before + line + reason for line in lines] and written
 
 
 def passes():

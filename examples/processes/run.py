@@ -139,13 +139,11 @@ class Fault(Exception):
 
 
 class Program:
-    """The commands of causal_tool. Where it has no `merge` yet, the plain model merges."""
+    """The commands of causal_tool."""
 
     def __init__(self, path):
         self.path = os.path.abspath(path)
         subprocess.run([self.path, "--version"], stdout=subprocess.DEVNULL, check=True)  # it may have to be built first, and tells so
-        has_merge = subprocess.run([self.path, "merge", "--help"], stdin=subprocess.DEVNULL, capture_output=True).returncode == 0
-        self.merger = [self.path, "merge"] if has_merge else [sys.executable, os.path.join(TOP, "trials", "merge_model.py")]
 
     def merge(self, folder):
         """The trace of the recordings in the folder, and which lines were cut; or the first fault with its sentence."""
@@ -153,7 +151,7 @@ class Program:
         for p in range(SETTING["n"]):
             with open(recording(folder, p), "rb") as file:
                 texts.append(file.read())
-        ended = subprocess.run(self.merger, input=b"".join(texts), capture_output=True)
+        ended = subprocess.run([self.path, "merge"], input=b"".join(texts), capture_output=True)
         if ended.returncode:
             raise Fault(ended.stdout.decode() + ended.stderr.decode())
         return ended.stdout, ended.stderr.decode()

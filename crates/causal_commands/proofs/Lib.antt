@@ -1,3 +1,5 @@
 mod Known
+mod MergeLemmas
 mod PrintLemmas
 mod ReadLemmas
+mod Refusals

@@ -3,13 +3,15 @@ use Rattle.std.proofs.Common.{◌≡◌, ◌<◌, List, ℕ, Option, length, tak
 use Rattle.std.specs.Prelude.{IfSome}
 use Rattle.std.specs.Io.KnownBytes.{Appends}
 use Rattle.causal_commands.specs.declared.ended.Ended.{Ended}
-use Rattle.causal_commands.specs.declared.ended.Ended.TheVariants.{Accepted, Breached, Faulted, Ran, Refused, ReadFault, WriteFault, NoMemory, NoWorker, FinishFault}
+use Rattle.causal_commands.specs.declared.ended.Ended.TheVariants.{Accepted, Breached, Ranged, Merged, Faulted, Ran, Refused, ReadFault, WriteFault, NoMemory, NoWorker, FinishFault}
 use Rattle.causal_commands.specs.Runs.{IsPrinted, Prints, read_of}
 use Rattle.causal_commands.proofs.Known.{IfSome-weaker}
 
 answered : (text : List ℕ) (old new : Option (List ℕ)) (e : Ended) (out : List ℕ) → IsPrinted text e out → Appends old new out → Prints text e old new
 answered text old new Accepted out p a = absurd p
 answered text old new Breached out p a = absurd p
+answered text old new Ranged out p a = absurd p
+answered text old new Merged out p a = absurd p
 answered text old new Faulted out p a = (out, p, a)
 answered text old new Ran out p a = (out, p, a)
 answered text old new Refused out p a = (out, p, a)

@@ -1,7 +1,13 @@
 pub mod Inside
 pub mod Endings
+pub mod Hints
 pub mod Shown
 pub mod Judgements
+pub mod Merges
+pub mod Reading
+pub mod Ranges
 pub mod Reasons
+pub mod Remarks
+pub mod Complaints
 pub mod Runs
 pub mod Streams

@@ -1,6 +1,6 @@
 -- What the program prints for the text of a script.
-use Rattle.std.specs.Prelude.{◌≡◌, ℕ, ◌+◌, ◌<◌, ◌≤◌, List, length, take, Option, IfSome}
-use Rattle.std.specs.Io.KnownBytes.{Appends, Consumes, Keeps}
+use Rattle.std.specs.Prelude.{◌≡◌, ℕ, ◌+◌, ◌<◌, List, length, take, Option, IfSome}
+use Rattle.std.specs.Io.KnownBytes.{Appends, Keeps}
 use Rattle.causal_trace.specs.Rows.{Recording}
 use Rattle.causal_trace.specs.Judgement.{IsSafeTrace}
 use Rattle.causal_text.specs.Canonical.{canonical}
@@ -12,6 +12,7 @@ use Rattle.causal_script.specs.Faults.{IsFirstFault}
 use Rattle.causal_script.specs.Printing.{script_line, refused_line}
 use Rattle.causal_run.specs.Runs.{IsRunFrom, IsRefusedFrom}
 use Rattle.causal_run.specs.Members.{IsStartOf}
+use Rattle.causal_commands.specs.Reading.{ReadsAtMost}
 use Rattle.causal_commands.specs.declared.ended.Ended.{Ended}
 use Rattle.causal_commands.specs.declared.ended.Ended.TheVariants.{Faulted, Ran, Refused, ReadFault, WriteFault, NoMemory, FinishFault}
 
@@ -46,4 +47,4 @@ PrintsFor given ended old new = IfSome given (λ text. Prints (read_of text) end
 
 -- the reader goes on by no more bytes than are read of a text
 abbrev pub ReadsNoMore : Option (List ℕ) → Option (List ℕ) → Type 0
-ReadsNoMore old new = (given : List ℕ) × Consumes old new given × (length given ≤ max_script + 1)
+ReadsNoMore old new = ReadsAtMost (max_script + 1) old new

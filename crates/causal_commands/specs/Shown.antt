@@ -1,15 +1,17 @@
 -- What a run of the program writes that shows why a verdict is so.
-use Rattle.std.specs.Prelude.{◌≡◌, ◌≢◌, ℕ, ◌<◌, List, ◌++◌, length, take, Option, IfSome}
+use Rattle.std.specs.Prelude.{◌≡◌, ◌≢◌, ℕ, ◌<◌, List, [], ◌++◌, length, take, Option, IfSome}
 use Rattle.std.specs.Io.KnownBytes.{Appends, Keeps}
 use Rattle.causal_trace.specs.Rows.{Recording}
+use Rattle.causal_text.specs.declared.kind.TextFault.{TextFault}
+use Rattle.causal_text.specs.Spelling.{IsFirstFault}
 use Rattle.causal_audit.specs.declared.verdict.Verdict.TheVariants.{Accept}
 use Rattle.causal_report.specs.Drawings.{IsDrawing}
 use Rattle.causal_report.specs.Reasons.{IsReason}
 use Rattle.causal_commands.specs.declared.ended.Ended.{Ended}
-use Rattle.causal_commands.specs.declared.ended.Ended.TheVariants.{Accepted, Breached, ReadFault, WriteFault, NoMemory, NoWorker}
+use Rattle.causal_commands.specs.declared.ended.Ended.TheVariants.{Accepted, Breached, Faulted, ReadFault, WriteFault, NoMemory, NoWorker}
 use Rattle.causal_commands.specs.declared.shown.View.{View}
 use Rattle.causal_commands.specs.declared.shown.View.TheVariants.{Reason, Picture}
-use Rattle.causal_commands.specs.Streams.{IsAnswer}
+use Rattle.causal_commands.specs.Streams.{IsFaultLine}
 use Rattle.causal_workers.specs.declared.judged.Judged.{Judged}
 use Rattle.causal_workers.specs.Judgements.{IsJudgement}
 use Rattle.causal_workers.specs.Lines.{verdict_line}
@@ -24,12 +26,17 @@ pub record IsShown (view : View) (text : List ℕ) (f : ℕ) (judged : Judged) (
   pub judgement : IsJudgement text f judged
   pub shows : IsShowing view judgement.recording f judged out
 
--- the reply to a text for f where the program ends so: what is shown of the trace that it spells, or the line of its first
--- fault
+-- what is shown of the first fault of a text: its line, and no picture
+abbrev pub IsFaultShown : View → List ℕ → List ℕ → Type 0
+IsFaultShown Reason text out = IsFaultLine text out
+IsFaultShown Picture text out = (fault : TextFault) × IsFirstFault text fault × (out ≡ [])
+
+-- the reply to a text for f where the program ends so: what is shown of the trace that it spells, or of its first fault
 abbrev pub IsReply : View → List ℕ → ℕ → Ended → List ℕ → Type 0
 IsReply view text f Accepted out = (judged : Judged) × IsShown view text f judged out × (judged.verdict ≡ Accept)
 IsReply view text f Breached out = (judged : Judged) × IsShown view text f judged out × (judged.verdict ≢ Accept)
-IsReply view text f ended out = IsAnswer text f ended out
+IsReply view text f Faulted out = IsFaultShown view text out
+IsReply view text f _ out = ⊥
 
 -- what is written to a text for f where the program ends so, from what the writer held before to what it holds afterwards:
 -- the reply alone; after a write fault only its first bytes; else nothing

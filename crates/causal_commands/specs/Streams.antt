@@ -11,12 +11,16 @@ use Rattle.causal_workers.specs.declared.judged.Judged.{Judged}
 use Rattle.causal_workers.specs.Judgements.{IsJudgement}
 use Rattle.causal_workers.specs.Lines.{verdict_line}
 
+-- the line tells the first fault of a text
+abbrev pub IsFaultLine : List ℕ → List ℕ → Type 0
+IsFaultLine text line = (fault : TextFault) × IsFirstFault text fault × (line ≡ fault_line fault)
+
 -- the line that answers a text for f where the program ends so: that of the verdict on the trace that it spells, or that
 -- of its first fault
 abbrev pub IsAnswer : List ℕ → ℕ → Ended → List ℕ → Type 0
 IsAnswer text f Accepted line = (judged : Judged) × IsJudgement text f judged × (judged.verdict ≡ Accept) × (line ≡ verdict_line f judged)
 IsAnswer text f Breached line = (judged : Judged) × IsJudgement text f judged × (judged.verdict ≢ Accept) × (line ≡ verdict_line f judged)
-IsAnswer text f Faulted line = (fault : TextFault) × IsFirstFault text fault × (line ≡ fault_line fault)
+IsAnswer text f Faulted line = IsFaultLine text line
 IsAnswer text f _ line = ⊥
 
 -- what is written to a text for f where the program ends so, from what the writer held before to what it holds afterwards:
@@ -32,7 +36,3 @@ Writes text f ended old new = (line : List ℕ) × IsAnswer text f ended line ×
 -- the same of what a reader gives, where its bytes are known
 abbrev pub WritesFor : Option (List ℕ) → ℕ → Ended → Option (List ℕ) → Option (List ℕ) → Type 0
 WritesFor given f ended old new = IfSome given (λ text. Writes text f ended old new)
-
--- a fault that is told is the first of the text that a reader gives, where its bytes are known
-abbrev pub NamesFirstFault : Option (List ℕ) → Option TextFault → Type 0
-NamesFirstFault given told = IfSome given (λ text. IfSome told (λ fault. IsFirstFault text fault))

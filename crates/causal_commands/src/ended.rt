@@ -8,7 +8,11 @@ pub enum Ended {
     Accepted,
     /// The line of a trace that is not accepted was written.
     Breached,
-    /// The line of a text's or script's first fault was written.
+    /// The numbers of faults for which a trace is safe were written.
+    Ranged,
+    /// The trace of merged recordings was written.
+    Merged,
+    /// The line of a text's, a script's or recordings' first fault was written.
     Faulted,
     /// The trace of a script's run was written.
     Ran,
@@ -35,7 +39,7 @@ impl Ended {
         ensures { result ≡ status_of self }
     {
         match self {
-            Ended::Accepted | Ended::Ran => 0,
+            Ended::Accepted | Ended::Ranged | Ended::Merged | Ended::Ran => 0,
             Ended::Breached => 1,
             Ended::Faulted | Ended::Refused => 2,
             Ended::ReadFault | Ended::WriteFault => 4,
@@ -48,8 +52,13 @@ impl Ended {
         ensures { option_map (λ text. text.now) result ≡ text_of self }
     {
         match self {
-            Ended::Accepted | Ended::Breached | Ended::Faulted | Ended::Ran | Ended::Refused =>
-                None,
+            Ended::Accepted
+            | Ended::Breached
+            | Ended::Ranged
+            | Ended::Merged
+            | Ended::Faulted
+            | Ended::Ran
+            | Ended::Refused => None,
             Ended::ReadFault => Some("read fault"),
             Ended::WriteFault => Some("write fault"),
             Ended::NoMemory => Some("no memory"),

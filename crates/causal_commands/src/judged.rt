@@ -1,10 +1,13 @@
 //! From the text of a trace to its verdict.
-ghost use Rattle.std.specs.Prelude.{◌≡◌, ◌≤◌, ℕ, List, IfOk, IfErr, IfSome, Err};
-ghost use Rattle.causal_text.specs.Streams.{TellsOf};
+ghost use Rattle.std.specs.Prelude.{◌≡◌, ◌≢◌, ◌≤◌, ℕ, List, IfOk, IfErr, IfSome, Err};
+ghost use Rattle.causal_text.specs.Before.{IsRejection, TellsUnread};
+ghost use Rattle.causal_text.specs.Spelling.{Spells};
 ghost use Rattle.causal_workers.specs.Judgements.{IsJudgement};
 ghost use Rattle.causal_commands.specs.Judgements.{TellsFirstFault};
+ghost use Rattle.causal_commands.specs.Inside.Refusals.{TellsStop};
 
-use causal_text::{ReaderFault, TextFault, TextKind, read_from};
+use causal_text::{Rejected, TextFault, TextKind, Unread, read_keeping};
+use causal_trace::trace::Trace;
 use causal_workers::{AuditFault, Gate, Judged, judge_trace};
 use std::alloc::Global;
 use std::io::Read;
@@ -29,6 +32,49 @@ pub enum StreamFault {
     NoWorker,
 }
 
+/// Why there is no trace, or no verdict on it.
+#[derive(Drop)]
+pub(crate) enum Stopped {
+    /// The reader failed.
+    Read,
+    /// The text spells no trace.
+    Text(Rejected),
+    NoMemory,
+    NoWorker,
+}
+
+/// The trace that the bytes of a reader spell.
+pub(crate) fn trace_from<I: Read>(alloc: Global, input: &mut I) -> Result<Trace, Stopped>
+    ensures ok { IfOk result (λ trace. IfSome (I.remaining input.old) (λ text. Spells text trace.recording)) }
+    ensures err { IfErr result (λ stopped. IfSome (I.remaining input.old) (λ text. TellsStop text stopped)) }
+    ensures alone { result ≢ Err Stopped.NoWorker }
+{
+    match read_keeping(alloc, input) {
+        Ok(trace) => Ok(trace),
+        Err(unread) => Err(unread_so(unread)),
+    }
+}
+
+fn unread_so(unread: Unread) -> Stopped
+    ensures told { (text : List ℕ) → TellsUnread text unread → TellsStop text result }
+    ensures alone { result ≢ Stopped.NoWorker }
+{
+    match unread {
+        Unread::Source => Stopped::Read,
+        Unread::Text(rejected) => rejected_so(rejected),
+    }
+}
+
+fn rejected_so(rejected: Rejected) -> Stopped
+    ensures told { (text : List ℕ) → IsRejection text rejected → TellsStop text result }
+    ensures alone { result ≢ Stopped.NoWorker }
+{
+    match rejected.fault.kind {
+        TextKind::NoMemory => Stopped::NoMemory,
+        _ => Stopped::Text(rejected),
+    }
+}
+
 /// The verdict for f on the trace that the bytes of a reader spell, by 1 to 64 workers. The reader is asked for pieces of
 /// 4,096 bytes, until it ends or what was read has a fault.
 ///
@@ -48,34 +94,45 @@ pub fn audit_from<I: Read, G: Gate + Sync, R: Threads + Wait>(
     ensures err { IfErr result (λ fault. IfSome (I.remaining input.old) (λ text. TellsFirstFault text fault)) }
     ensures alone { result ≡ Err StreamFault.NoWorker → 2 ≤ workers }
 {
-    let trace = match read_from(alloc, input) {
+    match judged_from(rt, alloc, input, f, workers, gate) {
+        Ok(judged) => Ok(judged),
+        Err(stopped) => Err(fault_of(stopped)),
+    }
+}
+
+fn fault_of(stopped: Stopped) -> StreamFault
+    ensures told { (text : List ℕ) → TellsStop text stopped → TellsFirstFault text result }
+    ensures alone { result ≡ StreamFault.NoWorker → stopped ≡ Stopped.NoWorker }
+{
+    match stopped {
+        Stopped::Read => StreamFault::Read,
+        Stopped::Text(rejected) => StreamFault::Text(rejected.fault),
+        Stopped::NoMemory => StreamFault::NoMemory,
+        Stopped::NoWorker => StreamFault::NoWorker,
+    }
+}
+
+/// The same, with what stands before a fault where there is no verdict.
+pub(crate) fn judged_from<I: Read, G: Gate + Sync, R: Threads + Wait>(
+    rt: &R,
+    alloc: Global,
+    input: &mut I,
+    f: u16,
+    workers: u32,
+    gate: &G,
+) -> Result<Judged, Stopped>
+    requires { (1 ≤ workers) × (workers ≤ 64) }
+    ensures ok { IfOk result (λ judged. IfSome (I.remaining input.old) (λ text. IsJudgement text f judged)) }
+    ensures err { IfErr result (λ stopped. IfSome (I.remaining input.old) (λ text. TellsStop text stopped)) }
+    ensures alone { result ≡ Err Stopped.NoWorker → 2 ≤ workers }
+{
+    let trace = match trace_from(alloc, input) {
         Ok(trace) => trace,
-        Err(fault) => return Err(fault_of(fault)),
+        Err(stopped) => return Err(stopped),
     };
     match judge_trace(rt, alloc, &trace, f, workers, gate) {
         Ok(judged) => Ok(judged),
-        Err(AuditFault::NoMemory) => Err(StreamFault::NoMemory),
-        Err(AuditFault::NoWorker) => Err(StreamFault::NoWorker),
-    }
-}
-
-/// Why there is no verdict, where a reading tells why there is no trace.
-pub(crate) fn fault_of(fault: ReaderFault) -> StreamFault
-    ensures told { (text : List ℕ) → TellsOf text fault → TellsFirstFault text result }
-    ensures alone { result ≡ StreamFault.NoWorker → ⊥ }
-{
-    match fault {
-        ReaderFault::Text(fault) => text_fault(fault),
-        ReaderFault::Read | ReaderFault::Failed | ReaderFault::Unfinished => StreamFault::Read,
-    }
-}
-
-fn text_fault(fault: TextFault) -> StreamFault
-    ensures told { (text : List ℕ) → TellsOf text (ReaderFault.Text fault) → TellsFirstFault text result }
-    ensures alone { result ≡ StreamFault.NoWorker → ⊥ }
-{
-    match fault.kind {
-        TextKind::NoMemory => StreamFault::NoMemory,
-        _ => StreamFault::Text(fault),
+        Err(AuditFault::NoMemory) => Err(Stopped::NoMemory),
+        Err(AuditFault::NoWorker) => Err(Stopped::NoWorker),
     }
 }

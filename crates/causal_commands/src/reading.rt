@@ -1,5 +1,6 @@
-//! The text of a script, from a reader of bytes.
-ghost use Rattle.std.specs.Prelude.{◌≡◌, IfOk, IfSome};
+//! Bytes from a reader, up to so many: the text of a script, or recordings.
+ghost use Rattle.std.specs.Prelude.{◌≡◌, IfOk, IfSome, take};
+ghost use Rattle.causal_commands.specs.Reading.{ReadsAtMost};
 ghost use Rattle.causal_commands.specs.Runs.{ReadsNoMore, read_of};
 
 use std::alloc::Global;
@@ -32,10 +33,22 @@ pub fn read_script<I: Read>(alloc: Global, input: &mut I) -> Result<Vec<u8>, Rea
     ensures text { IfOk result (λ bytes. IfSome (I.remaining input.old) (λ text. bytes.items ≡ read_of text)) }
     ensures most { ReadsNoMore (I.remaining input.old) (I.remaining input.new) }
 {
+    read_at_most(alloc, input, MOST_READ)
+}
+
+/// The bytes of a reader to their end, or the first `most` of them; asked for in the same way, with the same errors.
+pub(crate) fn read_at_most<I: Read>(
+    alloc: Global,
+    input: &mut I,
+    most: usize,
+) -> Result<Vec<u8>, ReadFault>
+    ensures text { IfOk result (λ bytes. IfSome (I.remaining input.old) (λ text. bytes.items ≡ take most text)) }
+    ensures most { ReadsAtMost most (I.remaining input.old) (I.remaining input.new) }
+{
     let mut bytes = Vec::new(alloc);
     let mut piece = [0u8; PIECE];
-    while bytes.len() < MOST_READ {
-        let room = PIECE.min(MOST_READ - bytes.len());
+    while bytes.len() < most {
+        let room = PIECE.min(most - bytes.len());
         let Ok(count) = input.read(&mut piece[..room]) else {
             return Err(ReadFault::Read);
         };

@@ -1,18 +1,19 @@
 //! The program's work of showing why a verdict is so, over any reader and writer: as text, or as a picture.
-ghost use Rattle.std.specs.Prelude.{◌≡◌, ◌≢◌, IfOk, IfErr, IfSome, Err};
+ghost use Rattle.std.specs.Prelude.{◌≡◌, ◌≢◌, ℕ, List, IfOk, IfErr, IfSome, Err};
 ghost use Rattle.causal_audit.specs.Verdicts.{IsVerdict};
-ghost use Rattle.causal_commands.specs.Shown.{ShowsFor, IsShown, IsShowing};
-ghost use Rattle.causal_commands.specs.Judgements.{TellsFirstFault};
-ghost use Rattle.causal_commands.specs.Streams.{NamesFirstFault};
+ghost use Rattle.causal_commands.specs.Shown.{ShowsFor, IsFaultShown, IsShown, IsShowing};
+ghost use Rattle.causal_commands.specs.Judgements.{IsJudgedSo};
+ghost use Rattle.causal_commands.specs.Remarks.{NamesFirstFault};
 ghost use Rattle.causal_commands.specs.Inside.Answers.{IsReplyFor, IsSilent};
-ghost use Rattle.causal_commands.specs.Inside.Judged.{IsJudgedSo};
+ghost use Rattle.causal_commands.specs.Inside.Refusals.{IsRejectedSo, NamesRejected, TellsStop};
 
 use crate::ended::Ended;
-use crate::judged::{StreamFault, fault_of};
-use crate::stream::{Answer, Told, ended_of};
+use crate::judged::{Stopped, trace_from};
+use crate::remark::{Refusal, refusal_of};
+use crate::stream::{Answer, Told, ended_of, faulted};
 use causal_name::NoMemory;
 use causal_report::{drawing_of, reason_text};
-use causal_text::{TextFault, fault_line, read_from, write_whole};
+use causal_text::write_whole;
 use causal_trace::trace::Trace;
 use causal_workers::{Judged, OpenGate, judge_trace, verdict_line};
 use std::alloc::Global;
@@ -30,7 +31,8 @@ pub enum View {
 }
 
 /// Reads the text of a trace, audits it for f by one worker, and writes what the view shows of it; or the line of the text's
-/// first fault. Where the reader or the writer fails, or memory is refused, the answer says so. There is no `NoWorker`.
+/// first fault, of which there is no picture. Where the reader or the writer fails, or memory is refused, the answer says so.
+/// There is no `NoWorker`.
 ///
 /// The text is read in pieces of 4,096 bytes, up to its end or to the piece with its first fault.
 pub fn show_and_tell<R: Threads + Wait, I: Read, O: Write>(
@@ -40,24 +42,26 @@ pub fn show_and_tell<R: Threads + Wait, I: Read, O: Write>(
     output: &mut O,
     f: u16,
     view: View,
-) -> Told<TextFault>
+) -> Told<Refusal>
     ensures writes { ShowsFor view (I.remaining input.old) f result.ended
         (O.contents output.old) (O.contents output.new) }
-    ensures fault { NamesFirstFault (I.remaining input.old) result.fault }
+    ensures fault { NamesFirstFault (I.remaining input.old) f result.fault }
     ensures alone { result.ended ≢ Ended.NoWorker }
 {
-    let answer = match answered(rt, alloc, input, f, view) {
+    let Answer {
+        ended,
+        line,
+        rejected,
+    } = match answered(rt, alloc, input, f, view) {
         Ok(answer) => answer,
         Err(ended) => return Told { ended, fault: None },
     };
-    let ended = match write_whole(answer.line.as_slice(), output) {
-        Ok(()) => answer.ended,
+    let ended = match write_whole(line.as_slice(), output) {
+        Ok(()) => ended,
         Err(_) => Ended::WriteFault,
     };
-    Told {
-        ended,
-        fault: answer.fault,
-    }
+    let fault = refusal_of(alloc, f, rejected);
+    Told { ended, fault }
 }
 
 fn answered<I: Read, R: Threads + Wait>(
@@ -68,20 +72,42 @@ fn answered<I: Read, R: Threads + Wait>(
     view: View,
 ) -> Result<Answer, Ended>
     ensures ok { IfOk result (λ answer. IsReplyFor view (I.remaining input.old) f answer.ended answer.line.items) }
-    ensures fault { IfOk result (λ answer. NamesFirstFault (I.remaining input.old) answer.fault) }
+    ensures rejected { IfOk result (λ answer. NamesRejected (I.remaining input.old) answer.rejected) }
     ensures whole { IfOk result (λ answer. answer.ended ≢ Ended.NoWorker) }
     ensures err { IfErr result IsSilent }
     ensures alone { result ≢ Err Ended.NoWorker }
 {
-    let (ended, line, fault) = match shown_from(rt, alloc, input, f, view) {
-        Ok(shown) => (ended_of(shown.judged.verdict), Ok(shown.text), None),
-        Err(StreamFault::Text(fault)) => (Ended::Faulted, fault_line(alloc, &fault), Some(fault)),
-        Err(StreamFault::Read) => return Err(Ended::ReadFault),
-        Err(_) => return Err(Ended::NoMemory),
+    match shown_from(rt, alloc, input, f, view) {
+        Ok(Shown { judged, text }) => Ok(Answer {
+            ended: ended_of(judged.verdict),
+            line: text,
+            rejected: None,
+        }),
+        Err(stopped) => fault_shown(alloc, stopped, view),
+    }
+}
+
+/// What the view shows of the fault of a text that got no verdict, or how the program ends that writes none.
+fn fault_shown(alloc: Global, stopped: Stopped, view: View) -> Result<Answer, Ended>
+    ensures ended { IfOk result (λ answer. answer.ended ≡ Ended.Faulted) }
+    ensures ok { IfOk result (λ answer. (text : List ℕ) → TellsStop text stopped
+        → IsFaultShown view text answer.line.items) }
+    ensures rejected { IfOk result (λ answer. (text : List ℕ) → TellsStop text stopped
+        → IfSome answer.rejected (IsRejectedSo text)) }
+    ensures err { IfErr result IsSilent }
+    ensures alone { result ≡ Err Ended.NoWorker → stopped ≡ Stopped.NoWorker }
+{
+    let answer = match faulted(alloc, stopped) {
+        Ok(answer) => answer,
+        Err(ended) => return Err(ended),
     };
-    match line {
-        Ok(line) => Ok(Answer { ended, line, fault }),
-        Err(NoMemory) => Err(Ended::NoMemory),
+    match view {
+        View::Reason => Ok(answer),
+        View::Picture => Ok(Answer {
+            ended: answer.ended,
+            line: Vec::new(alloc),
+            rejected: answer.rejected,
+        }),
     }
 }
 
@@ -98,19 +124,19 @@ fn shown_from<I: Read, R: Threads + Wait>(
     input: &mut I,
     f: u16,
     view: View,
-) -> Result<Shown, StreamFault>
+) -> Result<Shown, Stopped>
     ensures ok { IfOk result (λ shown. IfSome (I.remaining input.old)
         (λ text. IsShown view text f shown.judged shown.text.items)) }
-    ensures err { IfErr result (λ fault. IfSome (I.remaining input.old) (λ text. TellsFirstFault text fault)) }
-    ensures alone { result ≢ Err StreamFault.NoWorker }
+    ensures err { IfErr result (λ stopped. IfSome (I.remaining input.old) (λ text. TellsStop text stopped)) }
+    ensures alone { result ≢ Err Stopped.NoWorker }
 {
-    let trace = match read_from(alloc, input) {
+    let trace = match trace_from(alloc, input) {
         Ok(trace) => trace,
-        Err(fault) => return Err(fault_of(fault)),
+        Err(stopped) => return Err(stopped),
     };
     match shown_of(rt, alloc, &trace, f, view) {
         Ok(shown) => Ok(shown),
-        Err(NoMemory) => Err(StreamFault::NoMemory),
+        Err(NoMemory) => Err(Stopped::NoMemory),
     }
 }
 

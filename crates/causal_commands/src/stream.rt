@@ -1,13 +1,16 @@
 //! The program's work over any reader and writer.
-ghost use Rattle.std.specs.Prelude.{◌≡◌, ◌≢◌, ◌≤◌, IfOk, IfErr, Err};
-ghost use Rattle.causal_commands.specs.Streams.{NamesFirstFault, WritesFor};
+ghost use Rattle.std.specs.Prelude.{◌≡◌, ◌≢◌, ◌≤◌, ℕ, List, IfOk, IfErr, IfSome, Err};
+ghost use Rattle.causal_commands.specs.Remarks.{NamesFirstFault};
+ghost use Rattle.causal_commands.specs.Streams.{IsFaultLine, WritesFor};
 ghost use Rattle.causal_commands.specs.Inside.Answers.{IsAnswerFor, IsSilent};
+ghost use Rattle.causal_commands.specs.Inside.Refusals.{IsRejectedSo, NamesRejected, TellsStop};
 
 use crate::ended::Ended;
-use crate::judged::{StreamFault, audit_from};
+use crate::judged::{Stopped, judged_from};
+use crate::remark::{Refusal, refusal_of};
 use causal_audit::verdict::Verdict;
 use causal_name::NoMemory;
-use causal_text::{TextFault, fault_line, write_whole};
+use causal_text::{Rejected, fault_line, write_whole};
 use causal_workers::{Gate, verdict_line};
 use std::alloc::Global;
 use std::io::{Read, Write};
@@ -42,7 +45,8 @@ pub fn audit_stream<R: Threads + Wait, I: Read, O: Write, G: Gate + Sync>(
     audit_and_tell(rt, alloc, input, output, f, workers, gate).ended
 }
 
-/// The same, with the text's first fault beside how the run ended, so that more can be said of it.
+/// The same, with what is wrong with a text that is no trace beside how the run ended: its first fault, and what more there is to
+/// say of that. It is asked when the answer has been written.
 pub fn audit_and_tell<R: Threads + Wait, I: Read, O: Write, G: Gate + Sync>(
     rt: &R,
     alloc: Global,
@@ -51,32 +55,34 @@ pub fn audit_and_tell<R: Threads + Wait, I: Read, O: Write, G: Gate + Sync>(
     f: u16,
     workers: u32,
     gate: &G,
-) -> Told<TextFault>
+) -> Told<Refusal>
     requires { (1 ≤ workers) × (workers ≤ 64) }
     ensures writes { WritesFor (I.remaining input.old) f result.ended (O.contents output.old) (O.contents output.new) }
-    ensures fault { NamesFirstFault (I.remaining input.old) result.fault }
+    ensures fault { NamesFirstFault (I.remaining input.old) f result.fault }
     ensures alone { result.ended ≡ Ended.NoWorker → 2 ≤ workers }
 {
-    let answer = match answered(rt, alloc, input, f, workers, gate) {
+    let Answer {
+        ended,
+        line,
+        rejected,
+    } = match answered(rt, alloc, input, f, workers, gate) {
         Ok(answer) => answer,
         Err(ended) => return Told { ended, fault: None },
     };
-    let ended = match write_whole(answer.line.as_slice(), output) {
-        Ok(()) => answer.ended,
+    let ended = match write_whole(line.as_slice(), output) {
+        Ok(()) => ended,
         Err(_) => Ended::WriteFault,
     };
-    Told {
-        ended,
-        fault: answer.fault,
-    }
+    let fault = refusal_of(alloc, f, rejected);
+    Told { ended, fault }
 }
 
-/// The line that answers a text, how the program ends that writes it, and the fault that it tells.
+/// The line that answers a text, how the program ends that writes it, and the fault that it tells, with what stands before it.
 #[derive(Drop)]
 pub(crate) struct Answer {
     pub ended: Ended,
     pub line: Vec<u8>,
-    pub fault: Option<TextFault>,
+    pub rejected: Option<Rejected>,
 }
 
 fn answered<I: Read, G: Gate + Sync, R: Threads + Wait>(
@@ -89,25 +95,46 @@ fn answered<I: Read, G: Gate + Sync, R: Threads + Wait>(
 ) -> Result<Answer, Ended>
     requires { (1 ≤ workers) × (workers ≤ 64) }
     ensures ok { IfOk result (λ answer. IsAnswerFor (I.remaining input.old) f answer.ended answer.line.items) }
-    ensures fault { IfOk result (λ answer. NamesFirstFault (I.remaining input.old) answer.fault) }
+    ensures rejected { IfOk result (λ answer. NamesRejected (I.remaining input.old) answer.rejected) }
     ensures whole { IfOk result (λ answer. answer.ended ≢ Ended.NoWorker) }
     ensures err { IfErr result IsSilent }
     ensures alone { result ≡ Err Ended.NoWorker → 2 ≤ workers }
 {
-    let (ended, line, fault) = match audit_from(rt, alloc, input, f, workers, gate) {
-        Ok(judged) => (
-            ended_of(judged.verdict),
-            verdict_line(alloc, f, &judged),
-            None,
-        ),
-        Err(StreamFault::Text(fault)) => (Ended::Faulted, fault_line(alloc, &fault), Some(fault)),
-        Err(StreamFault::Read) => return Err(Ended::ReadFault),
-        Err(StreamFault::NoMemory) => return Err(Ended::NoMemory),
-        Err(StreamFault::NoWorker) => return Err(Ended::NoWorker),
+    let judged = match judged_from(rt, alloc, input, f, workers, gate) {
+        Ok(judged) => judged,
+        Err(stopped) => return faulted(alloc, stopped),
     };
-    match line {
-        Ok(line) => Ok(Answer { ended, line, fault }),
+    match verdict_line(alloc, f, &judged) {
+        Ok(line) => Ok(Answer {
+            ended: ended_of(judged.verdict),
+            line,
+            rejected: None,
+        }),
         Err(NoMemory) => Err(Ended::NoMemory),
+    }
+}
+
+/// The line of the fault of a text that got no verdict, or how the program ends that writes none.
+pub(crate) fn faulted(alloc: Global, stopped: Stopped) -> Result<Answer, Ended>
+    ensures ended { IfOk result (λ answer. answer.ended ≡ Ended.Faulted) }
+    ensures ok { IfOk result (λ answer. (text : List ℕ) → TellsStop text stopped → IsFaultLine text answer.line.items) }
+    ensures rejected { IfOk result (λ answer. (text : List ℕ) → TellsStop text stopped
+        → IfSome answer.rejected (IsRejectedSo text)) }
+    ensures err { IfErr result IsSilent }
+    ensures alone { result ≡ Err Ended.NoWorker → stopped ≡ Stopped.NoWorker }
+{
+    match stopped {
+        Stopped::Text(rejected) => match fault_line(alloc, &rejected.fault) {
+            Ok(line) => Ok(Answer {
+                ended: Ended::Faulted,
+                line,
+                rejected: Some(rejected),
+            }),
+            Err(NoMemory) => Err(Ended::NoMemory),
+        },
+        Stopped::Read => Err(Ended::ReadFault),
+        Stopped::NoMemory => Err(Ended::NoMemory),
+        Stopped::NoWorker => Err(Ended::NoWorker),
     }
 }
 

@@ -1,3 +1,5 @@
+mod Looks
+mod Outlines
 mod Prefixes
 mod SendLemmas
 mod Wholes

@@ -6,4 +6,5 @@ pub mod Order
 pub mod Merged
 pub mod Merging
 pub mod FaultLine
+pub mod Hints
 pub mod Inside

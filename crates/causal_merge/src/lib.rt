@@ -10,6 +10,8 @@ mod event;
 pub mod fault;
 /// What the lines so far have said.
 mod gathered;
+/// What a fault may come from.
+mod hint;
 /// From the bytes of a line to what it says.
 mod line;
 /// From the recordings to the trace.
@@ -26,7 +28,12 @@ pub mod report;
 mod sends;
 /// Lines that say nothing.
 mod torn;
+/// The JSON value of a line.
+mod value;
 
 pub use fault::{MergeFault, MergeKind};
 pub use merge::{Merged, merge_text};
 pub use report::fault_line;
+
+#[cfg(test)]
+mod tests;

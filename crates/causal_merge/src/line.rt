@@ -8,10 +8,11 @@ ghost use Rattle.causal_merge.specs.Inside.Gathering.{IsSound};
 
 use crate::event::{Act, Event, Line, Run};
 use crate::torn::{is_blank, is_torn};
+use crate::value::value_of;
 use causal_name::Pid;
 use causal_text::fields::{begins, det_of, dets_at, pid_at, u32_at, u64_at};
 use causal_text::kind::TextKind;
-use causal_text::line_value::{content, json_of};
+use causal_text::line_value::content;
 use serde_json::Value;
 use std::alloc::Global;
 
@@ -166,8 +167,9 @@ fn bytes_say(alloc: Global, bytes: &[u8]) -> Result<Line, TextKind>
     if is_blank(bytes) {
         return Ok(Line::Blank);
     }
-    match json_of(alloc, bytes) {
-        Ok(value) => line_of(alloc, &value),
+    match value_of(alloc, bytes) {
+        Ok(Some(value)) => line_of(alloc, &value),
+        Ok(None) => Err(TextKind::Form),
         Err(TextKind::NoMemory) => Err(TextKind::NoMemory),
         Err(kind) => {
             if is_torn(bytes) {

@@ -1,6 +1,7 @@
 //! What the program's commands write to a text, and how they end, where readers and writers give and take little, or fail.
 mod cut;
 mod forged;
+mod merging;
 mod reading;
 mod reasons;
 mod running;
@@ -9,7 +10,7 @@ mod traces;
 
 use self::traces::{FAULTY, JUDGED, Verdicts};
 use causal_audit::verdict::Verdict;
-use causal_commands::{Ended, audit_and_tell, audit_stream};
+use causal_commands::{Ended, audit_and_tell, audit_stream, complaint};
 use causal_holders::Holders;
 use causal_samples::texts::RING;
 use causal_workers::{Judged, OpenGate, verdict_line};
@@ -163,18 +164,20 @@ fn reads_byte_by_byte(rt: HostRuntime) {
     assert_eq!(rt; input.calls, RING.len() + 1);
 }
 
-// The fault that is told has the sentence of its kind, with the line's number.
+// What is wrong with the line of a fault is said, and how the entries before it are judged.
 #[test]
-fn fault_with_its_sentence(rt: HostRuntime) -> Result<(), Fail> {
+fn says_what_is_wrong(rt: HostRuntime) -> Result<(), Fail> {
     let mut input = "[\"trace\",1,2]\n[\"send\",0,1,1]\n".as_bytes();
     let mut output = Vec::new(rt.alloc());
     let told = audit_and_tell(&rt, rt.alloc(), &mut input, &mut output, 0, 1, &OpenGate);
     assert_eq!(rt; told.ended, Ended::Faulted);
-    let sentence = match told.fault {
-        Some(fault) => format!(in rt.alloc(); "{fault}")?,
-        None => String::new(rt.alloc()),
+    let said = match told.fault {
+        Some(refusal) => complaint(rt.alloc(), "audit", 0, &refusal)?,
+        None => Vec::new(rt.alloc()),
     };
-    assert!(rt; sentence.as_str() == "line 2: the send sequence number is not the next one");
+    let wanted = "audit: line 2: process 0 sends with the number 1, and its next is 0\n\
+                  audit: the entries before line 2: accept f=0 entries=0 deliveries=0\n";
+    assert!(rt; said.as_slice() == wanted.as_bytes());
     Ok(())
 }
 

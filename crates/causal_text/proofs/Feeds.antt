@@ -51,7 +51,7 @@ lines_line (x ∷ xs) rest h = let p = first_other (x == 10) (no_feed xs) h in r
 pub lines_complete : (l rest : List ℕ) → IsComplete l → lines (l ++ rest) ≡ l ∷ lines rest
 lines_complete l rest h = rw h.2 (ap lines (append_assoc h.0 (10 ∷ []) rest) ∙ lines_line h.0 rest h.1)
 
-lines_joined : (ls : List (List ℕ)) (rest : List ℕ) → AreComplete ls → lines (joined ls ++ rest) ≡ ls ++ lines rest
+pub lines_joined : (ls : List (List ℕ)) (rest : List ℕ) → AreComplete ls → lines (joined ls ++ rest) ≡ ls ++ lines rest
 lines_joined [] rest h = refl
 lines_joined (l ∷ ls) rest h =
     ap lines (append_assoc l (joined ls) rest) ∙ lines_complete l (joined ls ++ rest) h.0 ∙ ap (λ ks. l ∷ ks) (lines_joined ls rest h.1)
@@ -81,7 +81,7 @@ AreComplete-append (k ∷ ls) l h c = (h.0, AreComplete-append ls l h.1 c)
 
 -- ---- what is held stands for the bytes so far
 
-IsComplete-append : (xs l : List ℕ) → no_feed xs ≡ true → IsComplete l → IsComplete (xs ++ l)
+pub IsComplete-append : (xs l : List ℕ) → no_feed xs ≡ true → IsComplete l → IsComplete (xs ++ l)
 IsComplete-append xs l h c = (xs ++ c.0, no_feed-append xs c.0 h c.1, ap (λ ys. xs ++ ys) c.2 ∙ sym (append_assoc xs c.0 (10 ∷ [])))
 
 pub StandsFor-complete : (h : Held) (b line : List ℕ) (p : Place) → StandsFor h b → IsComplete line → next h.place (h.rest ++ line) ≡ Ok p → StandsFor (record { place = p; rest = [] }) (b ++ line)

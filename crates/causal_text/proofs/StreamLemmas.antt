@@ -52,7 +52,7 @@ piece_ends (suc n) [] left few ends some = absurd (omega arith)
 piece_ends (suc n) (x ∷ xs) left few ends some = tt
 
 -- all known bytes were read
-all_read : (bytes xs : List ℕ) (left : Option (List ℕ)) → Consumes (Some bytes) left xs → IsAtEnd left → bytes ≡ xs
+pub all_read : (bytes xs : List ℕ) (left : Option (List ℕ)) → Consumes (Some bytes) left xs → IsAtEnd left → bytes ≡ xs
 all_read bytes xs None p e = absurd p
 all_read bytes xs (Some ys) p e = p ∙ ap (λ z. xs ++ z) e ∙ append-nil xs
 

@@ -1,16 +1,16 @@
 -- What stands before a line of a text, and what the line says.
-use Rattle.std.specs.Prelude.{◌≡◌, ℕ, ◌+◌, List, ◌∷◌, ◌++◌, length, Ok}
+use Rattle.std.specs.Prelude.{◌≡◌, ◌≢◌, ℕ, ◌+◌, List, ◌∷◌, ◌++◌, length, Ok, IfSome}
 use Rattle.causal_trace.specs.Rows.{Recording}
+use Rattle.causal_text.specs.declared.before.Rejected.{Rejected}
+use Rattle.causal_text.specs.declared.kept.Unread.{Unread}
+use Rattle.causal_text.specs.declared.kept.Unread.TheVariants.{Source, Text}
+use Rattle.causal_text.specs.declared.kind.TextKind.TheVariants.{NoMemory}
 use Rattle.causal_text.specs.declared.shape.Shape.{Shape}
 use Rattle.causal_text.specs.declared.stage.Stage.TheVariants.{Within}
 use Rattle.causal_text.specs.declared.version.Version.{Version}
 use Rattle.causal_text.specs.Lines.{lines}
-use Rattle.causal_text.specs.Spelling.{LeadsTo}
+use Rattle.causal_text.specs.Spelling.{LeadsTo, IsFirstFault, IsReadUpTo}
 use Rattle.causal_text.specs.Stages.{line_shape}
-
--- a text begins with these bytes
-abbrev pub IsBeginning : List ℕ → List ℕ → Type 0
-IsBeginning read text = (more : List ℕ) × (text ≡ read ++ more)
 
 -- the lines before the one of this number have no fault and say this recording, the end line not among them, and that line
 -- says this
@@ -23,3 +23,18 @@ pub record StandsBefore (text : List ℕ) (number : ℕ) (r : Recording) (says :
   pub reaches : LeadsTo before (Within version r)
   pub said : line_shape line ≡ Ok says
   pub number_is : number ≡ length before + 1
+
+-- what is kept with a fault, if anything is, stands before its line
+abbrev pub IsKept : List ℕ → Rejected → Type 0
+IsKept text rejected = IfSome rejected.before (λ at. StandsBefore text rejected.fault.line at.trace.recording at.says)
+
+-- the first fault of the text, and what stands before its line; a want of memory tells a line before which there is no fault
+pub record IsRejection (text : List ℕ) (rejected : Rejected) : Type 0 where
+  pub first : rejected.fault.kind ≢ NoMemory → IsFirstFault text rejected.fault
+  pub memory : rejected.fault.kind ≡ NoMemory → IsReadUpTo text rejected.fault.line
+  pub kept : IsKept text rejected
+
+-- why a text was not read as a trace
+abbrev pub TellsUnread : List ℕ → Unread → Type 0
+TellsUnread text Source = Unit {0}
+TellsUnread text (Text rejected) = IsRejection text rejected

@@ -60,7 +60,7 @@ impl FedReader {
                 self.pieces = Some(pieces);
                 Ok(())
             }
-            Err(fault) => Err(ReaderFault::Text(fault)),
+            Err(rejected) => Err(ReaderFault::Text(rejected.fault)),
         }
     }
 
@@ -80,7 +80,7 @@ impl FedReader {
         };
         match pieces.end(alloc) {
             Ok(recorded) => Ok(recorded.into_trace()),
-            Err(fault) => Err(ReaderFault::Text(fault)),
+            Err(rejected) => Err(ReaderFault::Text(rejected.fault)),
         }
     }
 }

@@ -4,18 +4,18 @@
 //! one, and within a line the first in the order of [`TextKind`].
 //!
 //! Begin at [`read_trace`] for a text that is there as a whole, or [`read_from`] for one that a reader gives; [`TraceReader`]
-//! reads a piece at a time, and [`FedReader`] the pieces that it is handed. [`read_keeping`] keeps what was read, of which
-//! [`before_line`] tells what stands before its fault. [`text_of`] and [`write_trace`] give the canonical text, [`write_whole`]
-//! writes any bytes. [`laws`] says that a text has one reading.
+//! reads a piece at a time, and [`FedReader`] the pieces that it is handed. [`read_keeping`] gives with a fault what stands before
+//! its line. [`text_of`] and [`write_trace`] give the canonical text, [`write_whole`] writes any bytes. [`laws`] says that a text
+//! has one reading.
 #![tactic(auto)]
 
-/// What stands before a line, and what the line says.
+/// The first fault of a text, and what stands before its line.
 pub mod before;
 /// A text that is handed over in pieces.
 pub mod fed;
 /// The fields of a line.
 pub mod fields;
-/// A reading that keeps what was read.
+/// A reading that keeps what stands before a fault.
 pub mod kept;
 /// The faults of a text.
 pub mod kind;
@@ -48,7 +48,7 @@ pub mod writer;
 /// Bytes to a writer, call by call.
 pub mod written;
 
-pub use before::{Before, before_line};
+pub use before::{Before, Rejected};
 pub use fed::FedReader;
 pub use kept::{Unread, read_keeping};
 pub use kind::{TextFault, TextKind};

@@ -1,13 +1,13 @@
 //! A text line by line.
-ghost use Rattle.std.specs.Prelude.{◌≡◌, ◌≢◌, ◌+◌, ◌<◌, ◌≤◌, length, IfSome, IfNone, IfErr};
-ghost use Rattle.causal_text.specs.declared.version.Version.{Version};
+ghost use Rattle.std.specs.Prelude.{◌≡◌, ◌≢◌, ◌+◌, ◌<◌, ◌≤◌, length, None, IfSome, IfNone, IfErr};
 ghost use Rattle.causal_text.specs.Stages.{max_text};
 ghost use Rattle.causal_text.specs.Inside.LineByLine.{start, next, ended, IsFaultFrom};
-ghost use Rattle.causal_text.specs.Given.{GivesText};
+ghost use Rattle.causal_text.specs.Inside.Kept.{GivesRejected, IsKeptAt};
 
+use crate::before::Rejected;
 use crate::kind::{TextFault, TextKind};
 use crate::recorded::Recorded;
-use crate::stage::{MAX_TEXT, Stage, after_line};
+use crate::stage::{MAX_TEXT, Refused, Stage, after_line};
 use std::alloc::Global;
 use std::marker::Model;
 
@@ -43,28 +43,12 @@ impl LineReader {
         }
     }
 
-    /// The number of the next line, counted from 1.
-    pub(crate) fn line(&self) -> u32
-        ensures { result ≡ self.now.count + 1 }
-    {
-        self.count + 1
-    }
-
-    /// The trace so far, where there is one and no end line has come.
-    pub(crate) fn so_far(self) -> Option<Recorded>
-        ensures { IfSome result (λ r. (version : Version) × (self.stage ≡ Stage.Within version r)) }
-    {
-        match self.stage {
-            Stage::Within { trace, .. } => Some(trace),
-            _ => None,
-        }
-    }
-
     /// Takes the next line.
-    pub(crate) fn take(self, alloc: Global, line: &[u8]) -> Result<LineReader, TextFault>
+    pub(crate) fn take(self, alloc: Global, line: &[u8]) -> Result<LineReader, Rejected>
         requires { 0 < length line.now }
-        ensures value { GivesText result (next self line.now) }
-        ensures line { IfErr result (λ fault. fault.line ≡ self.count + 1) }
+        ensures value { GivesRejected result (next self line.now) }
+        ensures line { IfErr result (λ rejected. rejected.fault.line ≡ self.count + 1) }
+        ensures before { IfErr result (λ rejected. IsKeptAt self.stage line.now rejected.before) }
     {
         let LineReader { stage, count, size } = self;
         let end = size.saturating_add(line.len());
@@ -74,9 +58,12 @@ impl LineReader {
                 count: count + 1,
                 size: end,
             }),
-            Err(kind) => Err(TextFault {
-                line: count + 1,
-                kind,
+            Err(Refused { kind, before }) => Err(Rejected {
+                fault: TextFault {
+                    line: count + 1,
+                    kind,
+                },
+                before,
             }),
         }
     }
@@ -115,16 +102,17 @@ impl LineReader {
     }
 
     /// The trace, where its end line has come.
-    pub(crate) fn finish(self) -> Result<Recorded, TextFault>
-        ensures value { GivesText result (ended self self.stage) }
-        ensures kind { IfErr result (λ fault. fault.kind ≢ TextKind.NoMemory) }
+    pub(crate) fn finish(self) -> Result<Recorded, Rejected>
+        ensures value { GivesRejected result (ended self self.stage) }
+        ensures kind { IfErr result (λ rejected. rejected.fault.kind ≢ TextKind.NoMemory) }
+        ensures before { IfErr result (λ rejected. rejected.before ≡ None) }
     {
         match self.stage {
             Stage::Ended { trace, .. } => Ok(trace),
-            _ => Err(TextFault {
+            _ => Err(Rejected::alone(TextFault {
                 line: self.count + 1,
                 kind: TextKind::Cut,
-            }),
+            })),
         }
     }
 }

@@ -1,12 +1,14 @@
 //! From a text, whole or in pieces, to the trace that it spells, or to its first fault.
-ghost use Rattle.std.specs.Prelude.{◌≡◌, ◌≢◌, ◌++◌, ◌+◌, ◌<◌, ◌≤◌, List, [], ℕ, length, IfOk, IfErr};
-ghost use Rattle.causal_text.specs.Given.{GivesText};
+ghost use Rattle.std.specs.Prelude.{◌≡◌, ◌≢◌, ◌++◌, ◌+◌, ◌<◌, ◌≤◌, List, [], ℕ, length, None, IfOk, IfErr};
+ghost use Rattle.causal_text.specs.Before.{IsKept};
+ghost use Rattle.causal_text.specs.Inside.Kept.{GivesRejected, IsKeptAt, IsKeptOfAll};
 ghost use Rattle.causal_text.specs.Inside.LineByLine.{reading};
 ghost use Rattle.causal_text.specs.Pieces.{StandsFor};
 ghost use Rattle.causal_text.specs.Inside.Unfinished.{IsFaultOfAll, with_line, IsPast, ending, taken};
 ghost use Rattle.causal_text.specs.Stages.{max_text};
 ghost use Rattle.causal_text.specs.Spelling.{Spells, IsFirstFault, IsReadUpTo, IsReadAt};
 
+use crate::before::Rejected;
 use crate::kind::{TextFault, TextKind};
 use crate::line_reader::LineReader;
 use crate::lines::split_complete;
@@ -51,10 +53,11 @@ impl PieceReader {
     }
 
     /// Takes the rest of a line, with its line feed.
-    fn complete(self, alloc: Global, line: &[u8]) -> Result<PieceReader, TextFault>
+    fn complete(self, alloc: Global, line: &[u8]) -> Result<PieceReader, Rejected>
         requires { 0 < length line.now }
-        ensures value { GivesText result (with_line self line.now) }
-        ensures line { IfErr result (λ fault. fault.line ≡ self.place.count + 1) }
+        ensures value { GivesRejected result (with_line self line.now) }
+        ensures line { IfErr result (λ rejected. rejected.fault.line ≡ self.place.count + 1) }
+        ensures before { IfErr result (λ rejected. IsKeptAt self.place.stage (self.rest ++ line.now) rejected.before) }
     {
         if self.rest.is_empty() {
             let PieceReader { lines, rest } = self;
@@ -68,31 +71,35 @@ impl PieceReader {
     }
 
     /// Holds more of a line, unless no line may stand there or the text is too long by it.
-    fn hold(self, part: &[u8]) -> Result<PieceReader, TextFault>
+    fn hold(self, part: &[u8]) -> Result<PieceReader, Rejected>
         ensures ok { IfOk result (λ r. r ≡ record { place = self.place; rest = self.rest ++ part.now }) }
         ensures room { IfOk result (λ r. taken r ≤ max_text) }
-        ensures err { IfErr result (λ f. f.kind ≢ TextKind.NoMemory
+        ensures err { IfErr result (λ rejected. rejected.fault.kind ≢ TextKind.NoMemory
             → (0 < length (self.rest ++ part.now))
-            × IsPast (record { place = self.place; rest = self.rest ++ part.now }) f) }
-        ensures line { IfErr result (λ fault. fault.line ≡ self.place.count + 1) }
+            × IsPast (record { place = self.place; rest = self.rest ++ part.now }) rejected.fault) }
+        ensures line { IfErr result (λ rejected. rejected.fault.line ≡ self.place.count + 1) }
+        ensures before { IfErr result (λ rejected. rejected.before ≡ None) }
     {
         let PieceReader { lines, mut rest } = self;
         if let Some(fault) = lines.past(rest.len().saturating_add(part.len())) {
-            return Err(fault);
+            return Err(Rejected::alone(fault));
         }
         if rest.extend_from_slice(part).is_err() {
-            return Err(lines.no_memory());
+            return Err(Rejected::alone(lines.no_memory()));
         }
         Ok(PieceReader { lines, rest })
     }
 
     /// Takes the next piece of the text.
-    pub(crate) fn feed(self, alloc: Global, piece: &[u8]) -> Result<PieceReader, TextFault>
+    pub(crate) fn feed(self, alloc: Global, piece: &[u8]) -> Result<PieceReader, Rejected>
         ensures ok { IfOk result (λ r. (b : List ℕ) → StandsFor self b → StandsFor r (b ++ piece.now)) }
         ensures room { IfOk result (λ r. taken r ≤ max_text) }
-        ensures err { IfErr result (λ f. f.kind ≢ TextKind.NoMemory
-            → (b : List ℕ) → StandsFor self b → IsFaultOfAll (b ++ piece.now) f) }
-        ensures line { IfErr result (λ f. (b : List ℕ) → StandsFor self b → IsReadAt (b ++ piece.now) f.line) }
+        ensures err { IfErr result (λ rejected. rejected.fault.kind ≢ TextKind.NoMemory
+            → (b : List ℕ) → StandsFor self b → IsFaultOfAll (b ++ piece.now) rejected.fault) }
+        ensures line { IfErr result (λ rejected. (b : List ℕ) → StandsFor self b
+            → IsReadAt (b ++ piece.now) rejected.fault.line) }
+        ensures before { IfErr result (λ rejected. (b : List ℕ) → StandsFor self b
+            → IsKeptOfAll (b ++ piece.now) rejected) }
     {
         let mut reader = self;
         let mut left = piece;
@@ -104,9 +111,11 @@ impl PieceReader {
     }
 
     /// The trace that the bytes so far spell, where they are the whole text.
-    pub(crate) fn end(self, alloc: Global) -> Result<Recorded, TextFault>
-        ensures value { GivesText result (ending self) }
-        ensures memory { IfErr result (λ fault. fault.kind ≡ TextKind.NoMemory → fault.line ≡ self.place.count + 1) }
+    pub(crate) fn end(self, alloc: Global) -> Result<Recorded, Rejected>
+        ensures value { GivesRejected result (ending self) }
+        ensures memory { IfErr result (λ rejected. rejected.fault.kind ≡ TextKind.NoMemory
+            → rejected.fault.line ≡ self.place.count + 1) }
+        ensures before { IfErr result (λ rejected. (b : List ℕ) → StandsFor self b → IsKept b rejected) }
     {
         let PieceReader { lines, rest } = self;
         if rest.is_empty() {
@@ -137,13 +146,17 @@ fn read_recorded(alloc: Global, bytes: &[u8]) -> Result<Recorded, TextFault>
     ensures err { IfErr result (λ fault. fault.kind ≢ TextKind.NoMemory → IsFirstFault bytes.now fault) }
     ensures memory { IfErr result (λ fault. fault.kind ≡ TextKind.NoMemory → IsReadUpTo bytes.now fault.line) }
 {
-    read_whole(alloc, bytes)
+    match read_whole(alloc, bytes) {
+        Ok(recorded) => Ok(recorded),
+        Err(rejected) => Err(rejected.fault),
+    }
 }
 
 // the whole text is one piece
-fn read_whole(alloc: Global, bytes: &[u8]) -> Result<Recorded, TextFault>
-    ensures value { GivesText result (reading bytes.now) }
-    ensures memory { IfErr result (λ fault. fault.kind ≡ TextKind.NoMemory → IsReadUpTo bytes.now fault.line) }
+fn read_whole(alloc: Global, bytes: &[u8]) -> Result<Recorded, Rejected>
+    ensures value { GivesRejected result (reading bytes.now) }
+    ensures memory { IfErr result (λ rejected. rejected.fault.kind ≡ TextKind.NoMemory
+        → IsReadUpTo bytes.now rejected.fault.line) }
 {
     let reader = PieceReader::new(alloc).feed(alloc, bytes)?;
     reader.end(alloc)

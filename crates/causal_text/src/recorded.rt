@@ -1,5 +1,5 @@
 //! A trace of which clauses see the recording alone: what the lines of a text determine.
-ghost use Rattle.std.specs.Prelude.{◌≡◌, length, None, IfOk, IfErr, OnOk};
+ghost use Rattle.std.specs.Prelude.{◌≡◌, length, None, IfOk, IfErr, OnOk, OnErr};
 ghost use Rattle.causal_trace.specs.Limits.{IsProcessCount};
 ghost use Rattle.causal_trace.specs.Rows.{fault_next, refusal_next, IsRefusedBeginning, IsWellFormed};
 ghost use Rattle.causal_trace.specs.State.{with_entry};
@@ -37,11 +37,12 @@ impl Recorded {
         })
     }
 
-    /// Takes one more entry, where nothing stands against it.
+    /// Takes one more entry, where nothing stands against it; else it stays as it was.
     pub(crate) fn push(&mut self, entry: Entry) -> Result<(), TraceFault>
         ensures legal { OnOk result (fault_next self.old entry ≡ None) }
         ensures ok { OnOk result (self.new ≡ with_entry self.old entry) }
         ensures refused { IfErr result (λ fault. fault ≡ refusal_next self.old entry) }
+        ensures stays { OnErr result (self.new ≡ self.old) }
     {
         self.trace.push(entry)
     }

@@ -1,9 +1,11 @@
 //! What the lines so far have said, and what one more line adds.
-ghost use Rattle.std.specs.Prelude.{◌≡◌, ◌≤◌, OnOk};
+ghost use Rattle.std.specs.Prelude.{◌≡◌, ◌≤◌, None, Ok, Some, IfErr, IfSome, OnOk};
 ghost use Rattle.causal_text.specs.Given.{Gives};
+ghost use Rattle.causal_text.specs.Inside.Kept.{GivesFollowed, GivesRefused, IsGoingOn, IsKeptAt};
 ghost use Rattle.causal_text.specs.Stages.{max_text, line_shape, begun, follow, after_line};
 ghost use Rattle.causal_text.specs.Versions.{version_of};
 
+use crate::before::Before;
 use crate::kind::TextKind;
 use crate::line_value::{content, json_of};
 use crate::outline::may_have_shape;
@@ -77,38 +79,110 @@ fn begun(alloc: Global, number: u32, processes: u32) -> Result<Stage, TextKind>
     Ok(Stage::Within { version, trace })
 }
 
-// an entry where a text goes on
-fn admitted(version: Version, mut trace: Recorded, entry: Entry) -> Result<Stage, TextKind>
-    ensures { Gives result (follow (Stage.Within version trace) (Shape.Entry entry)) }
-{
-    if !version.has_line(&entry) {
-        return Err(TextKind::Form);
-    }
-    trace.push(entry)?;
-    Ok(Stage::Within { version, trace })
+/// What stands against what a line says, and the trace of the lines before it, where that goes on.
+#[derive(Drop)]
+struct Unfollowed {
+    kind: TextKind,
+    trace: Option<Recorded>,
 }
 
-fn follow(alloc: Global, stage: Stage, shape: Shape) -> Result<Stage, TextKind>
-    ensures { Gives result (follow stage shape) }
+// the first line
+fn opening(alloc: Global, shape: Shape) -> Result<Stage, TextKind>
+    ensures { Gives result (follow Stage.Opening shape) }
+{
+    match shape {
+        Shape::Header { version, processes } => begun(alloc, version, processes),
+        _ => Err(TextKind::Header),
+    }
+}
+
+// an entry where a text goes on
+fn admitted(version: Version, mut trace: Recorded, entry: Entry) -> Result<Stage, Unfollowed>
+    ensures value { GivesFollowed result (follow (Stage.Within version trace) (Shape.Entry entry)) }
+    ensures trace { IfErr result (λ unfollowed. unfollowed.trace ≡ Some trace) }
+{
+    if !version.has_line(&entry) {
+        return Err(Unfollowed {
+            kind: TextKind::Form,
+            trace: Some(trace),
+        });
+    }
+    match trace.push(entry) {
+        Ok(()) => Ok(Stage::Within { version, trace }),
+        Err(fault) => Err(Unfollowed {
+            kind: TextKind::from(fault),
+            trace: Some(trace),
+        }),
+    }
+}
+
+// a line where a text goes on
+fn going_on(version: Version, trace: Recorded, shape: Shape) -> Result<Stage, Unfollowed>
+    ensures value { GivesFollowed result (follow (Stage.Within version trace) shape) }
+    ensures trace { IfErr result (λ unfollowed. unfollowed.trace ≡ Some trace) }
+{
+    match shape {
+        Shape::Header { .. } => Err(Unfollowed {
+            kind: TextKind::Header,
+            trace: Some(trace),
+        }),
+        Shape::Entry { entry } => admitted(version, trace, entry),
+        Shape::End { entries } => {
+            if entries == trace.len() {
+                Ok(Stage::Ended { version, trace })
+            } else {
+                Err(Unfollowed {
+                    kind: TextKind::Count,
+                    trace: Some(trace),
+                })
+            }
+        }
+    }
+}
+
+fn follow(alloc: Global, stage: Stage, shape: Shape) -> Result<Stage, Unfollowed>
+    ensures value { GivesFollowed result (follow stage shape) }
+    ensures trace { IfErr result (λ unfollowed. IfSome unfollowed.trace (IsGoingOn stage)) }
 {
     match stage {
-        Stage::Opening => match shape {
-            Shape::Header { version, processes } => begun(alloc, version, processes),
-            _ => Err(TextKind::Header),
+        Stage::Opening => match opening(alloc, shape) {
+            Ok(begun) => Ok(begun),
+            Err(kind) => Err(Unfollowed { kind, trace: None }),
         },
-        Stage::Within { version, trace } => match shape {
-            Shape::Header { .. } => Err(TextKind::Header),
-            Shape::Entry { entry } => admitted(version, trace, entry),
-            Shape::End { entries } => {
-                if entries == trace.len() {
-                    Ok(Stage::Ended { version, trace })
-                } else {
-                    Err(TextKind::Count)
-                }
-            }
-        },
-        Stage::Ended { .. } => Err(TextKind::After),
+        Stage::Within { version, trace } => going_on(version, trace, shape),
+        Stage::Ended { .. } => Err(Unfollowed {
+            kind: TextKind::After,
+            trace: None,
+        }),
     }
+}
+
+/// Why a line is refused, and what stands before it, where a trace does that goes on and the line has one of the shapes.
+#[derive(Drop)]
+pub(crate) struct Refused {
+    pub kind: TextKind,
+    pub before: Option<Before>,
+}
+
+fn alone(kind: TextKind) -> Refused
+    ensures kind { result.kind ≡ kind }
+    ensures before { result.before ≡ None }
+{
+    Refused { kind, before: None }
+}
+
+/// What stands before a line. It reads the line once more, since what it said is gone with the refusal.
+fn before_of(alloc: Global, trace: Option<Recorded>, line: &[u8]) -> Option<Before>
+    ensures { IfSome result (λ at. (trace ≡ Some at.trace.recording) × (line_shape line.now ≡ Ok at.says)) }
+{
+    let trace = trace?;
+    let Ok(says) = line_shape(alloc, line) else {
+        return None;
+    };
+    Some(Before {
+        trace: trace.into_trace(),
+        says,
+    })
 }
 
 /// Takes the next line, which goes up to byte number `end` of the text.
@@ -117,16 +191,26 @@ pub(crate) fn after_line(
     stage: Stage,
     end: usize,
     line: &[u8],
-) -> Result<Stage, TextKind>
-    ensures value { Gives result (after_line stage end line.now) }
+) -> Result<Stage, Refused>
+    ensures value { GivesRefused result (after_line stage end line.now) }
     ensures within { OnOk result (end ≤ max_text) }
+    ensures before { IfErr result (λ refused. IsKeptAt stage line.now refused.before) }
 {
     if let Stage::Ended { .. } = &stage {
-        return Err(TextKind::After);
+        return Err(alone(TextKind::After));
     }
     if end > MAX_TEXT {
-        return Err(TextKind::Big);
+        return Err(alone(TextKind::Big));
     }
-    let shape = line_shape(alloc, line)?;
-    follow(alloc, stage, shape)
+    let shape = match line_shape(alloc, line) {
+        Ok(shape) => shape,
+        Err(kind) => return Err(alone(kind)),
+    };
+    match follow(alloc, stage, shape) {
+        Ok(stage) => Ok(stage),
+        Err(unfollowed) => Err(Refused {
+            kind: unfollowed.kind,
+            before: before_of(alloc, unfollowed.trace, line),
+        }),
+    }
 }

@@ -2,9 +2,11 @@
 ghost use Rattle.std.specs.Prelude.{◌≡◌, ◌≢◌, ◌++◌, ◌<◌, List, [], ℕ, length, Ok, Err, IfOk, IfErr, IfSome, OnErr};
 ghost use Rattle.std.specs.Io.KnownBytes.{Consumes};
 ghost use Rattle.causal_trace.specs.Rows.{Recording};
+ghost use Rattle.causal_text.specs.Inside.Kept.{IsKeptAfter};
 ghost use Rattle.causal_text.specs.Spelling.{Spells, IsReadAt};
 ghost use Rattle.causal_text.specs.Streams.{HasRead, IsReading, HasPiece, Follows, Ends, IsFaultAfter, FailsBy, FailsAt, TellsOf, TellsLineOf, held_trace, IsHeldTrace};
 
+use crate::before::Rejected;
 use crate::kind::{TextFault, TextKind};
 use crate::reader::PieceReader;
 use crate::recorded::Recorded;
@@ -53,12 +55,14 @@ pub enum ReaderFault {
 }
 
 // the state after one more piece, or at the end where the piece is empty
-pub(crate) fn advance(alloc: Global, pieces: PieceReader, piece: &[u8]) -> Result<State, TextFault>
+pub(crate) fn advance(alloc: Global, pieces: PieceReader, piece: &[u8]) -> Result<State, Rejected>
     ensures ok { IfOk result (λ s. (b : List ℕ) → HasRead (State.Reading pieces) b → HasRead s (b ++ piece.now)) }
-    ensures err { IfErr result (λ f. f.kind ≢ TextKind.NoMemory
-        → (b : List ℕ) → HasRead (State.Reading pieces) b → IsFaultAfter piece.now (b ++ piece.now) f) }
-    ensures memory { IfErr result (λ f. f.kind ≡ TextKind.NoMemory
-        → (b : List ℕ) → HasRead (State.Reading pieces) b → IsReadAt (b ++ piece.now) f.line) }
+    ensures err { IfErr result (λ rejected. rejected.fault.kind ≢ TextKind.NoMemory
+        → (b : List ℕ) → HasRead (State.Reading pieces) b → IsFaultAfter piece.now (b ++ piece.now) rejected.fault) }
+    ensures memory { IfErr result (λ rejected. rejected.fault.kind ≡ TextKind.NoMemory
+        → (b : List ℕ) → HasRead (State.Reading pieces) b → IsReadAt (b ++ piece.now) rejected.fault.line) }
+    ensures before { IfErr result (λ rejected. (b : List ℕ) → HasRead (State.Reading pieces) b
+        → IsKeptAfter piece.now (b ++ piece.now) rejected) }
     ensures more { 0 < length piece.now → IfOk result (Follows Progress.More) }
     ensures ended { length piece.now ≡ 0 → IfOk result (Follows Progress.Ended) }
 {
@@ -128,7 +132,7 @@ impl<R: Read + Drop> TraceReader<R> {
                     Progress::More
                 })
             }
-            Err(fault) => Err(ReaderFault::Text(fault)),
+            Err(rejected) => Err(ReaderFault::Text(rejected.into_fault())),
         }
     }
 
@@ -180,7 +184,7 @@ impl<R: Read + Drop> TraceReader<R> {
 }
 
 // Each piece but the last has a byte, and a text has at most so many less two.
-const MAX_PIECES: u32 = 33_554_434;
+pub(crate) const MAX_PIECES: u32 = 33_554_434;
 
 /// The trace that the bytes of a source spell, which is read to its end, or until what was read is no beginning of a
 /// trace. Each piece but the last has a byte, so the source is asked for at most 33,554,434 pieces.

@@ -1,70 +1,160 @@
 //! Audits the recorded run, or runs the script, that it reads on standard input.
 //!
-//! The work is that of `causal_commands`: [`audit_and_tell`] of `audit`, [`show_and_tell`] of `explain` and `draw`, and
-//! [`run_and_tell`] of `run`. All go from any reader to any writer, and their clauses are what the program promises. What the words
-//! of the command line ask for is told by `causal_words`. `main` adds the standard streams and the exit status.
+//! The work is that of `causal_commands`: [`audit_and_tell`] of `audit`, [`show_and_tell`] of `explain` and `draw`,
+//! [`range_and_tell`] of `explain` with no number of faults, [`merge_and_tell`] of `merge`, and [`run_and_tell`] of `run`. All go from any reader to any writer,
+//! and their clauses are what the program promises. What the words of the command line ask for is told by `causal_words`. `main`
+//! adds the standard streams, the exit status, and the name of the command before what is said on standard error.
 #![tactic(auto)]
 
 ghost use Rattle.std.specs.Prelude.{◌≡◌};
 ghost use Rattle.std.specs.Process.{exit_status};
 ghost use Rattle.causal_commands.specs.Endings.{status_of};
+ghost use Rattle.causal_words.specs.Words.{HasWorkers};
 
+mod merging;
+
+use crate::merging::complain_of_recordings;
 pub use causal_commands::audit_stream;
-use causal_commands::{Told, audit_and_tell, run_and_tell, show_and_tell};
-use causal_text::TextFault;
+use causal_commands::{
+    Ended, Noted, Reason, Refusal, Told, View, audit_and_tell, complaint, hint_of, merge_and_tell,
+    range_and_tell, run_and_tell, show_and_tell,
+};
 use causal_words::{Asked, Refused, read_words};
 use causal_workers::OpenGate;
-use std::fmt::Display;
-use std::io;
+use std::io::{self, ErrorKind, IsTerminal, Read, Write};
 use std::process::ExitCode;
 use std::rt::Env;
+use std::sync::Wait;
+use std::thread::Threads;
 
-/// Says on standard error what is wrong, where something is, and gives the status.
-fn told<F: Display + Drop>(rt: &HostRuntime, told: Told<F>) -> ExitCode
-    ensures { exit_status result ≡ status_of told.ended }
+/// What stands before each line on standard error.
+fn name_of(asked: Asked) -> &'static str {
+    match asked {
+        Asked::Audit { .. } => "causal_tool audit",
+        Asked::Show {
+            view: View::Picture,
+            ..
+        } => "causal_tool draw",
+        Asked::Show { .. } | Asked::Range => "causal_tool explain",
+        Asked::Merge => "causal_tool merge",
+        Asked::Run => "causal_tool run",
+    }
+}
+
+/// Says what is read where a person may have to type it.
+fn prompt(rt: &HostRuntime, asked: Asked) {
+    if !rt.stdin().is_terminal() {
+        return;
+    }
+    let what = match asked {
+        Asked::Merge => "recordings",
+        Asked::Run => "a script",
+        _ => "a trace",
+    };
+    let command = name_of(asked);
+    let _ = eprintln!(rt; "{command}: reading {what} from the terminal; end it with control-D");
+}
+
+/// Says what is wrong with a text that is no trace.
+fn complain<R: Eprint + AllocGlobal>(rt: &R, command: &str, f: u16, told: Told<Refusal>) -> Ended
+    ensures { result ≡ told.ended }
 {
-    match (told.ended.text(), told.fault) {
-        (Some(text), _) => {
+    let Told { ended, fault } = told;
+    say(rt, command, f, fault);
+    ended
+}
+
+fn say<R: Eprint + AllocGlobal>(rt: &R, command: &str, f: u16, fault: Option<Refusal>) {
+    let Some(refusal) = fault else {
+        return;
+    };
+    let Ok(bytes) = complaint(rt.alloc(), command, f, &refusal) else {
+        return;
+    };
+    if let Ok(text) = String::from_utf8_lossy(rt.alloc(), bytes.as_slice()) {
+        let _ = rt.eprint(text);
+    }
+}
+
+/// Says why a script was not run to its end.
+fn complain_of_script<R: Eprint>(rt: &R, command: &str, told: Told<Reason>) -> Ended
+    ensures { result ≡ told.ended }
+{
+    if let Some(reason) = told.fault {
+        let _ = eprintln!(rt; "{command}: {reason}");
+        if let Some(hint) = hint_of(reason) {
+            let _ = eprintln!(rt; "{command}: {hint}");
+        }
+    }
+    told.ended
+}
+
+/// Does what was asked for, and says what is wrong with the text.
+fn done<R: Threads + Wait + Eprint + AllocGlobal, I: Read, O: Write>(
+    rt: &R,
+    asked: Asked,
+    input: &mut I,
+    output: &mut O,
+) -> Ended
+    requires { HasWorkers asked }
+{
+    let (alloc, command) = (rt.alloc(), name_of(asked));
+    match asked {
+        Asked::Audit { faults, workers } => {
+            let told = audit_and_tell(rt, alloc, input, output, faults, workers, &OpenGate);
+            complain(rt, command, faults, told)
+        }
+        Asked::Show { view, faults } => {
+            let told = show_and_tell(rt, alloc, input, output, faults, view);
+            complain(rt, command, faults, told)
+        }
+        Asked::Range => complain(rt, command, 0, range_and_tell(alloc, input, output)),
+        Asked::Merge => complain_of_recordings(rt, command, merge_and_tell(alloc, input, output)),
+        Asked::Run => complain_of_script(rt, command, run_and_tell(rt, alloc, input, output)),
+    }
+}
+
+/// Says that no answer was written whole, where that is so, and why. Where nobody reads the answer any more nothing is said.
+fn say_ended(rt: &HostRuntime, command: &str, ended: Ended, reason: Option<io::Error>) {
+    let Some(text) = ended.text() else {
+        return;
+    };
+    match reason {
+        Some(error) if error.kind() == ErrorKind::BrokenPipe => {}
+        Some(error) => {
+            let _ = rt.eprintln(text);
+            let _ = eprintln!(rt; "{command}: {error}");
+        }
+        None => {
             let _ = rt.eprintln(text);
         }
-        (None, Some(fault)) => {
-            let _ = rt.eprintln(fault);
-        }
-        (None, None) => {}
     }
-    ExitCode::from(told.ended.status())
+}
+
+fn status(ended: Ended) -> ExitCode
+    ensures { exit_status result ≡ status_of ended }
+{
+    ExitCode::from(ended.status())
 }
 
 fn main(rt: HostRuntime) -> ExitCode {
-    match read_words(&rt) {
-        Ok(Asked::Audit { faults, workers }) => told(
-            &rt,
-            audit_and_tell(
-                &rt,
-                rt.alloc(),
-                &mut rt.reader(),
-                &mut io::writer(&rt),
-                faults,
-                workers,
-                &OpenGate,
-            ),
-        ),
-        Ok(Asked::Show { view, faults }) => told(
-            &rt,
-            show_and_tell(
-                &rt,
-                rt.alloc(),
-                &mut rt.reader(),
-                &mut io::writer(&rt),
-                faults,
-                view,
-            ),
-        ),
-        Ok(Asked::Run) => told(
-            &rt,
-            run_and_tell(&rt, rt.alloc(), &mut rt.reader(), &mut io::writer(&rt)),
-        ),
-        Err(Refused::Status(status)) => ExitCode::from(status),
-        Err(Refused::Ended(ended)) => told::<TextFault>(&rt, Told { ended, fault: None }),
-    }
+    let asked = match read_words(&rt) {
+        Ok(asked) => asked,
+        Err(Refused::Status(status)) => return ExitCode::from(status),
+        Err(Refused::Ended(ended)) => {
+            say_ended(&rt, "causal_tool", ended, None);
+            return status(ended);
+        }
+    };
+    prompt(&rt, asked);
+    let mut input = Noted::new(rt.reader());
+    let mut output = Noted::new(io::writer(&rt));
+    let ended = done(&rt, asked, &mut input, &mut output);
+    let reason = match ended {
+        Ended::ReadFault => input.error(),
+        Ended::WriteFault => output.error(),
+        _ => None,
+    };
+    say_ended(&rt, name_of(asked), ended, reason);
+    status(ended)
 }

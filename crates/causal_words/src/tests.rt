@@ -9,6 +9,8 @@ fn statuses(rt: HostRuntime) {
     for (ended, status, text) in [
         (Ended::Accepted, 0, None),
         (Ended::Breached, 1, None),
+        (Ended::Ranged, 0, None),
+        (Ended::Merged, 0, None),
         (Ended::Faulted, 2, None),
         (Ended::Ran, 0, None),
         (Ended::Refused, 2, None),
@@ -55,6 +57,13 @@ fn words_that_ask_for_a_run(rt: HostRuntime) -> Result<(), Fail> {
 }
 
 #[test]
+fn words_that_ask_for_a_merge(rt: HostRuntime) -> Result<(), Fail> {
+    let words = ["causal_tool", "merge"];
+    assert_eq!(rt; parsed(rt.alloc(), words.as_slice())?, Some(Asked::Merge));
+    Ok(())
+}
+
+#[test]
 fn words_that_ask_to_show(rt: HostRuntime) -> Result<(), Fail> {
     for (word, view) in [("explain", View::Reason), ("draw", View::Picture)] {
         let words = ["causal_tool", word, "--faults", "2"];
@@ -64,8 +73,15 @@ fn words_that_ask_to_show(rt: HostRuntime) -> Result<(), Fail> {
     Ok(())
 }
 
+#[test]
+fn words_that_ask_for_a_range(rt: HostRuntime) -> Result<(), Fail> {
+    let words = ["causal_tool", "explain"];
+    assert_eq!(rt; parsed(rt.alloc(), words.as_slice())?, Some(Asked::Range));
+    Ok(())
+}
+
 // words after the program's name, and how they are refused
-const REFUSED: [(&[&str], ErrorKind, Refused); 20] = [
+const REFUSED: [(&[&str], ErrorKind, Refused); 22] = [
     (&[], ErrorKind::MissingSubcommand, Refused::Status(3)),
     (
         &["audit"],
@@ -73,7 +89,7 @@ const REFUSED: [(&[&str], ErrorKind, Refused); 20] = [
         Refused::Status(3),
     ),
     (
-        &["explain"],
+        &["draw"],
         ErrorKind::MissingRequiredArgument,
         Refused::Status(3),
     ),
@@ -136,6 +152,16 @@ const REFUSED: [(&[&str], ErrorKind, Refused); 20] = [
         &["run", "--faults", "1"],
         ErrorKind::UnknownArgument,
         Refused::Status(3),
+    ),
+    (
+        &["merge", "run.log"],
+        ErrorKind::UnknownArgument,
+        Refused::Status(3),
+    ),
+    (
+        &["merge", "--help"],
+        ErrorKind::DisplayHelp,
+        Refused::Status(0),
     ),
     (&["--help"], ErrorKind::DisplayHelp, Refused::Status(0)),
     (&["help"], ErrorKind::DisplayHelp, Refused::Status(0)),

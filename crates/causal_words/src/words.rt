@@ -4,6 +4,7 @@ ghost use Rattle.clap.specs.Values.{kind_of};
 ghost use Rattle.causal_words.specs.Inside.Refusals.{refusal};
 ghost use Rattle.causal_words.specs.Words.{HasWorkers};
 
+use crate::merging::merge;
 use causal_commands::{Ended, View};
 use clap::error::ErrorKind;
 use clap::{Arg, ArgMatches, Command, Error, value_parser};
@@ -92,7 +93,12 @@ Answers on standard output: the line that `audit` prints, and below it, one fact
       is down, the chain of events by which the orphan comes to depend on the delivery, and
       the delivery on it whose list lacks the determinant first
 
-Exit status: as that of `audit`
+Without --faults, for which numbers of faults F the run is safe, a line for each part:
+  exceeded to=F       up to F, at some instant more than F processes are down
+  accept from=F to=F  the run is safe
+  orphan from=F       from F on, at some instant a delivery has an orphan
+
+Exit status: as that of `audit`; without --faults 0 for each trace
 
 Example:
   causal_tool explain --faults 1 < trace.jsonl";
@@ -104,8 +110,7 @@ Answers on standard output:
       arrows for messages; with the verdict's instant, the processes of its crash set or those
       that are down, and the chain of events by which the orphan comes to depend on the
       delivery; at most 200 entries, those about the instant
-  fault line=L KIND
-      the text is no trace: its first fault is at line L
+  nothing, where the text is no trace; standard error says what is wrong there
 
 Exit status: as that of `audit`
 
@@ -119,6 +124,10 @@ pub enum Asked {
     Audit { faults: u16, workers: u32 },
     /// The same audit by one worker, and what shows why its verdict is so.
     Show { view: View, faults: u16 },
+    /// For which numbers of faults the trace is safe.
+    Range,
+    /// The trace that recordings make.
+    Merge,
     /// The trace of a script's run.
     Run,
 }
@@ -204,10 +213,24 @@ pub fn parsed<'a, S: AsStr>(alloc: Global, words: &'a [S]) -> Result<Option<Aske
                 _ => Ok(None),
             }
         }
-        Some(("explain", given)) => Ok(shown(given, View::Reason)),
+        Some(("explain", given)) => Ok(Some(explained(given))),
         Some(("draw", given)) => Ok(shown(given, View::Picture)),
+        Some(("merge", _)) => Ok(Some(Asked::Merge)),
         Some(("run", _)) => Ok(Some(Asked::Run)),
         _ => Ok(None),
+    }
+}
+
+/// What is asked for where a verdict is to be explained, or told of all numbers of faults where none is given.
+fn explained(given: &ArgMatches) -> Asked
+    ensures { HasWorkers result }
+{
+    match given.get_one::<u16>("faults") {
+        Some(faults) => Asked::Show {
+            view: View::Reason,
+            faults,
+        },
+        None => Asked::Range,
     }
 }
 
@@ -244,9 +267,11 @@ fn command<'a>(alloc: Global) -> Result<Command<'a>, AllocError> {
         .arg(faults(alloc))?
         .arg(workers)?;
     let explain = Command::new(alloc, "explain")
-        .about("Audits the trace on standard input, and tells why the verdict is so")
+        .about(
+            "Audits the trace on standard input, and tells why the verdict is so; or for which F it is safe",
+        )
         .after_help(REASONS)
-        .arg(faults(alloc))?;
+        .arg(faults(alloc).required(false))?;
     let draw = Command::new(alloc, "draw")
         .about("Audits the trace on standard input, and draws it with the verdict")
         .after_help(PICTURES)
@@ -263,5 +288,6 @@ fn command<'a>(alloc: Global) -> Result<Command<'a>, AllocError> {
         .subcommand(audit)?
         .subcommand(explain)?
         .subcommand(draw)?
+        .subcommand(merge(alloc))?
         .subcommand(run)
 }

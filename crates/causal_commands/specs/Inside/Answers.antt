@@ -3,6 +3,7 @@ use Rattle.std.specs.Prelude.{ℕ, List, Option, IfSome, ⊤}
 use Rattle.causal_commands.specs.declared.ended.Ended.{Ended}
 use Rattle.causal_commands.specs.declared.ended.Ended.TheVariants.{ReadFault, NoMemory, NoWorker}
 use Rattle.causal_commands.specs.declared.shown.View.{View}
+use Rattle.causal_commands.specs.Ranges.{IsRangeAnswer}
 use Rattle.causal_commands.specs.Shown.{IsReply}
 use Rattle.causal_commands.specs.Streams.{IsAnswer}
 
@@ -13,6 +14,10 @@ IsAnswerFor given f ended line = IfSome given (λ text. IsAnswer text f ended li
 -- this replies to it, and shows why the verdict is so
 abbrev pub IsReplyFor : View → Option (List ℕ) → ℕ → Ended → List ℕ → Type 0
 IsReplyFor view given f ended out = IfSome given (λ text. IsReply view text f ended out)
+
+-- this tells for which numbers of faults it is safe
+abbrev pub IsRangeAnswerFor : Option (List ℕ) → Ended → List ℕ → Type 0
+IsRangeAnswerFor given ended out = IfSome given (λ text. IsRangeAnswer text ended out)
 
 -- an ending that writes nothing
 abbrev pub IsSilent : Ended → Type 0

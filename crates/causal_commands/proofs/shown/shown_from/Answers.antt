@@ -1,9 +1,6 @@
 use Rattle.causal_commands.proofs.Known.{IfSome-weaker}
 use Rattle.causal_commands.proofs.shown.shown_from.Goals as goal
 
-pub returns-in-Err-clause-err : goal.returns-in-Err-clause-err
-returns-in-Err-clause-err g c = IfSome-weaker (g.I.Read.remaining c.args.input.now) _ _ (λ text told. c.fault_of.ensures.told text told) c.in-Err.ensures.err
-
 pub returns-in-Ok-shown_of-clause-ok : goal.returns-in-Ok-shown_of-clause-ok
 returns-in-Ok-shown_of-clause-ok g c =
     let judged = c.in-Ok-shown_of.ensures.judged in

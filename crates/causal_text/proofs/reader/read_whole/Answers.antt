@@ -1,9 +1,10 @@
 use Rattle.std.proofs.Common.{◌≡◌, ◌∙◌, sym, ap, ℕ, ◌+◌, List, [], Result, Ok, Err, IfErr, append-nil, subst}
 use Rattle.std.proofs.lemmas.Result.{err_from_is_err_and}
 use Rattle.causal_trace.specs.Rows.{Recording}
+use Rattle.causal_text.specs.declared.before.Rejected.{Rejected}
 use Rattle.causal_text.specs.declared.kind.TextKind.TheVariants as kind
 use Rattle.causal_text.specs.declared.kind.TextFault.{TextFault}
-use Rattle.causal_text.specs.Given.{GivesText}
+use Rattle.causal_text.specs.Inside.Kept.{GivesRejected}
 use Rattle.causal_text.specs.Inside.LineByLine.{reading}
 use Rattle.causal_text.specs.Spelling.{IsReadUpTo, IsReadAt}
 use Rattle.causal_text.specs.Pieces.{Held, StandsFor}
@@ -25,11 +26,11 @@ returns-in_err-reader-clause-memory c =
     rw (p.1, p.2) (λ wants. whole_line c.args.bytes.now _ (c.in_err-reader.ensures.line [] c.new.ensures.stands))
 
 pub returns-clause-value : goal.returns-clause-value
-returns-clause-value c = subst (λ (read : Result Recording TextFault). GivesText c.end.result read) (sym (reading-ending c.in_ok-reader.reader c.args.bytes.now (c.in_ok-reader.ensures.ok [] c.new.ensures.stands))) c.end.ensures.value
+returns-clause-value c = subst (λ (read : Result Recording TextFault). GivesRejected c.end.result read) (sym (reading-ending c.in_ok-reader.reader c.args.bytes.now (c.in_ok-reader.ensures.ok [] c.new.ensures.stands))) c.end.ensures.value
 
-last_line : (h : Held) (b : List ℕ) (r : Result Recording TextFault) → StandsFor h b → IfErr r (λ f. f.kind ≡ kind.NoMemory → f.line ≡ h.place.count + 1) → IfErr r (λ f. f.kind ≡ kind.NoMemory → IsReadUpTo b f.line)
+last_line : (h : Held) (b : List ℕ) (r : Result Recording Rejected) → StandsFor h b → IfErr r (λ f. f.fault.kind ≡ kind.NoMemory → f.fault.line ≡ h.place.count + 1) → IfErr r (λ f. f.fault.kind ≡ kind.NoMemory → IsReadUpTo b f.fault.line)
 last_line h b (Ok x) s e = tt
-last_line h b (Err f) s e = λ wants. whole_line b f.line (IsReadAt-stands h b f.line s (e wants))
+last_line h b (Err f) s e = λ wants. whole_line b f.fault.line (IsReadAt-stands h b f.fault.line s (e wants))
 
 pub returns-clause-memory : goal.returns-clause-memory
 returns-clause-memory c = last_line c.in_ok-reader.reader c.args.bytes.now c.end.result (c.in_ok-reader.ensures.ok [] c.new.ensures.stands) c.end.ensures.memory

@@ -1,9 +1,12 @@
-use Rattle.std.proofs.Common.{◌≡◌, ◌++◌, ◌∙◌, sym, ap, List, [], ◌∷◌, ℕ, Bool, true, false, length, Err, append-nil}
+use Rattle.std.proofs.Common.{◌≡◌, ◌++◌, ◌∙◌, sym, ap, subst, List, [], ◌∷◌, ℕ, Bool, true, false, length, Err, append-nil}
 use Rattle.std.specs.Prelude.{◌==◌}
 use Rattle.std.proofs.lemmas.Bool.{eqb-true}
 use Rattle.std.proofs.lemmas.List.{nil_from_length}
 use Rattle.std.proofs.lemmas.Result.{err_from_is_err_and}
+use Rattle.causal_text.specs.declared.before.Rejected.{Rejected}
 use Rattle.causal_text.specs.declared.kind.TextFault.{TextFault}
+use Rattle.causal_text.specs.Before.{IsKept}
+use Rattle.causal_text.specs.Inside.Kept.{IsKeptOfAll, IsKeptAfter}
 use Rattle.causal_text.specs.Inside.Unfinished.{IsFaultOfAll}
 use Rattle.causal_text.specs.Streams.{IsFaultAfter}
 use Rattle.causal_text.specs.Inside.LineByLine.{reading}
@@ -47,3 +50,22 @@ pub returns-in_err-end-clause-memory : goal.returns-in_err-end-clause-memory
 returns-in_err-end-clause-memory c =
     let p = err_from_is_err_and c.from_residual.result c.from_residual.ensures.1 in
     rw (p.1, p.2) (λ wants b s. IsReadAt-more b c.args.piece.now _ (IsReadAt-stands c.args.pieces b _ s.0 (c.in_err-end.ensures.memory wants)))
+
+kept_after : (piece bytes : List ℕ) (rejected : Rejected) (b : Bool) → b ≡ (length piece == 0) → b ≡ false → IsKeptOfAll bytes rejected → IsKeptAfter piece bytes rejected
+kept_after [] bytes rejected b e some h = absurd (let bad : true ≡ false = sym e ∙ some in cc)
+kept_after (x ∷ xs) bytes rejected b e some h = h
+
+kept_at_end : (piece b : List ℕ) (rejected : Rejected) → piece ≡ [] → IsKept b rejected → IsKeptAfter piece (b ++ piece) rejected
+kept_at_end [] b rejected e h = subst (λ (bytes : List ℕ). IsKept bytes rejected) (sym (append-nil b)) h
+kept_at_end (x ∷ xs) b rejected e h = absurd (let no : x ∷ xs ≡ [] = e in cc)
+
+pub returns-in_err-end-clause-before : goal.returns-in_err-end-clause-before
+returns-in_err-end-clause-before c =
+    let p = err_from_is_err_and c.from_residual.result c.from_residual.ensures.1 in
+    let empty = is_nil c.args.piece.now c.is_empty.result c.is_empty.ensures c.if-is_empty.true in
+    rw (p.1, p.2) (λ b s. kept_at_end c.args.piece.now b _ empty (c.in_err-end.ensures.before b s.0))
+
+pub returns-in_err-feed-clause-before : goal.returns-in_err-feed-clause-before
+returns-in_err-feed-clause-before c =
+    let p = err_from_is_err_and c.from_residual-in_err-feed.result c.from_residual-in_err-feed.ensures.1 in
+    rw (p.1, p.2) (λ b s. kept_after c.args.piece.now _ _ c.is_empty.result c.is_empty.ensures c.if-is_empty.false (c.in_err-feed.ensures.before b s.0))

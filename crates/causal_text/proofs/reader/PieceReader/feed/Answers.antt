@@ -1,10 +1,12 @@
-use Rattle.std.proofs.Common.{◌≡◌, ◌≢◌, ◌+◌, ◌<◌, ◌++◌, ◌∙◌, sym, ap, List, ℕ, true, length, Result, Ok, Err, IfOk, IfErr, append_assoc}
+use Rattle.std.proofs.Common.{◌≡◌, ◌≢◌, None, ◌+◌, ◌<◌, ◌++◌, ◌∙◌, sym, ap, List, ℕ, true, length, Result, Ok, Err, IfOk, IfErr, append_assoc}
+use Rattle.causal_text.specs.declared.before.Rejected.{Rejected}
 use Rattle.causal_text.specs.declared.kind.TextKind.TheVariants as kind
-use Rattle.causal_text.specs.declared.kind.TextFault.{TextFault}
 use Rattle.causal_text.specs.Spelling.{IsReadAt}
 use Rattle.causal_text.specs.Pieces.{no_feed, Held, StandsFor}
+use Rattle.causal_text.specs.Inside.Kept.{IsKeptOfAll}
 use Rattle.causal_text.specs.Inside.Unfinished.{IsFaultOfAll, IsPast}
 use Rattle.std.proofs.lemmas.Result.{err_from_is_err_and}
+use Rattle.causal_text.proofs.BeforeLemmas.{kept_of_none, kept_of_piece}
 use Rattle.causal_text.proofs.Feeds.{Comes, Comes-line, Comes-hold, fault_of_piece, fault_of_hold, line_of_part}
 use Rattle.causal_text.proofs.Lemmas.Told.{told}
 use Rattle.causal_text.proofs.reader.PieceReader.feed.Goals as goal
@@ -15,14 +17,14 @@ loop-line-preserved c =
     let some = c.in-Some.ensures.some in
     (i.0 ++ c.in-Some.line.now, i.1 ∙ ap (λ xs. i.0 ++ xs) some.1 ∙ sym (append_assoc i.0 c.in-Some.line.now c.in-Some.after.now), Comes-line c.args.self c.loop-line.reader c.in_ok-reader.reader i.0 c.in-Some.line.now i.2 some.0 c.in_ok-reader.ensures.value)
 
-held : (h0 h : Held) (piece done left : List ℕ) (r : Result Held TextFault) → Comes h0 done h → piece ≡ done ++ left → no_feed left ≡ true → IfOk r (λ k. k ≡ record { place = h.place; rest = h.rest ++ left }) → IfOk r (λ k. (b : List ℕ) → StandsFor h0 b → StandsFor k (b ++ piece))
+held : (h0 h : Held) (piece done left : List ℕ) (r : Result Held Rejected) → Comes h0 done h → piece ≡ done ++ left → no_feed left ≡ true → IfOk r (λ k. k ≡ record { place = h.place; rest = h.rest ++ left }) → IfOk r (λ k. (b : List ℕ) → StandsFor h0 b → StandsFor k (b ++ piece))
 held h0 h piece done left (Ok k) c is none e = rw (e, is) (Comes-hold h0 h done left c none)
 held h0 h piece done left (Err f) c is none e = tt
 
-past : (h0 h : Held) (piece done left : List ℕ) (r : Result Held TextFault) → Comes h0 done h → piece ≡ done ++ left → no_feed left ≡ true
-    → IfErr r (λ f. f.kind ≢ kind.NoMemory → (0 < length (h.rest ++ left)) × IsPast (record { place = h.place; rest = h.rest ++ left }) f) → IfErr r (λ f. f.kind ≢ kind.NoMemory → (b : List ℕ) → StandsFor h0 b → IsFaultOfAll (b ++ piece) f)
+past : (h0 h : Held) (piece done left : List ℕ) (r : Result Held Rejected) → Comes h0 done h → piece ≡ done ++ left → no_feed left ≡ true
+    → IfErr r (λ f. f.fault.kind ≢ kind.NoMemory → (0 < length (h.rest ++ left)) × IsPast (record { place = h.place; rest = h.rest ++ left }) f.fault) → IfErr r (λ f. f.fault.kind ≢ kind.NoMemory → (b : List ℕ) → StandsFor h0 b → IsFaultOfAll (b ++ piece) f.fault)
 past h0 h piece done left (Ok k) c is none e = tt
-past h0 h piece done left (Err f) c is none e = λ other b s. rw is (fault_of_hold h0 h done left f c none (e other).0 (e other).1 b s)
+past h0 h piece done left (Err f) c is none e = λ other b s. rw is (fault_of_hold h0 h done left f.fault c none (e other).0 (e other).1 b s)
 
 pub returns-clause-ok : goal.returns-clause-ok
 returns-clause-ok c = let i = c.loop-line.invariant in held c.args.self c.loop-line.reader _ i.0 c.loop-line.left.now c.hold.result i.2 i.1 c.in_default.ensures.none c.hold.ensures.ok
@@ -38,9 +40,9 @@ returns-in_err-reader-clause-err c =
     let piece_is = i.1 ∙ ap (λ xs. i.0 ++ xs) some.1 in
     rw (p.1, p.2) (λ other b s. rw piece_is (fault_of_piece c.args.self c.loop-line.reader i.0 c.in-Some.line.now c.in-Some.after.now _ i.2 some.0 (told _ _ _ c.in_err-reader.ensures.value other) b s))
 
-lined : (h0 h : Held) (piece done left : List ℕ) (r : Result Held TextFault) → Comes h0 done h → piece ≡ done ++ left → IfErr r (λ f. f.line ≡ h.place.count + 1) → IfErr r (λ f. (b : List ℕ) → StandsFor h0 b → IsReadAt (b ++ piece) f.line)
+lined : (h0 h : Held) (piece done left : List ℕ) (r : Result Held Rejected) → Comes h0 done h → piece ≡ done ++ left → IfErr r (λ f. f.fault.line ≡ h.place.count + 1) → IfErr r (λ f. (b : List ℕ) → StandsFor h0 b → IsReadAt (b ++ piece) f.fault.line)
 lined h0 h piece done left (Ok k) c is e = tt
-lined h0 h piece done left (Err f) c is e = λ b s. rw is (line_of_part h0 h done left b f.line c s e)
+lined h0 h piece done left (Err f) c is e = λ b s. rw is (line_of_part h0 h done left b f.fault.line c s e)
 
 pub returns-clause-line : goal.returns-clause-line
 returns-clause-line c = let i = c.loop-line.invariant in lined c.args.self c.loop-line.reader _ i.0 c.loop-line.left.now c.hold.result i.2 i.1 c.hold.ensures.line
@@ -50,3 +52,18 @@ returns-in_err-reader-clause-line c =
     let p = err_from_is_err_and c.from_residual.result c.from_residual.ensures.1 in
     let i = c.loop-line.invariant in
     rw (p.1, p.2) (λ b s. rw i.1 (line_of_part c.args.self c.loop-line.reader i.0 c.loop-line.left.now b _ i.2 s c.in_err-reader.ensures.line))
+
+unkept : (h0 : Held) (piece : List ℕ) (r : Result Held Rejected) → IfErr r (λ f. f.before ≡ None) → IfErr r (λ f. (b : List ℕ) → StandsFor h0 b → IsKeptOfAll (b ++ piece) f)
+unkept h0 piece (Ok k) e = tt
+unkept h0 piece (Err f) e = λ b s. kept_of_none (b ++ piece) f e
+
+pub returns-clause-before : goal.returns-clause-before
+returns-clause-before c = unkept c.args.self c.args.piece.now c.hold.result c.hold.ensures.before
+
+pub returns-in_err-reader-clause-before : goal.returns-in_err-reader-clause-before
+returns-in_err-reader-clause-before c =
+    let p = err_from_is_err_and c.from_residual.result c.from_residual.ensures.1 in
+    let i = c.loop-line.invariant in
+    let some = c.in-Some.ensures.some in
+    let piece_is = i.1 ∙ ap (λ xs. i.0 ++ xs) some.1 in
+    rw (p.1, p.2) (λ b s. rw piece_is (kept_of_piece c.args.self c.loop-line.reader i.0 c.in-Some.line.now c.in-Some.after.now _ _ i.2 some.0 c.in_err-reader.ensures.before c.in_err-reader.ensures.line b s))

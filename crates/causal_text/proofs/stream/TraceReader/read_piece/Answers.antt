@@ -6,12 +6,13 @@ pub returns-after-n-eq0-clause-ok : goal.returns-after-n-eq0-clause-ok
 returns-after-n-eq0-clause-ok g c = rw (← c.self.view_is) (search rules)
 
 pub returns-in-Err-clause-text : goal.returns-in-Err-clause-text
-returns-in-Err-clause-text g c = λ other. (
+returns-in-Err-clause-text g c = rw c.into_fault.ensures (λ other. (
   take c.in-Ok.n c.read.new.buf,
   rw (← c.self.view_is) c.in-Ok.ensures.bytes.0,
   piece_ends c.in-Ok.n c.read.new.buf _ c.in-Ok.ensures.bound.0 c.in-Ok.ensures.bytes.1 (omega arith),
   c.in-Err.ensures.err other,
-)
+))
 
 pub returns-in-Err-clause-memory : goal.returns-in-Err-clause-memory
-returns-in-Err-clause-memory g c = λ wants. (take c.in-Ok.n c.read.new.buf, rw (← c.self.view_is) c.in-Ok.ensures.bytes.0, c.in-Err.ensures.memory wants)
+returns-in-Err-clause-memory g c =
+    rw c.into_fault.ensures (λ wants. (take c.in-Ok.n c.read.new.buf, rw (← c.self.view_is) c.in-Ok.ensures.bytes.0, c.in-Err.ensures.memory wants))

@@ -1,0 +1,59 @@
+-- What is written of the numbers of faults for which a run is safe.
+use Rattle.std.specs.Prelude.{◌≡◌, ℕ, ◌-◌, ◌<◌, nat_lt, if◌then◌else◌, List, [], ◌++◌, length, take, Option, Some, None, IfSome, codes, decimal}
+use Rattle.std.specs.Io.KnownBytes.{Appends, Keeps}
+use Rattle.causal_trace.specs.Rows.{Recording}
+use Rattle.causal_text.specs.Spelling.{Spells}
+use Rattle.causal_explain.specs.declared.range.SafeRange.{SafeRange}
+use Rattle.causal_explain.specs.Ranges.{IsSafeRange}
+use Rattle.causal_commands.specs.declared.ended.Ended.{Ended}
+use Rattle.causal_commands.specs.declared.ended.Ended.TheVariants.{Ranged, Faulted, ReadFault, WriteFault, NoMemory, NoWorker}
+use Rattle.causal_commands.specs.Streams.{IsFaultLine}
+
+-- for which numbers too many processes are down at some instant: those up to this one
+abbrev pub exceeded_to : ℕ → List ℕ
+exceeded_to last = codes "exceeded to=" ++ (decimal last ++ codes ": at some instant more than f processes are down\n")
+
+-- for which the run is safe: those from one on, or from one to another
+abbrev pub accept_from : ℕ → List ℕ
+accept_from first = codes "accept from=" ++ (decimal first ++ codes ": the run is safe for f\n")
+
+abbrev pub accept_between : ℕ → ℕ → List ℕ
+accept_between first last = codes "accept from=" ++ (decimal first ++ (codes " to=" ++ (decimal last ++ codes ": the run is safe for f\n")))
+
+-- for which a delivery has an orphan at some instant: those from this one on
+abbrev pub orphan_from : ℕ → List ℕ
+orphan_from first = codes "orphan from=" ++ (decimal first ++ codes ": at some instant a delivery has an orphan for f\n")
+
+abbrev pub exceeded_part : ℕ → List ℕ
+exceeded_part from = if nat_lt 0 from then exceeded_to (from - 1) else []
+
+abbrev pub accept_part : ℕ → ℕ → List ℕ
+accept_part from end = if nat_lt from end then accept_between from (end - 1) else []
+
+abbrev pub rest_of : ℕ → Option ℕ → List ℕ
+rest_of from None = accept_from from
+rest_of from (Some end) = accept_part from end ++ orphan_from end
+
+-- a line for each part, in this order, where there are such numbers
+abbrev pub range_text : SafeRange → List ℕ
+range_text range = exceeded_part range.from ++ rest_of range.from range.below
+
+-- the answer to a text where the program ends so: for which numbers of faults the trace that it spells is safe, or the line of its
+-- first fault
+abbrev pub IsRangeAnswer : List ℕ → Ended → List ℕ → Type 0
+IsRangeAnswer text Ranged out = (recording : Recording) × (range : SafeRange) × Spells text recording × IsSafeRange recording range × (out ≡ range_text range)
+IsRangeAnswer text Faulted out = IsFaultLine text out
+IsRangeAnswer text _ out = ⊥
+
+-- what is written to a text where the program ends so: the answer alone; after a write fault only its first bytes; else nothing
+abbrev pub WritesRange : List ℕ → Ended → Option (List ℕ) → Option (List ℕ) → Type 0
+WritesRange text ReadFault old new = Keeps old new
+WritesRange text NoMemory old new = Keeps old new
+WritesRange text NoWorker old new = Keeps old new
+WritesRange text WriteFault old new =
+    (ended : Ended) × (out : List ℕ) × (n : ℕ) × IsRangeAnswer text ended out × (n < length out) × Appends old new (take n out)
+WritesRange text ended old new = (out : List ℕ) × IsRangeAnswer text ended out × Appends old new out
+
+-- the same of what a reader gives, where its bytes are known
+abbrev pub WritesRangeFor : Option (List ℕ) → Ended → Option (List ℕ) → Option (List ℕ) → Type 0
+WritesRangeFor given ended old new = IfSome given (λ text. WritesRange text ended old new)

@@ -1,0 +1,35 @@
+//! What a script may have where a line is none of it.
+ghost use Rattle.std.specs.Prelude.{◌≡◌, option_map};
+ghost use Rattle.causal_commands.specs.Hints as told;
+
+use crate::script::Reason;
+use causal_script::{ScriptFault, ScriptFaultKind};
+
+/// What was expected at the line of a script's fault, where it is none of a script there; None of another reason.
+pub fn hint_of(reason: Reason) -> Option<&'static str>
+    ensures { option_map (λ text. text.now) result ≡ told.hint_of reason }
+{
+    match reason {
+        Reason::Script(fault) => hint_at(fault),
+        Reason::Run(_) => None,
+    }
+}
+
+fn hint_at(fault: ScriptFault) -> Option<&'static str>
+    ensures { option_map (λ text. text.now) result ≡ told.hint_at fault.line fault.kind }
+{
+    match fault.kind {
+        ScriptFaultKind::Script => Some(expected_at(fault.line)),
+        ScriptFaultKind::Big | ScriptFaultKind::NoMemory => None,
+    }
+}
+
+fn expected_at(line: u32) -> &'static str
+    ensures { result.now ≡ told.expected_at line }
+{
+    if line == 1 {
+        "expected there: start ring N F H, start echo N F H or start tally N F, with N 1 to 256, F 0 to 65535 and H 0 to 255"
+    } else {
+        "expected there: deliver Q SOURCE SSN, crash P, restart P, flush P or forget P, with one space between words, Q, SOURCE and P 0 to 255 and SSN 0 to 4294967295"
+    }
+}

@@ -1,0 +1,154 @@
+//! The program's work of telling for which numbers of faults a run is safe, over any reader and writer.
+ghost use Rattle.std.specs.Prelude.{◌≡◌, ◌≢◌, Some, IfOk, IfErr, Err};
+ghost use Rattle.causal_commands.specs.Ranges as told;
+ghost use Rattle.causal_commands.specs.Remarks.{NamesFirstFault};
+ghost use Rattle.causal_commands.specs.Inside.Refusals.{NamesRejected};
+ghost use Rattle.causal_commands.specs.Inside.Answers.{IsRangeAnswerFor, IsSilent};
+
+use crate::ended::Ended;
+use crate::judged::trace_from;
+use crate::remark::{Refusal, refusal_of};
+use crate::stream::{Answer, Told, faulted};
+use causal_explain::{SafeRange, safe_range};
+use causal_name::NoMemory;
+use causal_text::write_whole;
+use std::alloc::Global;
+use std::io::{Read, Write};
+
+/// Reads the text of a trace, and writes for which numbers of faults it is safe; or the line of the text's first fault. Where the
+/// reader or the writer fails, or memory is refused, the answer says so.
+///
+/// The text is read in pieces of 4,096 bytes, up to its end or to the piece with its first fault.
+pub fn range_and_tell<I: Read, O: Write>(
+    alloc: Global,
+    input: &mut I,
+    output: &mut O,
+) -> Told<Refusal>
+    ensures writes { told.WritesRangeFor (I.remaining input.old) result.ended
+        (O.contents output.old) (O.contents output.new) }
+    ensures fault { NamesFirstFault (I.remaining input.old) 0 result.fault }
+    ensures alone { result.ended ≢ Ended.NoWorker }
+{
+    let Answer {
+        ended,
+        line,
+        rejected,
+    } = match answered(alloc, input) {
+        Ok(answer) => answer,
+        Err(ended) => return Told { ended, fault: None },
+    };
+    let ended = match write_whole(line.as_slice(), output) {
+        Ok(()) => ended,
+        Err(_) => Ended::WriteFault,
+    };
+    let fault = refusal_of(alloc, 0, rejected);
+    Told { ended, fault }
+}
+
+fn answered<I: Read>(alloc: Global, input: &mut I) -> Result<Answer, Ended>
+    ensures ok { IfOk result (λ answer. IsRangeAnswerFor (I.remaining input.old) answer.ended answer.line.items) }
+    ensures rejected { IfOk result (λ answer. NamesRejected (I.remaining input.old) answer.rejected) }
+    ensures whole { IfOk result (λ answer. answer.ended ≢ Ended.NoWorker) }
+    ensures err { IfErr result IsSilent }
+    ensures alone { result ≢ Err Ended.NoWorker }
+{
+    let trace = match trace_from(alloc, input) {
+        Ok(trace) => trace,
+        Err(stopped) => return faulted(alloc, stopped),
+    };
+    let Ok(range) = safe_range(alloc, &trace) else {
+        return Err(Ended::NoMemory);
+    };
+    match range_text(alloc, range) {
+        Ok(line) => Ok(Answer {
+            ended: Ended::Ranged,
+            line,
+            rejected: None,
+        }),
+        Err(NoMemory) => Err(Ended::NoMemory),
+    }
+}
+
+/// A line for each part of the numbers of faults: those for which too many processes are down at some instant, those for which the run
+/// is safe, and those for which a delivery has an orphan at some instant.
+///
+/// # Errors
+/// `NoMemory` where memory was refused.
+pub fn range_text(alloc: Global, range: SafeRange) -> Result<Vec<u8>, NoMemory>
+    ensures { IfOk result (λ text. text.items ≡ told.range_text range) }
+{
+    let mut text = exceeded_part(alloc, range.from)?;
+    let rest = rest_text(alloc, range.from, range.below)?;
+    text.extend_from_slice(rest.as_slice())?;
+    Ok(text)
+}
+
+fn rest_text(alloc: Global, from: u16, below: Option<u16>) -> Result<Vec<u8>, NoMemory>
+    ensures { IfOk result (λ text. text.items ≡ told.rest_of from below) }
+{
+    match below {
+        None => accept_from(alloc, from),
+        Some(end) => ended_rest(alloc, from, end),
+    }
+}
+
+fn exceeded_part(alloc: Global, from: u16) -> Result<Vec<u8>, NoMemory>
+    ensures { IfOk result (λ text. text.items ≡ told.exceeded_part from) }
+{
+    if from > 0 {
+        exceeded_to(alloc, from - 1)
+    } else {
+        Ok(Vec::new(alloc))
+    }
+}
+
+fn exceeded_to(alloc: Global, last: u16) -> Result<Vec<u8>, NoMemory>
+    ensures { IfOk result (λ text. text.items ≡ told.exceeded_to last) }
+{
+    let text = format!(in alloc;
+        "exceeded to={last}: at some instant more than f processes are down\n"
+    )?;
+    Ok(text.into_bytes())
+}
+
+fn accept_from(alloc: Global, first: u16) -> Result<Vec<u8>, NoMemory>
+    ensures { IfOk result (λ text. text.items ≡ told.accept_from first) }
+{
+    let text = format!(in alloc; "accept from={first}: the run is safe for f\n")?;
+    Ok(text.into_bytes())
+}
+
+fn accept_between(alloc: Global, first: u16, last: u16) -> Result<Vec<u8>, NoMemory>
+    ensures { IfOk result (λ text. text.items ≡ told.accept_between first last) }
+{
+    let text = format!(in alloc; "accept from={first} to={last}: the run is safe for f\n")?;
+    Ok(text.into_bytes())
+}
+
+fn orphan_from(alloc: Global, first: u16) -> Result<Vec<u8>, NoMemory>
+    ensures { IfOk result (λ text. text.items ≡ told.orphan_from first) }
+{
+    let text = format!(in alloc;
+        "orphan from={first}: at some instant a delivery has an orphan for f\n"
+    )?;
+    Ok(text.into_bytes())
+}
+
+fn accept_part(alloc: Global, from: u16, end: u16) -> Result<Vec<u8>, NoMemory>
+    ensures { IfOk result (λ text. text.items ≡ told.accept_part from end) }
+{
+    if from < end {
+        accept_between(alloc, from, end - 1)
+    } else {
+        Ok(Vec::new(alloc))
+    }
+}
+
+fn ended_rest(alloc: Global, from: u16, end: u16) -> Result<Vec<u8>, NoMemory>
+    ensures { IfOk result (λ text. text.items ≡ told.rest_of from (Some end)) }
+{
+    let mut text = accept_part(alloc, from, end)?;
+    let orphan = orphan_from(alloc, end)?;
+    text.extend_from_slice(orphan.as_slice())?;
+    Ok(text)
+}

@@ -1,0 +1,108 @@
+//! What the program writes to recordings, and how it ends, where readers and writers give and take little, or fail.
+use super::{Drip, Narrow, Spaces};
+use causal_commands::{Ended, MOST_MERGED, Merging, merge_and_tell};
+use std::alloc::Global;
+use std::io::Read;
+use std::test::Fail;
+
+// one message of two processes, the later line first, with one that a kill has cut
+const MESSAGE: &str = r#"["recording",1,1,2,7]
+["deliver",1,2,0,0,0,0,[[0,0,1,0]]]
+["send",1
+
+["recording",0,1,2,7]
+["send",0,1,1,0]
+"#;
+
+const MERGED: &str = r#"["trace",1,2]
+["send",0,1,0]
+["deliver",1,0,0,[[0,0,1,0]]]
+["end",2]
+"#;
+
+// what is written to recordings, and how the merge ends
+fn merged<I: Read>(alloc: Global, input: &mut I) -> (Merging, Vec<u8>) {
+    let mut output = Vec::new(alloc);
+    let merging = merge_and_tell(alloc, input, &mut output);
+    (merging, output)
+}
+
+#[test]
+fn a_trace_with_its_torn_lines(rt: HostRuntime) {
+    let mut input = Drip::new(MESSAGE, 1, usize::MAX);
+    let (merging, output) = merged(rt.alloc(), &mut input);
+    assert_eq!(rt; merging.ended, Ended::Merged);
+    assert!(rt; merging.torn.as_slice() == [3u32].as_slice());
+    assert!(rt; merging.fault.is_none());
+    assert!(rt; output.as_slice() == MERGED.as_bytes());
+}
+
+#[test]
+fn a_fault_with_its_sentence_and_its_hint(rt: HostRuntime) -> Result<(), Fail> {
+    let mut input = "[\"recording\",0,1,2,7]\n[\"send\"".as_bytes();
+    let (merging, output) = merged(rt.alloc(), &mut input);
+    assert_eq!(rt; merging.ended, Ended::Faulted);
+    assert!(rt; output.as_slice() == b"fault line=3 NoHeader\n".as_slice());
+    assert!(rt; merging.torn.is_empty());
+    let (sentence, hint) = match merging.fault {
+        Some(fault) => (format!(in rt.alloc(); "{fault}")?, fault.kind.hint()),
+        None => (String::new(rt.alloc()), None),
+    };
+    assert!(rt; sentence.as_str() == "line 3: some process has no header");
+    assert_eq!(rt; hint, Some("a recording may be missing"));
+    Ok(())
+}
+
+// One call for each byte, and one more that tells the end.
+#[test]
+fn reader_fails_at_each_call(rt: HostRuntime) {
+    for fails_at in 0..=MESSAGE.len() {
+        let mut input = Drip::new(MESSAGE, 1, fails_at);
+        let (merging, output) = merged(rt.alloc(), &mut input);
+        assert_eq!(rt; merging.ended, Ended::ReadFault, "call {fails_at}");
+        assert!(rt; output.is_empty(), "call {fails_at}");
+    }
+}
+
+/// Whether a merge ends as it has to where its writer fails at this call, and has written just what came before it.
+fn ends_where_the_writer_fails(alloc: Global, fails_at: usize, with_error: bool) -> bool {
+    let mut input = MESSAGE.as_bytes();
+    let mut output = Narrow {
+        taken: Vec::new(alloc),
+        fails_at,
+        with_error,
+    };
+    let ended = merge_and_tell(alloc, &mut input, &mut output).ended;
+    let want = if fails_at < MERGED.len() {
+        Ended::WriteFault
+    } else {
+        Ended::Merged
+    };
+    ended == want && MERGED.as_bytes().get(..fails_at) == Some(output.taken.as_slice())
+}
+
+#[test]
+fn writer_fails_at_each_call(rt: HostRuntime) {
+    for fails_at in 0..=MERGED.len() {
+        assert!(rt;
+            ends_where_the_writer_fails(rt.alloc(), fails_at, true),
+            "call {fails_at}"
+        );
+        assert!(rt;
+            ends_where_the_writer_fails(rt.alloc(), fails_at, false),
+            "call {fails_at}"
+        );
+    }
+}
+
+// One byte too many is read, and no further one.
+#[test]
+fn too_long_recordings(rt: HostRuntime) {
+    let mut input = Spaces {
+        left: MOST_MERGED + 5_000,
+    };
+    let (merging, output) = merged(rt.alloc(), &mut input);
+    assert_eq!(rt; merging.ended, Ended::Faulted);
+    assert!(rt; output.as_slice() == b"fault line=1 Big\n".as_slice());
+    assert_eq!(rt; input.left, 5_000);
+}

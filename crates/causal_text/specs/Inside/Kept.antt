@@ -1,0 +1,45 @@
+-- What is kept of the lines before one that is refused.
+use Rattle.std.specs.Prelude.{◌≡◌, ℕ, List, [], ◌∷◌, ◌++◌, Option, Result, Ok, Err, IfSome}
+use Rattle.causal_trace.specs.Rows.{Recording}
+use Rattle.causal_text.specs.declared.before.Before.{Before}
+use Rattle.causal_text.specs.declared.before.Rejected.{Rejected}
+use Rattle.causal_text.specs.declared.kind.TextKind.{TextKind}
+use Rattle.causal_text.specs.declared.kind.TextFault.{TextFault}
+use Rattle.causal_text.specs.declared.stage.Refused.{Refused}
+use Rattle.causal_text.specs.declared.stage.Stage.{Stage}
+use Rattle.causal_text.specs.declared.stage.Stage.TheVariants.{Within}
+use Rattle.causal_text.specs.declared.stage.Unfollowed.{Unfollowed}
+use Rattle.causal_text.specs.declared.version.Version.{Version}
+use Rattle.causal_text.specs.Before.{StandsBefore, IsKept}
+use Rattle.causal_text.specs.Given.{IsFaultGiven}
+use Rattle.causal_text.specs.Stages.{line_shape}
+
+-- what reading gives, or want of memory, where more comes with a fault
+abbrev pub GivesFollowed : Result Stage Unfollowed → Result Stage TextKind → Type 0
+GivesFollowed (Ok stage) read = read ≡ Ok stage
+GivesFollowed (Err unfollowed) read = IsFaultGiven unfollowed.kind unfollowed.kind read
+
+abbrev pub GivesRefused : Result Stage Refused → Result Stage TextKind → Type 0
+GivesRefused (Ok stage) read = read ≡ Ok stage
+GivesRefused (Err refused) read = IsFaultGiven refused.kind refused.kind read
+
+abbrev pub GivesRejected : {A : Type 0} → Result A Rejected → Result A TextFault → Type 0
+GivesRejected (Ok x) read = read ≡ Ok x
+GivesRejected (Err rejected) read = IsFaultGiven rejected.fault.kind rejected.fault read
+
+-- the stage is that of a text that goes on, and this is its trace
+abbrev pub IsGoingOn : Stage → Recording → Type 0
+IsGoingOn stage r = (version : Version) × (stage ≡ Within version r)
+
+-- what is kept, if anything is, is the trace of the lines that led to the stage, and what this line says
+abbrev pub IsKeptAt : Stage → List ℕ → Option Before → Type 0
+IsKeptAt stage line kept = IfSome kept (λ at. IsGoingOn stage at.trace.recording × (line_shape line ≡ Ok at.says))
+
+-- what is kept stands before the line of the fault, however the text goes on
+abbrev pub IsKeptOfAll : List ℕ → Rejected → Type 0
+IsKeptOfAll bytes rejected = IfSome rejected.before (λ at. (more : List ℕ) → StandsBefore (bytes ++ more) rejected.fault.line at.trace.recording at.says)
+
+-- however the bytes read go on, or in them alone where the last piece was empty
+abbrev pub IsKeptAfter : List ℕ → List ℕ → Rejected → Type 0
+IsKeptAfter [] bytes rejected = IsKept bytes rejected
+IsKeptAfter (x ∷ xs) bytes rejected = IsKeptOfAll bytes rejected

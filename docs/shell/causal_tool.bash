@@ -1,0 +1,19 @@
+# Completes the words of causal_tool in bash: source this file, or put it into a folder that bash-completion reads.
+_causal_tool() {
+    local word=${COMP_WORDS[COMP_CWORD]} before=${COMP_WORDS[COMP_CWORD - 1]} offered=
+    case $before in
+    --faults | --workers) return ;;
+    esac
+    if ((COMP_CWORD == 1)); then
+        offered="audit explain draw run help --help --version"
+    else
+        case ${COMP_WORDS[1]} in
+        audit) offered="--faults --workers --help" ;;
+        explain | draw) offered="--faults --help" ;;
+        run) offered="--help" ;;
+        help) ((COMP_CWORD == 2)) && offered="audit explain draw run help" ;;
+        esac
+    fi
+    mapfile -t COMPREPLY < <(compgen -W "$offered" -- "$word")
+}
+complete -o default -F _causal_tool causal_tool
