@@ -2,16 +2,17 @@
 use Rattle.std.specs.Prelude.{ℕ, Option, Some, None}
 use Rattle.std.specs.Box.Ownership.{box_owns}
 use Rattle.std.specs.Coded.{coded_option}
-use Rattle.libc.specs.Heap.{chunk}
+use Rattle.std_heap.specs.declared.Global.{Global}
+use Rattle.std_heap.specs.contracts.GlobalAllocator.TheImpl.{ghosts}
 use Rattle.nixu.specs.contracts.kept.Kept.{the_row}
 use base.Fml.{Fml, ftrue}
 use base.Stored.{Coded}
 use denote.RawPtr.{Ptr}
 
 -- a box of the C library's heap, or nothing
-abbrev pub held_owns : Ptr → Option the_row.Denot → Fml
-held_owns at None = ftrue
-held_owns at (Some x) = box_owns chunk the_row at x
+abbrev pub held_owns : Global → Ptr → Option the_row.Denot → Fml
+held_owns heap at None = ftrue
+held_owns heap at (Some x) = box_owns (ghosts.dealloc_token heap) the_row at x
 
 -- how many there are
 abbrev pub count_of : Option the_row.Denot → ℕ

@@ -22,7 +22,7 @@ pub struct Held {
 }
 
 impl Model for Held {
-    ghost also_owns = { λ h. held_owns h.at h.value };
+    ghost also_owns = { λ h. held_owns h.alloc h.at h.value };
 }
 
 impl Held {
