@@ -5,13 +5,13 @@ _causal_tool() {
     --faults | --workers) return ;;
     esac
     if ((COMP_CWORD == 1)); then
-        offered="audit explain draw run help --help --version"
+        offered="audit explain draw merge run help --help --version"
     else
         case ${COMP_WORDS[1]} in
         audit) offered="--faults --workers --help" ;;
         explain | draw) offered="--faults --help" ;;
-        run) offered="--help" ;;
-        help) ((COMP_CWORD == 2)) && offered="audit explain draw run help" ;;
+        merge | run) offered="--help" ;;
+        help) ((COMP_CWORD == 2)) && offered="audit explain draw merge run help" ;;
         esac
     fi
     mapfile -t COMPREPLY < <(compgen -W "$offered" -- "$word")
