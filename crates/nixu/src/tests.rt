@@ -21,6 +21,13 @@ const LINE: &[u8] = b"orphan f=1 instant=4 delivery=1 crash=1 orphan=2\n";
 
 const SENTENCE: &[u8] = b"the text ends without an end line";
 
+fn begins(out: &[u8], with: &[u8]) -> bool {
+    match out.get(..with.len()) {
+        Some(front) => front == with,
+        None => false,
+    }
+}
+
 fn unwritten() -> Summary {
     Summary {
         kind: 9,
@@ -82,17 +89,17 @@ fn what_the_program_prints_is_given(rt: HostRuntime) {
         OK
     );
     assert_eq!(rt; needed, LINE.len());
-    assert_eq!(rt; &out[..LINE.len()], LINE);
+    assert!(rt; begins(&out, LINE));
     assert_eq!(rt;
         nixu_explain(rt.alloc(), ORPHANED, 1, &mut out, &mut needed),
         OK
     );
-    assert_eq!(rt; &out[..LINE.len()], LINE);
+    assert!(rt; begins(&out, LINE));
     assert_eq!(rt;
         nixu_draw(rt.alloc(), ORPHANED, 1, &mut out, &mut needed),
         OK
     );
-    assert_eq!(rt; &out[..4], b"<svg".as_slice());
+    assert!(rt; begins(&out, b"<svg"));
 }
 
 #[test]
@@ -100,7 +107,7 @@ fn a_fault_has_its_sentence(rt: HostRuntime) {
     let (mut out, mut needed) = ([9u8; 60], 0);
     assert_eq!(rt; nixu_fault_text(20, &mut out, &mut needed), OK);
     assert_eq!(rt; needed, SENTENCE.len());
-    assert_eq!(rt; &out[..SENTENCE.len()], SENTENCE);
+    assert!(rt; begins(&out, SENTENCE));
 }
 
 #[test]
@@ -210,7 +217,7 @@ fn a_trace_is_made_of_entries(rt: HostRuntime) {
         OK
     );
     assert_eq!(rt; needed, ORPHANED.len());
-    assert_eq!(rt; &out[..ORPHANED.len()], ORPHANED);
+    assert!(rt; begins(&out, ORPHANED));
     nixu_trace_close(alloc, &mut trace);
     assert_eq!(rt;
         nixu_trace_text(alloc, &mut trace, &mut out, &mut needed),
