@@ -243,11 +243,12 @@ fn the_verdict_first(rt: HostRuntime) {
     }
 }
 
+// A picture's file stays empty.
 #[test]
 fn faults_as_the_audit_tells_them(rt: HostRuntime) {
     for fault in &FAULTY {
-        for view in [View::Reason, View::Picture] {
-            let right = is_shown(&rt, fault.text, 0, view, Ended::Faulted, fault.line);
+        for (view, out) in [(View::Reason, fault.line), (View::Picture, "")] {
+            let right = is_shown(&rt, fault.text, 0, view, Ended::Faulted, out);
             assert!(rt; right, "{}", fault.name);
         }
     }
