@@ -1,3 +1,4 @@
+pub mod Appended
 pub mod Captions
 pub mod Drawn
 pub mod Frames

@@ -1,6 +1,6 @@
 //! The verdict, above the picture.
-ghost use Rattle.std.specs.Prelude.{◌≡◌, ◌++◌, OnOk, string_bytes};
 ghost use Rattle.std.specs.Option.{option_copied};
+ghost use Rattle.causal_picture.specs.Appended.{Appends};
 ghost use Rattle.causal_picture.specs.Captions as captions;
 
 use crate::focus::{Focus, Orphan};
@@ -9,7 +9,7 @@ use std::alloc::AllocError;
 
 /// `orphan f=1: process 2 depends on the delivery of line 3`.
 fn push_orphan(out: &mut String, faults: u16, orphan: &Orphan) -> Result<(), AllocError>
-    ensures { OnOk result (string_bytes out.new ≡ string_bytes out.old ++ captions.orphan_text faults orphan.now) }
+    ensures { Appends result out.old out.new (captions.orphan_text faults orphan.now) }
 {
     let process = orphan.process;
     let line = line_of(orphan.delivery);
@@ -21,7 +21,7 @@ fn push_orphan(out: &mut String, faults: u16, orphan: &Orphan) -> Result<(), All
 
 /// The verdict of a focus: an orphan, or too many processes that are down.
 fn push_breach(out: &mut String, faults: u16, focus: &Focus<'_>) -> Result<(), AllocError>
-    ensures { OnOk result (string_bytes out.new ≡ string_bytes out.old ++ captions.breach_text faults focus.now) }
+    ensures { Appends result out.old out.new (captions.breach_text faults focus.now) }
 {
     match &focus.orphan {
         Some(orphan) => push_orphan(out, faults, orphan),
@@ -32,8 +32,7 @@ fn push_breach(out: &mut String, faults: u16, focus: &Focus<'_>) -> Result<(), A
 /// The verdict; that of no focus is that the run is safe.
 #[tactic(auto, unfolding(crate::specs::Captions::verdict_text))]
 fn push_verdict(out: &mut String, faults: u16, focus: Option<&Focus<'_>>) -> Result<(), AllocError>
-    ensures { OnOk result (string_bytes out.new ≡
-        string_bytes out.old ++ captions.verdict_text faults (option_copied focus.entry)) }
+    ensures { Appends result out.old out.new (captions.verdict_text faults (option_copied focus.entry)) }
 {
     match focus {
         Some(focus) => push_breach(out, faults, focus),
@@ -43,7 +42,7 @@ fn push_verdict(out: &mut String, faults: u16, focus: Option<&Focus<'_>>) -> Res
 
 #[tactic(auto, unfolding(crate::specs::Captions::opening_text))]
 fn push_opening(out: &mut String) -> Result<(), AllocError>
-    ensures { OnOk result (string_bytes out.new ≡ string_bytes out.old ++ captions.opening_text) }
+    ensures { Appends result out.old out.new captions.opening_text }
 {
     out.push_str("<text x='10' y='20' font-size='14' font-weight='bold' fill='#222'>")
 }
@@ -55,8 +54,7 @@ pub fn push_caption(
     faults: u16,
     focus: Option<&Focus<'_>>,
 ) -> Result<(), AllocError>
-    ensures { OnOk result (string_bytes out.new ≡
-        string_bytes out.old ++ captions.caption_text faults (option_copied focus.entry)) }
+    ensures { Appends result out.old out.new (captions.caption_text faults (option_copied focus.entry)) }
 {
     push_opening(out)?;
     push_verdict(out, faults, focus)?;

@@ -1,5 +1,6 @@
 //! What stands around the events: the head of the picture, the processes' rows, the marks where the run is cut.
-ghost use Rattle.std.specs.Prelude.{◌≡◌, ◌≤◌, ◌+◌, ◌++◌, OnOk, string_bytes};
+ghost use Rattle.std.specs.Prelude.{◌≤◌, ◌+◌};
+ghost use Rattle.causal_picture.specs.Appended.{Appends};
 ghost use Rattle.causal_picture.specs.Frames as frames;
 ghost use Rattle.causal_picture.specs.Stretches as stretches;
 
@@ -14,7 +15,7 @@ use std::alloc::AllocError;
 /// The root's tag. Only numbers are put among the words of this file, so nothing needs escaping.
 #[tactic(auto, unfolding(crate::specs::Frames::root_text))]
 fn push_root(out: &mut String, width: u64, height: u32) -> Result<(), AllocError>
-    ensures { OnOk result (string_bytes out.new ≡ string_bytes out.old ++ frames.root_text width height) }
+    ensures { Appends result out.old out.new (frames.root_text width height) }
 {
     write!(
         out,
@@ -25,7 +26,7 @@ fn push_root(out: &mut String, width: u64, height: u32) -> Result<(), AllocError
 /// What the picture is, in words.
 #[tactic(auto, unfolding(crate::specs::Frames::heading_text))]
 fn push_heading(out: &mut String) -> Result<(), AllocError>
-    ensures { OnOk result (string_bytes out.new ≡ string_bytes out.old ++ frames.heading_text) }
+    ensures { Appends result out.old out.new frames.heading_text }
 {
     out.push_str("<title>Space-time diagram of a recorded run</title>\n")
 }
@@ -39,8 +40,7 @@ fn push_description(
     entries: u32,
     line: u64,
 ) -> Result<(), AllocError>
-    ensures { OnOk result (string_bytes out.new ≡
-        string_bytes out.old ++ frames.description_text processes count entries line) }
+    ensures { Appends result out.old out.new (frames.description_text processes count entries line) }
 {
     write!(
         out,
@@ -52,7 +52,7 @@ fn push_description(
 /// delivery's dot.
 #[tactic(auto, unfolding(crate::specs::Frames::ground_text))]
 fn push_ground(out: &mut String) -> Result<(), AllocError>
-    ensures { OnOk result (string_bytes out.new ≡ string_bytes out.old ++ frames.ground_text) }
+    ensures { Appends result out.old out.new frames.ground_text }
 {
     out.push_str(
         "<defs><marker id='arrowhead' viewBox='0 0 10 10' refX='16' refY='5' markerWidth='8' markerHeight='8' markerUnits='userSpaceOnUse' orient='auto'><path d='M0 0L10 5L0 10z' fill='#555'/></marker></defs>\n<rect width='100%' height='100%' fill='white'/>\n",
@@ -62,7 +62,7 @@ fn push_ground(out: &mut String) -> Result<(), AllocError>
 /// What the picture begins with.
 #[tactic(auto, unfolding(crate::specs::Frames::head_text))]
 pub fn push_head(out: &mut String, grid: Grid, entries: u32) -> Result<(), AllocError>
-    ensures { OnOk result (string_bytes out.new ≡ string_bytes out.old ++ frames.head_text grid entries) }
+    ensures { Appends result out.old out.new (frames.head_text grid entries) }
 {
     push_root(out, width_of(grid), height_of(grid.processes))?;
     push_heading(out)?;
@@ -79,7 +79,7 @@ pub fn push_head(out: &mut String, grid: Grid, entries: u32) -> Result<(), Alloc
 /// How a shade is drawn that fills so much of a row.
 #[tactic(auto, unfolding(crate::specs::Frames::shade_line))]
 fn push_shade_line(out: &mut String, width: u64, y: u32, height: u32) -> Result<(), AllocError>
-    ensures { OnOk result (string_bytes out.new ≡ string_bytes out.old ++ frames.shade_line width y height) }
+    ensures { Appends result out.old out.new (frames.shade_line width y height) }
 {
     write!(
         out,
@@ -89,8 +89,7 @@ fn push_shade_line(out: &mut String, width: u64, y: u32, height: u32) -> Result<
 
 /// The shade behind the line of a process of the crash set.
 fn push_shade(out: &mut String, grid: Grid, process: u16, is_shaded: bool) -> Result<(), AllocError>
-    ensures { OnOk result (string_bytes out.new ≡
-        string_bytes out.old ++ frames.shade_text grid process is_shaded) }
+    ensures { Appends result out.old out.new (frames.shade_text grid process is_shaded) }
 {
     if is_shaded {
         let height = row_of(grid.processes) - 6;
@@ -103,14 +102,14 @@ fn push_shade(out: &mut String, grid: Grid, process: u16, is_shaded: bool) -> Re
 /// The beginning of what is drawn of a process.
 #[tactic(auto, unfolding(crate::specs::Frames::process_title))]
 pub fn push_process_title(out: &mut String, process: u16) -> Result<(), AllocError>
-    ensures { OnOk result (string_bytes out.new ≡ string_bytes out.old ++ frames.process_title process) }
+    ensures { Appends result out.old out.new (frames.process_title process) }
 {
     write!(out, "<g><title>process {process}</title>\n")
 }
 
 #[tactic(auto, unfolding(crate::specs::Frames::process_name))]
 fn push_process_name(out: &mut String, process: u16, y: u32) -> Result<(), AllocError>
-    ensures { OnOk result (string_bytes out.new ≡ string_bytes out.old ++ frames.process_name process y) }
+    ensures { Appends result out.old out.new (frames.process_name process y) }
 {
     write!(
         out,
@@ -120,7 +119,7 @@ fn push_process_name(out: &mut String, process: u16, y: u32) -> Result<(), Alloc
 
 /// The name of a process above its line, where the line reaches so far.
 fn push_name_again(out: &mut String, grid: Grid, process: u16, x: u64) -> Result<(), AllocError>
-    ensures { OnOk result (string_bytes out.new ≡ string_bytes out.old ++ frames.name_again grid process x) }
+    ensures { Appends result out.old out.new (frames.name_again grid process x) }
 {
     if x < right_of(grid) {
         push_name_above(out, process, x, y_of(grid, process))
@@ -131,7 +130,7 @@ fn push_name_again(out: &mut String, grid: Grid, process: u16, x: u64) -> Result
 
 #[tactic(auto, unfolding(crate::specs::Frames::name_above))]
 fn push_name_above(out: &mut String, process: u16, x: u64, y: u32) -> Result<(), AllocError>
-    ensures { OnOk result (string_bytes out.new ≡ string_bytes out.old ++ frames.name_above process x y) }
+    ensures { Appends result out.old out.new (frames.name_above process x y) }
 {
     write!(
         out,
@@ -142,7 +141,7 @@ fn push_name_above(out: &mut String, process: u16, x: u64, y: u32) -> Result<(),
 /// The name of a process at the left end of its line, and again where that is far.
 #[tactic(auto, unfolding(crate::specs::Frames::names_text))]
 fn push_names(out: &mut String, grid: Grid, process: u16) -> Result<(), AllocError>
-    ensures { OnOk result (string_bytes out.new ≡ string_bytes out.old ++ frames.names_text grid process) }
+    ensures { Appends result out.old out.new (frames.names_text grid process) }
 {
     push_process_name(out, process, y_of(grid, process))?;
     push_name_again(out, grid, process, 680)?;
@@ -153,7 +152,7 @@ fn push_names(out: &mut String, grid: Grid, process: u16) -> Result<(), AllocErr
 /// The dotted line of a process, from end to end.
 #[tactic(auto, unfolding(crate::specs::Frames::dotted_text))]
 fn push_dotted(out: &mut String, right: u64, y: u32) -> Result<(), AllocError>
-    ensures { OnOk result (string_bytes out.new ≡ string_bytes out.old ++ frames.dotted_text right y) }
+    ensures { Appends result out.old out.new (frames.dotted_text right y) }
 {
     push_level(out, 80, right, y, "stroke='#999' stroke-dasharray='1 5'")
 }
@@ -167,8 +166,7 @@ pub fn push_row(
     process: u16,
     is_shaded: bool,
 ) -> Result<(), AllocError>
-    ensures { OnOk result (string_bytes out.new ≡
-        string_bytes out.old ++ frames.row_text grid process is_shaded) }
+    ensures { Appends result out.old out.new (frames.row_text grid process is_shaded) }
 {
     push_process_title(out, process)?;
     push_shade(out, grid, process, is_shaded)?;
@@ -179,7 +177,7 @@ pub fn push_row(
 
 #[tactic(auto, unfolding(crate::specs::Frames::cut_title))]
 fn push_cut_title(out: &mut String, hidden: u32, side: &str) -> Result<(), AllocError>
-    ensures { OnOk result (string_bytes out.new ≡ string_bytes out.old ++ frames.cut_title hidden side.now) }
+    ensures { Appends result out.old out.new (frames.cut_title hidden side.now) }
 {
     write!(
         out,
@@ -189,7 +187,7 @@ fn push_cut_title(out: &mut String, hidden: u32, side: &str) -> Result<(), Alloc
 
 #[tactic(auto, unfolding(crate::specs::Frames::cut_line))]
 fn push_cut_line(out: &mut String, x: u64, bottom: u32) -> Result<(), AllocError>
-    ensures { OnOk result (string_bytes out.new ≡ string_bytes out.old ++ frames.cut_line x bottom) }
+    ensures { Appends result out.old out.new (frames.cut_line x bottom) }
 {
     push_upright(out, x, bottom, "stroke='#555' stroke-dasharray='2 4'")
 }
@@ -202,8 +200,7 @@ fn push_cut_label(
     x: u64,
     anchor: &str,
 ) -> Result<(), AllocError>
-    ensures { OnOk result (string_bytes out.new ≡
-        string_bytes out.old ++ frames.cut_label hidden side.now x anchor.now) }
+    ensures { Appends result out.old out.new (frames.cut_label hidden side.now x anchor.now) }
 {
     write!(
         out,
@@ -221,8 +218,7 @@ fn push_cut_mark(
     anchor: &str,
     bottom: u32,
 ) -> Result<(), AllocError>
-    ensures { OnOk result (string_bytes out.new ≡
-        string_bytes out.old ++ frames.cut_mark hidden side.now x anchor.now bottom) }
+    ensures { Appends result out.old out.new (frames.cut_mark hidden side.now x anchor.now bottom) }
 {
     push_cut_title(out, hidden, side)?;
     push_cut_line(out, x, bottom)?;
@@ -238,8 +234,7 @@ fn push_cut(
     anchor: &str,
     bottom: u32,
 ) -> Result<(), AllocError>
-    ensures { OnOk result (string_bytes out.new ≡
-        string_bytes out.old ++ frames.cut_text hidden side.now x anchor.now bottom) }
+    ensures { Appends result out.old out.new (frames.cut_text hidden side.now x anchor.now bottom) }
 {
     if hidden == 0 {
         Ok(())
@@ -252,7 +247,7 @@ fn push_cut(
 #[tactic(auto, unfolding(crate::specs::Frames::cuts_text))]
 pub fn push_cuts(out: &mut String, grid: Grid, entries: u32) -> Result<(), AllocError>
     requires { stretches.IsWithin entries grid }
-    ensures { OnOk result (string_bytes out.new ≡ string_bytes out.old ++ frames.cuts_text grid entries) }
+    ensures { Appends result out.old out.new (frames.cuts_text grid entries) }
 {
     let Grid {
         early,

@@ -1,5 +1,5 @@
 //! What the shapes mean, below the rows.
-ghost use Rattle.std.specs.Prelude.{◌≡◌, ◌++◌, OnOk, string_bytes};
+ghost use Rattle.causal_picture.specs.Appended.{Appends};
 ghost use Rattle.causal_picture.specs.Legends as legends;
 
 use crate::shapes::{Shape, push_shape};
@@ -7,7 +7,7 @@ use std::alloc::AllocError;
 
 #[tactic(auto, unfolding(crate::specs::Legends::label_text))]
 fn push_label(out: &mut String, x: u64, y: u32, label: &str) -> Result<(), AllocError>
-    ensures { OnOk result (string_bytes out.new ≡ string_bytes out.old ++ legends.label_text x y label.now) }
+    ensures { Appends result out.old out.new (legends.label_text x y label.now) }
 {
     write!(
         out,
@@ -18,7 +18,7 @@ fn push_label(out: &mut String, x: u64, y: u32, label: &str) -> Result<(), Alloc
 /// A shape, and what it means.
 #[tactic(auto, unfolding(crate::specs::Legends::key_text))]
 fn push_key(out: &mut String, x: u64, y: u32, shape: Shape, label: &str) -> Result<(), AllocError>
-    ensures { OnOk result (string_bytes out.new ≡ string_bytes out.old ++ legends.key_text x y shape label.now) }
+    ensures { Appends result out.old out.new (legends.key_text x y shape label.now) }
 {
     push_shape(out, x, y, shape)?;
     push_label(out, x, y, label)
@@ -26,7 +26,7 @@ fn push_key(out: &mut String, x: u64, y: u32, shape: Shape, label: &str) -> Resu
 
 #[tactic(auto, unfolding(crate::specs::Legends::upper_text))]
 fn push_upper(out: &mut String, y: u32) -> Result<(), AllocError>
-    ensures { OnOk result (string_bytes out.new ≡ string_bytes out.old ++ legends.upper_text y) }
+    ensures { Appends result out.old out.new (legends.upper_text y) }
 {
     push_key(out, 20, y, Shape::OpenDot, "send")?;
     push_key(out, 120, y, Shape::FaintDot, "sent again")?;
@@ -38,7 +38,7 @@ fn push_upper(out: &mut String, y: u32) -> Result<(), AllocError>
 
 #[tactic(auto, unfolding(crate::specs::Legends::lower_text))]
 fn push_lower(out: &mut String, y: u32) -> Result<(), AllocError>
-    ensures { OnOk result (string_bytes out.new ≡ string_bytes out.old ++ legends.lower_text y) }
+    ensures { Appends result out.old out.new (legends.lower_text y) }
 {
     push_key(out, 20, y, Shape::Triangle, "forgetting")?;
     push_key(out, 120, y, Shape::Halo, "chain")?;
@@ -50,7 +50,7 @@ fn push_lower(out: &mut String, y: u32) -> Result<(), AllocError>
 /// Two rows of shapes with what they mean.
 #[tactic(auto, unfolding(crate::specs::Legends::legend_text))]
 pub fn push_legend(out: &mut String, upper: u32, lower: u32) -> Result<(), AllocError>
-    ensures { OnOk result (string_bytes out.new ≡ string_bytes out.old ++ legends.legend_text upper lower) }
+    ensures { Appends result out.old out.new (legends.legend_text upper lower) }
 {
     push_upper(out, upper)?;
     push_lower(out, lower)

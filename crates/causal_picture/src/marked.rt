@@ -1,7 +1,8 @@
 //! How the events of a panel are drawn.
-ghost use Rattle.std.specs.Prelude.{◌≡◌, ◌++◌, OnOk, string_bytes};
+ghost use Rattle.std.specs.Prelude.{◌≡◌};
 ghost use Rattle.std.specs.List.{find};
 ghost use Rattle.std.specs.Option.{option_copied};
+ghost use Rattle.causal_picture.specs.Appended.{Appends};
 ghost use Rattle.causal_picture.specs.Drawn as drawn;
 
 use crate::layout::{Panel, column_of, x_of, y_of};
@@ -51,7 +52,7 @@ pub fn up_until(grid: Grid, panel: Panel, marks: &[Mark], process: u16, from: u3
 
 /// The line of a process that is up.
 pub fn push_up(out: &mut String, from: u64, to: u64, y: u32) -> Result<(), AllocError>
-    ensures { OnOk result (string_bytes out.new ≡ string_bytes out.old ++ drawn.up_text from to y) }
+    ensures { Appends result out.old out.new (drawn.up_text from to y) }
 {
     push_level(out, from, to, y, "stroke='#222' stroke-width='1.5'")
 }
@@ -64,7 +65,7 @@ fn push_arrow(
     det: Det,
     send: u32,
 ) -> Result<(), AllocError>
-    ensures { OnOk result (string_bytes out.new ≡ string_bytes out.old ++ drawn.arrow_text grid position det send) }
+    ensures { Appends result out.old out.new (drawn.arrow_text grid position det send) }
 {
     let from = x_of(grid, send);
     let to = x_of(grid, position);
@@ -85,8 +86,7 @@ fn push_return(
     position: u32,
     who: Pid,
 ) -> Result<(), AllocError>
-    ensures { OnOk result (string_bytes out.new ≡
-        string_bytes out.old ++ drawn.return_text grid panel marks.now position who) }
+    ensures { Appends result out.old out.new (drawn.return_text grid panel marks.now position who) }
 {
     let process = u16::from(who.0);
     let to = up_until(grid, panel, marks, process, position);
@@ -102,8 +102,7 @@ fn push_link(
     marks: &[Mark],
     mark: &Mark,
 ) -> Result<(), AllocError>
-    ensures { OnOk result (string_bytes out.new ≡
-        string_bytes out.old ++ drawn.link_text grid panel marks.now mark.now) }
+    ensures { Appends result out.old out.new (drawn.link_text grid panel marks.now mark.now) }
 {
     match mark.event {
         Event::Delivery { det, send } => push_arrow(out, grid, mark.position, det, send),
@@ -114,7 +113,7 @@ fn push_link(
 
 #[tactic(auto, unfolding(crate::specs::Drawn::level_number))]
 fn push_level_number(out: &mut String, x: u64, line: u64) -> Result<(), AllocError>
-    ensures { OnOk result (string_bytes out.new ≡ string_bytes out.old ++ drawn.level_number x line) }
+    ensures { Appends result out.old out.new (drawn.level_number x line) }
 {
     write!(
         out,
@@ -124,7 +123,7 @@ fn push_level_number(out: &mut String, x: u64, line: u64) -> Result<(), AllocErr
 
 #[tactic(auto, unfolding(crate::specs::Drawn::upright_number))]
 fn push_upright_number(out: &mut String, x: u64, line: u64) -> Result<(), AllocError>
-    ensures { OnOk result (string_bytes out.new ≡ string_bytes out.old ++ drawn.upright_number x line) }
+    ensures { Appends result out.old out.new (drawn.upright_number x line) }
 {
     write!(
         out,
@@ -134,7 +133,7 @@ fn push_upright_number(out: &mut String, x: u64, line: u64) -> Result<(), AllocE
 
 /// The number of an entry's line above its column: level where the columns are wide, else upright.
 fn push_number(out: &mut String, grid: Grid, position: u32) -> Result<(), AllocError>
-    ensures { OnOk result (string_bytes out.new ≡ string_bytes out.old ++ drawn.number_text grid position) }
+    ensures { Appends result out.old out.new (drawn.number_text grid position) }
 {
     if column_of(grid) < 28 {
         push_upright_number(out, x_of(grid, position), line_of(position))
@@ -145,7 +144,7 @@ fn push_number(out: &mut String, grid: Grid, position: u32) -> Result<(), AllocE
 
 /// The beginning of what is drawn of an event, which is faint where a message is sent again.
 fn push_group(out: &mut String, is_faint: bool) -> Result<(), AllocError>
-    ensures { OnOk result (string_bytes out.new ≡ string_bytes out.old ++ drawn.group_text is_faint) }
+    ensures { Appends result out.old out.new (drawn.group_text is_faint) }
 {
     if is_faint {
         out.push_str("<g opacity='0.4'>")
@@ -157,7 +156,7 @@ fn push_group(out: &mut String, is_faint: bool) -> Result<(), AllocError>
 /// The shape of an event, on the line of its process.
 #[tactic(auto, unfolding(crate::specs::Drawn::sign_text))]
 fn push_sign(out: &mut String, grid: Grid, mark: &Mark) -> Result<(), AllocError>
-    ensures { OnOk result (string_bytes out.new ≡ string_bytes out.old ++ drawn.sign_text grid mark.now) }
+    ensures { Appends result out.old out.new (drawn.sign_text grid mark.now) }
 {
     let x = x_of(grid, mark.position);
     let y = y_of(grid, u16::from(mark.event.process().0));
@@ -175,8 +174,7 @@ fn push_mark(
     marks: &[Mark],
     mark: &Mark,
 ) -> Result<(), AllocError>
-    ensures { OnOk result (string_bytes out.new ≡
-        string_bytes out.old ++ drawn.mark_text trace.now.recording grid panel marks.now mark.now) }
+    ensures { Appends result out.old out.new (drawn.mark_text trace.now.recording grid panel marks.now mark.now) }
 {
     push_group(out, is_resent(trace, mark))?;
     push_title(out, trace, mark)?;
@@ -194,8 +192,7 @@ pub fn push_marks(
     panel: Panel,
     marks: &[Mark],
 ) -> Result<(), AllocError>
-    ensures { OnOk result (string_bytes out.new ≡
-        string_bytes out.old ++ drawn.marks_text trace.now.recording grid panel marks.now) }
+    ensures { Appends result out.old out.new (drawn.marks_text trace.now.recording grid panel marks.now) }
 {
     for mark in marks {
         push_mark(out, trace, grid, panel, marks, mark)?;

@@ -1,5 +1,6 @@
 //! What is drawn over the events: the chain and the instant.
-ghost use Rattle.std.specs.Prelude.{◌≡◌, ◌<◌, ◌++◌, IfOk, OnOk, string_bytes};
+ghost use Rattle.std.specs.Prelude.{◌≡◌, ◌<◌, IfOk};
+ghost use Rattle.causal_picture.specs.Appended.{Appends};
 ghost use Rattle.causal_picture.specs.Overlays as overlays;
 
 use crate::focus::Focus;
@@ -52,7 +53,7 @@ pub fn points_of(
 }
 
 fn push_corner(out: &mut String, point: &Point) -> Result<(), AllocError>
-    ensures { OnOk result (string_bytes out.new ≡ string_bytes out.old ++ overlays.corner_text point.now) }
+    ensures { Appends result out.old out.new (overlays.corner_text point.now) }
 {
     let x = point.x;
     let y = point.y;
@@ -60,7 +61,7 @@ fn push_corner(out: &mut String, point: &Point) -> Result<(), AllocError>
 }
 
 fn push_corners(out: &mut String, points: &[Point]) -> Result<(), AllocError>
-    ensures { OnOk result (string_bytes out.new ≡ string_bytes out.old ++ overlays.corners_text points.now) }
+    ensures { Appends result out.old out.new (overlays.corners_text points.now) }
 {
     for point in points {
         push_corner(out, point)?;
@@ -70,13 +71,13 @@ fn push_corners(out: &mut String, points: &[Point]) -> Result<(), AllocError>
 
 #[tactic(auto, unfolding(crate::specs::Overlays::ring_text))]
 fn push_ring(out: &mut String, point: &Point) -> Result<(), AllocError>
-    ensures { OnOk result (string_bytes out.new ≡ string_bytes out.old ++ overlays.ring_text point.now) }
+    ensures { Appends result out.old out.new (overlays.ring_text point.now) }
 {
     push_shape(out, point.x, point.y, Shape::Halo)
 }
 
 fn push_rings(out: &mut String, points: &[Point]) -> Result<(), AllocError>
-    ensures { OnOk result (string_bytes out.new ≡ string_bytes out.old ++ overlays.rings_text points.now) }
+    ensures { Appends result out.old out.new (overlays.rings_text points.now) }
 {
     for point in points {
         push_ring(out, point)?;
@@ -87,8 +88,7 @@ fn push_rings(out: &mut String, points: &[Point]) -> Result<(), AllocError>
 /// A line from point to point.
 #[tactic(auto, unfolding(crate::specs::Overlays::polyline_text))]
 fn push_polyline(out: &mut String, points: &[Point], stroke: &str) -> Result<(), AllocError>
-    ensures { OnOk result (string_bytes out.new ≡
-        string_bytes out.old ++ overlays.polyline_text points.now stroke.now) }
+    ensures { Appends result out.old out.new (overlays.polyline_text points.now stroke.now) }
 {
     out.push_str("<polyline points='")?;
     push_corners(out, points)?;
@@ -97,14 +97,14 @@ fn push_polyline(out: &mut String, points: &[Point], stroke: &str) -> Result<(),
 
 #[tactic(auto, unfolding(crate::specs::Overlays::chain_title))]
 fn push_chain_title(out: &mut String) -> Result<(), AllocError>
-    ensures { OnOk result (string_bytes out.new ≡ string_bytes out.old ++ overlays.chain_title) }
+    ensures { Appends result out.old out.new overlays.chain_title }
 {
     out.push_str("<g pointer-events='none'><title>chain</title>\n")
 }
 
 #[tactic(auto, unfolding(crate::specs::Overlays::chain_line))]
 fn push_chain_line(out: &mut String, points: &[Point]) -> Result<(), AllocError>
-    ensures { OnOk result (string_bytes out.new ≡ string_bytes out.old ++ overlays.chain_line points.now) }
+    ensures { Appends result out.old out.new (overlays.chain_line points.now) }
 {
     push_polyline(
         out,
@@ -117,7 +117,7 @@ fn push_chain_line(out: &mut String, points: &[Point]) -> Result<(), AllocError>
 /// events below can still be read.
 #[tactic(auto, unfolding(crate::specs::Overlays::chain_text))]
 fn push_chain(out: &mut String, points: &[Point]) -> Result<(), AllocError>
-    ensures { OnOk result (string_bytes out.new ≡ string_bytes out.old ++ overlays.chain_text points.now) }
+    ensures { Appends result out.old out.new (overlays.chain_text points.now) }
 {
     push_chain_title(out)?;
     push_chain_line(out, points)?;
@@ -127,14 +127,14 @@ fn push_chain(out: &mut String, points: &[Point]) -> Result<(), AllocError>
 
 #[tactic(auto, unfolding(crate::specs::Overlays::instant_title))]
 fn push_instant_title(out: &mut String, instant: u32) -> Result<(), AllocError>
-    ensures { OnOk result (string_bytes out.new ≡ string_bytes out.old ++ overlays.instant_title instant) }
+    ensures { Appends result out.old out.new (overlays.instant_title instant) }
 {
     write!(out, "<g><title>instant {instant}</title>\n")
 }
 
 #[tactic(auto, unfolding(crate::specs::Overlays::instant_label))]
 fn push_instant_label(out: &mut String, x: u64, y: u32, instant: u32) -> Result<(), AllocError>
-    ensures { OnOk result (string_bytes out.new ≡ string_bytes out.old ++ overlays.instant_label x y instant) }
+    ensures { Appends result out.old out.new (overlays.instant_label x y instant) }
 {
     write!(
         out,
@@ -144,7 +144,7 @@ fn push_instant_label(out: &mut String, x: u64, y: u32, instant: u32) -> Result<
 
 #[tactic(auto, unfolding(crate::specs::Overlays::instant_line))]
 fn push_instant_line(out: &mut String, x: u64, bottom: u32) -> Result<(), AllocError>
-    ensures { OnOk result (string_bytes out.new ≡ string_bytes out.old ++ overlays.instant_line x bottom) }
+    ensures { Appends result out.old out.new (overlays.instant_line x bottom) }
 {
     push_upright(
         out,
@@ -163,8 +163,7 @@ pub fn push_instant(
     focus: &Focus<'_>,
 ) -> Result<(), AllocError>
     requires { grid.processes < 257 }
-    ensures { OnOk result (string_bytes out.new ≡
-        string_bytes out.old ++ overlays.instant_text grid instant focus.now.orphan) }
+    ensures { Appends result out.old out.new (overlays.instant_text grid instant focus.now.orphan) }
 {
     let x = x_of_instant(grid, instant);
     let bottom = bottom_of(grid.processes);
@@ -177,7 +176,7 @@ pub fn push_instant(
 
 /// The chain, where some of it is shown.
 pub fn push_shown_chain(out: &mut String, points: &[Point]) -> Result<(), AllocError>
-    ensures { OnOk result (string_bytes out.new ≡ string_bytes out.old ++ overlays.shown_chain points.now) }
+    ensures { Appends result out.old out.new (overlays.shown_chain points.now) }
 {
     if points.is_empty() {
         Ok(())

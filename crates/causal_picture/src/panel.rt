@@ -1,7 +1,8 @@
 //! A part of the picture whose entries follow one another: the lines of the processes that are up, and the events.
-ghost use Rattle.std.specs.Prelude.{◌≡◌, ◌≤◌, ◌<◌, ◌+◌, ◌++◌, OnOk, length, string_bytes};
+ghost use Rattle.std.specs.Prelude.{◌≤◌, ◌<◌, ◌+◌, length};
 ghost use Rattle.std.specs.FinSet.{contains};
 ghost use Rattle.causal_trace.specs.State.{entries_of, past_at};
+ghost use Rattle.causal_picture.specs.Appended.{Appends};
 ghost use Rattle.causal_picture.specs.Inside.Downs.{ShowsDown};
 ghost use Rattle.causal_picture.specs.Panels as panels;
 ghost use Rattle.causal_picture.specs.Stretches as stretches;
@@ -20,7 +21,7 @@ use std::alloc::{AllocError, Global};
 /// The line of a process that is up, with its title.
 #[tactic(auto, unfolding(crate::specs::Panels::line_text))]
 fn push_line(out: &mut String, process: u16, from: u64, to: u64, y: u32) -> Result<(), AllocError>
-    ensures { OnOk result (string_bytes out.new ≡ string_bytes out.old ++ panels.line_text process from to y) }
+    ensures { Appends result out.old out.new (panels.line_text process from to y) }
 {
     push_process_title(out, process)?;
     push_up(out, from, to, y)?;
@@ -36,8 +37,7 @@ fn push_first_up(
     process: u16,
     is_up: bool,
 ) -> Result<(), AllocError>
-    ensures { OnOk result (string_bytes out.new ≡
-        string_bytes out.old ++ panels.first_up_text grid panel marks.now process is_up) }
+    ensures { Appends result out.old out.new (panels.first_up_text grid panel marks.now process is_up) }
 {
     if is_up {
         let to = up_until(grid, panel, marks, process, 0);
@@ -56,8 +56,7 @@ fn push_unless_down(
     process: u16,
 ) -> Result<(), AllocError>
     requires { process < 256 }
-    ensures { OnOk result (string_bytes out.new ≡
-        string_bytes out.old ++ panels.unless_down grid panel marks.now (contains down) process) }
+    ensures { Appends result out.old out.new (panels.unless_down grid panel marks.now (contains down) process) }
 {
     let is_up = !down.contains(process as u8);
     push_first_up(out, grid, panel, marks, process, is_up)
@@ -81,8 +80,7 @@ fn push_ups(
     marks: &[Mark],
 ) -> Result<(), AllocError>
     requires { panel.stretch.first + panel.stretch.count ≤ length trace.now.recording.past }
-    ensures { OnOk result (string_bytes out.new ≡
-        string_bytes out.old ++ panels.ups_text trace.now.recording grid panel marks.now) }
+    ensures { Appends result out.old out.new (panels.ups_text trace.now.recording grid panel marks.now) }
 {
     let down = down_before(trace, panel.stretch);
     for process in 0..trace.processes() {
@@ -101,8 +99,7 @@ fn push_panel(
     panel: Panel,
 ) -> Result<(), NoMemory>
     requires { panel.stretch.first + panel.stretch.count ≤ length trace.now.recording.past }
-    ensures { OnOk result (string_bytes out.new ≡
-        string_bytes out.old ++ panels.panel_text trace.now.recording grid panel) }
+    ensures { Appends result out.old out.new (panels.panel_text trace.now.recording grid panel) }
 {
     let marks = marks_of(alloc, trace, panel.stretch)?;
     push_ups(out, trace, grid, panel, &marks)?;
@@ -118,8 +115,7 @@ pub fn push_early(
     grid: Grid,
 ) -> Result<(), NoMemory>
     requires { stretches.IsWithin (length trace.now.recording.past) grid }
-    ensures { OnOk result (string_bytes out.new ≡
-        string_bytes out.old ++ panels.early_text trace.now.recording grid) }
+    ensures { Appends result out.old out.new (panels.early_text trace.now.recording grid) }
 {
     push_panel(alloc, out, trace, grid, early_panel(grid))
 }
@@ -127,8 +123,7 @@ pub fn push_early(
 /// The part from the cut on, where the run is cut.
 pub fn push_late(alloc: Global, out: &mut String, trace: &Trace, grid: Grid) -> Result<(), NoMemory>
     requires { stretches.IsWithin (length trace.now.recording.past) grid }
-    ensures { OnOk result (string_bytes out.new ≡
-        string_bytes out.old ++ panels.late_text trace.now.recording grid) }
+    ensures { Appends result out.old out.new (panels.late_text trace.now.recording grid) }
 {
     if grid.late.count == 0 {
         Ok(())

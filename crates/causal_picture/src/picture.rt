@@ -1,6 +1,7 @@
 //! A whole picture.
-ghost use Rattle.std.specs.Prelude.{◌≡◌, ◌<◌, ◌++◌, IfOk, OnOk, length, string_bytes};
+ghost use Rattle.std.specs.Prelude.{◌≡◌, ◌<◌, IfOk, length};
 ghost use Rattle.std.specs.Option.{option_copied};
+ghost use Rattle.causal_picture.specs.Appended.{Appends};
 ghost use Rattle.causal_picture.specs.Pictures as pictures;
 ghost use Rattle.causal_picture.specs.Stretches as stretches;
 
@@ -25,7 +26,7 @@ fn push_shaded_row(
     process: u16,
 ) -> Result<(), AllocError>
     requires { process < 256 }
-    ensures { OnOk result (string_bytes out.new ≡ string_bytes out.old ++ pictures.shaded_row grid crash process) }
+    ensures { Appends result out.old out.new (pictures.shaded_row grid crash process) }
 {
     push_row(out, grid, process, crash.contains(process as u8))
 }
@@ -33,8 +34,7 @@ fn push_shaded_row(
 /// The rows of all processes.
 #[tactic(auto, unfolding(crate::specs::Pictures::rows_text))]
 fn push_rows(out: &mut String, trace: &Trace, grid: Grid, crash: Holders) -> Result<(), AllocError>
-    ensures { OnOk result (string_bytes out.new ≡
-        string_bytes out.old ++ pictures.rows_text trace.now.recording grid crash) }
+    ensures { Appends result out.old out.new (pictures.rows_text trace.now.recording grid crash) }
 {
     for process in 0..trace.processes() {
         push_shaded_row(out, grid, crash, process)?;
@@ -62,8 +62,7 @@ fn push_focus(
     focus: &Focus<'_>,
 ) -> Result<(), NoMemory>
     requires { grid.processes < 257 }
-    ensures { OnOk result (string_bytes out.new ≡
-        string_bytes out.old ++ pictures.focus_text trace.now.recording grid focus.now) }
+    ensures { Appends result out.old out.new (pictures.focus_text trace.now.recording grid focus.now) }
 {
     let points = points_of(alloc, trace, grid, focus.chain)?;
     let instant = focus.instant.min(trace.len());
@@ -81,8 +80,7 @@ fn push_any_focus(
     focus: Option<&Focus<'_>>,
 ) -> Result<(), NoMemory>
     requires { grid.processes < 257 }
-    ensures { OnOk result (string_bytes out.new ≡
-        string_bytes out.old ++ pictures.any_focus_text trace.now.recording grid (option_copied focus.entry)) }
+    ensures { Appends result out.old out.new (pictures.any_focus_text trace.now.recording grid (option_copied focus.entry)) }
 {
     match focus {
         Some(focus) => push_focus(alloc, out, trace, grid, focus),
@@ -100,8 +98,7 @@ fn push_close(
     focus: Option<&Focus<'_>>,
 ) -> Result<(), AllocError>
     requires { stretches.IsWithin entries grid }
-    ensures { OnOk result (string_bytes out.new ≡
-        string_bytes out.old ++ pictures.close_text grid entries faults (option_copied focus.entry)) }
+    ensures { Appends result out.old out.new (pictures.close_text grid entries faults (option_copied focus.entry)) }
 {
     let bottom = bottom_of(grid.processes);
     push_cuts(out, grid, entries)?;
@@ -120,8 +117,7 @@ fn push_run(
     crash: Holders,
 ) -> Result<(), NoMemory>
     requires { stretches.IsWithin (length trace.now.recording.past) grid }
-    ensures { OnOk result (string_bytes out.new ≡
-        string_bytes out.old ++ pictures.run_text trace.now.recording grid crash) }
+    ensures { Appends result out.old out.new (pictures.run_text trace.now.recording grid crash) }
 {
     push_rows(out, trace, grid, crash)?;
     push_early(alloc, out, trace, grid)?;
@@ -136,8 +132,7 @@ fn push_picture(
     faults: u16,
     focus: Option<&Focus<'_>>,
 ) -> Result<(), NoMemory>
-    ensures { OnOk result (string_bytes out.new ≡
-        string_bytes out.old ++ pictures.picture trace.now.recording faults (option_copied focus.entry)) }
+    ensures { Appends result out.old out.new (pictures.picture trace.now.recording faults (option_copied focus.entry)) }
 {
     let entries = trace.len();
     let grid = grid_around(trace, focus);

@@ -1,5 +1,6 @@
 //! The processes at the instant: the name of each again, and a sign at the orphan and at each holder.
-ghost use Rattle.std.specs.Prelude.{◌≡◌, ◌<◌, ◌++◌, OnOk, string_bytes};
+ghost use Rattle.std.specs.Prelude.{◌≡◌, ◌<◌};
+ghost use Rattle.causal_picture.specs.Appended.{Appends};
 ghost use Rattle.causal_picture.specs.Roles as roles;
 
 use crate::focus::{Focus, Orphan};
@@ -57,7 +58,7 @@ fn role_beside(orphan: &Orphan, process: u16) -> Role
 
 /// The sign of a role.
 fn push_sign(out: &mut String, x: u64, y: u32, role: Role) -> Result<(), AllocError>
-    ensures { OnOk result (string_bytes out.new ≡ string_bytes out.old ++ roles.sign_text x y role) }
+    ensures { Appends result out.old out.new (roles.sign_text x y role) }
 {
     match role {
         Role::Orphan => push_shape(out, x, y, Shape::OpenDiamond),
@@ -69,7 +70,7 @@ fn push_sign(out: &mut String, x: u64, y: u32, role: Role) -> Result<(), AllocEr
 /// The name of a process beside a place on its line, with its role.
 #[tactic(auto, unfolding(crate::specs::Roles::name_text))]
 fn push_name(out: &mut String, x: u64, y: u32, process: u16, words: &str) -> Result<(), AllocError>
-    ensures { OnOk result (string_bytes out.new ≡ string_bytes out.old ++ roles.name_text x y process words.now) }
+    ensures { Appends result out.old out.new (roles.name_text x y process words.now) }
 {
     write!(
         out,
@@ -87,8 +88,7 @@ fn push_process(
     process: u16,
 ) -> Result<(), AllocError>
     requires { process < 256 }
-    ensures { OnOk result (string_bytes out.new ≡
-        string_bytes out.old ++ roles.process_text grid x focus.now.orphan process) }
+    ensures { Appends result out.old out.new (roles.process_text grid x focus.now.orphan process) }
 {
     let y = y_of(grid, process);
     let role = role_of(focus, process);
@@ -105,7 +105,7 @@ pub fn push_processes(
     focus: &Focus<'_>,
 ) -> Result<(), AllocError>
     requires { grid.processes < 257 }
-    ensures { OnOk result (string_bytes out.new ≡ string_bytes out.old ++ roles.processes_text grid x focus.now.orphan) }
+    ensures { Appends result out.old out.new (roles.processes_text grid x focus.now.orphan) }
 {
     for process in 0..grid.processes {
         push_process(out, grid, x, focus, process)?;

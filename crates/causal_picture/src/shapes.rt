@@ -1,6 +1,7 @@
 //! The parts that marks are drawn of. What is written between the tags and in the attributes is numbers and the words
 //! that stand here, so nothing in it needs escaping. Attributes stand in single quotes.
-ghost use Rattle.std.specs.Prelude.{◌≡◌, ◌≤◌, ◌++◌, OnOk, string_bytes};
+ghost use Rattle.std.specs.Prelude.{◌≡◌, ◌≤◌};
+ghost use Rattle.causal_picture.specs.Appended.{Appends};
 ghost use Rattle.causal_picture.specs.Shapes as shapes;
 
 use crate::marks::Event;
@@ -69,7 +70,7 @@ pub fn shape_of(event: &Event) -> Shape
 /// A path with these attributes, about a place.
 #[tactic(auto, unfolding(crate::specs::Shapes::path_text))]
 fn push_path(out: &mut String, x: u64, y: u32, attributes: &str) -> Result<(), AllocError>
-    ensures { OnOk result (string_bytes out.new ≡ string_bytes out.old ++ shapes.path_text x y attributes.now) }
+    ensures { Appends result out.old out.new (shapes.path_text x y attributes.now) }
 {
     write!(out, "<path transform='translate({x},{y})' {attributes}/>\n")
 }
@@ -77,7 +78,7 @@ fn push_path(out: &mut String, x: u64, y: u32, attributes: &str) -> Result<(), A
 /// A shape at a place.
 #[tactic(auto, unfolding(crate::specs::Shapes::shape_text))]
 pub fn push_shape(out: &mut String, x: u64, y: u32, shape: Shape) -> Result<(), AllocError>
-    ensures { OnOk result (string_bytes out.new ≡ string_bytes out.old ++ shapes.shape_text x y shape) }
+    ensures { Appends result out.old out.new (shapes.shape_text x y shape) }
 {
     push_path(out, x, y, shape.attributes())
 }
@@ -91,7 +92,7 @@ pub fn push_level(
     y: u32,
     stroke: &str,
 ) -> Result<(), AllocError>
-    ensures { OnOk result (string_bytes out.new ≡ string_bytes out.old ++ shapes.level_text from to y stroke.now) }
+    ensures { Appends result out.old out.new (shapes.level_text from to y stroke.now) }
 {
     write!(out, "<path d='M{from} {y}H{to}' fill='none' {stroke}/>\n")
 }
@@ -99,7 +100,7 @@ pub fn push_level(
 /// An upright line, from above the processes' lines to the bottom.
 #[tactic(auto, unfolding(crate::specs::Shapes::upright_text))]
 pub fn push_upright(out: &mut String, x: u64, bottom: u32, stroke: &str) -> Result<(), AllocError>
-    ensures { OnOk result (string_bytes out.new ≡ string_bytes out.old ++ shapes.upright_text x bottom stroke.now) }
+    ensures { Appends result out.old out.new (shapes.upright_text x bottom stroke.now) }
 {
     write!(out, "<path d='M{x} 70V{bottom}' fill='none' {stroke}/>\n")
 }
@@ -113,8 +114,7 @@ pub fn push_straight(
     to_x: u64,
     to_y: u32,
 ) -> Result<(), AllocError>
-    ensures { OnOk result (string_bytes out.new ≡
-        string_bytes out.old ++ shapes.straight_text from_x from_y to_x to_y) }
+    ensures { Appends result out.old out.new (shapes.straight_text from_x from_y to_x to_y) }
 {
     write!(
         out,
@@ -126,7 +126,7 @@ pub fn push_straight(
 #[tactic(auto, unfolding(crate::specs::Shapes::bent_text))]
 pub fn push_bent(out: &mut String, from_x: u64, to_x: u64, y: u32) -> Result<(), AllocError>
     requires { 30 ≤ y }
-    ensures { OnOk result (string_bytes out.new ≡ string_bytes out.old ++ shapes.bent_text from_x to_x y) }
+    ensures { Appends result out.old out.new (shapes.bent_text from_x to_x y) }
 {
     let middle = from_x.midpoint(to_x);
     let above = y - 30;

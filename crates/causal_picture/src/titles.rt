@@ -1,5 +1,6 @@
 //! What the marks are called, for whoever points at one or has the picture read out.
-ghost use Rattle.std.specs.Prelude.{◌≡◌, ◌++◌, OnOk, string_bytes};
+ghost use Rattle.std.specs.Prelude.{◌≡◌};
+ghost use Rattle.causal_picture.specs.Appended.{Appends};
 ghost use Rattle.causal_picture.specs.Titles as titles;
 
 use crate::marks::{Event, Mark};
@@ -12,7 +13,7 @@ pub const MOST_NAMED: usize = 8;
 
 /// `process 1 sends message 0 to process 2`.
 fn push_send(out: &mut String, from: Pid, to: Pid, ssn: u32) -> Result<(), AllocError>
-    ensures { OnOk result (string_bytes out.new ≡ string_bytes out.old ++ titles.send_title from to ssn) }
+    ensures { Appends result out.old out.new (titles.send_title from to ssn) }
 {
     let Pid(from) = from;
     let Pid(to) = to;
@@ -21,7 +22,7 @@ fn push_send(out: &mut String, from: Pid, to: Pid, ssn: u32) -> Result<(), Alloc
 
 /// `process 1 delivers message 0 of process 0`.
 fn push_delivery(out: &mut String, det: Det) -> Result<(), AllocError>
-    ensures { OnOk result (string_bytes out.new ≡ string_bytes out.old ++ titles.delivery_title det) }
+    ensures { Appends result out.old out.new (titles.delivery_title det) }
 {
     let Pid(dest) = det.dest;
     let Pid(source) = det.source;
@@ -34,7 +35,7 @@ fn push_delivery(out: &mut String, det: Det) -> Result<(), AllocError>
 
 /// `delivery 0 of process 1, of message 0 of process 0, is in stable storage`.
 fn push_stable(out: &mut String, det: Det) -> Result<(), AllocError>
-    ensures { OnOk result (string_bytes out.new ≡ string_bytes out.old ++ titles.stable_title det) }
+    ensures { Appends result out.old out.new (titles.stable_title det) }
 {
     let Pid(dest) = det.dest;
     let Pid(source) = det.source;
@@ -48,7 +49,7 @@ fn push_stable(out: &mut String, det: Det) -> Result<(), AllocError>
 
 /// `process 1 crashes`, or what else it does.
 fn push_turn(out: &mut String, who: Pid, does: &str) -> Result<(), AllocError>
-    ensures { OnOk result (string_bytes out.new ≡ string_bytes out.old ++ titles.turn_title who does.now) }
+    ensures { Appends result out.old out.new (titles.turn_title who does.now) }
 {
     let Pid(who) = who;
     write!(out, "process {who} {does}")
@@ -56,14 +57,14 @@ fn push_turn(out: &mut String, who: Pid, does: &str) -> Result<(), AllocError>
 
 /// `process 1 forgets 3 determinants`.
 fn push_forget(out: &mut String, who: Pid, count: usize) -> Result<(), AllocError>
-    ensures { OnOk result (string_bytes out.new ≡ string_bytes out.old ++ titles.forget_title who count) }
+    ensures { Appends result out.old out.new (titles.forget_title who count) }
 {
     let Pid(who) = who;
     write!(out, "process {who} forgets {count} determinants")
 }
 
 fn push_event(out: &mut String, event: &Event) -> Result<(), AllocError>
-    ensures { OnOk result (string_bytes out.new ≡ string_bytes out.old ++ titles.event_title event.now) }
+    ensures { Appends result out.old out.new (titles.event_title event.now) }
 {
     match event {
         Event::Send { from, to, ssn } => push_send(out, *from, *to, *ssn),
@@ -77,7 +78,7 @@ fn push_event(out: &mut String, event: &Event) -> Result<(), AllocError>
 
 /// ` [0,0,1,0]`: source, send number, receiver and place there, as the trace's text has a determinant.
 fn push_det(out: &mut String, det: &Det) -> Result<(), AllocError>
-    ensures { OnOk result (string_bytes out.new ≡ string_bytes out.old ++ titles.det_title det.now) }
+    ensures { Appends result out.old out.new (titles.det_title det.now) }
 {
     let Pid(source) = det.source;
     let Pid(dest) = det.dest;
@@ -87,7 +88,7 @@ fn push_det(out: &mut String, det: &Det) -> Result<(), AllocError>
 }
 
 fn push_dets(out: &mut String, dets: &[Det]) -> Result<(), AllocError>
-    ensures { OnOk result (string_bytes out.new ≡ string_bytes out.old ++ titles.dets_title dets.now) }
+    ensures { Appends result out.old out.new (titles.dets_title dets.now) }
 {
     for det in dets {
         push_det(out, det)?;
@@ -97,7 +98,7 @@ fn push_dets(out: &mut String, dets: &[Det]) -> Result<(), AllocError>
 
 /// ` and 3 more`, if there are any.
 fn push_more(out: &mut String, more: usize) -> Result<(), AllocError>
-    ensures { OnOk result (string_bytes out.new ≡ string_bytes out.old ++ titles.more_title more) }
+    ensures { Appends result out.old out.new (titles.more_title more) }
 {
     if more == 0 {
         Ok(())
@@ -109,7 +110,7 @@ fn push_more(out: &mut String, more: usize) -> Result<(), AllocError>
 /// `, and logs [0,0,1,0] [1,0,2,0]`: the first eight of a list, and how many more there are.
 #[tactic(auto, unfolding(crate::specs::Titles::named_title))]
 fn push_named(out: &mut String, listed: &[Det]) -> Result<(), AllocError>
-    ensures { OnOk result (string_bytes out.new ≡ string_bytes out.old ++ titles.named_title listed.now) }
+    ensures { Appends result out.old out.new (titles.named_title listed.now) }
 {
     let named = listed.len().min(MOST_NAMED);
     out.push_str(", and logs")?;
@@ -119,7 +120,7 @@ fn push_named(out: &mut String, listed: &[Det]) -> Result<(), AllocError>
 
 /// What is put into a volatile log.
 fn push_logged(out: &mut String, listed: &[Det]) -> Result<(), AllocError>
-    ensures { OnOk result (string_bytes out.new ≡ string_bytes out.old ++ titles.logged_title listed.now) }
+    ensures { Appends result out.old out.new (titles.logged_title listed.now) }
 {
     if listed.is_empty() {
         out.push_str(", and logs nothing")
@@ -130,7 +131,7 @@ fn push_logged(out: &mut String, listed: &[Det]) -> Result<(), AllocError>
 
 /// What an entry puts into a volatile log: a delivery what came with its message, and a restart what it gathers.
 fn push_list(out: &mut String, entry: &Entry) -> Result<(), AllocError>
-    ensures { OnOk result (string_bytes out.new ≡ string_bytes out.old ++ titles.list_title entry.now) }
+    ensures { Appends result out.old out.new (titles.list_title entry.now) }
 {
     match entry {
         Entry::Deliver { listed, .. } => push_logged(out, listed.as_slice()),
@@ -141,8 +142,7 @@ fn push_list(out: &mut String, entry: &Entry) -> Result<(), AllocError>
 
 /// The same of the entry at a position.
 fn push_list_at(out: &mut String, trace: &Trace, position: u32) -> Result<(), AllocError>
-    ensures { OnOk result (string_bytes out.new ≡
-        string_bytes out.old ++ titles.list_title_at trace.now.recording.past position) }
+    ensures { Appends result out.old out.new (titles.list_title_at trace.now.recording.past position) }
 {
     match trace.entry(position) {
         Some(entry) => push_list(out, entry),
@@ -154,8 +154,7 @@ fn push_list_at(out: &mut String, trace: &Trace, position: u32) -> Result<(), Al
 /// on line k + 2 of the trace's text. Of a list at most eight determinants are named.
 #[tactic(auto, unfolding(crate::specs::Titles::title_text))]
 pub fn push_title(out: &mut String, trace: &Trace, mark: &Mark) -> Result<(), AllocError>
-    ensures { OnOk result (string_bytes out.new ≡
-        string_bytes out.old ++ titles.title_text trace.now.recording.past mark.now) }
+    ensures { Appends result out.old out.new (titles.title_text trace.now.recording.past mark.now) }
 {
     let line = line_of(mark.position);
     write!(out, "<title>line {line}: ")?;
