@@ -2,8 +2,9 @@
 """Checks that the answers in examples/README.md and docs/FORMAT.md are those of the traces and scripts that stand here, by the plain
 models of the auditor and of the runtime (trials/traces.py, trials/scripts.py): each row of the table, and both answers to the worked
 recording, of which the second is to one list that is forged. The explanations that stand here have to tell what the plain model of
-explanations tells (trials/reasons.py). With --program the program has to give all of these too. Of the picture that stands here it
-checks what follows from the layout of pictures, and of record.py that it shows each kind of line.
+explanations tells (trials/reasons.py). The rows of commands/ have to be answered by the models where they can. With --program the
+program has to give all of these too. Of the picture that stands here it checks what follows from the layout of pictures, and of
+record.py that it shows each kind of line.
 
     examples/check.py [--program crates/causal_tool/out/causal_tool]
 """
@@ -19,6 +20,7 @@ import xml.etree.ElementTree
 HERE = os.path.dirname(os.path.abspath(__file__))
 TOP = os.path.dirname(HERE)
 sys.path.insert(0, os.path.join(TOP, "trials"))
+import commands  # noqa: E402
 import reasons  # noqa: E402
 import scripts  # noqa: E402
 import traces  # noqa: E402
@@ -396,9 +398,9 @@ def main():
     if unmet:
         wrong += len(unmet)
         print(f"no row for {', '.join(sorted(unmet))}")
-    asked = [wrong_in_the_format(), wrong_reasons(), wrong_ranges(program)]
+    asked = [wrong_in_the_format(), wrong_reasons(), wrong_ranges(program), commands.wrong_by_models()]
     if program:
-        asked += [wrong_complaints(program), wrong_streams(program), wrong_pages(program)]
+        asked += [wrong_complaints(program), wrong_streams(program), wrong_pages(program), commands.wrong_rows(program)]
     for answers, mistaken in asked:
         count, wrong = count + answers, wrong + mistaken
     wrong += wrong_in_the_picture() + (not is_shown_by_record())

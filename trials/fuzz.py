@@ -2,7 +2,7 @@
 """Runs the built program on random and damaged texts and scripts, and compares what it answers with the plain models
 beside this file. Each difference is printed with its input. Everything is decided by the seed.
 
-    trials/fuzz.py [--program PATH] [--cases 20000] [--seed 1] [--jobs N] [--only audit|run]
+    trials/fuzz.py [--program PATH] [--cases 20000] [--seed 1] [--jobs N] [--only audit|explain|draw|run]
 """
 import argparse
 import collections
@@ -14,6 +14,7 @@ import re
 import subprocess
 import sys
 
+import pictures
 import reasons
 import scripts
 import traces
@@ -277,6 +278,20 @@ def explained(text, f, said):
     return "\n".join([line] if status == 2 else reasons.told(text, f, said.splitlines())), status
 
 
+def draw_case(rng):
+    """A whole trace: each entry has to have its mark."""
+    lines = recorded_run(rng) if rng.random() < 0.3 else whole_trace(rng)
+    f, text = rng.choice((0, 1, 1, 2, 3)), ("\n".join(lines) + "\n").encode()
+    return ["draw", "--faults", str(f)], text, lambda _: (listing(pictures.told(text)), traces.audited(text, f)[1])
+
+
+def listing(marks):
+    """The marks of a picture as a text, which begins otherwise where there is no whole picture."""
+    if marks is None:
+        return "no picture\n"
+    return "picture\n" + "".join(f"{line} {words}{' (faint)' if faint else ''}\n" for line, words, faint in marks)
+
+
 # ---- scripts
 
 
@@ -340,7 +355,7 @@ def run_case(rng):
 
 # ---- both
 
-MAKERS = {"audit": [audit_case, audit_case, raised_case], "explain": [explain_case], "run": [run_case]}
+MAKERS = {"audit": [audit_case, audit_case, raised_case], "explain": [explain_case], "draw": [draw_case], "run": [run_case]}
 
 # What a trial of all cases has to meet at least once in so many.
 LEAST = {"accept": 10, "exceeded": 50, "orphan crash=-": 50, "orphan": 100, "with a replay": 50, "with a forgetting": 20, "with a stable": 20}
@@ -355,8 +370,10 @@ def features(text):
 
 
 def one(program, words, text):
-    """What the program prints, of the lines of `explain` the words before the colon, and its status."""
+    """What the program prints, of the lines of `explain` the words before the colon, of a picture its marks, and its status."""
     ended = subprocess.run([program, *words], input=text, capture_output=True, timeout=60)
+    if words[0] == "draw":
+        return listing(pictures.marks(ended.stdout)), ended.returncode
     said = ended.stdout.decode("utf-8", "replace")
     if words[0] == "explain":
         said = "".join(line.split(":")[0] + "\n" for line in said.splitlines())
@@ -386,7 +403,7 @@ def main():
     given.add_argument("--cases", type=int, default=20_000)
     given.add_argument("--seed", type=int, default=1)
     given.add_argument("--jobs", type=int, default=os.cpu_count())
-    given.add_argument("--only", choices=("audit", "explain", "run"))
+    given.add_argument("--only", choices=("audit", "explain", "draw", "run"))
     words = given.parse_args()
     makers = MAKERS[words.only] if words.only else [maker for makers in MAKERS.values() for maker in makers]
     wrong, met = 0, collections.Counter()

@@ -1,0 +1,53 @@
+"""What the built program answers to rows worked out by hand: each command, to the byte. examples/check.py runs them."""
+import concurrent.futures
+import os
+
+import scripts as runtime
+import traces as auditor
+
+from . import faults, merges, pictures, reasons, scripts, verdicts
+from .row import difference
+
+MODULES = (verdicts, faults, reasons, pictures, scripts, merges)
+SHORT = 300_000  # bytes of a text that a plain model reads in no time
+
+
+def all_rows():
+    return [(module.__name__, row) for module in MODULES for row in module.rows()]
+
+
+def told(kind, name, row, differs):
+    """Prints a row that is answered otherwise."""
+    print(f"{name}, {row.name}: {' '.join(row.words)}: {kind} {differs}")
+
+
+def wrong_rows(program):
+    """Tells each row that the program answers otherwise, and gives how many rows there are and how many are wrong."""
+    rows, wrong = all_rows(), 0
+    with concurrent.futures.ThreadPoolExecutor(os.cpu_count()) as pool:
+        for (name, row), differs in zip(rows, pool.map(lambda named: difference(program, named[1]), rows)):
+            if differs:
+                wrong += 1
+                told("the program:", name, row, differs)
+    return len(rows), wrong
+
+
+def modelled(row):
+    """What a plain model answers to a row, where there is one."""
+    if len(row.text) > SHORT or row.seen is not bytes.decode:
+        return None
+    if row.words[0] == "audit":
+        line, status = auditor.audited(row.text, int(row.words[2]))
+        return status, line + "\n"
+    if row.words[0] == "run":
+        return runtime.ran(row.text)[::-1]
+    return None
+
+
+def wrong_by_models():
+    """The same of the plain models of the auditor and of the runtime."""
+    asked = [(name, row, modelled(row)) for name, row in all_rows()]
+    wrong = [(name, row, got) for name, row, got in asked if got not in (None, (row.status, row.out))]
+    for name, row, got in wrong:
+        told("the model:", name, row, f"wanted {(row.status, row.out)!r}, it gives {got!r}")
+    return sum(got is not None for _, _, got in asked), len(wrong)

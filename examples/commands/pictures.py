@@ -1,0 +1,152 @@
+"""Traces, and what the pictures that `draw` prints show of them."""
+from pictures import marks
+
+from . import faults, texts, verdicts
+from .row import given, status_of
+from .texts import A, B, FIRST, SENT, crash, deliver, forget, restart, send, trace
+
+# how the lines of a picture end that show a verdict: the shade behind a process, the chain, the instant, and who is what there
+OF_VERDICT = (
+    " stroke='#ffe3b3' stroke-width='34'/>",
+    " stroke='#d55e00' stroke-width='4' stroke-opacity='0.75'/>",
+    " stroke='#0072b2' stroke-width='2' stroke-dasharray='7 4'/>",
+    ": orphan</text>",
+    ": holder</text>",
+)
+IN_WORDS = "<text x='10' y='20' "
+
+
+def shade(y):
+    return f"<path d='M0 {y}H600' fill='none' stroke='#ffe3b3' stroke-width='34'/>\n"
+
+
+def chain(points):
+    return f"<polyline points='{points} ' fill='none' stroke='#d55e00' stroke-width='4' stroke-opacity='0.75'/>\n"
+
+
+def instant(x):
+    return f"<path d='M{x} 70V212' fill='none' stroke='#0072b2' stroke-width='2' stroke-dasharray='7 4'/>\n"
+
+
+def named(x, y, process, what):
+    return f"<text x='{x}' y='{y}' dx='9' dy='-5' font-size='10' fill='#0072b2'>process {process}: {what}</text>\n"
+
+
+def in_words(words):
+    return f"{IN_WORDS}font-size='14' font-weight='bold' fill='#222'>{words}</text>\n"
+
+
+# By the layout process p has its line at 92 + 40 p, the entry at position k stands at 110 + 30 k, the instant t at 95 + 30 t, and what
+# stands below three rows begins at 212.
+DRAWN = [
+    (
+        "1 may crash, and 2 depends on its delivery by positions 1, 2 and 3",
+        texts.PASSED_ON_BARE,
+        1,
+        shade(132) + chain("140,132 170,132 200,172") + instant(215) + named(215, 132, 1, "holder") + named(215, 172, 2, "orphan")
+        + in_words("orphan f=1: process 2 depends on the delivery of line 3"),
+    ),
+    (
+        "1 and 2 may crash, and 0 depends on the delivery of 1 by all that follows in the ring",
+        texts.RING_TEXT,
+        2,
+        shade(132) + shade(172) + chain("140,132 170,132 200,172 230,172 260,92") + instant(275) + named(275, 92, 0, "orphan")
+        + named(275, 132, 1, "holder") + named(275, 172, 2, "holder")
+        + in_words("orphan f=2: process 0 depends on the delivery of line 3"),
+    ),
+    (
+        "1 and 2 are down after 8 entries",
+        texts.RING_CRASHED,
+        1,
+        shade(132) + shade(172) + instant(335) + in_words("exceeded f=1: the shaded processes are down"),
+    ),
+    ("a message passed on, and no fault", texts.PASSED_ON_BARE, 0, in_words("accept f=0: no delivery has an orphan")),
+    ("a ring, and one fault", texts.RING_TEXT, 1, in_words("accept f=1: no delivery has an orphan")),
+]  # fmt: skip
+
+
+def of_verdict(printed):
+    """The lines of a picture that show the verdict."""
+    lines = printed.decode().splitlines(keepends=True)
+    return "".join(line for line in lines if line.startswith(IN_WORDS) or line.rstrip("\n").endswith(OF_VERDICT))
+
+
+def shown(printed):
+    """The numbers of the lines whose entries are shown."""
+    return [line for line, _, _ in marks(printed)]
+
+
+# process 1 crashes, restarts, and repeats what it did: it sends its message once more, which is faint there and where it is delivered
+REPEATED = trace(1, 3, SENT, FIRST, send(1, 2, 0), crash(1), restart(1), FIRST, send(1, 2, 0), deliver(2, 6, 0, B))
+FAINT = [
+    (8, "process 1 sends message 0 to process 2", True),
+    (9, "process 2 delivers message 0 of process 1, and logs [1,0,2,0]", True),
+]
+LOGS = [
+    (3, "process 1 delivers message 0 of process 0, and logs [0,0,1,0]", False),
+    (5, "process 2 delivers message 0 of process 1, and logs [0,0,1,0] [1,0,2,0]", False),
+]
+
+
+def faint(printed):
+    """The marks that are faint."""
+    return [mark for mark in marks(printed) if mark[2]]
+
+
+def of_lines_3_and_5(printed):
+    return [mark for mark in marks(printed) if mark[0] in (3, 5)]
+
+
+# What is shown of a run that is longer than a picture: from an entry on, and before another. Of an instant these are the 190 entries
+# before it and the 10 from it on, or fewer before where the chain begins earlier. Where 200 do not reach back to the first of the
+# chain, 9 entries before that and 31 from it on are shown, and 150 before the instant and 10 from it on.
+LONGER = 300
+EXCEEDED = [(50, [(0, 200)]), (230, [(40, 240)])]
+ORPHANED = [((33, 200), [(33, 233)]), ((100,), [(40, 240)]), ((29,), [(20, 60), (80, 240)]), ((4, 100), [(0, 40), (80, 240)])]
+
+
+def idle(count):
+    """So many entries that change nothing."""
+    return [forget(0)] * count
+
+
+def exceeded_at(t):
+    """The text of a run in which a process crashes by the instant t."""
+    return trace(2, 3, idle(t - 1), crash(1), idle(LONGER - t))
+
+
+def orphaned_by(first, sent=None):
+    """The text of a run in which process 1 delivers at the position `first` what 0 sends before, and sends to 2 at the position `sent`
+    or at once; 2 delivers it at position 229 without the determinant."""
+    sent = first + 1 if sent is None else sent
+    entries = [*idle(first - 1), SENT, deliver(1, first - 1, 0, A), *idle(sent - first - 1), send(1, 2, 0), *idle(229 - sent - 1)]
+    return trace(2, 3, entries, deliver(2, sent, 0, B), idle(LONGER - 230))
+
+
+def lines_of(parts):
+    """The lines of the entries of these parts; the header is line 1."""
+    return [position + 2 for first, end in parts for position in range(first, end)]
+
+
+def longer_rows():
+    yield given("the beginning of a longer run", "draw --faults 1", trace(2, 3, idle(LONGER)), 0, lines_of([(0, 200)]), seen=shown)
+    for t, parts in EXCEEDED:
+        yield given(f"an excess at {t}", "draw --faults 0", exceeded_at(t), 1, lines_of(parts), seen=shown)
+    for places, parts in ORPHANED:
+        yield given(f"a chain by {places}", "draw --faults 1", orphaned_by(*places), 1, lines_of(parts), seen=shown)
+
+
+def rows():
+    for name, text, f, lines in DRAWN:
+        status = 0 if "accept" in lines else 1
+        yield given(f"{name}, drawn", f"draw --faults {f}", text, status, lines, seen=of_verdict)
+    for name, text, lines in verdicts.JUDGED:
+        entries = list(range(2, text.count("\n")))
+        for line in lines:
+            words = f"draw --faults {verdicts.faults_in(line)}"
+            yield given(f"{name}, drawn", words, text, status_of(line), entries, seen=shown)
+    for name, text, _ in faults.FAULTY:
+        yield given(f"{name}, not drawn", "draw --faults 0", text, 2, "")
+    yield given("a message sent again", "draw --faults 1", REPEATED, 1, FAINT, seen=faint)
+    yield given("what is logged", "draw --faults 1", texts.RING_TEXT, 0, LOGS, seen=of_lines_3_and_5)
+    yield from longer_rows()

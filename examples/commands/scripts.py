@@ -1,0 +1,182 @@
+"""Scripts, and what `run` prints for each or why it is refused."""
+from . import texts
+from .row import given
+from .texts import A, B, C, FIRST, RING, SENT, TALLIED, AGAIN, BACK, FROM_2, crash, deliver, restart, send, stable, trace
+
+# how long a script may be, and how many entries a run may have
+BYTES, ENTRIES = 1_048_576, 65_536
+
+ROUND = "start ring 3 1 2\ndeliver 1 0 0\ndeliver 2 1 0\ndeliver 0 2 0\n"
+# a second receiver crashes, restarts, and delivers and sends again what it had
+REPLAY = ROUND + "crash 1\nrestart 1\ndeliver 1 0 0\n"
+ROUND_FOR_TWO = ROUND.replace("3 1 2", "3 2 2")
+TWO_CRASHES = ROUND_FOR_TWO + "crash 0\ncrash 1\nrestart 0\nrestart 1\ndeliver 1 0 0\ndeliver 0 2 0\n"
+TALLY = "start tally 3 1\ndeliver 0 2 0\ndeliver 2 0 0\n"
+# The second flush writes nothing; the third writes what 0 did not know to be stable, once more.
+FLUSHED = TALLY + "flush 2\nflush 2\nflush 0\n"
+# A tally forgets what is stable, crashes, and forgets once more.
+FORGOTTEN = TALLY + "flush 0\nforget 0\ncrash 0\nrestart 0\nforget 0\n"
+# 1 delivers what 0 starts with, and 0 delivers what 1 sends back.
+ECHO = "start echo 2 1 1\ndeliver 1 0 0\ndeliver 0 1 1\n"
+ANSWER = [0, 0, 1, 0], [1, 1, 0, 0]
+
+# a script, the trace that it records, and what the audit says of it
+RECORDED = [
+    ("one process", "start ring 1 0 0", trace(1, 1, send(0, 0, 0)), "accept f=0 entries=1 deliveries=0"),
+    ("a replay in a ring", REPLAY, texts.REPLAYED_TEXT, "accept f=1 entries=10 deliveries=4"),
+    (
+        "a replay of a tally",
+        TALLY + "crash 0\nrestart 0\ndeliver 0 2 0\n",
+        trace(1, 3, TALLIED, crash(0), restart(0, BACK, FROM_2), AGAIN),
+        "accept f=1 entries=9 deliveries=3",
+    ),
+    (
+        "what is stable is not flushed again, but by another process",
+        FLUSHED,
+        trace(1, 3, TALLIED, stable(BACK), stable(FROM_2), stable(FROM_2)),
+        "accept f=1 entries=8 deliveries=2",
+    ),
+    ("a replay after forgetting", FORGOTTEN + "deliver 0 2 0\n", texts.TALLY_FORGETTING, "accept f=1 entries=12 deliveries=3"),
+    (
+        "two processes down at once",
+        TWO_CRASHES,
+        trace(
+            1, 3, RING[:5], deliver(0, 4, 0, A, B, C), crash(0), crash(1), restart(0, A, B), SENT, restart(1, A, B),
+            deliver(1, 9, 0, A, B), send(1, 2, 0), deliver(0, 4, 0, A, B, C),
+        ),  # fmt: skip
+        "accept f=2 entries=14 deliveries=5",
+    ),
+    (
+        "an echo",
+        ECHO,
+        trace(1, 2, SENT, send(1, 0, 0), FIRST, send(1, 0, 1), deliver(0, 3, 0, *ANSWER)),
+        "accept f=1 entries=5 deliveries=2",
+    ),
+]
+
+# a script, and the line that refuses it
+REFUSED = [
+    ("another order than before the crash", TALLY + "crash 0\nrestart 0\ndeliver 0 1 0\n", "6 MustReplay 2 0"),
+    ("a message that was sent in a lane that is down", ROUND_FOR_TWO + "crash 0\ncrash 1\nrestart 1\ndeliver 1 0 0\n", "8 NotAvailable"),
+    ("one process more than may be down", ROUND + "crash 0\ncrash 1\nrestart 1\ndeliver 1 0 0\n", "6 OverFaults"),
+    ("a message that was delivered", "start ring 3 1 2\ndeliver 1 0 0\ndeliver 1 0 0\n", "3 AlreadyDelivered"),
+    ("what was forgotten is named all the same", FORGOTTEN + "deliver 0 1 0\n", "9 MustReplay 2 0"),
+    ("a process that the run does not have", "start ring 3 1 2\ndeliver 9 0 0\n", "2 NoProcess"),
+    ("a restart of a process that the run does not have", "start ring 3 1 2\nrestart 9\n", "2 NoProcess"),
+    ("the same, of a greater number", "start ring 2 1 1\nrestart 200\n", "2 NoProcess"),
+    ("a flush of a process that is down", "start ring 3 1 2\ncrash 1\nflush 1\n", "3 Down"),
+    ("the first of two lines that are refused", "start ring 2 1 1\ncrash 1\nflush 1\ncrash 1\n", "3 Down"),
+    ("a restart of a process that is up", "start ring 3 1 2\nrestart 1\n", "2 NotDown"),
+]
+
+# whole scripts with a fault on the first line
+FIRST_LINE = [
+    "", "\n", " ", "start", "start ", "start ring", "start ring ", "start ring 0 1 2", "start ring 0 1 2\n", "start ring 257 1 2",
+    "start ring 3 65536 2", "start ring 3 1 256", "start ring 3 1", "start ring 3 1 ", "start ring 3 1 2 ", "start ring 3 1 2 4",
+    "start echo 3 1", "start tally 3", "start tally 0 1", "start tally 3 1 0", "start tally 3 1 0\n", "start sum 3 1 2",
+    "Start ring 3 1 2", " start ring 3 1 2", "start  ring 3 1 2", "start\tring 3 1 2", "start ring 3 1 2\r\n", "start ring 03 1 2",
+    "start ring +3 1 2", "start ring 3 -1 2", "start ring 3 1 2.0", "deliver 1 0 0", "\nstart ring 3 1 2", "\ufeffstart ring 3 1 2",
+    b"\xff",
+]  # fmt: skip
+
+# lines at fault that follow a first line
+LATER_LINE = [
+    "\n", "start ring 3 1 2", "start tally 3 1", "deliver 01 0 0", "deliver 1 00 0", "deliver 1 0 00", "deliver 256 0 0",
+    "deliver 0 256 0", "deliver 0 0 4294967296", "deliver 0 0 18446744073709551616", "deliver 0 0", "deliver 0 0 0 0",
+    "deliver  0 0 0", "deliver 0 0 +0", "deliver 0 0 0x0", "crash", "crash ", "crash 256", "crash 1 ", "crash 1 1", "crash  1",
+    " crash 1", "crash\t1", "crash 1\r", "crash -1", "Crash 1", "crashed 1", "restart 256", "flush 256", "forget 256", "forget",
+    "forget 1 0", "stop 1", "1",
+]  # fmt: skip
+
+# scripts, and what standard error tells of them, which is nothing of one that is run
+SENTENCES = [
+    ("start ring 3 1 2\nfly 1\n", "fault line=2 Script", "line 2: this is no line of a script here"),
+    ("start ring 3 1 2\ncrash 9\n", "refused line=2 NoProcess", "line 2 is refused: there is no such process"),
+]
+
+# lines, up to how many bytes spaces follow them, and the fault
+PADDED = [
+    ("", BYTES, "1 Script"),
+    ("", BYTES + 1, "1 Big"),
+    ("start ring 1 0 0\n", BYTES, "2 Script"),
+    ("start ring 1 0 0\n", BYTES + 1, "2 Big"),
+    ("start ring 1 0 0\nstop\n", BYTES + 1, "2 Script"),
+    ("start ring 1 0 0\ncrash 0\n", 2 * BYTES, "3 Big"),
+]
+
+
+def shape(printed):
+    """How many entries and how many deliveries a printed trace has."""
+    lines = printed.decode().splitlines()
+    return len(lines) - 2, sum(line.startswith('["deliver"') for line in lines)
+
+
+# scripts, and how many entries and deliveries their traces have
+SHAPES = [
+    ("start echo 2 1 1\ndeliver 1 0 0\ndeliver 0 1 1\n", (5, 2)),
+    ("start tally 2 1\ncrash 1\nrestart 1\ndeliver 0 1 0\n", (6, 1)),
+]
+
+
+def counting_down(count):
+    """So many deliveries of 128 pairs of processes that count down from 255, one pair after the other: in turn to the second and to the
+    first of the pair, of a count from each side."""
+    yield "start echo 256 0 255"
+    for number in range(count):
+        first = number // 512 * 2
+        q, source = (first, first + 1) if number % 2 else (first + 1, first)
+        yield f"deliver {q} {source} {number % 512 // 2}"
+
+
+def refused(name, script, line, **more):
+    return given(name, "run", script, 2, f"refused line={line}\n", **more)
+
+
+def faulty(name, script, line, **more):
+    return given(name, "run", script, 2, f"fault line={line}\n", **more)
+
+
+def longest_rows():
+    """A command is refused where it could pass the most entries, of which a delivery may need nine. 256 sends open the run; each pair has
+    512 deliveries and 510 more sends, so 63 pairs and 443 deliveries of the next come to 65,528."""
+    yield given("a run to the limit", "run", "\n".join(counting_down(32_699)), 0, (65_528, 32_699), seen=shape)
+    yield refused("a run past the limit", "\n".join(counting_down(32_700)), "32701 Full")
+    # The longest script that begins so lacks its last line feed; with it, it is too long by one byte, on the line that this ends. The
+    # first crash is refused, so that no more is run.
+    crashes = "start ring 1 0 0\n" + "crash 0\n" * 131_070
+    yield faulty("too long by a line feed", crashes, "131071 Big")
+    yield refused("as long as may be", crashes[:-1], "2 OverFaults")
+    exact = "start ring 1 0 0\n" + "crash 0\n" * 131_062 + "crash 10\n" * 7
+    yield refused("as long as may be, with its last line feed", exact, "2 OverFaults")
+    yield faulty("the same, and a line feed more", exact + "\n", "131071 Big")
+
+
+def sized_rows():
+    for lines, size, line in PADDED:
+        yield faulty(f"{lines!r} up to {size} bytes", lines.ljust(size), line)
+    # What is too long is told before what is no script, and no byte is read behind the first that is too many.
+    for size, line, left in ((0, "1 Script", 0), (BYTES, "1 Script", 0), (BYTES + 1, "1 Big", 0), (BYTES + 5_001, "1 Big", 5_000)):
+        yield faulty(f"{size} spaces", " " * size, line, left=left)
+
+
+def rows():
+    for name, script, recorded, _ in RECORDED:
+        yield given(name, "run", script, 0, recorded, said="")
+    for name, _, recorded, line in RECORDED:
+        yield given(f"{name}, audited", f"audit --faults {line.split()[1][2:]}", recorded, 0, line + "\n")
+    for name, script, line in REFUSED:
+        yield refused(name, script, line)
+    for script in FIRST_LINE:
+        yield faulty(repr(script), script, "1 Script")
+    for line in LATER_LINE:
+        yield faulty(f"{line!r} in line 2", f"start ring 3 1 2\n{line}", "2 Script")
+        yield faulty(f"{line!r} in line 3", f"start tally 3 1\nforget 1\n{line}\nstop", "3 Script")
+    for line in ("deliver 01 0 0", "start ring 3 1 2"):
+        yield faulty(f"{line!r} in line 2, with its line feed", f"start ring 3 1 2\n{line}\n", "2 Script")
+    yield faulty("a fault behind a command that would be refused", "start ring 3 1 2\nrestart 1\nrestart\n", "3 Script")
+    for script, line, sentence in SENTENCES:
+        yield given(sentence, "run", script, 2, line + "\n", said=f"causal_tool run: {sentence}\n")
+    for script, sizes in SHAPES:
+        yield given(f"the sizes of {script!r}", "run", script, 0, sizes, seen=shape)
+    yield from longest_rows()
+    yield from sized_rows()
