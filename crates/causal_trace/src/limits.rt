@@ -1,6 +1,6 @@
 //! How large a trace may be.
 ghost use Rattle.std.specs.Prelude.{◌≡◌};
-ghost use Rattle.causal_trace.specs.Limits.{default_entries, listed_within};
+ghost use Rattle.causal_trace.specs.Limits.{listed_within};
 
 /// The greatest number of processes.
 pub const MAX_PROCESSES: u16 = 256;
@@ -25,16 +25,12 @@ pub struct Limits {
     pub entries: u32,
 }
 
-impl Limits {
-    /// The limits where nobody sets others: 65,536 entries and 1,048,576 listed determinants.
-    pub fn usual() -> Limits
-        ensures { result.entries ≡ default_entries }
-    {
-        Limits {
-            entries: DEFAULT_ENTRIES,
-        }
-    }
+/// The limits where nobody sets others: 65,536 entries and 1,048,576 listed determinants.
+pub const DEFAULT_LIMITS: Limits = Limits {
+    entries: DEFAULT_ENTRIES,
+};
 
+impl Limits {
     /// How many determinants the entries list in all at most.
     pub fn listed(self) -> u64
         ensures { result ≡ listed_within self.entries }

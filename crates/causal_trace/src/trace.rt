@@ -10,7 +10,7 @@ use crate::chains::{Chains, Receipt, Sought};
 use crate::entry::{Dets, Entry};
 use crate::fault::TraceFault;
 use crate::lanes::{Lane, copied_entries, copied_lanes, fresh_lanes, note_lane, restarts_in};
-use crate::limits::{Limits, MAX_ENTRIES, MAX_LISTED, MAX_PROCESSES, MAX_RESTARTS};
+use crate::limits::{DEFAULT_LIMITS, Limits, MAX_ENTRIES, MAX_LISTED, MAX_PROCESSES, MAX_RESTARTS};
 use crate::scans;
 use causal_name::{Det, MsgName, NoMemory, Pid};
 use std::alloc::Global;
@@ -111,7 +111,7 @@ impl Trace {
         ensures spare { self.old.spare ≤ self.new.spare + 1 }
         ensures memory { result ≡ Err TraceFault.NoMemory → self.old.spare ≡ 0 }
     {
-        self.push_within(Limits::usual(), entry)
+        self.push_within(DEFAULT_LIMITS, entry)
     }
 
     /// Adds the entry at the end as `push` does, where the trace keeps these limits with it in place of the usual ones.
@@ -379,7 +379,7 @@ impl Trace {
     }
 
     /// Whether one more entry that lists so many determinants would pass these limits.
-    fn passes(&self, limits: Limits, listed: usize) -> bool
+    pub fn passes(&self, limits: Limits, listed: usize) -> bool
         ensures { result ≡ passes limits.entries self.now.recording.past listed }
     {
         let all = (listed as u64).saturating_add(u64::from(self.listed));

@@ -73,6 +73,18 @@ within_next entries r e h =
     let fit = fits (length r.past) (listed_in r.past) (length (listed_by e)) entries (listed_within entries) (nothing_told _ TooLong (fault_by_rows r e) h).0 in
     record { few = omega (arith, fit.0); listed = fit.1 }
 
+-- what is within limits with one more entry was so before, and no limit stood against the entry
+pub within_before : (entries : ℕ) (r : Recording) (e : Entry) → IsWithin entries (with_entry r e) → IsWithin entries r
+within_before entries r e w = record { few = omega (arith, w.few); listed = omega (arith, w.listed) }
+
+passed_none : (n a b m l : ℕ) → n + 1 ≤ m → a + b ≤ l → (nat_lt m (n + 1) || nat_lt l (a + b)) ≡ false
+passed_none n a b m l h k = grind (arith, nat_tests)
+
+pub next_within : (entries : ℕ) (r : Recording) (e : Entry) → IsWithin entries (with_entry r e) → fault_by_rows r e ≡ None → fault_within entries r e ≡ None
+next_within entries r e w next =
+    let none : passes entries r.past (length (listed_by e)) ≡ false = passed_none (length r.past) (listed_in r.past) (length (listed_by e)) entries (listed_within entries) (omega (arith, w.few)) w.listed in
+    ap (λ b. cond b (Some TooLong) (fault_by_rows r e)) none ∙ next
+
 -- no limit tells want of memory either
 pub no_memory_within : (entries : ℕ) (r : Recording) (e : Entry) → fault_within entries r e ≡ Some NoMemory → ⊥
 no_memory_within entries r e h =
