@@ -39,7 +39,7 @@ module _ (n : ℕ) (past : List Entry) where
   actor_inside (Forget who listed) p legal of = absurd (let k : None ≡ Some p = of in cc)
 
   -- there is room for the entry
-  pub entry_short : (e : Entry) → first_fault n past e ≡ None → length past < 65536
+  pub entry_short : (e : Entry) → first_fault n past e ≡ None → length past < 16777216
   entry_short e legal = omega (arith, (limits (length past) (listed_in past) (length (listed_by e)) (within_limits n past e legal)).0)
 
 pub event_inside : (n : ℕ) (past : List Entry) → AreAccepted n past → (i p l : ℕ) → IsEventOf past i p l → p < n

@@ -243,7 +243,7 @@ module _ (x : Entry) (c : Timeline) (present : List ℕ) (can : CanMirror x c pr
   accepted_as : (y : Entry) → x ≡ y → AreAccepted can.processes (y ∷ can.past)
   accepted_as y is = subst (λ z. AreAccepted can.processes (z ∷ can.past)) is can.accepted
 
-  pub room : length c.events < 65536
+  pub room : length c.events < 16777216
   room = omega (arith, entry_short can.processes can.past x can.accepted.1, can.mirrors.stands.count)
 
   pub some_lane : 0 < c.lanes

@@ -74,7 +74,7 @@ impl Tables {
         })
     }
 
-    /// How many entries the run has, up to 65,536. A recorded run is well formed.
+    /// How many entries the run has, up to 16,777,216. A recorded run is well formed.
     pub fn entries(&self) -> u32
         ensures length { result ≡ length self.now.past }
         ensures formed { IsWellFormed self.now }

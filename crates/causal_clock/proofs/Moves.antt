@@ -84,7 +84,7 @@ small_lane es places xs l x lt is k =
     omega (arith, told_was (λ (y : Lane). y.events) xs l x x 0 lt is, k.lengths l (omega (arith, lt, as_many (λ (y : Lane). y.events) xs)), count_by-le-length (λ (e : Event). e.lane == l) es)
 
 -- one more event
-module _ (entries : List Entry) (xs : List Lane) (k : KeepsColumns (events_in entries) (places_in entries) (lengths_in xs) (columns_in xs)) (e : Event) (lt : e.lane < length xs) (x z : Lane) (is : x ≡ get_or xs e.lane x) (sent : (s : ℕ) → e.send ≡ Some s → s < length (events_in entries)) (room : length (events_in entries) < 65536) (counts : ℕ → ℕ) (own_none : counts e.lane ≡ 0) (counts_are : (source : ℕ) → source ≢ e.lane → counts source ≡ count_or_none (counts_in (events_in entries) (columns_in xs)) e.send source) (events : z.events ≡ x.events + 1) (risen : (source : ℕ) → column_in (rises_in z) source ≡ raised (column_in (rises_in x) source) x.events (counts source)) where
+module _ (entries : List Entry) (xs : List Lane) (k : KeepsColumns (events_in entries) (places_in entries) (lengths_in xs) (columns_in xs)) (e : Event) (lt : e.lane < length xs) (x z : Lane) (is : x ≡ get_or xs e.lane x) (sent : (s : ℕ) → e.send ≡ Some s → s < length (events_in entries)) (room : length (events_in entries) < 16777216) (counts : ℕ → ℕ) (own_none : counts e.lane ≡ 0) (counts_are : (source : ℕ) → source ≢ e.lane → counts source ≡ count_or_none (counts_in (events_in entries) (columns_in xs)) e.send source) (events : z.events ≡ x.events + 1) (risen : (source : ℕ) → column_in (rises_in z) source ≡ raised (column_in (rises_in x) source) x.events (counts source)) where
   inside : e.lane < length (lengths_in xs)
   inside = omega (arith, lt, as_many (λ (y : Lane). y.events) xs)
 

@@ -36,7 +36,7 @@ module _ (es : List Event) (places lengths : List ℕ) (column : ℕ → ℕ →
       counts_other es column p lane source at.1 other
       ∙ settled (column lane source) (place_of es p) (lane_length es lane) (λ i lt. (omega (arith, at.2, (k.columns lane source).places i lt), omega (arith, (k.columns lane source).places i lt)))
 
-  module _ (e : Event) (inside : e.lane < length lengths) (sent : (s : ℕ) → e.send ≡ Some s → s < length es) (room : length es < 65536) (counts : ℕ → ℕ) (own_none : counts e.lane ≡ 0) (counts_are : (source : ℕ) → source ≢ e.lane → counts source ≡ count_or_none (counts_in es column) e.send source) (column' : ℕ → ℕ → List Rise) (others : (lane source : ℕ) → lane ≢ e.lane → column' lane source ≡ column lane source) (risen : (source : ℕ) → column' e.lane source ≡ raised (column e.lane source) (lane_length es e.lane) (counts source)) where
+  module _ (e : Event) (inside : e.lane < length lengths) (sent : (s : ℕ) → e.send ≡ Some s → s < length es) (room : length es < 16777216) (counts : ℕ → ℕ) (own_none : counts e.lane ≡ 0) (counts_are : (source : ℕ) → source ≢ e.lane → counts source ≡ count_or_none (counts_in es column) e.send source) (column' : ℕ → ℕ → List Rise) (others : (lane source : ℕ) → lane ≢ e.lane → column' lane source ≡ column lane source) (risen : (source : ℕ) → column' e.lane source ≡ raised (column e.lane source) (lane_length es e.lane) (counts source)) where
     at_old_place : (lane source q : ℕ) → q < lane_length es lane → count_at (column' lane source) q ≡ count_at (column lane source) q
     at_old_place lane source q lt =
         elim (eqb_tells lane e.lane) [

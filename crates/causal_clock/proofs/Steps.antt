@@ -35,7 +35,7 @@ full es counts lanes k (Some p) lane l =
     let own : counts p lane ≡ place_of es p + 1 = ap (counts p) (sym at.1) ∙ k.own p at.0 in
     omega (arith, own, at.2)
 
-module _ (es : List Event) (counts : ℕ → ℕ → ℕ) (lanes : ℕ) (k : Keeps es counts lanes) (e : Event) (in_lane : e.lane < lanes) (sent : (s : ℕ) → e.send ≡ Some s → s < length es) (room : length es < 65536) (after : ℕ → ℕ → ℕ) (same : (j : ℕ) → j < length es → (lane : ℕ) → after j lane ≡ counts j lane) (own : after (length es) e.lane ≡ lane_length es e.lane + 1) (each : (lane : ℕ) → lane ≢ e.lane → after (length es) lane ≡ max (count_or_none counts (k.last e.lane).0 lane) (count_or_none counts e.send lane)) where
+module _ (es : List Event) (counts : ℕ → ℕ → ℕ) (lanes : ℕ) (k : Keeps es counts lanes) (e : Event) (in_lane : e.lane < lanes) (sent : (s : ℕ) → e.send ≡ Some s → s < length es) (room : length es < 16777216) (after : ℕ → ℕ → ℕ) (same : (j : ℕ) → j < length es → (lane : ℕ) → after j lane ≡ counts j lane) (own : after (length es) e.lane ≡ lane_length es e.lane + 1) (each : (lane : ℕ) → lane ≢ e.lane → after (length es) lane ≡ max (count_or_none counts (k.last e.lane).0 lane) (count_or_none counts e.send lane)) where
   last : LastOf es (k.last e.lane).0 e.lane
   last = (k.last e.lane).1
 

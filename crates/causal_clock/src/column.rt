@@ -7,7 +7,7 @@ use std::alloc::AllocError;
 
 // Where a search for the place may begin: each rise before it stands before the place. It is sought from the end by
 // steps that double, since a place that is asked for is mostly a late one.
-fn search_start(column: &[Rise], place: u16) -> usize
+fn search_start(column: &[Rise], place: u32) -> usize
     requires strictly { RisesStrictly column.now }
     ensures inside { result ≤ length column.now }
     ensures passed { (i : ℕ) → i < result → (rise_at column.now i).place ≤ place }
@@ -21,7 +21,7 @@ fn search_start(column: &[Rise], place: u16) -> usize
 
 /// How many events of the source lane are reached from that place of the lane: what the last rise up to there tells. It
 /// costs the logarithm of how many rises stand after that one.
-pub fn count_at(column: &[Rise], place: u16) -> u16
+pub fn count_at(column: &[Rise], place: u32) -> u32
     requires strictly { RisesStrictly column.now }
     ensures { result ≡ count_at column.now place }
 {
@@ -35,7 +35,7 @@ pub fn count_at(column: &[Rise], place: u16) -> u16
 }
 
 /// Makes room for one more rise, if the count is to rise from what is known. Nothing else changes.
-pub fn reserve_rise(column: &mut Vec<Rise>, known: u16, count: u16) -> Result<(), AllocError>
+pub fn reserve_rise(column: &mut Vec<Rise>, known: u32, count: u32) -> Result<(), AllocError>
     ensures items { column.new.items ≡ column.old.items }
     ensures room { OnOk result (known < count → 0 < vec_capacity column.new - vec_len column.new) }
 {

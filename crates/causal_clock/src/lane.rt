@@ -13,13 +13,13 @@ use std::alloc::{AllocError, Global};
 /// that count is the place of the event and one more.
 ///
 /// The row has the count that each column tells from `last` on, the place of the last rise, so that what is asked of a
-/// late place is not searched: `kept` says so. It has two bytes for each column.
+/// late place is not searched: `kept` says so. It has four bytes for each column.
 #[derive(Drop)]
 pub struct Lane {
     pub events: u32,
-    pub last: u16,
+    pub last: u32,
     pub columns: Vec<Vec<Rise>>,
-    pub row: Vec<u16>,
+    pub row: Vec<u32>,
     ghost kept: { KeepsRow events last (map (λ c. c.items) columns.items) row.items },
 }
 
@@ -50,7 +50,7 @@ impl Lane {
     }
 
     /// How many events of the source lane, another one, are reached from the last rise on.
-    pub fn last_count(&self, source: u32) -> u16
+    pub fn last_count(&self, source: u32) -> u32
         ensures { result ≡ slice_index self.now.row.items source }
     {
         match self.row.get(source as usize) {
@@ -60,7 +60,7 @@ impl Lane {
     }
 
     /// How many events of the source lane, another one, are reached from that place of this lane.
-    pub fn count_at(&self, source: u32, place: u16) -> u16
+    pub fn count_at(&self, source: u32, place: u32) -> u32
         requires strictly { RisesStrictly (column_in (rises_in self.now) source) }
         ensures { result ≡ count_at (column_in (rises_in self.now) source) place }
     {
@@ -73,7 +73,7 @@ impl Lane {
 
     /// The same, for one who knows of so many of them: where there are no more, it may be any number up to that. Where
     /// this lane never comes to reach more, nothing is searched.
-    pub fn news_at(&self, source: u32, place: u16, known: u16) -> u16
+    pub fn news_at(&self, source: u32, place: u32, known: u32) -> u32
         requires strictly { RisesStrictly (column_in (rises_in self.now) source) }
         ensures { TellsAlike known result (count_at (column_in (rises_in self.now) source) place) }
     {
@@ -86,7 +86,7 @@ impl Lane {
 
     /// Makes room for the rises that the next event brings, if it receives these counts. A refusal changes nothing else
     /// either.
-    pub fn make_room(&mut self, alloc: Global, counts: &[u16]) -> Result<(), AllocError>
+    pub fn make_room(&mut self, alloc: Global, counts: &[u32]) -> Result<(), AllocError>
         ensures events { self.new.events ≡ self.old.events }
         ensures same { SameColumns self.old self.new }
         ensures room { OnOk result (HasRoom self.new counts.now) }
@@ -121,7 +121,7 @@ impl Lane {
     }
 
     // Makes room for one more rise in each column that the counts are to raise.
-    fn reserve_rises(&mut self, counts: &[u16]) -> Result<(), AllocError>
+    fn reserve_rises(&mut self, counts: &[u32]) -> Result<(), AllocError>
         requires wide { length counts.now ≤ length (rises_in self.old) }
         requires counted { length counts.now ≤ length self.old.row.items }
         ensures events { self.new.events ≡ self.old.events }
@@ -136,7 +136,7 @@ impl Lane {
     }
 
     /// Raises the columns to the counts that the next event receives. There is room, and nothing is refused.
-    pub fn raise(&mut self, counts: &[u16])
+    pub fn raise(&mut self, counts: &[u32])
         requires few { self.old.events < EVENTS }
         requires room { HasRoom self.old counts.now }
         ensures events { self.new.events ≡ self.old.events }
@@ -149,7 +149,7 @@ impl Lane {
     }
 
     // Raises one column to the count that the next event receives, if it is to rise: there is room for it then.
-    fn raise_column(&mut self, source: usize, count: u16)
+    fn raise_column(&mut self, source: usize, count: u32)
         requires few { self.old.events < EVENTS }
         requires column { source < length (rises_in self.old) }
         requires counted { source < length self.old.row.items }
@@ -159,7 +159,7 @@ impl Lane {
             ≡ raised (column_in (rises_in self.old) source) self.old.events count }
     {
         if self.row[source] < count {
-            let place = self.events as u16;
+            let place = self.events;
             self.columns[source].push_reserved(Rise { place, count });
             self.row[source] = count;
             self.last = place;

@@ -40,7 +40,7 @@ pub const FIRST_LANES: u16 = 256;
 pub const OPENED_LANES: u32 = 192;
 
 /// How many events a clock can have.
-pub const EVENTS: u32 = 65_536;
+pub const EVENTS: u32 = 16_777_216;
 
 /// An event of a lane. A receive also has the number of its send's event.
 #[derive(Clone, Copy, Debug, PartialEq, Eq)]
@@ -53,8 +53,8 @@ pub struct Event {
 /// An event's place is how many events of its lane stand before it ([`Clocks::place`]).
 #[derive(Clone, Copy, Debug, PartialEq, Eq)]
 pub struct Rise {
-    pub place: u16,
-    pub count: u16,
+    pub place: u32,
+    pub count: u32,
 }
 
 /// Why a clock refused a lane or an event.
@@ -88,7 +88,7 @@ impl<T: Drop> From<AllocFailed<T>> for ClockFault {
 #[derive(Clone, Copy)]
 struct Entry {
     event: Event,
-    place: u16,
+    place: u32,
 }
 
 /// A growing list of events in lanes, which answers which of them happened before which.
@@ -96,9 +96,9 @@ struct Entry {
 /// Lanes and events are numbered from 0 in the order in which they came. Contracts see the number of lanes, how many of
 /// them were opened after the start, and the list of events.
 ///
-/// What it costs: an event 16 bytes, and nothing for each lane. A receive adds 4 bytes for each lane of which it brings
+/// What it costs: an event 16 bytes, and nothing for each lane. A receive adds 8 bytes for each lane of which it brings
 /// news, at most twice that with what growing leaves spare, so a column has no more items than its source lane has
-/// events. A lane that receives has a column of 24 bytes and a last count of 2 for each lane, 5.2 MB in all where 448
+/// events. A lane that receives has a column of 24 bytes and a last count of 4 for each lane, 5.6 MB in all where 448
 /// lanes receive. A receive compares a count for each lane. Only where the sender's lane came to reach more after the send,
 /// of lanes of which it can bring news, it searches their columns. A search, and a question, takes the logarithm of how
 /// many rises of one column stand after what is asked, and no more than a comparison where none does in any column.
@@ -168,7 +168,7 @@ impl Clocks {
     }
 
     /// How many events of its own lane stand before an event, which exists.
-    pub fn place(&self, event: u32) -> u16
+    pub fn place(&self, event: u32) -> u32
         requires { event < length self.now.events }
         ensures { result ≡ place_of self.now.events event }
     {
@@ -247,7 +247,7 @@ impl Clocks {
         ensures { IsTrue result ↔ Reaches self.now.events i j }
     {
         let first = self.entries[i as usize];
-        u32::from(first.place) < self.reach(j, first.event.lane)
+        first.place < self.reach(j, first.event.lane)
     }
 
     /// How many of the lane's events precede or equal that event: they are the lane's first ones. The event and the lane
@@ -259,9 +259,9 @@ impl Clocks {
     {
         let entry = self.entries[event as usize];
         if entry.event.lane == lane {
-            u32::from(entry.place) + 1
+            entry.place + 1
         } else {
-            u32::from(self.lanes[entry.event.lane as usize].count_at(lane, entry.place))
+            self.lanes[entry.event.lane as usize].count_at(lane, entry.place)
         }
     }
 
@@ -298,7 +298,7 @@ fn counts_for(
     to: &Lane,
     own: u32,
     lanes: u32,
-) -> Result<Vec<u16>, AllocError>
+) -> Result<Vec<u32>, AllocError>
     requires place { sent.place + 1 < EVENTS }
     requires strictly { AllStrict from.now }
     ensures count { IfOk result (λ counts. length counts.items ≡ lanes) }
@@ -319,7 +319,7 @@ fn counts_for(
 }
 
 // The same of one lane, for one who knows of so many of its events.
-fn count_for(from: &Lane, sent: Entry, source: u32, known: u16) -> u16
+fn count_for(from: &Lane, sent: Entry, source: u32, known: u32) -> u32
     requires place { sent.place + 1 < EVENTS }
     requires strictly { RisesStrictly (column_in (rises_in from.now) source) }
     ensures { TellsAlike known result (count_told (rises_in from.now) sent source) }
@@ -342,7 +342,7 @@ fn append(entries: &mut Vec<Entry>, lane: &mut Lane, event: Event) -> u32
     ensures same { rises_in lane.new ≡ rises_in lane.old }
 {
     let number = entries.len() as u32;
-    let place = lane.events as u16;
+    let place = lane.events;
     entries.push_reserved(Entry { event, place });
     lane.events += 1;
     number

@@ -147,7 +147,7 @@ grown_same a b q m g run h = record {
 }
 
 -- what a delivery lists is within the limit, and has all that the message carries
-pub listed_few : (r : Run) (q source : Pid) (ssn : ℕ) → first_fault r (Ask.Deliver q source ssn) ≡ None → length (listed_for (memories_of r) q (name source ssn)) ≤ 1048576
+pub listed_few : (r : Run) (q source : Pid) (ssn : ℕ) → first_fault r (Ask.Deliver q source ssn) ≡ None → length (listed_for (memories_of r) q (name source ssn)) ≤ 268435456
 unfolding rows
 listed_few r q source ssn none =
     let long : is_full r 9 (length (listed_for (memories_of r) q (name source ssn))) ≡ false = when_false _ _ (row_none (rows r (Ask.Deliver q source ssn)) none 5 _ refl) in grind (arith, nat_tests, long)

@@ -141,7 +141,7 @@ unfolding rows
 flush_below r p none =
     let inside : not (nat_lt p.0 r.recording.processes) ≡ false = when_false _ _ (row_none (rows r (Ask.Flush p)) none 0 _ refl) in grind (arith, nat_tests, inside)
 
-pub flush_short : (r : Run) (p : Pid) → first_fault r (Ask.Flush p) ≡ None → length r.recording.past + length (unwritten r p) ≤ 65536
+pub flush_short : (r : Run) (p : Pid) → first_fault r (Ask.Flush p) ≡ None → length r.recording.past + length (unwritten r p) ≤ 16777216
 unfolding rows
 flush_short r p none =
     let short : is_long r (length (unwritten r p)) ≡ false = when_false _ _ (row_none (rows r (Ask.Flush p)) none 2 _ refl) in grind (arith, nat_tests, short)

@@ -116,7 +116,7 @@ forget_legal r p listed fit none is some =
     (process, grind (arith, nat_tests, inside, up, ordered, delivered, room))
 
 -- a list of what is delivered is no longer than the limit
-pub forget_few : (r : Run) (p : Pid) (listed : List Det) → first_fault r (Ask.Forget p) ≡ None → listed ≡ forgettable r p → length listed ≤ 1048576
+pub forget_few : (r : Run) (p : Pid) (listed : List Det) → first_fault r (Ask.Forget p) ≡ None → listed ≡ forgettable r p → length listed ≤ 268435456
 unfolding rows
 forget_few r p listed none is =
     let told = rows r (Ask.Forget p) in

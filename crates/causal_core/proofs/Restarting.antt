@@ -106,8 +106,8 @@ gathered_delivered n past ms p accepted fit =
 pub record MayRestart (r : Run) (p : Pid) : Type 0 where
   pub process : p.0 < r.recording.processes
   pub down : is_down r.recording.past p.0 ≡ true
-  pub long : length r.recording.past + 9 ≤ 65536
-  pub listed : listed_in r.recording.past + length (gathered r p) ≤ 1048576
+  pub long : length r.recording.past + 9 ≤ 16777216
+  pub listed : listed_in r.recording.past + length (gathered r p) ≤ 268435456
   pub lanes : restarts r.recording.past < 192
 
 fits_down : (past : List Entry) (p : ℕ) (m : Option Memory) → FitsAt past p m → is_some m ≡ false → is_down past p ≡ true

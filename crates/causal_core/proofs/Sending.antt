@@ -28,7 +28,7 @@ use Rattle.causal_core.proofs.Fitting.{is_of, length-slice_set, delivered_more, 
 pub eqb_refl : (n : ℕ) → (n == n) ≡ true
 eqb_refl n = grind (arith, nat_tests)
 
-pub send_legal : (n : ℕ) (past : List Entry) (q to : Pid) (m : Memory) → q.0 < n → to.0 < n → Fits past q.0 m → length past < 65536 → listed_in past ≤ 1048576 → Rows.first_fault n past (Send q to (length m.sent)) ≡ None
+pub send_legal : (n : ℕ) (past : List Entry) (q to : Pid) (m : Memory) → q.0 < n → to.0 < n → Fits past q.0 m → length past < 16777216 → listed_in past ≤ 268435456 → Rows.first_fault n past (Send q to (length m.sent)) ≡ None
 unfolding Rows.rows
 send_legal n past q to m from process fit short within =
     let up = fit.up in let ssn = fit.sent in

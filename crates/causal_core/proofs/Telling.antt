@@ -87,7 +87,7 @@ module _ (r : Run) (ms : Memories) (q source : Pid) (ssn : ℕ) (same : ms ≡ m
           tell_full h true f = start ∙ (λ i. rest None None (none i) (when (is_none (kept i)) Why.NotAvailable) (when (h i) Why.AlreadyDelivered) (when (f i) Why.Full))
           tell_full h false f = start ∙ (λ i. rest None None (none i) (when (is_none (kept i)) Why.NotAvailable) (when (h i) Why.AlreadyDelivered) (when (f i) Why.Full))
 
-pub received_few : (n : ℕ) (past : List Entry) (ms : Memories) (p : ℕ) (m : Memory) → AllFit n past ms → length past ≤ 65536 → p < n → at ms p ≡ Some m → length m.received ≤ 65536
+pub received_few : (n : ℕ) (past : List Entry) (ms : Memories) (p : ℕ) (m : Memory) → AllFit n past ms → length past ≤ 16777216 → p < n → at ms p ≡ Some m → length m.received ≤ 16777216
 received_few n past ms p m fit short inside is =
     let fits : Fits past p m = subst (FitsAt past p) is (fit.each p inside) in
     let few = deliveries_few past p in let count = fits.count in omega (arith, few, count, short)

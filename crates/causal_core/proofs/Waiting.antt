@@ -39,7 +39,7 @@ pub pending_end : (ms : Memories) (q : Pid) (cells : List (Option Cell)) (p : �
 pending_end ms q cells p names h = ap (λ cs. names ++ filter (is_pending ms q) (names_from p (memories_in cs))) (drop_all p cells h) ∙ append-nil names
 
 -- a process has sent no more messages than there are entries
-sent_fits : (past : List Entry) (p : ℕ) (o : Option Memory) → FitsAt past p o → length past ≤ 65536 → option_map_or (λ m. length m.sent) o 0 ≤ 65536
+sent_fits : (past : List Entry) (p : ℕ) (o : Option Memory) → FitsAt past p o → length past ≤ 16777216 → option_map_or (λ m. length m.sent) o 0 ≤ 16777216
 sent_fits past p None fit short = omega arith
 sent_fits past p (Some m) fit short = let few = sends_few past p in let count = fit.sent in omega (arith, few, count, short)
 
@@ -48,13 +48,13 @@ beyond [] p h = refl
 beyond (m ∷ ms) zero h = absurd (omega (arith, h))
 beyond (m ∷ ms) (suc p) h = beyond ms p (omega (arith, h))
 
-pub sent_few : (n : ℕ) (past : List Entry) (ms : Memories) (p : ℕ) → AllFit n past ms → length past ≤ 65536 → option_map_or (λ m. length m.sent) (at ms p) 0 ≤ 65536
+pub sent_few : (n : ℕ) (past : List Entry) (ms : Memories) (p : ℕ) → AllFit n past ms → length past ≤ 16777216 → option_map_or (λ m. length m.sent) (at ms p) 0 ≤ 16777216
 sent_few n past ms p fit short = elim (cases_lt p n) [
   | inl h ↦ sent_fits past p (at ms p) (fit.each p h) short
   | inr h ↦ sent_none (at ms p) (beyond ms p (omega (arith, h, fit.count)))
 ]
   where
-    sent_none : (o : Option Memory) → o ≡ None → option_map_or (λ m. length m.sent) o 0 ≤ 65536
+    sent_none : (o : Option Memory) → o ≡ None → option_map_or (λ m. length m.sent) o 0 ≤ 16777216
     sent_none None is = omega arith
     sent_none (Some m) is = absurd (let e : Some m ≡ None = is in cc)
 

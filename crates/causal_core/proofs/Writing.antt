@@ -66,7 +66,7 @@ fits_option past p det None h = h
 fits_option past p det (Some m) h = marked_fits past p det m h
 
 -- what p logs was delivered, so nothing stands against its stable entry
-pub stable_legal : (n : ℕ) (past : List Entry) (p : ℕ) (det : Det) (m : Memory) → Fits past p m → is_some (fin.get m.log det) ≡ true → length past < 65536 → listed_in past ≤ 1048576 → Rows.first_fault n past (Stable det) ≡ None
+pub stable_legal : (n : ℕ) (past : List Entry) (p : ℕ) (det : Det) (m : Memory) → Fits past p m → is_some (fin.get m.log det) ≡ true → length past < 16777216 → listed_in past ≤ 268435456 → Rows.first_fault n past (Stable det) ≡ None
 unfolding Rows.rows
 stable_legal n past p det m fit logged short within =
     let there : is_delivered past det ≡ true = logged_passes (is_delivered past) m.log det fit.logged logged in
@@ -77,7 +77,7 @@ some_there None h = absurd (false≢true h)
 some_there (Some m) h = (m, refl)
 
 -- the same of a process that is up in a run
-pub stable_may : (r : Run) (p : Pid) (det : Det) → AllFit r.recording.processes r.recording.past (memories_of r) → p.0 < r.recording.processes → is_some (at (memories_of r) p.0) ≡ true → is_some (fin.get (log_at (memories_of r) p.0) det) ≡ true → length r.recording.past < 65536 → IsWellFormed r.recording
+pub stable_may : (r : Run) (p : Pid) (det : Det) → AllFit r.recording.processes r.recording.past (memories_of r) → p.0 < r.recording.processes → is_some (at (memories_of r) p.0) ≡ true → is_some (fin.get (log_at (memories_of r) p.0) det) ≡ true → length r.recording.past < 16777216 → IsWellFormed r.recording
     → Rows.first_fault r.recording.processes r.recording.past (Stable det) ≡ None
 stable_may r p det fit process up logged short formed =
     let m = some_there (at (memories_of r) p.0) up in

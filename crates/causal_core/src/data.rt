@@ -37,9 +37,9 @@ use crate::search::{cell_at, count_down, message};
 use causal_log::{Log, Stable};
 use causal_name::{Det, MsgName, NoMemory, Pid};
 use causal_process::Outgoing;
+use causal_protocol::limits::{MAX_ENTRIES, MAX_LISTED};
 use causal_protocol::request::{CoreFault, Delivered};
 use causal_trace::entry::Entry;
-use causal_trace::limits::{MAX_ENTRIES, MAX_LISTED};
 use causal_trace::trace::Trace;
 use std::alloc::Global;
 use std::marker::Model;
@@ -84,14 +84,14 @@ fn are_processes(q: Pid, source: Pid, n: u16) -> bool
 pub(crate) fn is_long(trace: &Trace, entries: u32) -> bool
     ensures { result ≡ is_long_with trace.now.recording.past entries }
 {
-    entries > MAX_ENTRIES as u32 - trace.len()
+    trace.len().saturating_add(entries) > MAX_ENTRIES
 }
 
 /// Whether so many more entries, or such a list, would pass a limit.
 pub(crate) fn is_full(trace: &Trace, entries: u32, listed: usize) -> bool
     ensures { result ≡ is_full_with trace.now.recording.past entries listed }
 {
-    is_long(trace, entries) || listed > MAX_LISTED - trace.listed() as usize
+    is_long(trace, entries) || listed.saturating_add(trace.listed() as usize) > MAX_LISTED
 }
 
 /// Drops what a process has.

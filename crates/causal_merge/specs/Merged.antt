@@ -5,7 +5,8 @@ use Rattle.causal_name.specs.declared.Det.{Det}
 use Rattle.causal_trace.specs.declared.entry.Entry.{Entry}
 use Rattle.causal_trace.specs.declared.entry.Entry.TheVariants as entry
 use Rattle.causal_trace.specs.Past.{lane}
-use Rattle.causal_trace.specs.Rows.{passes_limit, first_fault}
+use Rattle.causal_trace.specs.Limits.{default_entries}
+use Rattle.causal_trace.specs.Rows.{passes, fault_next}
 use Rattle.causal_text.specs.declared.kind.TextKind.TheVariants.{TooLong, NoProcess}
 use Rattle.causal_text.specs.Reading.{◌>>=◌}
 use Rattle.causal_text.specs.Stages.{kind_of}
@@ -66,7 +67,7 @@ is_twice (last ∷ before) e = last.event.clock == e.clock && last.event.process
 abbrev pub early_fault : ℕ → List Placed → List Entry → Event → Option MergeKind
 early_fault n before past e =
     if is_twice before e then Some kind.Twice else
-    if passes_limit past (length (listed_by e.act)) then Some (kind.Line TooLong) else
+    if passes default_entries past (length (listed_by e.act)) then Some (kind.Line TooLong) else
     if not (has_processes n e) then Some (kind.Line NoProcess) else
     None
 
@@ -77,7 +78,7 @@ or_later None later = later
 
 -- what stands against the next event: that, or what stands against its entry in a trace
 abbrev pub event_fault : ℕ → List Placed → List Entry → Event → Option MergeKind
-event_fault n before past e = or_later (early_fault n before past e) (option_map (λ f. kind.Line (kind_of f)) (first_fault n past (entry_of past e.process e.act)))
+event_fault n before past e = or_later (early_fault n before past e) (option_map (λ f. kind.Line (kind_of f)) (fault_next (record { processes = n; past = past }) (entry_of past e.process e.act)))
 
 -- one more event becomes its entry, where nothing stands against it
 abbrev pub with_event : List Entry → Placed → Option MergeKind → Result (List Entry) MergeFault

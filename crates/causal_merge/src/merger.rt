@@ -2,7 +2,7 @@
 ghost use Rattle.std.specs.Prelude.{◌≡◌, ◌≢◌, ◌∷◌, [], ℕ, List, length, Some, None, Ok, IfOk, OnOk, IfErr, reverse, option_map, unwrap_or};
 ghost use Rattle.causal_trace.specs.declared.fault.TraceFault.{TraceFault};
 ghost use Rattle.causal_trace.specs.Limits.{IsProcessCount};
-ghost use Rattle.causal_trace.specs.Rows.{fault_next, passes_limit};
+ghost use Rattle.causal_trace.specs.Rows.{fault_next};
 ghost use Rattle.causal_trace.specs.State.{with_entry};
 ghost use Rattle.causal_text.specs.Stages.{kind_of};
 ghost use Rattle.causal_merge.specs.declared.event.Placed.{Placed};
@@ -16,7 +16,7 @@ use crate::sends::{SendName, Sends};
 use causal_name::Pid;
 use causal_text::kind::TextKind;
 use causal_trace::entry::Entry;
-use causal_trace::limits::{MAX_ENTRIES, MAX_LISTED};
+use causal_trace::limits::DEFAULT_LIMITS;
 use causal_trace::trace::Trace;
 use std::alloc::Global;
 
@@ -52,14 +52,6 @@ impl Merger {
         }
     }
 
-    // whether an event more that lists so many determinants would pass a limit
-    fn passes_limit(&self, listed: usize) -> bool
-        ensures { result ≡ passes_limit self.now.trace.recording.past listed }
-    {
-        self.trace.len() as usize >= MAX_ENTRIES
-            || listed > MAX_LISTED - self.trace.listed() as usize
-    }
-
     // whether each process that an event names is one of the run
     fn has_processes(&self, event: &Event) -> bool
         ensures { result ≡ has_processes self.now.trace.recording.processes event.now }
@@ -81,7 +73,7 @@ impl Merger {
         if self.is_twice(event) {
             return Some(MergeKind::Twice);
         }
-        if self.passes_limit(event.act.listed()) {
+        if self.trace.passes(DEFAULT_LIMITS, event.act.listed()) {
             return Some(MergeKind::Line(TextKind::TooLong));
         }
         if !self.has_processes(event) {

@@ -1,6 +1,7 @@
 //! Which entries a picture shows.
 ghost use Rattle.std.specs.Prelude.{◌≡◌, ◌≤◌, ◌<◌, ◌+◌, IfSome, length};
 ghost use Rattle.std.specs.Option.{option_copied};
+ghost use Rattle.causal_trace.specs.Limits.{max_entries};
 ghost use Rattle.causal_picture.specs.Stretches as stretches;
 
 use crate::focus::Focus;
@@ -52,7 +53,7 @@ pub fn grid_around(trace: &Trace, focus: Option<&Focus<'_>>) -> Grid
 
 /// The places of a picture of so many entries.
 fn placed(entries: u32, processes: u16, focus: Option<&Focus<'_>>) -> Grid
-    requires { entries ≤ 65536 }
+    requires { entries ≤ max_entries }
     ensures { result ≡ stretches.placed entries processes (option_copied focus.entry) }
 {
     match focus {
@@ -79,7 +80,7 @@ fn in_one(entries: u32, processes: u16, first: u32) -> Grid
 
 /// The places of those about the chain's first, and of those before the instant.
 fn in_two(entries: u32, processes: u16, least: u32, instant: u32) -> Grid
-    requires small { entries ≤ 65536 }
+    requires small { entries ≤ max_entries }
     requires within { instant ≤ entries }
     ensures { result ≡ stretches.in_two entries processes least instant }
 {
@@ -99,7 +100,7 @@ fn in_two(entries: u32, processes: u16, least: u32, instant: u32) -> Grid
 }
 
 fn around(entries: u32, processes: u16, focus: &Focus<'_>) -> Grid
-    requires { entries ≤ 65536 }
+    requires { entries ≤ max_entries }
     ensures { result ≡ stretches.around entries processes focus.now }
 {
     let instant = focus.instant.min(entries);
@@ -114,7 +115,7 @@ fn around(entries: u32, processes: u16, focus: &Focus<'_>) -> Grid
 
 /// The first of the entries shown around an instant where the run is not cut.
 fn first_around(entries: u32, least: u32, instant: u32) -> u32
-    requires small { entries ≤ 65536 }
+    requires small { entries ≤ max_entries }
     requires within { instant ≤ entries }
     ensures { result ≡ stretches.first_around entries least instant }
 {

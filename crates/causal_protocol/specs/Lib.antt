@@ -1,3 +1,4 @@
+pub mod Limits
 pub mod Memory
 pub mod Gathering
 pub mod Run

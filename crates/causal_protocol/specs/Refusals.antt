@@ -6,7 +6,8 @@ use Rattle.causal_name.specs.declared.Pid.{Pid}
 use Rattle.causal_name.specs.declared.MsgName.{MsgName}
 use Rattle.causal_name.specs.declared.Det.{Det}
 use Rattle.causal_name.specs.Names.{same_message}
-use Rattle.causal_trace.specs.Limits.{max_entries, max_listed, max_restarts}
+use Rattle.causal_trace.specs.Limits.{max_restarts}
+use Rattle.causal_protocol.specs.Limits.{max_entries, max_listed}
 use Rattle.causal_trace.specs.Past.{listed_in, restarts}
 use Rattle.causal_log.specs.Logs.{stable_in, unstable_in}
 use Rattle.causal_protocol.specs.declared.request.Request.{Request}

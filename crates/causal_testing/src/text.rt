@@ -4,6 +4,7 @@ use causal_trace::trace::Trace;
 use std::alloc::Global;
 use std::test::Fail;
 
+mod limits;
 mod streams;
 mod texts;
 

@@ -5,7 +5,7 @@ use Rattle.std.specs.Io.KnownBytes.{Consumes}
 use Rattle.causal_text.specs.declared.before.Before.{Before}
 use Rattle.causal_text.specs.declared.before.Rejected.{Rejected}
 use Rattle.causal_text.specs.declared.stage.Stage.{Stage}
-use Rattle.causal_text.specs.Before.{StandsBefore, IsKept}
+use Rattle.causal_text.specs.Before.{StandsBeforeWithin, IsKeptWithin}
 use Rattle.causal_text.specs.Lines.{lines}
 use Rattle.causal_text.specs.Pieces.{IsComplete, joined, Held, StandsFor}
 use Rattle.causal_text.specs.Spelling.{LeadsTo}
@@ -16,79 +16,79 @@ use Rattle.causal_text.proofs.Feeds.{Comes, IsComplete-append, lines_complete, l
 use Rattle.causal_text.proofs.StreamLemmas.{Consumes-then, all_read}
 
 -- the lines that are complete come first
-lines_held : (h : Held) (b more : List ℕ) (s : StandsFor h b) → lines (b ++ more) ≡ s.complete ++ lines (h.rest ++ more)
-lines_held h b more s =
+lines_held : (most : ℕ) (h : Held) (b more : List ℕ) (s : StandsFor most h b) → lines (b ++ more) ≡ s.complete ++ lines (h.rest ++ more)
+lines_held most h b more s =
     ap (λ xs. lines (xs ++ more)) s.whole
     ∙ ap lines (append_assoc (joined s.complete) h.rest more)
     ∙ lines_joined s.complete (h.rest ++ more) s.each
 
 -- and then one line
-stands : (h : Held) (b line : List ℕ) (after : List (List ℕ)) (text : List ℕ) (number : ℕ) (at : Before) (s : StandsFor h b) → lines text ≡ s.complete ++ line ∷ after
-    → IsGoingOn h.place.stage at.trace.recording → line_shape line ≡ Ok at.says → number ≡ h.place.count + 1 → StandsBefore text number at.trace.recording at.says
-stands h b line after text number at s split going says is = record {
+stands : (most : ℕ) (h : Held) (b line : List ℕ) (after : List (List ℕ)) (text : List ℕ) (number : ℕ) (at : Before) (s : StandsFor most h b) → lines text ≡ s.complete ++ line ∷ after
+    → IsGoingOn h.place.stage at.trace.recording → line_shape line ≡ Ok at.says → number ≡ h.place.count + 1 → StandsBeforeWithin most text number at.trace.recording at.says
+stands most h b line after text number at s split going says is = record {
   before = s.complete;
   line = line;
   after = after;
   version = going.0;
   split = split;
-  reaches = subst (λ (stage : Stage). LeadsTo s.complete stage) going.1 s.place_is.reaches;
+  reaches = subst (λ (stage : Stage). LeadsTo most s.complete stage) going.1 s.place_is.reaches;
   said = says;
   number_is = is ∙ ap (λ n. n + 1) s.place_is.count;
 }
 
-split_complete : (h : Held) (b line more : List ℕ) (s : StandsFor h b) → IsComplete line → lines ((b ++ line) ++ more) ≡ s.complete ++ (h.rest ++ line) ∷ lines more
-split_complete h b line more s complete =
-    ap lines (append_assoc b line more) ∙ lines_held h b (line ++ more) s
+split_complete : (most : ℕ) (h : Held) (b line more : List ℕ) (s : StandsFor most h b) → IsComplete line → lines ((b ++ line) ++ more) ≡ s.complete ++ (h.rest ++ line) ∷ lines more
+split_complete most h b line more s complete =
+    ap lines (append_assoc b line more) ∙ lines_held most h b (line ++ more) s
     ∙ ap (λ xs. s.complete ++ lines xs) (sym (append_assoc h.rest line more))
     ∙ ap (λ ls. s.complete ++ ls) (lines_complete (h.rest ++ line) more (IsComplete-append h.rest line s.unfinished complete))
 
-kept_of : (h : Held) (b line : List ℕ) (number : ℕ) (kept : Option Before) → StandsFor h b → IsComplete line → IsKeptAt h.place.stage (h.rest ++ line) kept → number ≡ h.place.count + 1
-    → IfSome kept (λ at. (more : List ℕ) → StandsBefore ((b ++ line) ++ more) number at.trace.recording at.says)
-kept_of h b line number None s complete k is = tt
-kept_of h b line number (Some at) s complete k is = λ more. stands h b (h.rest ++ line) (lines more) ((b ++ line) ++ more) number at s (split_complete h b line more s complete) k.0 k.1 is
+kept_of : (most : ℕ) (h : Held) (b line : List ℕ) (number : ℕ) (kept : Option Before) → StandsFor most h b → IsComplete line → IsKeptAt h.place.stage (h.rest ++ line) kept → number ≡ h.place.count + 1
+    → IfSome kept (λ at. (more : List ℕ) → StandsBeforeWithin most ((b ++ line) ++ more) number at.trace.recording at.says)
+kept_of most h b line number None s complete k is = tt
+kept_of most h b line number (Some at) s complete k is = λ more. stands most h b (h.rest ++ line) (lines more) ((b ++ line) ++ more) number at s (split_complete most h b line more s complete) k.0 k.1 is
 
-kept_more : (bytes more : List ℕ) (number : ℕ) (kept : Option Before) → IfSome kept (λ at. (rest : List ℕ) → StandsBefore (bytes ++ rest) number at.trace.recording at.says)
-    → IfSome kept (λ at. (rest : List ℕ) → StandsBefore ((bytes ++ more) ++ rest) number at.trace.recording at.says)
-kept_more bytes more number None k = tt
-kept_more bytes more number (Some at) k = λ rest.
-    subst (λ (text : List ℕ). StandsBefore text number at.trace.recording at.says) (sym (append_assoc bytes more rest)) (k (more ++ rest))
+kept_more : (most : ℕ) (bytes more : List ℕ) (number : ℕ) (kept : Option Before) → IfSome kept (λ at. (rest : List ℕ) → StandsBeforeWithin most (bytes ++ rest) number at.trace.recording at.says)
+    → IfSome kept (λ at. (rest : List ℕ) → StandsBeforeWithin most ((bytes ++ more) ++ rest) number at.trace.recording at.says)
+kept_more most bytes more number None k = tt
+kept_more most bytes more number (Some at) k = λ rest.
+    subst (λ (text : List ℕ). StandsBeforeWithin most text number at.trace.recording at.says) (sym (append_assoc bytes more rest)) (k (more ++ rest))
 
 -- a line of the piece has the fault
-pub kept_of_piece : (h0 h : Held) (done line after : List ℕ) (number : ℕ) (kept : Option Before) → Comes h0 done h → IsComplete line → IsKeptAt h.place.stage (h.rest ++ line) kept
-    → number ≡ h.place.count + 1 → (b : List ℕ) → StandsFor h0 b → IfSome kept (λ at. (more : List ℕ) → StandsBefore ((b ++ (done ++ (line ++ after))) ++ more) number at.trace.recording at.says)
-kept_of_piece h0 h done line after number kept c complete k is b s =
-    let here = kept_of h (b ++ done) line number kept (c b s) complete k is in
-    let all = kept_more ((b ++ done) ++ line) after number kept here in
-    subst (λ (bytes : List ℕ). IfSome kept (λ at. (more : List ℕ) → StandsBefore (bytes ++ more) number at.trace.recording at.says))
+pub kept_of_piece : (most : ℕ) (h0 h : Held) (done line after : List ℕ) (number : ℕ) (kept : Option Before) → Comes most h0 done h → IsComplete line → IsKeptAt h.place.stage (h.rest ++ line) kept
+    → number ≡ h.place.count + 1 → (b : List ℕ) → StandsFor most h0 b → IfSome kept (λ at. (more : List ℕ) → StandsBeforeWithin most ((b ++ (done ++ (line ++ after))) ++ more) number at.trace.recording at.says)
+kept_of_piece most h0 h done line after number kept c complete k is b s =
+    let here = kept_of most h (b ++ done) line number kept (c b s) complete k is in
+    let all = kept_more most ((b ++ done) ++ line) after number kept here in
+    subst (λ (bytes : List ℕ). IfSome kept (λ at. (more : List ℕ) → StandsBeforeWithin most (bytes ++ more) number at.trace.recording at.says))
     (append_assoc (b ++ done) line after ∙ append_assoc b done (line ++ after)) all
 
 nothing_kept : (P : Before → Type 0) (kept : Option Before) → kept ≡ None → IfSome kept P
 nothing_kept P kept is = subst (λ (k : Option Before). IfSome k P) (sym is) tt
 
 -- nothing is kept
-pub kept_of_none : (bytes : List ℕ) (rejected : Rejected) → rejected.before ≡ None → IsKeptOfAll bytes rejected
-kept_of_none bytes rejected is = nothing_kept _ rejected.before is
+pub kept_of_none : (most : ℕ) (bytes : List ℕ) (rejected : Rejected) → rejected.before ≡ None → IsKeptOfAll most bytes rejected
+kept_of_none most bytes rejected is = nothing_kept _ rejected.before is
 
 -- the last line has the fault, which ends with the text
-pub kept_at_end : (h : Held) (b : List ℕ) (number : ℕ) (kept : Option Before) → StandsFor h b → 0 < length h.rest → IsKeptAt h.place.stage h.rest kept → number ≡ h.place.count + 1
-    → IfSome kept (λ at. StandsBefore b number at.trace.recording at.says)
-kept_at_end h b number None s some k is = tt
-kept_at_end h b number (Some at) s some k is =
+pub kept_at_end : (most : ℕ) (h : Held) (b : List ℕ) (number : ℕ) (kept : Option Before) → StandsFor most h b → 0 < length h.rest → IsKeptAt h.place.stage h.rest kept → number ≡ h.place.count + 1
+    → IfSome kept (λ at. StandsBeforeWithin most b number at.trace.recording at.says)
+kept_at_end most h b number None s some k is = tt
+kept_at_end most h b number (Some at) s some k is =
     let split : lines b ≡ s.complete ++ h.rest ∷ [] =
-    ap lines (sym (append-nil b)) ∙ lines_held h b [] s ∙ ap (λ xs. s.complete ++ lines xs) (append-nil h.rest) ∙ ap (λ ls. s.complete ++ ls) (lines_rest h.rest s.unfinished some) in
-    stands h b h.rest [] b number at s split k.0 k.1 is
+    ap lines (sym (append-nil b)) ∙ lines_held most h b [] s ∙ ap (λ xs. s.complete ++ lines xs) (append-nil h.rest) ∙ ap (λ ls. s.complete ++ ls) (lines_rest h.rest s.unfinished some) in
+    stands most h b h.rest [] b number at s split k.0 k.1 is
 
-kept_known : (text read piece : List ℕ) (left : Option (List ℕ)) (rejected : Rejected) → Consumes (Some text) left (read ++ piece) → PieceEndsAt piece left → IsKeptAfter piece (read ++ piece) rejected → IsKept text rejected
-kept_known text read [] left rejected p ends k = subst (λ (bytes : List ℕ). IsKept bytes rejected) (sym (all_read text (read ++ []) left p ends)) k
-kept_known text read (x ∷ xs) None rejected p ends k = absurd p
-kept_known text read (x ∷ xs) (Some rest) rejected p ends k = here rejected.before k where
-  here : (kept : Option Before) → IfSome kept (λ at. (more : List ℕ) → StandsBefore ((read ++ x ∷ xs) ++ more) rejected.fault.line at.trace.recording at.says)
-      → IfSome kept (λ at. StandsBefore text rejected.fault.line at.trace.recording at.says)
+kept_known : (most : ℕ) (text read piece : List ℕ) (left : Option (List ℕ)) (rejected : Rejected) → Consumes (Some text) left (read ++ piece) → PieceEndsAt piece left → IsKeptAfter most piece (read ++ piece) rejected → IsKeptWithin most text rejected
+kept_known most text read [] left rejected p ends k = subst (λ (bytes : List ℕ). IsKeptWithin most bytes rejected) (sym (all_read text (read ++ []) left p ends)) k
+kept_known most text read (x ∷ xs) None rejected p ends k = absurd p
+kept_known most text read (x ∷ xs) (Some rest) rejected p ends k = here rejected.before k where
+  here : (kept : Option Before) → IfSome kept (λ at. (more : List ℕ) → StandsBeforeWithin most ((read ++ x ∷ xs) ++ more) rejected.fault.line at.trace.recording at.says)
+      → IfSome kept (λ at. StandsBeforeWithin most text rejected.fault.line at.trace.recording at.says)
   here None h = tt
-  here (Some at) h = subst (λ (bytes : List ℕ). StandsBefore bytes rejected.fault.line at.trace.recording at.says) (sym p) (h rest)
+  here (Some at) h = subst (λ (bytes : List ℕ). StandsBeforeWithin most bytes rejected.fault.line at.trace.recording at.says) (sym p) (h rest)
 
 -- what is kept of the bytes that were read stands before that line of the text
-pub kept_of_source : (known mid left : Option (List ℕ)) (read piece : List ℕ) (rejected : Rejected) → Consumes known mid read → Consumes mid left piece → PieceEndsAt piece left
-    → IsKeptAfter piece (read ++ piece) rejected → IfSome known (λ text. IsKept text rejected)
-kept_of_source None mid left read piece rejected p q ends k = tt
-kept_of_source (Some text) mid left read piece rejected p q ends k = kept_known text read piece left rejected (Consumes-then (Some text) mid left read piece p q) ends k
+pub kept_of_source : (most : ℕ) (known mid left : Option (List ℕ)) (read piece : List ℕ) (rejected : Rejected) → Consumes known mid read → Consumes mid left piece → PieceEndsAt piece left
+    → IsKeptAfter most piece (read ++ piece) rejected → IfSome known (λ text. IsKeptWithin most text rejected)
+kept_of_source most None mid left read piece rejected p q ends k = tt
+kept_of_source most (Some text) mid left read piece rejected p q ends k = kept_known most text read piece left rejected (Consumes-then (Some text) mid left read piece p q) ends k

@@ -99,7 +99,7 @@ canonical_fits : (r : Recording) → r.processes ≤ 256 → FitsVersion (canoni
 canonical_fits r few = fits_by r (nat_le r.processes 64 && list_all (has_line One) (reverse r.past)) refl few
 
 pub canonical-spells : NumbersAreSmall → LimitsAreKept → CanonicalSpells
-canonical-spells numbers limits r w =
+canonical-spells numbers limits most r some w kept =
     let version = canonical_version r in
     let small = numbers r 256 w w.count.1 in
     let few = limits r w in
@@ -109,5 +109,6 @@ canonical-spells numbers limits r w =
       fits = canonical_fits r w.count.1;
       well_formed = w;
       said = ap (map line_shape) (lines_of (said (Ended version r)) fit) ∙ shapes_back (said (Ended version r)) fit;
-      within = length-canonical r w.count.1 small few.0 few.1;
+      kept = kept;
+      within = length-canonical most r some w kept small few.0;
     }

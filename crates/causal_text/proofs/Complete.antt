@@ -1,9 +1,10 @@
 -- What a text spells is read.
-use Rattle.std.proofs.Common.{◌≡◌, ℕ, ◌+◌, ◌≤◌, List, [], ◌∷◌, ◌++◌, length, Ok, Err, refl, ap, sym, ◌∙◌, arith, subst}
+use Rattle.std.proofs.Common.{◌≡◌, ℕ, suc, ◌+◌, ◌≤◌, List, [], ◌∷◌, ◌++◌, length, Ok, Err, refl, ap, sym, ◌∙◌, arith, subst}
 use Rattle.std.specs.Prelude.{Result, map, sum_by}
 use Rattle.std.proofs.lemmas.Bool.{eq-eqb, le-leb, lt-leb}
 use Rattle.std.proofs.lemmas.List.Sums.{sum_by_push}
-use Rattle.causal_trace.specs.Rows.{Recording, AreAccepted}
+use Rattle.causal_trace.specs.Rows.{Recording, AreAccepted, IsWithin}
+use Rattle.causal_trace.proofs.Lemmas.Formed.{within_before, next_within}
 use Rattle.causal_trace.specs.State.{with_entry}
 use Rattle.causal_trace.specs.declared.entry.Entry.{Entry}
 use Rattle.causal_text.specs.declared.kind.TextKind.{TextKind}
@@ -18,41 +19,41 @@ use Rattle.causal_text.specs.Lines.{lines}
 use Rattle.causal_text.specs.Place.{Place, IsPlaceAfter}
 use Rattle.causal_text.specs.Reading.{◌>>=◌}
 use Rattle.causal_text.specs.Inside.LineByLine.{start, next, after_lines, ended, reading}
-use Rattle.causal_text.specs.Stages.{opened, max_text, line_shape, within_limit, after_line}
+use Rattle.causal_text.specs.Stages.{opened, text_within, line_shape, within_limit, after_line}
 use Rattle.causal_text.specs.Versions.{number_of, most_processes, HasLines}
-use Rattle.causal_text.specs.Spelling.{said, LeadsTo, Spells}
+use Rattle.causal_text.specs.Spelling.{said, LeadsTo, SpellsWithin}
 use Rattle.causal_text.proofs.Joined.{sum_by-lines}
 use Rattle.causal_text.proofs.Steps.{said_entries}
 use Rattle.causal_text.proofs.Spellings.{IsPlaceAfter-lines, IsPlaceAfter-start}
 
-pub in_limit : (end : ℕ) (r : Result Stage TextKind) → end ≤ max_text → within_limit end r ≡ r
-in_limit end r h = rw (lt-leb (max_text + 1) end (omega arith)) refl
+pub in_limit : (most : ℕ) (end : ℕ) (r : Result Stage TextKind) → end ≤ text_within most → within_limit most end r ≡ r
+in_limit most end r h = rw (lt-leb (suc (text_within most)) end (omega arith)) refl
 
 -- ---- lines one after another
 
-first_step : (ls ks : List (List ℕ)) (q : Place) (r : Result Place TextFault) → ((o : Place) → after_lines o ls ≡ Ok q → after_lines o (ls ++ ks) ≡ after_lines q ks) →
-    (r >>= λ o. after_lines o ls) ≡ Ok q → (r >>= λ o. after_lines o (ls ++ ks)) ≡ after_lines q ks
-first_step ls ks q (Ok o) rest g = rest o g
-first_step ls ks q (Err e) rest g = absurd (let no : Err e ≡ Ok q = g in cc)
+first_step : (most : ℕ) (ls ks : List (List ℕ)) (q : Place) (r : Result Place TextFault) → ((o : Place) → after_lines most o ls ≡ Ok q → after_lines most o (ls ++ ks) ≡ after_lines most q ks) →
+    (r >>= λ o. after_lines most o ls) ≡ Ok q → (r >>= λ o. after_lines most o (ls ++ ks)) ≡ after_lines most q ks
+first_step most ls ks q (Ok o) rest g = rest o g
+first_step most ls ks q (Err e) rest g = absurd (let no : Err e ≡ Ok q = g in cc)
 
-pub after_lines-append : (p q : Place) (ls ks : List (List ℕ)) → after_lines p ls ≡ Ok q → after_lines p (ls ++ ks) ≡ after_lines q ks
-after_lines-append p q [] ks h = let same : p ≡ q = cc in rw same refl
-after_lines-append p q (l ∷ ls) ks h = first_step ls ks q (next p l) (λ o. after_lines-append o q ls ks) h
+pub after_lines-append : (most : ℕ) (p q : Place) (ls ks : List (List ℕ)) → after_lines most p ls ≡ Ok q → after_lines most p (ls ++ ks) ≡ after_lines most q ks
+after_lines-append most p q [] ks h = let same : p ≡ q = cc in rw same refl
+after_lines-append most p q (l ∷ ls) ks h = first_step most ls ks q (next most p l) (λ o. after_lines-append most o q ls ks) h
 
 -- the lines lead from the start to the stage
-abbrev pub Leads : List (List ℕ) → Stage → Type 0
-Leads ls s = (q : Place) × (after_lines start ls ≡ Ok q) × (q.stage ≡ s)
+abbrev pub Leads : (most : ℕ) → List (List ℕ) → Stage → Type 0
+Leads most ls s = (q : Place) × (after_lines most start ls ≡ Ok q) × (q.stage ≡ s)
 
-next_ok : (p : Place) (l : List ℕ) (t : Stage) → after_line p.stage (p.size + length l) l ≡ Ok t → next p l ≡ Ok (record { stage = t; count = p.count + 1; size = p.size + length l })
-next_ok p l t h = rw h refl
+next_ok : (most : ℕ) (p : Place) (l : List ℕ) (t : Stage) → after_line most p.stage (p.size + length l) l ≡ Ok t → next most p l ≡ Ok (record { stage = t; count = p.count + 1; size = p.size + length l })
+next_ok most p l t h = rw h refl
 
 -- one more line leads to the next stage
-Leads-more : (ls : List (List ℕ)) (l : List ℕ) (s t : Stage) → Leads ls s → after_line s (sum_by length ls + length l) l ≡ Ok t → Leads (ls ++ l ∷ []) t
-Leads-more ls l s t led is =
-    let st = IsPlaceAfter-lines [] ls start led.0 IsPlaceAfter-start led.1 in
-    let taken : after_line led.0.stage (led.0.size + length l) l ≡ Ok t = rw (led.2, st.size) is in
+Leads-more : (most : ℕ) (ls : List (List ℕ)) (l : List ℕ) (s t : Stage) → Leads most ls s → after_line most s (sum_by length ls + length l) l ≡ Ok t → Leads most (ls ++ l ∷ []) t
+Leads-more most ls l s t led is =
+    let st = IsPlaceAfter-lines most [] ls start led.0 (IsPlaceAfter-start most) led.1 in
+    let taken : after_line most led.0.stage (led.0.size + length l) l ≡ Ok t = rw (led.2, st.size) is in
     let q : Place = record { stage = t; count = led.0.count + 1; size = led.0.size + length l } in
-    (q, after_lines-append start led.0 ls (l ∷ []) led.1 ∙ rw (next_ok led.0 l t taken) refl, refl)
+    (q, after_lines-append most start led.0 ls (l ∷ []) led.1 ∙ rw (next_ok most led.0 l t taken) refl, refl)
 
 -- ---- what is said last is said by the last line
 
@@ -87,50 +88,50 @@ last_of (l ∷ ls) (y ∷ ys) x h =
 same_place : (p q : Place) → p.stage ≡ q.stage → p.count ≡ q.count → p.size ≡ q.size → p ≡ q
 same_place p q stage count size = λ i. record { stage = stage i; count = count i; size = size i }
 
-takes_header : (version : Version) (n end : ℕ) (l : List ℕ) → 1 ≤ n → n ≤ most_processes version → end ≤ max_text → line_shape l ≡ Ok (shape.Header (number_of version) n) → after_line Opening end l ≡ Ok (Within version (opened n))
-takes_header One n end l some few h is = in_limit end _ h ∙ rw (is, le-leb 1 n some, le-leb n 64 few) refl
-takes_header Two n end l some few h is = in_limit end _ h ∙ rw (is, le-leb 1 n some, le-leb n 256 few) refl
+takes_header : (most : ℕ) (version : Version) (n end : ℕ) (l : List ℕ) → 1 ≤ n → n ≤ most_processes version → end ≤ text_within most → line_shape l ≡ Ok (shape.Header (number_of version) n) → after_line most Opening end l ≡ Ok (Within version (opened n))
+takes_header most One n end l some few h is = in_limit most end _ h ∙ rw (is, le-leb 1 n some, le-leb n 64 few) refl
+takes_header most Two n end l some few h is = in_limit most end _ h ∙ rw (is, le-leb 1 n some, le-leb n 256 few) refl
 
-Leads-opening : (ls : List (List ℕ)) → map line_shape ls ≡ [] → Leads ls Opening
-Leads-opening [] h = (start, refl, refl)
-Leads-opening (l ∷ ls) h = absurd (let no : line_shape l ∷ map line_shape ls ≡ [] = h in cc)
+Leads-opening : (most : ℕ) (ls : List (List ℕ)) → map line_shape ls ≡ [] → Leads most ls Opening
+Leads-opening most [] h = (start, refl, refl)
+Leads-opening most (l ∷ ls) h = absurd (let no : line_shape l ∷ map line_shape ls ≡ [] = h in cc)
 
 -- a line more
-Leads-last : (ls : List (List ℕ)) (s t : Stage) (x : Shape) → map line_shape ls ≡ map Ok (said s ++ x ∷ []) → sum_by length ls ≤ max_text →
-    ((front : List (List ℕ)) → map line_shape front ≡ map Ok (said s) → sum_by length front ≤ max_text → Leads front s) →
-    ((end : ℕ) (l : List ℕ) → end ≤ max_text → line_shape l ≡ Ok x → after_line s end l ≡ Ok t) → Leads ls t
-Leads-last ls s t x h few led takes =
+Leads-last : (most : ℕ) (ls : List (List ℕ)) (s t : Stage) (x : Shape) → map line_shape ls ≡ map Ok (said s ++ x ∷ []) → sum_by length ls ≤ text_within most →
+    ((front : List (List ℕ)) → map line_shape front ≡ map Ok (said s) → sum_by length front ≤ text_within most → Leads most front s) →
+    ((end : ℕ) (l : List ℕ) → end ≤ text_within most → line_shape l ≡ Ok x → after_line most s end l ≡ Ok t) → Leads most ls t
+Leads-last most ls s t x h few led takes =
     let p = last_of ls (said s) x h in
     let size : sum_by length ls ≡ sum_by length p.front + length p.line = ap (sum_by length) p.whole ∙ sum_by_push length p.front p.line in
     let before = led p.front p.says (omega (arith, size)) in
     let taken = takes (sum_by length p.front + length p.line) p.line (omega (arith, size)) p.reads in
-    subst (λ ks. Leads ks t) (sym p.whole) (Leads-more p.front p.line s t before taken)
+    subst (λ ks. Leads most ks t) (sym p.whole) (Leads-more most p.front p.line s t before taken)
 
-Leads-within : (version : Version) (n : ℕ) (past : List Entry) (ls : List (List ℕ)) → 1 ≤ n → n ≤ most_processes version → HasLines version past → AreAccepted n past →
-    map line_shape ls ≡ map Ok (said (Within version (record { processes = n; past = past }))) → sum_by length ls ≤ max_text → Leads ls (Within version (record { processes = n; past = past }))
-Leads-within version n [] ls some few lined ok h size =
-    Leads-last ls Opening (Within version (opened n)) (shape.Header (number_of version) n) h size (λ front is small. Leads-opening front is)
-    (λ end l small is. takes_header version n end l some few small is)
-Leads-within version n (e ∷ past) ls some few lined ok h size =
+Leads-within : (most : ℕ) (version : Version) (n : ℕ) (past : List Entry) (ls : List (List ℕ)) → 1 ≤ n → n ≤ most_processes version → HasLines version past → AreAccepted n past → IsWithin most (record { processes = n; past = past }) →
+    map line_shape ls ≡ map Ok (said (Within version (record { processes = n; past = past }))) → sum_by length ls ≤ text_within most → Leads most ls (Within version (record { processes = n; past = past }))
+Leads-within most version n [] ls some few lined ok kept h size =
+    Leads-last most ls Opening (Within version (opened n)) (shape.Header (number_of version) n) h size (λ front is small. Leads-opening most front is)
+    (λ end l small is. takes_header most version n end l some few small is)
+Leads-within most version n (e ∷ past) ls some few lined ok kept h size =
     let r : Recording = record { processes = n; past = past } in
     let said_last : map line_shape ls ≡ map Ok (said (Within version r) ++ shape.Entry e ∷ []) = h ∙ ap (λ xs. map Ok (shape.Header (number_of version) n ∷ xs)) (said_entries e past) in
-    Leads-last ls (Within version r) (Within version (with_entry r e)) (shape.Entry e) said_last size
-    (λ front is small. Leads-within version n past front some few lined.0 ok.0 is small)
-    (λ end l small is. in_limit end _ small ∙ rw (is, lined.1, ok.1) refl)
+    Leads-last most ls (Within version r) (Within version (with_entry r e)) (shape.Entry e) said_last size
+    (λ front is small. Leads-within most version n past front some few lined.0 ok.0 (within_before most r e kept) is small)
+    (λ end l small is. in_limit most end _ small ∙ rw (is, lined.1, next_within most r e kept ok.1) refl)
 
-pub Leads-reached : (ls : List (List ℕ)) (s : Stage) → LeadsTo ls s → Leads ls s
-Leads-reached ls Opening r = Leads-opening ls r.said
-Leads-reached ls (Within version q) r = Leads-within version q.processes q.past ls r.sound.0.count.0 r.sound.1.few r.sound.1.entries r.sound.0.accepted r.said r.within
-Leads-reached ls (Ended version q) r =
-    Leads-last ls (Within version q) (Ended version q) (shape.End (length q.past)) r.said r.within
-    (λ front is small. Leads-within version q.processes q.past front r.sound.0.count.0 r.sound.1.few r.sound.1.entries r.sound.0.accepted is small)
-    (λ end l small is. in_limit end _ small ∙ rw (is, eq-eqb (length q.past) (length q.past) refl) refl)
+pub Leads-reached : (most : ℕ) (ls : List (List ℕ)) (s : Stage) → LeadsTo most ls s → Leads most ls s
+Leads-reached most ls Opening r = Leads-opening most ls r.said
+Leads-reached most ls (Within version q) r = Leads-within most version q.processes q.past ls r.sound.0.count.0 r.sound.1.few r.sound.1.entries r.sound.0.accepted r.sound.2 r.said r.within
+Leads-reached most ls (Ended version q) r =
+    Leads-last most ls (Within version q) (Ended version q) (shape.End (length q.past)) r.said r.within
+    (λ front is small. Leads-within most version q.processes q.past front r.sound.0.count.0 r.sound.1.few r.sound.1.entries r.sound.0.accepted r.sound.2 is small)
+    (λ end l small is. in_limit most end _ small ∙ rw (is, eq-eqb (length q.past) (length q.past) refl) refl)
 
 -- the place after lines is where they lead
-pub after_lines-place : (ls : List (List ℕ)) (p : Place) → IsPlaceAfter ls p → after_lines start ls ≡ Ok p
-after_lines-place ls p is =
-    let led = Leads-reached ls p.stage is.reaches in
-    let there = IsPlaceAfter-lines [] ls start led.0 IsPlaceAfter-start led.1 in
+pub after_lines-place : (most : ℕ) (ls : List (List ℕ)) (p : Place) → IsPlaceAfter most ls p → after_lines most start ls ≡ Ok p
+after_lines-place most ls p is =
+    let led = Leads-reached most ls p.stage is.reaches in
+    let there = IsPlaceAfter-lines most [] ls start led.0 (IsPlaceAfter-start most) led.1 in
     let same : led.0 ≡ p = same_place led.0 p led.2 (there.count ∙ sym is.count) (there.size ∙ sym is.size) in
     led.1 ∙ ap Ok same
 
@@ -139,8 +140,8 @@ after_lines-place ls p is =
 ended_at : (p : Place) (s : Stage) (version : Version) (r : Recording) → s ≡ Ended version r → ended p s ≡ Ok r
 ended_at p s version r is = rw is refl
 
-pub reading-spelled : (text : List ℕ) (r : Recording) → Spells text r → reading text ≡ Ok r
-reading-spelled text r s =
-    let reached : LeadsTo (lines text) (Ended s.version r) = record { said = s.said; sound = (s.well_formed, s.fits); within = rw (sum_by-lines text) s.within } in
-    let led = Leads-reached (lines text) (Ended s.version r) reached in
+pub reading-spelled : (most : ℕ) (text : List ℕ) (r : Recording) → SpellsWithin most text r → reading most text ≡ Ok r
+reading-spelled most text r s =
+    let reached : LeadsTo most (lines text) (Ended s.version r) = record { said = s.said; sound = (s.well_formed, s.fits, s.kept); within = rw (sum_by-lines text) s.within } in
+    let led = Leads-reached most (lines text) (Ended s.version r) reached in
     ap (λ (q : Result Place TextFault). q >>= λ p. ended p p.stage) led.1 ∙ ended_at led.0 led.0.stage s.version r led.2

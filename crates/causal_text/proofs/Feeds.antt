@@ -84,10 +84,10 @@ AreComplete-append (k ∷ ls) l h c = (h.0, AreComplete-append ls l h.1 c)
 pub IsComplete-append : (xs l : List ℕ) → no_feed xs ≡ true → IsComplete l → IsComplete (xs ++ l)
 IsComplete-append xs l h c = (xs ++ c.0, no_feed-append xs c.0 h c.1, ap (λ ys. xs ++ ys) c.2 ∙ sym (append_assoc xs c.0 (10 ∷ [])))
 
-pub StandsFor-complete : (h : Held) (b line : List ℕ) (p : Place) → StandsFor h b → IsComplete line → next h.place (h.rest ++ line) ≡ Ok p → StandsFor (record { place = p; rest = [] }) (b ++ line)
-StandsFor-complete h b line p s c taken =
+pub StandsFor-complete : (most : ℕ) (h : Held) (b line : List ℕ) (p : Place) → StandsFor most h b → IsComplete line → next most h.place (h.rest ++ line) ≡ Ok p → StandsFor most (record { place = p; rest = [] }) (b ++ line)
+StandsFor-complete most h b line p s c taken =
     let l = h.rest ++ line in
-    let after = IsPlaceAfter-next s.complete h.place p l s.place_is taken in
+    let after = IsPlaceAfter-next most s.complete h.place p l s.place_is taken in
     record {
       complete = s.complete ++ l ∷ [];
       whole = ap (λ xs. xs ++ line) s.whole ∙ append_assoc (joined s.complete) h.rest line ∙ sym (joined-append s.complete l) ∙ sym (append-nil _);
@@ -96,8 +96,8 @@ StandsFor-complete h b line p s c taken =
       place_is = after;
     }
 
-pub StandsFor-hold : (h : Held) (b part : List ℕ) → StandsFor h b → no_feed part ≡ true → StandsFor (record { place = h.place; rest = h.rest ++ part }) (b ++ part)
-StandsFor-hold h b part s none = record {
+pub StandsFor-hold : (most : ℕ) (h : Held) (b part : List ℕ) → StandsFor most h b → no_feed part ≡ true → StandsFor most (record { place = h.place; rest = h.rest ++ part }) (b ++ part)
+StandsFor-hold most h b part s none = record {
   complete = s.complete;
   whole = ap (λ xs. xs ++ part) s.whole ∙ append_assoc (joined s.complete) h.rest part;
   each = s.each;
@@ -105,71 +105,71 @@ StandsFor-hold h b part s none = record {
   place_is = s.place_is;
 }
 
-reading_from : (h : Held) (b more : List ℕ) → StandsFor h b → after_lines start (lines (b ++ more)) ≡ after_lines h.place (lines (h.rest ++ more))
-reading_from h b more s =
-    ap (λ xs. after_lines start (lines (xs ++ more))) s.whole
-    ∙ ap (λ xs. after_lines start (lines xs)) (append_assoc (joined s.complete) h.rest more)
-    ∙ ap (after_lines start) (lines_joined s.complete (h.rest ++ more) s.each)
-    ∙ after_lines-append start h.place s.complete (lines (h.rest ++ more)) (after_lines-place s.complete h.place s.place_is)
+reading_from : (most : ℕ) (h : Held) (b more : List ℕ) → StandsFor most h b → after_lines most start (lines (b ++ more)) ≡ after_lines most h.place (lines (h.rest ++ more))
+reading_from most h b more s =
+    ap (λ xs. after_lines most start (lines (xs ++ more))) s.whole
+    ∙ ap (λ xs. after_lines most start (lines xs)) (append_assoc (joined s.complete) h.rest more)
+    ∙ ap (after_lines most start) (lines_joined s.complete (h.rest ++ more) s.each)
+    ∙ after_lines-append most start h.place s.complete (lines (h.rest ++ more)) (after_lines-place most s.complete h.place s.place_is)
 
-pub fault_of_complete : (h : Held) (b line : List ℕ) (f : TextFault) → StandsFor h b → IsComplete line → next h.place (h.rest ++ line) ≡ Err f → IsFaultOfAll (b ++ line) f
-fault_of_complete h b line f s c e more =
-    let same : after_lines start (lines ((b ++ line) ++ more)) ≡ Err f =
-    ap (λ xs. after_lines start (lines xs)) (append_assoc b line more) ∙ reading_from h b (line ++ more) s
-    ∙ ap (λ xs. after_lines h.place (lines xs)) (sym (append_assoc h.rest line more))
-    ∙ ap (after_lines h.place) (lines_complete (h.rest ++ line) more (IsComplete-append h.rest line s.unfinished c)) ∙ rw e refl in
+pub fault_of_complete : (most : ℕ) (h : Held) (b line : List ℕ) (f : TextFault) → StandsFor most h b → IsComplete line → next most h.place (h.rest ++ line) ≡ Err f → IsFaultOfAll most (b ++ line) f
+fault_of_complete most h b line f s c e more =
+    let same : after_lines most start (lines ((b ++ line) ++ more)) ≡ Err f =
+    ap (λ xs. after_lines most start (lines xs)) (append_assoc b line more) ∙ reading_from most h b (line ++ more) s
+    ∙ ap (λ xs. after_lines most h.place (lines xs)) (sym (append_assoc h.rest line more))
+    ∙ ap (after_lines most h.place) (lines_complete (h.rest ++ line) more (IsComplete-append h.rest line s.unfinished c)) ∙ rw e refl in
     ap (λ (r : Result Place TextFault). r >>= λ p. ended p p.stage) same
 
-pub fault_of_grown : (h : Held) (b : List ℕ) (f : TextFault) → StandsFor h b → 0 < length h.rest → ((m : List ℕ) → next h.place (h.rest ++ m) ≡ Err f) → IsFaultOfAll b f
-fault_of_grown h b f s some e more = from h.rest some s.unfinished e (reading_from h b more s) where
-  from : (xs : List ℕ) → 0 < length xs → no_feed xs ≡ true → ((m : List ℕ) → next h.place (xs ++ m) ≡ Err f) → after_lines start (lines (b ++ more)) ≡ after_lines h.place (lines (xs ++ more)) → reading (b ++ more) ≡ Err f
+pub fault_of_grown : (most : ℕ) (h : Held) (b : List ℕ) (f : TextFault) → StandsFor most h b → 0 < length h.rest → ((m : List ℕ) → next most h.place (h.rest ++ m) ≡ Err f) → IsFaultOfAll most b f
+fault_of_grown most h b f s some e more = from h.rest some s.unfinished e (reading_from most h b more s) where
+  from : (xs : List ℕ) → 0 < length xs → no_feed xs ≡ true → ((m : List ℕ) → next most h.place (xs ++ m) ≡ Err f) → after_lines most start (lines (b ++ more)) ≡ after_lines most h.place (lines (xs ++ more)) → reading most (b ++ more) ≡ Err f
   from [] some none e same = absurd (omega arith)
   from (x ∷ xs) some none e same =
       let g = lines_grown x xs more none in
-      let all : after_lines start (lines (b ++ more)) ≡ Err f = same ∙ ap (after_lines h.place) g.2 ∙ rw (e g.0) refl in
+      let all : after_lines most start (lines (b ++ more)) ≡ Err f = same ∙ ap (after_lines most h.place) g.2 ∙ rw (e g.0) refl in
       ap (λ (r : Result Place TextFault). r >>= λ p. ended p p.stage) all
 
 -- ---- a piece, part by part
 
 -- after these bytes more, h1 stands where h0 stood
-abbrev pub Comes : Held → List ℕ → Held → Type 0
-Comes h0 done h1 = (b : List ℕ) → StandsFor h0 b → StandsFor h1 (b ++ done)
+abbrev pub Comes : (most : ℕ) → Held → List ℕ → Held → Type 0
+Comes most h0 done h1 = (b : List ℕ) → StandsFor most h0 b → StandsFor most h1 (b ++ done)
 
-regrouped : (h : Held) (b done more : List ℕ) → StandsFor h ((b ++ done) ++ more) → StandsFor h (b ++ (done ++ more))
-regrouped h b done more s = subst (λ (xs : List ℕ). StandsFor h xs) (append_assoc b done more) s
+regrouped : (most : ℕ) (h : Held) (b done more : List ℕ) → StandsFor most h ((b ++ done) ++ more) → StandsFor most h (b ++ (done ++ more))
+regrouped most h b done more s = subst (λ (xs : List ℕ). StandsFor most h xs) (append_assoc b done more) s
 
-with_line_ok : (h h1 : Held) (line : List ℕ) → with_line h line ≡ Ok h1 → (p : Place) × (next h.place (h.rest ++ line) ≡ Ok p) × (record { place = p; rest = [] } ≡ h1)
-with_line_ok h h1 line e = parts (next h.place (h.rest ++ line)) e where
+with_line_ok : (most : ℕ) (h h1 : Held) (line : List ℕ) → with_line most h line ≡ Ok h1 → (p : Place) × (next most h.place (h.rest ++ line) ≡ Ok p) × (record { place = p; rest = [] } ≡ h1)
+with_line_ok most h h1 line e = parts (next most h.place (h.rest ++ line)) e where
   parts : (r : Result Place TextFault) → (r >>= λ p. Ok (record { place = p; rest = [] })) ≡ Ok h1 → (p : Place) × (r ≡ Ok p) × (record { place = p; rest = [] } ≡ h1)
   parts (Ok p) e = (p, refl, cc)
   parts (Err f) e = absurd (let no : Err f ≡ Ok h1 = e in cc)
 
-with_line_err : (h : Held) (line : List ℕ) (f : TextFault) → with_line h line ≡ Err f → next h.place (h.rest ++ line) ≡ Err f
-with_line_err h line f e = parts (next h.place (h.rest ++ line)) e where
+with_line_err : (most : ℕ) (h : Held) (line : List ℕ) (f : TextFault) → with_line most h line ≡ Err f → next most h.place (h.rest ++ line) ≡ Err f
+with_line_err most h line f e = parts (next most h.place (h.rest ++ line)) e where
   parts : (r : Result Place TextFault) → ◌>>=◌ {B = Held} r (λ p. Ok (record { place = p; rest = [] })) ≡ Err f → r ≡ Err f
   parts (Ok p) e = let k : Held = record { place = p; rest = [] } in absurd (let no : Ok k ≡ Err f = e in cc)
   parts (Err g) e = let same : g ≡ f = cc in ap Err same
 
-pub Comes-line : (h0 h h1 : Held) (done line : List ℕ) → Comes h0 done h → IsComplete line → with_line h line ≡ Ok h1 → Comes h0 (done ++ line) h1
-Comes-line h0 h h1 done line c complete e b s =
-    let p = with_line_ok h h1 line e in
-    regrouped h1 b done line (subst (λ (k : Held). StandsFor k ((b ++ done) ++ line)) p.2 (StandsFor-complete h (b ++ done) line p.0 (c b s) complete p.1))
+pub Comes-line : (most : ℕ) (h0 h h1 : Held) (done line : List ℕ) → Comes most h0 done h → IsComplete line → with_line most h line ≡ Ok h1 → Comes most h0 (done ++ line) h1
+Comes-line most h0 h h1 done line c complete e b s =
+    let p = with_line_ok most h h1 line e in
+    regrouped most h1 b done line (subst (λ (k : Held). StandsFor most k ((b ++ done) ++ line)) p.2 (StandsFor-complete most h (b ++ done) line p.0 (c b s) complete p.1))
 
-IsFaultOfAll-more : (b more : List ℕ) (f : TextFault) → IsFaultOfAll b f → IsFaultOfAll (b ++ more) f
-IsFaultOfAll-more b more f h rest = ap reading (append_assoc b more rest) ∙ h (more ++ rest)
+IsFaultOfAll-more : (most : ℕ) (b more : List ℕ) (f : TextFault) → IsFaultOfAll most b f → IsFaultOfAll most (b ++ more) f
+IsFaultOfAll-more most b more f h rest = ap (reading most) (append_assoc b more rest) ∙ h (more ++ rest)
 
-pub fault_of_piece : (h0 h : Held) (done line after : List ℕ) (f : TextFault) → Comes h0 done h → IsComplete line → with_line h line ≡ Err f → (b : List ℕ) → StandsFor h0 b → IsFaultOfAll (b ++ (done ++ (line ++ after))) f
-fault_of_piece h0 h done line after f c complete e b s =
-    let here = fault_of_complete h (b ++ done) line f (c b s) complete (with_line_err h line f e) in
-    let all = IsFaultOfAll-more ((b ++ done) ++ line) after f here in
-    subst (λ (xs : List ℕ). IsFaultOfAll xs f) (append_assoc (b ++ done) line after ∙ append_assoc b done (line ++ after)) all
+pub fault_of_piece : (most : ℕ) (h0 h : Held) (done line after : List ℕ) (f : TextFault) → Comes most h0 done h → IsComplete line → with_line most h line ≡ Err f → (b : List ℕ) → StandsFor most h0 b → IsFaultOfAll most (b ++ (done ++ (line ++ after))) f
+fault_of_piece most h0 h done line after f c complete e b s =
+    let here = fault_of_complete most h (b ++ done) line f (c b s) complete (with_line_err most h line f e) in
+    let all = IsFaultOfAll-more most ((b ++ done) ++ line) after f here in
+    subst (λ (xs : List ℕ). IsFaultOfAll most xs f) (append_assoc (b ++ done) line after ∙ append_assoc b done (line ++ after)) all
 
-pub Comes-hold : (h0 h : Held) (done part : List ℕ) → Comes h0 done h → no_feed part ≡ true → Comes h0 (done ++ part) (record { place = h.place; rest = h.rest ++ part })
-Comes-hold h0 h done part c none b s = regrouped (record { place = h.place; rest = h.rest ++ part }) b done part (StandsFor-hold h (b ++ done) part (c b s) none)
+pub Comes-hold : (most : ℕ) (h0 h : Held) (done part : List ℕ) → Comes most h0 done h → no_feed part ≡ true → Comes most h0 (done ++ part) (record { place = h.place; rest = h.rest ++ part })
+Comes-hold most h0 h done part c none b s = regrouped most (record { place = h.place; rest = h.rest ++ part }) b done part (StandsFor-hold most h (b ++ done) part (c b s) none)
 
-pub fault_of_hold : (h0 h : Held) (done part : List ℕ) (f : TextFault) → Comes h0 done h → no_feed part ≡ true → 0 < length (h.rest ++ part) → IsPast (record { place = h.place; rest = h.rest ++ part }) f
-    → (b : List ℕ) → StandsFor h0 b → IsFaultOfAll (b ++ (done ++ part)) f
-fault_of_hold h0 h done part f c none some past b s = fault_of_grown (record { place = h.place; rest = h.rest ++ part }) (b ++ (done ++ part)) f (Comes-hold h0 h done part c none b s) some past
+pub fault_of_hold : (most : ℕ) (h0 h : Held) (done part : List ℕ) (f : TextFault) → Comes most h0 done h → no_feed part ≡ true → 0 < length (h.rest ++ part) → IsPast most (record { place = h.place; rest = h.rest ++ part }) f
+    → (b : List ℕ) → StandsFor most h0 b → IsFaultOfAll most (b ++ (done ++ part)) f
+fault_of_hold most h0 h done part f c none some past b s = fault_of_grown most (record { place = h.place; rest = h.rest ++ part }) (b ++ (done ++ part)) f (Comes-hold most h0 h done part c none b s) some past
 
 -- ---- the end of the text
 
@@ -180,24 +180,24 @@ lines_rest (x ∷ y ∷ ys) h some =
     let p = first_other (x == 10) (no_feed (y ∷ ys)) h in
     lines_other x (y ∷ ys) p.0 ∙ ap (before_first_line x) (lines_rest (y ∷ ys) p.1 (omega arith))
 
-last_lines : (p : Place) (rest : List ℕ) → no_feed rest ≡ true → after_lines p (lines rest) ≡ last_place (record { place = p; rest = rest }) rest
-last_lines p [] h = refl
-last_lines p (x ∷ xs) h = ap (after_lines p) (lines_rest (x ∷ xs) h (omega arith)) ∙ one (next p (x ∷ xs)) where
-  one : (r : Result Place TextFault) → (r >>= λ q. after_lines q []) ≡ r
+last_lines : (most : ℕ) (p : Place) (rest : List ℕ) → no_feed rest ≡ true → after_lines most p (lines rest) ≡ last_place most (record { place = p; rest = rest }) rest
+last_lines most p [] h = refl
+last_lines most p (x ∷ xs) h = ap (after_lines most p) (lines_rest (x ∷ xs) h (omega arith)) ∙ one (next most p (x ∷ xs)) where
+  one : (r : Result Place TextFault) → (r >>= λ q. after_lines most q []) ≡ r
   one (Ok q) = refl
   one (Err f) = refl
 
-pub reading-ending : (h : Held) (b : List ℕ) → StandsFor h b → reading b ≡ ending h
-reading-ending h b s =
-    let all = reading_from h b [] s in
-    let same : after_lines start (lines b) ≡ last_place h h.rest =
-    ap (λ xs. after_lines start (lines xs)) (sym (append-nil b)) ∙ all ∙ ap (λ xs. after_lines h.place (lines xs)) (append-nil h.rest) ∙ last_lines h.place h.rest s.unfinished in
+pub reading-ending : (most : ℕ) (h : Held) (b : List ℕ) → StandsFor most h b → reading most b ≡ ending most h
+reading-ending most h b s =
+    let all = reading_from most h b [] s in
+    let same : after_lines most start (lines b) ≡ last_place most h h.rest =
+    ap (λ xs. after_lines most start (lines xs)) (sym (append-nil b)) ∙ all ∙ ap (λ xs. after_lines most h.place (lines xs)) (append-nil h.rest) ∙ last_lines most h.place h.rest s.unfinished in
     ap (λ (r : Result Place TextFault). r >>= λ p. ended p p.stage) same
 
 -- ---- the line that is being read
 
-pub IsReadAt-stands : (h : Held) (b : List ℕ) (line : ℕ) → StandsFor h b → line ≡ h.place.count + 1 → IsReadAt b line
-IsReadAt-stands h b line s is more = record {
+pub IsReadAt-stands : (most : ℕ) (h : Held) (b : List ℕ) (line : ℕ) → StandsFor most h b → line ≡ h.place.count + 1 → IsReadAt most b line
+IsReadAt-stands most h b line s is more = record {
   before = s.complete;
   after = lines (h.rest ++ more);
   stage = h.place.stage;
@@ -206,16 +206,16 @@ IsReadAt-stands h b line s is more = record {
   number = is ∙ ap (λ n. n + 1) s.place_is.count;
 }
 
-pub IsReadAt-more : (b piece : List ℕ) (line : ℕ) → IsReadAt b line → IsReadAt (b ++ piece) line
-IsReadAt-more b piece line h more = subst (λ (text : List ℕ). IsReadUpTo text line) (sym (append_assoc b piece more)) (h (piece ++ more))
+pub IsReadAt-more : (most : ℕ) (b piece : List ℕ) (line : ℕ) → IsReadAt most b line → IsReadAt most (b ++ piece) line
+IsReadAt-more most b piece line h more = subst (λ (text : List ℕ). IsReadUpTo most text line) (sym (append_assoc b piece more)) (h (piece ++ more))
 
 -- the line that was begun when a part of the piece had come
-pub line_of_part : (h0 h : Held) (done left b : List ℕ) (line : ℕ) → Comes h0 done h → StandsFor h0 b → line ≡ h.place.count + 1 → IsReadAt (b ++ (done ++ left)) line
-line_of_part h0 h done left b line c s is =
-    subst (λ (bytes : List ℕ). IsReadAt bytes line) (append_assoc b done left) (IsReadAt-more (b ++ done) left line (IsReadAt-stands h (b ++ done) line (c b s) is))
+pub line_of_part : (most : ℕ) (h0 h : Held) (done left b : List ℕ) (line : ℕ) → Comes most h0 done h → StandsFor most h0 b → line ≡ h.place.count + 1 → IsReadAt most (b ++ (done ++ left)) line
+line_of_part most h0 h done left b line c s is =
+    subst (λ (bytes : List ℕ). IsReadAt most bytes line) (append_assoc b done left) (IsReadAt-more most (b ++ done) left line (IsReadAt-stands most h (b ++ done) line (c b s) is))
 
 -- what an unfinished line has however it goes on, it has where it ends here
-pub faulty_line : (h : Held) (line : List ℕ) (f : TextFault) → IsPast (record { place = h.place; rest = h.rest ++ line }) f → with_line h line ≡ Err f
-faulty_line h line f past =
-    let here : next h.place (h.rest ++ line) ≡ Err f = ap (next h.place) (sym (append-nil (h.rest ++ line))) ∙ past [] in
+pub faulty_line : (most : ℕ) (h : Held) (line : List ℕ) (f : TextFault) → IsPast most (record { place = h.place; rest = h.rest ++ line }) f → with_line most h line ≡ Err f
+faulty_line most h line f past =
+    let here : next most h.place (h.rest ++ line) ≡ Err f = ap (next most h.place) (sym (append-nil (h.rest ++ line))) ∙ past [] in
     ap (λ (r : Result Place TextFault). r >>= λ p. Ok (record { place = p; rest = [] })) here

@@ -4,28 +4,28 @@ use Rattle.std.specs.Prelude.{IfSome}
 use Rattle.std.specs.Io.KnownBytes.{Consumes}
 use Rattle.causal_text.specs.declared.before.Rejected.{Rejected}
 use Rattle.causal_text.specs.declared.kind.TextKind.TheVariants.{NoMemory}
-use Rattle.causal_text.specs.Before.{IsKept, IsRejection}
+use Rattle.causal_text.specs.Before.{IsKeptWithin, IsRejectionWithin}
 use Rattle.causal_text.specs.Spelling.{IsReadAt}
 use Rattle.causal_text.specs.Streams.{IsFaultAfter, PieceEndsAt}
 use Rattle.causal_text.specs.Inside.Kept.{IsKeptAfter}
 use Rattle.causal_text.proofs.BeforeLemmas.{kept_of_source}
 use Rattle.causal_text.proofs.StreamLemmas.{Consumes-then, first_of_source, line_of_source}
 
-together : (known mid left : Option (List ℕ)) (read piece : List ℕ) (rejected : Rejected) → Consumes known mid read → Consumes mid left piece → PieceEndsAt piece left
-    → (rejected.fault.kind ≢ NoMemory → IsFaultAfter piece (read ++ piece) rejected.fault) → (rejected.fault.kind ≡ NoMemory → IsReadAt (read ++ piece) rejected.fault.line)
-    → IfSome known (λ text. IsKept text rejected) → IfSome known (λ text. IsRejection text rejected)
-together None mid left read piece rejected p q ends first line kept = tt
-together (Some text) mid left read piece rejected p q ends first line kept =
+together : (most : ℕ) (known mid left : Option (List ℕ)) (read piece : List ℕ) (rejected : Rejected) → Consumes known mid read → Consumes mid left piece → PieceEndsAt piece left
+    → (rejected.fault.kind ≢ NoMemory → IsFaultAfter most piece (read ++ piece) rejected.fault) → (rejected.fault.kind ≡ NoMemory → IsReadAt most (read ++ piece) rejected.fault.line)
+    → IfSome known (λ text. IsKeptWithin most text rejected) → IfSome known (λ text. IsRejectionWithin most text rejected)
+together most None mid left read piece rejected p q ends first line kept = tt
+together most (Some text) mid left read piece rejected p q ends first line kept =
     let all = Consumes-then (Some text) mid left read piece p q in
     record {
-      first = λ other. first_of_source text read piece left rejected.fault all ends (first other);
-      memory = λ wants. line_of_source text read piece left rejected.fault.line all (line wants);
+      first = λ other. first_of_source most text read piece left rejected.fault all ends (first other);
+      memory = λ wants. line_of_source most text read piece left rejected.fault.line all (line wants);
       kept = kept;
     }
 
 -- what was told of the bytes read is told of the text
-pub rejects : (known mid left : Option (List ℕ)) (read piece : List ℕ) (rejected : Rejected) → Consumes known mid read → Consumes mid left piece → PieceEndsAt piece left
-    → (rejected.fault.kind ≢ NoMemory → IsFaultAfter piece (read ++ piece) rejected.fault) → (rejected.fault.kind ≡ NoMemory → IsReadAt (read ++ piece) rejected.fault.line)
-    → IsKeptAfter piece (read ++ piece) rejected → IfSome known (λ text. IsRejection text rejected)
-rejects known mid left read piece rejected p q ends first line kept =
-    together known mid left read piece rejected p q ends first line (kept_of_source known mid left read piece rejected p q ends kept)
+pub rejects : (most : ℕ) (known mid left : Option (List ℕ)) (read piece : List ℕ) (rejected : Rejected) → Consumes known mid read → Consumes mid left piece → PieceEndsAt piece left
+    → (rejected.fault.kind ≢ NoMemory → IsFaultAfter most piece (read ++ piece) rejected.fault) → (rejected.fault.kind ≡ NoMemory → IsReadAt most (read ++ piece) rejected.fault.line)
+    → IsKeptAfter most piece (read ++ piece) rejected → IfSome known (λ text. IsRejectionWithin most text rejected)
+rejects most known mid left read piece rejected p q ends first line kept =
+    together most known mid left read piece rejected p q ends first line (kept_of_source most known mid left read piece rejected p q ends kept)

@@ -66,7 +66,7 @@ shape_compact (shape.End count) = refl
 below : (n limit : ℕ) → n < limit → nat_lt n limit ≡ true
 below n limit h = lt-ltb n limit h
 
-wide : (n : ℕ) → n < 65536 → nat_lt n (2 ^ 32) ≡ true
+wide : (n : ℕ) → n < 16777216 → nat_lt n (2 ^ 32) ≡ true
 wide n h = lt-ltb n (2 ^ 32) (omega (arith, h))
 
 abbrev pub ShapeFits : Shape → Type 0

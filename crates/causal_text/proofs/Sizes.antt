@@ -1,6 +1,8 @@
 -- The canonical text of a recording with small numbers is within the limit.
-use Rattle.std.proofs.Common.{◌≡◌, ℕ, ◌+◌, ◌*◌, ◌<◌, ◌≤◌, List, [], ◌∷◌, ◌++◌, length, ap, ◌∙◌, arith, length-append, append-nil}
+use Rattle.std.proofs.Common.{◌≡◌, ℕ, ◌+◌, ◌*◌, ◌<◌, ◌≤◌, List, [], ◌∷◌, ◌++◌, length, None, true, inl, inr, refl, sym, ap, ◌∙◌, arith, length-append, append-nil}
 use Rattle.std.specs.Prelude.{codes, decimal, reverse}
+use Rattle.std.proofs.lemmas.Bool.{false≢true}
+use Rattle.std.proofs.lemmas.Bool.Decides.{leb_tells}
 use Rattle.std.proofs.lemmas.Fmt.{length-decimal-le}
 use Rattle.std.proofs.lemmas.List.{reverse-append}
 use Rattle.std.proofs.lemmas.List.Concat.{flat_map-append, flat_map-cons}
@@ -8,13 +10,15 @@ use Rattle.causal_name.specs.declared.Det.{Det}
 use Rattle.causal_trace.specs.declared.entry.Entry.{Entry}
 use Rattle.causal_trace.specs.declared.entry.Entry.TheVariants.{Send, Deliver, Stable, Crash, Restart, Forget}
 use Rattle.causal_trace.specs.Past.{listed_by, listed_in}
-use Rattle.causal_trace.specs.Rows.{Recording}
+use Rattle.causal_trace.specs.declared.fault.TraceFault.TheVariants.{NoSend, NotDown, NoDelivery}
+use Rattle.causal_trace.specs.Rows.{Recording, rows, first_fault, AreAccepted, IsWellFormed, IsWithin}
+use Rattle.causal_trace.proofs.Lemmas.Accepted.{row_fails}
 use Rattle.causal_trace.specs.Sizes.{DetIsSmall, DetsAreSmall, EntryIsSmall, EntriesAreSmall}
 use Rattle.causal_text.specs.declared.shape.Shape.TheVariants as shape
 use Rattle.causal_text.specs.declared.version.Version.{Version}
 use Rattle.causal_text.specs.declared.version.Version.TheVariants.{One, Two}
 use Rattle.causal_text.specs.Canonical.{det_text, more_dets_text, dets_text, entry_text, entries_text, line_text, canonical, canonical_version}
-use Rattle.causal_text.specs.Stages.{max_text}
+use Rattle.causal_text.specs.Stages.{text_within}
 use Rattle.causal_text.specs.Versions.{number_of}
 use Rattle.causal_text.proofs.Texts.{canonical_parts}
 
@@ -24,26 +28,26 @@ digits_at_most k n rest m p q = omega (arith, length-append (decimal n) rest)
 three : (n : ℕ) → n ≤ 256 → length (decimal n) ≤ 3
 three n h = length-decimal-le 3 n (omega arith) (omega arith) (omega arith)
 
-five : (n : ℕ) → n ≤ 65536 → length (decimal n) ≤ 5
-five n h = length-decimal-le 5 n (omega arith) (omega arith) (omega arith)
+eight : (n : ℕ) → n ≤ 16777216 → length (decimal n) ≤ 8
+eight n h = length-decimal-le 8 n (omega arith) (omega arith) (omega arith)
 
 -- a process, and what follows it
 process : (p limit : ℕ) (rest : List ℕ) (m : ℕ) → limit ≤ 256 → p < limit → length rest ≤ m → length (decimal p ++ rest) ≤ 3 + m
 process p limit rest m few h q = digits_at_most 3 p rest m (three p (omega (arith, few, h))) q
 
 -- another number, and what follows it
-counted : (n : ℕ) (rest : List ℕ) (m : ℕ) → n < 65536 → length rest ≤ m → length (decimal n ++ rest) ≤ 5 + m
-counted n rest m h q = digits_at_most 5 n rest m (five n (omega (arith, h))) q
+counted : (n : ℕ) (rest : List ℕ) (m : ℕ) → n < 16777216 → length rest ≤ m → length (decimal n ++ rest) ≤ 8 + m
+counted n rest m h q = digits_at_most 8 n rest m (eight n (omega (arith, h))) q
 
-length-det : (d : Det) → DetIsSmall 256 d → length (det_text d) ≤ 21
+length-det : (d : Det) → DetIsSmall 256 d → length (det_text d) ≤ 27
 length-det d h =
     let r = counted d.rsn (93 ∷ []) 1 h.rsn (omega arith) in
-    let q = process d.dest.0 256 (44 ∷ (decimal d.rsn ++ 93 ∷ [])) 7 (omega arith) h.dest (omega arith) in
-    let s = counted d.ssn (44 ∷ (decimal d.dest.0 ++ 44 ∷ (decimal d.rsn ++ 93 ∷ []))) 11 h.ssn (omega arith) in
-    let p = process d.source.0 256 (44 ∷ (decimal d.ssn ++ 44 ∷ (decimal d.dest.0 ++ 44 ∷ (decimal d.rsn ++ 93 ∷ [])))) 17 (omega arith) h.source (omega arith) in
+    let q = process d.dest.0 256 (44 ∷ (decimal d.rsn ++ 93 ∷ [])) 10 (omega arith) h.dest (omega arith) in
+    let s = counted d.ssn (44 ∷ (decimal d.dest.0 ++ 44 ∷ (decimal d.rsn ++ 93 ∷ []))) 14 h.ssn (omega arith) in
+    let p = process d.source.0 256 (44 ∷ (decimal d.ssn ++ 44 ∷ (decimal d.dest.0 ++ 44 ∷ (decimal d.rsn ++ 93 ∷ [])))) 23 (omega arith) h.source (omega arith) in
     omega arith
 
-length-more : (ds : List Det) → DetsAreSmall 256 ds → length (more_dets_text ds) ≤ 22 * length ds
+length-more : (ds : List Det) → DetsAreSmall 256 ds → length (more_dets_text ds) ≤ 28 * length ds
 length-more [] h = omega arith
 length-more (d ∷ ds) h =
     let one = length-det d h.0 in
@@ -51,7 +55,7 @@ length-more (d ∷ ds) h =
     let sum = length-append (det_text d) (more_dets_text ds) in
     omega arith
 
-length-dets : (ds : List Det) → DetsAreSmall 256 ds → length (dets_text ds) ≤ 22 * length ds + 2
+length-dets : (ds : List Det) → DetsAreSmall 256 ds → length (dets_text ds) ≤ 28 * length ds + 2
 length-dets [] h = omega arith
 length-dets (d ∷ ds) h =
     let one = length-det d h.0 in
@@ -61,25 +65,25 @@ length-dets (d ∷ ds) h =
     omega arith
 
 -- a process and a list, which ends the entry
-length-listing : (p : ℕ) (ds : List Det) → p < 256 → DetsAreSmall 256 ds → length (decimal p ++ (44 ∷ (dets_text ds ++ 93 ∷ []))) ≤ 22 * length ds + 7
+length-listing : (p : ℕ) (ds : List Det) → p < 256 → DetsAreSmall 256 ds → length (decimal p ++ (44 ∷ (dets_text ds ++ 93 ∷ []))) ≤ 28 * length ds + 7
 length-listing p ds low h =
     let d = length-dets ds h in
     let e = length-append (dets_text ds) (codes "]") in
-    let a = process p 256 (44 ∷ (dets_text ds ++ 93 ∷ [])) (22 * length ds + 4) (omega arith) low (omega arith) in
+    let a = process p 256 (44 ∷ (dets_text ds ++ 93 ∷ [])) (28 * length ds + 4) (omega arith) low (omega arith) in
     omega arith
 
-length-entry : (e : Entry) → EntryIsSmall 256 e → length (entry_text e) ≤ 22 * length (listed_by e) + 32
+length-entry : (e : Entry) → EntryIsSmall 256 e → length (entry_text e) ≤ 28 * length (listed_by e) + 38
 length-entry (Send from to ssn) h =
     let c = counted ssn (93 ∷ []) 1 h.2 (omega arith) in
-    let b = process to.0 256 (44 ∷ (decimal ssn ++ 93 ∷ [])) 7 (omega arith) h.1 (omega arith) in
-    let a = process from.0 256 (44 ∷ (decimal to.0 ++ 44 ∷ (decimal ssn ++ 93 ∷ []))) 11 (omega arith) h.0 (omega arith) in
+    let b = process to.0 256 (44 ∷ (decimal ssn ++ 93 ∷ [])) 10 (omega arith) h.1 (omega arith) in
+    let a = process from.0 256 (44 ∷ (decimal to.0 ++ 44 ∷ (decimal ssn ++ 93 ∷ []))) 14 (omega arith) h.0 (omega arith) in
     omega arith
 length-entry (Deliver to send rsn listed) h =
     let d = length-dets listed h.3 in
     let e = length-append (dets_text listed) (codes "]") in
-    let c = counted rsn (44 ∷ (dets_text listed ++ 93 ∷ [])) (22 * length listed + 4) h.2 (omega arith) in
-    let b = counted send (44 ∷ (decimal rsn ++ 44 ∷ (dets_text listed ++ 93 ∷ []))) (22 * length listed + 10) h.1 (omega arith) in
-    let a = process to.0 256 (44 ∷ (decimal send ++ 44 ∷ (decimal rsn ++ 44 ∷ (dets_text listed ++ 93 ∷ [])))) (22 * length listed + 16) (omega arith) h.0 (omega arith) in
+    let c = counted rsn (44 ∷ (dets_text listed ++ 93 ∷ [])) (28 * length listed + 4) h.2 (omega arith) in
+    let b = counted send (44 ∷ (decimal rsn ++ 44 ∷ (dets_text listed ++ 93 ∷ []))) (28 * length listed + 13) h.1 (omega arith) in
+    let a = process to.0 256 (44 ∷ (decimal send ++ 44 ∷ (decimal rsn ++ 44 ∷ (dets_text listed ++ 93 ∷ [])))) (28 * length listed + 22) (omega arith) h.0 (omega arith) in
     omega arith
 length-entry (Stable det) h =
     let one = length-det det h in
@@ -103,7 +107,7 @@ entries_text-last e past =
     ∙ flat_map-append (λ x. entry_text x ++ codes "\n") (reverse past) (e ∷ [])
     ∙ ap (λ xs. entries_text (reverse past) ++ xs) (flat_map-cons (λ x. entry_text x ++ codes "\n") e [] ∙ append-nil _)
 
-length-entries : (past : List Entry) → EntriesAreSmall 256 (reverse past) → length (entries_text (reverse past)) ≤ 22 * listed_in past + 33 * length past
+length-entries : (past : List Entry) → EntriesAreSmall 256 (reverse past) → length (entries_text (reverse past)) ≤ 28 * listed_in past + 39 * length past
 length-entries [] h = omega arith
 length-entries (e ∷ past) h =
     let small = all_but_last (reverse past) e (rw (reverse-append (e ∷ []) past) at h) in
@@ -126,14 +130,14 @@ header_short version n h =
     let line = length-append (codes "[\"trace\"," ++ (decimal number ++ (codes "," ++ (decimal n ++ codes "]")))) (codes "\n") in
     omega arith
 
-end_short : (count : ℕ) → count ≤ 65536 → length (line_text (shape.End count)) ≤ 20
+end_short : (count : ℕ) → count ≤ 16777216 → length (line_text (shape.End count)) ≤ 20
 end_short count h =
-    let a = digits_at_most 5 count (93 ∷ []) 1 (five count h) (omega arith) in
+    let a = digits_at_most 8 count (93 ∷ []) 1 (eight count h) (omega arith) in
     let line = length-append (codes "[\"end\"," ++ (decimal count ++ codes "]")) (codes "\n") in
     omega arith
 
-pub length-canonical : (r : Recording) → r.processes ≤ 256 → EntriesAreSmall 256 (reverse r.past) → length r.past ≤ 65536 → listed_in r.past ≤ 1048576 → length (canonical r) ≤ max_text
-length-canonical r few small short listed =
+length-whole : (r : Recording) → r.processes ≤ 256 → EntriesAreSmall 256 (reverse r.past) → length r.past ≤ 16777216 → length (canonical r) ≤ 28 * listed_in r.past + 39 * length r.past + 40
+length-whole r few small short =
     let version = canonical_version r in
     let whole : length (canonical r) ≡ length (line_text (shape.Header (number_of version) r.processes) ++ (entries_text (reverse r.past) ++ line_text (shape.End (length r.past)))) = ap length (canonical_parts r) in
     let first = header_short version r.processes few in
@@ -142,3 +146,28 @@ length-canonical r few small short listed =
     let sum = length-append (line_text (shape.Header (number_of version) r.processes)) (entries_text (reverse r.past) ++ line_text (shape.End (length r.past))) in
     let tail = length-append (entries_text (reverse r.past)) (line_text (shape.End (length r.past))) in
     omega arith
+
+-- the first entry of a run lists nothing
+first_lists : (n : ℕ) (e : Entry) → first_fault n [] e ≡ None → length (listed_by e) ≡ 0
+unfolding rows
+first_lists n (Send from to ssn) h = refl
+first_lists n (Deliver to send rsn listed) h = absurd (false≢true (sym (row_fails (rows n [] (Deliver to send rsn listed)) h 3 (true, NoSend) refl)))
+first_lists n (Stable det) h = refl
+first_lists n (Crash who) h = refl
+first_lists n (Restart who listed) h = absurd (false≢true (sym (row_fails (rows n [] (Restart who listed)) h 2 (true, NotDown) refl)))
+first_lists n (Forget who []) h = refl
+first_lists n (Forget who (d ∷ ds)) h = absurd (false≢true (sym (row_fails (rows n [] (Forget who (d ∷ ds))) h 4 (true, NoDelivery) refl)))
+
+one_lists : (n : ℕ) (past : List Entry) → AreAccepted n past → length past ≤ 1 → listed_in past ≡ 0
+one_lists n [] h few = refl
+one_lists n (e ∷ []) h few = omega (arith, first_lists n e h.1)
+one_lists n (e ∷ f ∷ past) h few = absurd (omega (arith, few))
+
+-- so the text has at most 512 bytes for each entry that a limit allows
+pub length-canonical : (most : ℕ) (r : Recording) → 1 ≤ most → IsWellFormed r → IsWithin most r → EntriesAreSmall 256 (reverse r.past) → length r.past ≤ 16777216 → length (canonical r) ≤ text_within most
+length-canonical most r some formed kept small short =
+    let whole = length-whole r formed.count.1 small short in
+    elim (leb_tells 2 most) [
+      | inl le ↦ omega (arith, whole, le.1, kept.few, kept.listed)
+      | inr gt ↦ omega (arith, whole, gt.1, kept.few, one_lists r.processes r.past formed.accepted (omega (arith, gt.1, kept.few)))
+    ]

@@ -15,7 +15,7 @@ use Rattle.causal_text.specs.Place.{Place, IsPlaceAfter}
 use Rattle.causal_text.specs.Inside.LineByLine.{start, ◌at◌, next, after_lines, ended, reading}
 use Rattle.causal_text.specs.Reading.{◌>>=◌}
 use Rattle.causal_text.specs.Stages.{line_shape, after_line}
-use Rattle.causal_text.specs.Spelling.{said, Spells, LeadsTo, IsOpen, IsFirstFault}
+use Rattle.causal_text.specs.Spelling.{said, SpellsWithin, LeadsTo, IsOpen, IsFirstFaultWithin}
 use Rattle.causal_text.proofs.Joined.{sum_by-lines}
 use Rattle.causal_text.proofs.Steps.{bind_ok, Accepted-line}
 
@@ -34,51 +34,51 @@ at_err (Err k) line e h =
     let same : record { line = line; kind = k } ≡ e = cc in
     (ap (λ (f : TextFault). Err f.kind) same, sym (ap (λ (f : TextFault). f.line) same))
 
-pub IsPlaceAfter-start : IsPlaceAfter [] start
-IsPlaceAfter-start = record { reaches = record { said = refl; sound = tt; within = omega arith }; count = refl; size = refl }
+pub IsPlaceAfter-start : (most : ℕ) → IsPlaceAfter most [] start
+IsPlaceAfter-start most = record { reaches = record { said = refl; sound = tt; within = omega arith }; count = refl; size = refl }
 
-LeadsTo-line : (before : List (List ℕ)) (s : Stage) (line : List ℕ) (t : Stage) → LeadsTo before s → after_line s (sum_by length before + length line) line ≡ Ok t → LeadsTo (before ++ line ∷ []) t
-LeadsTo-line before s line t r h =
-    let a = Accepted-line s _ line t r.sound h in
+LeadsTo-line : (most : ℕ) (before : List (List ℕ)) (s : Stage) (line : List ℕ) (t : Stage) → LeadsTo most before s → after_line most s (sum_by length before + length line) line ≡ Ok t → LeadsTo most (before ++ line ∷ []) t
+LeadsTo-line most before s line t r h =
+    let a = Accepted-line most s _ line t r.sound h in
     record {
       said = map-append line_shape before (line ∷ []) ∙ rw (r.said, a.reads) (rw (a.adds.more) (sym (map-append Ok (said s) (a.spoken ∷ []))));
       sound = a.adds.sound;
       within = rw (sum_by_push length before line) a.within;
     }
 
-pub IsPlaceAfter-next : (before : List (List ℕ)) (p q : Place) (line : List ℕ) → IsPlaceAfter before p → next p line ≡ Ok q → IsPlaceAfter (before ++ line ∷ []) q
-IsPlaceAfter-next before p q line st h =
-    let step = bind_ok (after_line p.stage (p.size + length line) line at (p.count + 1)) _ q h in
-    let taken = at_ok (after_line p.stage (p.size + length line) line) (p.count + 1) step.0 step.1 in
+pub IsPlaceAfter-next : (most : ℕ) (before : List (List ℕ)) (p q : Place) (line : List ℕ) → IsPlaceAfter most before p → next most p line ≡ Ok q → IsPlaceAfter most (before ++ line ∷ []) q
+IsPlaceAfter-next most before p q line st h =
+    let step = bind_ok (after_line most p.stage (p.size + length line) line at (p.count + 1)) _ q h in
+    let taken = at_ok (after_line most p.stage (p.size + length line) line) (p.count + 1) step.0 step.1 in
     let there : record { stage = step.0; count = p.count + 1; size = p.size + length line } ≡ q = cc in
-    subst (λ (u : Place). IsPlaceAfter (before ++ line ∷ []) u) there (record {
-      reaches = LeadsTo-line before p.stage line step.0 st.reaches (rw (← st.size) taken);
+    subst (λ (u : Place). IsPlaceAfter most (before ++ line ∷ []) u) there (record {
+      reaches = LeadsTo-line most before p.stage line step.0 st.reaches (rw (← st.size) taken);
       count = rw (st.count, length-append before (line ∷ [])) refl;
       size = rw (st.size, sum_by_push length before line) refl;
     })
 
-pub IsPlaceAfter-lines : (before ls : List (List ℕ)) (p q : Place) → IsPlaceAfter before p → after_lines p ls ≡ Ok q → IsPlaceAfter (before ++ ls) q
-IsPlaceAfter-lines before [] p q st h =
-    let same : p ≡ q = cc in rw append-nil (subst (λ (u : Place). IsPlaceAfter before u) same st)
-IsPlaceAfter-lines before (l ∷ ls) p q st h =
-    let step = bind_ok (next p l) (λ x. after_lines x ls) q h in
-    rw (← append_assoc before (l ∷ []) ls) (IsPlaceAfter-lines (before ++ l ∷ []) ls step.0 q (IsPlaceAfter-next before p step.0 l st step.1) step.2)
+pub IsPlaceAfter-lines : (most : ℕ) (before ls : List (List ℕ)) (p q : Place) → IsPlaceAfter most before p → after_lines most p ls ≡ Ok q → IsPlaceAfter most (before ++ ls) q
+IsPlaceAfter-lines most before [] p q st h =
+    let same : p ≡ q = cc in rw append-nil (subst (λ (u : Place). IsPlaceAfter most before u) same st)
+IsPlaceAfter-lines most before (l ∷ ls) p q st h =
+    let step = bind_ok (next most p l) (λ x. after_lines most x ls) q h in
+    rw (← append_assoc before (l ∷ []) ls) (IsPlaceAfter-lines most (before ++ l ∷ []) ls step.0 q (IsPlaceAfter-next most before p step.0 l st step.1) step.2)
 
 -- the first line that has a fault
-pub record Breaks (before ls : List (List ℕ)) (fault : TextFault) : Type 0 where
+pub record Breaks (most : ℕ) (before ls : List (List ℕ)) (fault : TextFault) : Type 0 where
   pub front : List (List ℕ)
   pub line : List ℕ
   pub after : List (List ℕ)
   pub stage : Stage
   pub split : before ++ ls ≡ front ++ line ∷ after
-  pub reaches : LeadsTo front stage
-  pub faulty : after_line stage (sum_by length front + length line) line ≡ Err fault.kind
+  pub reaches : LeadsTo most front stage
+  pub faulty : after_line most stage (sum_by length front + length line) line ≡ Err fault.kind
   pub number : fault.line ≡ length front + 1
 
-Breaks-here : (before ls : List (List ℕ)) (p : Place) (line : List ℕ) (e : TextFault) → IsPlaceAfter before p → next p line ≡ Err e → Breaks before (line ∷ ls) e
-Breaks-here before ls p line e st h =
-    elim (bind_err (after_line p.stage (p.size + length line) line at (p.count + 1)) _ e h) [
-      | inl is ↦ (let parts = at_err (after_line p.stage (p.size + length line) line) (p.count + 1) e is in record {
+Breaks-here : (most : ℕ) (before ls : List (List ℕ)) (p : Place) (line : List ℕ) (e : TextFault) → IsPlaceAfter most before p → next most p line ≡ Err e → Breaks most before (line ∷ ls) e
+Breaks-here most before ls p line e st h =
+    elim (bind_err (after_line most p.stage (p.size + length line) line at (p.count + 1)) _ e h) [
+      | inl is ↦ (let parts = at_err (after_line most p.stage (p.size + length line) line) (p.count + 1) e is in record {
         front = before;
         line = line;
         after = ls;
@@ -91,12 +91,12 @@ Breaks-here before ls p line e st h =
       | inr is ↦ absurd (let no : Ok (record { stage = is.0; count = p.count + 1; size = p.size + length line }) ≡ Err e = is.2 in cc)
     ]
 
-Breaks-lines : (before ls : List (List ℕ)) (p : Place) (e : TextFault) → IsPlaceAfter before p → after_lines p ls ≡ Err e → Breaks before ls e
-Breaks-lines before [] p e st h = absurd (let no : Ok p ≡ Err e = h in cc)
-Breaks-lines before (l ∷ ls) p e st h =
-    elim (bind_err (next p l) (λ x. after_lines x ls) e h) [
-      | inl is ↦ Breaks-here before ls p l e st is
-      | inr is ↦ (let later = Breaks-lines (before ++ l ∷ []) ls is.0 e (IsPlaceAfter-next before p is.0 l st is.1) is.2 in record {
+Breaks-lines : (most : ℕ) (before ls : List (List ℕ)) (p : Place) (e : TextFault) → IsPlaceAfter most before p → after_lines most p ls ≡ Err e → Breaks most before ls e
+Breaks-lines most before [] p e st h = absurd (let no : Ok p ≡ Err e = h in cc)
+Breaks-lines most before (l ∷ ls) p e st h =
+    elim (bind_err (next most p l) (λ x. after_lines most x ls) e h) [
+      | inl is ↦ Breaks-here most before ls p l e st is
+      | inr is ↦ (let later = Breaks-lines most (before ++ l ∷ []) ls is.0 e (IsPlaceAfter-next most before p is.0 l st is.1) is.2 in record {
         front = later.front;
         line = later.line;
         after = later.after;
@@ -115,21 +115,22 @@ ended_ok p Opening r h = absurd (let no : Err (record { line = p.count + 1; kind
 ended_ok p (Within version q) r h = absurd (let no : Err (record { line = p.count + 1; kind = kind.Cut }) ≡ Ok r = h in cc)
 ended_ok p (Ended version q) r h = let same : q ≡ r = cc in (version, ap (Ended version) same)
 
-Spells-reached : (text : List ℕ) (version : Version) (r : Recording) → LeadsTo (lines text) (Ended version r) → Spells text r
-Spells-reached text version r reached = record {
+Spells-reached : (most : ℕ) (text : List ℕ) (version : Version) (r : Recording) → LeadsTo most (lines text) (Ended version r) → SpellsWithin most text r
+Spells-reached most text version r reached = record {
   version = version;
   fits = reached.sound.1;
   well_formed = reached.sound.0;
+  kept = reached.sound.2;
   said = reached.said;
   within = rw sum_by-lines at reached.within;
 }
 
-pub Spells-reading : (text : List ℕ) (r : Recording) → reading text ≡ Ok r → Spells text r
-Spells-reading text r h =
-    let step = bind_ok (after_lines start (lines text)) _ r h in
-    let stands = IsPlaceAfter-lines [] (lines text) start step.0 IsPlaceAfter-start step.1 in
+pub Spells-reading : (most : ℕ) (text : List ℕ) (r : Recording) → reading most text ≡ Ok r → SpellsWithin most text r
+Spells-reading most text r h =
+    let step = bind_ok (after_lines most start (lines text)) _ r h in
+    let stands = IsPlaceAfter-lines most [] (lines text) start step.0 (IsPlaceAfter-start most) step.1 in
     let last = ended_ok step.0 step.0.stage r step.2 in
-    Spells-reached text last.0 r (subst (λ (s : Stage). LeadsTo (lines text) s) last.1 stands.reaches)
+    Spells-reached most text last.0 r (subst (λ (s : Stage). LeadsTo most (lines text) s) last.1 stands.reaches)
 
 -- ---- a fault that reading gives is the first
 
@@ -138,10 +139,10 @@ cut_parts p Opening e h = let same : record { line = p.count + 1; kind = kind.Cu
 cut_parts p (Within version q) e h = let same : record { line = p.count + 1; kind = kind.Cut } ≡ e = cc in (tt, sym (ap (λ (f : TextFault). f.line) same), sym (ap (λ (f : TextFault). f.kind) same))
 cut_parts p (Ended version q) e h = absurd (let no : Ok q ≡ Err e = h in cc)
 
-pub IsFirstFault-reading : (text : List ℕ) (e : TextFault) → reading text ≡ Err e → IsFirstFault text e
-IsFirstFault-reading text e h =
-    elim (bind_err (after_lines start (lines text)) _ e h) [
-      | inl is ↦ (let b = Breaks-lines [] (lines text) start e IsPlaceAfter-start is in inl (record {
+pub IsFirstFault-reading : (most : ℕ) (text : List ℕ) (e : TextFault) → reading most text ≡ Err e → IsFirstFaultWithin most text e
+IsFirstFault-reading most text e h =
+    elim (bind_err (after_lines most start (lines text)) _ e h) [
+      | inl is ↦ (let b = Breaks-lines most [] (lines text) start e (IsPlaceAfter-start most) is in inl (record {
         before = b.front;
         line = b.line;
         after = b.after;
@@ -151,7 +152,7 @@ IsFirstFault-reading text e h =
         faulty = b.faulty;
         number = b.number;
       }))
-      | inr is ↦ (let stands = IsPlaceAfter-lines [] (lines text) start is.0 IsPlaceAfter-start is.1 in
+      | inr is ↦ (let stands = IsPlaceAfter-lines most [] (lines text) start is.0 (IsPlaceAfter-start most) is.1 in
           let parts = cut_parts is.0 is.0.stage e is.2 in inr (record {
             stage = is.0.stage;
             reaches = stands.reaches;

@@ -1,9 +1,9 @@
 -- What one accepted line adds.
-use Rattle.std.proofs.Common.{◌≡◌, ℕ, ◌+◌, ◌≤◌, List, [], ◌∷◌, ◌++◌, length, Bool, true, false, cond, Option, Some, None, Ok, Err, refl, ap, ◌∙◌, arith, subst}
+use Rattle.std.proofs.Common.{◌≡◌, ℕ, suc, ◌+◌, ◌≤◌, List, [], ◌∷◌, ◌++◌, length, Bool, true, false, cond, Option, Some, None, Ok, Err, refl, ap, ◌∙◌, arith, subst}
 use Rattle.std.specs.Prelude.{Result, ◌==◌, nat_lt, nat_le, ◌&&◌, map, reverse}
 use Rattle.std.proofs.lemmas.Bool.{eqb-true, leb-true, leb-false}
 use Rattle.std.proofs.lemmas.List.{map-append, reverse-append}
-use Rattle.causal_trace.specs.Rows.{Recording, first_fault}
+use Rattle.causal_trace.specs.Rows.{Recording, fault_within}
 use Rattle.causal_trace.specs.State.{with_entry}
 use Rattle.causal_trace.specs.declared.entry.Entry.{Entry}
 use Rattle.causal_trace.specs.declared.fault.TraceFault.{TraceFault}
@@ -16,9 +16,12 @@ use Rattle.causal_text.specs.declared.stage.Stage.TheVariants.{Opening, Within, 
 use Rattle.causal_text.specs.declared.version.Version.{Version}
 use Rattle.causal_text.specs.declared.version.Version.TheVariants.{One, Two}
 use Rattle.causal_text.specs.Reading.{◌>>=◌}
-use Rattle.causal_text.specs.Stages.{opened, kind_of, max_text, line_shape, begun, admitted, follow, within_limit, after_line}
-use Rattle.causal_text.specs.Versions.{number_of, most_processes, has_line}
+use Rattle.causal_text.specs.Stages.{opened, kind_of, text_within, line_shape, begun, admitted, follow, within_limit, after_line}
+use Rattle.causal_text.specs.Versions.{number_of, version_of, most_processes, has_line}
 use Rattle.causal_text.specs.Spelling.{said, IsSound}
+use Rattle.causal_trace.proofs.Lemmas.Formed.{rows_next, within_next, short_next}
+use Rattle.causal_trace.specs.Limits.{max_entries}
+use Rattle.causal_text.specs.Inside.LineByLine.{entries_in, lines_in}
 
 -- what was read to its end was read in both its parts
 pub bind_ok : {A B E : Type 0} (r : Result A E) (f : A → Result B E) (y : B) → (r >>= f) ≡ Ok y → (x : A) × (r ≡ Ok x) × (f x ≡ Ok y)
@@ -43,8 +46,8 @@ and_right true b h = h
 and_right false b h = absurd (let no : false ≡ true = h in cc)
 
 -- the shape comes last in what is said, and the stage is sound again
-pub record Adds (s : Stage) (x : Shape) (t : Stage) : Type 0 where
-  pub sound : IsSound t
+pub record Adds (most : ℕ) (s : Stage) (x : Shape) (t : Stage) : Type 0 where
+  pub sound : IsSound most t
   pub more : said t ≡ said s ++ x ∷ []
 
 -- the newest entry is said last
@@ -55,65 +58,115 @@ at_most_256 : (version : Version) (n : ℕ) → n ≤ most_processes version →
 at_most_256 One n h = omega (arith, h)
 at_most_256 Two n h = h
 
-is_begun : (version : Version) (n : ℕ) (t : Stage) → 1 ≤ n → n ≤ most_processes version → Within version (opened n) ≡ t → Adds Opening (shape.Header (number_of version) n) t
-is_begun version n t some few same =
-    subst (λ (u : Stage). Adds Opening (shape.Header (number_of version) n) u) same (record {
-      sound = (record { count = (some, at_most_256 version n few); accepted = tt }, record { few = few; entries = tt });
+is_begun : (most : ℕ) (version : Version) (n : ℕ) (t : Stage) → 1 ≤ n → n ≤ most_processes version → Within version (opened n) ≡ t → Adds most Opening (shape.Header (number_of version) n) t
+is_begun most version n t some few same =
+    subst (λ (u : Stage). Adds most Opening (shape.Header (number_of version) n) u) same (record {
+      sound = (record { count = (some, at_most_256 version n few); accepted = tt }, record { few = few; entries = tt }, record { few = omega arith; listed = omega arith });
       more = refl;
     })
 
-Adds-version : (version : Version) (n : ℕ) (t : Stage) → begun (Some version) n ≡ Ok t → Adds Opening (shape.Header (number_of version) n) t
-Adds-version version n t h =
+Adds-version : (most : ℕ) (version : Version) (n : ℕ) (t : Stage) → begun (Some version) n ≡ Ok t → Adds most Opening (shape.Header (number_of version) n) t
+Adds-version most version n t h =
     let p = passed (nat_le 1 n && nat_le n (most_processes version)) _ kind.Processes t h in
     let same : Within version (opened n) ≡ t = cc (p.1) in
-    is_begun version n t (leb-true 1 n (and_left _ _ p.0)) (leb-true n (most_processes version) (and_right (nat_le 1 n) _ p.0)) same
+    is_begun most version n t (leb-true 1 n (and_left _ _ p.0)) (leb-true n (most_processes version) (and_right (nat_le 1 n) _ p.0)) same
 
-Adds-begun : (number n : ℕ) (one two : Bool) (t : Stage) → (number == 1) ≡ one → (number == 2) ≡ two → begun (cond one (Some One) (cond two (Some Two) None)) n ≡ Ok t → Adds Opening (shape.Header number n) t
-Adds-begun number n true two t is other h = rw (eqb-true number 1 is) (Adds-version One n t h)
-Adds-begun number n false true t other is h = rw (eqb-true number 2 is) (Adds-version Two n t h)
-Adds-begun number n false false t other third h = absurd (let no : Err kind.Version ≡ Ok t = h in cc)
+Adds-begun : (most : ℕ) (number n : ℕ) (one two : Bool) (t : Stage) → (number == 1) ≡ one → (number == 2) ≡ two → begun (cond one (Some One) (cond two (Some Two) None)) n ≡ Ok t → Adds most Opening (shape.Header number n) t
+Adds-begun most number n true two t is other h = rw (eqb-true number 1 is) (Adds-version most One n t h)
+Adds-begun most number n false true t other is h = rw (eqb-true number 2 is) (Adds-version most Two n t h)
+Adds-begun most number n false false t other third h = absurd (let no : Err kind.Version ≡ Ok t = h in cc)
 
-Adds-admitted : (version : Version) (r : Recording) (e : Entry) (o : Option TraceFault) (t : Stage) → first_fault r.processes r.past e ≡ o → has_line version e ≡ true → IsSound (Within version r) → admitted version r e o ≡ Ok t → Adds (Within version r) (shape.Entry e) t
-Adds-admitted version r e None t is line w h =
+Adds-admitted : (most : ℕ) (version : Version) (r : Recording) (e : Entry) (o : Option TraceFault) (t : Stage) → fault_within most r e ≡ o → has_line version e ≡ true → IsSound most (Within version r) → admitted version r e o ≡ Ok t → Adds most (Within version r) (shape.Entry e) t
+Adds-admitted most version r e None t is line w h =
     let same : Within version (with_entry r e) ≡ t = cc in
-    subst (λ (u : Stage). Adds (Within version r) (shape.Entry e) u) same (record {
-      sound = (record { count = w.0.count; accepted = (w.0.accepted, is) }, record { few = w.1.few; entries = (w.1.entries, line) });
+    subst (λ (u : Stage). Adds most (Within version r) (shape.Entry e) u) same (record {
+      sound = (record { count = w.0.count; accepted = (w.0.accepted, rows_next most r e is) }, record { few = w.1.few; entries = (w.1.entries, line) }, within_next most r e is);
       more = ap (λ xs. shape.Header (number_of version) r.processes ∷ xs) (said_entries e r.past);
     })
-Adds-admitted version r e (Some f) t is line w h = absurd (let no : Err (kind_of f) ≡ Ok t = h in cc)
+Adds-admitted most version r e (Some f) t is line w h = absurd (let no : Err (kind_of f) ≡ Ok t = h in cc)
 
-is_ended : (version : Version) (r : Recording) (t : Stage) → IsSound (Within version r) → Ended version r ≡ t → Adds (Within version r) (shape.End (length r.past)) t
-is_ended version r t w same =
-    subst (λ (u : Stage). Adds (Within version r) (shape.End (length r.past)) u) same (record { sound = w; more = refl })
+is_ended : (most : ℕ) (version : Version) (r : Recording) (t : Stage) → IsSound most (Within version r) → Ended version r ≡ t → Adds most (Within version r) (shape.End (length r.past)) t
+is_ended most version r t w same =
+    subst (λ (u : Stage). Adds most (Within version r) (shape.End (length r.past)) u) same (record { sound = w; more = refl })
 
-pub Adds-follow : (s : Stage) (x : Shape) (t : Stage) → IsSound s → follow s x ≡ Ok t → Adds s x t
-Adds-follow Opening (shape.Header number n) t w h = Adds-begun number n (number == 1) (number == 2) t refl refl h
-Adds-follow Opening (shape.Entry e) t w h = absurd (let no : Err kind.Header ≡ Ok t = h in cc)
-Adds-follow Opening (shape.End count) t w h = absurd (let no : Err kind.Header ≡ Ok t = h in cc)
-Adds-follow (Within version r) (shape.Header number n) t w h = absurd (let no : Err kind.Header ≡ Ok t = h in cc)
-Adds-follow (Within version r) (shape.Entry e) t w h =
+pub Adds-follow : (most : ℕ) (s : Stage) (x : Shape) (t : Stage) → IsSound most s → follow most s x ≡ Ok t → Adds most s x t
+Adds-follow most Opening (shape.Header number n) t w h = Adds-begun most number n (number == 1) (number == 2) t refl refl h
+Adds-follow most Opening (shape.Entry e) t w h = absurd (let no : Err kind.Header ≡ Ok t = h in cc)
+Adds-follow most Opening (shape.End count) t w h = absurd (let no : Err kind.Header ≡ Ok t = h in cc)
+Adds-follow most (Within version r) (shape.Header number n) t w h = absurd (let no : Err kind.Header ≡ Ok t = h in cc)
+Adds-follow most (Within version r) (shape.Entry e) t w h =
     let p = passed (has_line version e) _ kind.Form t h in
-    Adds-admitted version r e (first_fault r.processes r.past e) t refl p.0 w p.1
-Adds-follow (Within version r) (shape.End count) t w h =
+    Adds-admitted most version r e (fault_within most r e) t refl p.0 w p.1
+Adds-follow most (Within version r) (shape.End count) t w h =
     let p = passed (count == length r.past) _ kind.Count t h in
     let same : Ended version r ≡ t = cc (p.1) in
-    rw (eqb-true count (length r.past) p.0) (is_ended version r t w same)
-Adds-follow (Ended version r) x t w h = absurd (let no : Err kind.After ≡ Ok t = h in cc)
+    rw (eqb-true count (length r.past) p.0) (is_ended most version r t w same)
+Adds-follow most (Ended version r) x t w h = absurd (let no : Err kind.After ≡ Ok t = h in cc)
 
 -- an accepted line has a shape that follows, and lies within the limit
-pub record Accepted (s : Stage) (end : ℕ) (line : List ℕ) (t : Stage) : Type 0 where
+pub record Accepted (most : ℕ) (s : Stage) (end : ℕ) (line : List ℕ) (t : Stage) : Type 0 where
   pub spoken : Shape
   pub reads : line_shape line ≡ Ok spoken
-  pub adds : Adds s spoken t
-  pub within : end ≤ max_text
+  pub adds : Adds most s spoken t
+  pub within : end ≤ text_within most
 
-Accepted-limit : (s : Stage) (end : ℕ) (line : List ℕ) (t : Stage) → IsSound s → within_limit end (line_shape line >>= follow s) ≡ Ok t → Accepted s end line t
-Accepted-limit s end line t w h =
-    let limit = passed_not (nat_lt max_text end) _ kind.Big t h in
-    let read = bind_ok (line_shape line) (follow s) t limit.1 in
-    record { spoken = read.0; reads = read.1; adds = Adds-follow s read.0 t w read.2; within = omega (arith, leb-false (max_text + 1) end limit.0) }
+Accepted-limit : (most : ℕ) (s : Stage) (end : ℕ) (line : List ℕ) (t : Stage) → IsSound most s → within_limit most end (line_shape line >>= follow most s) ≡ Ok t → Accepted most s end line t
+Accepted-limit most s end line t w h =
+    let limit = passed_not (nat_lt (text_within most) end) _ kind.Big t h in
+    let read = bind_ok (line_shape line) (follow most s) t limit.1 in
+    record { spoken = read.0; reads = read.1; adds = Adds-follow most s read.0 t w read.2; within = omega (arith, leb-false (suc (text_within most)) end limit.0) }
 
-pub Accepted-line : (s : Stage) (end : ℕ) (line : List ℕ) (t : Stage) → IsSound s → after_line s end line ≡ Ok t → Accepted s end line t
-Accepted-line Opening end line t w h = Accepted-limit Opening end line t w h
-Accepted-line (Within version r) end line t w h = Accepted-limit (Within version r) end line t w h
-Accepted-line (Ended version r) end line t w h = absurd (let no : Err kind.After ≡ Ok t = h in cc)
+pub Accepted-line : (most : ℕ) (s : Stage) (end : ℕ) (line : List ℕ) (t : Stage) → IsSound most s → after_line most s end line ≡ Ok t → Accepted most s end line t
+Accepted-line most Opening end line t w h = Accepted-limit most Opening end line t w h
+Accepted-line most (Within version r) end line t w h = Accepted-limit most (Within version r) end line t w h
+Accepted-line most (Ended version r) end line t w h = absurd (let no : Err kind.After ≡ Ok t = h in cc)
+
+-- ---- it is one line more, and the entries are as few as those of any trace
+
+abbrev pub Counts : Stage → Stage → Type 0
+Counts s t = (lines_in t ≡ lines_in s + 1) × (entries_in t ≤ max_entries)
+
+Counts-begun : (o : Option Version) (n : ℕ) (t : Stage) → begun o n ≡ Ok t → Counts Opening t
+Counts-begun None n t h = absurd (let no : Err kind.Version ≡ Ok t = h in cc)
+Counts-begun (Some version) n t h =
+    let p = passed (nat_le 1 n && nat_le n (most_processes version)) _ kind.Processes t h in
+    let same : Within version (opened n) ≡ t = cc (p.1) in
+    subst (λ (u : Stage). Counts Opening u) same (refl, omega arith)
+
+Counts-admitted : (most : ℕ) (version : Version) (r : Recording) (e : Entry) (o : Option TraceFault) (t : Stage) → fault_within most r e ≡ o → admitted version r e o ≡ Ok t → Counts (Within version r) t
+Counts-admitted most version r e None t is h =
+    let same : Within version (with_entry r e) ≡ t = cc in
+    let short = short_next r.processes r.past e (rows_next most r e is) in
+    subst (λ (u : Stage). Counts (Within version r) u) same (omega arith, omega (arith, short.entries))
+Counts-admitted most version r e (Some f) t is h = absurd (let no : Err (kind_of f) ≡ Ok t = h in cc)
+
+Counts-follow : (most : ℕ) (s : Stage) (x : Shape) (t : Stage) → entries_in s ≤ max_entries → follow most s x ≡ Ok t → Counts s t
+Counts-follow most Opening (shape.Header number n) t few h = Counts-begun (version_of number) n t h
+Counts-follow most Opening (shape.Entry e) t few h = absurd (let no : Err kind.Header ≡ Ok t = h in cc)
+Counts-follow most Opening (shape.End count) t few h = absurd (let no : Err kind.Header ≡ Ok t = h in cc)
+Counts-follow most (Within version r) (shape.Header number n) t few h = absurd (let no : Err kind.Header ≡ Ok t = h in cc)
+Counts-follow most (Within version r) (shape.Entry e) t few h =
+    let p = passed (has_line version e) _ kind.Form t h in
+    Counts-admitted most version r e (fault_within most r e) t refl p.1
+Counts-follow most (Within version r) (shape.End count) t few h =
+    let p = passed (count == length r.past) _ kind.Count t h in
+    let same : Ended version r ≡ t = cc (p.1) in
+    subst (λ (u : Stage). Counts (Within version r) u) same (omega arith, few)
+Counts-follow most (Ended version r) x t few h = absurd (let no : Err kind.After ≡ Ok t = h in cc)
+
+Counts-limit : (most : ℕ) (s : Stage) (end : ℕ) (line : List ℕ) (t : Stage) → entries_in s ≤ max_entries → within_limit most end (line_shape line >>= follow most s) ≡ Ok t → Counts s t
+Counts-limit most s end line t few h =
+    let limit = passed_not (nat_lt (text_within most) end) _ kind.Big t h in
+    let read = bind_ok (line_shape line) (follow most s) t limit.1 in
+    Counts-follow most s read.0 t few read.2
+
+pub Counts-line : (most : ℕ) (s : Stage) (end : ℕ) (line : List ℕ) (t : Stage) → entries_in s ≤ max_entries → after_line most s end line ≡ Ok t → Counts s t
+Counts-line most Opening end line t few h = Counts-limit most Opening end line t few h
+Counts-line most (Within version r) end line t few h = Counts-limit most (Within version r) end line t few h
+Counts-line most (Ended version r) end line t few h = absurd (let no : Err kind.After ≡ Ok t = h in cc)
+
+-- the header and the end line stand beside the entries
+pub lines_few : (s : Stage) → lines_in s ≤ entries_in s + 2
+lines_few Opening = omega arith
+lines_few (Within version r) = omega arith
+lines_few (Ended version r) = omega arith

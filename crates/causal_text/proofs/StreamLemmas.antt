@@ -3,6 +3,7 @@ use Rattle.std.proofs.Common.{◌≡◌, ℕ, zero, suc, ◌+◌, ◌<◌, ◌�
 use Rattle.std.specs.Prelude.{IfSome, sum_by}
 use Rattle.std.specs.Io.KnownBytes.{Consumes, IsAtEnd}
 use Rattle.std.proofs.lemmas.List.Sums.{sum_by-cons}
+use Rattle.causal_trace.specs.Limits.{default_entries}
 use Rattle.causal_trace.specs.Rows.{Recording}
 use Rattle.causal_text.specs.declared.kind.TextFault.{TextFault}
 use Rattle.causal_text.specs.declared.stream.State.{State}
@@ -10,11 +11,11 @@ use Rattle.causal_text.specs.declared.stream.State.TheVariants as state
 use Rattle.causal_text.specs.declared.stream.Progress.TheVariants as progress
 use Rattle.causal_text.specs.declared.stream.ReaderFault.{ReaderFault}
 use Rattle.causal_text.specs.declared.stream.ReaderFault.TheVariants as fault
-use Rattle.causal_text.specs.Stages.{max_text}
-use Rattle.causal_text.specs.Spelling.{Spells, IsFirstFault, IsReadUpTo, IsReadAt}
+use Rattle.causal_text.specs.Stages.{text_within}
+use Rattle.causal_text.specs.Spelling.{SpellsWithin, IsFirstFaultWithin, IsReadUpTo, IsReadAt}
 use Rattle.causal_text.specs.Pieces.{joined, Held, StandsFor}
-use Rattle.causal_text.specs.Inside.Unfinished.{taken}
-use Rattle.causal_text.specs.Streams.{HasRead, IsReading, Follows, PieceEndsAt, TellsFault, TellsOf, TellsLine, TellsLineOf, IsFaultAfter}
+use Rattle.causal_text.specs.Inside.Unfinished.{HasRoom}
+use Rattle.causal_text.specs.Streams.{HasReadWithin, IsReading, Follows, PieceEndsAt, TellsFault, TellsOf, TellsLine, TellsLineOf, IsFaultAfter}
 
 pub Consumes-then : (a m n : Option (List ℕ)) (xs ys : List ℕ) → Consumes a m xs → Consumes m n ys → Consumes a n (xs ++ ys)
 Consumes-then None m n xs ys p q = tt
@@ -32,18 +33,20 @@ length-joined [] = refl
 length-joined (l ∷ ls) = length-append l (joined ls) ∙ ap (λ n. length l + n) (length-joined ls) ∙ sym (sum_by-cons length l ls)
 
 -- how many bytes there are
-length-taken : (h : Held) (bytes : List ℕ) → StandsFor h bytes → length bytes ≡ taken h
-length-taken h bytes st =
+length-held : (most : ℕ) (h : Held) (bytes : List ℕ) → StandsFor most h bytes → length bytes ≡ h.place.size + length h.rest
+length-held most h bytes st =
     let all = length-joined st.complete in
     ap length st.whole ∙ length-append (joined st.complete) h.rest ∙ omega (arith, st.place_is.size)
 
-pub read_more : (k : Held) (bytes : List ℕ) → StandsFor k bytes → taken k ≤ max_text → HasRead (state.Reading k) bytes
-read_more k bytes st few = (st, omega (arith, length-taken k bytes st))
+pub read_more : (most : ℕ) (k : Held) (bytes : List ℕ) → StandsFor most k bytes → HasRoom most k → HasReadWithin most (state.Reading k) bytes
+read_more most k bytes st room =
+    let few : k.place.size ≤ text_within most = omega (arith, st.place_is.size, st.place_is.reaches.within) in
+    (st, omega (arith, length-held most k bytes st, room few))
 
-pub length-read : (s : State) (read : List ℕ) → HasRead s read → length read ≤ max_text
-length-read (state.Reading h) read st = st.1
-length-read (state.Ended r) read st = st.within
-length-read state.Failed read st = absurd st
+pub length-read : (most : ℕ) (s : State) (read : List ℕ) → HasReadWithin most s read → length read ≤ text_within most
+length-read most (state.Reading h) read st = st.1
+length-read most (state.Ended r) read st = st.within
+length-read most state.Failed read st = absurd st
 
 -- a piece is empty only at the end
 pub piece_ends : (n : ℕ) (buffer : List ℕ) (left : Option (List ℕ)) → n ≤ length buffer → (n ≡ 0 → 0 < length buffer → IsAtEnd left) → 0 < length buffer → PieceEndsAt (take n buffer) left
@@ -56,33 +59,33 @@ pub all_read : (bytes xs : List ℕ) (left : Option (List ℕ)) → Consumes (So
 all_read bytes xs None p e = absurd p
 all_read bytes xs (Some ys) p e = p ∙ ap (λ z. xs ++ z) e ∙ append-nil xs
 
-pub spelled_at_end : (known left : Option (List ℕ)) (xs : List ℕ) (t : Recording) → Consumes known left xs → IsAtEnd left → Spells xs t → IfSome known (λ bytes. Spells bytes t)
-spelled_at_end None left xs t p e h = tt
-spelled_at_end (Some bytes) left xs t p e h = subst (λ text. Spells text t) (sym (all_read bytes xs left p e)) h
+pub spelled_at_end : (most : ℕ) (known left : Option (List ℕ)) (xs : List ℕ) (t : Recording) → Consumes known left xs → IsAtEnd left → SpellsWithin most xs t → IfSome known (λ bytes. SpellsWithin most bytes t)
+spelled_at_end most None left xs t p e h = tt
+spelled_at_end most (Some bytes) left xs t p e h = subst (λ text. SpellsWithin most text t) (sym (all_read bytes xs left p e)) h
 
-pub first_of_source : (bytes read piece : List ℕ) (left : Option (List ℕ)) (f : TextFault) → Consumes (Some bytes) left (read ++ piece) → PieceEndsAt piece left → IsFaultAfter piece (read ++ piece) f → IsFirstFault bytes f
-first_of_source bytes read [] left f p e h = subst (λ text. IsFirstFault text f) (sym (all_read bytes (read ++ []) left p e)) h
-first_of_source bytes read (x ∷ xs) None f p e h = absurd p
-first_of_source bytes read (x ∷ xs) (Some rest) f p e h = subst (λ text. IsFirstFault text f) (sym p) (h rest)
+pub first_of_source : (most : ℕ) (bytes read piece : List ℕ) (left : Option (List ℕ)) (f : TextFault) → Consumes (Some bytes) left (read ++ piece) → PieceEndsAt piece left → IsFaultAfter most piece (read ++ piece) f → IsFirstFaultWithin most bytes f
+first_of_source most bytes read [] left f p e h = subst (λ text. IsFirstFaultWithin most text f) (sym (all_read bytes (read ++ []) left p e)) h
+first_of_source most bytes read (x ∷ xs) None f p e h = absurd p
+first_of_source most bytes read (x ∷ xs) (Some rest) f p e h = subst (λ text. IsFirstFaultWithin most text f) (sym p) (h rest)
 
 pub TellsOf-faults : (known mid left : Option (List ℕ)) (stood : List ℕ → Type 0) (read : List ℕ) (f : ReaderFault) → Consumes known mid read → stood read → TellsFault mid left stood f → IfSome known (λ bytes. TellsOf bytes f)
 TellsOf-faults None mid left stood read f p s h = tt
 TellsOf-faults (Some bytes) mid left stood read fault.Read p s h = tt
 TellsOf-faults (Some bytes) mid left stood read (fault.Text f) p s h = λ other.
     let told = h other in
-    first_of_source bytes read told.0 left f (Consumes-then (Some bytes) mid left read told.0 p told.1) told.2 (told.3 read s)
+    first_of_source default_entries bytes read told.0 left f (Consumes-then (Some bytes) mid left read told.0 p told.1) told.2 (told.3 read s)
 TellsOf-faults (Some bytes) mid left stood read fault.Failed p s h = absurd (h read s)
 TellsOf-faults (Some bytes) mid left stood read fault.Unfinished p s h = absurd h
 
-pub line_of_source : (bytes read piece : List ℕ) (left : Option (List ℕ)) (line : ℕ) → Consumes (Some bytes) left (read ++ piece) → IsReadAt (read ++ piece) line → IsReadUpTo bytes line
-line_of_source bytes read piece None line p h = absurd p
-line_of_source bytes read piece (Some rest) line p h = subst (λ text. IsReadUpTo text line) (sym p) (h rest)
+pub line_of_source : (most : ℕ) (bytes read piece : List ℕ) (left : Option (List ℕ)) (line : ℕ) → Consumes (Some bytes) left (read ++ piece) → IsReadAt most (read ++ piece) line → IsReadUpTo most bytes line
+line_of_source most bytes read piece None line p h = absurd p
+line_of_source most bytes read piece (Some rest) line p h = subst (λ text. IsReadUpTo most text line) (sym p) (h rest)
 
 pub TellsLineOf-faults : (known mid left : Option (List ℕ)) (stood : List ℕ → Type 0) (read : List ℕ) (f : ReaderFault) → Consumes known mid read → stood read → TellsLine mid left stood f → IfSome known (λ bytes. TellsLineOf bytes f)
 TellsLineOf-faults None mid left stood read f p s h = tt
 TellsLineOf-faults (Some bytes) mid left stood read fault.Read p s h = tt
 TellsLineOf-faults (Some bytes) mid left stood read (fault.Text f) p s h = λ wants.
     let told = h wants in
-    line_of_source bytes read told.0 left f.line (Consumes-then (Some bytes) mid left read told.0 p told.1) (told.2 read s)
+    line_of_source default_entries bytes read told.0 left f.line (Consumes-then (Some bytes) mid left read told.0 p told.1) (told.2 read s)
 TellsLineOf-faults (Some bytes) mid left stood read fault.Failed p s h = tt
 TellsLineOf-faults (Some bytes) mid left stood read fault.Unfinished p s h = tt

@@ -1,5 +1,6 @@
 -- A text that is handed over in pieces.
 use Rattle.std.specs.Prelude.{◌≢◌, ℕ, List, ◌++◌, Option, Some, None}
+use Rattle.causal_trace.specs.Limits.{default_entries}
 use Rattle.causal_text.specs.declared.kind.TextKind.TheVariants.{NoMemory}
 use Rattle.causal_text.specs.declared.stream.ReaderFault.{ReaderFault}
 use Rattle.causal_text.specs.declared.stream.ReaderFault.TheVariants as fault
@@ -18,7 +19,7 @@ fed_state None = state.Failed
 -- a line before which they have none
 abbrev pub RefusesPiece : State → List ℕ → ReaderFault → Type 0
 RefusesPiece s piece (fault.Text f) = (b : List ℕ) → HasRead s b
-    → (f.kind ≢ NoMemory → (more : List ℕ) → IsFirstFault ((b ++ piece) ++ more) f) × IsReadAt (b ++ piece) f.line
+    → (f.kind ≢ NoMemory → (more : List ℕ) → IsFirstFault ((b ++ piece) ++ more) f) × IsReadAt default_entries (b ++ piece) f.line
 RefusesPiece s piece fault.Failed = (b : List ℕ) → HasRead s b → ⊥
 RefusesPiece s piece fault = ⊥
 

@@ -27,9 +27,9 @@ pub record Held : Type 0 where
   pub rest : List ℕ
 
 -- what is held stands for these bytes: they are complete lines, none of which has a fault, and the unfinished line
-pub record StandsFor (held : Held) (bytes : List ℕ) : Type 0 where
+pub record StandsFor (most : ℕ) (held : Held) (bytes : List ℕ) : Type 0 where
   pub complete : List (List ℕ)
   pub whole : bytes ≡ joined complete ++ held.rest
   pub each : AreComplete complete
   pub unfinished : no_feed held.rest ≡ true
-  pub place_is : IsPlaceAfter complete held.place
+  pub place_is : IsPlaceAfter most complete held.place

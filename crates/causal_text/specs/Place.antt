@@ -10,7 +10,7 @@ pub record Place : Type 0 where
   pub size : ℕ
 
 -- the place is that after these lines, none of which has a fault
-pub record IsPlaceAfter (before : List (List ℕ)) (p : Place) : Type 0 where
-  pub reaches : LeadsTo before p.stage
+pub record IsPlaceAfter (most : ℕ) (before : List (List ℕ)) (p : Place) : Type 0 where
+  pub reaches : LeadsTo most before p.stage
   pub count : p.count ≡ length before
   pub size : p.size ≡ sum_by length before

@@ -1,9 +1,9 @@
 -- What the lines so far have said, and what one more line adds or is refused for.
-use Rattle.std.specs.Prelude.{ℕ, ◌&&◌, ◌==◌, List, [], length, take, slice_index, ◌-◌, nat_lt, nat_le, if◌then◌else◌, Option, Some, None, Result, Ok, Err}
+use Rattle.std.specs.Prelude.{ℕ, ◌*◌, ◌&&◌, ◌==◌, List, [], length, take, slice_index, ◌-◌, nat_lt, nat_le, if◌then◌else◌, Option, Some, None, Result, Ok, Err}
 use Rattle.std.specs.Str.{is_utf8}
 use Rattle.serde_json.specs.Data.{Data}
 use Rattle.serde_json.specs.Read.{read}
-use Rattle.causal_trace.specs.Rows.{Recording, first_fault}
+use Rattle.causal_trace.specs.Rows.{Recording, fault_within}
 use Rattle.causal_trace.specs.State.{with_entry}
 use Rattle.causal_trace.specs.declared.entry.Entry.{Entry}
 use Rattle.causal_trace.specs.declared.fault.TraceFault.{TraceFault}
@@ -20,9 +20,13 @@ use Rattle.causal_text.specs.Reading.{◌>>=◌}
 use Rattle.causal_text.specs.Shapes.{shape_of}
 use Rattle.causal_text.specs.Versions.{version_of, most_processes, has_line}
 
--- how many bytes a text may have
-abbrev pub max_text : ℕ
-max_text = 33554432
+-- how many bytes a text has at most whose trace is to have so many entries at most
+abbrev pub text_within : ℕ → ℕ
+text_within most = 512 * most
+
+-- and whatever that number is, which has 32 bits
+abbrev pub longest_text : ℕ
+longest_text = text_within 4294967295
 
 -- the line without its line feed
 unfoldable pub content : List ℕ → List ℕ
@@ -74,22 +78,22 @@ abbrev pub admitted : Version → Recording → Entry → Option TraceFault → 
 admitted version r e None = Ok (Within version (with_entry r e))
 admitted version r e (Some f) = Err (kind_of f)
 
--- what a line adds to those before it, by what it says
-abbrev pub follow : Stage → Shape → Result Stage TextKind
-follow Opening (shape.Header number n) = begun (version_of number) n
-follow Opening (shape.Entry e) = Err kind.Header
-follow Opening (shape.End count) = Err kind.Header
-follow (Within version r) (shape.Header number n) = Err kind.Header
-follow (Within version r) (shape.Entry e) = if has_line version e then admitted version r e (first_fault r.processes r.past e) else Err kind.Form
-follow (Within version r) (shape.End count) = if count == length r.past then Ok (Ended version r) else Err kind.Count
-follow (Ended version r) s = Err kind.After
+-- what a line adds to those before it, by what it says, where the trace is to have so many entries at most
+abbrev pub follow : ℕ → Stage → Shape → Result Stage TextKind
+follow most Opening (shape.Header number n) = begun (version_of number) n
+follow most Opening (shape.Entry e) = Err kind.Header
+follow most Opening (shape.End count) = Err kind.Header
+follow most (Within version r) (shape.Header number n) = Err kind.Header
+follow most (Within version r) (shape.Entry e) = if has_line version e then admitted version r e (fault_within most r e) else Err kind.Form
+follow most (Within version r) (shape.End count) = if count == length r.past then Ok (Ended version r) else Err kind.Count
+follow most (Ended version r) s = Err kind.After
 
-abbrev pub within_limit : ℕ → Result Stage TextKind → Result Stage TextKind
-within_limit end next = if nat_lt max_text end then Err kind.Big else next
+abbrev pub within_limit : ℕ → ℕ → Result Stage TextKind → Result Stage TextKind
+within_limit most end next = if nat_lt (text_within most) end then Err kind.Big else next
 
 -- What the next line adds, where it goes up to byte number `end` of the text. Nothing follows an end line, whatever it
 -- holds; then the text's limit is asked for, then that the line is a JSON value, then that it has one of the shapes.
-abbrev pub after_line : Stage → ℕ → List ℕ → Result Stage TextKind
-after_line Opening end line = within_limit end (line_shape line >>= follow Opening)
-after_line (Within version r) end line = within_limit end (line_shape line >>= follow (Within version r))
-after_line (Ended version r) end line = Err kind.After
+abbrev pub after_line : ℕ → Stage → ℕ → List ℕ → Result Stage TextKind
+after_line most Opening end line = within_limit most end (line_shape line >>= follow most Opening)
+after_line most (Within version r) end line = within_limit most end (line_shape line >>= follow most (Within version r))
+after_line most (Ended version r) end line = Err kind.After

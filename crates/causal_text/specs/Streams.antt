@@ -1,6 +1,7 @@
 -- A text that comes from a reader of bytes.
 use Rattle.std.specs.Prelude.{◌≡◌, ◌≢◌, ◌<◌, ◌≤◌, ℕ, List, [], ◌∷◌, ◌++◌, length, Option, Result, Ok, Err, IfOk, IfErr}
 use Rattle.std.specs.Io.KnownBytes.{Consumes, IsAtEnd}
+use Rattle.causal_trace.specs.Limits.{default_entries}
 use Rattle.causal_trace.specs.Rows.{Recording}
 use Rattle.causal_trace.specs.State.{TraceState}
 use Rattle.causal_text.specs.declared.kind.TextKind.TheVariants.{NoMemory}
@@ -12,8 +13,8 @@ use Rattle.causal_text.specs.declared.stream.State.TheVariants as state
 use Rattle.causal_text.specs.declared.stream.Progress.{Progress}
 use Rattle.causal_text.specs.declared.stream.Progress.TheVariants as progress
 use Rattle.causal_text.specs.Pieces.{StandsFor}
-use Rattle.causal_text.specs.Spelling.{Spells, IsFirstFault, IsReadUpTo, IsReadAt}
-use Rattle.causal_text.specs.Stages.{max_text}
+use Rattle.causal_text.specs.Spelling.{SpellsWithin, IsFirstFaultWithin, IsFirstFault, IsReadUpTo, IsReadAt}
+use Rattle.causal_text.specs.Stages.{text_within}
 
 -- what a contract sees of a reader of a trace: its source of bytes, and how far it is
 pub record ReaderState (R : Type 0) : Type 0 where
@@ -21,10 +22,14 @@ pub record ReaderState (R : Type 0) : Type 0 where
   pub state : State
 
 -- the state is that of a reader which has read these bytes; one that has failed has read none
+abbrev pub HasReadWithin : ℕ → State → List ℕ → Type 0
+HasReadWithin most (state.Reading held) bytes = StandsFor most held bytes × (length bytes ≤ text_within most)
+HasReadWithin most (state.Ended r) bytes = SpellsWithin most bytes r
+HasReadWithin most state.Failed bytes = ⊥
+
+-- the same by the limits where nobody sets others
 abbrev pub HasRead : State → List ℕ → Type 0
-HasRead (state.Reading held) bytes = StandsFor held bytes × (length bytes ≤ max_text)
-HasRead (state.Ended r) bytes = Spells bytes r
-HasRead state.Failed bytes = ⊥
+HasRead state bytes = HasReadWithin default_entries state bytes
 
 -- the text goes on
 abbrev pub IsReading : State → Type 0
@@ -59,22 +64,22 @@ PieceEndsAt [] left = IsAtEnd left
 PieceEndsAt (x ∷ xs) left = Unit {0}
 
 -- the first fault of the bytes read: however they go on, or of them alone where the last piece was empty
-abbrev pub IsFaultAfter : List ℕ → List ℕ → TextFault → Type 0
-IsFaultAfter [] bytes fault = IsFirstFault bytes fault
-IsFaultAfter (x ∷ xs) bytes fault = (more : List ℕ) → IsFirstFault (bytes ++ more) fault
+abbrev pub IsFaultAfter : ℕ → List ℕ → List ℕ → TextFault → Type 0
+IsFaultAfter most [] bytes fault = IsFirstFaultWithin most bytes fault
+IsFaultAfter most (x ∷ xs) bytes fault = (more : List ℕ) → IsFirstFaultWithin most (bytes ++ more) fault
 
 -- what a fault tells, of a reader that had read what `read` says: a fault of the text is that of the bytes read with one
 -- more piece, unless memory was wanted; only one that failed before is told to have failed
 abbrev pub TellsFault : Option (List ℕ) → Option (List ℕ) → (List ℕ → Type 0) → ReaderFault → Type 0
 TellsFault old new read fault.Read = Unit {0}
-TellsFault old new read (fault.Text f) = f.kind ≢ NoMemory → (piece : List ℕ) × Consumes old new piece × PieceEndsAt piece new × ((b : List ℕ) → read b → IsFaultAfter piece (b ++ piece) f)
+TellsFault old new read (fault.Text f) = f.kind ≢ NoMemory → (piece : List ℕ) × Consumes old new piece × PieceEndsAt piece new × ((b : List ℕ) → read b → IsFaultAfter default_entries piece (b ++ piece) f)
 TellsFault old new read fault.Failed = (b : List ℕ) → read b → ⊥
 TellsFault old new read fault.Unfinished = ⊥
 
 -- which line a want of memory tells, of a reader that had read what `read` says: one before which the bytes read have no
 -- fault
 abbrev pub TellsLine : Option (List ℕ) → Option (List ℕ) → (List ℕ → Type 0) → ReaderFault → Type 0
-TellsLine old new read (fault.Text f) = f.kind ≡ NoMemory → (piece : List ℕ) × Consumes old new piece × ((b : List ℕ) → read b → IsReadAt (b ++ piece) f.line)
+TellsLine old new read (fault.Text f) = f.kind ≡ NoMemory → (piece : List ℕ) × Consumes old new piece × ((b : List ℕ) → read b → IsReadAt default_entries (b ++ piece) f.line)
 TellsLine old new read fault = Unit {0}
 
 -- where a call fails of a reader in this state, whose source had and has so many bytes, its fault tells why
@@ -87,7 +92,7 @@ FailsAt result old new state = IfErr result (TellsLine old new (HasRead state))
 
 -- the same of a source that is read to its end
 abbrev pub TellsLineOf : List ℕ → ReaderFault → Type 0
-TellsLineOf bytes (fault.Text f) = f.kind ≡ NoMemory → IsReadUpTo bytes f.line
+TellsLineOf bytes (fault.Text f) = f.kind ≡ NoMemory → IsReadUpTo default_entries bytes f.line
 TellsLineOf bytes fault = Unit {0}
 
 -- what a fault tells of a source that is read to its end: the first fault of its bytes, unless memory was wanted

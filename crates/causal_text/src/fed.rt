@@ -6,11 +6,12 @@ ghost use Rattle.causal_text.specs.Streams.{HasRead, IsReading};
 
 use crate::reader::PieceReader;
 use crate::stream::{ReaderFault, State};
+use causal_trace::limits::DEFAULT_LIMITS;
 use causal_trace::trace::Trace;
 use std::alloc::Global;
 use std::marker::Model;
 
-/// Reads a trace from pieces of its text, of any length. Only the unfinished line and the trace are kept, and of a line
+/// Reads a trace by the usual limits from pieces of its text, of any length. Only the unfinished line and the trace are kept, and of a line
 /// that is too long or follows the end line no byte more. After an error each call answers `Failed`.
 #[derive(Drop)]
 pub struct FedReader {
@@ -55,7 +56,7 @@ impl FedReader {
         let Some(pieces) = self.pieces.take() else {
             return Err(ReaderFault::Failed);
         };
-        match pieces.feed(self.alloc, piece) {
+        match pieces.feed(self.alloc, DEFAULT_LIMITS, piece) {
             Ok(pieces) => {
                 self.pieces = Some(pieces);
                 Ok(())
@@ -78,7 +79,7 @@ impl FedReader {
         let Some(pieces) = pieces else {
             return Err(ReaderFault::Failed);
         };
-        match pieces.end(alloc) {
+        match pieces.end(alloc, DEFAULT_LIMITS) {
             Ok(recorded) => Ok(recorded.into_trace()),
             Err(rejected) => Err(ReaderFault::Text(rejected.fault)),
         }

@@ -5,7 +5,7 @@
 //!
 //! Begin at [`read_trace`] for a text that is there as a whole, or [`read_from`] for one that a reader gives; [`TraceReader`]
 //! reads a piece at a time, and [`FedReader`] the pieces that it is handed. [`read_keeping`] gives with a fault what stands before
-//! its line. [`text_of`] and [`write_trace`] give the canonical text, [`write_whole`] writes any bytes. [`laws`] says that a text
+//! its line, and [`read_within`] does so by limits that the caller sets. [`text_of`] and [`write_trace`] give the canonical text, [`write_whole`] writes any bytes. [`laws`] says that a text
 //! has one reading.
 #![tactic(auto)]
 
@@ -50,7 +50,7 @@ pub mod written;
 
 pub use before::{Before, Rejected};
 pub use fed::FedReader;
-pub use kept::{Unread, read_keeping};
+pub use kept::{Unread, read_keeping, read_within};
 pub use kind::{TextFault, TextKind};
 pub use reader::read_trace;
 pub use report::fault_line;

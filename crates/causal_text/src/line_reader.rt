@@ -1,13 +1,13 @@
 //! A text line by line.
 ghost use Rattle.std.specs.Prelude.{◌≡◌, ◌≢◌, ◌+◌, ◌<◌, ◌≤◌, length, None, IfSome, IfNone, IfErr};
-ghost use Rattle.causal_text.specs.Stages.{max_text};
-ghost use Rattle.causal_text.specs.Inside.LineByLine.{start, next, ended, IsFaultFrom};
+ghost use Rattle.causal_text.specs.Inside.LineByLine.{start, next, ended, IsFaultFrom, HasRoomFor};
 ghost use Rattle.causal_text.specs.Inside.Kept.{GivesRejected, IsKeptAt};
 
 use crate::before::Rejected;
 use crate::kind::{TextFault, TextKind};
 use crate::recorded::Recorded;
-use crate::stage::{MAX_TEXT, Refused, Stage, after_line};
+use crate::stage::{Refused, Stage, after_line, text_within};
+use causal_trace::limits::Limits;
 use std::alloc::Global;
 use std::marker::Model;
 
@@ -20,15 +20,17 @@ pub(crate) struct LineReader {
 }
 
 impl Model for LineReader {
-    ghost use Rattle.std.specs.Prelude.{◌≤◌};
+    ghost use Rattle.std.specs.Prelude.{◌≡◌, ◌+◌, ◌≤◌};
+    ghost use Rattle.causal_trace.specs.Limits.{max_entries};
     ghost use Rattle.causal_text.specs.Place.{Place};
-    ghost use Rattle.causal_text.specs.Stages.{max_text};
+    ghost use Rattle.causal_text.specs.Inside.LineByLine.{lines_in, entries_in};
+    ghost use Rattle.causal_text.specs.Stages.{longest_text};
 
     ghost Value = { Place };
 
     ghost view = { λ r. record { stage = r.stage; count = r.count; size = r.size } };
 
-    ghost invariant = { λ r. (r.count ≤ r.size) × (r.size ≤ max_text) };
+    ghost invariant = { λ r. (r.count ≡ lines_in r.stage) × (r.count ≤ max_entries + 2) × (entries_in r.stage ≤ max_entries) × (r.size ≤ longest_text) };
 }
 
 impl LineReader {
@@ -44,15 +46,20 @@ impl LineReader {
     }
 
     /// Takes the next line.
-    pub(crate) fn take(self, alloc: Global, line: &[u8]) -> Result<LineReader, Rejected>
+    pub(crate) fn take(
+        self,
+        alloc: Global,
+        limits: Limits,
+        line: &[u8],
+    ) -> Result<LineReader, Rejected>
         requires { 0 < length line.now }
-        ensures value { GivesRejected result (next self line.now) }
+        ensures value { GivesRejected result (next limits.entries self line.now) }
         ensures line { IfErr result (λ rejected. rejected.fault.line ≡ self.count + 1) }
         ensures before { IfErr result (λ rejected. IsKeptAt self.stage line.now rejected.before) }
     {
         let LineReader { stage, count, size } = self;
         let end = size.saturating_add(line.len());
-        match after_line(alloc, stage, end, line) {
+        match after_line(alloc, limits, stage, end, line) {
             Ok(stage) => Ok(LineReader {
                 stage,
                 count: count + 1,
@@ -81,18 +88,19 @@ impl LineReader {
 
     /// The fault of each line that has so many bytes or more, where it is known by their number: no byte follows an end
     /// line, and none goes past the text's limit. So it is told before any of them is held.
-    pub(crate) fn past(&self, len: usize) -> Option<TextFault>
-        ensures past { IfSome result (λ fault. (0 < len) × IsFaultFrom self.now len fault) }
+    pub(crate) fn past(&self, limits: Limits, len: usize) -> Option<TextFault>
+        ensures past { IfSome result (λ fault. (0 < len) × IsFaultFrom limits.entries self.now len fault) }
         ensures line { IfSome result (λ fault. fault.line ≡ self.now.count + 1) }
-        ensures room { IfNone result (self.now.size + len ≤ max_text) }
+        ensures room { IfNone result (HasRoomFor limits.entries self.now len) }
     {
         let end = self.size.saturating_add(len);
         if len == 0 {
             return None;
         }
+        let most = text_within(limits);
         let kind = match self.stage {
             Stage::Ended { .. } => TextKind::After,
-            _ if end > MAX_TEXT => TextKind::Big,
+            _ if end > most => TextKind::Big,
             _ => return None,
         };
         Some(TextFault {

@@ -1,18 +1,19 @@
 //! From a text, whole or in pieces, to the trace that it spells, or to its first fault.
 ghost use Rattle.std.specs.Prelude.{◌≡◌, ◌≢◌, ◌++◌, ◌+◌, ◌<◌, ◌≤◌, List, [], ℕ, length, None, IfOk, IfErr};
-ghost use Rattle.causal_text.specs.Before.{IsKept};
+ghost use Rattle.causal_trace.specs.Limits.{default_entries};
+ghost use Rattle.causal_text.specs.Before.{IsKeptWithin};
 ghost use Rattle.causal_text.specs.Inside.Kept.{GivesRejected, IsKeptAt, IsKeptOfAll};
 ghost use Rattle.causal_text.specs.Inside.LineByLine.{reading};
 ghost use Rattle.causal_text.specs.Pieces.{StandsFor};
-ghost use Rattle.causal_text.specs.Inside.Unfinished.{IsFaultOfAll, with_line, IsPast, ending, taken};
-ghost use Rattle.causal_text.specs.Stages.{max_text};
-ghost use Rattle.causal_text.specs.Spelling.{Spells, IsFirstFault, IsReadUpTo, IsReadAt};
+ghost use Rattle.causal_text.specs.Inside.Unfinished.{IsFaultOfAll, with_line, IsPast, ending, HasRoom};
+ghost use Rattle.causal_text.specs.Spelling.{Spells, SpellsWithin, IsFirstFault, IsFirstFaultWithin, IsReadUpTo, IsReadAt};
 
 use crate::before::Rejected;
 use crate::kind::{TextFault, TextKind};
 use crate::line_reader::LineReader;
 use crate::lines::split_complete;
 use crate::recorded::Recorded;
+use causal_trace::limits::{DEFAULT_LIMITS, Limits};
 use causal_trace::trace::Trace;
 use std::alloc::Global;
 use std::marker::Model;
@@ -35,8 +36,7 @@ impl Model for PieceReader {
 impl PieceReader {
     /// Before the first piece.
     pub(crate) fn new(alloc: Global) -> PieceReader
-        ensures stands { StandsFor result [] }
-        ensures room { taken result ≤ max_text }
+        ensures { (most : ℕ) → StandsFor most result [] }
     {
         PieceReader {
             lines: LineReader::new(),
@@ -53,35 +53,35 @@ impl PieceReader {
     }
 
     /// Takes the rest of a line, with its line feed.
-    fn complete(self, alloc: Global, line: &[u8]) -> Result<PieceReader, Rejected>
+    fn complete(self, alloc: Global, limits: Limits, line: &[u8]) -> Result<PieceReader, Rejected>
         requires { 0 < length line.now }
-        ensures value { GivesRejected result (with_line self line.now) }
+        ensures value { GivesRejected result (with_line limits.entries self line.now) }
         ensures line { IfErr result (λ rejected. rejected.fault.line ≡ self.place.count + 1) }
         ensures before { IfErr result (λ rejected. IsKeptAt self.place.stage (self.rest ++ line.now) rejected.before) }
     {
         if self.rest.is_empty() {
             let PieceReader { lines, rest } = self;
-            let lines = lines.take(alloc, line)?;
+            let lines = lines.take(alloc, limits, line)?;
             return Ok(PieceReader { lines, rest });
         }
-        let PieceReader { lines, mut rest } = self.hold(line)?;
-        let lines = lines.take(alloc, rest.as_slice())?;
+        let PieceReader { lines, mut rest } = self.hold(limits, line)?;
+        let lines = lines.take(alloc, limits, rest.as_slice())?;
         rest.clear();
         Ok(PieceReader { lines, rest })
     }
 
     /// Holds more of a line, unless no line may stand there or the text is too long by it.
-    fn hold(self, part: &[u8]) -> Result<PieceReader, Rejected>
+    fn hold(self, limits: Limits, part: &[u8]) -> Result<PieceReader, Rejected>
         ensures ok { IfOk result (λ r. r ≡ record { place = self.place; rest = self.rest ++ part.now }) }
-        ensures room { IfOk result (λ r. taken r ≤ max_text) }
+        ensures room { IfOk result (HasRoom limits.entries) }
         ensures err { IfErr result (λ rejected. rejected.fault.kind ≢ TextKind.NoMemory
             → (0 < length (self.rest ++ part.now))
-            × IsPast (record { place = self.place; rest = self.rest ++ part.now }) rejected.fault) }
+            × IsPast limits.entries (record { place = self.place; rest = self.rest ++ part.now }) rejected.fault) }
         ensures line { IfErr result (λ rejected. rejected.fault.line ≡ self.place.count + 1) }
         ensures before { IfErr result (λ rejected. rejected.before ≡ None) }
     {
         let PieceReader { lines, mut rest } = self;
-        if let Some(fault) = lines.past(rest.len().saturating_add(part.len())) {
+        if let Some(fault) = lines.past(limits, rest.len().saturating_add(part.len())) {
             return Err(Rejected::alone(fault));
         }
         if rest.extend_from_slice(part).is_err() {
@@ -91,73 +91,84 @@ impl PieceReader {
     }
 
     /// Takes the next piece of the text.
-    pub(crate) fn feed(self, alloc: Global, piece: &[u8]) -> Result<PieceReader, Rejected>
-        ensures ok { IfOk result (λ r. (b : List ℕ) → StandsFor self b → StandsFor r (b ++ piece.now)) }
-        ensures room { IfOk result (λ r. taken r ≤ max_text) }
+    pub(crate) fn feed(
+        self,
+        alloc: Global,
+        limits: Limits,
+        piece: &[u8],
+    ) -> Result<PieceReader, Rejected>
+        ensures ok { IfOk result (λ r. (b : List ℕ) → StandsFor limits.entries self b
+            → StandsFor limits.entries r (b ++ piece.now)) }
+        ensures room { IfOk result (HasRoom limits.entries) }
         ensures err { IfErr result (λ rejected. rejected.fault.kind ≢ TextKind.NoMemory
-            → (b : List ℕ) → StandsFor self b → IsFaultOfAll (b ++ piece.now) rejected.fault) }
-        ensures line { IfErr result (λ rejected. (b : List ℕ) → StandsFor self b
-            → IsReadAt (b ++ piece.now) rejected.fault.line) }
-        ensures before { IfErr result (λ rejected. (b : List ℕ) → StandsFor self b
-            → IsKeptOfAll (b ++ piece.now) rejected) }
+            → (b : List ℕ) → StandsFor limits.entries self b
+            → IsFaultOfAll limits.entries (b ++ piece.now) rejected.fault) }
+        ensures line { IfErr result (λ rejected. (b : List ℕ) → StandsFor limits.entries self b
+            → IsReadAt limits.entries (b ++ piece.now) rejected.fault.line) }
+        ensures before { IfErr result (λ rejected. (b : List ℕ) → StandsFor limits.entries self b
+            → IsKeptOfAll limits.entries (b ++ piece.now) rejected) }
     {
         let mut reader = self;
         let mut left = piece;
         while let Some((line, after)) = split_complete(left) {
-            reader = reader.complete(alloc, line)?;
+            reader = reader.complete(alloc, limits, line)?;
             left = after;
         }
-        reader.hold(left)
+        reader.hold(limits, left)
     }
 
     /// The trace that the bytes so far spell, where they are the whole text.
-    pub(crate) fn end(self, alloc: Global) -> Result<Recorded, Rejected>
-        ensures value { GivesRejected result (ending self) }
+    pub(crate) fn end(self, alloc: Global, limits: Limits) -> Result<Recorded, Rejected>
+        ensures value { GivesRejected result (ending limits.entries self) }
         ensures memory { IfErr result (λ rejected. rejected.fault.kind ≡ TextKind.NoMemory
             → rejected.fault.line ≡ self.place.count + 1) }
-        ensures before { IfErr result (λ rejected. (b : List ℕ) → StandsFor self b → IsKept b rejected) }
+        ensures before { IfErr result (λ rejected. (b : List ℕ) → StandsFor limits.entries self b
+            → IsKeptWithin limits.entries b rejected) }
     {
         let PieceReader { lines, rest } = self;
         if rest.is_empty() {
             return lines.finish();
         }
-        let lines = lines.take(alloc, rest.as_slice())?;
+        let lines = lines.take(alloc, limits, rest.as_slice())?;
         lines.finish()
     }
 }
 
-/// The trace that a text spells. A text has at most 33,554,432 bytes. A fault other than `NoMemory` is the first of the
+/// The trace that a text spells, by the usual limits: a text has at most 33,554,432 bytes. A fault other than `NoMemory` is the first of the
 /// text: the least line that has one, counted from 1, and within it the first kind in the order of [`TextKind`].
 /// `NoMemory` is answered only where a growth was refused, with the line that was being read: no line before it has a
 /// fault.
 pub fn read_trace(alloc: Global, bytes: &[u8]) -> Result<Trace, TextFault>
     ensures ok { IfOk result (λ trace. Spells bytes.now trace.recording) }
     ensures err { IfErr result (λ fault. fault.kind ≢ TextKind.NoMemory → IsFirstFault bytes.now fault) }
-    ensures memory { IfErr result (λ fault. fault.kind ≡ TextKind.NoMemory → IsReadUpTo bytes.now fault.line) }
+    ensures memory { IfErr result (λ fault. fault.kind ≡ TextKind.NoMemory
+        → IsReadUpTo default_entries bytes.now fault.line) }
 {
-    match read_recorded(alloc, bytes) {
+    match read_recorded(alloc, DEFAULT_LIMITS, bytes) {
         Ok(recorded) => Ok(recorded.into_trace()),
         Err(fault) => Err(fault),
     }
 }
 
-fn read_recorded(alloc: Global, bytes: &[u8]) -> Result<Recorded, TextFault>
-    ensures ok { IfOk result (λ r. Spells bytes.now r) }
-    ensures err { IfErr result (λ fault. fault.kind ≢ TextKind.NoMemory → IsFirstFault bytes.now fault) }
-    ensures memory { IfErr result (λ fault. fault.kind ≡ TextKind.NoMemory → IsReadUpTo bytes.now fault.line) }
+fn read_recorded(alloc: Global, limits: Limits, bytes: &[u8]) -> Result<Recorded, TextFault>
+    ensures ok { IfOk result (λ r. SpellsWithin limits.entries bytes.now r) }
+    ensures err { IfErr result (λ fault. fault.kind ≢ TextKind.NoMemory
+        → IsFirstFaultWithin limits.entries bytes.now fault) }
+    ensures memory { IfErr result (λ fault. fault.kind ≡ TextKind.NoMemory
+        → IsReadUpTo limits.entries bytes.now fault.line) }
 {
-    match read_whole(alloc, bytes) {
+    match read_whole(alloc, limits, bytes) {
         Ok(recorded) => Ok(recorded),
         Err(rejected) => Err(rejected.fault),
     }
 }
 
 // the whole text is one piece
-fn read_whole(alloc: Global, bytes: &[u8]) -> Result<Recorded, Rejected>
-    ensures value { GivesRejected result (reading bytes.now) }
+fn read_whole(alloc: Global, limits: Limits, bytes: &[u8]) -> Result<Recorded, Rejected>
+    ensures value { GivesRejected result (reading limits.entries bytes.now) }
     ensures memory { IfErr result (λ rejected. rejected.fault.kind ≡ TextKind.NoMemory
-        → IsReadUpTo bytes.now rejected.fault.line) }
+        → IsReadUpTo limits.entries bytes.now rejected.fault.line) }
 {
-    let reader = PieceReader::new(alloc).feed(alloc, bytes)?;
-    reader.end(alloc)
+    let reader = PieceReader::new(alloc).feed(alloc, limits, bytes)?;
+    reader.end(alloc, limits)
 }

@@ -2,7 +2,7 @@
 ghost use Rattle.std.specs.Prelude.{◌≡◌, ◌≤◌, None, Ok, Some, IfErr, IfSome, OnOk};
 ghost use Rattle.causal_text.specs.Given.{Gives};
 ghost use Rattle.causal_text.specs.Inside.Kept.{GivesFollowed, GivesRefused, IsGoingOn, IsKeptAt};
-ghost use Rattle.causal_text.specs.Stages.{max_text, line_shape, begun, follow, after_line};
+ghost use Rattle.causal_text.specs.Stages.{text_within, longest_text, line_shape, begun, follow, after_line};
 ghost use Rattle.causal_text.specs.Versions.{version_of};
 
 use crate::before::Before;
@@ -14,9 +14,16 @@ use crate::shape::{Shape, shape_of};
 use crate::version::Version;
 use causal_trace::entry::Entry;
 use causal_trace::fault::TraceFault;
+use causal_trace::limits::Limits;
 use std::alloc::Global;
 
-pub(crate) const MAX_TEXT: usize = 33_554_432;
+/// How many bytes a text has at most whose trace is to keep these limits: 512 for each entry.
+pub(crate) fn text_within(limits: Limits) -> usize
+    ensures value { result ≡ text_within limits.entries }
+    ensures few { result ≤ longest_text }
+{
+    limits.entries as usize * 512
+}
 
 // a line that has more bytes is looked at before a tree is built of it
 const LONG: usize = 262_144;
@@ -87,8 +94,8 @@ struct Unfollowed {
 }
 
 // the first line
-fn opening(alloc: Global, shape: Shape) -> Result<Stage, TextKind>
-    ensures { Gives result (follow Stage.Opening shape) }
+fn opening(alloc: Global, limits: Limits, shape: Shape) -> Result<Stage, TextKind>
+    ensures { Gives result (follow limits.entries Stage.Opening shape) }
 {
     match shape {
         Shape::Header { version, processes } => begun(alloc, version, processes),
@@ -97,8 +104,13 @@ fn opening(alloc: Global, shape: Shape) -> Result<Stage, TextKind>
 }
 
 // an entry where a text goes on
-fn admitted(version: Version, mut trace: Recorded, entry: Entry) -> Result<Stage, Unfollowed>
-    ensures value { GivesFollowed result (follow (Stage.Within version trace) (Shape.Entry entry)) }
+fn admitted(
+    limits: Limits,
+    version: Version,
+    mut trace: Recorded,
+    entry: Entry,
+) -> Result<Stage, Unfollowed>
+    ensures value { GivesFollowed result (follow limits.entries (Stage.Within version trace) (Shape.Entry entry)) }
     ensures trace { IfErr result (λ unfollowed. unfollowed.trace ≡ Some trace) }
 {
     if !version.has_line(&entry) {
@@ -107,7 +119,7 @@ fn admitted(version: Version, mut trace: Recorded, entry: Entry) -> Result<Stage
             trace: Some(trace),
         });
     }
-    match trace.push(entry) {
+    match trace.push(limits, entry) {
         Ok(()) => Ok(Stage::Within { version, trace }),
         Err(fault) => Err(Unfollowed {
             kind: TextKind::from(fault),
@@ -117,8 +129,13 @@ fn admitted(version: Version, mut trace: Recorded, entry: Entry) -> Result<Stage
 }
 
 // a line where a text goes on
-fn going_on(version: Version, trace: Recorded, shape: Shape) -> Result<Stage, Unfollowed>
-    ensures value { GivesFollowed result (follow (Stage.Within version trace) shape) }
+fn going_on(
+    limits: Limits,
+    version: Version,
+    trace: Recorded,
+    shape: Shape,
+) -> Result<Stage, Unfollowed>
+    ensures value { GivesFollowed result (follow limits.entries (Stage.Within version trace) shape) }
     ensures trace { IfErr result (λ unfollowed. unfollowed.trace ≡ Some trace) }
 {
     match shape {
@@ -126,7 +143,7 @@ fn going_on(version: Version, trace: Recorded, shape: Shape) -> Result<Stage, Un
             kind: TextKind::Header,
             trace: Some(trace),
         }),
-        Shape::Entry { entry } => admitted(version, trace, entry),
+        Shape::Entry { entry } => admitted(limits, version, trace, entry),
         Shape::End { entries } => {
             if entries == trace.len() {
                 Ok(Stage::Ended { version, trace })
@@ -140,16 +157,16 @@ fn going_on(version: Version, trace: Recorded, shape: Shape) -> Result<Stage, Un
     }
 }
 
-fn follow(alloc: Global, stage: Stage, shape: Shape) -> Result<Stage, Unfollowed>
-    ensures value { GivesFollowed result (follow stage shape) }
+fn follow(alloc: Global, limits: Limits, stage: Stage, shape: Shape) -> Result<Stage, Unfollowed>
+    ensures value { GivesFollowed result (follow limits.entries stage shape) }
     ensures trace { IfErr result (λ unfollowed. IfSome unfollowed.trace (IsGoingOn stage)) }
 {
     match stage {
-        Stage::Opening => match opening(alloc, shape) {
+        Stage::Opening => match opening(alloc, limits, shape) {
             Ok(begun) => Ok(begun),
             Err(kind) => Err(Unfollowed { kind, trace: None }),
         },
-        Stage::Within { version, trace } => going_on(version, trace, shape),
+        Stage::Within { version, trace } => going_on(limits, version, trace, shape),
         Stage::Ended { .. } => Err(Unfollowed {
             kind: TextKind::After,
             trace: None,
@@ -188,25 +205,28 @@ fn before_of(alloc: Global, trace: Option<Recorded>, line: &[u8]) -> Option<Befo
 /// Takes the next line, which goes up to byte number `end` of the text.
 pub(crate) fn after_line(
     alloc: Global,
+    limits: Limits,
     stage: Stage,
     end: usize,
     line: &[u8],
 ) -> Result<Stage, Refused>
-    ensures value { GivesRefused result (after_line stage end line.now) }
-    ensures within { OnOk result (end ≤ max_text) }
+    ensures value { GivesRefused result (after_line limits.entries stage end line.now) }
+    ensures within { OnOk result (end ≤ text_within limits.entries) }
+    ensures few { OnOk result (end ≤ longest_text) }
     ensures before { IfErr result (λ refused. IsKeptAt stage line.now refused.before) }
 {
     if let Stage::Ended { .. } = &stage {
         return Err(alone(TextKind::After));
     }
-    if end > MAX_TEXT {
+    let most = text_within(limits);
+    if end > most {
         return Err(alone(TextKind::Big));
     }
     let shape = match line_shape(alloc, line) {
         Ok(shape) => shape,
         Err(kind) => return Err(alone(kind)),
     };
-    match follow(alloc, stage, shape) {
+    match follow(alloc, limits, stage, shape) {
         Ok(stage) => Ok(stage),
         Err(unfollowed) => Err(Refused {
             kind: unfollowed.kind,

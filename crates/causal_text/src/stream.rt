@@ -4,12 +4,13 @@ ghost use Rattle.std.specs.Io.KnownBytes.{Consumes};
 ghost use Rattle.causal_trace.specs.Rows.{Recording};
 ghost use Rattle.causal_text.specs.Inside.Kept.{IsKeptAfter};
 ghost use Rattle.causal_text.specs.Spelling.{Spells, IsReadAt};
-ghost use Rattle.causal_text.specs.Streams.{HasRead, IsReading, HasPiece, Follows, Ends, IsFaultAfter, FailsBy, FailsAt, TellsOf, TellsLineOf, held_trace, IsHeldTrace};
+ghost use Rattle.causal_text.specs.Streams.{HasRead, HasReadWithin, IsReading, HasPiece, Follows, Ends, IsFaultAfter, FailsBy, FailsAt, TellsOf, TellsLineOf, held_trace, IsHeldTrace};
 
 use crate::before::Rejected;
 use crate::kind::{TextFault, TextKind};
 use crate::reader::PieceReader;
 use crate::recorded::Recorded;
+use causal_trace::limits::{DEFAULT_LIMITS, Limits};
 use causal_trace::trace::Trace;
 use std::alloc::Global;
 use std::io::Read;
@@ -55,25 +56,33 @@ pub enum ReaderFault {
 }
 
 // the state after one more piece, or at the end where the piece is empty
-pub(crate) fn advance(alloc: Global, pieces: PieceReader, piece: &[u8]) -> Result<State, Rejected>
-    ensures ok { IfOk result (λ s. (b : List ℕ) → HasRead (State.Reading pieces) b → HasRead s (b ++ piece.now)) }
+pub(crate) fn advance(
+    alloc: Global,
+    limits: Limits,
+    pieces: PieceReader,
+    piece: &[u8],
+) -> Result<State, Rejected>
+    ensures ok { IfOk result (λ s. (b : List ℕ) → HasReadWithin limits.entries (State.Reading pieces) b
+        → HasReadWithin limits.entries s (b ++ piece.now)) }
     ensures err { IfErr result (λ rejected. rejected.fault.kind ≢ TextKind.NoMemory
-        → (b : List ℕ) → HasRead (State.Reading pieces) b → IsFaultAfter piece.now (b ++ piece.now) rejected.fault) }
+        → (b : List ℕ) → HasReadWithin limits.entries (State.Reading pieces) b
+        → IsFaultAfter limits.entries piece.now (b ++ piece.now) rejected.fault) }
     ensures memory { IfErr result (λ rejected. rejected.fault.kind ≡ TextKind.NoMemory
-        → (b : List ℕ) → HasRead (State.Reading pieces) b → IsReadAt (b ++ piece.now) rejected.fault.line) }
-    ensures before { IfErr result (λ rejected. (b : List ℕ) → HasRead (State.Reading pieces) b
-        → IsKeptAfter piece.now (b ++ piece.now) rejected) }
+        → (b : List ℕ) → HasReadWithin limits.entries (State.Reading pieces) b
+        → IsReadAt limits.entries (b ++ piece.now) rejected.fault.line) }
+    ensures before { IfErr result (λ rejected. (b : List ℕ) → HasReadWithin limits.entries (State.Reading pieces) b
+        → IsKeptAfter limits.entries piece.now (b ++ piece.now) rejected) }
     ensures more { 0 < length piece.now → IfOk result (Follows Progress.More) }
     ensures ended { length piece.now ≡ 0 → IfOk result (Follows Progress.Ended) }
 {
     if piece.is_empty() {
-        Ok(State::Ended(pieces.end(alloc)?))
+        Ok(State::Ended(pieces.end(alloc, limits)?))
     } else {
-        Ok(State::Reading(pieces.feed(alloc, piece)?))
+        Ok(State::Reading(pieces.feed(alloc, limits, piece)?))
     }
 }
 
-/// Reads a trace from a source of bytes, a piece at a time. Only the unfinished line and the trace are kept, and of a
+/// Reads a trace from a source of bytes by the usual limits, a piece at a time. Only the unfinished line and the trace are kept, and of a
 /// line that is too long or follows the end line no byte more. After an error each call answers `Failed`.
 #[derive(Drop)]
 pub struct TraceReader<R: Drop> {
@@ -123,7 +132,7 @@ impl<R: Read + Drop> TraceReader<R> {
         let Ok(n) = self.source.read(&mut buffer) else {
             return Err(ReaderFault::Read);
         };
-        match advance(self.alloc, pieces, &buffer[..n]) {
+        match advance(self.alloc, DEFAULT_LIMITS, pieces, &buffer[..n]) {
             Ok(state) => {
                 self.state = state;
                 Ok(if n == 0 {
@@ -184,9 +193,9 @@ impl<R: Read + Drop> TraceReader<R> {
 }
 
 // Each piece but the last has a byte, and a text has at most so many less two.
-pub(crate) const MAX_PIECES: u32 = 33_554_434;
+const MAX_PIECES: u32 = 33_554_434;
 
-/// The trace that the bytes of a source spell, which is read to its end, or until what was read is no beginning of a
+/// The trace that the bytes of a source spell by the usual limits. The source is read to its end, or until what was read is no beginning of a
 /// trace. Each piece but the last has a byte, so the source is asked for at most 33,554,434 pieces.
 pub fn read_from<R: Read + Drop>(alloc: Global, source: R) -> Result<Trace, ReaderFault>
     ensures ok { IfOk result (λ trace. IfSome (R.remaining source) (λ bytes. Spells bytes trace.recording)) }

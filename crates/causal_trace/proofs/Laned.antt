@@ -64,14 +64,14 @@ lane_few (Crash who ∷ past) p = omega (arith, lane_few past p)
 lane_few (Forget who listed ∷ past) p = omega (arith, lane_few past p)
 
 -- no count is above the number of entries
-lane_has_room : (past : List Entry) (p : ℕ) → length past < 65536 → HasRoom (lane_of past p)
+lane_has_room : (past : List Entry) (p : ℕ) → length past < 16777216 → HasRoom (lane_of past p)
 lane_has_room past p h = record {
   restarts = omega (arith, h, lane_few past p);
   sends = omega (arith, h, sends_few past p);
   deliveries = omega (arith, h, deliveries_few past p);
 }
 
-pub lanes_have_room : (n : ℕ) (past : List Entry) (lanes : List Lane) → ArePresentLanes n past lanes → length past < 65536 → All HasRoom lanes
+pub lanes_have_room : (n : ℕ) (past : List Entry) (lanes : List Lane) → ArePresentLanes n past lanes → length past < 16777216 → All HasRoom lanes
 lanes_have_room n past lanes are short k d below = subst HasRoom (sym (are.each k d (omega (arith, are.count, below)))) (lane_has_room past k short)
 
 below_count : (a n : ℕ) → not (nat_lt a n) ≡ false → a < n

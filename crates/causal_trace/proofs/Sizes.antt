@@ -39,16 +39,16 @@ module _ (limit : ℕ) where
       let c = both (same_pid e.dest d.dest) (e.rsn == d.rsn) b.1 in
       record {
         source = subst (λ k. k < limit) (eqb-true e.source.0 d.source.0 a.0) h.source;
-        ssn = subst (λ k. k < 65536) (eqb-true e.ssn d.ssn b.0) h.ssn;
+        ssn = subst (λ k. k < 16777216) (eqb-true e.ssn d.ssn b.0) h.ssn;
         dest = subst (λ k. k < limit) (eqb-true e.dest.0 d.dest.0 c.0) h.dest;
-        rsn = subst (λ k. k < 65536) (eqb-true e.rsn d.rsn c.1) h.rsn;
+        rsn = subst (λ k. k < 16777216) (eqb-true e.rsn d.rsn c.1) h.rsn;
       }
 
   told_small : (o : Option Det) (d : Det) → IfSome o (DetIsSmall limit) → is_det o d ≡ true → DetIsSmall limit d
   told_small None d h t = absurd (false≢true t)
   told_small (Some e) d h t = same_small e d h t
 
-  sent_small : (e : Entry) → EntryIsSmall limit e → IfSome (message_sent e) (λ m. (m.source.0 < limit) × (m.ssn < 65536))
+  sent_small : (e : Entry) → EntryIsSmall limit e → IfSome (message_sent e) (λ m. (m.source.0 < limit) × (m.ssn < 16777216))
   sent_small (Send from to ssn) h = (h.0, h.2)
   sent_small (Deliver to send rsn listed) h = tt
   sent_small (Stable det) h = tt
@@ -56,17 +56,17 @@ module _ (limit : ℕ) where
   sent_small (Restart who listed) h = tt
   sent_small (Forget who listed) h = tt
 
-  message_small : (past : List Entry) (send : ℕ) → EntriesAreSmall limit past → IfSome (message_at past send) (λ m. (m.source.0 < limit) × (m.ssn < 65536))
+  message_small : (past : List Entry) (send : ℕ) → EntriesAreSmall limit past → IfSome (message_at past send) (λ m. (m.source.0 < limit) × (m.ssn < 16777216))
   message_small [] send h = tt
   message_small (e ∷ past) send h =
-      elim (send == length past) as (λ b. IfSome (option_and_then message_sent (cond b (Some e) (entry_at past send))) (λ m. (m.source.0 < limit) × (m.ssn < 65536))) [
+      elim (send == length past) as (λ b. IfSome (option_and_then message_sent (cond b (Some e) (entry_at past send))) (λ m. (m.source.0 < limit) × (m.ssn < 16777216))) [
         | true ↦ sent_small e h.0
         | false ↦ message_small past send h.1
       ]
 
-  det_small : (past : List Entry) (to : Pid) (send rsn : ℕ) → EntriesAreSmall limit past → to.0 < limit → rsn < 65536 → IfSome (option_map (det_from to rsn) (message_at past send)) (DetIsSmall limit)
+  det_small : (past : List Entry) (to : Pid) (send rsn : ℕ) → EntriesAreSmall limit past → to.0 < limit → rsn < 16777216 → IfSome (option_map (det_from to rsn) (message_at past send)) (DetIsSmall limit)
   det_small past to send rsn h low few =
-      elim (message_at past send) as (λ o. IfSome o (λ m. (m.source.0 < limit) × (m.ssn < 65536)) → IfSome (option_map (det_from to rsn) o) (DetIsSmall limit)) [
+      elim (message_at past send) as (λ o. IfSome o (λ m. (m.source.0 < limit) × (m.ssn < 16777216)) → IfSome (option_map (det_from to rsn) o) (DetIsSmall limit)) [
         | None ↦ λ _. tt
         | Some m ↦ λ k. record { source = k.0; ssn = k.1; dest = low; rsn = few }
       ] (message_small past send h)
@@ -103,7 +103,7 @@ module _ (limit : ℕ) where
       (with_small past own d (delivered_small past d h) k p.0, all_with_small past own ds h k p.1)
 
   -- an entry that may come next has only small numbers
-  entry_small : (n : ℕ) (past : List Entry) (e : Entry) → n ≤ limit → EntriesAreSmall limit past → length past < 65536 → first_fault n past e ≡ None → EntryIsSmall limit e
+  entry_small : (n : ℕ) (past : List Entry) (e : Entry) → n ≤ limit → EntriesAreSmall limit past → length past < 16777216 → first_fault n past e ≡ None → EntryIsSmall limit e
   unfolding rows
   entry_small n past (Send from to ssn) few h short next =
       let e : Entry = Send from to ssn in
@@ -116,7 +116,7 @@ module _ (limit : ℕ) where
       let q : to.0 < limit = omega (arith, few, p) in
       let at : send < length past = sent_within past send to.0 (delivers_sent n past to send rsn listed next) in
       let s = equal rsn (deliveries past to.0) (row_fails (rows n past e) next 4 (not (rsn == deliveries past to.0), WrongRsn) refl) in
-      let k : rsn < 65536 = omega (arith, s, deliveries_few past to.0, short) in
+      let k : rsn < 16777216 = omega (arith, s, deliveries_few past to.0, short) in
       let all = not_false _ (row_fails (rows n past e) next 7 (not (are_delivered_with past (det_of past e) listed), NoDelivery) refl) in
       (q, omega (arith, at, short), k, all_with_small past (det_of past e) listed h (det_small past to send rsn h q k) all)
   entry_small n past (Stable det) few h short next =

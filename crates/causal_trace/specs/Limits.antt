@@ -1,17 +1,25 @@
 -- How large a trace may be.
-use Rattle.std.specs.Prelude.{ℕ, ◌≤◌, Bool, ◌&&◌, nat_le}
+use Rattle.std.specs.Prelude.{ℕ, ◌*◌, ◌≤◌, Bool, ◌&&◌, nat_le}
 
 -- how many processes
 abbrev pub max_processes : ℕ
 max_processes = 256
 
--- how many entries
+-- how many entries any trace has at most
 abbrev pub max_entries : ℕ
-max_entries = 65536
+max_entries = 16777216
 
--- how many determinants its entries list in all
+-- how many determinants its entries list in all at most
 abbrev pub max_listed : ℕ
-max_listed = 1048576
+max_listed = 268435456
+
+-- how many entries a trace has at most whose maker sets no other limit
+abbrev pub default_entries : ℕ
+default_entries = 65536
+
+-- how many determinants the entries of a trace list in all at most that is to have so many entries at most
+abbrev pub listed_within : ℕ → ℕ
+listed_within entries = 16 * entries
 
 -- how many restarts
 abbrev pub max_restarts : ℕ

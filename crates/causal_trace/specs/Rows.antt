@@ -1,5 +1,5 @@
 -- Which entry may come next in a trace, and what stands against another.
-use Rattle.std.specs.Prelude.{◌≡◌, ℕ, ◌+◌, Bool, false, not, ◌==◌, ◌&&◌, ◌||◌, nat_lt, nat_le, if◌then◌else◌, List, [], ◌∷◌, length, Option, Some, None, MatchBool, unwrap_or}
+use Rattle.std.specs.Prelude.{◌≡◌, ℕ, ◌+◌, ◌≤◌, Bool, false, not, ◌==◌, ◌&&◌, ◌||◌, nat_lt, nat_le, if◌then◌else◌, List, [], ◌∷◌, length, Option, Some, None, MatchBool, unwrap_or}
 use Rattle.std.specs.List.{list_all}
 use Rattle.std.specs.Option.{option_map_or}
 use Rattle.causal_name.specs.declared.Det.{Det}
@@ -7,13 +7,17 @@ use Rattle.causal_trace.specs.declared.entry.Entry.{Entry}
 use Rattle.causal_trace.specs.declared.entry.Entry.TheVariants.{Send, Deliver, Stable, Crash, Restart, Forget}
 use Rattle.causal_trace.specs.declared.fault.TraceFault.{TraceFault}
 use Rattle.causal_trace.specs.declared.fault.TraceFault.TheVariants.{Processes, NoMemory, TooLong, NoProcess, NotUp, NotDown, Lanes, WrongSsn, NoSend, WrongRsn, Doubled, Unsorted, NoDelivery}
-use Rattle.causal_trace.specs.Limits.{max_entries, max_listed, max_restarts, is_process_count, IsProcessCount}
+use Rattle.causal_trace.specs.Limits.{max_entries, max_listed, max_restarts, default_entries, listed_within, is_process_count, IsProcessCount}
 use Rattle.causal_name.specs.Names.{is_ascending}
-use Rattle.causal_trace.specs.Past.{is_down, sends, deliveries, message_at, is_sent_to, det_of, is_det, is_delivered, has_delivered, listed_in, restarts}
+use Rattle.causal_trace.specs.Past.{is_down, sends, deliveries, message_at, is_sent_to, det_of, is_det, is_delivered, has_delivered, listed_by, listed_in, restarts}
 
--- whether one more entry that lists so many determinants would pass a limit
+-- whether one more entry that lists so many determinants would pass a limit of any trace
 abbrev pub passes_limit : List Entry → ℕ → Bool
 passes_limit past listed = nat_lt max_entries (length past + 1) || nat_lt max_listed (listed_in past + listed)
+
+-- whether it would pass a limit of a trace that is to have so many entries at most
+abbrev pub passes : ℕ → List Entry → ℕ → Bool
+passes entries past listed = nat_lt entries (length past + 1) || nat_lt (listed_within entries) (listed_in past + listed)
 
 -- whether each determinant is that of a delivery so far
 abbrev pub are_delivered : List Entry → List Det → Bool
@@ -95,10 +99,26 @@ pub record IsWellFormed (r : Recording) : Type 0 where
   pub count : IsProcessCount r.processes
   pub accepted : AreAccepted r.processes r.past
 
--- what is first told against an entry that would come next in a recorded run; None where it may
-abbrev pub fault_next : Recording → Entry → Option TraceFault
-fault_next r e = first_fault r.processes r.past e
+-- what is first told against an entry that would come next in a recorded run of whatever length; None where it may
+abbrev pub fault_by_rows : Recording → Entry → Option TraceFault
+fault_by_rows r e = first_fault r.processes r.past e
+
+-- the same of a run that is to have so many entries at most: that it passes a limit is told first, as in each row
+abbrev pub fault_within : ℕ → Recording → Entry → Option TraceFault
+fault_within entries r e = if passes entries r.past (length (listed_by e)) then Some TooLong else fault_by_rows r e
 
 -- what a refusal to take it tells: that, or want of memory where it may come
+abbrev pub refusal_within : ℕ → Recording → Entry → TraceFault
+refusal_within entries r e = unwrap_or (fault_within entries r e) NoMemory
+
+-- both where nobody sets another limit
+abbrev pub fault_next : Recording → Entry → Option TraceFault
+fault_next r e = fault_within default_entries r e
+
 abbrev pub refusal_next : Recording → Entry → TraceFault
-refusal_next r e = unwrap_or (fault_next r e) NoMemory
+refusal_next r e = refusal_within default_entries r e
+
+-- a recorded run that has so many entries at most, and lists as many determinants at most as such a run may
+pub record IsWithin (entries : ℕ) (r : Recording) : Type 0 where
+  pub few : length r.past ≤ entries
+  pub listed : listed_in r.past ≤ listed_within entries

@@ -9,7 +9,8 @@ pub enum TraceFault {
     /// A trace has from 1 to 256 processes.
     #[error("the number of processes is not from 1 to 256")]
     Processes,
-    /// A trace has at most 65,536 entries, which list at most 1,048,576 determinants in all.
+    /// A trace has at most 65,536 entries, which list at most 1,048,576 determinants in all, unless its maker sets other
+    /// limits.
     #[error("the trace would be too long")]
     TooLong,
     /// The entry names a process that the trace does not have.

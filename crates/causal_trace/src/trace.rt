@@ -10,14 +10,15 @@ use crate::chains::{Chains, Receipt, Sought};
 use crate::entry::{Dets, Entry};
 use crate::fault::TraceFault;
 use crate::lanes::{Lane, copied_entries, copied_lanes, fresh_lanes, note_lane, restarts_in};
-use crate::limits::{MAX_ENTRIES, MAX_LISTED, MAX_PROCESSES, MAX_RESTARTS};
+use crate::limits::{DEFAULT_LIMITS, Limits, MAX_ENTRIES, MAX_LISTED, MAX_PROCESSES, MAX_RESTARTS};
 use crate::scans;
 use causal_name::{Det, MsgName, NoMemory, Pid};
 use std::alloc::Global;
 use std::marker::Model;
 
-/// A trace: a recorded run of 1 to 256 processes, each of whose entries may stand where it stands. It keeps its limits,
-/// 65,536 entries, 1,048,576 listed determinants and 192 restarts.
+/// A trace: a recorded run of 1 to 256 processes, each of whose entries may stand where it stands. It keeps the limits of
+/// any trace, 16,777,216 entries, 268,435,456 listed determinants and 192 restarts. `push` keeps the usual limits, which are
+/// less; `push_within` those that its caller names.
 ///
 /// It is seen as its recording, and as the numbers of pushes that are sure of their memory, of any entries and of stable
 /// ones, of which equality does not speak.
@@ -68,7 +69,7 @@ impl Trace {
     ghost use Rattle.causal_trace.specs.Limits.{max_listed, max_restarts, IsProcessCount};
     ghost use Rattle.causal_name.specs.declared.Det.{Det};
     ghost use Rattle.causal_trace.specs.Past.{lane, entry_at, listed_in, restarts, deliveries_in, det_at, is_delivered, has_delivered};
-    ghost use Rattle.causal_trace.specs.Rows.{fault_next, refusal_next, IsRefusedBeginning, passes_limit, are_delivered, are_delivered_with, IsWellFormed};
+    ghost use Rattle.causal_trace.specs.Rows.{fault_by_rows, fault_within, fault_next, refusal_within, refusal_next, IsRefusedBeginning, passes, passes_limit, are_delivered, are_delivered_with, IsWellFormed};
     ghost use Rattle.causal_trace.specs.Inside.Index.{lane_of};
     ghost use Rattle.causal_trace.specs.State.{entries_of, with_entry, is_up_at, lane_at};
 
@@ -93,8 +94,8 @@ impl Trace {
         })
     }
 
-    /// Adds the entry at the end, if nothing stands against it. On a refusal the entry is dropped and the trace is as it
-    /// was.
+    /// Adds the entry at the end, if nothing stands against it and the trace keeps the usual limits with it: 65,536 entries
+    /// and 1,048,576 listed determinants. On a refusal the entry is dropped and the trace is as it was.
     ///
     /// # Errors
     /// What stands against the entry, the first of `TraceFault`'s order that does; where nothing does, `NoMemory` where
@@ -110,7 +111,22 @@ impl Trace {
         ensures spare { self.old.spare ≤ self.new.spare + 1 }
         ensures memory { result ≡ Err TraceFault.NoMemory → self.old.spare ≡ 0 }
     {
-        if let Some(fault) = self.fault_of(&entry) {
+        self.push_within(DEFAULT_LIMITS, entry)
+    }
+
+    /// Adds the entry at the end as `push` does, where the trace keeps these limits with it in place of the usual ones.
+    ///
+    /// # Errors
+    /// Those of `push`; `TooLong` where these limits would be passed.
+    pub fn push_within(&mut self, limits: Limits, entry: Entry) -> Result<(), TraceFault>
+        ensures legal { OnOk result (fault_within limits.entries self.old.recording entry ≡ None) }
+        ensures ok { OnOk result (self.new.recording ≡ with_entry self.old.recording entry) }
+        ensures refused { IfErr result (λ fault. fault ≡ refusal_within limits.entries self.old.recording entry) }
+        ensures err { OnErr result (self.new.recording ≡ self.old.recording) }
+        ensures spare { self.old.spare ≤ self.new.spare + 1 }
+        ensures memory { result ≡ Err TraceFault.NoMemory → self.old.spare ≡ 0 }
+    {
+        if let Some(fault) = self.fault_within(limits, &entry) {
             return Err(fault);
         }
         self.append(entry)?;
@@ -119,7 +135,7 @@ impl Trace {
 
     /// Adds an entry against which no row stands, where there is room for it: it takes no memory and refuses nothing.
     pub fn push_reserved(&mut self, entry: Entry)
-        requires legal { fault_next self.old.recording entry ≡ None }
+        requires legal { fault_by_rows self.old.recording entry ≡ None }
         requires room { 1 ≤ self.old.spare }
         ensures recording { self.new.recording ≡ with_entry self.old.recording entry }
         ensures formed { IsWellFormed self.new.recording }
@@ -130,7 +146,7 @@ impl Trace {
 
     /// Adds an entry against which no row stands.
     fn append(&mut self, entry: Entry) -> Result<(), NoMemory>
-        requires { fault_next self.old.recording entry ≡ None }
+        requires { fault_by_rows self.old.recording entry ≡ None }
         ensures ok { OnOk result (self.new.recording ≡ with_entry self.old.recording entry) }
         ensures err { OnErr result (self.new.recording ≡ self.old.recording) }
         ensures formed { IsWellFormed self.new.recording }
@@ -179,7 +195,7 @@ impl Trace {
 
     /// Adds a stable entry against which no row stands, where there is room for it: it takes no memory and refuses nothing.
     pub fn push_stable_reserved(&mut self, det: Det)
-        requires legal { fault_next self.old.recording (Entry.Stable det) ≡ None }
+        requires legal { fault_by_rows self.old.recording (Entry.Stable det) ≡ None }
         requires room { 1 ≤ self.old.stable_spare }
         ensures recording { self.new.recording ≡ with_entry self.old.recording (Entry.Stable det) }
         ensures formed { IsWellFormed self.new.recording }
@@ -362,7 +378,15 @@ impl Trace {
             .all(|d| scans::is_det(own, *d) || self.is_delivered(*d))
     }
 
-    /// Whether one more entry that lists so many determinants would pass a limit.
+    /// Whether one more entry that lists so many determinants would pass these limits.
+    pub fn passes(&self, limits: Limits, listed: usize) -> bool
+        ensures { result ≡ passes limits.entries self.now.recording.past listed }
+    {
+        let all = (listed as u64).saturating_add(u64::from(self.listed));
+        self.len() >= limits.entries || all > limits.listed()
+    }
+
+    /// Whether it would pass a limit of any trace.
     fn passes_limit(&self, listed: usize) -> bool
         ensures { result ≡ passes_limit self.now.recording.past listed }
     {
@@ -371,7 +395,7 @@ impl Trace {
 
     #[tactic(auto, unfolding(crate::specs::Rows::rows))]
     fn send_fault(&self, from: Pid, to: Pid, ssn: u32) -> Option<TraceFault>
-        ensures { result ≡ fault_next self.now.recording (Entry.Send from to ssn) }
+        ensures { result ≡ fault_by_rows self.now.recording (Entry.Send from to ssn) }
     {
         if self.passes_limit(0) {
             return Some(TraceFault::TooLong);
@@ -391,7 +415,7 @@ impl Trace {
 
     #[tactic(auto, unfolding(crate::specs::Rows::rows))]
     fn deliver_fault(&self, to: Pid, send: u32, rsn: u32, listed: &Dets) -> Option<TraceFault>
-        ensures { result ≡ fault_next self.now.recording (Entry.Deliver to send rsn listed.now) }
+        ensures { result ≡ fault_by_rows self.now.recording (Entry.Deliver to send rsn listed.now) }
     {
         if self.passes_limit(listed.as_slice().len()) {
             return Some(TraceFault::TooLong);
@@ -425,7 +449,7 @@ impl Trace {
 
     #[tactic(auto, unfolding(crate::specs::Rows::rows))]
     fn stable_fault(&self, det: Det) -> Option<TraceFault>
-        ensures { result ≡ fault_next self.now.recording (Entry.Stable det) }
+        ensures { result ≡ fault_by_rows self.now.recording (Entry.Stable det) }
     {
         if self.passes_limit(0) {
             return Some(TraceFault::TooLong);
@@ -438,7 +462,7 @@ impl Trace {
 
     #[tactic(auto, unfolding(crate::specs::Rows::rows))]
     fn crash_fault(&self, who: Pid) -> Option<TraceFault>
-        ensures { result ≡ fault_next self.now.recording (Entry.Crash who) }
+        ensures { result ≡ fault_by_rows self.now.recording (Entry.Crash who) }
     {
         if self.passes_limit(0) {
             return Some(TraceFault::TooLong);
@@ -454,7 +478,7 @@ impl Trace {
 
     #[tactic(auto, unfolding(crate::specs::Rows::rows))]
     fn restart_fault(&self, who: Pid, listed: &Dets) -> Option<TraceFault>
-        ensures { result ≡ fault_next self.now.recording (Entry.Restart who listed.now) }
+        ensures { result ≡ fault_by_rows self.now.recording (Entry.Restart who listed.now) }
     {
         if self.passes_limit(listed.as_slice().len()) {
             return Some(TraceFault::TooLong);
@@ -479,7 +503,7 @@ impl Trace {
 
     #[tactic(auto, unfolding(crate::specs::Rows::rows))]
     fn forget_fault(&self, who: Pid, listed: &Dets) -> Option<TraceFault>
-        ensures { result ≡ fault_next self.now.recording (Entry.Forget who listed.now) }
+        ensures { result ≡ fault_by_rows self.now.recording (Entry.Forget who listed.now) }
     {
         if self.passes_limit(listed.as_slice().len()) {
             return Some(TraceFault::TooLong);
@@ -499,9 +523,19 @@ impl Trace {
         None
     }
 
-    /// What is first told against the entry.
+    /// What is first told against the entry in a trace with these limits.
+    fn fault_within(&self, limits: Limits, entry: &Entry) -> Option<TraceFault>
+        ensures { result ≡ fault_within limits.entries self.now.recording entry.now }
+    {
+        if self.passes(limits, entry.listed()) {
+            return Some(TraceFault::TooLong);
+        }
+        self.fault_of(entry)
+    }
+
+    /// What is first told against the entry, by the rows.
     fn fault_of(&self, entry: &Entry) -> Option<TraceFault>
-        ensures { result ≡ fault_next self.now.recording entry.now }
+        ensures { result ≡ fault_by_rows self.now.recording entry.now }
     {
         match entry {
             Entry::Send { from, to, ssn } => self.send_fault(*from, *to, *ssn),

@@ -1,6 +1,6 @@
 -- Whether a limit would be passed.
 use Rattle.std.specs.Prelude.{ℕ, ◌+◌, Bool, ◌||◌, nat_lt, List, length}
-use Rattle.causal_trace.specs.Limits.{max_entries, max_listed}
+use Rattle.causal_protocol.specs.Limits.{max_entries, max_listed}
 use Rattle.causal_trace.specs.Past.{listed_in}
 use Rattle.causal_trace.specs.declared.entry.Entry.{Entry}
 

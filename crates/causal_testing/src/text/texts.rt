@@ -246,7 +246,7 @@ fn bytes_that_are_no_value(rt: HostRuntime) -> Result<(), Fail> {
 }
 
 // an empty trace, with spaces after it up to so many bytes
-fn padded(alloc: Global, length: usize) -> Result<Vec<u8>, Fail> {
+pub(super) fn padded(alloc: Global, length: usize) -> Result<Vec<u8>, Fail> {
     let mut text = Vec::new(alloc);
     text.extend_from_slice(b"[\"trace\",1,1]\n[\"end\",0]")?;
     text.resize(length, b' ')?;
@@ -277,7 +277,7 @@ fn one_restart_too_many(rt: HostRuntime) -> Result<(), Fail> {
 }
 
 // so many sends of one process to itself
-fn sends(alloc: Global, count: u32) -> Result<String, Fail> {
+pub(super) fn sends(alloc: Global, count: u32) -> Result<String, Fail> {
     let mut text = format!(in alloc; "[\"trace\",1,1]\n")?;
     for ssn in 0..count {
         write!(text, "[\"send\",0,0,{ssn}]\n")?;

@@ -10,21 +10,21 @@ use Rattle.causal_text.specs.Place.{Place}
 use Rattle.causal_text.specs.Reading.{◌>>=◌}
 use Rattle.causal_text.specs.Inside.LineByLine.{start, next, after_lines, ended, reading}
 use Rattle.causal_text.specs.Stages.{after_line}
-use Rattle.causal_text.specs.Spelling.{Spells, IsOpen, IsFaultOfLine, IsCut, IsFirstFault}
+use Rattle.causal_text.specs.Spelling.{SpellsWithin, IsOpen, IsFaultOfLine, IsCut, IsFirstFaultWithin}
 use Rattle.causal_text.proofs.Spellings.{IsPlaceAfter-lines, IsPlaceAfter-start}
 use Rattle.causal_text.proofs.Complete.{after_lines-append, Leads-reached, reading-spelled}
 
 -- a line with a fault is refused for it
-faulty_next : (q : Place) (line : List ℕ) (f : TextFault) → after_line q.stage (q.size + length line) line ≡ Err f.kind → f.line ≡ q.count + 1 → next q line ≡ Err f
-faulty_next q line f h n = rw h (ap (λ k. Err (record { line = k; kind = f.kind })) (sym n))
+faulty_next : (most : ℕ) (q : Place) (line : List ℕ) (f : TextFault) → after_line most q.stage (q.size + length line) line ≡ Err f.kind → f.line ≡ q.count + 1 → next most q line ≡ Err f
+faulty_next most q line f h n = rw h (ap (λ k. Err (record { line = k; kind = f.kind })) (sym n))
 
 -- the fault of the least line that has one is what reading gives
-fault_of_line : (text : List ℕ) (f : TextFault) → IsFaultOfLine text f → reading text ≡ Err f
-fault_of_line text f e =
-    let q = Leads-reached e.before e.stage e.reaches in
-    let st = IsPlaceAfter-lines [] e.before start q.0 IsPlaceAfter-start q.1 in
-    let here = faulty_next q.0 e.line f (rw (q.2, st.size) e.faulty) (rw st.count e.number) in
-    let all : after_lines start (lines text) ≡ Err f = ap (after_lines start) e.split ∙ after_lines-append start q.0 e.before (e.line ∷ e.after) q.1 ∙ rw here refl in
+fault_of_line : (most : ℕ) (text : List ℕ) (f : TextFault) → IsFaultOfLine most text f → reading most text ≡ Err f
+fault_of_line most text f e =
+    let q = Leads-reached most e.before e.stage e.reaches in
+    let st = IsPlaceAfter-lines most [] e.before start q.0 (IsPlaceAfter-start most) q.1 in
+    let here = faulty_next most q.0 e.line f (rw (q.2, st.size) e.faulty) (rw st.count e.number) in
+    let all : after_lines most start (lines text) ≡ Err f = ap (after_lines most start) e.split ∙ after_lines-append most start q.0 e.before (e.line ∷ e.after) q.1 ∙ rw here refl in
     ap (λ (r : Result Place TextFault). r >>= λ p. ended p p.stage) all
 
 -- with no end line so far the text is cut here
@@ -34,25 +34,25 @@ cut_here q (Within version r) f h n k = ap₂ (λ l c. Err (record { line = l; k
 cut_here q (Ended version r) f h n k = absurd h
 
 -- that a text is cut is what reading gives
-cut_of : (text : List ℕ) (f : TextFault) → IsCut text f → reading text ≡ Err f
-cut_of text f e =
-    let q = Leads-reached (lines text) e.stage e.reaches in
-    let st = IsPlaceAfter-lines [] (lines text) start q.0 IsPlaceAfter-start q.1 in
+cut_of : (most : ℕ) (text : List ℕ) (f : TextFault) → IsCut most text f → reading most text ≡ Err f
+cut_of most text f e =
+    let q = Leads-reached most (lines text) e.stage e.reaches in
+    let st = IsPlaceAfter-lines most [] (lines text) start q.0 (IsPlaceAfter-start most) q.1 in
     ap (λ (r : Result Place TextFault). r >>= λ p. ended p p.stage) q.1
     ∙ cut_here q.0 q.0.stage f (subst (λ (s : Stage). IsOpen s) (sym q.2) e.unended) (rw st.count e.number) e.kind_is
 
 -- the first fault of a text is what reading gives
-pub reading-first : (text : List ℕ) (f : TextFault) → IsFirstFault text f → reading text ≡ Err f
-reading-first text f e = elim e [ inl l ↦ fault_of_line text f l | inr c ↦ cut_of text f c ]
+pub reading-first : (most : ℕ) (text : List ℕ) (f : TextFault) → IsFirstFaultWithin most text f → reading most text ≡ Err f
+reading-first most text f e = elim e [ inl l ↦ fault_of_line most text f l | inr c ↦ cut_of most text f c ]
 
 -- a text has one first fault at most
-pub one_fault : (text : List ℕ) (f g : TextFault) → IsFirstFault text f → IsFirstFault text g → f ≡ g
-one_fault text f g a b = let e = sym (reading-first text f a) ∙ reading-first text g b in cc
+pub one_fault : (most : ℕ) (text : List ℕ) (f g : TextFault) → IsFirstFaultWithin most text f → IsFirstFaultWithin most text g → f ≡ g
+one_fault most text f g a b = let e = sym (reading-first most text f a) ∙ reading-first most text g b in cc
 
 -- it spells one recording at most
-pub one_recording : (text : List ℕ) (r s : Recording) → Spells text r → Spells text s → r ≡ s
-one_recording text r s a b = let e = sym (reading-spelled text r a) ∙ reading-spelled text s b in cc
+pub one_recording : (most : ℕ) (text : List ℕ) (r s : Recording) → SpellsWithin most text r → SpellsWithin most text s → r ≡ s
+one_recording most text r s a b = let e = sym (reading-spelled most text r a) ∙ reading-spelled most text s b in cc
 
 -- it does not spell a recording and have a fault
-pub not_both : (text : List ℕ) (r : Recording) (f : TextFault) → Spells text r → IsFirstFault text f → ⊥
-not_both text r f a b = let e = sym (reading-spelled text r a) ∙ reading-first text f b in cc
+pub not_both : (most : ℕ) (text : List ℕ) (r : Recording) (f : TextFault) → SpellsWithin most text r → IsFirstFaultWithin most text f → ⊥
+not_both most text r f a b = let e = sym (reading-spelled most text r a) ∙ reading-first most text f b in cc

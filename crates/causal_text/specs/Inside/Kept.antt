@@ -10,7 +10,7 @@ use Rattle.causal_text.specs.declared.stage.Stage.{Stage}
 use Rattle.causal_text.specs.declared.stage.Stage.TheVariants.{Within}
 use Rattle.causal_text.specs.declared.stage.Unfollowed.{Unfollowed}
 use Rattle.causal_text.specs.declared.version.Version.{Version}
-use Rattle.causal_text.specs.Before.{StandsBefore, IsKept}
+use Rattle.causal_text.specs.Before.{StandsBeforeWithin, IsKeptWithin}
 use Rattle.causal_text.specs.Given.{IsFaultGiven}
 use Rattle.causal_text.specs.Stages.{line_shape}
 
@@ -36,10 +36,10 @@ abbrev pub IsKeptAt : Stage → List ℕ → Option Before → Type 0
 IsKeptAt stage line kept = IfSome kept (λ at. IsGoingOn stage at.trace.recording × (line_shape line ≡ Ok at.says))
 
 -- what is kept stands before the line of the fault, however the text goes on
-abbrev pub IsKeptOfAll : List ℕ → Rejected → Type 0
-IsKeptOfAll bytes rejected = IfSome rejected.before (λ at. (more : List ℕ) → StandsBefore (bytes ++ more) rejected.fault.line at.trace.recording at.says)
+abbrev pub IsKeptOfAll : ℕ → List ℕ → Rejected → Type 0
+IsKeptOfAll most bytes rejected = IfSome rejected.before (λ at. (more : List ℕ) → StandsBeforeWithin most (bytes ++ more) rejected.fault.line at.trace.recording at.says)
 
 -- however the bytes read go on, or in them alone where the last piece was empty
-abbrev pub IsKeptAfter : List ℕ → List ℕ → Rejected → Type 0
-IsKeptAfter [] bytes rejected = IsKept bytes rejected
-IsKeptAfter (x ∷ xs) bytes rejected = IsKeptOfAll bytes rejected
+abbrev pub IsKeptAfter : ℕ → List ℕ → List ℕ → Rejected → Type 0
+IsKeptAfter most [] bytes rejected = IsKeptWithin most bytes rejected
+IsKeptAfter most (x ∷ xs) bytes rejected = IsKeptOfAll most bytes rejected

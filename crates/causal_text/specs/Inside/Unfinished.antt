@@ -5,28 +5,28 @@ use Rattle.causal_text.specs.declared.kind.TextFault.{TextFault}
 use Rattle.causal_text.specs.Place.{Place}
 use Rattle.causal_text.specs.Pieces.{Held}
 use Rattle.causal_text.specs.Reading.{◌>>=◌}
-use Rattle.causal_text.specs.Inside.LineByLine.{next, ended, reading}
+use Rattle.causal_text.specs.Inside.LineByLine.{next, ended, reading, HasRoomFor}
 
--- how many bytes are held
-abbrev pub taken : Held → ℕ
-taken h = h.place.size + length h.rest
+-- where the complete lines are within the limit of a text, so is all that is held
+abbrev pub HasRoom : ℕ → Held → Type 0
+HasRoom most h = HasRoomFor most h.place (length h.rest)
 
 -- however the text goes on, this is what reading gives
-abbrev pub IsFaultOfAll : List ℕ → TextFault → Type 0
-IsFaultOfAll bytes fault = (more : List ℕ) → reading (bytes ++ more) ≡ Err fault
+abbrev pub IsFaultOfAll : ℕ → List ℕ → TextFault → Type 0
+IsFaultOfAll most bytes fault = (more : List ℕ) → reading most (bytes ++ more) ≡ Err fault
 
 -- the rest of a line has come, with its line feed
-abbrev pub with_line : Held → List ℕ → Result Held TextFault
-with_line h line = next h.place (h.rest ++ line) >>= λ p. Ok (record { place = p; rest = [] })
+abbrev pub with_line : ℕ → Held → List ℕ → Result Held TextFault
+with_line most h line = next most h.place (h.rest ++ line) >>= λ p. Ok (record { place = p; rest = [] })
 
 -- the unfinished line has the fault, however it goes on
-abbrev pub IsPast : Held → TextFault → Type 0
-IsPast h fault = (m : List ℕ) → next h.place (h.rest ++ m) ≡ Err fault
+abbrev pub IsPast : ℕ → Held → TextFault → Type 0
+IsPast most h fault = (m : List ℕ) → next most h.place (h.rest ++ m) ≡ Err fault
 
 -- what is held is the end of the text
-abbrev pub last_place : Held → List ℕ → Result Place TextFault
-last_place h [] = Ok h.place
-last_place h (x ∷ xs) = next h.place (x ∷ xs)
+abbrev pub last_place : ℕ → Held → List ℕ → Result Place TextFault
+last_place most h [] = Ok h.place
+last_place most h (x ∷ xs) = next most h.place (x ∷ xs)
 
-abbrev pub ending : Held → Result Recording TextFault
-ending h = last_place h h.rest >>= λ p. ended p p.stage
+abbrev pub ending : ℕ → Held → Result Recording TextFault
+ending most h = last_place most h h.rest >>= λ p. ended p p.stage

@@ -10,13 +10,13 @@ use Rattle.causal_clock.proofs.Clocks.local.Goals as goal
 pub append-requires-clause-place : goal.append-requires-clause-place
 append-requires-clause-place c =
     let lt : c.args.lane < length c.self.inside.lanes.items = rw (← c.self.view_is) at c.requires.lane in
-    let room : length (events_of c.self.inside) < 65536 = rw (← c.self.view_is) at c.requires.room in
+    let room : length (events_of c.self.inside) < 16777216 = rw (← c.self.view_is) at c.requires.room in
     omega (arith, room, small_lane (events_of c.self.inside) (places_of c.self.inside) c.self.inside.lanes.items c.args.lane c.index_mut.result.now lt c.index_mut.ensures.value c.self.invariant.keeps)
 
 pub invariant_of-self-2 : goal.invariant_of-self-2
 invariant_of-self-2 c =
     let lt : c.args.lane < length c.self.inside.lanes.items = rw (← c.self.view_is) at c.requires.lane in
-    let room : length (events_of c.self.inside) < 65536 = rw (← c.self.view_is) at c.requires.room in
+    let room : length (events_of c.self.inside) < 16777216 = rw (← c.self.view_is) at c.requires.room in
     let x = c.index_mut.result.now in
     let z = c.append.new.lane in
     let appended : c.append.new.entries.items ≡ c.self.inside.entries.items ++ record { event = record { lane = c.args.lane; send = None }; place = c.index_mut.result.now.events } ∷ [] =

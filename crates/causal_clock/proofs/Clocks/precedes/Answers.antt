@@ -21,4 +21,4 @@ returns c =
     let lane : lane_of (events_of c.self.inside) c.args.i ≡ c.index-first.result.now.event.lane = lane_of_entry c.self.inside.entries.items c.args.i c.index-first.result.now c.index-first.ensures within in
     let place : place_of (events_of c.self.inside) c.args.i ≡ c.index-first.result.now.place = sym (k.places c.args.i inside) ∙ place_of_entry c.self.inside.entries.items c.args.i c.index-first.result.now c.index-first.ensures within in
     let reach : FirstReach (events_of c.self.inside) c.args.j c.index-first.result.now.event.lane c.reach.result = rw (← c.self.view_is) at c.reach.ensures in
-    rw (← c.self.view_is) (told_by_place c.from.result c.reach.result (place_of (events_of c.self.inside) c.args.i) (Reaches (events_of c.self.inside) c.args.i c.args.j) (reach.first c.args.i inside lane) (c.from.ensures ∙ sym place))
+    rw (← c.self.view_is) (told_by_place c.index-first.result.now.place c.reach.result (place_of (events_of c.self.inside) c.args.i) (Reaches (events_of c.self.inside) c.args.i c.args.j) (reach.first c.args.i inside lane) (sym place))

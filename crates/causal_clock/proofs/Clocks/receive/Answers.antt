@@ -27,7 +27,7 @@ counts_for-requires c =
     let k = c.self.invariant.keeps in
     let es = events_of c.self.inside in
     let send = c.args.send_event in
-    let room : length (events_of c.self.inside) < 65536 = rw (← c.self.view_is) at c.requires.room in
+    let room : length (events_of c.self.inside) < 16777216 = rw (← c.self.view_is) at c.requires.room in
     let inside : c.args.send_event < length (events_of c.self.inside) = rw (← c.self.view_is) at c.requires.sent in
     let within : c.args.send_event < length c.self.inside.entries.items = omega (arith, inside, as_many_events c.self.inside.entries.items) in
     let sent = c.index-sent.result.now in
@@ -51,21 +51,21 @@ invariant_of-self-in_err-make_room c =
 pub raise-requires-clause-few : goal.raise-requires-clause-few
 raise-requires-clause-few c =
     let lt : c.args.lane < length c.self.inside.lanes.items = rw (← c.self.view_is) at c.requires.lane in
-    let room : length (events_of c.self.inside) < 65536 = rw (← c.self.view_is) at c.requires.room in
+    let room : length (events_of c.self.inside) < 16777216 = rw (← c.self.view_is) at c.requires.room in
     let small = small_lane (events_of c.self.inside) (places_of c.self.inside) c.self.inside.lanes.items c.args.lane c.index_mut-own.result.now lt c.index_mut-own.ensures.value c.self.invariant.keeps in
     omega (arith, room, small, c.make_room.ensures.events)
 
 pub append-requires-clause-place : goal.append-requires-clause-place
 append-requires-clause-place c =
     let lt : c.args.lane < length c.self.inside.lanes.items = rw (← c.self.view_is) at c.requires.lane in
-    let room : length (events_of c.self.inside) < 65536 = rw (← c.self.view_is) at c.requires.room in
+    let room : length (events_of c.self.inside) < 16777216 = rw (← c.self.view_is) at c.requires.room in
     let small = small_lane (events_of c.self.inside) (places_of c.self.inside) c.self.inside.lanes.items c.args.lane c.index_mut-own.result.now lt c.index_mut-own.ensures.value c.self.invariant.keeps in
     omega (arith, room, small, c.make_room.ensures.events, c.raise.ensures.events)
 
 pub invariant_of-self-2 : goal.invariant_of-self-2
 invariant_of-self-2 c =
     let lt : c.args.lane < length c.self.inside.lanes.items = rw (← c.self.view_is) at c.requires.lane in
-    let room : length (events_of c.self.inside) < 65536 = rw (← c.self.view_is) at c.requires.room in
+    let room : length (events_of c.self.inside) < 16777216 = rw (← c.self.view_is) at c.requires.room in
     let k = c.self.invariant.keeps in
     let es = events_of c.self.inside in
     let lanes = c.self.inside.lanes.items in

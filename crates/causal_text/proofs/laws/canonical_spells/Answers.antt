@@ -5,4 +5,4 @@ pub returns-clause-spells : goal.returns-clause-spells
 returns-clause-spells c = canonical-spells c.numbers_are_small.ensures.small c.numbers_are_small.ensures.limits
 
 pub returns-clause-short : goal.returns-clause-short
-returns-clause-short c = λ r w. (canonical-spells c.numbers_are_small.ensures.small c.numbers_are_small.ensures.limits r w).within
+returns-clause-short c = λ most r some w kept. (canonical-spells c.numbers_are_small.ensures.small c.numbers_are_small.ensures.limits most r some w kept).within

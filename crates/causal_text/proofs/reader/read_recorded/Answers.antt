@@ -3,7 +3,7 @@ use Rattle.causal_text.proofs.Spellings.{Spells-reading, IsFirstFault-reading}
 use Rattle.causal_text.proofs.reader.read_recorded.Goals as goal
 
 pub returns-in-Ok-clause-ok : goal.returns-in-Ok-clause-ok
-returns-in-Ok-clause-ok c = Spells-reading _ _ c.in-Ok.ensures.value
+returns-in-Ok-clause-ok c = Spells-reading c.args.limits.entries _ _ c.in-Ok.ensures.value
 
 pub returns-in-Err-clause-err : goal.returns-in-Err-clause-err
-returns-in-Err-clause-err c = λ other. IsFirstFault-reading _ _ (told _ _ _ c.in-Err.ensures.value other)
+returns-in-Err-clause-err c = λ other. IsFirstFault-reading c.args.limits.entries _ _ (told _ _ _ c.in-Err.ensures.value other)

@@ -15,22 +15,22 @@ use Rattle.causal_text.proofs.reader.read_whole.Goals as goal
 pub returns-in_err-reader-clause-value : goal.returns-in_err-reader-clause-value
 returns-in_err-reader-clause-value c =
     let p = err_from_is_err_and c.from_residual.result c.from_residual.ensures.1 in
-    rw (p.1, p.2) (fault_told _ _ (reading c.args.bytes.now) (λ other. ap reading (sym (append-nil c.args.bytes.now)) ∙ c.in_err-reader.ensures.err other [] c.new.ensures.stands []))
+    rw (p.1, p.2) (fault_told _ _ (reading c.args.limits.entries c.args.bytes.now) (λ other. ap (reading c.args.limits.entries) (sym (append-nil c.args.bytes.now)) ∙ c.in_err-reader.ensures.err other [] (c.new.ensures c.args.limits.entries) []))
 
-whole_line : (b : List ℕ) (line : ℕ) → IsReadAt b line → IsReadUpTo b line
-whole_line b line h = subst (λ (text : List ℕ). IsReadUpTo text line) (append-nil b) (h [])
+whole_line : (most : ℕ) (b : List ℕ) (line : ℕ) → IsReadAt most b line → IsReadUpTo most b line
+whole_line most b line h = subst (λ (text : List ℕ). IsReadUpTo most text line) (append-nil b) (h [])
 
 pub returns-in_err-reader-clause-memory : goal.returns-in_err-reader-clause-memory
 returns-in_err-reader-clause-memory c =
     let p = err_from_is_err_and c.from_residual.result c.from_residual.ensures.1 in
-    rw (p.1, p.2) (λ wants. whole_line c.args.bytes.now _ (c.in_err-reader.ensures.line [] c.new.ensures.stands))
+    rw (p.1, p.2) (λ wants. whole_line c.args.limits.entries c.args.bytes.now _ (c.in_err-reader.ensures.line [] (c.new.ensures c.args.limits.entries)))
 
 pub returns-clause-value : goal.returns-clause-value
-returns-clause-value c = subst (λ (read : Result Recording TextFault). GivesRejected c.end.result read) (sym (reading-ending c.in_ok-reader.reader c.args.bytes.now (c.in_ok-reader.ensures.ok [] c.new.ensures.stands))) c.end.ensures.value
+returns-clause-value c = subst (λ (read : Result Recording TextFault). GivesRejected c.end.result read) (sym (reading-ending c.args.limits.entries c.in_ok-reader.reader c.args.bytes.now (c.in_ok-reader.ensures.ok [] (c.new.ensures c.args.limits.entries)))) c.end.ensures.value
 
-last_line : (h : Held) (b : List ℕ) (r : Result Recording Rejected) → StandsFor h b → IfErr r (λ f. f.fault.kind ≡ kind.NoMemory → f.fault.line ≡ h.place.count + 1) → IfErr r (λ f. f.fault.kind ≡ kind.NoMemory → IsReadUpTo b f.fault.line)
-last_line h b (Ok x) s e = tt
-last_line h b (Err f) s e = λ wants. whole_line b f.fault.line (IsReadAt-stands h b f.fault.line s (e wants))
+last_line : (most : ℕ) (h : Held) (b : List ℕ) (r : Result Recording Rejected) → StandsFor most h b → IfErr r (λ f. f.fault.kind ≡ kind.NoMemory → f.fault.line ≡ h.place.count + 1) → IfErr r (λ f. f.fault.kind ≡ kind.NoMemory → IsReadUpTo most b f.fault.line)
+last_line most h b (Ok x) s e = tt
+last_line most h b (Err f) s e = λ wants. whole_line most b f.fault.line (IsReadAt-stands most h b f.fault.line s (e wants))
 
 pub returns-clause-memory : goal.returns-clause-memory
-returns-clause-memory c = last_line c.in_ok-reader.reader c.args.bytes.now c.end.result (c.in_ok-reader.ensures.ok [] c.new.ensures.stands) c.end.ensures.memory
+returns-clause-memory c = last_line c.args.limits.entries c.in_ok-reader.reader c.args.bytes.now c.end.result (c.in_ok-reader.ensures.ok [] (c.new.ensures c.args.limits.entries)) c.end.ensures.memory

@@ -9,25 +9,25 @@ use Rattle.causal_text.specs.declared.stage.Stage.TheVariants.{Opening, Within, 
 use Rattle.causal_text.specs.declared.version.Version.{Version}
 use Rattle.causal_text.specs.Given.{IsFaultGiven}
 use Rattle.causal_text.specs.Inside.Kept.{IsGoingOn, IsKeptAt}
-use Rattle.causal_text.specs.Stages.{max_text, line_shape, follow, after_line}
+use Rattle.causal_text.specs.Stages.{text_within, line_shape, follow, after_line}
 use Rattle.causal_text.proofs.Complete.{in_limit}
 use Rattle.causal_text.proofs.stage.after_line.Goals as goal
 
-followed : (s : Stage) (end : ℕ) (line : List ℕ) (x : Shape) → ((version : Version) (r : Recording) → s ≢ Ended version r) → end ≤ max_text → line_shape line ≡ Ok x → after_line s end line ≡ follow s x
-followed Opening end line x going few is = in_limit end _ few ∙ rw is refl
-followed (Within version r) end line x going few is = in_limit end _ few ∙ rw is refl
-followed (Ended version r) end line x going few is = absurd (going version r refl)
+followed : (most : ℕ) (s : Stage) (end : ℕ) (line : List ℕ) (x : Shape) → ((version : Version) (r : Recording) → s ≢ Ended version r) → end ≤ text_within most → line_shape line ≡ Ok x → after_line most s end line ≡ follow most s x
+followed most Opening end line x going few is = in_limit most end _ few ∙ rw is refl
+followed most (Within version r) end line x going few is = in_limit most end _ few ∙ rw is refl
+followed most (Ended version r) end line x going few is = absurd (going version r refl)
 
 pub returns-in-Ok-follow-clause-value : goal.returns-in-Ok-follow-clause-value
 returns-in-Ok-follow-clause-value c =
-    let few : c.args.end ≤ max_text = omega (arith, c.if-end-gt-MAX_TEXT.false) in
-    followed c.args.stage c.args.end c.args.line.now c.in-Ok.shape c.in_default.not-Ended few c.in-Ok.ensures ∙ c.in-Ok-follow.ensures.value
+    let few : c.args.end ≤ text_within c.args.limits.entries = omega (arith, c.if-end-most.false, c.text_within-most.ensures.value) in
+    followed c.args.limits.entries c.args.stage c.args.end c.args.line.now c.in-Ok.shape c.in_default.not-Ended few c.in-Ok.ensures ∙ c.in-Ok-follow.ensures.value
 
 pub returns-in-Err-follow-clause-value : goal.returns-in-Err-follow-clause-value
 returns-in-Err-follow-clause-value c =
-    let few : c.args.end ≤ max_text = omega (arith, c.if-end-gt-MAX_TEXT.false) in
+    let few : c.args.end ≤ text_within c.args.limits.entries = omega (arith, c.if-end-most.false, c.text_within-most.ensures.value) in
     subst (λ (read : Result Stage TextKind). IsFaultGiven c.in-Err-follow.unfollowed.kind c.in-Err-follow.unfollowed.kind read)
-    (sym (followed c.args.stage c.args.end c.args.line.now c.in-Ok.shape c.in_default.not-Ended few c.in-Ok.ensures)) c.in-Err-follow.ensures.value
+    (sym (followed c.args.limits.entries c.args.stage c.args.end c.args.line.now c.in-Ok.shape c.in_default.not-Ended few c.in-Ok.ensures)) c.in-Err-follow.ensures.value
 
 kept : (stage : Stage) (line : List ℕ) (trace : Option Recording) (before : Option Before) → IfSome trace (IsGoingOn stage)
     → IfSome before (λ at. (trace ≡ Some at.trace.recording) × (line_shape line ≡ Ok at.says)) → IsKeptAt stage line before

@@ -5,7 +5,7 @@ use Rattle.std.proofs.lemmas.List.{nil_from_length}
 use Rattle.std.proofs.lemmas.Result.{err_from_is_err_and}
 use Rattle.causal_text.specs.declared.before.Rejected.{Rejected}
 use Rattle.causal_text.specs.declared.kind.TextFault.{TextFault}
-use Rattle.causal_text.specs.Before.{IsKept}
+use Rattle.causal_text.specs.Before.{IsKeptWithin}
 use Rattle.causal_text.specs.Inside.Kept.{IsKeptOfAll, IsKeptAfter}
 use Rattle.causal_text.specs.Inside.Unfinished.{IsFaultOfAll}
 use Rattle.causal_text.specs.Streams.{IsFaultAfter}
@@ -19,53 +19,53 @@ use Rattle.causal_text.proofs.stream.advance.Goals as goal
 is_nil : (xs : List ℕ) (b : Bool) → b ≡ (length xs == 0) → b ≡ true → xs ≡ []
 is_nil xs b e t = nil_from_length xs (eqb-true (length xs) 0 (sym e ∙ t))
 
-fault_after : (piece bytes : List ℕ) (f : TextFault) (b : Bool) → b ≡ (length piece == 0) → b ≡ false → IsFaultOfAll bytes f → IsFaultAfter piece bytes f
-fault_after [] bytes f b e some h = absurd (let bad : true ≡ false = sym e ∙ some in cc)
-fault_after (x ∷ xs) bytes f b e some h = λ more. IsFirstFault-reading (bytes ++ more) f (h more)
+fault_after : (most : ℕ) (piece bytes : List ℕ) (f : TextFault) (b : Bool) → b ≡ (length piece == 0) → b ≡ false → IsFaultOfAll most bytes f → IsFaultAfter most piece bytes f
+fault_after most [] bytes f b e some h = absurd (let bad : true ≡ false = sym e ∙ some in cc)
+fault_after most (x ∷ xs) bytes f b e some h = λ more. IsFirstFault-reading most (bytes ++ more) f (h more)
 
-fault_at_end : (piece b : List ℕ) (f : TextFault) → piece ≡ [] → reading b ≡ Err f → IsFaultAfter piece (b ++ piece) f
-fault_at_end [] b f e h = IsFirstFault-reading (b ++ []) f (ap reading (append-nil b) ∙ h)
-fault_at_end (x ∷ xs) b f e h = absurd (let no : x ∷ xs ≡ [] = e in cc)
+fault_at_end : (most : ℕ) (piece b : List ℕ) (f : TextFault) → piece ≡ [] → reading most b ≡ Err f → IsFaultAfter most piece (b ++ piece) f
+fault_at_end most [] b f e h = IsFirstFault-reading most (b ++ []) f (ap (reading most) (append-nil b) ∙ h)
+fault_at_end most (x ∷ xs) b f e h = absurd (let no : x ∷ xs ≡ [] = e in cc)
 
 pub returns-in_err-end-clause-err : goal.returns-in_err-end-clause-err
 returns-in_err-end-clause-err c =
     let p = err_from_is_err_and c.from_residual.result c.from_residual.ensures.1 in
     let empty = is_nil c.args.piece.now c.is_empty.result c.is_empty.ensures c.if-is_empty.true in
-    rw (p.1, p.2) (λ other b s. fault_at_end c.args.piece.now b _ empty (reading-ending c.args.pieces b s.0 ∙ told _ _ _ c.in_err-end.ensures.value other))
+    rw (p.1, p.2) (λ other b s. fault_at_end c.args.limits.entries c.args.piece.now b _ empty (reading-ending c.args.limits.entries c.args.pieces b s.0 ∙ told _ _ _ c.in_err-end.ensures.value other))
 
 pub returns-in_err-feed-clause-err : goal.returns-in_err-feed-clause-err
 returns-in_err-feed-clause-err c =
     let p = err_from_is_err_and c.from_residual-in_err-feed.result c.from_residual-in_err-feed.ensures.1 in
-    rw (p.1, p.2) (λ other b s. fault_after c.args.piece.now _ _ c.is_empty.result c.is_empty.ensures c.if-is_empty.false (c.in_err-feed.ensures.err other b s.0))
+    rw (p.1, p.2) (λ other b s. fault_after c.args.limits.entries c.args.piece.now _ _ c.is_empty.result c.is_empty.ensures c.if-is_empty.false (c.in_err-feed.ensures.err other b s.0))
 
 pub returns-in_ok-end-clause-ok : goal.returns-in_ok-end-clause-ok
 returns-in_ok-end-clause-ok c =
     let empty = is_nil c.args.piece.now c.is_empty.result c.is_empty.ensures c.if-is_empty.true in
-    λ b s. Spells-reading _ _ (rw (empty, append-nil b) (reading-ending c.args.pieces b s.0 ∙ c.in_ok-end.ensures.value))
+    λ b s. Spells-reading c.args.limits.entries _ _ (rw (empty, append-nil b) (reading-ending c.args.limits.entries c.args.pieces b s.0 ∙ c.in_ok-end.ensures.value))
 
 pub returns-in_ok-feed-clause-ok : goal.returns-in_ok-feed-clause-ok
-returns-in_ok-feed-clause-ok c = λ b s. read_more _ _ (c.in_ok-feed.ensures.ok b s.0) c.in_ok-feed.ensures.room
+returns-in_ok-feed-clause-ok c = λ b s. read_more c.args.limits.entries _ _ (c.in_ok-feed.ensures.ok b s.0) c.in_ok-feed.ensures.room
 
 pub returns-in_err-end-clause-memory : goal.returns-in_err-end-clause-memory
 returns-in_err-end-clause-memory c =
     let p = err_from_is_err_and c.from_residual.result c.from_residual.ensures.1 in
-    rw (p.1, p.2) (λ wants b s. IsReadAt-more b c.args.piece.now _ (IsReadAt-stands c.args.pieces b _ s.0 (c.in_err-end.ensures.memory wants)))
+    rw (p.1, p.2) (λ wants b s. IsReadAt-more c.args.limits.entries b c.args.piece.now _ (IsReadAt-stands c.args.limits.entries c.args.pieces b _ s.0 (c.in_err-end.ensures.memory wants)))
 
-kept_after : (piece bytes : List ℕ) (rejected : Rejected) (b : Bool) → b ≡ (length piece == 0) → b ≡ false → IsKeptOfAll bytes rejected → IsKeptAfter piece bytes rejected
-kept_after [] bytes rejected b e some h = absurd (let bad : true ≡ false = sym e ∙ some in cc)
-kept_after (x ∷ xs) bytes rejected b e some h = h
+kept_after : (most : ℕ) (piece bytes : List ℕ) (rejected : Rejected) (b : Bool) → b ≡ (length piece == 0) → b ≡ false → IsKeptOfAll most bytes rejected → IsKeptAfter most piece bytes rejected
+kept_after most [] bytes rejected b e some h = absurd (let bad : true ≡ false = sym e ∙ some in cc)
+kept_after most (x ∷ xs) bytes rejected b e some h = h
 
-kept_at_end : (piece b : List ℕ) (rejected : Rejected) → piece ≡ [] → IsKept b rejected → IsKeptAfter piece (b ++ piece) rejected
-kept_at_end [] b rejected e h = subst (λ (bytes : List ℕ). IsKept bytes rejected) (sym (append-nil b)) h
-kept_at_end (x ∷ xs) b rejected e h = absurd (let no : x ∷ xs ≡ [] = e in cc)
+kept_at_end : (most : ℕ) (piece b : List ℕ) (rejected : Rejected) → piece ≡ [] → IsKeptWithin most b rejected → IsKeptAfter most piece (b ++ piece) rejected
+kept_at_end most [] b rejected e h = subst (λ (bytes : List ℕ). IsKeptWithin most bytes rejected) (sym (append-nil b)) h
+kept_at_end most (x ∷ xs) b rejected e h = absurd (let no : x ∷ xs ≡ [] = e in cc)
 
 pub returns-in_err-end-clause-before : goal.returns-in_err-end-clause-before
 returns-in_err-end-clause-before c =
     let p = err_from_is_err_and c.from_residual.result c.from_residual.ensures.1 in
     let empty = is_nil c.args.piece.now c.is_empty.result c.is_empty.ensures c.if-is_empty.true in
-    rw (p.1, p.2) (λ b s. kept_at_end c.args.piece.now b _ empty (c.in_err-end.ensures.before b s.0))
+    rw (p.1, p.2) (λ b s. kept_at_end c.args.limits.entries c.args.piece.now b _ empty (c.in_err-end.ensures.before b s.0))
 
 pub returns-in_err-feed-clause-before : goal.returns-in_err-feed-clause-before
 returns-in_err-feed-clause-before c =
     let p = err_from_is_err_and c.from_residual-in_err-feed.result c.from_residual-in_err-feed.ensures.1 in
-    rw (p.1, p.2) (λ b s. kept_after c.args.piece.now _ _ c.is_empty.result c.is_empty.ensures c.if-is_empty.false (c.in_err-feed.ensures.before b s.0))
+    rw (p.1, p.2) (λ b s. kept_after c.args.limits.entries c.args.piece.now _ _ c.is_empty.result c.is_empty.ensures c.if-is_empty.false (c.in_err-feed.ensures.before b s.0))

@@ -59,7 +59,7 @@ again c =
     let fits : Fits c.self.inside.trace.recording.past c.args.q.0 (memory_of c.in-Some.cell.now) = subst (FitsAt c.self.inside.trace.recording.past c.args.q.0) (up c) (c.self.invariant.fit.each c.args.q.0 process) in
     fits.received (name c.args.source c.args.ssn)
 
-few : (c : In-Some) → length c.in-Some.cell.now.received.items ≤ 65536
+few : (c : In-Some) → length c.in-Some.cell.now.received.items ≤ 16777216
 few c =
     let h = inside c in
     let process : c.args.q.0 < c.self.inside.trace.recording.processes = grind (arith, nat_tests, h) in

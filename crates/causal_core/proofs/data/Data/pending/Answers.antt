@@ -11,7 +11,7 @@ use Rattle.causal_core.proofs.data.Data.pending.Goals as goal
 
 pub pending_among-requires-clause-short : goal.pending_among-requires-clause-short
 pending_among-requires-clause-short c = λ p.
-    subst (λ cells. option_map_or (λ m. length m.sent) (at (memories_in cells) p) 0 ≤ 65536) (sym c.as_slice-cells.ensures.value)
+    subst (λ cells. option_map_or (λ m. length m.sent) (at (memories_in cells) p) 0 ≤ 16777216) (sym c.as_slice-cells.ensures.value)
     (sent_few c.self.inside.trace.recording.processes c.self.inside.trace.recording.past (memories_in c.self.inside.cells.items) p c.self.invariant.fit (formed_short _ c.self.invariant.formed).entries)
 
 pub pending_among-requires-clause-received : goal.pending_among-requires-clause-received

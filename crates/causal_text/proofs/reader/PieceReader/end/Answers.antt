@@ -3,7 +3,7 @@ use Rattle.std.specs.Prelude.{◌==◌, IfSome}
 use Rattle.std.proofs.lemmas.Result.{err_from_is_err_and}
 use Rattle.causal_text.specs.declared.before.Before.{Before}
 use Rattle.causal_text.specs.declared.kind.TextFault.{TextFault}
-use Rattle.causal_text.specs.Before.{StandsBefore}
+use Rattle.causal_text.specs.Before.{StandsBeforeWithin}
 use Rattle.causal_text.specs.Pieces.{Held, StandsFor}
 use Rattle.causal_text.specs.Place.{Place}
 use Rattle.causal_text.specs.Reading.{◌>>=◌}
@@ -18,31 +18,31 @@ some_of : (n : ℕ) (b : Bool) → b ≡ (n == 0) → b ≡ false → 0 < n
 some_of zero b e some = absurd (let bad : true ≡ false = sym e ∙ some in cc)
 some_of (suc n) b e some = omega arith
 
-last_of : (h : Held) (xs : List ℕ) → 0 < length xs → last_place h xs ≡ next h.place xs
-last_of h [] some = absurd (omega arith)
-last_of h (x ∷ xs) some = refl
+last_of : (most : ℕ) (h : Held) (xs : List ℕ) → 0 < length xs → last_place most h xs ≡ next most h.place xs
+last_of most h [] some = absurd (omega arith)
+last_of most h (x ∷ xs) some = refl
 
-faulty_end : (h : Held) (line : List ℕ) (f : TextFault) → 0 < length line → line ≡ h.rest → next h.place line ≡ Err f → ending h ≡ Err f
-faulty_end h line f some is e =
-    ap (λ (r : Result Place TextFault). r >>= λ p. ended p p.stage) (subst (λ (xs : List ℕ). last_place h xs ≡ Err f) is (last_of h line some ∙ e))
+faulty_end : (most : ℕ) (h : Held) (line : List ℕ) (f : TextFault) → 0 < length line → line ≡ h.rest → next most h.place line ≡ Err f → ending most h ≡ Err f
+faulty_end most h line f some is e =
+    ap (λ (r : Result Place TextFault). r >>= λ p. ended p p.stage) (subst (λ (xs : List ℕ). last_place most h xs ≡ Err f) is (last_of most h line some ∙ e))
 
-moved : (k h : Held) (line : List ℕ) (f : TextFault) → k ≡ h → next k.place line ≡ Err f → next h.place line ≡ Err f
-moved k h line f same e = subst (λ (held : Held). next held.place line ≡ Err f) same e
+moved : (most : ℕ) (k h : Held) (line : List ℕ) (f : TextFault) → k ≡ h → next most k.place line ≡ Err f → next most h.place line ≡ Err f
+moved most k h line f same e = subst (λ (held : Held). next most held.place line ≡ Err f) same e
 
 pub returns-in_err-lines-clause-value : goal.returns-in_err-lines-clause-value
 returns-in_err-lines-clause-value c =
     let p = err_from_is_err_and c.from_residual.result c.from_residual.ensures.1 in
     let some : 0 < length c.as_slice.result.now = omega (arith, some_of _ _ c.is_empty.ensures c.if-is_empty.false, c.as_slice.ensures.len) in
     let is : c.as_slice.result.now ≡ c.args.self.rest = c.as_slice.ensures.value ∙ ap (λ (h : Held). h.rest) c.self.view_is in
-    rw (p.1, p.2) (fault_told _ _ _ (λ other. faulty_end c.args.self c.as_slice.result.now _ some is (moved _ c.args.self c.as_slice.result.now _ c.self.view_is (told _ _ _ c.in_err-lines.ensures.value other))))
+    rw (p.1, p.2) (fault_told _ _ _ (λ other. faulty_end c.args.limits.entries c.args.self c.as_slice.result.now _ some is (moved c.args.limits.entries _ c.args.self c.as_slice.result.now _ c.self.view_is (told _ _ _ c.in_err-lines.ensures.value other))))
 
-kept_last : (h : Held) (b line : List ℕ) (number : ℕ) (kept : Option Before) → StandsFor h b → 0 < length line → line ≡ h.rest → IsKeptAt h.place.stage line kept → number ≡ h.place.count + 1
-    → IfSome kept (λ at. StandsBefore b number at.trace.recording at.says)
-kept_last h b line number kept s some is k place =
-    kept_at_end h b number kept s (subst (λ (xs : List ℕ). 0 < length xs) is some) (subst (λ (xs : List ℕ). IsKeptAt h.place.stage xs kept) is k) place
+kept_last : (most : ℕ) (h : Held) (b line : List ℕ) (number : ℕ) (kept : Option Before) → StandsFor most h b → 0 < length line → line ≡ h.rest → IsKeptAt h.place.stage line kept → number ≡ h.place.count + 1
+    → IfSome kept (λ at. StandsBeforeWithin most b number at.trace.recording at.says)
+kept_last most h b line number kept s some is k place =
+    kept_at_end most h b number kept s (subst (λ (xs : List ℕ). 0 < length xs) is some) (subst (λ (xs : List ℕ). IsKeptAt h.place.stage xs kept) is k) place
 
 pub returns-in_err-lines-clause-before : goal.returns-in_err-lines-clause-before
 returns-in_err-lines-clause-before c =
     let p = err_from_is_err_and c.from_residual.result c.from_residual.ensures.1 in
     let some : 0 < length c.as_slice.result.now = omega (arith, some_of _ _ c.is_empty.ensures c.if-is_empty.false, c.as_slice.ensures.len) in
-    rw (p.1, p.2, ← c.self.view_is) (λ b s. kept_last _ b c.as_slice.result.now _ _ s some c.as_slice.ensures.value c.in_err-lines.ensures.before c.in_err-lines.ensures.line)
+    rw (p.1, p.2, ← c.self.view_is) (λ b s. kept_last c.args.limits.entries _ b c.as_slice.result.now _ _ s some c.as_slice.ensures.value c.in_err-lines.ensures.before c.in_err-lines.ensures.line)

@@ -15,22 +15,22 @@ pub loop-line-preserved : goal.loop-line-preserved
 loop-line-preserved c =
     let i = c.loop-line.invariant in
     let some = c.in-Some.ensures.some in
-    (i.0 ++ c.in-Some.line.now, i.1 ∙ ap (λ xs. i.0 ++ xs) some.1 ∙ sym (append_assoc i.0 c.in-Some.line.now c.in-Some.after.now), Comes-line c.args.self c.loop-line.reader c.in_ok-reader.reader i.0 c.in-Some.line.now i.2 some.0 c.in_ok-reader.ensures.value)
+    (i.0 ++ c.in-Some.line.now, i.1 ∙ ap (λ xs. i.0 ++ xs) some.1 ∙ sym (append_assoc i.0 c.in-Some.line.now c.in-Some.after.now), Comes-line c.args.limits.entries c.args.self c.loop-line.reader c.in_ok-reader.reader i.0 c.in-Some.line.now i.2 some.0 c.in_ok-reader.ensures.value)
 
-held : (h0 h : Held) (piece done left : List ℕ) (r : Result Held Rejected) → Comes h0 done h → piece ≡ done ++ left → no_feed left ≡ true → IfOk r (λ k. k ≡ record { place = h.place; rest = h.rest ++ left }) → IfOk r (λ k. (b : List ℕ) → StandsFor h0 b → StandsFor k (b ++ piece))
-held h0 h piece done left (Ok k) c is none e = rw (e, is) (Comes-hold h0 h done left c none)
-held h0 h piece done left (Err f) c is none e = tt
+held : (most : ℕ) (h0 h : Held) (piece done left : List ℕ) (r : Result Held Rejected) → Comes most h0 done h → piece ≡ done ++ left → no_feed left ≡ true → IfOk r (λ k. k ≡ record { place = h.place; rest = h.rest ++ left }) → IfOk r (λ k. (b : List ℕ) → StandsFor most h0 b → StandsFor most k (b ++ piece))
+held most h0 h piece done left (Ok k) c is none e = rw (e, is) (Comes-hold most h0 h done left c none)
+held most h0 h piece done left (Err f) c is none e = tt
 
-past : (h0 h : Held) (piece done left : List ℕ) (r : Result Held Rejected) → Comes h0 done h → piece ≡ done ++ left → no_feed left ≡ true
-    → IfErr r (λ f. f.fault.kind ≢ kind.NoMemory → (0 < length (h.rest ++ left)) × IsPast (record { place = h.place; rest = h.rest ++ left }) f.fault) → IfErr r (λ f. f.fault.kind ≢ kind.NoMemory → (b : List ℕ) → StandsFor h0 b → IsFaultOfAll (b ++ piece) f.fault)
-past h0 h piece done left (Ok k) c is none e = tt
-past h0 h piece done left (Err f) c is none e = λ other b s. rw is (fault_of_hold h0 h done left f.fault c none (e other).0 (e other).1 b s)
+past : (most : ℕ) (h0 h : Held) (piece done left : List ℕ) (r : Result Held Rejected) → Comes most h0 done h → piece ≡ done ++ left → no_feed left ≡ true
+    → IfErr r (λ f. f.fault.kind ≢ kind.NoMemory → (0 < length (h.rest ++ left)) × IsPast most (record { place = h.place; rest = h.rest ++ left }) f.fault) → IfErr r (λ f. f.fault.kind ≢ kind.NoMemory → (b : List ℕ) → StandsFor most h0 b → IsFaultOfAll most (b ++ piece) f.fault)
+past most h0 h piece done left (Ok k) c is none e = tt
+past most h0 h piece done left (Err f) c is none e = λ other b s. rw is (fault_of_hold most h0 h done left f.fault c none (e other).0 (e other).1 b s)
 
 pub returns-clause-ok : goal.returns-clause-ok
-returns-clause-ok c = let i = c.loop-line.invariant in held c.args.self c.loop-line.reader _ i.0 c.loop-line.left.now c.hold.result i.2 i.1 c.in_default.ensures.none c.hold.ensures.ok
+returns-clause-ok c = let i = c.loop-line.invariant in held c.args.limits.entries c.args.self c.loop-line.reader _ i.0 c.loop-line.left.now c.hold.result i.2 i.1 c.in_default.ensures.none c.hold.ensures.ok
 
 pub returns-clause-err : goal.returns-clause-err
-returns-clause-err c = let i = c.loop-line.invariant in past c.args.self c.loop-line.reader _ i.0 c.loop-line.left.now c.hold.result i.2 i.1 c.in_default.ensures.none c.hold.ensures.err
+returns-clause-err c = let i = c.loop-line.invariant in past c.args.limits.entries c.args.self c.loop-line.reader _ i.0 c.loop-line.left.now c.hold.result i.2 i.1 c.in_default.ensures.none c.hold.ensures.err
 
 pub returns-in_err-reader-clause-err : goal.returns-in_err-reader-clause-err
 returns-in_err-reader-clause-err c =
@@ -38,27 +38,27 @@ returns-in_err-reader-clause-err c =
     let i = c.loop-line.invariant in
     let some = c.in-Some.ensures.some in
     let piece_is = i.1 ∙ ap (λ xs. i.0 ++ xs) some.1 in
-    rw (p.1, p.2) (λ other b s. rw piece_is (fault_of_piece c.args.self c.loop-line.reader i.0 c.in-Some.line.now c.in-Some.after.now _ i.2 some.0 (told _ _ _ c.in_err-reader.ensures.value other) b s))
+    rw (p.1, p.2) (λ other b s. rw piece_is (fault_of_piece c.args.limits.entries c.args.self c.loop-line.reader i.0 c.in-Some.line.now c.in-Some.after.now _ i.2 some.0 (told _ _ _ c.in_err-reader.ensures.value other) b s))
 
-lined : (h0 h : Held) (piece done left : List ℕ) (r : Result Held Rejected) → Comes h0 done h → piece ≡ done ++ left → IfErr r (λ f. f.fault.line ≡ h.place.count + 1) → IfErr r (λ f. (b : List ℕ) → StandsFor h0 b → IsReadAt (b ++ piece) f.fault.line)
-lined h0 h piece done left (Ok k) c is e = tt
-lined h0 h piece done left (Err f) c is e = λ b s. rw is (line_of_part h0 h done left b f.fault.line c s e)
+lined : (most : ℕ) (h0 h : Held) (piece done left : List ℕ) (r : Result Held Rejected) → Comes most h0 done h → piece ≡ done ++ left → IfErr r (λ f. f.fault.line ≡ h.place.count + 1) → IfErr r (λ f. (b : List ℕ) → StandsFor most h0 b → IsReadAt most (b ++ piece) f.fault.line)
+lined most h0 h piece done left (Ok k) c is e = tt
+lined most h0 h piece done left (Err f) c is e = λ b s. rw is (line_of_part most h0 h done left b f.fault.line c s e)
 
 pub returns-clause-line : goal.returns-clause-line
-returns-clause-line c = let i = c.loop-line.invariant in lined c.args.self c.loop-line.reader _ i.0 c.loop-line.left.now c.hold.result i.2 i.1 c.hold.ensures.line
+returns-clause-line c = let i = c.loop-line.invariant in lined c.args.limits.entries c.args.self c.loop-line.reader _ i.0 c.loop-line.left.now c.hold.result i.2 i.1 c.hold.ensures.line
 
 pub returns-in_err-reader-clause-line : goal.returns-in_err-reader-clause-line
 returns-in_err-reader-clause-line c =
     let p = err_from_is_err_and c.from_residual.result c.from_residual.ensures.1 in
     let i = c.loop-line.invariant in
-    rw (p.1, p.2) (λ b s. rw i.1 (line_of_part c.args.self c.loop-line.reader i.0 c.loop-line.left.now b _ i.2 s c.in_err-reader.ensures.line))
+    rw (p.1, p.2) (λ b s. rw i.1 (line_of_part c.args.limits.entries c.args.self c.loop-line.reader i.0 c.loop-line.left.now b _ i.2 s c.in_err-reader.ensures.line))
 
-unkept : (h0 : Held) (piece : List ℕ) (r : Result Held Rejected) → IfErr r (λ f. f.before ≡ None) → IfErr r (λ f. (b : List ℕ) → StandsFor h0 b → IsKeptOfAll (b ++ piece) f)
-unkept h0 piece (Ok k) e = tt
-unkept h0 piece (Err f) e = λ b s. kept_of_none (b ++ piece) f e
+unkept : (most : ℕ) (h0 : Held) (piece : List ℕ) (r : Result Held Rejected) → IfErr r (λ f. f.before ≡ None) → IfErr r (λ f. (b : List ℕ) → StandsFor most h0 b → IsKeptOfAll most (b ++ piece) f)
+unkept most h0 piece (Ok k) e = tt
+unkept most h0 piece (Err f) e = λ b s. kept_of_none most (b ++ piece) f e
 
 pub returns-clause-before : goal.returns-clause-before
-returns-clause-before c = unkept c.args.self c.args.piece.now c.hold.result c.hold.ensures.before
+returns-clause-before c = unkept c.args.limits.entries c.args.self c.args.piece.now c.hold.result c.hold.ensures.before
 
 pub returns-in_err-reader-clause-before : goal.returns-in_err-reader-clause-before
 returns-in_err-reader-clause-before c =
@@ -66,4 +66,4 @@ returns-in_err-reader-clause-before c =
     let i = c.loop-line.invariant in
     let some = c.in-Some.ensures.some in
     let piece_is = i.1 ∙ ap (λ xs. i.0 ++ xs) some.1 in
-    rw (p.1, p.2) (λ b s. rw piece_is (kept_of_piece c.args.self c.loop-line.reader i.0 c.in-Some.line.now c.in-Some.after.now _ _ i.2 some.0 c.in_err-reader.ensures.before c.in_err-reader.ensures.line b s))
+    rw (p.1, p.2) (λ b s. rw piece_is (kept_of_piece c.args.limits.entries c.args.self c.loop-line.reader i.0 c.in-Some.line.now c.in-Some.after.now _ _ i.2 some.0 c.in_err-reader.ensures.before c.in_err-reader.ensures.line b s))

@@ -1,9 +1,13 @@
-use Rattle.std.proofs.Common.{rules, take, arith}
+use Rattle.std.proofs.Common.{◌++◌, List, ℕ, rules, take, arith}
+use Rattle.causal_text.specs.declared.stream.State.TheVariants as state
+use Rattle.causal_text.specs.Streams.{HasRead}
 use Rattle.causal_text.proofs.StreamLemmas.{piece_ends}
 use Rattle.causal_text.proofs.stream.TraceReader.read_piece.Goals as goal
 
 pub returns-after-n-eq0-clause-ok : goal.returns-after-n-eq0-clause-ok
-returns-after-n-eq0-clause-ok g c = rw (← c.self.view_is) (search rules)
+returns-after-n-eq0-clause-ok g c =
+    let ok : (b : List ℕ) → HasRead (state.Reading c.args.pieces) b → HasRead c.in-Ok-advance.state (b ++ take c.in-Ok.n c.read.new.buf) = c.in-Ok-advance.ensures.ok in
+    rw (← c.self.view_is) (search (rules, ok))
 
 pub returns-in-Err-clause-text : goal.returns-in-Err-clause-text
 returns-in-Err-clause-text g c = rw c.into_fault.ensures (λ other. (

@@ -1,9 +1,9 @@
 use Rattle.std.proofs.Common.{◌≡◌, Some, sym, ap, ◌∙◌}
 use Rattle.causal_trace.specs.declared.fault.TraceFault.TheVariants.{NoMemory}
-use Rattle.causal_trace.proofs.Lemmas.Formed.{no_memory_told}
-use Rattle.causal_trace.proofs.trace.Trace.push.Goals as goal
+use Rattle.causal_trace.proofs.Lemmas.Formed.{no_memory_within}
+use Rattle.causal_trace.proofs.trace.Trace.push_within.Goals as goal
 
 pub returns-in-Some-clause-memory : goal.returns-in-Some-clause-memory
 returns-in-Some-clause-memory c = λ told.
     let same : c.in-Some.fault ≡ NoMemory = cc told in
-    absurd (no_memory_told c.args.self.now.recording.processes c.args.self.now.recording.past c.args.entry (sym c.in-Some.ensures ∙ ap Some same))
+    absurd (no_memory_within c.args.limits.entries c.args.self.now.recording c.args.entry (sym c.in-Some.ensures ∙ ap Some same))
