@@ -8,7 +8,8 @@ use thiserror::Error;
 pub enum TextKind {
     /// A line follows the end line, whatever it holds.
     After,
-    /// The line has byte number 33,554,433 of the text, its line feed counted.
+    /// The line has byte number 33,554,433 of the text, its line feed counted; or the first byte beyond another limit that
+    /// the reader was given.
     Big,
     /// The line is not one JSON value. Bytes that are no UTF-8 and an empty line are none.
     Syntax,
@@ -20,7 +21,8 @@ pub enum TextKind {
     Version,
     /// The number of processes is not from 1 to 64, or to 256 in version 2.
     Processes,
-    /// A trace has at most 65,536 entries, which list at most 1,048,576 determinants in all.
+    /// A trace has at most 65,536 entries, which list at most 1,048,576 determinants in all, unless the reader was given
+    /// other limits.
     TooLong,
     /// The entry names a process that the trace does not have.
     NoProcess,
