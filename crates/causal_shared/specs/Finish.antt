@@ -7,10 +7,14 @@ use Rattle.causal_shared.specs.Seat.{SeatState}
 use Rattle.causal_shared.specs.declared.shared.Shared.{Shared}
 use Rattle.causal_shared.specs.Shared.{Opening, opening_from, tag_of, seats_of_shared}
 
+-- a seat of the runtime of that tag and number of seats
+abbrev pub IsOwnOf : ℕ → ℕ → SeatState → Type 0
+IsOwnOf tag k seat = (seat.sitting.tag ≡ tag) × (seat.sitting.number < k)
+
 -- the seats of this runtime, each once
 pub record IsComplete (tag k : ℕ) (seats : List SeatState) : Type 0 where
   pub count : length seats ≡ k
-  pub own : All (λ (seat : SeatState). (seat.sitting.tag ≡ tag) × (seat.sitting.number < k)) seats
+  pub own : All (IsOwnOf tag k) seats
   pub once : AllPairs (λ (a : SeatState) (b : SeatState). a.sitting.number ≢ b.sitting.number) seats
 
 -- those of this shared runtime

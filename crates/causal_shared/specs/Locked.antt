@@ -4,7 +4,7 @@ use Rattle.causal_trace.specs.Judgement.{IsSafeTrace}
 use Rattle.causal_process.specs.declared.message.Input.{Input}
 use Rattle.causal_process.specs.declared.message.Outgoing.{Outgoing}
 use Rattle.causal_protocol.specs.Run.{Run}
-use Rattle.causal_core.specs.CoreView.{CoreState, run_of, state_of, store_of}
+use Rattle.causal_core.specs.CoreView.{CoreState, IsUnchanged, run_of, state_of, store_of}
 use Rattle.causal_core.specs.Flushes.{TellsFailure}
 use Rattle.causal_protocol.specs.declared.request.Request.{Request}
 use Rattle.causal_protocol.specs.declared.request.Reply.{Reply}
@@ -54,6 +54,10 @@ told_restart (Err refused) = told_fault refused.fault
 abbrev pub AnswersAs : {B : Type 0} → (B → List Input → List (List Outgoing)) → B → B → Type 0
 AnswersAs answers a b = (inputs : List Input) → answers a inputs ≡ answers b inputs
 
+-- neither the core's run, nor the bodies of its messages, nor what its boxes answer, has changed
+abbrev pub LeavesUnder : {S B : Type 0} {Has : _} → (B → List Input → List (List Outgoing)) → Locked S B Has → Locked S B Has → Type 0
+LeavesUnder answers old new = IsUnchanged answers (state_under old) (state_under new)
+
 -- an item call: nothing is changed where nothing could be recorded
 abbrev pub ItemCall : Held → Held → ℕ → ℕ → Request → Option Reply → Type 0
 ItemCall old new seat call request None = new ≡ old
@@ -63,6 +67,11 @@ ItemCall old new seat call request (Some reply) = AddsItem old new seat call req
 abbrev pub Records : {S B : Type 0} {Has : _}
     → Locked S B Has → Locked S B Has → ℕ → ℕ → Request → Option Reply → Type 0
 Records old new seat call request reply = ItemCall (held_of old) (held_of new) seat call request reply
+
+-- the same, by what is told of an answer
+abbrev pub RecordsAs : {A S B : Type 0} {Has : _}
+    → Locked S B Has → Locked S B Has → ℕ → ℕ → Request → (A → Reply) → Result A LockedFault → Type 0
+RecordsAs old new seat call request answer result = Records old new seat call request (told answer result)
 
 -- no item over a run, whose entries each of k seats has seen
 abbrev pub opened_over : Run → ℕ → Held

@@ -9,7 +9,7 @@ use Rattle.causal_protocol.specs.declared.request.Restarted.{Restarted}
 use Rattle.causal_shared.specs.declared.item.Item.{Item}
 use Rattle.causal_shared.specs.declared.refused.SharedRefused.{SharedRefused}
 use Rattle.causal_shared.specs.declared.fault.SharedFault.{SharedFault}
-use Rattle.causal_shared.specs.declared.fault.SharedFault.TheVariants.{Core, Flush, NoRecord}
+use Rattle.causal_shared.specs.declared.fault.SharedFault.TheVariants.{WrongSeat, Core, Flush, NoRecord}
 use Rattle.causal_shared.specs.declared.fault.LockedFault.{LockedFault}
 use Rattle.causal_shared.specs.declared.fault.LockedFault.TheVariants as Refusal
 use Rattle.causal_shared.specs.History.{item_of, last_of, Shows}
@@ -73,6 +73,14 @@ heard_restart (Err refused) = heard_fault refused.fault
 abbrev pub SeatCall : Sitting → Sitting → Request → Option Reply → Type 0
 SeatCall seat seat' request None = seat' ≡ seat
 SeatCall seat seat' request (Some reply) = Calls seat seat' request reply
+
+-- the same, by what is told of an answer
+abbrev pub SeatAnswers : {A : Type 0} → SeatState → SeatState → Request → (A → Reply) → Result A SharedFault → Type 0
+SeatAnswers seat seat' request answer result = SeatCall seat.sitting seat'.sitting request (heard answer result)
+
+-- a seat of another runtime than that of the tag is told that it is wrong
+abbrev pub TellsStranger : {A : Type 0} → ℕ → Sitting → Result A SharedFault → Type 0
+TellsStranger tag seat result = ¬ (seat.tag ≡ tag) → result ≡ Err WrongSeat
 
 -- what a seat is told of what the locked value answered
 abbrev pub fault_of : LockedFault → SharedFault

@@ -2,7 +2,7 @@
 ghost use Rattle.std.specs.Prelude.{◌≡◌, ◌≢◌, ◌<◌, ◌↔◌, All, AllPairs, Any, IsTrue, IfSome, IfNone};
 ghost use Rattle.causal_shared.specs.History.{items_of, AllLegal};
 ghost use Rattle.causal_core.specs.CoreView.{run_of};
-ghost use Rattle.causal_shared.specs.Finish.{Agrees, IsComplete, HasSeat, AllSeated};
+ghost use Rattle.causal_shared.specs.Finish.{Agrees, IsComplete, IsOwnOf, HasSeat, AllSeated};
 ghost use Rattle.causal_shared.specs.Inside.Settled.{IsLeastMismatch};
 ghost use Rattle.causal_shared.specs.Inside.Settled.{BeginsAt, entries_before};
 
@@ -103,7 +103,7 @@ pub(crate) fn is_complete(seats: &[Seat], tag: u64, k: u32) -> bool
 
 /// Whether each seat is of this runtime.
 fn all_own(seats: &[Seat], tag: u64, k: u32) -> bool
-    ensures { IsTrue result ↔ All (λ seat. (seat.sitting.tag ≡ tag) × (seat.sitting.number < k)) seats.now }
+    ensures { IsTrue result ↔ All (IsOwnOf tag k) seats.now }
 {
     seats
         .iter()
@@ -143,7 +143,8 @@ pub(crate) fn is_opening<S: Stable>(
     faults: u16,
 ) -> bool
     requires { AllLegal (run_of core.now) history.now }
-    ensures { IsTrue result ↔ BeginsAt (run_of core.now) history.now opening.now.recording faults }
+    ensures { IsTrue result
+        ↔ BeginsAt (run_of core.now) history.now opening.now.recording faults }
 {
     if core.trace().processes() != opening.processes() {
         return false;

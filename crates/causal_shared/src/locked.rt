@@ -51,9 +51,11 @@ fn note<S: Stable>(core: &Core<S>, history: &mut Vec<Item>, seats: &mut Vec<Kept
     requires room { vec_len history.old < vec_capacity history.old }
     ensures history { history.new.items ≡ history.old.items ++ item ∷ [] }
     ensures len { vec_len history.new ≡ vec_len history.old + 1 }
-    ensures seats { seats.new.items ≡ with_kept seats.old.items item (instant (run_of core.now)) (vec_len history.old) }
+    ensures seats { seats.new.items
+        ≡ with_kept seats.old.items item (instant (run_of core.now)) (vec_len history.old) }
     ensures same { vec_len seats.new ≡ vec_len seats.old }
-    ensures keeps { GoesOn (run_of core.now) item history.old.items seats.old.items history.new.items seats.new.items }
+    ensures keeps { GoesOn (run_of core.now) item
+        history.old.items seats.old.items history.new.items seats.new.items }
 {
     let place = history.len() as u32;
     let _ = history.push(item);
@@ -101,9 +103,9 @@ fn restart_reply(answer: &Result<Restarted, Refused>) -> Reply
 }
 
 impl<S: Stable> Locked<S> {
-    ghost use Rattle.causal_shared.specs.Locked.{held_of, state_under, store_under, opened_over, told, told_restart};
-    ghost use Rattle.causal_shared.specs.Locked.{Records, AnswersAs, TellsFaults, IsSnapshot, IsSafeSnapshot};
-    ghost use Rattle.causal_core.specs.CoreView.{state_of, IsUnchanged, Delivers, Crashes};
+    ghost use Rattle.causal_shared.specs.Locked.{held_of, state_under, store_under, opened_over, told_restart};
+    ghost use Rattle.causal_shared.specs.Locked.{Records, RecordsAs, AnswersAs, LeavesUnder, TellsFaults, IsSnapshot, IsSafeSnapshot};
+    ghost use Rattle.causal_core.specs.CoreView.{state_of, Delivers, Crashes};
     ghost use Rattle.causal_core.specs.Boxes.{SameAnswers};
     ghost use Rattle.causal_core.specs.Restarts.{Restarts};
     ghost use Rattle.causal_core.specs.Pendings.{pending_in, pending_fault};
@@ -176,7 +178,8 @@ impl<S: Stable> Locked<S> {
 
     /// Whether the seat, with all that it knows of its calls, is the one that is kept.
     pub fn holds(&self, number: u32, count: u32, seen: u32, last: Option<&Item>) -> bool
-        ensures { IsTrue result ↔ Holds (held_of self.now) number count seen (option_copied last.entry) }
+        ensures { IsTrue result
+            ↔ Holds (held_of self.now) number count seen (option_copied last.entry) }
     {
         let Some(kept) = kept_at(self.seats.as_slice(), number) else {
             return false;
@@ -224,9 +227,11 @@ impl<S: Stable> Locked<S> {
         requires seat { seat < length (held_of self.old).seats }
         requires call { call ≡ count_at (held_of self.old).seats seat }
         requires room { length (held_of self.old).history < max_items }
-        ensures item { Records self.old self.new seat call (Ask.Deliver q source ssn) (told Told.Delivered result) }
-        ensures ok { OnOk result (Delivers answers q source ssn (state_under self.old) (state_under self.new)) }
-        ensures refused { OnErr result (IsUnchanged answers (state_under self.old) (state_under self.new)) }
+        ensures item { RecordsAs self.old self.new seat call (Ask.Deliver q source ssn)
+            Told.Delivered result }
+        ensures ok { OnOk result
+            (Delivers answers q source ssn (state_under self.old) (state_under self.new)) }
+        ensures refused { OnErr result (LeavesUnder answers self.old self.new) }
     {
         if self.history.reserve(1).is_err() {
             return Err(LockedFault::NoRecord);
@@ -252,9 +257,9 @@ impl<S: Stable> Locked<S> {
         requires seat { seat < length (held_of self.old).seats }
         requires call { call ≡ count_at (held_of self.old).seats seat }
         requires room { length (held_of self.old).history < max_items }
-        ensures item { Records self.old self.new seat call (Ask.Crash p) (told Told.Crashed result) }
+        ensures item { RecordsAs self.old self.new seat call (Ask.Crash p) Told.Crashed result }
         ensures ok { OnOk result (Crashes answers p (state_under self.old) (state_under self.new)) }
-        ensures refused { OnErr result (IsUnchanged answers (state_under self.old) (state_under self.new)) }
+        ensures refused { OnErr result (LeavesUnder answers self.old self.new) }
     {
         if self.history.reserve(1).is_err() {
             return Err(LockedFault::NoRecord);
@@ -288,8 +293,9 @@ impl<S: Stable> Locked<S> {
         requires call { call ≡ count_at (held_of self.old).seats seat }
         requires room { length (held_of self.old).history < max_items }
         ensures item { Records self.old self.new seat call (Ask.Restart p) (told_restart result) }
-        ensures ok { OnOk result (Restarts answers p spare (state_under self.old) (state_under self.new)) }
-        ensures refused { OnErr result (IsUnchanged answers (state_under self.old) (state_under self.new)) }
+        ensures ok { OnOk result
+            (Restarts answers p spare (state_under self.old) (state_under self.new)) }
+        ensures refused { OnErr result (LeavesUnder answers self.old self.new) }
         ensures spare { IfErr result (λ refused. AnswersAs answers refused.spare spare) }
     {
         if self.history.reserve(1).is_err() {
@@ -320,10 +326,12 @@ impl<S: Stable> Locked<S> {
         requires seat { seat < length (held_of self.old).seats }
         requires call { call ≡ count_at (held_of self.old).seats seat }
         requires room { length (held_of self.old).history < max_items }
-        ensures item { Records self.old self.new seat call (Ask.Flush p) (told Told.Flushed result) }
-        ensures fault { IfErr result (TellsFaults (S.faults (store_under self.old)) (S.faults (store_under self.new))) }
+        ensures item { RecordsAs self.old self.new seat call (Ask.Flush p) Told.Flushed result }
+        ensures fault { IfErr result
+            (TellsFaults (S.faults (store_under self.old)) (S.faults (store_under self.new))) }
         ensures bodies { (state_under self.new).bodies ≡ (state_under self.old).bodies }
-        ensures boxes { SameAnswers answers (state_under self.old).slots (state_under self.new).slots }
+        ensures boxes { SameAnswers answers
+            (state_under self.old).slots (state_under self.new).slots }
     {
         if self.history.reserve(1).is_err() {
             return Err(LockedFault::NoRecord);
@@ -349,9 +357,10 @@ impl<S: Stable> Locked<S> {
         requires seat { seat < length (held_of self.old).seats }
         requires call { call ≡ count_at (held_of self.old).seats seat }
         requires room { length (held_of self.old).history < max_items }
-        ensures item { Records self.old self.new seat call (Ask.Forget p) (told Told.Forgotten result) }
+        ensures item { RecordsAs self.old self.new seat call (Ask.Forget p) Told.Forgotten result }
         ensures bodies { (state_under self.new).bodies ≡ (state_under self.old).bodies }
-        ensures boxes { SameAnswers answers (state_under self.old).slots (state_under self.new).slots }
+        ensures boxes { SameAnswers answers
+            (state_under self.old).slots (state_under self.new).slots }
     {
         if self.history.reserve(1).is_err() {
             return Err(LockedFault::NoRecord);
@@ -374,9 +383,11 @@ impl<S: Stable> Locked<S> {
     /// # Errors
     /// The first of `NoProcess` and `Down`; where neither stands, `NoMemory` where memory was refused.
     pub fn pending(&self, q: Pid) -> Result<Vec<MsgName>, CoreFault>
-        ensures ok { IfOk result (λ names. names.items ≡ pending_in (memories_of (held_of self.now).run) q) }
+        ensures ok { IfOk result
+            (λ names. names.items ≡ pending_in (memories_of (held_of self.now).run) q) }
         ensures legal { OnOk result (pending_fault (held_of self.now).run q ≡ None) }
-        ensures refused { IfErr result (λ fault. pending_fault (held_of self.now).run q ≡ reason_of fault) }
+        ensures refused { IfErr result
+            (λ fault. pending_fault (held_of self.now).run q ≡ reason_of fault) }
     {
         self.core.pending(q)
     }

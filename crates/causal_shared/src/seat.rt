@@ -16,7 +16,7 @@ ghost use Rattle.causal_shared.specs.Pending.{AreAscending, IsPendingFault, IsSn
 ghost use Rattle.causal_shared.specs.Seat.{heard, heard_fault, heard_restart, with_item};
 ghost use Rattle.causal_shared.specs.Inside.Seated.{refusal_of};
 ghost use Rattle.causal_shared.specs.Seat.{SeesEntries};
-ghost use Rattle.causal_shared.specs.Inside.Seated.{IsSeated, MayCall};
+ghost use Rattle.causal_shared.specs.Inside.Seated.{IsSeated, MayCall, TellsFull, TellsWrongSeat};
 
 use crate::fault::SharedFault;
 use crate::item::{Item, Snapshot};
@@ -159,8 +159,8 @@ fn is_seated<S: Stable>(locked: &Locked<S>, tag: u64, seat: &Seat) -> bool
 /// list.
 fn begin<S: Stable>(locked: &Locked<S>, tag: u64, seat: &mut Seat) -> Result<u32, SharedFault>
     ensures sitting { seat.new.sitting ≡ seat.old.sitting }
-    ensures wrong { result ≡ Err SharedFault.WrongSeat ↔ ¬ IsSeated tag (held_of locked.now) seat.old.sitting }
-    ensures full { result ≡ Err SharedFault.HistoryFull → length (held_of locked.now).history ≡ max_items }
+    ensures wrong { TellsWrongSeat tag (held_of locked.now) seat.old.sitting result }
+    ensures full { TellsFull (held_of locked.now) result }
     ensures ok { IfOk result (MayCall (held_of locked.now) seat.new) }
     ensures early { IfErr result (λ fault. heard_fault fault ≡ None) }
 {
@@ -205,8 +205,8 @@ pub(crate) fn deliver_under<S: Stable>(
 ) -> Result<Delivered, SharedFault>
     ensures section { Sections locked.old locked.new seat.old seat.new (Ask.Deliver q source ssn)
         (heard Told.Delivered result) }
-    ensures wrong { result ≡ Err SharedFault.WrongSeat ↔ ¬ IsSeated tag (held_of locked.old) seat.old.sitting }
-    ensures full { result ≡ Err SharedFault.HistoryFull → length (held_of locked.old).history ≡ max_items }
+    ensures wrong { TellsWrongSeat tag (held_of locked.old) seat.old.sitting result }
+    ensures full { TellsFull (held_of locked.old) result }
 {
     let first = begin(locked, tag, seat)?;
     let answer = locked.deliver(seat.number(), seat.count(), q, source, ssn);
@@ -222,9 +222,10 @@ pub(crate) fn crash_under<S: Stable>(
     seat: &mut Seat,
     p: Pid,
 ) -> Result<u32, SharedFault>
-    ensures section { Sections locked.old locked.new seat.old seat.new (Ask.Crash p) (heard Told.Crashed result) }
-    ensures wrong { result ≡ Err SharedFault.WrongSeat ↔ ¬ IsSeated tag (held_of locked.old) seat.old.sitting }
-    ensures full { result ≡ Err SharedFault.HistoryFull → length (held_of locked.old).history ≡ max_items }
+    ensures section { Sections locked.old locked.new seat.old seat.new (Ask.Crash p)
+        (heard Told.Crashed result) }
+    ensures wrong { TellsWrongSeat tag (held_of locked.old) seat.old.sitting result }
+    ensures full { TellsFull (held_of locked.old) result }
 {
     let first = begin(locked, tag, seat)?;
     let answer = locked.crash(seat.number(), seat.count(), p);
@@ -246,11 +247,13 @@ pub(crate) fn restart_under<S: Stable>(
     p: Pid,
     spare: Box<dyn Process + Send>,
 ) -> Result<Restarted, SharedRefused>
-    ensures section { Sections locked.old locked.new seat.old seat.new (Ask.Restart p) (heard_restart result) }
+    ensures section { Sections locked.old locked.new seat.old seat.new (Ask.Restart p)
+        (heard_restart result) }
     ensures spare { IfErr result (λ refused. AnswersAs answers refused.spare spare) }
     ensures wrong { refusal_of result ≡ Some SharedFault.WrongSeat
         ↔ ¬ IsSeated tag (held_of locked.old) seat.old.sitting }
-    ensures full { refusal_of result ≡ Some SharedFault.HistoryFull → length (held_of locked.old).history ≡ max_items }
+    ensures full { refusal_of result ≡ Some SharedFault.HistoryFull
+        → length (held_of locked.old).history ≡ max_items }
 {
     let first = match begin(locked, tag, seat) {
         Ok(first) => first,
@@ -269,9 +272,10 @@ pub(crate) fn flush_under<S: Stable>(
     seat: &mut Seat,
     p: Pid,
 ) -> Result<u32, SharedFault>
-    ensures section { Sections locked.old locked.new seat.old seat.new (Ask.Flush p) (heard Told.Flushed result) }
-    ensures wrong { result ≡ Err SharedFault.WrongSeat ↔ ¬ IsSeated tag (held_of locked.old) seat.old.sitting }
-    ensures full { result ≡ Err SharedFault.HistoryFull → length (held_of locked.old).history ≡ max_items }
+    ensures section { Sections locked.old locked.new seat.old seat.new (Ask.Flush p)
+        (heard Told.Flushed result) }
+    ensures wrong { TellsWrongSeat tag (held_of locked.old) seat.old.sitting result }
+    ensures full { TellsFull (held_of locked.old) result }
 {
     let first = begin(locked, tag, seat)?;
     let answer = locked.flush(seat.number(), seat.count(), p);
@@ -287,9 +291,10 @@ pub(crate) fn forget_under<S: Stable>(
     seat: &mut Seat,
     p: Pid,
 ) -> Result<u32, SharedFault>
-    ensures section { Sections locked.old locked.new seat.old seat.new (Ask.Forget p) (heard Told.Forgotten result) }
-    ensures wrong { result ≡ Err SharedFault.WrongSeat ↔ ¬ IsSeated tag (held_of locked.old) seat.old.sitting }
-    ensures full { result ≡ Err SharedFault.HistoryFull → length (held_of locked.old).history ≡ max_items }
+    ensures section { Sections locked.old locked.new seat.old seat.new (Ask.Forget p)
+        (heard Told.Forgotten result) }
+    ensures wrong { TellsWrongSeat tag (held_of locked.old) seat.old.sitting result }
+    ensures full { TellsFull (held_of locked.old) result }
 {
     let first = begin(locked, tag, seat)?;
     let answer = locked.forget(seat.number(), seat.count(), p);
@@ -306,12 +311,14 @@ pub(crate) fn snapshot_under<S: Stable>(
 ) -> Result<Snapshot, SharedFault>
     ensures copy { IfOk result (IsSnapshot (held_of locked.old)) }
     ensures safe { IfOk result IsSafeSnapshot }
-    ensures seen { IfOk result (λ s. SeesEntries seat.old.sitting seat.new.sitting s.trace.recording.past) }
-    ensures sees { OnOk result (Sees (held_of locked.old) (held_of locked.new) seat.old.sitting.number) }
+    ensures seen { IfOk result
+        (λ s. SeesEntries seat.old.sitting seat.new.sitting s.trace.recording.past) }
+    ensures sees { OnOk result
+        (Sees (held_of locked.old) (held_of locked.new) seat.old.sitting.number) }
     ensures err { OnErr result (seat.new.sitting ≡ seat.old.sitting) }
     ensures unchanged { OnErr result (held_of locked.new ≡ held_of locked.old) }
     ensures faults { IfErr result IsSnapshotFault }
-    ensures wrong { result ≡ Err SharedFault.WrongSeat ↔ ¬ IsSeated tag (held_of locked.old) seat.old.sitting }
+    ensures wrong { TellsWrongSeat tag (held_of locked.old) seat.old.sitting result }
 {
     if !is_seated(locked, tag, seat) {
         return Err(SharedFault::WrongSeat);
@@ -330,13 +337,14 @@ pub(crate) fn pending_under<S: Stable>(
     seat: &Seat,
     q: Pid,
 ) -> Result<Vec<MsgName>, SharedFault>
-    ensures ok { IfOk result (λ names. names.items ≡ pending_in (memories_of (held_of locked.now).run) q) }
+    ensures ok { IfOk result
+        (λ names. names.items ≡ pending_in (memories_of (held_of locked.now).run) q) }
     ensures ascends { IfOk result (λ names. AreAscending names.items) }
     ensures legal { OnOk result (pending_fault (held_of locked.now).run q ≡ None) }
     ensures faults { IfErr result IsPendingFault }
     ensures refused { (fault : CoreFault) → result ≡ Err (SharedFault.Core fault)
         → pending_fault (held_of locked.now).run q ≡ reason_of fault }
-    ensures wrong { result ≡ Err SharedFault.WrongSeat ↔ ¬ IsSeated tag (held_of locked.now) seat.now.sitting }
+    ensures wrong { TellsWrongSeat tag (held_of locked.now) seat.now.sitting result }
 {
     if !is_seated(locked, tag, seat) {
         return Err(SharedFault::WrongSeat);

@@ -13,7 +13,7 @@ ghost use Rattle.causal_shared.specs.Inside.Settled.{IsMismatch, BeginsAt};
 ghost use Rattle.causal_shared.specs.Finish.{items_together, before_items};
 ghost use Rattle.causal_shared.specs.Inside.Settled.{HasOtherOpening, IsSettled};
 ghost use Rattle.causal_shared.specs.Pending.{AreAscending, IsPendingFault, IsSnapshotFault};
-ghost use Rattle.causal_shared.specs.Seat.{AreFresh, SeatCall, SeesEntries, heard, heard_restart};
+ghost use Rattle.causal_shared.specs.Seat.{AreFresh, SeatAnswers, SeatCall, SeesEntries, TellsStranger, heard_restart};
 ghost use Rattle.causal_shared.specs.Shared.{opening_of, tag_of, seats_of_shared};
 
 use crate::checks::{all_seated, first_mismatch, is_complete, is_opening};
@@ -58,7 +58,8 @@ impl<S: Stable + Send> Shared<S> {
     ) -> Result<(Shared<S>, Vec<Seat>), NoMemory>
         requires some { 1 ≤ k }
         requires few { k ≤ max_seats }
-        ensures recording { IfOk result (λ r. (opening_of r.0).recording ≡ (run_of core).recording) }
+        ensures recording { IfOk result
+            (λ r. (opening_of r.0).recording ≡ (run_of core).recording) }
         ensures faults { IfOk result (λ r. (opening_of r.0).faults ≡ (run_of core).faults) }
         ensures tag { IfOk result (λ r. tag_of r.0 ≡ tag) }
         ensures number { IfOk result (λ r. seats_of_shared r.0 ≡ k) }
@@ -91,8 +92,9 @@ impl<S: Stable + Send> Shared<S> {
         source: Pid,
         ssn: u32,
     ) -> Result<Delivered, SharedFault>
-        ensures item { SeatCall seat.old.sitting seat.new.sitting (Ask.Deliver q source ssn) (heard Told.Delivered result) }
-        ensures stranger { ¬ (seat.old.sitting.tag ≡ tag_of self.now) → result ≡ Err SharedFault.WrongSeat }
+        ensures item { SeatAnswers seat.old seat.new (Ask.Deliver q source ssn)
+            Told.Delivered result }
+        ensures stranger { TellsStranger (tag_of self.now) seat.old.sitting result }
     {
         deliver_under(&mut self.locked.lock(rt), self.tag, seat, q, source, ssn)
     }
@@ -103,8 +105,8 @@ impl<S: Stable + Send> Shared<S> {
     /// `WrongSeat`, `HistoryFull`, `NoRecord`, `Core` with the core's fault: nothing has changed but, for the last,
     /// that the item is in the history and the seat's list.
     pub fn crash<R: Wait>(&self, rt: &R, seat: &mut Seat, p: Pid) -> Result<u32, SharedFault>
-        ensures item { SeatCall seat.old.sitting seat.new.sitting (Ask.Crash p) (heard Told.Crashed result) }
-        ensures stranger { ¬ (seat.old.sitting.tag ≡ tag_of self.now) → result ≡ Err SharedFault.WrongSeat }
+        ensures item { SeatAnswers seat.old seat.new (Ask.Crash p) Told.Crashed result }
+        ensures stranger { TellsStranger (tag_of self.now) seat.old.sitting result }
     {
         crash_under(&mut self.locked.lock(rt), self.tag, seat, p)
     }
@@ -121,7 +123,8 @@ impl<S: Stable + Send> Shared<S> {
         p: Pid,
         spare: Box<dyn Process + Send>,
     ) -> Result<Restarted, SharedRefused>
-        ensures item { SeatCall seat.old.sitting seat.new.sitting (Ask.Restart p) (heard_restart result) }
+        ensures item { SeatCall seat.old.sitting seat.new.sitting (Ask.Restart p)
+            (heard_restart result) }
         ensures spare { IfErr result (λ refused. AnswersAs answers refused.spare spare) }
         ensures stranger { ¬ (seat.old.sitting.tag ≡ tag_of self.now)
             → IsErrAnd result (λ refused. refused.fault ≡ SharedFault.WrongSeat) }
@@ -135,8 +138,8 @@ impl<S: Stable + Send> Shared<S> {
     /// `WrongSeat`, `HistoryFull`, `NoRecord`, which change nothing; `Flush` with the core's fault and how many
     /// determinants were stored and recorded.
     pub fn flush<R: Wait>(&self, rt: &R, seat: &mut Seat, p: Pid) -> Result<u32, SharedFault>
-        ensures item { SeatCall seat.old.sitting seat.new.sitting (Ask.Flush p) (heard Told.Flushed result) }
-        ensures stranger { ¬ (seat.old.sitting.tag ≡ tag_of self.now) → result ≡ Err SharedFault.WrongSeat }
+        ensures item { SeatAnswers seat.old seat.new (Ask.Flush p) Told.Flushed result }
+        ensures stranger { TellsStranger (tag_of self.now) seat.old.sitting result }
     {
         flush_under(&mut self.locked.lock(rt), self.tag, seat, p)
     }
@@ -147,8 +150,8 @@ impl<S: Stable + Send> Shared<S> {
     /// `WrongSeat`, `HistoryFull`, `NoRecord`, `Core` with the core's fault: nothing has changed but, for the last,
     /// that the item is in the history and the seat's list.
     pub fn forget<R: Wait>(&self, rt: &R, seat: &mut Seat, p: Pid) -> Result<u32, SharedFault>
-        ensures item { SeatCall seat.old.sitting seat.new.sitting (Ask.Forget p) (heard Told.Forgotten result) }
-        ensures stranger { ¬ (seat.old.sitting.tag ≡ tag_of self.now) → result ≡ Err SharedFault.WrongSeat }
+        ensures item { SeatAnswers seat.old seat.new (Ask.Forget p) Told.Forgotten result }
+        ensures stranger { TellsStranger (tag_of self.now) seat.old.sitting result }
     {
         forget_under(&mut self.locked.lock(rt), self.tag, seat, p)
     }
@@ -160,7 +163,7 @@ impl<S: Stable + Send> Shared<S> {
     pub fn pending<R: Wait>(&self, rt: &R, seat: &Seat, q: Pid) -> Result<Vec<MsgName>, SharedFault>
         ensures ascends { IfOk result (λ names. AreAscending names.items) }
         ensures faults { IfErr result IsPendingFault }
-        ensures stranger { ¬ (seat.now.sitting.tag ≡ tag_of self.now) → result ≡ Err SharedFault.WrongSeat }
+        ensures stranger { TellsStranger (tag_of self.now) seat.now.sitting result }
     {
         pending_under(&self.locked.lock(rt), self.tag, seat, q)
     }
@@ -171,11 +174,12 @@ impl<S: Stable + Send> Shared<S> {
     /// # Errors
     /// `WrongSeat`; `Core` with `NoMemory`. Neither changes anything.
     pub fn snapshot<R: Wait>(&self, rt: &R, seat: &mut Seat) -> Result<Snapshot, SharedFault>
-        ensures seen { IfOk result (λ s. SeesEntries seat.old.sitting seat.new.sitting s.trace.recording.past) }
+        ensures seen { IfOk result
+            (λ s. SeesEntries seat.old.sitting seat.new.sitting s.trace.recording.past) }
         ensures safe { IfOk result IsSafeSnapshot }
         ensures err { OnErr result (seat.new.sitting ≡ seat.old.sitting) }
         ensures faults { IfErr result IsSnapshotFault }
-        ensures stranger { ¬ (seat.old.sitting.tag ≡ tag_of self.now) → result ≡ Err SharedFault.WrongSeat }
+        ensures stranger { TellsStranger (tag_of self.now) seat.old.sitting result }
     {
         snapshot_under(&mut self.locked.lock(rt), self.tag, seat)
     }
@@ -240,12 +244,14 @@ pub fn finish<S: Stable + Send>(
     ensures legal { IfOk result (λ f. IsHistory (run_of f.core) f.history) }
     ensures safe { IfOk result (λ f. IsSafeRun (run_of f.core)) }
     ensures single { IfOk result (λ f. HasSingleSlots (run_of f.core)) }
-    ensures opening { IfOk result (λ f. before_items (run_of f.core) f.history ≡ opening_of shared) }
+    ensures opening { IfOk result
+        (λ f. before_items (run_of f.core) f.history ≡ opening_of shared) }
     ensures seats { IfOk result (λ f. All (Agrees f.history) seats.items) }
     ensures others { IfOk result (λ f. AllSeated seats.items f.history) }
     ensures total { IfOk result (λ f. length f.history ≡ items_together seats.items) }
     ensures missing { result ≡ Err FinishFault.Missing ↔ ¬ AreSeatsOf shared seats.items }
-    ensures mismatch { (n : ℕ) → result ≡ Err (FinishFault.Mismatch n) → IsNoneOrSeat seats.items n }
+    ensures mismatch { (n : ℕ)
+        → result ≡ Err (FinishFault.Mismatch n) → IsNoneOrSeat seats.items n }
 {
     let Shared {
         locked,
@@ -273,7 +279,8 @@ fn finish_fault<S: Stable>(
     faults: u16,
     opening: &Trace,
 ) -> Option<FinishFault>
-    ensures settled { IfNone result (IsSettled (held_of locked.now) tag k seats.now opening.now.recording faults) }
+    ensures settled { IfNone result
+        (IsSettled (held_of locked.now) tag k seats.now opening.now.recording faults) }
     ensures missing { result ≡ Some FinishFault.Missing ↔ ¬ IsComplete tag k seats.now }
     ensures mismatch { (n : ℕ) → result ≡ Some (FinishFault.Mismatch n)
         → IsMismatch (held_of locked.now).history seats.now n }
@@ -309,7 +316,8 @@ fn settle<S: Stable>(
     ensures legal { IfOk result (λ f. IsHistory (run_of f.core) f.history) }
     ensures safe { IfOk result (λ f. IsSafeRun (run_of f.core)) }
     ensures single { IfOk result (λ f. HasSingleSlots (run_of f.core)) }
-    ensures opening { IfOk result (λ f. BeginsAt (run_of f.core) f.history opening.now.recording faults) }
+    ensures opening { IfOk result
+        (λ f. BeginsAt (run_of f.core) f.history opening.now.recording faults) }
     ensures seats { IfOk result (λ f. All (Agrees f.history) seats.now) }
     ensures others { IfOk result (λ f. AllSeated seats.now f.history) }
     ensures total { IfOk result (λ f. length f.history ≡ items_together seats.now) }

@@ -1,9 +1,10 @@
 -- A seat beside the value behind the lock.
-use Rattle.std.specs.Prelude.{◌≡◌, ℕ, ◌≤◌, ◌<◌, length, Option, Some, None, Result, Ok, Err}
+use Rattle.std.specs.Prelude.{◌≡◌, ◌↔◌, ℕ, ◌≤◌, ◌<◌, length, Option, Some, None, Result, Ok, Err}
 use Rattle.causal_protocol.specs.declared.request.Request.{Request}
 use Rattle.causal_protocol.specs.declared.request.Reply.{Reply}
 use Rattle.causal_shared.specs.declared.refused.SharedRefused.{SharedRefused}
 use Rattle.causal_shared.specs.declared.fault.SharedFault.{SharedFault}
+use Rattle.causal_shared.specs.declared.fault.SharedFault.TheVariants.{WrongSeat, HistoryFull}
 use Rattle.causal_shared.specs.declared.fault.LockedFault.{LockedFault}
 use Rattle.causal_shared.specs.History.{last_of, instant, count_at, Held, Holds, AddsItem}
 use Rattle.causal_shared.specs.Limits.{max_items}
@@ -24,6 +25,14 @@ ItemSection old new seat seat' request (Some reply) =
 -- the seat is of this runtime and as it is kept
 abbrev pub IsSeated : ℕ → Held → Sitting → Type 0
 IsSeated tag held seat = (seat.tag ≡ tag) × Holds held seat.number (length seat.items) seat.seen (last_of seat.items)
+
+-- that a seat is wrong is told just where it is not so
+abbrev pub TellsWrongSeat : {A : Type 0} → ℕ → Held → Sitting → Result A SharedFault → Type 0
+TellsWrongSeat tag held seat result = result ≡ Err WrongSeat ↔ ¬ IsSeated tag held seat
+
+-- that the history is full is told only where it is
+abbrev pub TellsFull : {A : Type 0} → Held → Result A SharedFault → Type 0
+TellsFull held result = result ≡ Err HistoryFull → length held.history ≡ max_items
 
 -- the seat may make an item call, whose item begins here
 pub record MayCall (held : Held) (seat : SeatState) (first : ℕ) : Type 0 where
