@@ -1,24 +1,16 @@
-//! What the program's commands write to a text, and how they end, where readers and writers give and take little, or fail.
-mod cut;
-mod forged;
+//! What the program's commands write, and how they end, where readers and writers give and take little, or fail. What they answer to
+//! given texts are rows for the built program (`examples/commands/`).
 mod merging;
-mod reading;
-mod reasons;
 mod running;
-mod scripts;
-mod traces;
+mod showing;
 
-use self::traces::{FAULTY, JUDGED, Verdicts};
-use causal_audit::verdict::Verdict;
-use causal_commands::{Ended, audit_and_tell, audit_stream, complaint};
-use causal_holders::Holders;
-use causal_samples::texts::RING;
-use causal_workers::{Judged, OpenGate, verdict_line};
+use causal_commands::{Ended, audit_stream};
+use causal_testing::texts::RING;
+use causal_workers::OpenGate;
 use std::io;
 use std::io::{Error, Read, Write};
 use std::process::Abort;
 use std::sync::Wait;
-use std::test::Fail;
 use std::thread::Threads;
 
 const RING_LINE: &str = "accept f=0 entries=6 deliveries=3\n";
@@ -58,23 +50,6 @@ impl<'a> Read for Drip<'a> {
     }
 }
 
-// Gives spaces, as many as there is room for, until none is left.
-#[derive(Drop)]
-struct Spaces {
-    left: usize,
-}
-
-impl Read for Spaces {
-    fn read(&mut self, buf: &mut [u8]) -> io::Result<usize> {
-        let count = self.left.min(buf.len());
-        for place in buf.iter_mut().take(count) {
-            *place = b' ';
-        }
-        self.left -= count;
-        Ok(count)
-    }
-}
-
 // Takes one byte for each call. At the call of this number it fails or takes none.
 #[derive(Drop)]
 struct Narrow {
@@ -104,54 +79,6 @@ impl Write for Narrow {
     }
 }
 
-/// Whether the audit of a text ends so, with this line.
-fn is_answered<R: AllocGlobal + Abort + Threads + Wait>(
-    rt: &R,
-    text: &str,
-    f: u16,
-    ended: Ended,
-    line: &str,
-) -> bool {
-    let mut input = text.as_bytes();
-    let mut output = Vec::new(rt.alloc());
-    let how = audit_stream(rt, rt.alloc(), &mut input, &mut output, f, 1, &OpenGate);
-    how == ended && output.as_slice() == line.as_bytes()
-}
-
-/// How the program ends that has written a verdict's line first.
-fn ended_with(line: &str) -> Ended {
-    if line.starts_with("accept") {
-        Ended::Accepted
-    } else {
-        Ended::Breached
-    }
-}
-
-/// Whether the audit gives each of a text's verdicts.
-fn are_answered<R: AllocGlobal + Abort + Threads + Wait>(rt: &R, judged: &Verdicts) -> bool {
-    for (f, line) in judged.lines {
-        if !is_answered(rt, judged.text, *f, ended_with(line), line) {
-            return false;
-        }
-    }
-    true
-}
-
-#[test]
-fn verdicts(rt: HostRuntime) {
-    for judged in &JUDGED {
-        assert!(rt; are_answered(&rt, judged), "{}", judged.name);
-    }
-}
-
-#[test]
-fn first_faults(rt: HostRuntime) {
-    for fault in &FAULTY {
-        let told = is_answered(&rt, fault.text, 0, Ended::Faulted, fault.line);
-        assert!(rt; told, "{}", fault.name);
-    }
-}
-
 #[test]
 fn reads_byte_by_byte(rt: HostRuntime) {
     let mut input = Drip::new(RING, 1, usize::MAX);
@@ -162,23 +89,6 @@ fn reads_byte_by_byte(rt: HostRuntime) {
     );
     assert!(rt; output.as_slice() == RING_LINE.as_bytes());
     assert_eq!(rt; input.calls, RING.len() + 1);
-}
-
-// What is wrong with the line of a fault is said, and how the entries before it are judged.
-#[test]
-fn says_what_is_wrong(rt: HostRuntime) -> Result<(), Fail> {
-    let mut input = "[\"trace\",1,2]\n[\"send\",0,1,1]\n".as_bytes();
-    let mut output = Vec::new(rt.alloc());
-    let told = audit_and_tell(&rt, rt.alloc(), &mut input, &mut output, 0, 1, &OpenGate);
-    assert_eq!(rt; told.ended, Ended::Faulted);
-    let said = match told.fault {
-        Some(refusal) => complaint(rt.alloc(), "audit", 0, &refusal)?,
-        None => Vec::new(rt.alloc()),
-    };
-    let wanted = "audit: line 2: process 0 sends with the number 1, and its next is 0\n\
-                  audit: the entries before line 2: accept f=0 entries=0 deliveries=0\n";
-    assert!(rt; said.as_slice() == wanted.as_bytes());
-    Ok(())
 }
 
 // One call for each byte, and one more that tells the end.
@@ -239,69 +149,4 @@ fn writer_fails_at_each_call(rt: HostRuntime) {
             "call {fails_at}"
         );
     }
-}
-
-// The piece that has one byte too many is read, and no further one.
-#[test]
-fn too_long_a_text(rt: HostRuntime) {
-    let mut input = Spaces {
-        left: 33_554_432 + 5_000,
-    };
-    let mut output = Vec::new(rt.alloc());
-    assert_eq!(rt;
-        audit_stream(&rt, rt.alloc(), &mut input, &mut output, 0, 1, &OpenGate),
-        Ended::Faulted
-    );
-    assert!(rt; output.as_slice() == b"fault line=1 Big\n".as_slice());
-    assert_eq!(rt; input.left, 5_000 - 4_096);
-}
-
-#[test]
-fn sets_are_joined_by_commas(rt: HostRuntime) -> Result<(), Fail> {
-    let mut one = Holders::none();
-    one.insert(1);
-    let mut two = one;
-    two.insert(2);
-    let verdicts = [
-        (
-            1,
-            Verdict::Exceeded {
-                instant: 8,
-                down: two,
-            },
-            "exceeded f=1 instant=8 down=1,2\n",
-        ),
-        (
-            1,
-            Verdict::Orphan {
-                instant: 4,
-                delivery: 1,
-                crash: one,
-                orphan: 2,
-            },
-            "orphan f=1 instant=4 delivery=1 crash=1 orphan=2\n",
-        ),
-        (
-            2,
-            Verdict::Orphan {
-                instant: 6,
-                delivery: 1,
-                crash: two,
-                orphan: 0,
-            },
-            "orphan f=2 instant=6 delivery=1 crash=1,2 orphan=0\n",
-        ),
-    ];
-    for (f, verdict, line) in verdicts {
-        let judged = Judged {
-            verdict,
-            entries: 6,
-            deliveries: 3,
-        };
-        assert!(rt;
-            verdict_line(rt.alloc(), f, &judged)?.as_slice() == line.as_bytes(),
-            "{line}"
-        );
-    }
-    Ok(())
 }

@@ -3,7 +3,7 @@ use causal_core::{Core, CoreFault, Reply, StartFault};
 use causal_log::Stable;
 use causal_name::{Det, MsgName, NoMemory, Pid};
 use causal_process::{Echo, Process, Ring, Tally};
-use causal_samples::{Fields, det};
+use causal_testing::{Fields, det};
 use std::alloc::Global;
 
 pub(crate) type Boxed = Box<dyn Process + Send>;

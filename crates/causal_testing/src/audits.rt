@@ -1,10 +1,10 @@
-//! The steps of a judgement, on traces that were judged by hand. The verdicts on many more stand with the program's tests.
+//! The steps of a judgement, on traces that were judged by hand. The verdicts on many more are rows for the built program
+//! (`examples/commands/`).
+use crate::texts::{ORPHAN_AT_ONCE, RING, RING_CRASHED};
 use causal_audit::{
     Breach, Excess, Tables, Verdict, decided, earlier, first_breach, first_excess, judge, least_by,
-    verdict_of,
 };
 use causal_holders::Holders;
-use causal_samples::texts::{ORPHAN_AT_ONCE, RING, RING_CRASHED};
 use causal_text::read_trace;
 use std::alloc::Global;
 use std::test::Fail;
@@ -12,14 +12,6 @@ use std::test::Fail;
 fn tables_of(alloc: Global, text: &str) -> Result<Tables, Fail> {
     let trace = read_trace(alloc, text.as_bytes())?;
     Ok(Tables::of(alloc, &trace)?)
-}
-
-/// The verdict on the trace that a text spells, if the tables give the same as the audit.
-fn judged(alloc: Global, text: &str, f: u16) -> Result<Option<Verdict>, Fail> {
-    let trace = read_trace(alloc, text.as_bytes())?;
-    let tables = Tables::of(alloc, &trace)?;
-    let verdict = verdict_of(alloc, &trace, f)?;
-    Ok((judge(&tables, f) == verdict).then_some(verdict))
 }
 
 /// The set of these processes.
@@ -119,7 +111,7 @@ fn too_many_are_down(rt: HostRuntime) -> Result<(), Fail> {
 }
 
 /// The first determinant is forgotten by the one that delivered it, and then by the only other that held it.
-pub(crate) const FORGOTTEN: &str = r#"["trace",2,3]
+const FORGOTTEN: &str = r#"["trace",2,3]
 ["send",0,1,0]
 ["deliver",1,0,0,[[0,0,1,0]]]
 ["send",1,2,0]
@@ -130,31 +122,6 @@ pub(crate) const FORGOTTEN: &str = r#"["trace",2,3]
 ["forget",2,[[0,0,1,0]]]
 ["end",8]
 "#;
-
-/// The same, once it is in stable storage.
-const STORED: &str = r#"["trace",2,3]
-["send",0,1,0]
-["deliver",1,0,0,[[0,0,1,0]]]
-["send",1,2,0]
-["deliver",2,2,0,[[0,0,1,0],[1,0,2,0]]]
-["send",2,0,0]
-["deliver",0,4,0,[[1,0,2,0],[2,0,0,0]]]
-["stable",[0,0,1,0]]
-["forget",1,[[0,0,1,0]]]
-["forget",2,[[0,0,1,0]]]
-["end",9]
-"#;
-
-#[test]
-fn what_is_forgotten_by_all_orphans(rt: HostRuntime) -> Result<(), Fail> {
-    // Process 2 alone holds it from instant 7 on, and nobody from instant 8 on; 0 depends on it through 1 and 2.
-    assert_eq!(rt;
-        judged(rt.alloc(), FORGOTTEN, 0)?,
-        Some(orphan(8, 1, &[], 0))
-    );
-    assert_eq!(rt; judged(rt.alloc(), STORED, 0)?, Some(Verdict::Accept));
-    Ok(())
-}
 
 /// The least breach of the trace that a text spells by the instant before its last entries, of which there are so many.
 fn least_before(alloc: Global, text: &str, last: u32) -> Result<Option<Breach>, Fail> {
@@ -167,14 +134,6 @@ fn the_least_breach_comes_by_an_instant_or_not(rt: HostRuntime) -> Result<(), Fa
     let found = Some(breach(8, 1, &[], 0));
     assert_eq!(rt; least_before(rt.alloc(), FORGOTTEN, 0)?, found);
     assert_eq!(rt; least_before(rt.alloc(), FORGOTTEN, 1)?, None);
-    Ok(())
-}
-
-#[test]
-fn every_process_may_be_down(rt: HostRuntime) -> Result<(), Fail> {
-    let text = "[\"trace\",2,256]\n[\"crash\",255]\n[\"end\",1]";
-    assert_eq!(rt; judged(rt.alloc(), text, 0)?, Some(exceeded(1, &[255])));
-    assert_eq!(rt; judged(rt.alloc(), text, 65_535)?, Some(Verdict::Accept));
     Ok(())
 }
 

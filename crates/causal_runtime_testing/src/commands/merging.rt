@@ -1,9 +1,8 @@
 //! What the program writes to recordings, and how it ends, where readers and writers give and take little, or fail.
-use super::{Drip, Narrow, Spaces};
-use causal_commands::{Ended, MOST_MERGED, Merging, merge_and_tell};
+use super::{Drip, Narrow};
+use causal_commands::{Ended, Merging, merge_and_tell};
 use std::alloc::Global;
 use std::io::Read;
-use std::test::Fail;
 
 // one message of two processes, the later line first, with one that a kill has cut
 const MESSAGE: &str = r#"["recording",1,1,2,7]
@@ -35,22 +34,6 @@ fn a_trace_with_its_torn_lines(rt: HostRuntime) {
     assert!(rt; merging.torn.as_slice() == [3u32].as_slice());
     assert!(rt; merging.fault.is_none());
     assert!(rt; output.as_slice() == MERGED.as_bytes());
-}
-
-#[test]
-fn a_fault_with_its_sentence_and_its_hint(rt: HostRuntime) -> Result<(), Fail> {
-    let mut input = "[\"recording\",0,1,2,7]\n[\"send\"".as_bytes();
-    let (merging, output) = merged(rt.alloc(), &mut input);
-    assert_eq!(rt; merging.ended, Ended::Faulted);
-    assert!(rt; output.as_slice() == b"fault line=3 NoHeader\n".as_slice());
-    assert!(rt; merging.torn.is_empty());
-    let (sentence, hint) = match merging.fault {
-        Some(fault) => (format!(in rt.alloc(); "{fault}")?, fault.kind.hint()),
-        None => (String::new(rt.alloc()), None),
-    };
-    assert!(rt; sentence.as_str() == "line 3: some process has no header");
-    assert_eq!(rt; hint, Some("a recording may be missing"));
-    Ok(())
 }
 
 // One call for each byte, and one more that tells the end.
@@ -93,16 +76,4 @@ fn writer_fails_at_each_call(rt: HostRuntime) {
             "call {fails_at}"
         );
     }
-}
-
-// One byte too many is read, and no further one.
-#[test]
-fn too_long_recordings(rt: HostRuntime) {
-    let mut input = Spaces {
-        left: MOST_MERGED + 5_000,
-    };
-    let (merging, output) = merged(rt.alloc(), &mut input);
-    assert_eq!(rt; merging.ended, Ended::Faulted);
-    assert!(rt; output.as_slice() == b"fault line=1 Big\n".as_slice());
-    assert_eq!(rt; input.left, 5_000);
 }
