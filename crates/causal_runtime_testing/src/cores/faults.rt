@@ -2,8 +2,7 @@
 use super::doubles::Refusing;
 use super::*;
 use causal_log::{FailingStore, MemStable};
-use causal_testing::{Line, traced};
-use causal_trace::trace::Trace;
+use causal_testing::Line;
 use std::test::Fail;
 
 /// Process `me` of a ring of three, whose memory is refused once, after so many steps.
@@ -109,14 +108,6 @@ const FLUSHED: [Line<'static>; 8] = [
     Line::Stable((2, 0, 0, 0)),
     Line::Stable((2, 0, 0, 0)),
 ];
-
-/// Whether a trace has just these entries.
-fn has_lines(alloc: Global, trace: &Trace, lines: &[Line<'_>]) -> bool {
-    match traced(alloc, trace.processes(), lines) {
-        Ok(wanted) => wanted == *trace,
-        Err(_) => false,
-    }
-}
 
 /// Whether the second write of a tally's flush fails, with what was written before it recorded.
 fn stops(alloc: Global, core: &mut Core<FailingStore>) -> Result<bool, NoMemory> {
