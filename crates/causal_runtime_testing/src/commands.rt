@@ -7,6 +7,7 @@ mod showing;
 use causal_commands::{Ended, audit_stream};
 use causal_testing::texts::RING;
 use causal_workers::OpenGate;
+use std::alloc::Global;
 use std::io;
 use std::io::{Error, Read, Write};
 use std::process::Abort;
@@ -56,6 +57,26 @@ struct Narrow {
     taken: Vec<u8>,
     fails_at: usize,
     with_error: bool,
+}
+
+impl Narrow {
+    fn new(alloc: Global, fails_at: usize, with_error: bool) -> Narrow {
+        Narrow {
+            taken: Vec::new(alloc),
+            fails_at,
+            with_error,
+        }
+    }
+
+    /// Whether a command that writes this answer has ended as it has to, and has written just what came before the failing call.
+    fn is_told(&self, ended: Ended, whole: Ended, answer: &str) -> bool {
+        let want = if self.fails_at < answer.len() {
+            Ended::WriteFault
+        } else {
+            whole
+        };
+        ended == want && answer.as_bytes().get(..self.fails_at) == Some(self.taken.as_slice())
+    }
 }
 
 impl Write for Narrow {
@@ -116,37 +137,26 @@ fn fault_before_the_reader_fails(rt: HostRuntime) {
     assert_eq!(rt; input.calls, 1);
 }
 
-/// Whether the audit of a ring ends as it has to where its writer fails at this call, and has written just what came before it.
-fn ends_where_the_writer_fails<R: AllocGlobal + Abort + Threads + Wait>(
+/// Whether the audit of a ring tells that its writer fails at this call.
+fn tells_of_the_writer<R: AllocGlobal + Abort + Threads + Wait>(
     rt: &R,
     fails_at: usize,
     with_error: bool,
 ) -> bool {
     let mut input = RING.as_bytes();
-    let mut output = Narrow {
-        taken: Vec::new(rt.alloc()),
-        fails_at,
-        with_error,
-    };
+    let mut output = Narrow::new(rt.alloc(), fails_at, with_error);
     let ended = audit_stream(rt, rt.alloc(), &mut input, &mut output, 0, 1, &OpenGate);
-    let want = if fails_at < RING_LINE.len() {
-        Ended::WriteFault
-    } else {
-        Ended::Accepted
-    };
-    ended == want && RING_LINE.as_bytes().get(..fails_at) == Some(output.taken.as_slice())
+    output.is_told(ended, Ended::Accepted, RING_LINE)
 }
 
 #[test]
 fn writer_fails_at_each_call(rt: HostRuntime) {
     for fails_at in 0..=RING_LINE.len() {
-        assert!(rt;
-            ends_where_the_writer_fails(&rt, fails_at, true),
-            "call {fails_at}"
-        );
-        assert!(rt;
-            ends_where_the_writer_fails(&rt, fails_at, false),
-            "call {fails_at}"
-        );
+        for with_error in [true, false] {
+            assert!(rt;
+                tells_of_the_writer(&rt, fails_at, with_error),
+                "call {fails_at}"
+            );
+        }
     }
 }

@@ -47,33 +47,22 @@ fn reader_fails_at_each_call(rt: HostRuntime) {
     }
 }
 
-/// Whether a merge ends as it has to where its writer fails at this call, and has written just what came before it.
-fn ends_where_the_writer_fails(alloc: Global, fails_at: usize, with_error: bool) -> bool {
+/// Whether a merge tells that its writer fails at this call.
+fn tells_of_the_writer(alloc: Global, fails_at: usize, with_error: bool) -> bool {
     let mut input = MESSAGE.as_bytes();
-    let mut output = Narrow {
-        taken: Vec::new(alloc),
-        fails_at,
-        with_error,
-    };
+    let mut output = Narrow::new(alloc, fails_at, with_error);
     let ended = merge_and_tell(alloc, &mut input, &mut output).ended;
-    let want = if fails_at < MERGED.len() {
-        Ended::WriteFault
-    } else {
-        Ended::Merged
-    };
-    ended == want && MERGED.as_bytes().get(..fails_at) == Some(output.taken.as_slice())
+    output.is_told(ended, Ended::Merged, MERGED)
 }
 
 #[test]
 fn writer_fails_at_each_call(rt: HostRuntime) {
     for fails_at in 0..=MERGED.len() {
-        assert!(rt;
-            ends_where_the_writer_fails(rt.alloc(), fails_at, true),
-            "call {fails_at}"
-        );
-        assert!(rt;
-            ends_where_the_writer_fails(rt.alloc(), fails_at, false),
-            "call {fails_at}"
-        );
+        for with_error in [true, false] {
+            assert!(rt;
+                tells_of_the_writer(rt.alloc(), fails_at, with_error),
+                "call {fails_at}"
+            );
+        }
     }
 }

@@ -39,51 +39,42 @@ fn reader_fails_at_each_call(rt: HostRuntime) {
     }
 }
 
-fn writer_fails<R: AllocGlobal + Abort + Wait>(
+/// Whether the run of a script that ends so and prints this tells that its writer fails at this call.
+fn tells_of_the_writer<R: AllocGlobal + Abort + Wait>(
     rt: &R,
-    script: &str,
-    whole: Ended,
-    output: &str,
+    printed: &(&str, Ended, &str),
+    fails_at: usize,
     with_error: bool,
-) {
-    for fails_at in 0..=output.len() {
-        let mut input = script.as_bytes();
-        let mut writer = Narrow {
-            taken: Vec::new(rt.alloc()),
-            fails_at,
-            with_error,
-        };
-        let ended = run_stream(rt, rt.alloc(), &mut input, &mut writer);
-        let want = if fails_at < output.len() {
-            Ended::WriteFault
-        } else {
-            whole
-        };
-        assert_eq!(rt; ended, want, "call {fails_at}");
-        assert!(rt;
-            writer.taken.as_slice() == &output.as_bytes()[..fails_at],
-            "call {fails_at}"
-        );
-    }
+) -> bool {
+    let (script, whole, answer) = *printed;
+    let mut input = script.as_bytes();
+    let mut output = Narrow::new(rt.alloc(), fails_at, with_error);
+    let ended = run_stream(rt, rt.alloc(), &mut input, &mut output);
+    output.is_told(ended, whole, answer)
 }
+
+/// Scripts, how they end, and what is printed.
+const PRINTED: [(&str, Ended, &str); 3] = [
+    (REPLAY, Ended::Ran, RING_REPLAYED),
+    (
+        "start ring 3 1 2\nrestart 1\n",
+        Ended::Refused,
+        "refused line=2 NotDown\n",
+    ),
+    ("start\n", Ended::Faulted, "fault line=1 Script\n"),
+];
 
 #[test]
 fn writer_fails_at_each_call(rt: HostRuntime) {
-    for with_error in [true, false] {
-        writer_fails(&rt, REPLAY, Ended::Ran, RING_REPLAYED, with_error);
-        writer_fails(
-            &rt,
-            "start ring 3 1 2\nrestart 1\n",
-            Ended::Refused,
-            "refused line=2 NotDown\n",
-            with_error,
-        );
-        writer_fails(
-            &rt,
-            "start\n",
-            Ended::Faulted,
-            "fault line=1 Script\n",
-            with_error,
-        );
+    for printed in &PRINTED {
+        let (_, _, answer) = printed;
+        for fails_at in 0..=answer.len() {
+            for with_error in [true, false] {
+                assert!(rt;
+                    tells_of_the_writer(&rt, printed, fails_at, with_error),
+                    "call {fails_at}"
+                );
+            }
+        }
     }
 }

@@ -11,11 +11,7 @@ fn a_reader_and_a_writer_that_fail(rt: HostRuntime) {
     assert_eq!(rt; told.ended, Ended::ReadFault);
     assert!(rt; output.is_empty());
     let mut input = RING.as_bytes();
-    let mut narrow = Narrow {
-        taken: Vec::new(rt.alloc()),
-        fails_at: 6,
-        with_error: true,
-    };
+    let mut narrow = Narrow::new(rt.alloc(), 6, true);
     let told = show_and_tell(&rt, rt.alloc(), &mut input, &mut narrow, 0, View::Reason);
     assert_eq!(rt; told.ended, Ended::WriteFault);
     assert!(rt; narrow.taken.as_slice() == b"accept".as_slice());
