@@ -1,16 +1,31 @@
 //! The steps of a judgement, on traces that were judged by hand. The verdicts on many more are rows for the built program
 //! (`examples/commands/`).
-use crate::texts::{ORPHAN_AT_ONCE, RING, RING_CRASHED};
+use crate::texts::ORPHAN_AT_ONCE;
+use crate::{Line, RING, push_all, traced};
 use causal_audit::{
     Breach, Excess, Tables, Verdict, decided, earlier, first_breach, first_excess, judge, least_by,
 };
 use causal_holders::Holders;
 use causal_text::read_trace;
+use causal_trace::fault::TraceFault;
+use causal_trace::trace::Trace;
 use std::alloc::Global;
 use std::test::Fail;
 
 fn tables_of(alloc: Global, text: &str) -> Result<Tables, Fail> {
     let trace = read_trace(alloc, text.as_bytes())?;
+    Ok(Tables::of(alloc, &trace)?)
+}
+
+/// The ring, and then these entries.
+fn ring_and(alloc: Global, more: &[Line<'_>]) -> Result<Trace, TraceFault> {
+    let mut trace = traced(alloc, 3, &RING)?;
+    push_all(alloc, &mut trace, more)?;
+    Ok(trace)
+}
+
+fn tables_after(alloc: Global, more: &[Line<'_>]) -> Result<Tables, Fail> {
+    let trace = ring_and(alloc, more)?;
     Ok(Tables::of(alloc, &trace)?)
 }
 
@@ -92,7 +107,7 @@ fn has_the_chain(tables: &Tables) -> bool {
 
 #[test]
 fn a_chain_of_messages_orphans(rt: HostRuntime) -> Result<(), Fail> {
-    let tables = tables_of(rt.alloc(), RING)?;
+    let tables = tables_after(rt.alloc(), &[])?;
     assert!(rt; has_the_chain(&tables));
     Ok(())
 }
@@ -105,35 +120,28 @@ fn has_the_excess(tables: &Tables) -> bool {
 
 #[test]
 fn too_many_are_down(rt: HostRuntime) -> Result<(), Fail> {
-    let tables = tables_of(rt.alloc(), RING_CRASHED)?;
+    let tables = tables_after(rt.alloc(), &[Line::Crash(1), Line::Crash(2)])?;
     assert!(rt; has_the_excess(&tables));
     Ok(())
 }
 
-/// The first determinant is forgotten by the one that delivered it, and then by the only other that held it.
-const FORGOTTEN: &str = r#"["trace",2,3]
-["send",0,1,0]
-["deliver",1,0,0,[[0,0,1,0]]]
-["send",1,2,0]
-["deliver",2,2,0,[[0,0,1,0],[1,0,2,0]]]
-["send",2,0,0]
-["deliver",0,4,0,[[1,0,2,0],[2,0,0,0]]]
-["forget",1,[[0,0,1,0]]]
-["forget",2,[[0,0,1,0]]]
-["end",8]
-"#;
+/// The first determinant of a ring is forgotten by the one that delivered it, and then by the only other that held it.
+const FORGOTTEN: [Line<'static>; 2] = [
+    Line::Forget(1, &[(0, 0, 1, 0)]),
+    Line::Forget(2, &[(0, 0, 1, 0)]),
+];
 
-/// The least breach of the trace that a text spells by the instant before its last entries, of which there are so many.
-fn least_before(alloc: Global, text: &str, last: u32) -> Result<Option<Breach>, Fail> {
-    let trace = read_trace(alloc, text.as_bytes())?;
+/// The least breach of the ring and these entries, by the instant before its last entries, of which there are so many.
+fn least_before(alloc: Global, more: &[Line<'_>], last: u32) -> Result<Option<Breach>, Fail> {
+    let trace = ring_and(alloc, more)?;
     Ok(least_by(alloc, &trace, 0, trace.len().saturating_sub(last))?)
 }
 
 #[test]
 fn the_least_breach_comes_by_an_instant_or_not(rt: HostRuntime) -> Result<(), Fail> {
     let found = Some(breach(8, 1, &[], 0));
-    assert_eq!(rt; least_before(rt.alloc(), FORGOTTEN, 0)?, found);
-    assert_eq!(rt; least_before(rt.alloc(), FORGOTTEN, 1)?, None);
+    assert_eq!(rt; least_before(rt.alloc(), &FORGOTTEN, 0)?, found);
+    assert_eq!(rt; least_before(rt.alloc(), &FORGOTTEN, 1)?, None);
     Ok(())
 }
 

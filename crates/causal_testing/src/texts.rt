@@ -25,19 +25,6 @@ pub const RING: &str = r#"["trace",1,3]
 ["end",6]
 "#;
 
-/// The ring, and then two of its processes crash.
-pub const RING_CRASHED: &str = r#"["trace",1,3]
-["send",0,1,0]
-["deliver",1,0,0,[[0,0,1,0]]]
-["send",1,2,0]
-["deliver",2,2,0,[[0,0,1,0],[1,0,2,0]]]
-["send",2,0,0]
-["deliver",0,4,0,[[1,0,2,0],[2,0,0,0]]]
-["crash",1]
-["crash",2]
-["end",8]
-"#;
-
 /// The ring, and then 1 forgets what it delivered.
 pub const RING_FORGETTING: &str = r#"["trace",2,3]
 ["send",0,1,0]
