@@ -1,5 +1,5 @@
 -- A value that does not fit the outline of a line has none of the shapes of a recording's line.
-use Rattle.std.proofs.Common.{◌≡◌, ◌⊎◌, suc, ◌-◌, ◌^◌, arith, true, false, Some, Err, inl, inr, refl, cond}
+use Rattle.std.proofs.Common.{◌≡◌, ◌⊎◌, suc, ◌^◌, arith, true, false, Some, Err, inl, inr, refl, cond}
 use Rattle.std.specs.Prelude.{◌&&◌, codes}
 use Rattle.serde_json.specs.Data.{Data, number, string, array, object, no_items, item}
 use Rattle.serde_json.specs.Events.{items_len}

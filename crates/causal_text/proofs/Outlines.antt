@@ -1,5 +1,5 @@
 -- A value that does not fit the outline of a line has none of the shapes.
-use Rattle.std.proofs.Common.{◌≡◌, suc, ◌-◌, ◌^◌, arith, true, false, Err, refl, cond}
+use Rattle.std.proofs.Common.{◌≡◌, suc, ◌^◌, arith, true, false, Err, refl, cond}
 use Rattle.std.specs.Prelude.{◌&&◌, codes}
 use Rattle.serde_json.specs.Data.{Data, number, string, array, object, no_items, item}
 use Rattle.serde_json.specs.Events.{items_len}

@@ -1,6 +1,6 @@
 -- What is told of the fields of a line that do not fit its outline: no line has them, of whatever kind.
 use Rattle.std.proofs.Common.{◌≡◌, ◌⊎◌, ℕ, suc, ◌-◌, ◌^◌, ◌<◌, arith, ne_eqb, List, [], Bool, true, false, Option, Some, None, Result, Ok, Err, inl, inr, refl, ap, sym, ◌∙◌, cond}
-use Rattle.std.specs.Prelude.{◌&&◌, ◌==◌, codes, bytes_eq, option_and_then, unwrap_or}
+use Rattle.std.specs.Prelude.{◌&&◌, ◌==◌, bytes_eq, option_and_then, unwrap_or}
 use Rattle.serde_json.specs.Data.{Data, number, string, array, object, Items, no_items, item}
 use Rattle.serde_json.specs.Events.{items_len}
 use Rattle.serde_json.specs.Find.{at, as_str, as_array, as_number, as_u64}
@@ -8,7 +8,7 @@ use Rattle.causal_text.specs.declared.kind.TextKind.{TextKind}
 use Rattle.causal_text.specs.declared.kind.TextKind.TheVariants.{Form}
 use Rattle.causal_text.specs.Reading.{◌>>=◌}
 use Rattle.causal_text.specs.Shapes.{or_form, size, number_below, number_at, u8_at, pid_at, u32_at, u64_at, det_of, dets_of, dets_at, begins}
-use Rattle.causal_text.specs.Outline.{levels, one_more, may_have, fits, items_fit}
+use Rattle.causal_text.specs.Outline.{one_more, may_have, fits, items_fit}
 
 -- no other kind than `Form`
 abbrev pub IsPlainly : {A : Type 0} → Result A TextKind → Type 0
