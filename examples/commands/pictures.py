@@ -62,7 +62,7 @@ DRAWN = [
     ),
     ("a message passed on, and no fault", texts.PASSED_ON_BARE, 0, in_words("accept f=0: no delivery has an orphan")),
     ("a ring, and one fault", texts.RING_TEXT, 1, in_words("accept f=1: no delivery has an orphan")),
-]  # fmt: skip
+]
 
 
 def of_verdict(printed):

@@ -144,11 +144,11 @@ REASONS = [
         "a closest failure of many replays",
         trace(
             1, 3, SENT, FIRST, [crash(1), restart(1, A), FIRST] * 190, send(1, 2, 0), deliver(2, 572, 0, A, [1, 0, 2, 0]),
-        ),  # fmt: skip
+        ),
         "accept f=1 entries=574 deliveries=192\n",
         NEVER,
     ),
-]  # fmt: skip
+]
 
 
 def beginning(printed):

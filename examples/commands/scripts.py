@@ -3,8 +3,8 @@ from . import texts
 from .row import given
 from .texts import A, B, C, FIRST, RING, SENT, TALLIED, AGAIN, BACK, FROM_2, crash, deliver, restart, send, stable, trace
 
-# how long a script may be, and how many entries a run may have
-BYTES, ENTRIES = 1_048_576, 65_536
+# how long a script may be, and how many times processes may restart
+BYTES, RESTARTS = 1_048_576, 192
 
 ROUND = "start ring 3 1 2\ndeliver 1 0 0\ndeliver 2 1 0\ndeliver 0 2 0\n"
 # a second receiver crashes, restarts, and delivers and sends again what it had
@@ -43,7 +43,7 @@ RECORDED = [
         trace(
             1, 3, RING[:5], deliver(0, 4, 0, A, B, C), crash(0), crash(1), restart(0, A, B), SENT, restart(1, A, B),
             deliver(1, 9, 0, A, B), send(1, 2, 0), deliver(0, 4, 0, A, B, C),
-        ),  # fmt: skip
+        ),
         "accept f=2 entries=14 deliveries=5",
     ),
     (
@@ -77,7 +77,7 @@ FIRST_LINE = [
     "Start ring 3 1 2", " start ring 3 1 2", "start  ring 3 1 2", "start\tring 3 1 2", "start ring 3 1 2\r\n", "start ring 03 1 2",
     "start ring +3 1 2", "start ring 3 -1 2", "start ring 3 1 2.0", "deliver 1 0 0", "\nstart ring 3 1 2", "\ufeffstart ring 3 1 2",
     b"\xff",
-]  # fmt: skip
+]
 
 # lines at fault that follow a first line
 LATER_LINE = [
@@ -86,9 +86,9 @@ LATER_LINE = [
     "deliver  0 0 0", "deliver 0 0 +0", "deliver 0 0 0x0", "crash", "crash ", "crash 256", "crash 1 ", "crash 1 1", "crash  1",
     " crash 1", "crash\t1", "crash 1\r", "crash -1", "Crash 1", "crashed 1", "restart 256", "flush 256", "forget 256", "forget",
     "forget 1 0", "stop 1", "1",
-]  # fmt: skip
+]
 
-# scripts, and what standard error tells of them, which is nothing of one that is run
+# scripts, and what standard error tells of them
 SENTENCES = [
     ("start ring 3 1 2\nfly 1\n", "fault line=2 Script", "line 2: this is no line of a script here"),
     ("start ring 3 1 2\ncrash 9\n", "refused line=2 NoProcess", "line 2 is refused: there is no such process"),
@@ -141,6 +141,10 @@ def longest_rows():
     512 deliveries and 510 more sends, so 63 pairs and 443 deliveries of the next come to 65,528."""
     yield given("a run to the limit", "run", "\n".join(counting_down(32_699)), 0, (65_528, 32_699), seen=shape)
     yield refused("a run past the limit", "\n".join(counting_down(32_700)), "32701 Full")
+    # Process 0 of a tally sends nothing when it begins, so 192 crashes and restarts and one more crash are all the entries.
+    restarts = "start tally 1 1\n" + "crash 0\nrestart 0\n" * RESTARTS + "crash 0\n"
+    yield given("as many restarts as may be", "run", restarts, 0, (2 * RESTARTS + 1, 0), seen=shape)
+    yield refused("a restart more", restarts + "restart 0\n", f"{2 * RESTARTS + 3} Full")
     # The longest script that begins so lacks its last line feed; with it, it is too long by one byte, on the line that this ends. The
     # first crash is refused, so that no more is run.
     crashes = "start ring 1 0 0\n" + "crash 0\n" * 131_070
@@ -178,5 +182,6 @@ def rows():
         yield given(sentence, "run", script, 2, line + "\n", said=f"causal_tool run: {sentence}\n")
     for script, sizes in SHAPES:
         yield given(f"the sizes of {script!r}", "run", script, 0, sizes, seen=shape)
+    yield given("nothing is told of a run", "run", "start ring 3 1 2\ndeliver 1 0 0\n", 0, (3, 1), seen=shape, said="")
     yield from longest_rows()
     yield from sized_rows()

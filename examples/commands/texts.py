@@ -67,7 +67,7 @@ TO_4, TO_2, SECOND, TO_3 = [1, 0, 4, 0], [4, 0, 2, 0], [1, 1, 2, 1], [2, 0, 3, 0
 HELD_BEFORE = trace(
     1, 5, LOGGED, send(1, 4, 0), deliver(4, 2, 0, A, TO_4), send(4, 2, 0), deliver(2, 4, 0, A, TO_4, TO_2),
     send(1, 2, 1), deliver(2, 6, 1, SECOND), send(2, 3, 0), deliver(3, 8, 0, TO_4, SECOND, TO_3, TO_2),
-)  # fmt: skip
+)
 RING_CRASHED = trace(1, 3, RING, crash(1), crash(2))
 RING_FORGETTING = trace(2, 3, RING, forget(1, A))
 # Both that held the first determinant forget it.
@@ -85,4 +85,4 @@ TALLIED = [send(1, 0, 0), send(2, 0, 0), deliver(0, 1, 0, FROM_2), send(0, 2, 0)
 AGAIN = [deliver(0, 1, 0, FROM_2), send(0, 2, 0)]
 TALLY_FORGETTING = trace(
     2, 3, TALLIED, stable(FROM_2), forget(0, FROM_2), crash(0), restart(0, BACK, FROM_2), forget(0, FROM_2), AGAIN
-)  # fmt: skip
+)

@@ -1,3 +1,4 @@
+mod Accepting
 mod Known
 mod MergeLemmas
 mod PrintLemmas

@@ -1,4 +1,5 @@
 pub mod Inside
+pub mod Accepted
 pub mod Endings
 pub mod Hints
 pub mod Shown

@@ -5,7 +5,7 @@ use Rattle.causal_text.specs.declared.kind.TextFault.{TextFault}
 use Rattle.causal_text.specs.declared.shape.Shape.{Shape}
 use Rattle.causal_text.specs.Before.{StandsBefore}
 use Rattle.causal_text.specs.Spelling.{IsFirstFault}
-use Rattle.causal_fault.specs.Wrongs.{IsWrong, kind_told}
+use Rattle.causal_text.specs.Wrongs.{IsWrong, kind_told}
 use Rattle.causal_commands.specs.declared.remark.Refusal.{Refusal}
 use Rattle.causal_commands.specs.declared.remark.Remark.{Remark}
 use Rattle.causal_commands.specs.Judgements.{IsJudgedSo}

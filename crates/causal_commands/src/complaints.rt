@@ -3,9 +3,8 @@ ghost use Rattle.std.specs.Prelude.{◌≡◌, IfOk};
 ghost use Rattle.causal_commands.specs.Complaints as told;
 
 use crate::remark::{Refusal, Remark};
-use causal_fault::{Wrong, sentence};
 use causal_name::NoMemory;
-use causal_text::TextFault;
+use causal_text::{TextFault, Wrong, sentence};
 use causal_workers::{Judged, verdict_line};
 use std::alloc::Global;
 

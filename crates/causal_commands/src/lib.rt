@@ -5,9 +5,11 @@
 //! writes one answer, and what it gives, a [`Told`] or a [`Merging`], says how that ended, as an [`Ended`] with its status and its
 //! words, and what the text has against it, which [`complaint`] and [`hint_of`] put into words. [`audit_stream`] and [`run_stream`]
 //! are the same with the ending alone. [`audit_from`] gives the verdict itself and writes nothing; [`read_script`] is how a script's
-//! text is read. [`Noted`] is for streams that may fail.
+//! text is read. [`Noted`] is for streams that may fail. [`audited`] judges what the runtime has recorded.
 #![tactic(auto)]
 
+/// What the runtime has recorded, audited.
+pub mod accepted;
 pub mod complaints;
 pub mod ended;
 pub mod hint;
@@ -21,6 +23,7 @@ pub mod script;
 pub mod shown;
 pub mod stream;
 
+pub use accepted::audited;
 pub use complaints::complaint;
 pub use ended::Ended;
 pub use hint::hint_of;

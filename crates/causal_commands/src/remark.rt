@@ -7,9 +7,8 @@ ghost use Rattle.causal_commands.specs.Judgements.{IsJudgedSo};
 ghost use Rattle.causal_commands.specs.Remarks.{IsRefusal, IsRemarkOn};
 
 use causal_audit::verdict_of;
-use causal_fault::{Wrong, wrong_with};
 use causal_name::NoMemory;
-use causal_text::{Before, Rejected, Shape, TextFault};
+use causal_text::{Before, Rejected, Shape, TextFault, Wrong, wrong_with};
 use causal_trace::trace::Trace;
 use causal_workers::Judged;
 use std::alloc::Global;

@@ -1,18 +1,17 @@
-//! Scripts with the traces that they have to record, faults of memory and of stores, and the limit on entries, on cores of the kinds
-//! of process that come with the runtime.
+//! What is told between a crash and the end of its replay, faults of memory and of stores, and the limit on entries, on cores of the
+//! kinds of process that come with the runtime.
 use crate::runtime::*;
 use causal_core::{Core, CoreFault, Delivered, FlushFault, Reply, Restarted, StartFault};
 use causal_log::Stable;
 use causal_name::{MsgName, NoMemory, Pid};
 use causal_process::Ring;
-use causal_samples::{Fields, det};
+use causal_testing::{Fields, det};
 use std::alloc::Global;
 
 pub(crate) mod doubles;
 mod faults;
 mod limits;
 mod recovery;
-pub(crate) mod scripts;
 
 fn named<S: Stable>(core: &Core<S>, q: u8) -> Result<Option<MsgName>, CoreFault> {
     core.named(Pid(q))

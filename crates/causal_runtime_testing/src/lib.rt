@@ -9,11 +9,7 @@ mod cores;
 #[cfg(test)]
 mod logs;
 #[cfg(test)]
-mod runs;
-#[cfg(test)]
 mod runtime;
-#[cfg(test)]
-mod script_texts;
 #[cfg(test)]
 mod scripts;
 #[cfg(test)]

@@ -2,7 +2,7 @@
 use causal_holders::Holders;
 use causal_log::{Batch, FailingStore, Item, Known, Log, MemStable, PutFault, Stable};
 use causal_name::{Det, MsgName, NoMemory, Pid, Slot};
-use causal_samples::{Fields, det};
+use causal_testing::{Fields, det};
 use std::alloc::Global;
 use std::test::Fail;
 

@@ -3,7 +3,8 @@ use causal_core::{Core, CoreFault, Reply, StartFault};
 use causal_log::Stable;
 use causal_name::{Det, MsgName, NoMemory, Pid};
 use causal_process::{Echo, Process, Ring, Tally};
-use causal_samples::{Fields, det};
+use causal_testing::{Fields, Line, det, traced};
+use causal_trace::trace::Trace;
 use std::alloc::Global;
 
 pub(crate) type Boxed = Box<dyn Process + Send>;
@@ -26,6 +27,14 @@ pub(crate) fn name(source: u8, ssn: u32) -> MsgName {
 /// Whether these are the determinants of these fields.
 pub(crate) fn are(dets: &[Det], fields: &[Fields]) -> bool {
     dets.len() == fields.len() && dets.iter().zip(fields).all(|(d, it)| *d == det(*it))
+}
+
+/// Whether a trace has just these entries.
+pub(crate) fn has_lines(alloc: Global, trace: &Trace, lines: &[Line<'_>]) -> bool {
+    match traced(alloc, trace.processes(), lines) {
+        Ok(wanted) => wanted == *trace,
+        Err(_) => false,
+    }
 }
 
 /// A call of a core, with its numbers in their order.

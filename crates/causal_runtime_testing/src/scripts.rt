@@ -1,5 +1,5 @@
-//! Scripts whose reading was worked out by hand, and each line that tells a fault.
-use crate::script_texts::{FLUSHED, FORGETTING, REPLAY, TWO_CRASHES};
+//! What scripts ask for, and the line of each fault and of each refusal. What the program says of scripts are rows for it as it was built
+//! (`examples/commands/`).
 use causal_name::{MsgName, Pid};
 use causal_protocol::request::{CoreFault, Request};
 use causal_script::{
@@ -72,90 +72,29 @@ fn check_commands(
     assert!(rt; right, "of {text}");
 }
 
-#[test]
-fn a_message_goes_round_a_ring(rt: HostRuntime) {
-    let alloc = rt.alloc();
-    let round = [
-        deliver(1, 0, 0),
-        deliver(2, 1, 0),
-        deliver(0, 2, 0),
-        crash(1),
-        restart(1),
-        deliver(1, 0, 0),
-    ];
-    check_commands(&rt, alloc, REPLAY, (Kind::Ring, 3, 1, 2), &round);
-    check_commands(
-        &rt,
-        alloc,
-        "start ring 3 1 2\ndeliver 1 0 0\ndeliver 1 0 0",
-        (Kind::Ring, 3, 1, 2),
-        &[deliver(1, 0, 0), deliver(1, 0, 0)],
-    );
-}
-
-#[test]
-fn two_crash_in_a_ring(rt: HostRuntime) {
-    let alloc = rt.alloc();
-    check_commands(
-        &rt,
-        alloc,
-        "start ring 3 2 2\ndeliver 1 0 0\ndeliver 2 1 0\ndeliver 0 2 0\ncrash 0\ncrash 1\nrestart 1\ndeliver 1 0 0\n",
-        (Kind::Ring, 3, 2, 2),
-        &[
-            deliver(1, 0, 0),
-            deliver(2, 1, 0),
-            deliver(0, 2, 0),
-            crash(0),
-            crash(1),
-            restart(1),
-            deliver(1, 0, 0),
-        ],
-    );
-    check_commands(
-        &rt,
-        alloc,
-        TWO_CRASHES,
-        (Kind::Ring, 3, 2, 2),
-        &[
-            deliver(1, 0, 0),
-            deliver(2, 1, 0),
-            deliver(0, 2, 0),
-            crash(0),
-            crash(1),
-            restart(0),
-            restart(1),
-            deliver(1, 0, 0),
-            deliver(0, 2, 0),
-        ],
-    );
-}
+/// A tally forgets what is stable, crashes, and replays after it has forgotten once more.
+const FORGETTING: &str = "start tally 3 1
+deliver 0 2 0
+deliver 2 0 0
+flush 0
+forget 0
+crash 0
+restart 0
+forget 0
+deliver 0 2 0
+";
 
 #[test]
 fn a_tally_crashes_flushes_and_forgets(rt: HostRuntime) {
-    let alloc = rt.alloc();
-    let (first, second) = (deliver(0, 2, 0), deliver(2, 0, 0));
+    let first = deliver(0, 2, 0);
     check_commands(
         &rt,
-        alloc,
-        "start tally 3 1\ndeliver 0 2 0\ndeliver 2 0 0\ncrash 0\nrestart 0\ndeliver 0 1 0\n",
-        (Kind::Tally, 3, 1, 0),
-        &[first, second, crash(0), restart(0), deliver(0, 1, 0)],
-    );
-    check_commands(
-        &rt,
-        alloc,
-        FLUSHED,
-        (Kind::Tally, 3, 1, 0),
-        &[first, second, flush(2), flush(2), flush(0)],
-    );
-    check_commands(
-        &rt,
-        alloc,
+        rt.alloc(),
         FORGETTING,
         (Kind::Tally, 3, 1, 0),
         &[
             first,
-            second,
+            deliver(2, 0, 0),
             flush(0),
             forget(0),
             crash(0),
@@ -183,195 +122,6 @@ fn the_greatest_numbers_are_read(rt: HostRuntime) {
             forget(255),
         ],
     );
-}
-
-// ---- faults
-
-// how the reading of a text ends: the line of its fault, or nothing where it spells a script
-fn told(alloc: Global, text: &[u8]) -> Result<Vec<u8>, Fail> {
-    match parse_script(alloc, text) {
-        Ok(_script) => Ok(Vec::new(alloc)),
-        Err(fault) => Ok(script_line(alloc, &fault)?),
-    }
-}
-
-fn check_told(rt: &impl Abort, alloc: Global, text: &[u8], want: &str) -> Result<(), Fail> {
-    let line = told(alloc, text)?;
-    assert_eq!(rt; line.as_slice(), want.as_bytes());
-    Ok(())
-}
-
-// whole texts with a fault on the first line
-const FIRST: [&str; 32] = [
-    "",
-    "\n",
-    " ",
-    "start",
-    "start ",
-    "start ring",
-    "start ring ",
-    "start ring 0 1 2",
-    "start ring 257 1 2",
-    "start ring 3 65536 2",
-    "start ring 3 1 256",
-    "start ring 3 1",
-    "start ring 3 1 ",
-    "start ring 3 1 2 ",
-    "start ring 3 1 2 4",
-    "start echo 3 1",
-    "start tally 3",
-    "start tally 0 1",
-    "start tally 3 1 0",
-    "start sum 3 1 2",
-    "Start ring 3 1 2",
-    " start ring 3 1 2",
-    "start  ring 3 1 2",
-    "start\tring 3 1 2",
-    "start ring 3 1 2\r\n",
-    "start ring 03 1 2",
-    "start ring +3 1 2",
-    "start ring 3 -1 2",
-    "start ring 3 1 2.0",
-    "deliver 1 0 0",
-    "\nstart ring 3 1 2",
-    "\u{feff}start ring 3 1 2",
-];
-
-#[test]
-fn faults_of_the_first_line(rt: HostRuntime) -> Result<(), Fail> {
-    for text in &FIRST {
-        check_told(&rt, rt.alloc(), text.as_bytes(), "fault line=1 Script\n")?;
-    }
-    check_told(&rt, rt.alloc(), b"\xff", "fault line=1 Script\n")
-}
-
-// what follows a first line, and its fault
-const LATER: [&str; 34] = [
-    "\n",
-    "start ring 3 1 2",
-    "start tally 3 1",
-    "deliver 01 0 0",
-    "deliver 1 00 0",
-    "deliver 1 0 00",
-    "deliver 256 0 0",
-    "deliver 0 256 0",
-    "deliver 0 0 4294967296",
-    "deliver 0 0 18446744073709551616",
-    "deliver 0 0",
-    "deliver 0 0 0 0",
-    "deliver  0 0 0",
-    "deliver 0 0 +0",
-    "deliver 0 0 0x0",
-    "crash",
-    "crash ",
-    "crash 256",
-    "crash 1 ",
-    "crash 1 1",
-    "crash  1",
-    " crash 1",
-    "crash\t1",
-    "crash 1\r",
-    "crash -1",
-    "Crash 1",
-    "crashed 1",
-    "restart 256",
-    "flush 256",
-    "forget 256",
-    "forget",
-    "forget 1 0",
-    "stop 1",
-    "1",
-];
-
-/// Whether the reading of a text ends with this line.
-fn is_told(alloc: Global, text: &[u8], want: &str) -> Result<bool, Fail> {
-    let line = told(alloc, text)?;
-    Ok(line.as_slice() == want.as_bytes())
-}
-
-/// Whether a script is at fault in its second line where this is the line, and in its third.
-fn is_at_fault(alloc: Global, line: &str) -> Result<bool, Fail> {
-    let second = format!(in alloc; "start ring 3 1 2\n{line}")?;
-    let third = format!(in alloc; "start tally 3 1\nforget 1\n{line}\nstop")?;
-    Ok(
-        is_told(alloc, second.as_bytes(), "fault line=2 Script\n")?
-            && is_told(alloc, third.as_bytes(), "fault line=3 Script\n")?,
-    )
-}
-
-#[test]
-fn faults_of_a_later_line(rt: HostRuntime) -> Result<(), Fail> {
-    for line in &LATER {
-        assert!(rt; is_at_fault(rt.alloc(), line)?, "{line}");
-    }
-    Ok(())
-}
-
-// ---- the limit
-
-// a text of so many bytes: these lines, and then spaces
-fn with_spaces(alloc: Global, lines: &str, size: usize) -> Result<Vec<u8>, Fail> {
-    let mut text = Vec::from_slice(alloc, lines.as_bytes())?;
-    let spaces = vec![in alloc; b' '; size.saturating_sub(lines.len())]?;
-    text.extend_from_slice(spaces.as_slice())?;
-    Ok(text)
-}
-
-#[test]
-fn a_line_past_the_limit(rt: HostRuntime) -> Result<(), Fail> {
-    let alloc = rt.alloc();
-    let rows = [
-        ("", 1_048_576, "fault line=1 Script\n"),
-        ("", 1_048_577, "fault line=1 Big\n"),
-        ("start ring 1 0 0\n", 1_048_576, "fault line=2 Script\n"),
-        ("start ring 1 0 0\n", 1_048_577, "fault line=2 Big\n"),
-        (
-            "start ring 1 0 0\nstop\n",
-            1_048_577,
-            "fault line=2 Script\n",
-        ),
-        (
-            "start ring 1 0 0\ncrash 0\n",
-            2_097_152,
-            "fault line=3 Big\n",
-        ),
-    ];
-    for (lines, size, want) in rows {
-        let text = with_spaces(alloc, lines, size)?;
-        check_told(&rt, alloc, text.as_slice(), want)?;
-    }
-    Ok(())
-}
-
-// a script of 1,048,576 bytes, its last line feed counted
-fn longest(alloc: Global) -> Result<Vec<u8>, Fail> {
-    let mut text = Vec::from_slice(alloc, b"start ring 1 0 0\n")?;
-    for _ in 0..131_062 {
-        text.extend_from_slice(b"crash 0\n")?;
-    }
-    for _ in 0..7 {
-        text.extend_from_slice(b"crash 10\n")?;
-    }
-    Ok(text)
-}
-
-#[test]
-fn a_script_at_the_limit(rt: HostRuntime) -> Result<(), Fail> {
-    let alloc = rt.alloc();
-    let mut text = longest(alloc)?;
-    assert_eq!(rt; text.len(), 1_048_576);
-    let parsed = parse_script(alloc, text.as_slice());
-    assert!(rt; parsed.is_ok());
-    if let Ok(script) = parsed {
-        assert_eq!(rt; script.commands.as_slice().len(), 131_069);
-        let last = Command {
-            line: 131_070,
-            request: crash(10),
-        };
-        assert!(rt; script.commands.as_slice().last().copied() == Some(last));
-    }
-    text.extend_from_slice(b"\n")?;
-    check_told(&rt, alloc, text.as_slice(), "fault line=131071 Big\n")
 }
 
 // ---- lines

@@ -1,13 +1,11 @@
 //! Cores of the kinds of process that come with the runtime, audited after crashes, flushes and forgetting.
-use crate::cores::scripts::{SCRIPTS, Script};
 use crate::runtime::*;
 use causal_audit::{Tables, Verdict, judge};
+use causal_commands::audited;
 use causal_core::Core;
 use causal_holders::Holders;
 use causal_log::MemStable;
 use causal_name::{NoMemory, Pid};
-use causal_samples::RING;
-use causal_verdict::audited;
 use std::alloc::Global;
 use std::test::Fail;
 
@@ -16,13 +14,84 @@ pub(crate) fn is_accepted(alloc: Global, core: &Core<MemStable>) -> Result<bool,
     Ok(audited(alloc, core)? == Verdict::Accept)
 }
 
+/// Calls of three processes of a kind, which run for f failures, and how many entries are then recorded.
+#[derive(Clone, Copy)]
+struct Script<'a> {
+    kind: Kind,
+    f: u16,
+    calls: &'a [Call],
+    entries: u32,
+}
+
+impl Script<'_> {
+    /// The core after the calls, if none of them was refused.
+    fn played(&self, alloc: Global) -> Result<Option<Core<MemStable>>, NoMemory> {
+        let Ok(mut core) = begun(alloc, self.kind, 3, self.f, MemStable::new(alloc)) else {
+            return Ok(None);
+        };
+        match run(alloc, &mut core, self.kind, self.calls)? {
+            None => Ok(Some(core)),
+            Some(_) => Ok(None),
+        }
+    }
+}
+
+/// A message goes round.
+const ROUND: Script<'static> = Script {
+    kind: Kind::Ring(2),
+    f: 1,
+    calls: &[
+        Call::Deliver(1, 0, 0),
+        Call::Deliver(2, 1, 0),
+        Call::Deliver(0, 2, 0),
+    ],
+    entries: 6,
+};
+
+/// Two of the ring come back.
+const TWO_COME_BACK: Script<'static> = Script {
+    kind: Kind::Ring(2),
+    f: 2,
+    calls: &[
+        Call::Deliver(1, 0, 0),
+        Call::Deliver(2, 1, 0),
+        Call::Deliver(0, 2, 0),
+        Call::Crash(0),
+        Call::Crash(1),
+        Call::Restart(0),
+        Call::Restart(1),
+        Call::Deliver(1, 0, 0),
+        Call::Deliver(0, 2, 0),
+    ],
+    entries: 14,
+};
+
+/// A tally forgets.
+const FORGOTTEN: Script<'static> = Script {
+    kind: Kind::Tally,
+    f: 1,
+    calls: &[
+        Call::Deliver(0, 2, 0),
+        Call::Deliver(2, 0, 0),
+        Call::Flush(0),
+        Call::Forget(0),
+        Call::Crash(0),
+        Call::Restart(0),
+        Call::Forget(0),
+        Call::Deliver(0, 2, 0),
+    ],
+    entries: 12,
+};
+
+const SCRIPTS: [Script<'static>; 3] = [ROUND, TWO_COME_BACK, FORGOTTEN];
+
 /// Whether a script's entries are recorded for its number of failures, and what is recorded is accepted.
 fn is_played(alloc: Global, script: &Script<'_>) -> Result<bool, NoMemory> {
     let Some(core) = script.played(alloc)? else {
         return Ok(false);
     };
-    let extent = (recorded(&core) as usize, core.faults());
-    Ok(extent == (script.lines.len(), script.f) && is_accepted(alloc, &core)?)
+    let extent = (recorded(&core), core.faults());
+    Ok(extent == (script.entries, script.f) && is_accepted(alloc, &core)?)
 }
 
 #[test]
@@ -38,18 +107,6 @@ fn verdict_for(alloc: Global, core: &Core<MemStable>, f: u16) -> Result<Verdict,
     let tables = Tables::of(alloc, core.trace())?;
     Ok(judge(&tables, f))
 }
-
-/// A message goes round.
-const ROUND: Script<'static> = Script {
-    kind: Kind::Ring(2),
-    f: 1,
-    calls: &[
-        Call::Deliver(1, 0, 0),
-        Call::Deliver(2, 1, 0),
-        Call::Deliver(0, 2, 0),
-    ],
-    lines: &RING,
-};
 
 /// Whether a core is accepted, and what the auditor says of it where two may fail.
 fn said_of_two(alloc: Global, core: &Core<MemStable>) -> Result<(bool, Verdict), NoMemory> {

@@ -1,11 +1,14 @@
-//! The steps of a judgement, on traces that were judged by hand. The verdicts on many more stand with the program's tests.
+//! The steps of a judgement, on traces that were judged by hand. The verdicts on many more are rows for the built program
+//! (`examples/commands/`).
+use crate::texts::ORPHAN_AT_ONCE;
+use crate::{Line, RING, push_all, traced};
 use causal_audit::{
     Breach, Excess, Tables, Verdict, decided, earlier, first_breach, first_excess, judge, least_by,
-    verdict_of,
 };
 use causal_holders::Holders;
-use causal_samples::texts::{ORPHAN_AT_ONCE, RING, RING_CRASHED};
 use causal_text::read_trace;
+use causal_trace::fault::TraceFault;
+use causal_trace::trace::Trace;
 use std::alloc::Global;
 use std::test::Fail;
 
@@ -14,12 +17,16 @@ fn tables_of(alloc: Global, text: &str) -> Result<Tables, Fail> {
     Ok(Tables::of(alloc, &trace)?)
 }
 
-/// The verdict on the trace that a text spells, if the tables give the same as the audit.
-fn judged(alloc: Global, text: &str, f: u16) -> Result<Option<Verdict>, Fail> {
-    let trace = read_trace(alloc, text.as_bytes())?;
-    let tables = Tables::of(alloc, &trace)?;
-    let verdict = verdict_of(alloc, &trace, f)?;
-    Ok((judge(&tables, f) == verdict).then_some(verdict))
+/// The ring, and then these entries.
+fn ring_and(alloc: Global, more: &[Line<'_>]) -> Result<Trace, TraceFault> {
+    let mut trace = traced(alloc, 3, &RING)?;
+    push_all(alloc, &mut trace, more)?;
+    Ok(trace)
+}
+
+fn tables_after(alloc: Global, more: &[Line<'_>]) -> Result<Tables, Fail> {
+    let trace = ring_and(alloc, more)?;
+    Ok(Tables::of(alloc, &trace)?)
 }
 
 /// The set of these processes.
@@ -100,7 +107,7 @@ fn has_the_chain(tables: &Tables) -> bool {
 
 #[test]
 fn a_chain_of_messages_orphans(rt: HostRuntime) -> Result<(), Fail> {
-    let tables = tables_of(rt.alloc(), RING)?;
+    let tables = tables_after(rt.alloc(), &[])?;
     assert!(rt; has_the_chain(&tables));
     Ok(())
 }
@@ -113,68 +120,28 @@ fn has_the_excess(tables: &Tables) -> bool {
 
 #[test]
 fn too_many_are_down(rt: HostRuntime) -> Result<(), Fail> {
-    let tables = tables_of(rt.alloc(), RING_CRASHED)?;
+    let tables = tables_after(rt.alloc(), &[Line::Crash(1), Line::Crash(2)])?;
     assert!(rt; has_the_excess(&tables));
     Ok(())
 }
 
-/// The first determinant is forgotten by the one that delivered it, and then by the only other that held it.
-pub(crate) const FORGOTTEN: &str = r#"["trace",2,3]
-["send",0,1,0]
-["deliver",1,0,0,[[0,0,1,0]]]
-["send",1,2,0]
-["deliver",2,2,0,[[0,0,1,0],[1,0,2,0]]]
-["send",2,0,0]
-["deliver",0,4,0,[[1,0,2,0],[2,0,0,0]]]
-["forget",1,[[0,0,1,0]]]
-["forget",2,[[0,0,1,0]]]
-["end",8]
-"#;
+/// The first determinant of a ring is forgotten by the one that delivered it, and then by the only other that held it.
+const FORGOTTEN: [Line<'static>; 2] = [
+    Line::Forget(1, &[(0, 0, 1, 0)]),
+    Line::Forget(2, &[(0, 0, 1, 0)]),
+];
 
-/// The same, once it is in stable storage.
-const STORED: &str = r#"["trace",2,3]
-["send",0,1,0]
-["deliver",1,0,0,[[0,0,1,0]]]
-["send",1,2,0]
-["deliver",2,2,0,[[0,0,1,0],[1,0,2,0]]]
-["send",2,0,0]
-["deliver",0,4,0,[[1,0,2,0],[2,0,0,0]]]
-["stable",[0,0,1,0]]
-["forget",1,[[0,0,1,0]]]
-["forget",2,[[0,0,1,0]]]
-["end",9]
-"#;
-
-#[test]
-fn what_is_forgotten_by_all_orphans(rt: HostRuntime) -> Result<(), Fail> {
-    // Process 2 alone holds it from instant 7 on, and nobody from instant 8 on; 0 depends on it through 1 and 2.
-    assert_eq!(rt;
-        judged(rt.alloc(), FORGOTTEN, 0)?,
-        Some(orphan(8, 1, &[], 0))
-    );
-    assert_eq!(rt; judged(rt.alloc(), STORED, 0)?, Some(Verdict::Accept));
-    Ok(())
-}
-
-/// The least breach of the trace that a text spells by the instant before its last entries, of which there are so many.
-fn least_before(alloc: Global, text: &str, last: u32) -> Result<Option<Breach>, Fail> {
-    let trace = read_trace(alloc, text.as_bytes())?;
+/// The least breach of the ring and these entries, by the instant before its last entries, of which there are so many.
+fn least_before(alloc: Global, more: &[Line<'_>], last: u32) -> Result<Option<Breach>, Fail> {
+    let trace = ring_and(alloc, more)?;
     Ok(least_by(alloc, &trace, 0, trace.len().saturating_sub(last))?)
 }
 
 #[test]
 fn the_least_breach_comes_by_an_instant_or_not(rt: HostRuntime) -> Result<(), Fail> {
     let found = Some(breach(8, 1, &[], 0));
-    assert_eq!(rt; least_before(rt.alloc(), FORGOTTEN, 0)?, found);
-    assert_eq!(rt; least_before(rt.alloc(), FORGOTTEN, 1)?, None);
-    Ok(())
-}
-
-#[test]
-fn every_process_may_be_down(rt: HostRuntime) -> Result<(), Fail> {
-    let text = "[\"trace\",2,256]\n[\"crash\",255]\n[\"end\",1]";
-    assert_eq!(rt; judged(rt.alloc(), text, 0)?, Some(exceeded(1, &[255])));
-    assert_eq!(rt; judged(rt.alloc(), text, 65_535)?, Some(Verdict::Accept));
+    assert_eq!(rt; least_before(rt.alloc(), &FORGOTTEN, 0)?, found);
+    assert_eq!(rt; least_before(rt.alloc(), &FORGOTTEN, 1)?, None);
     Ok(())
 }
 

@@ -10,7 +10,7 @@ mod texts;
 
 /// The ring's trace, pushed entry by entry.
 fn ring(alloc: Global) -> Result<Trace, TraceFault> {
-    causal_samples::traced(alloc, 3, &causal_samples::RING)
+    crate::traced(alloc, 3, &crate::RING)
 }
 
 fn is_the_ring(alloc: Global, trace: &Trace) -> Result<bool, Fail> {

@@ -1,6 +1,6 @@
 //! Traces pushed by hand.
+use crate::{Fields, Line, RING, det, push, push_all, traced};
 use causal_name::{MsgName, Pid};
-use causal_samples::{Fields, Line, RING, det, push, push_all, traced};
 use causal_trace::entry::Entry;
 use causal_trace::fault::TraceFault;
 use causal_trace::trace::Trace;

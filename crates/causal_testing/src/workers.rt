@@ -1,191 +1,21 @@
-//! Verdicts and lines that were worked out by hand, for several numbers of workers, and that two workers run together.
+//! Who enters the gate, and that two workers run together. The lines for up to 64 workers are rows for the built program
+//! (`examples/commands/`).
 ghost use Rattle.std.specs.Prelude.{⊤};
 
+use crate::texts::{DELIVERED, DOUBLED, RING};
+use crate::{Line, push};
 use causal_audit::Verdict;
 use causal_holders::Holders;
-use causal_samples::texts::{DELIVERED, DOUBLED, EMPTY, ORPHAN_AT_ONCE, RING, RING_CRASHED, TIE};
-use causal_samples::{Line, push};
 use causal_text::{TextFault, TextKind, read_trace};
 use causal_trace::fault::TraceFault;
 use causal_trace::trace::Trace;
-use causal_workers::{AuditTextFault, Gate, Judged, OpenGate, audit, audit_text, verdict_line};
+use causal_workers::{AuditTextFault, Gate, Judged, OpenGate, audit, audit_text};
 use std::alloc::Global;
 use std::sync::Wait;
 use std::sync::atomic::{AtomicU64, Ordering};
 use std::test::Fail;
 use std::thread;
 use std::thread::Threads;
-
-const JUDGED: [(&str, u16, &[u32], &str); 8] = [
-    (EMPTY, 0, &[1, 2, 64], "accept f=0 entries=0 deliveries=0\n"),
-    (
-        RING,
-        0,
-        &[1, 2, 3, 64],
-        "accept f=0 entries=6 deliveries=3\n",
-    ),
-    (
-        RING,
-        1,
-        &[1, 2, 3, 64],
-        "accept f=1 entries=6 deliveries=3\n",
-    ),
-    (
-        RING,
-        2,
-        &[1, 2, 3, 64],
-        "orphan f=2 instant=6 delivery=1 crash=1,2 orphan=0\n",
-    ),
-    (
-        RING_CRASHED,
-        1,
-        &[1, 2, 3, 64],
-        "exceeded f=1 instant=8 down=1,2\n",
-    ),
-    (
-        ORPHAN_AT_ONCE,
-        0,
-        &[1, 2, 3],
-        "orphan f=0 instant=5 delivery=4 crash=- orphan=3\n",
-    ),
-    (
-        ORPHAN_AT_ONCE,
-        1,
-        &[1, 2, 3],
-        "orphan f=1 instant=5 delivery=4 crash=- orphan=3\n",
-    ),
-    (
-        TIE,
-        1,
-        &[1, 2, 3, 64],
-        "orphan f=1 instant=6 delivery=2 crash=1 orphan=2\n",
-    ),
-];
-
-/// Whether so many workers find this line of a text.
-fn is_found<R: Threads + Wait>(
-    rt: &R,
-    alloc: Global,
-    text: &str,
-    f: u16,
-    workers: u32,
-    line: &str,
-) -> Result<bool, Fail> {
-    let judged = audit_text(
-        rt,
-        alloc,
-        text.as_bytes(),
-        f,
-        workers.clamp(1, 64),
-        &OpenGate,
-    )?;
-    let found = verdict_line(alloc, f, &judged)?;
-    Ok(found.as_slice() == line.as_bytes())
-}
-
-/// The first of these numbers of workers that do not find this line, if there is one.
-fn differing<R: Threads + Wait>(
-    rt: &R,
-    alloc: Global,
-    text: &str,
-    f: u16,
-    numbers: &[u32],
-    line: &str,
-) -> Result<Option<u32>, Fail> {
-    for workers in numbers {
-        if !is_found(rt, alloc, text, f, *workers, line)? {
-            return Ok(Some(*workers));
-        }
-    }
-    Ok(None)
-}
-
-#[test]
-fn every_number_of_workers_gives_one_line(rt: HostRuntime) -> Result<(), Fail> {
-    for (text, f, numbers, line) in &JUDGED {
-        let differing = differing(&rt, rt.alloc(), text, *f, numbers, line)?;
-        assert_eq!(rt; differing, None, "{line}");
-    }
-    Ok(())
-}
-
-/// What the ring has where two may crash.
-fn ring_orphan() -> Verdict {
-    let mut crash = Holders::none();
-    crash.insert(1);
-    crash.insert(2);
-    Verdict::Orphan {
-        instant: 6,
-        delivery: 1,
-        crash,
-        orphan: 0,
-    }
-}
-
-#[test]
-fn a_trace_is_audited(rt: HostRuntime) -> Result<(), Fail> {
-    let trace = read_trace(rt.alloc(), RING.as_bytes())?;
-    for workers in 1..=64 {
-        let found = audit(&rt, rt.alloc(), &trace, 2, workers, &OpenGate)?;
-        assert_eq!(rt; found, ring_orphan(), "{workers} workers");
-    }
-    Ok(())
-}
-
-/// The trace of a text, and so many entries more, by which process 0 forgets nothing.
-fn followed(alloc: Global, text: &str, more: u32) -> Result<Trace, Fail> {
-    let mut trace = read_trace(alloc, text.as_bytes())?;
-    for _ in 0..more {
-        push(alloc, &mut trace, Line::Forget(0, &[]))?;
-    }
-    Ok(trace)
-}
-
-/// Whether two workers say so of the trace of a text and so many entries more.
-fn is_told<R: Threads + Wait>(
-    rt: &R,
-    alloc: Global,
-    text: &str,
-    more: u32,
-    verdict: &Verdict,
-) -> Result<bool, Fail> {
-    let trace = followed(alloc, text, more)?;
-    let found = audit(rt, alloc, &trace, 1, 2, &OpenGate)?;
-    Ok(found == *verdict)
-}
-
-// The instant that decides comes after the sixty-fourth that is surveyed first, at its end and in it.
-#[test]
-fn an_orphan_is_told_however_long_the_run_goes_on(rt: HostRuntime) -> Result<(), Fail> {
-    let orphan = Verdict::Orphan {
-        instant: 5,
-        delivery: 4,
-        crash: Holders::none(),
-        orphan: 3,
-    };
-    for more in [0, 1, 62, 63, 64, 399] {
-        assert!(rt;
-            is_told(&rt, rt.alloc(), ORPHAN_AT_ONCE, more, &orphan)?,
-            "{more} more entries"
-        );
-    }
-    Ok(())
-}
-
-#[test]
-fn an_excess_is_told_however_long_the_run_goes_on(rt: HostRuntime) -> Result<(), Fail> {
-    let mut down = Holders::none();
-    down.insert(1);
-    down.insert(2);
-    let exceeded = Verdict::Exceeded { instant: 8, down };
-    for more in [0, 1, 62, 63, 64, 599] {
-        assert!(rt;
-            is_told(&rt, rt.alloc(), RING_CRASHED, more, &exceeded)?,
-            "{more} more entries"
-        );
-    }
-    Ok(())
-}
 
 #[test]
 fn a_text_with_a_fault_gets_no_verdict(rt: HostRuntime) {

@@ -1,3 +1,4 @@
 -- What crates above may cite of this crate's proofs.
 pub mod Exact
 pub mod Told
+pub mod Unfit

@@ -3,6 +3,7 @@ mod BeforeLemmas
 mod Canonicals
 mod Complete
 mod Feeds
+mod Firsts
 mod ItemCounts
 mod Joined
 mod KeptLemmas
@@ -10,6 +11,7 @@ mod Outlines
 mod Passed
 mod Plain
 mod ReadsBack
+mod Scanned
 mod ShapeData
 mod Sizes
 mod Spellings

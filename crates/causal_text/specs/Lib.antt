@@ -17,3 +17,6 @@ pub mod Before
 pub mod Streams
 pub mod Fed
 pub mod Written
+pub mod Deliveries
+pub mod Wrongs
+pub mod Wordings

@@ -5,12 +5,17 @@
 //!
 //! Begin at [`read_trace`] for a text that is there as a whole, or [`read_from`] for one that a reader gives; [`TraceReader`]
 //! reads a piece at a time, and [`FedReader`] the pieces that it is handed. [`read_keeping`] gives with a fault what stands before
-//! its line, and [`read_within`] does so by limits that the caller sets. [`text_of`] and [`write_trace`] give the canonical text, [`write_whole`] writes any bytes. [`laws`] says that a text
-//! has one reading.
+//! its line, and [`read_within`] does so by limits that the caller sets; [`wrong_with`] tells then what is wrong with the line, and
+//! [`sentence`] says so. [`text_of`] and [`write_trace`] give the canonical text, [`write_whole`] writes any bytes. [`laws`] says
+//! that a text has one reading.
 #![tactic(auto)]
 
 /// The first fault of a text, and what stands before its line.
 pub mod before;
+/// What a lane has sent and delivered.
+mod counts;
+/// Which determinants have been delivered.
+mod delivered;
 /// A text that is handed over in pieces.
 pub mod fed;
 /// The fields of a line.
@@ -35,6 +40,8 @@ pub mod reader;
 mod recorded;
 /// How a fault prints.
 pub mod report;
+/// What is wrong with a line, in words.
+pub mod sentences;
 /// What the JSON value of a line says.
 pub mod shape;
 /// What the lines so far have said, and what one more adds.
@@ -47,6 +54,8 @@ mod version;
 pub mod writer;
 /// Bytes to a writer, call by call.
 pub mod written;
+/// What is wrong with a line, in numbers.
+pub mod wrong;
 
 pub use before::{Before, Rejected};
 pub use fed::FedReader;
@@ -54,7 +63,9 @@ pub use kept::{Unread, read_keeping, read_within};
 pub use kind::{TextFault, TextKind};
 pub use reader::read_trace;
 pub use report::fault_line;
+pub use sentences::sentence;
 pub use shape::Shape;
 pub use stream::{Progress, ReaderFault, TraceReader, read_from};
 pub use writer::{text_of, write_trace};
 pub use written::{WriteCause, WriteFault, write_whole};
+pub use wrong::{Wrong, wrong_with};

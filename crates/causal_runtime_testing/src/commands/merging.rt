@@ -1,9 +1,8 @@
 //! What the program writes to recordings, and how it ends, where readers and writers give and take little, or fail.
-use super::{Drip, Narrow, Spaces};
-use causal_commands::{Ended, MOST_MERGED, Merging, merge_and_tell};
+use super::{Drip, Narrow};
+use causal_commands::{Ended, Merging, merge_and_tell};
 use std::alloc::Global;
 use std::io::Read;
-use std::test::Fail;
 
 // one message of two processes, the later line first, with one that a kill has cut
 const MESSAGE: &str = r#"["recording",1,1,2,7]
@@ -37,22 +36,6 @@ fn a_trace_with_its_torn_lines(rt: HostRuntime) {
     assert!(rt; output.as_slice() == MERGED.as_bytes());
 }
 
-#[test]
-fn a_fault_with_its_sentence_and_its_hint(rt: HostRuntime) -> Result<(), Fail> {
-    let mut input = "[\"recording\",0,1,2,7]\n[\"send\"".as_bytes();
-    let (merging, output) = merged(rt.alloc(), &mut input);
-    assert_eq!(rt; merging.ended, Ended::Faulted);
-    assert!(rt; output.as_slice() == b"fault line=3 NoHeader\n".as_slice());
-    assert!(rt; merging.torn.is_empty());
-    let (sentence, hint) = match merging.fault {
-        Some(fault) => (format!(in rt.alloc(); "{fault}")?, fault.kind.hint()),
-        None => (String::new(rt.alloc()), None),
-    };
-    assert!(rt; sentence.as_str() == "line 3: some process has no header");
-    assert_eq!(rt; hint, Some("a recording may be missing"));
-    Ok(())
-}
-
 // One call for each byte, and one more that tells the end.
 #[test]
 fn reader_fails_at_each_call(rt: HostRuntime) {
@@ -64,45 +47,22 @@ fn reader_fails_at_each_call(rt: HostRuntime) {
     }
 }
 
-/// Whether a merge ends as it has to where its writer fails at this call, and has written just what came before it.
-fn ends_where_the_writer_fails(alloc: Global, fails_at: usize, with_error: bool) -> bool {
+/// Whether a merge tells that its writer fails at this call.
+fn tells_of_the_writer(alloc: Global, fails_at: usize, with_error: bool) -> bool {
     let mut input = MESSAGE.as_bytes();
-    let mut output = Narrow {
-        taken: Vec::new(alloc),
-        fails_at,
-        with_error,
-    };
+    let mut output = Narrow::new(alloc, fails_at, with_error);
     let ended = merge_and_tell(alloc, &mut input, &mut output).ended;
-    let want = if fails_at < MERGED.len() {
-        Ended::WriteFault
-    } else {
-        Ended::Merged
-    };
-    ended == want && MERGED.as_bytes().get(..fails_at) == Some(output.taken.as_slice())
+    output.is_told(ended, Ended::Merged, MERGED)
 }
 
 #[test]
 fn writer_fails_at_each_call(rt: HostRuntime) {
     for fails_at in 0..=MERGED.len() {
-        assert!(rt;
-            ends_where_the_writer_fails(rt.alloc(), fails_at, true),
-            "call {fails_at}"
-        );
-        assert!(rt;
-            ends_where_the_writer_fails(rt.alloc(), fails_at, false),
-            "call {fails_at}"
-        );
+        for with_error in [true, false] {
+            assert!(rt;
+                tells_of_the_writer(rt.alloc(), fails_at, with_error),
+                "call {fails_at}"
+            );
+        }
     }
-}
-
-// One byte too many is read, and no further one.
-#[test]
-fn too_long_recordings(rt: HostRuntime) {
-    let mut input = Spaces {
-        left: MOST_MERGED + 5_000,
-    };
-    let (merging, output) = merged(rt.alloc(), &mut input);
-    assert_eq!(rt; merging.ended, Ended::Faulted);
-    assert!(rt; output.as_slice() == b"fault line=1 Big\n".as_slice());
-    assert_eq!(rt; input.left, 5_000);
 }

@@ -1,8 +1,8 @@
 //! How a core begins or does not, and what is left where memory or the store failed.
 use super::doubles::Refusing;
-use super::scripts::{FLUSHED, has_lines};
 use super::*;
 use causal_log::{FailingStore, MemStable};
+use causal_testing::Line;
 use std::test::Fail;
 
 /// Process `me` of a ring of three, whose memory is refused once, after so many steps.
@@ -96,6 +96,19 @@ fn a_spare_without_memory_comes_back(rt: HostRuntime) -> Result<(), Fail> {
     Ok(())
 }
 
+/// What a tally records that delivers two messages and is then flushed: 2, and then 0, to which the first determinant was not known to
+/// be stable.
+const FLUSHED: [Line<'static>; 8] = [
+    Line::Send(1, 0, 0),
+    Line::Send(2, 0, 0),
+    Line::Deliver(0, 1, 0, &[(2, 0, 0, 0)]),
+    Line::Send(0, 2, 0),
+    Line::Deliver(2, 3, 0, &[(0, 0, 2, 0), (2, 0, 0, 0)]),
+    Line::Stable((0, 0, 2, 0)),
+    Line::Stable((2, 0, 0, 0)),
+    Line::Stable((2, 0, 0, 0)),
+];
+
 /// Whether the second write of a tally's flush fails, with what was written before it recorded.
 fn stops(alloc: Global, core: &mut Core<FailingStore>) -> Result<bool, NoMemory> {
     let calls = [
@@ -105,7 +118,7 @@ fn stops(alloc: Global, core: &mut Core<FailingStore>) -> Result<bool, NoMemory>
     ];
     Ok(
         are_answered(alloc, core, Kind::Tally, &calls)?
-            && has_lines(alloc, core.trace(), &FLUSHED.lines[..6]),
+            && has_lines(alloc, core.trace(), &FLUSHED[..6]),
     )
 }
 
@@ -115,10 +128,7 @@ fn goes_on(alloc: Global, core: &mut Core<FailingStore>) -> Result<bool, NoMemor
         (Call::Flush(2), Reply::Flushed { count: 1 }),
         (Call::Flush(0), Reply::Flushed { count: 1 }),
     ];
-    Ok(
-        are_answered(alloc, core, Kind::Tally, &calls)?
-            && has_lines(alloc, core.trace(), FLUSHED.lines),
-    )
+    Ok(are_answered(alloc, core, Kind::Tally, &calls)? && has_lines(alloc, core.trace(), &FLUSHED))
 }
 
 #[test]

@@ -1,4 +1,4 @@
-//! Traces that run full: of entries, and of restarts.
+//! A trace that runs full. That a run ends there, and after so many restarts, are rows for the built program (`examples/commands/`).
 use super::doubles::Flood;
 use super::*;
 use causal_log::MemStable;
@@ -22,17 +22,6 @@ fn deliver_all(core: &mut Core<MemStable>, from: u32, to: u32) -> Option<(u32, C
         }
     }
     None
-}
-
-// The beginning records eight entries and each step nine, so that after 7,280 deliveries eight are left.
-#[test]
-fn a_trace_runs_full(rt: HostRuntime) -> Result<(), Fail> {
-    let boxes = flooded(rt.alloc(), 0)?;
-    let mut core = started(rt.alloc(), 0, boxes, MemStable::new(rt.alloc()))?;
-    let refused = deliver_all(&mut core, 0, 10_000);
-    assert_eq!(rt; refused, Some((7_280, CoreFault::Full)));
-    assert_eq!(rt; recorded(&core), 65_528);
-    Ok(())
 }
 
 /// Delivers so many messages from one on, and tells whether a flush then writes a determinant for each.
@@ -92,36 +81,5 @@ fn no_entry_is_left(rt: HostRuntime) -> Result<(), Fail> {
     assert!(rt; are_answered(rt.alloc(), &mut core, Kind::Ring(0), &[crashed])?);
     assert!(rt; fills(&mut core));
     assert!(rt; is_full(rt.alloc(), &mut core)?);
-    Ok(())
-}
-
-/// Crashes and restarts process 0 in turn, up to the first call that is refused: how many restarts came before it, and its
-/// fault.
-fn restart_all(
-    alloc: Global,
-    core: &mut Core<MemStable>,
-    limit: u32,
-) -> Result<Option<(u32, CoreFault)>, NoMemory> {
-    for made in 0..limit {
-        let refused = run(
-            alloc,
-            core,
-            Kind::Tally,
-            &[Call::Crash(0), Call::Restart(0)],
-        )?;
-        if let Some((_call, fault)) = refused {
-            return Ok(Some((made, fault)));
-        }
-    }
-    Ok(None)
-}
-
-// Process 0 of a tally sends nothing when it begins, so that 192 crashes and restarts and one more crash are all the entries.
-#[test]
-fn restarts_run_out(rt: HostRuntime) -> Result<(), Fail> {
-    let mut core = begun(rt.alloc(), Kind::Tally, 1, 1, MemStable::new(rt.alloc()))?;
-    let refused = restart_all(rt.alloc(), &mut core, 1_000)?;
-    assert_eq!(rt; refused, Some((192, CoreFault::Full)));
-    assert_eq!(rt; recorded(&core), 385);
     Ok(())
 }

@@ -1,7 +1,7 @@
 //! Eight seats on eight threads that ask for what comes up.
 use super::*;
 use crate::verdicts::is_accepted;
-use causal_samples::Numbers;
+use causal_testing::Numbers;
 use causal_trace::entry::Entry;
 use causal_trace::trace::Trace;
 use std::test::Fail;

@@ -1,5 +1,4 @@
 //! Texts that are read by limits which the caller sets.
-use super::texts::{padded, sends};
 use causal_name::Pid;
 use causal_text::{TextFault, TextKind, Unread, read_within};
 use causal_trace::entry::Entry;
@@ -8,6 +7,23 @@ use causal_trace::limits::Limits;
 use causal_trace::trace::Trace;
 use std::alloc::Global;
 use std::test::Fail;
+
+/// An empty trace, with spaces after it up to so many bytes.
+fn padded(alloc: Global, length: usize) -> Result<Vec<u8>, Fail> {
+    let mut text = Vec::new(alloc);
+    text.extend_from_slice(b"[\"trace\",1,1]\n[\"end\",0]")?;
+    text.resize(length, b' ')?;
+    Ok(text)
+}
+
+/// So many sends of one process to itself.
+fn sends(alloc: Global, count: u32) -> Result<String, Fail> {
+    let mut text = format!(in alloc; "[\"trace\",1,1]\n")?;
+    for ssn in 0..count {
+        write!(text, "[\"send\",0,0,{ssn}]\n")?;
+    }
+    Ok(text)
+}
 
 fn read(alloc: Global, text: &[u8], entries: u32) -> Result<Trace, Unread> {
     let mut source = text;

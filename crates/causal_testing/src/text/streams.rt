@@ -1,6 +1,6 @@
 //! Texts that come from a reader, and go to a writer.
 use super::{is_the_ring, ring};
-use causal_samples::texts::{DELIVERED, RING};
+use crate::texts::{DELIVERED, RING};
 use causal_text::{
     Progress, ReaderFault, TextFault, TextKind, TraceReader, WriteCause, WriteFault, read_from,
     write_trace,

@@ -1,2 +1,0 @@
--- What private functions keep. No public clause cites these.
-pub mod Messages

@@ -1,4 +1,0 @@
-pub mod Deliveries
-pub mod Inside
-pub mod Sentences
-pub mod Wrongs

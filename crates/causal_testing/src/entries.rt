@@ -1,0 +1,105 @@
+//! Entries of a trace, written short, and the traces of them.
+ghost use Rattle.std.specs.Prelude.{◌≡◌};
+
+use causal_name::{Det, Pid};
+use causal_trace::entry::{Dets, Entry};
+use causal_trace::fault::TraceFault;
+use causal_trace::trace::Trace;
+use std::alloc::Global;
+
+/// Sender, send sequence number, receiver and receive sequence number.
+pub type Fields = (u8, u32, u8, u32);
+
+/// An entry, in the order of the fields of its text.
+#[derive(Clone, Copy)]
+pub enum Line<'a> {
+    Send(u8, u8, u32),
+    Deliver(u8, u32, u32, &'a [Fields]),
+    Stable(Fields),
+    Crash(u8),
+    Restart(u8, &'a [Fields]),
+    Forget(u8, &'a [Fields]),
+}
+
+/// A message goes round 0, 1, 2 and back to 0; each lists its own delivery and the one before it.
+pub const RING: [Line<'static>; 6] = [
+    Line::Send(0, 1, 0),
+    Line::Deliver(1, 0, 0, &[(0, 0, 1, 0)]),
+    Line::Send(1, 2, 0),
+    Line::Deliver(2, 2, 0, &[(0, 0, 1, 0), (1, 0, 2, 0)]),
+    Line::Send(2, 0, 0),
+    Line::Deliver(0, 4, 0, &[(1, 0, 2, 0), (2, 0, 0, 0)]),
+];
+
+/// The determinant of these fields.
+pub fn det(fields: Fields) -> Det
+    ensures message { (result.source.0 ≡ fields.0) × (result.ssn ≡ fields.1) }
+    ensures delivery { (result.dest.0 ≡ fields.2) × (result.rsn ≡ fields.3) }
+{
+    Det {
+        source: Pid(fields.0),
+        ssn: fields.1,
+        dest: Pid(fields.2),
+        rsn: fields.3,
+    }
+}
+
+fn dets(alloc: Global, list: &[Fields]) -> Result<Dets, TraceFault> {
+    let mut listed = Vec::new(alloc);
+    for fields in list {
+        if listed.push(det(*fields)).is_err() {
+            return Err(TraceFault::NoMemory);
+        }
+    }
+    Ok(Dets::new(listed))
+}
+
+fn delivery(to: u8, send: u32, rsn: u32, listed: Dets) -> Entry {
+    Entry::Deliver {
+        to: Pid(to),
+        send,
+        rsn,
+        listed,
+    }
+}
+
+fn entry(alloc: Global, line: Line<'_>) -> Result<Entry, TraceFault> {
+    Ok(match line {
+        Line::Send(from, to, ssn) => Entry::Send {
+            from: Pid(from),
+            to: Pid(to),
+            ssn,
+        },
+        Line::Deliver(to, send, rsn, list) => delivery(to, send, rsn, dets(alloc, list)?),
+        Line::Stable(fields) => Entry::Stable { det: det(fields) },
+        Line::Crash(who) => Entry::Crash { who: Pid(who) },
+        Line::Restart(who, list) => Entry::Restart {
+            who: Pid(who),
+            listed: dets(alloc, list)?,
+        },
+        Line::Forget(who, list) => Entry::Forget {
+            who: Pid(who),
+            listed: dets(alloc, list)?,
+        },
+    })
+}
+
+/// Pushes one entry.
+pub fn push(alloc: Global, trace: &mut Trace, line: Line<'_>) -> Result<(), TraceFault> {
+    trace.push(entry(alloc, line)?)
+}
+
+/// Pushes these entries, up to the first that is refused.
+pub fn push_all(alloc: Global, trace: &mut Trace, lines: &[Line<'_>]) -> Result<(), TraceFault> {
+    for line in lines {
+        push(alloc, trace, *line)?;
+    }
+    Ok(())
+}
+
+/// The trace of n processes with these entries.
+pub fn traced(alloc: Global, n: u16, lines: &[Line<'_>]) -> Result<Trace, TraceFault> {
+    let mut trace = Trace::new(alloc, n)?;
+    push_all(alloc, &mut trace, lines)?;
+    Ok(trace)
+}
