@@ -1,3 +1,4 @@
+mod JsonLemmas
 mod Known
 mod MergeLemmas
 mod PrintLemmas

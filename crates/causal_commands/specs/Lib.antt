@@ -1,6 +1,7 @@
 pub mod Inside
 pub mod Endings
 pub mod Hints
+pub mod Json
 pub mod Shown
 pub mod Judgements
 pub mod Merges
