@@ -3,8 +3,8 @@
 models of the auditor and of the runtime (trials/traces.py, trials/scripts.py): each row of the table, and both answers to the worked
 recording, of which the second is to one list that is forged. The explanations that stand here have to tell what the plain model of
 explanations tells (trials/reasons.py). The rows of commands/ have to be answered by the models where they can. With --program the
-program has to give all of these too. Of the picture that stands here it checks what follows from the layout of pictures, and of
-record.py that it shows each kind of line.
+program has to give all of these too, with --json an object that says what the lines say, and to command lines what stands here. Of the
+picture that stands here it checks what follows from the layout of pictures, and of record.py that it shows each kind of line.
 
     examples/check.py [--program crates/causal_tool/out/causal_tool]
 """
@@ -269,6 +269,203 @@ def wrong_streams(program):
     return len(tries), wrong
 
 
+# What command lines give: the words behind the program's name, the standard output, what standard error begins with, and the status.
+# Each has orphan.jsonl as its standard input. `clap` says what is wrong; an answer is the row of examples/README.md.
+USAGE = "error: "
+SAFE = b"accept f=0 entries=4 deliveries=2\n"
+WORDS = [
+    (["audit", "--faults", "0"], SAFE, "", 0),
+    (["audit", "--faults=0"], SAFE, "", 0),
+    (["audit", "--workers", "64", "--faults", "0"], SAFE, "", 0),
+    (["audit", "--faults", "1", "--workers", "1"], b"orphan f=1 instant=4 delivery=1 crash=1 orphan=2\n", "", 1),
+    (["audit", "--faults", "65535"], b"orphan f=65535 instant=4 delivery=1 crash=1 orphan=2\n", "", 1),
+    ([], b"", USAGE + "'causal_tool' requires a subcommand but one was not provided\n", 3),
+    (["audit"], b"", USAGE + "the following required arguments were not provided:\n  --faults <F>\n", 3),
+    (["audit", "--json"], b"", USAGE + "the following required arguments were not provided:\n  --faults <F>\n", 3),
+    (["draw"], b"", USAGE + "the following required arguments were not provided:\n  --faults <F>\n", 3),
+    (["audit", "--faults"], b"", USAGE + "a value is required for '--faults <F>' but none was supplied\n", 3),
+    (["audit", "--faults", "65536"], b"", USAGE + "invalid value '65536' for '--faults <F>': 65536 is not in 0..=65535\n", 3),
+    (["draw", "--faults", "65536"], b"", USAGE + "invalid value '65536' for '--faults <F>': 65536 is not in 0..=65535\n", 3),
+    (["audit", "--faults", "-1"], b"", USAGE + "invalid value '-1' for '--faults <F>': -1 is not in 0..=65535\n", 3),
+    (["audit", "--faults", "one"], b"", USAGE + "invalid value 'one' for '--faults <F>': invalid digit found in string\n", 3),
+    (["audit", "--faults", "0", "--workers", "0"], b"", USAGE + "invalid value '0' for '--workers <W>': 0 is not in 1..=64\n", 3),
+    (["audit", "--faults", "0", "--workers", "65"], b"", USAGE + "invalid value '65' for '--workers <W>': 65 is not in 1..=64\n", 3),
+    (["audit", "--faults", "0", "--faults", "1"], b"", USAGE + "the argument '--faults <F>' cannot be used multiple times\n", 3),
+    (["audit", "--faults", "0", "trace.jsonl"], b"", USAGE + "unexpected argument 'trace.jsonl' found\n", 3),
+    (["explain", "--faults", "1", "--workers", "2"], b"", USAGE + "unexpected argument '--workers' found\n", 3),
+    (["draw", "--faults", "1", "--json"], b"", USAGE + "unexpected argument '--json' found\n", 3),
+    (["merge", "--json"], b"", USAGE + "unexpected argument '--json' found\n", 3),
+    (["merge", "run.log"], b"", USAGE + "unexpected argument 'run.log' found\n", 3),
+    (["run", "--json"], b"", USAGE + "unexpected argument '--json' found\n", 3),
+    (["run", "--faults", "1"], b"", USAGE + "unexpected argument '--faults' found\n", 3),
+    (["run", "script"], b"", USAGE + "unexpected argument 'script' found\n", 3),
+    (["replay"], b"", USAGE + "unrecognized subcommand 'replay'\n", 3),
+    ([b"\xff"], b"", USAGE + "the arguments are no UTF-8 text\n", 3),
+    (["--version"], b"causal_tool 1.0.0\n", "", 0),
+]
+# Words that ask for help, and how it begins.
+HELP = {
+    ("--help",): "Audits recorded runs of processes that log their messages causally, and records such runs\n",
+    ("help",): "Audits recorded runs of processes that log their messages causally, and records such runs\n",
+    ("audit", "--help"): "Audits the trace on standard input\n",
+    ("explain", "--help"): "Audits the trace on standard input, and tells why the verdict is so; or for which F it is safe\n",
+    ("draw", "--help"): "Audits the trace on standard input, and draws it with the verdict\n",
+    ("merge", "--help"): "Merges the recordings on standard input into one trace\n",
+    ("run", "--help"): "Runs the script on standard input and prints its trace\n",
+    ("help", "run"): "Runs the script on standard input and prints its trace\n",
+}
+
+
+def wrong_words(program):
+    """Tells each command line to which the program says something else, and each help or version that ends otherwise where standard
+    output is full; and gives how many there are and how many are wrong."""
+    wrong, trace = 0, bytes_of("orphan.jsonl")
+
+    def differs(words, said, wanted):
+        if said != wanted:
+            print(f"the words {words}: wanted {wanted!r}, the program gives {said!r}")
+        return said != wanted
+
+    for words, out, begun, status in WORDS:
+        ended = subprocess.run(["causal_tool", *words], executable=program, input=trace, capture_output=True)
+        told = ended.stderr.decode()
+        wrong += differs(words, (ended.stdout, told[: len(begun)] if begun else told, ended.returncode), (out, begun, status))
+    for words, begun in HELP.items():
+        ended = subprocess.run([program, *words], input=trace, capture_output=True)
+        said = ended.stdout.decode()[: len(begun)], ended.stderr, ended.returncode
+        wrong += differs(words, said, (begun, b"", 0))
+    for word in ("--help", "--version"):
+        with open("/dev/full", "wb") as full:
+            ended = subprocess.run([program, word], stdout=full, stderr=subprocess.PIPE)
+        wrong += differs([word], (ended.stderr, ended.returncode), (b"write fault\n", 4))
+    return len(WORDS) + len(HELP) + 2, wrong
+
+
+# What `--json` answers, by hand from the explanations and answers that stand here: the words, the trace, the object and the status.
+AUDITED = {"verdict": "orphan", "f": 1, "instant": 4, "delivery": 1, "crash": [1], "orphan": 2}
+OBJECTS = [
+    (("audit", "--faults", "1"), "ring.jsonl", {"verdict": "accept", "f": 1, "entries": 6, "deliveries": 3}, 0),
+    (("audit", "--faults", "1"), "crashes.jsonl", {"verdict": "exceeded", "f": 1, "instant": 8, "down": [1, 2]}, 1),
+    (("audit", "--faults", "1"), "orphan.jsonl", AUDITED, 1),
+    (("audit", "--faults", "0"), "unlogged.jsonl", {"verdict": "orphan", "f": 0, "instant": 5, "delivery": 4, "crash": [], "orphan": 3}, 1),
+    (("audit", "--faults", "1"), "skipped.jsonl", {"verdict": "fault", "line": 2, "kind": "WrongSsn"}, 2),
+    (("explain", "--faults", "1"), "skipped.jsonl", {"verdict": "fault", "line": 2, "kind": "WrongSsn"}, 2),
+    (("explain",), "cut.jsonl", {"verdict": "fault", "line": 4, "kind": "Cut"}, 2),
+    (
+        ("explain", "--faults", "0"),
+        "ring.jsonl",
+        {
+            "verdict": "accept", "f": 0, "entries": 6, "deliveries": 3,
+            "reason": [{"fact": "closest", "faults": 2, "line": 3, "until": 7, "orphan": 0}],
+        },
+        0,
+    ),
+    (
+        ("explain", "--faults", "1"),
+        "recorded.jsonl",
+        {"verdict": "accept", "f": 1, "entries": 10, "deliveries": 3, "reason": [{"fact": "closest", "faults": None}]},
+        0,
+    ),
+    (
+        ("explain", "--faults", "1"),
+        "crashes.jsonl",
+        {
+            "verdict": "exceeded", "f": 1, "instant": 8, "down": [1, 2],
+            "reason": [
+                {"fact": "cause", "line": 9, "process": 2, "by": "crash"},
+                {"fact": "down", "process": 1, "line": 8},
+                {"fact": "down", "process": 2, "line": 9},
+            ],
+        },
+        1,
+    ),
+    (
+        ("explain", "--faults", "1"),
+        "orphan.jsonl",
+        {
+            **AUDITED,
+            "reason": [
+                {"fact": "delivery", "line": 3, "process": 1, "source": 0, "ssn": 0, "rsn": 0},
+                {"fact": "cause", "line": 5, "process": 2, "by": "deliver"},
+                {"fact": "unstable", "line": 5},
+                {"fact": "holder", "process": 1, "line": 3},
+                {"fact": "crash", "process": 1},
+                {"fact": "chain", "line": 3, "process": 1},
+                {"fact": "chain", "line": 4, "process": 1},
+                {"fact": "chain", "line": 5, "process": 2},
+                {"fact": "unlisted", "line": 5, "send": 4, "process": 2},
+                {"fact": "orphan", "process": 2},
+            ],
+        },
+        1,
+    ),
+    (
+        ("explain",),
+        "replay.jsonl",
+        {"ranges": [{"verdict": "exceeded", "to": 0}, {"verdict": "accept", "from": 1, "to": 1}, {"verdict": "orphan", "from": 2}]},
+        0,
+    ),
+]
+
+
+def spoken(name, line):
+    """What a line of an answer says, but for its sentence, as an object whose first member has this name."""
+    word, *fields = line.split(": ")[0].rstrip(":").split(" ")
+    said = {name: word}
+    for field in fields:
+        key, _, value = field.rpartition("=")
+        if key in ("crash", "down"):
+            said[key] = [int(process) for process in value.split(",") if process != "-"]
+        elif key in ("", "by"):
+            said[key or "kind"] = value
+        else:
+            said[key] = None if value == "-" else int(value)
+    return said
+
+
+def meant(text, words):
+    """What the lines of an answer say, as an object."""
+    line, *facts = text.splitlines()
+    if words == ("explain",) and not line.startswith("fault"):
+        return {"ranges": [spoken("verdict", part) for part in (line, *facts)]}
+    return spoken("verdict", line) | ({"reason": [spoken("fact", fact) for fact in facts]} if facts else {})
+
+
+def wrong_objects(program):
+    """Tells each answer of which the object that `--json` writes is not one line, has a member twice, or says something else than the
+    lines do: of each row of the table, and of all numbers of faults for each trace; and each of which it is not the one above. Standard
+    error and the status are those without the option. Gives how many there are and how many are wrong."""
+    asked = {(command, trace, words) for trace, f, _, _ in rows() for command in ("audit", "explain") for words in (("--faults", str(f)), ())}
+    wanted = {(words[0], trace, words[1:]): (answer, status) for words, trace, answer, status in OBJECTS}
+    count = wrong = 0
+
+    def whole(pairs):
+        if len(dict(pairs)) < len(pairs):
+            raise ValueError("a member stands twice")
+        return dict(pairs)
+
+    for command, trace, words in sorted(asked | wanted.keys()):
+        if (command, words) == ("audit", ()):
+            continue
+        text = text_of(trace)
+        plain = subprocess.run([program, command, *words], input=text, capture_output=True)
+        ended = subprocess.run([program, command, *words, "--json"], input=text, capture_output=True)
+        said, lines = ended.stdout.decode(), plain.stdout.decode()
+        answers = [(meant(lines, (command, *words)), plain.returncode, plain.stderr)]
+        if (command, trace, words) in wanted:
+            answers.append((*wanted[command, trace, words], plain.stderr))
+        for answer in answers:
+            count += 1
+            try:
+                got = json.loads(said, object_pairs_hook=whole), ended.returncode, ended.stderr
+            except ValueError as fault:
+                got = fault
+            if got != answer or said.count("\n") != 1 or not said.endswith("}\n"):
+                wrong += 1
+                print(f"{command} {' '.join(words)} --json of {trace}: wanted {answer!r}, the program says {said!r}")
+    return count, wrong
+
+
 # Where the page for `man` and the completions for bash stand.
 SHELL = os.path.join(TOP, "docs", "shell")
 
@@ -400,7 +597,8 @@ def main():
         print(f"no row for {', '.join(sorted(unmet))}")
     asked = [wrong_in_the_format(), wrong_reasons(), wrong_ranges(program), commands.wrong_by_models()]
     if program:
-        asked += [wrong_complaints(program), wrong_streams(program), wrong_pages(program), commands.wrong_rows(program)]
+        asked += [wrong_complaints(program), wrong_streams(program), wrong_words(program), wrong_objects(program)]
+        asked += [wrong_pages(program), commands.wrong_rows(program)]
     for answers, mistaken in asked:
         count, wrong = count + answers, wrong + mistaken
     wrong += wrong_in_the_picture() + (not is_shown_by_record())

@@ -8,8 +8,9 @@ _causal_tool() {
         offered="audit explain draw merge run help --help --version"
     else
         case ${COMP_WORDS[1]} in
-        audit) offered="--faults --workers --help" ;;
-        explain | draw) offered="--faults --help" ;;
+        audit) offered="--faults --workers --json --help" ;;
+        explain) offered="--faults --json --help" ;;
+        draw) offered="--faults --help" ;;
         merge | run) offered="--help" ;;
         help) ((COMP_CWORD == 2)) && offered="audit explain draw merge run help" ;;
         esac

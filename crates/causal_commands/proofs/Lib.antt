@@ -1,4 +1,5 @@
 mod Accepting
+mod JsonLemmas
 mod Known
 mod MergeLemmas
 mod PrintLemmas

@@ -2,6 +2,7 @@ pub mod Inside
 pub mod Accepted
 pub mod Endings
 pub mod Hints
+pub mod Json
 pub mod Shown
 pub mod Judgements
 pub mod Merges

@@ -3,9 +3,10 @@
 //! Begin at [`audit_and_tell`], the work of `audit`; [`show_and_tell`] is that of `explain` and `draw`, [`range_and_tell`] that of
 //! `explain` for all numbers of faults, [`merge_and_tell`] that of `merge`, and [`run_and_tell`] that of `run`. Each reads a text and
 //! writes one answer, and what it gives, a [`Told`] or a [`Merging`], says how that ended, as an [`Ended`] with its status and its
-//! words, and what the text has against it, which [`complaint`] and [`hint_of`] put into words. [`audit_stream`] and [`run_stream`]
-//! are the same with the ending alone. [`audit_from`] gives the verdict itself and writes nothing; [`read_script`] is how a script's
-//! text is read. [`Noted`] is for streams that may fail. [`audited`] judges what the runtime has recorded.
+//! words, and what the text has against it, which [`complaint`] and [`hint_of`] put into words. [`answer_as_json`] writes an answer of
+//! `audit` or `explain` as one JSON object. [`audit_stream`] and [`run_stream`] are the same with the ending alone. [`audit_from`] gives
+//! the verdict itself and writes nothing; [`read_script`] is how a script's text is read. [`Noted`] is for streams that may fail.
+//! [`audited`] judges what the runtime has recorded.
 #![tactic(auto)]
 
 /// What the runtime has recorded, audited.
@@ -13,6 +14,7 @@ pub mod accepted;
 pub mod complaints;
 pub mod ended;
 pub mod hint;
+pub mod json;
 pub mod judged;
 pub mod merging;
 pub mod noted;
@@ -27,6 +29,7 @@ pub use accepted::audited;
 pub use complaints::complaint;
 pub use ended::Ended;
 pub use hint::hint_of;
+pub use json::{Question, answer_as_json};
 pub use judged::{StreamFault, audit_from};
 pub use merging::{MOST_MERGED, Merging, merge_and_tell};
 pub use noted::Noted;

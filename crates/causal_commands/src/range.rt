@@ -45,7 +45,7 @@ pub fn range_and_tell<I: Read, O: Write>(
     Told { ended, fault }
 }
 
-fn answered<I: Read>(alloc: Global, input: &mut I) -> Result<Answer, Ended>
+pub(crate) fn answered<I: Read>(alloc: Global, input: &mut I) -> Result<Answer, Ended>
     ensures ok { IfOk result (λ answer. IsRangeAnswerFor (I.remaining input.old) answer.ended answer.line.items) }
     ensures rejected { IfOk result (λ answer. NamesRejected (I.remaining input.old) answer.rejected) }
     ensures whole { IfOk result (λ answer. answer.ended ≢ Ended.NoWorker) }

@@ -64,7 +64,7 @@ pub fn show_and_tell<R: Threads + Wait, I: Read, O: Write>(
     Told { ended, fault }
 }
 
-fn answered<I: Read, R: Threads + Wait>(
+pub(crate) fn answered<I: Read, R: Threads + Wait>(
     rt: &R,
     alloc: Global,
     input: &mut I,

@@ -85,7 +85,7 @@ pub(crate) struct Answer {
     pub rejected: Option<Rejected>,
 }
 
-fn answered<I: Read, G: Gate + Sync, R: Threads + Wait>(
+pub(crate) fn answered<I: Read, G: Gate + Sync, R: Threads + Wait>(
     rt: &R,
     alloc: Global,
     input: &mut I,

@@ -1,25 +1,29 @@
 //! Audits the recorded run, or runs the script, that it reads on standard input.
 //!
 //! The work is that of `causal_commands`: [`audit_and_tell`] of `audit`, [`show_and_tell`] of `explain` and `draw`,
-//! [`range_and_tell`] of `explain` with no number of faults, [`merge_and_tell`] of `merge`, and [`run_and_tell`] of `run`. All go from any reader to any writer,
-//! and their clauses are what the program promises. What the words of the command line ask for is told by `causal_words`. `main`
-//! adds the standard streams, the exit status, and the name of the command before what is said on standard error.
+//! [`range_and_tell`] of `explain` with no number of faults, [`answer_as_json`] of both with `--json`, [`merge_and_tell`] of `merge`, and
+//! [`run_and_tell`] of `run`. All go from any reader to any writer, and their clauses are what the program promises. [`read_words`] tells
+//! what the words of the command line ask for. `main` adds the standard streams, the exit status, and the name of the command before
+//! what is said on standard error.
 #![tactic(auto)]
 
 ghost use Rattle.std.specs.Prelude.{◌≡◌};
 ghost use Rattle.std.specs.Process.{exit_status};
 ghost use Rattle.causal_commands.specs.Endings.{status_of};
-ghost use Rattle.causal_words.specs.Words.{HasWorkers};
+ghost use Rattle.causal_commands.specs.Json.{HasFewWorkers};
+ghost use Rattle.causal_tool.specs.Words.{HasWorkers};
 
+mod helps;
 mod merging;
+mod words;
 
 use crate::merging::complain_of_recordings;
+use crate::words::{Asked, Form, Refused, read_words};
 pub use causal_commands::audit_stream;
 use causal_commands::{
-    Ended, Noted, Reason, Refusal, Told, View, audit_and_tell, complaint, hint_of, merge_and_tell,
-    range_and_tell, run_and_tell, show_and_tell,
+    Ended, Noted, Question, Reason, Refusal, Told, View, answer_as_json, audit_and_tell, complaint,
+    hint_of, merge_and_tell, range_and_tell, run_and_tell, show_and_tell,
 };
-use causal_words::{Asked, Refused, read_words};
 use causal_workers::OpenGate;
 use std::io::{self, ErrorKind, IsTerminal, Read, Write};
 use std::process::ExitCode;
@@ -30,12 +34,12 @@ use std::thread::Threads;
 /// What stands before each line on standard error.
 fn name_of(asked: Asked) -> &'static str {
     match asked {
-        Asked::Audit { .. } => "causal_tool audit",
-        Asked::Show {
-            view: View::Picture,
+        Asked::Trace {
+            question: Question::Verdict { .. },
             ..
-        } => "causal_tool draw",
-        Asked::Show { .. } | Asked::Range => "causal_tool explain",
+        } => "causal_tool audit",
+        Asked::Trace { .. } => "causal_tool explain",
+        Asked::Draw { .. } => "causal_tool draw",
         Asked::Merge => "causal_tool merge",
         Asked::Run => "causal_tool run",
     }
@@ -89,6 +93,29 @@ fn complain_of_script<R: Eprint>(rt: &R, command: &str, told: Told<Reason>) -> E
     told.ended
 }
 
+/// Answers a question of a trace.
+fn answered<R: Threads + Wait + AllocGlobal, I: Read, O: Write>(
+    rt: &R,
+    input: &mut I,
+    output: &mut O,
+    question: Question,
+    form: Form,
+) -> Told<Refusal>
+    requires { HasFewWorkers question }
+{
+    let alloc = rt.alloc();
+    match (form, question) {
+        (Form::Json, _) => answer_as_json(rt, alloc, input, output, question),
+        (Form::Lines, Question::Verdict { faults, workers }) => {
+            audit_and_tell(rt, alloc, input, output, faults, workers, &OpenGate)
+        }
+        (Form::Lines, Question::Reason { faults }) => {
+            show_and_tell(rt, alloc, input, output, faults, View::Reason)
+        }
+        (Form::Lines, Question::Range) => range_and_tell(alloc, input, output),
+    }
+}
+
 /// Does what was asked for, and says what is wrong with the text.
 fn done<R: Threads + Wait + Eprint + AllocGlobal, I: Read, O: Write>(
     rt: &R,
@@ -100,15 +127,14 @@ fn done<R: Threads + Wait + Eprint + AllocGlobal, I: Read, O: Write>(
 {
     let (alloc, command) = (rt.alloc(), name_of(asked));
     match asked {
-        Asked::Audit { faults, workers } => {
-            let told = audit_and_tell(rt, alloc, input, output, faults, workers, &OpenGate);
+        Asked::Trace { question, form } => {
+            let told = answered(rt, input, output, question, form);
+            complain(rt, command, question.faults(), told)
+        }
+        Asked::Draw { faults } => {
+            let told = show_and_tell(rt, alloc, input, output, faults, View::Picture);
             complain(rt, command, faults, told)
         }
-        Asked::Show { view, faults } => {
-            let told = show_and_tell(rt, alloc, input, output, faults, view);
-            complain(rt, command, faults, told)
-        }
-        Asked::Range => complain(rt, command, 0, range_and_tell(alloc, input, output)),
         Asked::Merge => complain_of_recordings(rt, command, merge_and_tell(alloc, input, output)),
         Asked::Run => complain_of_script(rt, command, run_and_tell(rt, alloc, input, output)),
     }

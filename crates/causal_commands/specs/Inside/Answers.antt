@@ -2,7 +2,9 @@
 use Rattle.std.specs.Prelude.{ℕ, List, Option, IfSome, ⊤}
 use Rattle.causal_commands.specs.declared.ended.Ended.{Ended}
 use Rattle.causal_commands.specs.declared.ended.Ended.TheVariants.{ReadFault, NoMemory, NoWorker}
+use Rattle.causal_commands.specs.declared.json.Question.{Question}
 use Rattle.causal_commands.specs.declared.shown.View.{View}
+use Rattle.causal_commands.specs.Json.{AreLines, IsObject}
 use Rattle.causal_commands.specs.Ranges.{IsRangeAnswer}
 use Rattle.causal_commands.specs.Shown.{IsReply}
 use Rattle.causal_commands.specs.Streams.{IsAnswer}
@@ -18,6 +20,14 @@ IsReplyFor view given f ended out = IfSome given (λ text. IsReply view text f e
 -- this tells for which numbers of faults it is safe
 abbrev pub IsRangeAnswerFor : Option (List ℕ) → Ended → List ℕ → Type 0
 IsRangeAnswerFor given ended out = IfSome given (λ text. IsRangeAnswer text ended out)
+
+-- these lines answer the question of it
+abbrev pub AreLinesFor : Question → Option (List ℕ) → Ended → List ℕ → Type 0
+AreLinesFor question given ended lines = IfSome given (λ text. AreLines question text ended lines)
+
+-- this is their object
+abbrev pub IsObjectFor : Question → Option (List ℕ) → Ended → List ℕ → Type 0
+IsObjectFor question given ended out = IfSome given (λ text. IsObject question text ended out)
 
 -- an ending that writes nothing
 abbrev pub IsSilent : Ended → Type 0

@@ -3,8 +3,8 @@ use Rattle.std.specs.Prelude.{Bool, true, false}
 use Rattle.clap.specs.declared.error.kind.ErrorKind.{ErrorKind}
 use Rattle.clap.specs.declared.error.kind.ErrorKind.TheVariants.{OutOfMemory, DisplayHelp, DisplayVersion}
 use Rattle.causal_commands.specs.declared.ended.Ended.TheVariants.{NoMemory, WriteFault}
-use Rattle.causal_words.specs.declared.words.Refused.{Refused}
-use Rattle.causal_words.specs.declared.words.Refused.TheVariants.{Status, Ended}
+use Rattle.causal_tool.specs.declared.words.Refused.{Refused}
+use Rattle.causal_tool.specs.declared.words.Refused.TheVariants.{Status, Ended}
 
 -- help and the version are answers, once they are printed; want of memory is no fault of the words; all else is
 abbrev pub refusal : ErrorKind → Bool → Refused

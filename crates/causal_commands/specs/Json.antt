@@ -1,0 +1,56 @@
+-- What a run of the program writes as JSON.
+use Rattle.std.specs.Prelude.{◌≡◌, ℕ, ◌≤◌, ◌<◌, ⊤, List, length, take, Option, IfSome}
+use Rattle.std.specs.Io.KnownBytes.{Appends, Keeps}
+use Rattle.causal_fields.specs.Objects.{verdict_object, ranges_object}
+use Rattle.causal_commands.specs.declared.ended.Ended.{Ended}
+use Rattle.causal_commands.specs.declared.ended.Ended.TheVariants.{Ranged, ReadFault, WriteFault, NoMemory, NoWorker}
+use Rattle.causal_commands.specs.declared.json.Question.{Question}
+use Rattle.causal_commands.specs.declared.json.Question.TheVariants.{Verdict, Reason, Range}
+use Rattle.causal_commands.specs.declared.shown.View.TheVariants as view
+use Rattle.causal_commands.specs.Ranges.{IsRangeAnswer}
+use Rattle.causal_commands.specs.Shown.{IsReply}
+use Rattle.causal_commands.specs.Streams.{IsAnswer}
+
+-- for how many faults it is asked; those before a fault of the text are judged for none where it is asked of all
+abbrev pub faults_of : Question → ℕ
+faults_of (Verdict faults workers) = faults
+faults_of (Reason faults) = faults
+faults_of Range = 0
+
+-- how many workers judge
+abbrev pub workers_of : Question → ℕ
+workers_of (Verdict faults workers) = workers
+workers_of _ = 1
+
+-- 1 to 64 workers judge
+abbrev pub HasFewWorkers : Question → Type 0
+HasFewWorkers question = (1 ≤ workers_of question) × (workers_of question ≤ 64)
+
+-- the lines that answer the question of a text where the program ends so
+abbrev pub AreLines : Question → List ℕ → Ended → List ℕ → Type 0
+AreLines (Verdict faults workers) text ended lines = IsAnswer text faults ended lines
+AreLines (Reason faults) text ended lines = IsReply view.Reason text faults ended lines
+AreLines Range text ended lines = IsRangeAnswer text ended lines
+
+-- the object that says what the lines say
+abbrev pub object_of : Ended → List ℕ → List ℕ
+object_of Ranged lines = ranges_object lines
+object_of _ lines = verdict_object lines
+
+-- the answer as JSON: the object of the lines that would answer
+abbrev pub IsObject : Question → List ℕ → Ended → List ℕ → Type 0
+IsObject question text ended out = (lines : List ℕ) × AreLines question text ended lines × (out ≡ object_of ended lines)
+
+-- what is written to a text where the program ends so, from what the writer held before to what it holds afterwards: the object
+-- alone; after a write fault only its first bytes; else nothing
+abbrev pub WritesObject : Question → List ℕ → Ended → Option (List ℕ) → Option (List ℕ) → Type 0
+WritesObject question text ReadFault old new = Keeps old new
+WritesObject question text NoMemory old new = Keeps old new
+WritesObject question text NoWorker old new = Keeps old new
+WritesObject question text WriteFault old new =
+    (ended : Ended) × (out : List ℕ) × (n : ℕ) × IsObject question text ended out × (n < length out) × Appends old new (take n out)
+WritesObject question text ended old new = (out : List ℕ) × IsObject question text ended out × Appends old new out
+
+-- the same of what a reader gives, where its bytes are known
+abbrev pub WritesObjectFor : Question → Option (List ℕ) → Ended → Option (List ℕ) → Option (List ℕ) → Type 0
+WritesObjectFor question given ended old new = IfSome given (λ text. WritesObject question text ended old new)

@@ -1,0 +1,7 @@
+use Rattle.std.proofs.Common.{◌≡◌, ◌++◌, drop, flat_map, map}
+use Rattle.causal_fields.specs.Objects.{next_object}
+use Rattle.causal_fields.proofs.object.push_more.Given as goal
+
+abbrev pub invariant-loop-line : goal.invariant-loop-line
+invariant-loop-line l =
+    l.fn.out.items ++ flat_map (next_object l.name) (map (λ line. line.now) l.lines) ≡ l.out.items ++ flat_map (next_object l.name) (map (λ line. line.now) (drop l.line-index l.lines))

@@ -1,0 +1,2 @@
+-- What private functions keep; no public clause cites it.
+pub mod Added

@@ -1,0 +1,230 @@
+//! The command line.
+ghost use Rattle.std.specs.Prelude.{◌≡◌, Bool, IfOk, IfSome};
+ghost use Rattle.clap.specs.Values.{kind_of};
+ghost use Rattle.causal_tool.specs.Inside.Refusals.{refusal};
+ghost use Rattle.causal_tool.specs.Words.{HasWorkers};
+
+use crate::helps::{ANSWERS, PICTURES, REASONS, RECORDINGS, SCRIPTS};
+use causal_commands::{Ended, Question};
+use clap::error::ErrorKind;
+use clap::{Arg, ArgAction, ArgMatches, Command, Error, value_parser};
+use std::alloc::{AllocError, Global};
+use std::convert::AsStr;
+use std::rt::Env;
+use std::{env, io};
+
+/// The exit status after words that ask for nothing the program does.
+const MISUSED: u8 = 3;
+
+const ARGUMENTS_ARE_NO_TEXT: &str =
+    "error: the arguments are no UTF-8 text\n\nFor more information, try '--help'.";
+
+/// How an answer is written.
+#[derive(Clone, Copy, Debug, PartialEq, Eq)]
+pub(crate) enum Form {
+    /// As lines of text.
+    Lines,
+    /// As one JSON object.
+    Json,
+}
+
+/// What the command line asks for.
+#[derive(Clone, Copy, Debug, PartialEq, Eq)]
+pub(crate) enum Asked {
+    /// The answer to a question of a trace.
+    Trace { question: Question, form: Form },
+    /// A picture of a trace with its verdict for at most so many processes that are down at once.
+    Draw { faults: u16 },
+    /// The trace that recordings make.
+    Merge,
+    /// The trace of a script's run.
+    Run,
+}
+
+/// Why nothing is audited or run.
+#[derive(Clone, Copy, Debug, PartialEq, Eq)]
+pub(crate) enum Refused {
+    /// What there is to say has been printed; the program ends with this status.
+    Status(u8),
+    /// It is still to be told how the program ended.
+    Ended(Ended),
+}
+
+/// Reads the command line. What `clap` has to say is printed: help on standard output, a fault of the words on standard
+/// error. Arguments that are no text are misused words too.
+pub(crate) fn read_words<R: Env + Print + Eprint + AllocGlobal>(rt: &R) -> Result<Asked, Refused>
+    ensures { IfOk result HasWorkers }
+{
+    let words = match env::args(rt) {
+        Ok(args) => args.collect::<Vec<String>>(rt.alloc()),
+        Err(error) if error.kind() == io::ErrorKind::OutOfMemory => {
+            return Err(Refused::Ended(Ended::NoMemory));
+        }
+        Err(_) => {
+            let _ = rt.eprintln(ARGUMENTS_ARE_NO_TEXT);
+            return Err(Refused::Status(MISUSED));
+        }
+    };
+    let Ok(words) = words else {
+        return Err(Refused::Ended(Ended::NoMemory));
+    };
+    match parsed(rt.alloc(), words.as_slice()) {
+        Ok(Some(asked)) => Ok(asked),
+        Ok(None) => Err(Refused::Status(MISUSED)),
+        Err(error) => Err(told(rt, error)),
+    }
+}
+
+/// Prints what `clap` has to say.
+fn told<R: Print + Eprint + AllocGlobal>(rt: &R, error: Error) -> Refused
+    ensures { (printed : Bool) × (result ≡ refusal (kind_of error) printed) }
+{
+    let kind = error.kind();
+    let printed = match kind {
+        ErrorKind::OutOfMemory => false,
+        _ => error.print(rt).is_ok(),
+    };
+    refusal(kind, printed)
+}
+
+/// How the program ends after what `clap` has to say, which could be printed or not. What was asked for is no fault, but
+/// it has to be printed; what was wrong is told on standard error, as far as it takes it.
+fn refusal(kind: ErrorKind, printed: bool) -> Refused
+    ensures { result ≡ refusal kind printed }
+{
+    match kind {
+        ErrorKind::OutOfMemory => Refused::Ended(Ended::NoMemory),
+        ErrorKind::DisplayHelp | ErrorKind::DisplayVersion => {
+            if printed {
+                Refused::Status(0)
+            } else {
+                Refused::Ended(Ended::WriteFault)
+            }
+        }
+        _ => Refused::Status(MISUSED),
+    }
+}
+
+/// What these words ask for, the first of which is the program's name. None where no words of the program's are among them.
+fn parsed<'a, S: AsStr>(alloc: Global, words: &'a [S]) -> Result<Option<Asked>, Error>
+    ensures { IfOk result (λ asked. IfSome asked HasWorkers) }
+{
+    let matches = command(alloc)?.try_get_matches_from(words)?;
+    match matches.subcommand() {
+        Some(("audit", given)) => Ok(audit_asked(given)),
+        Some(("explain", given)) => Ok(Some(reason_asked(given))),
+        Some(("draw", given)) => Ok(drawing_asked(given)),
+        Some(("merge", _)) => Ok(Some(Asked::Merge)),
+        Some(("run", _)) => Ok(Some(Asked::Run)),
+        _ => Ok(None),
+    }
+}
+
+fn audit_asked(given: &ArgMatches) -> Option<Asked>
+    ensures { IfSome result HasWorkers }
+{
+    let faults = given.get_one::<u16>("faults")?;
+    match given.get_one::<u32>("workers") {
+        Some(workers @ 1..=64) => Some(Asked::Trace {
+            question: Question::Verdict { faults, workers },
+            form: form_asked(given),
+        }),
+        _ => None,
+    }
+}
+
+/// What is asked for where a verdict is to be explained, or told of all numbers of faults where none is given.
+fn reason_asked(given: &ArgMatches) -> Asked
+    ensures { HasWorkers result }
+{
+    let question = match given.get_one::<u16>("faults") {
+        Some(faults) => Question::Reason { faults },
+        None => Question::Range,
+    };
+    Asked::Trace {
+        question,
+        form: form_asked(given),
+    }
+}
+
+fn form_asked(given: &ArgMatches) -> Form {
+    if given.get_flag("json") {
+        Form::Json
+    } else {
+        Form::Lines
+    }
+}
+
+fn drawing_asked(given: &ArgMatches) -> Option<Asked>
+    ensures { IfSome result HasWorkers }
+{
+    let faults = given.get_one::<u16>("faults")?;
+    Some(Asked::Draw { faults })
+}
+
+/// The option of how many processes may be down at once.
+fn faults<'a>(alloc: Global) -> Arg<'a> {
+    Arg::new(alloc, "faults")
+        .long("faults")
+        .value_name("F")
+        .help("How many processes may be down at once [0 to 65535]")
+        .required(true)
+        .allow_negative_numbers(true)
+        .value_parser(value_parser!(u16))
+}
+
+/// The option of how many threads judge.
+fn workers<'a>(alloc: Global) -> Arg<'a> {
+    Arg::new(alloc, "workers")
+        .long("workers")
+        .value_name("W")
+        .help("How many threads judge [1 to 64]")
+        .allow_negative_numbers(true)
+        .value_parser(value_parser!(u32).range(1..=64))
+        .default_value("1")
+}
+
+/// The option that the answer is JSON.
+fn json<'a>(alloc: Global) -> Arg<'a> {
+    Arg::new(alloc, "json")
+        .long("json")
+        .help("Answers with one JSON object")
+        .action(ArgAction::SetTrue)
+}
+
+fn command<'a>(alloc: Global) -> Result<Command<'a>, AllocError> {
+    let audit = Command::new(alloc, "audit")
+        .about("Audits the trace on standard input")
+        .after_help(ANSWERS)
+        .arg(faults(alloc))?
+        .arg(workers(alloc))?
+        .arg(json(alloc))?;
+    let explain = Command::new(alloc, "explain")
+        .about(
+            "Audits the trace on standard input, and tells why the verdict is so; or for which F it is safe",
+        )
+        .after_help(REASONS)
+        .arg(faults(alloc).required(false))?
+        .arg(json(alloc))?;
+    let draw = Command::new(alloc, "draw")
+        .about("Audits the trace on standard input, and draws it with the verdict")
+        .after_help(PICTURES)
+        .arg(faults(alloc))?;
+    let merge = Command::new(alloc, "merge")
+        .about("Merges the recordings on standard input into one trace")
+        .after_help(RECORDINGS);
+    let run = Command::new(alloc, "run")
+        .about("Runs the script on standard input and prints its trace")
+        .after_help(SCRIPTS);
+    Command::new(alloc, "causal_tool")
+        .about(
+            "Audits recorded runs of processes that log their messages causally, and records such runs",
+        )
+        .version("1.0.0")
+        .subcommand_required(true)
+        .subcommand(audit)?
+        .subcommand(explain)?
+        .subcommand(draw)?
+        .subcommand(merge)?
+        .subcommand(run)
+}
