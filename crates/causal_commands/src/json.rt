@@ -10,7 +10,7 @@ use crate::remark::{Refusal, refusal_of};
 use crate::shown::View;
 use crate::stream::{Answer, Told};
 use crate::{range, shown, stream};
-use causal_fields::{ranges_object, verdict_object};
+use causal_report::{ranges_object, verdict_object};
 use causal_text::write_whole;
 use causal_workers::OpenGate;
 use std::alloc::{AllocError, Global};

@@ -8,3 +8,4 @@ pub mod Closest
 pub mod Explanations
 pub mod Reasons
 pub mod Drawings
+pub mod Objects

@@ -1,9 +1,9 @@
 //! The member of an object that a field makes.
 ghost use Rattle.std.specs.Prelude.{OnOk, map};
-ghost use Rattle.causal_fields.specs.Inside.Added.{Adds};
-ghost use Rattle.causal_fields.specs.Objects as told;
+ghost use Rattle.causal_report.specs.Inside.Added.{Adds};
+ghost use Rattle.causal_report.specs.Objects as told;
 
-use crate::parts::parts;
+use crate::json::parts::parts;
 use std::alloc::{AllocError, Global};
 
 /// Adds the member of a field.

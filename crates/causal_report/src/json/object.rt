@@ -1,10 +1,10 @@
 //! The objects of answers.
 ghost use Rattle.std.specs.Prelude.{◌≡◌, OnOk, IfOk, map, flat_map};
-ghost use Rattle.causal_fields.specs.Inside.Added.{Adds};
-ghost use Rattle.causal_fields.specs.Objects as told;
+ghost use Rattle.causal_report.specs.Inside.Added.{Adds};
+ghost use Rattle.causal_report.specs.Objects as told;
 
-use crate::member::{push_field, push_quoted};
-use crate::parts::{lines, parts};
+use crate::json::member::{push_field, push_quoted};
+use crate::json::parts::{lines, parts};
 use std::alloc::{AllocError, Global};
 
 /// The object of a verdict, or of a fault, on one line: what its line says, and as its `reason`, where lines stand below it, an

@@ -1,6 +1,6 @@
 use Rattle.std.proofs.Common.{◌≡◌, ◌++◌, drop, flat_map, map}
-use Rattle.causal_fields.specs.Objects.{field_member}
-use Rattle.causal_fields.proofs.object.push_fields.Given as goal
+use Rattle.causal_report.specs.Objects.{field_member}
+use Rattle.causal_report.proofs.json.object.push_fields.Given as goal
 
 abbrev pub invariant-loop-field : goal.invariant-loop-field
 invariant-loop-field l =

@@ -1,6 +1,6 @@
 use Rattle.std.proofs.Common.{◌≡◌, ◌++◌, drop, flat_map, map}
-use Rattle.causal_fields.specs.Objects.{next_object}
-use Rattle.causal_fields.proofs.object.push_more.Given as goal
+use Rattle.causal_report.specs.Objects.{next_object}
+use Rattle.causal_report.proofs.json.object.push_more.Given as goal
 
 abbrev pub invariant-loop-line : goal.invariant-loop-line
 invariant-loop-line l =

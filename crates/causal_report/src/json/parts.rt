@@ -1,6 +1,6 @@
 //! The parts of a text.
 ghost use Rattle.std.specs.Prelude.{◌≡◌, IfOk, map};
-ghost use Rattle.causal_fields.specs.Objects as told;
+ghost use Rattle.causal_report.specs.Objects as told;
 
 use std::alloc::{AllocError, Global};
 

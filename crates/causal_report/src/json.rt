@@ -2,7 +2,6 @@
 //!
 //! A line is a word, fields `key=value` behind a space each and, behind a colon, a sentence for people. [`verdict_object`] is for the
 //! lines of a verdict and its reason or of a fault, [`ranges_object`] for those of the numbers of faults.
-#![tactic(auto)]
 
 mod member;
 mod object;

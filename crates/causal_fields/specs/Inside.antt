@@ -1,2 +1,0 @@
--- What private functions keep; no public clause cites it.
-pub mod Added
