@@ -19,7 +19,8 @@ use std::alloc::Global;
 /// # Errors
 /// `NoMemory` where memory was refused.
 pub fn audited<S: Stable>(alloc: Global, core: &Core<S>) -> Result<Verdict, NoMemory>
-    ensures verdict { IfOk result (IsTheVerdict (run_of core.now).recording (run_of core.now).faults) }
+    ensures verdict { IfOk result
+        (IsTheVerdict (run_of core.now).recording (run_of core.now).faults) }
     ensures accept { IfOk result (λ verdict. verdict ≡ Verdict.Accept) }
 {
     let tables = Tables::of(alloc, core.trace())?;

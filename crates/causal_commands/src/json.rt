@@ -83,8 +83,10 @@ fn object_for<I: Read, R: Threads + Wait>(
     question: Question,
 ) -> Result<Answer, Ended>
     requires { told.HasFewWorkers question }
-    ensures ok { IfOk result (λ answer. IsObjectFor question (I.remaining input.old) answer.ended answer.line.items) }
-    ensures rejected { IfOk result (λ answer. NamesRejected (I.remaining input.old) answer.rejected) }
+    ensures ok { IfOk result
+        (λ answer. IsObjectFor question (I.remaining input.old) answer.ended answer.line.items) }
+    ensures rejected { IfOk result
+        (λ answer. NamesRejected (I.remaining input.old) answer.rejected) }
     ensures whole { IfOk result (λ answer. answer.ended ≢ Ended.NoWorker) }
     ensures err { IfErr result IsSilent }
     ensures alone { result ≡ Err Ended.NoWorker → 2 ≤ told.workers_of question }
@@ -114,8 +116,10 @@ fn lines_for<I: Read, R: Threads + Wait>(
     question: Question,
 ) -> Result<Answer, Ended>
     requires { told.HasFewWorkers question }
-    ensures ok { IfOk result (λ answer. AreLinesFor question (I.remaining input.old) answer.ended answer.line.items) }
-    ensures rejected { IfOk result (λ answer. NamesRejected (I.remaining input.old) answer.rejected) }
+    ensures ok { IfOk result
+        (λ answer. AreLinesFor question (I.remaining input.old) answer.ended answer.line.items) }
+    ensures rejected { IfOk result
+        (λ answer. NamesRejected (I.remaining input.old) answer.rejected) }
     ensures whole { IfOk result (λ answer. answer.ended ≢ Ended.NoWorker) }
     ensures err { IfErr result IsSilent }
     ensures alone { result ≡ Err Ended.NoWorker → 2 ≤ told.workers_of question }

@@ -45,8 +45,10 @@ pub(crate) enum Stopped {
 
 /// The trace that the bytes of a reader spell.
 pub(crate) fn trace_from<I: Read>(alloc: Global, input: &mut I) -> Result<Trace, Stopped>
-    ensures ok { IfOk result (λ trace. IfSome (I.remaining input.old) (λ text. Spells text trace.recording)) }
-    ensures err { IfErr result (λ stopped. IfSome (I.remaining input.old) (λ text. TellsStop text stopped)) }
+    ensures ok { IfOk result
+        (λ trace. IfSome (I.remaining input.old) (λ text. Spells text trace.recording)) }
+    ensures err { IfErr result
+        (λ stopped. IfSome (I.remaining input.old) (λ text. TellsStop text stopped)) }
     ensures alone { result ≢ Err Stopped.NoWorker }
 {
     match read_keeping(alloc, input) {
@@ -90,8 +92,10 @@ pub fn audit_from<I: Read, G: Gate + Sync, R: Threads + Wait>(
     gate: &G,
 ) -> Result<Judged, StreamFault>
     requires { (1 ≤ workers) × (workers ≤ 64) }
-    ensures ok { IfOk result (λ judged. IfSome (I.remaining input.old) (λ text. IsJudgement text f judged)) }
-    ensures err { IfErr result (λ fault. IfSome (I.remaining input.old) (λ text. TellsFirstFault text fault)) }
+    ensures ok { IfOk result
+        (λ judged. IfSome (I.remaining input.old) (λ text. IsJudgement text f judged)) }
+    ensures err { IfErr result
+        (λ fault. IfSome (I.remaining input.old) (λ text. TellsFirstFault text fault)) }
     ensures alone { result ≡ Err StreamFault.NoWorker → 2 ≤ workers }
 {
     match judged_from(rt, alloc, input, f, workers, gate) {
@@ -122,8 +126,10 @@ pub(crate) fn judged_from<I: Read, G: Gate + Sync, R: Threads + Wait>(
     gate: &G,
 ) -> Result<Judged, Stopped>
     requires { (1 ≤ workers) × (workers ≤ 64) }
-    ensures ok { IfOk result (λ judged. IfSome (I.remaining input.old) (λ text. IsJudgement text f judged)) }
-    ensures err { IfErr result (λ stopped. IfSome (I.remaining input.old) (λ text. TellsStop text stopped)) }
+    ensures ok { IfOk result
+        (λ judged. IfSome (I.remaining input.old) (λ text. IsJudgement text f judged)) }
+    ensures err { IfErr result
+        (λ stopped. IfSome (I.remaining input.old) (λ text. TellsStop text stopped)) }
     ensures alone { result ≡ Err Stopped.NoWorker → 2 ≤ workers }
 {
     let trace = match trace_from(alloc, input) {

@@ -28,7 +28,8 @@ pub struct Merging {
 ///
 /// At most 67,108,865 bytes are read, in pieces of 4,096, before anything is written.
 pub fn merge_and_tell<I: Read, O: Write>(alloc: Global, input: &mut I, output: &mut O) -> Merging
-    ensures writes { WritesMergeFor (I.remaining input.old) result (O.contents output.old) (O.contents output.new) }
+    ensures writes { WritesMergeFor (I.remaining input.old) result
+        (O.contents output.old) (O.contents output.new) }
     ensures most { ReadsNoMore (I.remaining input.old) (I.remaining input.new) }
 {
     let Answer { merging, text } = match answer_from(alloc, input) {
@@ -64,7 +65,8 @@ struct Answer {
 }
 
 fn answer_from<I: Read>(alloc: Global, input: &mut I) -> Result<Answer, Ended>
-    ensures ok { IfOk result (λ answer. IsMergeFor (I.remaining input.old) answer.merging answer.text.items) }
+    ensures ok { IfOk result
+        (λ answer. IsMergeFor (I.remaining input.old) answer.merging answer.text.items) }
     ensures err { IfErr result IsSilentMerge }
     ensures most { ReadsNoMore (I.remaining input.old) (I.remaining input.new) }
 {

@@ -46,8 +46,10 @@ pub fn range_and_tell<I: Read, O: Write>(
 }
 
 pub(crate) fn answered<I: Read>(alloc: Global, input: &mut I) -> Result<Answer, Ended>
-    ensures ok { IfOk result (λ answer. IsRangeAnswerFor (I.remaining input.old) answer.ended answer.line.items) }
-    ensures rejected { IfOk result (λ answer. NamesRejected (I.remaining input.old) answer.rejected) }
+    ensures ok { IfOk result
+        (λ answer. IsRangeAnswerFor (I.remaining input.old) answer.ended answer.line.items) }
+    ensures rejected { IfOk result
+        (λ answer. NamesRejected (I.remaining input.old) answer.rejected) }
     ensures whole { IfOk result (λ answer. answer.ended ≢ Ended.NoWorker) }
     ensures err { IfErr result IsSilent }
     ensures alone { result ≢ Err Ended.NoWorker }

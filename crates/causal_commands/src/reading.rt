@@ -30,7 +30,8 @@ pub enum ReadFault {
 /// # Errors
 /// `Read` where the reader failed, `NoMemory` where memory was refused; the reader has then lost what it gave before.
 pub fn read_script<I: Read>(alloc: Global, input: &mut I) -> Result<Vec<u8>, ReadFault>
-    ensures text { IfOk result (λ bytes. IfSome (I.remaining input.old) (λ text. bytes.items ≡ read_of text)) }
+    ensures text { IfOk result
+        (λ bytes. IfSome (I.remaining input.old) (λ text. bytes.items ≡ read_of text)) }
     ensures most { ReadsNoMore (I.remaining input.old) (I.remaining input.new) }
 {
     read_at_most(alloc, input, MOST_READ)
@@ -42,7 +43,8 @@ pub(crate) fn read_at_most<I: Read>(
     input: &mut I,
     most: usize,
 ) -> Result<Vec<u8>, ReadFault>
-    ensures text { IfOk result (λ bytes. IfSome (I.remaining input.old) (λ text. bytes.items ≡ take most text)) }
+    ensures text { IfOk result
+        (λ bytes. IfSome (I.remaining input.old) (λ text. bytes.items ≡ take most text)) }
     ensures most { ReadsAtMost most (I.remaining input.old) (I.remaining input.new) }
 {
     let mut bytes = Vec::new(alloc);

@@ -32,7 +32,8 @@ pub struct Remark {
 
 /// The fault of a text, with what more there is to say of it for f. It audits the entries before the fault on the calling thread.
 pub(crate) fn refusal_of(alloc: Global, f: u16, rejected: Option<Rejected>) -> Option<Refusal>
-    ensures { (text : List ℕ) → IfSome rejected (IsRejectedSo text) → IfSome result (IsRefusal text f) }
+    ensures { (text : List ℕ) → IfSome rejected (IsRejectedSo text)
+        → IfSome result (IsRefusal text f) }
 {
     let Rejected { fault, before } = rejected?;
     Some(Refusal {

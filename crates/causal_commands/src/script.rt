@@ -39,7 +39,8 @@ pub fn run_stream<R: Wait, I: Read, O: Write>(
     input: &mut I,
     output: &mut O,
 ) -> Ended
-    ensures prints { PrintsFor (I.remaining input.old) result (O.contents output.old) (O.contents output.new) }
+    ensures prints { PrintsFor (I.remaining input.old) result
+        (O.contents output.old) (O.contents output.new) }
     ensures most { ReadsNoMore (I.remaining input.old) (I.remaining input.new) }
 {
     run_and_tell(rt, alloc, input, output).ended
@@ -52,7 +53,8 @@ pub fn run_and_tell<R: Wait, I: Read, O: Write>(
     input: &mut I,
     output: &mut O,
 ) -> Told<Reason>
-    ensures prints { PrintsFor (I.remaining input.old) result.ended (O.contents output.old) (O.contents output.new) }
+    ensures prints { PrintsFor (I.remaining input.old) result.ended
+        (O.contents output.old) (O.contents output.new) }
     ensures reason { NamesReason (I.remaining input.old) result.fault }
     ensures most { ReadsNoMore (I.remaining input.old) (I.remaining input.new) }
 {
@@ -85,7 +87,8 @@ struct Answer {
 }
 
 fn answer_from<R: Wait, I: Read>(rt: &R, alloc: Global, input: &mut I) -> Result<Answer, Ended>
-    ensures ok { IfOk result (λ answer. IsPrintedFor (I.remaining input.old) answer.ended answer.text.items) }
+    ensures ok { IfOk result
+        (λ answer. IsPrintedFor (I.remaining input.old) answer.ended answer.text.items) }
     ensures reason { IfOk result (λ answer. NamesReason (I.remaining input.old) answer.reason) }
     ensures err { IfErr result PrintsNothing }
     ensures most { ReadsNoMore (I.remaining input.old) (I.remaining input.new) }

@@ -71,8 +71,10 @@ pub(crate) fn answered<I: Read, R: Threads + Wait>(
     f: u16,
     view: View,
 ) -> Result<Answer, Ended>
-    ensures ok { IfOk result (λ answer. IsReplyFor view (I.remaining input.old) f answer.ended answer.line.items) }
-    ensures rejected { IfOk result (λ answer. NamesRejected (I.remaining input.old) answer.rejected) }
+    ensures ok { IfOk result
+        (λ answer. IsReplyFor view (I.remaining input.old) f answer.ended answer.line.items) }
+    ensures rejected { IfOk result
+        (λ answer. NamesRejected (I.remaining input.old) answer.rejected) }
     ensures whole { IfOk result (λ answer. answer.ended ≢ Ended.NoWorker) }
     ensures err { IfErr result IsSilent }
     ensures alone { result ≢ Err Ended.NoWorker }
@@ -127,7 +129,8 @@ fn shown_from<I: Read, R: Threads + Wait>(
 ) -> Result<Shown, Stopped>
     ensures ok { IfOk result (λ shown. IfSome (I.remaining input.old)
         (λ text. IsShown view text f shown.judged shown.text.items)) }
-    ensures err { IfErr result (λ stopped. IfSome (I.remaining input.old) (λ text. TellsStop text stopped)) }
+    ensures err { IfErr result
+        (λ stopped. IfSome (I.remaining input.old) (λ text. TellsStop text stopped)) }
     ensures alone { result ≢ Err Stopped.NoWorker }
 {
     let trace = match trace_from(alloc, input) {
@@ -149,7 +152,8 @@ fn shown_of<R: Threads + Wait>(
     view: View,
 ) -> Result<Shown, NoMemory>
     ensures judged { IfOk result (λ shown. IsJudgedSo trace.now.recording f shown.judged) }
-    ensures shown { IfOk result (λ shown. IsShowing view trace.now.recording f shown.judged shown.text.items) }
+    ensures shown { IfOk result
+        (λ shown. IsShowing view trace.now.recording f shown.judged shown.text.items) }
 {
     let Ok(judged) = judge_trace(rt, alloc, trace, f, 1, &OpenGate) else {
         return Err(NoMemory);
@@ -178,7 +182,8 @@ fn showing(
 /// The line of a verdict, and below it why it is so.
 fn reasoned(alloc: Global, trace: &Trace, f: u16, judged: &Judged) -> Result<Vec<u8>, NoMemory>
     requires { IsVerdict trace.now.recording f judged.now.verdict }
-    ensures { IfOk result (λ text. IsShowing View.Reason trace.now.recording f judged.now text.items) }
+    ensures { IfOk result
+        (λ text. IsShowing View.Reason trace.now.recording f judged.now text.items) }
 {
     let mut text = verdict_line(alloc, f, judged)?;
     let reason = reason_text(alloc, trace, f, judged.verdict)?;

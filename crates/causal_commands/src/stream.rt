@@ -39,7 +39,8 @@ pub fn audit_stream<R: Threads + Wait, I: Read, O: Write, G: Gate + Sync>(
     gate: &G,
 ) -> Ended
     requires { (1 ≤ workers) × (workers ≤ 64) }
-    ensures writes { WritesFor (I.remaining input.old) f result (O.contents output.old) (O.contents output.new) }
+    ensures writes { WritesFor (I.remaining input.old) f result
+        (O.contents output.old) (O.contents output.new) }
     ensures alone { result ≡ Ended.NoWorker → 2 ≤ workers }
 {
     audit_and_tell(rt, alloc, input, output, f, workers, gate).ended
@@ -57,7 +58,8 @@ pub fn audit_and_tell<R: Threads + Wait, I: Read, O: Write, G: Gate + Sync>(
     gate: &G,
 ) -> Told<Refusal>
     requires { (1 ≤ workers) × (workers ≤ 64) }
-    ensures writes { WritesFor (I.remaining input.old) f result.ended (O.contents output.old) (O.contents output.new) }
+    ensures writes { WritesFor (I.remaining input.old) f result.ended
+        (O.contents output.old) (O.contents output.new) }
     ensures fault { NamesFirstFault (I.remaining input.old) f result.fault }
     ensures alone { result.ended ≡ Ended.NoWorker → 2 ≤ workers }
 {
@@ -94,8 +96,10 @@ pub(crate) fn answered<I: Read, G: Gate + Sync, R: Threads + Wait>(
     gate: &G,
 ) -> Result<Answer, Ended>
     requires { (1 ≤ workers) × (workers ≤ 64) }
-    ensures ok { IfOk result (λ answer. IsAnswerFor (I.remaining input.old) f answer.ended answer.line.items) }
-    ensures rejected { IfOk result (λ answer. NamesRejected (I.remaining input.old) answer.rejected) }
+    ensures ok { IfOk result
+        (λ answer. IsAnswerFor (I.remaining input.old) f answer.ended answer.line.items) }
+    ensures rejected { IfOk result
+        (λ answer. NamesRejected (I.remaining input.old) answer.rejected) }
     ensures whole { IfOk result (λ answer. answer.ended ≢ Ended.NoWorker) }
     ensures err { IfErr result IsSilent }
     ensures alone { result ≡ Err Ended.NoWorker → 2 ≤ workers }
@@ -117,7 +121,8 @@ pub(crate) fn answered<I: Read, G: Gate + Sync, R: Threads + Wait>(
 /// The line of the fault of a text that got no verdict, or how the program ends that writes none.
 pub(crate) fn faulted(alloc: Global, stopped: Stopped) -> Result<Answer, Ended>
     ensures ended { IfOk result (λ answer. answer.ended ≡ Ended.Faulted) }
-    ensures ok { IfOk result (λ answer. (text : List ℕ) → TellsStop text stopped → IsFaultLine text answer.line.items) }
+    ensures ok { IfOk result
+        (λ answer. (text : List ℕ) → TellsStop text stopped → IsFaultLine text answer.line.items) }
     ensures rejected { IfOk result (λ answer. (text : List ℕ) → TellsStop text stopped
         → IfSome answer.rejected (IsRejectedSo text)) }
     ensures err { IfErr result IsSilent }

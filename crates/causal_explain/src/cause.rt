@@ -53,7 +53,8 @@ fn last_act(entries: &[Entry]) -> Option<Cause>
 /// never give a delivery an orphan that it had not before.
 pub fn cause_of(trace: &Trace, verdict: &Verdict) -> Option<Cause>
     requires { (f : ℕ) × IsVerdict trace.now.recording f verdict.now }
-    ensures { (f : ℕ) → IsVerdict trace.now.recording f verdict.now → TellsCause trace.now.recording f verdict.now result }
+    ensures { (f : ℕ) → IsVerdict trace.now.recording f verdict.now
+        → TellsCause trace.now.recording f verdict.now result }
 {
     sweep_law();
     match verdict {

@@ -25,7 +25,8 @@ pub fn shortest_chain(
     process: u8,
 ) -> Result<Option<Vec<u32>>, NoMemory>
     requires { end ≤ length trace.now.recording.past }
-    ensures { IfOk result (λ found. ShortestChain (instant trace.now.recording.past end) from process
+    ensures { IfOk result
+        (λ found. ShortestChain (instant trace.now.recording.past end) from process
         (option_map (λ chain. chain.items) found)) }
 {
     let ways = ways_from(alloc, &trace.entries()[..end as usize], from, process)?;

@@ -39,7 +39,8 @@ fn turns_in(entries: &[Entry]) -> [Standing; 256]
 /// Those that are down.
 fn down_in(alloc: Global, standings: &[Standing]) -> Result<Vec<Down>, NoMemory>
     requires { length standings.now ≤ 256 }
-    ensures { IfOk result (λ down. (past : List Entry) → AreStandings past (λ p state. is_down state p) standings.now →
+    ensures { IfOk result (λ down. (past : List Entry)
+        → AreStandings past (λ p state. is_down state p) standings.now →
         AreDown (length standings.now) past down.items) }
 {
     let mut down = Vec::new(alloc);

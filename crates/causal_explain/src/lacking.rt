@@ -18,7 +18,8 @@ use std::alloc::Global;
 /// Whether an entry is a delivery whose receiver's log lacks the determinant, by who has it then.
 fn is_lacking(entry: &Entry, standings: &[Standing]) -> bool
     requires { length standings.now ≡ 256 }
-    ensures { (past : List Entry) (d : Det) → AreStandings past (λ p state. logs state p d) standings.now →
+    ensures { (past : List Entry) (d : Det)
+        → AreStandings past (λ p state. logs state p d) standings.now →
         result ≡ is_lacking past d entry.now }
 {
     match entry {
@@ -51,7 +52,8 @@ pub(crate) fn first_lacking(
     det: Det,
 ) -> Result<Option<u32>, NoMemory>
     requires { end ≤ length trace.now.recording.past }
-    ensures { IfOk result (λ found. found ≡ first_lacking (instant trace.now.recording.past end) det chain.now) }
+    ensures { IfOk result
+        (λ found. found ≡ first_lacking (instant trace.now.recording.past end) det chain.now) }
 {
     let lacking = lacking_in(alloc, &trace.entries()[..end as usize], det)?;
     Ok(first_in(lacking.as_slice(), chain))

@@ -160,7 +160,8 @@ pub fn ways_from(alloc: Global, entries: &[Entry], from: u32, process: u8) -> Re
 
 /// The event from which the last step to a position is; where there is none, that position.
 fn before(ways: &[Option<Way>], position: u32) -> u32
-    ensures { (past : List Entry) (i n : ℕ) → AreWays past i ways.now → IsLeast past i position (n + 1) →
+    ensures { (past : List Entry) (i n : ℕ)
+        → AreWays past i ways.now → IsLeast past i position (n + 1) →
         DirectlyPrecedes past result position × IsLeast past i result n }
 {
     match ways.get(position as usize) {

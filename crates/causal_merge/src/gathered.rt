@@ -57,7 +57,8 @@ impl Gathered {
     fn note(&mut self, line: Line) -> Result<(), TextKind>
         requires few { self.old.count ≤ max_text }
         requires sound { IsSound line }
-        ensures ok { OnOk result ((said : List Line) → Gathers self.old said → Gathers self.new (line ∷ said)) }
+        ensures ok { OnOk result
+            ((said : List Line) → Gathers self.old said → Gathers self.new (line ∷ said)) }
         ensures err { IfErr result (λ kind. kind ≡ TextKind.NoMemory) }
         ensures count { OnOk result (self.new.count ≡ self.old.count + 1) }
     {
@@ -84,7 +85,8 @@ impl Gathered {
         requires { self.old.count ≤ max_text }
         ensures ok { OnOk result ((said : List Line) → Gathers self.old said → (next : Line)
             × (next_line self.old.run end line.now ≡ Ok next) × Gathers self.new (next ∷ said)) }
-        ensures err { IfErr result (λ kind. IsFaultGiven kind kind (next_line self.old.run end line.now)) }
+        ensures err { IfErr result
+            (λ kind. IsFaultGiven kind kind (next_line self.old.run end line.now)) }
         ensures within { OnOk result (end ≤ max_text) }
         ensures count { OnOk result (self.new.count ≡ self.old.count + 1) }
     {
@@ -116,8 +118,10 @@ impl Gathered {
     pub(crate) fn whole_run(&self) -> Result<Run, MergeFault>
         requires few { self.now.count ≤ max_text }
         requires said { (said : List Line) × Gathers self.now said }
-        ensures ok { IfOk result (λ run. (said : List Line) → Gathers self.now said → IsWhole said run) }
-        ensures few { IfOk result (λ run. (said : List Line) → Gathers self.now said → IsProcessCount run.processes) }
+        ensures ok { IfOk result
+            (λ run. (said : List Line) → Gathers self.now said → IsWhole said run) }
+        ensures few { IfOk result
+            (λ run. (said : List Line) → Gathers self.now said → IsProcessCount run.processes) }
         ensures err { IfErr result (λ fault. (said : List Line) → Gathers self.now said
             → LacksHeader said × (fault ≡ record { line = length said + 1; kind = MergeKind.NoHeader })) }
     {

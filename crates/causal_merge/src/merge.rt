@@ -27,7 +27,8 @@ pub struct Merged {
 /// what a push of its entry costs.
 pub fn merge_text(alloc: Global, text: &[u8]) -> Result<Merged, MergeFault>
     ensures ok { IfOk result (λ merged. Merges text.now merged.trace.recording merged.torn.items) }
-    ensures err { IfErr result (λ fault. fault.kind ≢ MergeKind.Line TextKind.NoMemory → IsFirstFault text.now fault) }
+    ensures err { IfErr result
+        (λ fault. fault.kind ≢ MergeKind.Line TextKind.NoMemory → IsFirstFault text.now fault) }
 {
     let gathered = read_lines(alloc, text)?;
     let run = gathered.whole_run()?;

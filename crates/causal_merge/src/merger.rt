@@ -129,7 +129,8 @@ impl Merger {
     // takes one more entry, where nothing stands against it
     fn push(&mut self, entry: Entry) -> Result<(), TextKind>
         ensures legal { OnOk result (fault_next self.old.trace.recording entry ≡ None) }
-        ensures ok { OnOk result (self.new.trace.recording ≡ with_entry self.old.trace.recording entry) }
+        ensures ok { OnOk result
+            (self.new.trace.recording ≡ with_entry self.old.trace.recording entry) }
         ensures sends { OnOk result (IsOf self.old.sends self.old.trace.recording.past
             → IsOf self.new.sends self.new.trace.recording.past) }
         ensures err { IfErr result (λ kind. kind ≢ TextKind.NoMemory
@@ -197,7 +198,8 @@ pub(crate) fn merge_events(
     events: Vec<Placed>,
 ) -> Result<Trace, MergeFault>
     requires { IsProcessCount processes }
-    ensures ok { IfOk result (λ trace. merged processes (reverse events.items) ≡ Ok trace.recording.past) }
+    ensures ok { IfOk result
+        (λ trace. merged processes (reverse events.items) ≡ Ok trace.recording.past) }
     ensures processes { IfOk result (λ trace. trace.recording.processes ≡ processes) }
     ensures err { IfErr result (λ fault. IsFaultOf processes fault (reverse events.items)) }
 {

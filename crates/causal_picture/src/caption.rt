@@ -32,7 +32,8 @@ fn push_breach(out: &mut String, faults: u16, focus: &Focus<'_>) -> Result<(), A
 /// The verdict; that of no focus is that the run is safe.
 #[tactic(auto, unfolding(crate::specs::Captions::verdict_text))]
 fn push_verdict(out: &mut String, faults: u16, focus: Option<&Focus<'_>>) -> Result<(), AllocError>
-    ensures { Appends result out.old out.new (captions.verdict_text faults (option_copied focus.entry)) }
+    ensures { Appends result out.old out.new
+        (captions.verdict_text faults (option_copied focus.entry)) }
 {
     match focus {
         Some(focus) => push_breach(out, faults, focus),
@@ -54,7 +55,8 @@ pub fn push_caption(
     faults: u16,
     focus: Option<&Focus<'_>>,
 ) -> Result<(), AllocError>
-    ensures { Appends result out.old out.new (captions.caption_text faults (option_copied focus.entry)) }
+    ensures { Appends result out.old out.new
+        (captions.caption_text faults (option_copied focus.entry)) }
 {
     push_opening(out)?;
     push_verdict(out, faults, focus)?;

@@ -40,7 +40,8 @@ fn push_description(
     entries: u32,
     line: u64,
 ) -> Result<(), AllocError>
-    ensures { Appends result out.old out.new (frames.description_text processes count entries line) }
+    ensures { Appends result out.old out.new
+        (frames.description_text processes count entries line) }
 {
     write!(
         out,

@@ -174,7 +174,8 @@ fn push_mark(
     marks: &[Mark],
     mark: &Mark,
 ) -> Result<(), AllocError>
-    ensures { Appends result out.old out.new (drawn.mark_text trace.now.recording grid panel marks.now mark.now) }
+    ensures { Appends result out.old out.new
+        (drawn.mark_text trace.now.recording grid panel marks.now mark.now) }
 {
     push_group(out, is_resent(trace, mark))?;
     push_title(out, trace, mark)?;
@@ -192,7 +193,8 @@ pub fn push_marks(
     panel: Panel,
     marks: &[Mark],
 ) -> Result<(), AllocError>
-    ensures { Appends result out.old out.new (drawn.marks_text trace.now.recording grid panel marks.now) }
+    ensures { Appends result out.old out.new
+        (drawn.marks_text trace.now.recording grid panel marks.now) }
 {
     for mark in marks {
         push_mark(out, trace, grid, panel, marks, mark)?;

@@ -53,7 +53,8 @@ impl Event {
 /// `NoMemory` where memory was refused.
 pub fn marks_of(alloc: Global, trace: &Trace, stretch: Stretch) -> Result<Vec<Mark>, NoMemory>
     requires { stretch.first + stretch.count ≤ length trace.now.recording.past }
-    ensures value { IfOk result (λ found. found.items ≡ marks.marks_of trace.now.recording.past stretch) }
+    ensures value { IfOk result
+        (λ found. found.items ≡ marks.marks_of trace.now.recording.past stretch) }
     ensures each { IfOk result (λ found. marks.ShowsEach stretch found.items) }
 {
     let mut marks = Vec::new(alloc);

@@ -41,7 +41,8 @@ pub fn points_of(
     grid: Grid,
     chain: &[u32],
 ) -> Result<Vec<Point>, NoMemory>
-    ensures { IfOk result (λ found. found.items ≡ overlays.points_of trace.now.recording.past grid chain.now) }
+    ensures { IfOk result
+        (λ found. found.items ≡ overlays.points_of trace.now.recording.past grid chain.now) }
 {
     let mut points = Vec::new(alloc);
     for position in chain {

@@ -37,7 +37,8 @@ fn push_first_up(
     process: u16,
     is_up: bool,
 ) -> Result<(), AllocError>
-    ensures { Appends result out.old out.new (panels.first_up_text grid panel marks.now process is_up) }
+    ensures { Appends result out.old out.new
+        (panels.first_up_text grid panel marks.now process is_up) }
 {
     if is_up {
         let to = up_until(grid, panel, marks, process, 0);
@@ -56,7 +57,8 @@ fn push_unless_down(
     process: u16,
 ) -> Result<(), AllocError>
     requires { process < 256 }
-    ensures { Appends result out.old out.new (panels.unless_down grid panel marks.now (contains down) process) }
+    ensures { Appends result out.old out.new
+        (panels.unless_down grid panel marks.now (contains down) process) }
 {
     let is_up = !down.contains(process as u8);
     push_first_up(out, grid, panel, marks, process, is_up)
@@ -80,7 +82,8 @@ fn push_ups(
     marks: &[Mark],
 ) -> Result<(), AllocError>
     requires { panel.stretch.first + panel.stretch.count ≤ length trace.now.recording.past }
-    ensures { Appends result out.old out.new (panels.ups_text trace.now.recording grid panel marks.now) }
+    ensures { Appends result out.old out.new
+        (panels.ups_text trace.now.recording grid panel marks.now) }
 {
     let down = down_before(trace, panel.stretch);
     for process in 0..trace.processes() {

@@ -62,7 +62,8 @@ fn push_focus(
     focus: &Focus<'_>,
 ) -> Result<(), NoMemory>
     requires { grid.processes < 257 }
-    ensures { Appends result out.old out.new (pictures.focus_text trace.now.recording grid focus.now) }
+    ensures { Appends result out.old out.new
+        (pictures.focus_text trace.now.recording grid focus.now) }
 {
     let points = points_of(alloc, trace, grid, focus.chain)?;
     let instant = focus.instant.min(trace.len());
@@ -80,7 +81,8 @@ fn push_any_focus(
     focus: Option<&Focus<'_>>,
 ) -> Result<(), NoMemory>
     requires { grid.processes < 257 }
-    ensures { Appends result out.old out.new (pictures.any_focus_text trace.now.recording grid (option_copied focus.entry)) }
+    ensures { Appends result out.old out.new
+        (pictures.any_focus_text trace.now.recording grid (option_copied focus.entry)) }
 {
     match focus {
         Some(focus) => push_focus(alloc, out, trace, grid, focus),
@@ -98,7 +100,8 @@ fn push_close(
     focus: Option<&Focus<'_>>,
 ) -> Result<(), AllocError>
     requires { stretches.IsWithin entries grid }
-    ensures { Appends result out.old out.new (pictures.close_text grid entries faults (option_copied focus.entry)) }
+    ensures { Appends result out.old out.new
+        (pictures.close_text grid entries faults (option_copied focus.entry)) }
 {
     let bottom = bottom_of(grid.processes);
     push_cuts(out, grid, entries)?;
@@ -132,7 +135,8 @@ fn push_picture(
     faults: u16,
     focus: Option<&Focus<'_>>,
 ) -> Result<(), NoMemory>
-    ensures { Appends result out.old out.new (pictures.picture trace.now.recording faults (option_copied focus.entry)) }
+    ensures { Appends result out.old out.new
+        (pictures.picture trace.now.recording faults (option_copied focus.entry)) }
 {
     let entries = trace.len();
     let grid = grid_around(trace, focus);
@@ -159,7 +163,8 @@ pub fn picture_of(
     faults: u16,
     focus: Option<&Focus<'_>>,
 ) -> Result<Vec<u8>, NoMemory>
-    ensures { IfOk result (λ text. text.items ≡ pictures.picture trace.now.recording faults (option_copied focus.entry)) }
+    ensures { IfOk result (λ text. text.items
+        ≡ pictures.picture trace.now.recording faults (option_copied focus.entry)) }
 {
     let mut out = String::new(alloc);
     push_picture(alloc, &mut out, trace, faults, focus)?;

@@ -45,8 +45,10 @@ pub fn grid_around(trace: &Trace, focus: Option<&Focus<'_>>) -> Grid
     ensures value { result ≡ stretches.grid_around trace.now.recording (option_copied focus.entry) }
     ensures within { stretches.IsWithin (length trace.now.recording.past) result }
     ensures few { result.early.count + result.late.count ≤ 200 }
-    ensures reaches { IfSome (option_copied focus.entry) (stretches.ReachesInstant (length trace.now.recording.past) result) }
-    ensures chain { IfSome (option_copied focus.entry) (stretches.ShowsFirst (length trace.now.recording.past) result) }
+    ensures reaches { IfSome (option_copied focus.entry)
+        (stretches.ReachesInstant (length trace.now.recording.past) result) }
+    ensures chain { IfSome (option_copied focus.entry)
+        (stretches.ShowsFirst (length trace.now.recording.past) result) }
 {
     placed(trace.len(), trace.processes(), focus)
 }

@@ -142,7 +142,8 @@ fn push_list(out: &mut String, entry: &Entry) -> Result<(), AllocError>
 
 /// The same of the entry at a position.
 fn push_list_at(out: &mut String, trace: &Trace, position: u32) -> Result<(), AllocError>
-    ensures { Appends result out.old out.new (titles.list_title_at trace.now.recording.past position) }
+    ensures { Appends result out.old out.new
+        (titles.list_title_at trace.now.recording.past position) }
 {
     match trace.entry(position) {
         Some(entry) => push_list(out, entry),

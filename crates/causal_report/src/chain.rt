@@ -45,7 +45,8 @@ pub(crate) fn push_unlisted(
     delivery: u32,
     unlisted: Option<u32>,
 ) -> Result<(), AllocError>
-    ensures { OnOk result (Adds out.old out.new (chains.unlisted_text trace.now.recording delivery unlisted)) }
+    ensures { OnOk result
+        (Adds out.old out.new (chains.unlisted_text trace.now.recording delivery unlisted)) }
 {
     let Some(position) = unlisted else {
         return push_listed(out);

@@ -26,7 +26,8 @@ pub fn explanation_text(
     explanation: &Explanation,
     cause: Cause,
 ) -> Result<Vec<u8>, NoMemory>
-    ensures { IfOk result (λ text. text.items ≡ told.explanation_text trace.now.recording explanation.now cause) }
+    ensures { IfOk result
+        (λ text. text.items ≡ told.explanation_text trace.now.recording explanation.now cause) }
 {
     let mut out = String::new(alloc);
     push_explanation(&mut out, trace, explanation, cause)?;
@@ -39,7 +40,8 @@ fn push_explanation(
     explanation: &Explanation,
     cause: Cause,
 ) -> Result<(), AllocError>
-    ensures { OnOk result (Adds out.old out.new (told.explanation_text trace.now.recording explanation.now cause)) }
+    ensures { OnOk result
+        (Adds out.old out.new (told.explanation_text trace.now.recording explanation.now cause)) }
 {
     push_delivery(out, explanation.delivery, &explanation.det)?;
     push_cause(out, explanation.instant, cause)?;

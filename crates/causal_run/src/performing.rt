@@ -30,7 +30,8 @@ fn ask<R: Wait>(
 ) -> Result<(), SharedFault>
     requires { spares_for request ≤ length (into_iter_items spares.old) }
     ensures item { Asked seat.old.sitting seat.new.sitting request result }
-    ensures spares { into_iter_items spares.new ≡ drop (spares_for request) (into_iter_items spares.old) }
+    ensures spares { into_iter_items spares.new
+        ≡ drop (spares_for request) (into_iter_items spares.old) }
 {
     match request {
         Request::Deliver { q, source, ssn } => {
@@ -102,7 +103,8 @@ pub fn perform<R: Wait>(
     requires spares { length spares.items ≡ spares_in script.now.commands }
     ensures run { IfOk result (λ trace. IsRunOf answers script.now boxes.items trace.recording) }
     ensures safe { IfOk result (λ trace. IsSafeTrace trace.recording script.now.f) }
-    ensures refused { IfErr result (Tells (IsStarted answers script.now.f boxes.items) script.now.commands) }
+    ensures refused { IfErr result
+        (Tells (IsStarted answers script.now.f boxes.items) script.now.commands) }
 {
     let core = Core::start(alloc, script.f, boxes, MemStable::new(alloc))?;
     let (shared, mut seats) = Shared::open(alloc, core, 1, 0)?;

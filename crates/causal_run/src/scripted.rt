@@ -31,7 +31,8 @@ fn spare_for(script: &Script, p: u8) -> u8
 pub fn run_script<R: Wait>(rt: &R, alloc: Global, script: &Script) -> Result<Trace, RunFault>
     requires some { 1 ≤ script.now.n }
     requires few { script.now.n ≤ 256 }
-    ensures run { IfOk result (λ trace. IsRunFrom (IsStartOf script.now) script.now.commands trace.recording) }
+    ensures run { IfOk result
+        (λ trace. IsRunFrom (IsStartOf script.now) script.now.commands trace.recording) }
     ensures safe { IfOk result (λ trace. IsSafeTrace trace.recording script.now.f) }
     ensures refused { IfErr result (Tells (IsStartOf script.now) script.now.commands) }
 {

@@ -16,7 +16,8 @@ const MAX_SCRIPT: usize = 1_048_576;
 
 /// The first line, without its line feed, and what follows it; None where there is no line.
 fn split_line(text: &[u8]) -> Option<(&[u8], &[u8])>
-    ensures parts { MatchOption result (text.now ≡ []) (λ parts. lines text.now ≡ parts.0.now ∷ lines parts.1.now) }
+    ensures parts { MatchOption result (text.now ≡ [])
+        (λ parts. lines text.now ≡ parts.0.now ∷ lines parts.1.now) }
     ensures shorter { IfSome result (λ parts. length parts.1.now < length text.now) }
 {
     if text.is_empty() {
@@ -71,7 +72,8 @@ fn judged<T: Drop>(big: Option<u32>, line: u32, said: Option<T>) -> Result<T, Sc
 /// The commands on the lines after the first.
 fn commands(alloc: Global, rest: &[u8], big: Option<u32>) -> Result<Vec<Command>, ScriptFault>
     ensures ok { IfOk result (λ commands. AreCommands rest.now commands.items []) }
-    ensures reaches { IfOk result (λ commands. (text : List ℕ) → IsAfter text 1 rest.now → IsBigLine text big
+    ensures reaches { IfOk result
+        (λ commands. (text : List ℕ) → IsAfter text 1 rest.now → IsBigLine text big
         → (line : ℕ) × AreOnLines text commands.items line []) }
     ensures err { IfErr result (λ fault. fault.kind ≢ ScriptFaultKind.NoMemory
         → (text : List ℕ) → IsAfter text 1 rest.now → IsBigLine text big → IsFirstFault text fault) }
@@ -106,8 +108,10 @@ fn commands(alloc: Global, rest: &[u8], big: Option<u32>) -> Result<Vec<Command>
 pub fn parse_script(alloc: Global, bytes: &[u8]) -> Result<Script, ScriptFault>
     ensures ok { IfOk result (λ script. Spells bytes.now (plan_of script)) }
     ensures plan { IfOk result (λ script. IsPlan (plan_of script)) }
-    ensures err { IfErr result (λ fault. fault.kind ≢ ScriptFaultKind.NoMemory → IsFirstFault bytes.now fault) }
-    ensures memory { IfErr result (λ fault. fault.kind ≡ ScriptFaultKind.NoMemory → IsReadUpTo bytes.now fault.line) }
+    ensures err { IfErr result
+        (λ fault. fault.kind ≢ ScriptFaultKind.NoMemory → IsFirstFault bytes.now fault) }
+    ensures memory { IfErr result
+        (λ fault. fault.kind ≡ ScriptFaultKind.NoMemory → IsReadUpTo bytes.now fault.line) }
 {
     let big = big_line(bytes);
     let Some((first, rest)) = split_line(bytes) else {

@@ -39,7 +39,8 @@ pub(crate) fn undelivered(
 
 /// The determinants of all deliveries.
 fn delivered_in(alloc: Global, trace: &Trace) -> Result<BTreeSet<Det, Global>, NoMemory>
-    ensures { IfOk result (λ set. (k : ℕ) (d : Det) → det_at trace.now.recording.past k ≡ Some d → contains det_cmp set d ≡ true) }
+    ensures { IfOk result (λ set. (k : ℕ) (d : Det)
+        → det_at trace.now.recording.past k ≡ Some d → contains det_cmp set d ≡ true) }
 {
     let mut delivered = BTreeSet::new(alloc);
     for k in 0..trace.len() {

@@ -47,7 +47,8 @@ impl FedReader {
     /// `Text` with the first fault of the text, however it goes on, or of kind `NoMemory` where a growth was refused,
     /// with a line before which no line has a fault; `Failed` after an earlier error.
     pub fn feed(&mut self, piece: &[u8]) -> Result<(), ReaderFault>
-        ensures ok { OnOk result ((b : List ℕ) → HasRead self.old b → HasRead self.new (b ++ piece.now)) }
+        ensures ok { OnOk result
+            ((b : List ℕ) → HasRead self.old b → HasRead self.new (b ++ piece.now)) }
         ensures reading { OnOk result (IsReading self.new) }
         ensures err { IfErr result (RefusesPiece self.old piece.now) }
         ensures failed { OnErr result (self.new ≡ State.Failed) }
@@ -71,7 +72,8 @@ impl FedReader {
     /// `Text` with the first fault of the text, or of kind `NoMemory` where a growth was refused; `Failed` after an
     /// earlier error.
     pub fn finish(self) -> Result<Trace, ReaderFault>
-        ensures ok { IfOk result (λ trace. (b : List ℕ) → HasRead self b → Spells b trace.recording) }
+        ensures ok { IfOk result
+            (λ trace. (b : List ℕ) → HasRead self b → Spells b trace.recording) }
         ensures err { IfErr result (RefusesEnd self) }
         ensures stays { self ≡ State.Failed → result ≡ Err ReaderFault.Failed }
     {

@@ -27,8 +27,10 @@ pub enum Unread {
 /// # Errors
 /// `Source` where the source failed, `Text` with the text's first fault, or of kind `NoMemory` where memory was refused.
 pub fn read_keeping<R: Read>(alloc: Global, source: &mut R) -> Result<Trace, Unread>
-    ensures ok { IfOk result (λ trace. IfSome (R.remaining source.old) (λ text. Spells text trace.recording)) }
-    ensures err { IfErr result (λ unread. IfSome (R.remaining source.old) (λ text. TellsUnread text unread)) }
+    ensures ok { IfOk result
+        (λ trace. IfSome (R.remaining source.old) (λ text. Spells text trace.recording)) }
+    ensures err { IfErr result
+        (λ unread. IfSome (R.remaining source.old) (λ text. TellsUnread text unread)) }
 {
     read_within(alloc, source, DEFAULT_LIMITS)
 }

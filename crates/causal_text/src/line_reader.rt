@@ -89,7 +89,8 @@ impl LineReader {
     /// The fault of each line that has so many bytes or more, where it is known by their number: no byte follows an end
     /// line, and none goes past the text's limit. So it is told before any of them is held.
     pub(crate) fn past(&self, limits: Limits, len: usize) -> Option<TextFault>
-        ensures past { IfSome result (λ fault. (0 < len) × IsFaultFrom limits.entries self.now len fault) }
+        ensures past { IfSome result
+            (λ fault. (0 < len) × IsFaultFrom limits.entries self.now len fault) }
         ensures line { IfSome result (λ fault. fault.line ≡ self.now.count + 1) }
         ensures room { IfNone result (HasRoomFor limits.entries self.now len) }
     {

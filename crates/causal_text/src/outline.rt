@@ -154,7 +154,8 @@ fn pass_members(reader: &mut Reader<'_>, depth: usize) -> Result<(), Invalid>
 
 /// Whether a text is a JSON value that fits; None where it is no JSON value.
 fn text_fits(alloc: Global, text: &str) -> Result<bool, TextKind>
-    ensures ok { IfOk result (λ fit. (d : Data) × (read text.now ≡ Some d) × (fits levels d ≡ fit)) }
+    ensures ok { IfOk result
+        (λ fit. (d : Data) × (read text.now ≡ Some d) × (fits levels d ≡ fit)) }
     ensures err { IfErr result (λ kind. kind ≢ TextKind.NoMemory
         → (kind ≡ TextKind.Syntax) × (read text.now ≡ None)) }
 {

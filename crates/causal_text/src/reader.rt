@@ -57,7 +57,8 @@ impl PieceReader {
         requires { 0 < length line.now }
         ensures value { GivesRejected result (with_line limits.entries self line.now) }
         ensures line { IfErr result (λ rejected. rejected.fault.line ≡ self.place.count + 1) }
-        ensures before { IfErr result (λ rejected. IsKeptAt self.place.stage (self.rest ++ line.now) rejected.before) }
+        ensures before { IfErr result
+            (λ rejected. IsKeptAt self.place.stage (self.rest ++ line.now) rejected.before) }
     {
         if self.rest.is_empty() {
             let PieceReader { lines, rest } = self;
@@ -72,7 +73,8 @@ impl PieceReader {
 
     /// Holds more of a line, unless no line may stand there or the text is too long by it.
     fn hold(self, limits: Limits, part: &[u8]) -> Result<PieceReader, Rejected>
-        ensures ok { IfOk result (λ r. r ≡ record { place = self.place; rest = self.rest ++ part.now }) }
+        ensures ok { IfOk result
+            (λ r. r ≡ record { place = self.place; rest = self.rest ++ part.now }) }
         ensures room { IfOk result (HasRoom limits.entries) }
         ensures err { IfErr result (λ rejected. rejected.fault.kind ≢ TextKind.NoMemory
             → (0 < length (self.rest ++ part.now))
@@ -140,7 +142,8 @@ impl PieceReader {
 /// fault.
 pub fn read_trace(alloc: Global, bytes: &[u8]) -> Result<Trace, TextFault>
     ensures ok { IfOk result (λ trace. Spells bytes.now trace.recording) }
-    ensures err { IfErr result (λ fault. fault.kind ≢ TextKind.NoMemory → IsFirstFault bytes.now fault) }
+    ensures err { IfErr result
+        (λ fault. fault.kind ≢ TextKind.NoMemory → IsFirstFault bytes.now fault) }
     ensures memory { IfErr result (λ fault. fault.kind ≡ TextKind.NoMemory
         → IsReadUpTo default_entries bytes.now fault.line) }
 {

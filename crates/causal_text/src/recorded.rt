@@ -42,7 +42,8 @@ impl Recorded {
     pub(crate) fn push(&mut self, limits: Limits, entry: Entry) -> Result<(), TraceFault>
         ensures legal { OnOk result (fault_within limits.entries self.old entry ≡ None) }
         ensures ok { OnOk result (self.new ≡ with_entry self.old entry) }
-        ensures refused { IfErr result (λ fault. fault ≡ refusal_within limits.entries self.old entry) }
+        ensures refused { IfErr result
+            (λ fault. fault ≡ refusal_within limits.entries self.old entry) }
         ensures stays { OnErr result (self.new ≡ self.old) }
     {
         self.trace.push_within(limits, entry)

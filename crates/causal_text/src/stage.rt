@@ -110,7 +110,8 @@ fn admitted(
     mut trace: Recorded,
     entry: Entry,
 ) -> Result<Stage, Unfollowed>
-    ensures value { GivesFollowed result (follow limits.entries (Stage.Within version trace) (Shape.Entry entry)) }
+    ensures value { GivesFollowed result
+        (follow limits.entries (Stage.Within version trace) (Shape.Entry entry)) }
     ensures trace { IfErr result (λ unfollowed. unfollowed.trace ≡ Some trace) }
 {
     if !version.has_line(&entry) {
@@ -135,7 +136,8 @@ fn going_on(
     trace: Recorded,
     shape: Shape,
 ) -> Result<Stage, Unfollowed>
-    ensures value { GivesFollowed result (follow limits.entries (Stage.Within version trace) shape) }
+    ensures value { GivesFollowed result
+        (follow limits.entries (Stage.Within version trace) shape) }
     ensures trace { IfErr result (λ unfollowed. unfollowed.trace ≡ Some trace) }
 {
     match shape {
@@ -190,7 +192,8 @@ fn alone(kind: TextKind) -> Refused
 
 /// What stands before a line. It reads the line once more, since what it said is gone with the refusal.
 fn before_of(alloc: Global, trace: Option<Recorded>, line: &[u8]) -> Option<Before>
-    ensures { IfSome result (λ at. (trace ≡ Some at.trace.recording) × (line_shape line.now ≡ Ok at.says)) }
+    ensures { IfSome result
+        (λ at. (trace ≡ Some at.trace.recording) × (line_shape line.now ≡ Ok at.says)) }
 {
     let trace = trace?;
     let Ok(says) = line_shape(alloc, line) else {

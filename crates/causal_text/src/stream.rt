@@ -62,7 +62,8 @@ pub(crate) fn advance(
     pieces: PieceReader,
     piece: &[u8],
 ) -> Result<State, Rejected>
-    ensures ok { IfOk result (λ s. (b : List ℕ) → HasReadWithin limits.entries (State.Reading pieces) b
+    ensures ok { IfOk result
+        (λ s. (b : List ℕ) → HasReadWithin limits.entries (State.Reading pieces) b
         → HasReadWithin limits.entries s (b ++ piece.now)) }
     ensures err { IfErr result (λ rejected. rejected.fault.kind ≢ TextKind.NoMemory
         → (b : List ℕ) → HasReadWithin limits.entries (State.Reading pieces) b
@@ -70,7 +71,8 @@ pub(crate) fn advance(
     ensures memory { IfErr result (λ rejected. rejected.fault.kind ≡ TextKind.NoMemory
         → (b : List ℕ) → HasReadWithin limits.entries (State.Reading pieces) b
         → IsReadAt limits.entries (b ++ piece.now) rejected.fault.line) }
-    ensures before { IfErr result (λ rejected. (b : List ℕ) → HasReadWithin limits.entries (State.Reading pieces) b
+    ensures before { IfErr result
+        (λ rejected. (b : List ℕ) → HasReadWithin limits.entries (State.Reading pieces) b
         → IsKeptAfter limits.entries piece.now (b ++ piece.now) rejected) }
     ensures more { 0 < length piece.now → IfOk result (Follows Progress.More) }
     ensures ended { length piece.now ≡ 0 → IfOk result (Follows Progress.Ended) }
@@ -157,8 +159,10 @@ impl<R: Read + Drop> TraceReader<R> {
             × ((b : List ℕ) → HasRead self.old.state b → HasRead self.new.state (b ++ piece))) }
         ensures follows { IfOk result (λ progress. Follows progress self.new.state) }
         ensures end { IsReading self.old.state → Ends result (R.remaining self.new.source) }
-        ensures text { FailsBy result (R.remaining self.old.source) (R.remaining self.new.source) self.old.state }
-        ensures memory { FailsAt result (R.remaining self.old.source) (R.remaining self.new.source) self.old.state }
+        ensures text { FailsBy result (R.remaining self.old.source)
+            (R.remaining self.new.source) self.old.state }
+        ensures memory { FailsAt result (R.remaining self.old.source)
+            (R.remaining self.new.source) self.old.state }
         ensures failed { OnErr result (self.new.state ≡ State.Failed) }
         ensures ended { (r : Recording) → self.old.state ≡ State.Ended r
             → (result ≡ Ok Progress.Ended) × (self.new ≡ self.old) }
@@ -176,7 +180,8 @@ impl<R: Read + Drop> TraceReader<R> {
 
     /// The trace that was read, where the text has ended; `Unfinished` where it goes on, and `Failed` after an error.
     pub fn into_trace(self) -> Result<Trace, ReaderFault>
-        ensures ok { IfOk result (λ trace. (b : List ℕ) → HasRead self.state b → Spells b trace.recording) }
+        ensures ok { IfOk result
+            (λ trace. (b : List ℕ) → HasRead self.state b → Spells b trace.recording) }
         ensures value { IsHeldTrace result (held_trace self.state) }
     {
         let TraceReader {
@@ -198,9 +203,12 @@ const MAX_PIECES: u32 = 33_554_434;
 /// The trace that the bytes of a source spell by the usual limits. The source is read to its end, or until what was read is no beginning of a
 /// trace. Each piece but the last has a byte, so the source is asked for at most 33,554,434 pieces.
 pub fn read_from<R: Read + Drop>(alloc: Global, source: R) -> Result<Trace, ReaderFault>
-    ensures ok { IfOk result (λ trace. IfSome (R.remaining source) (λ bytes. Spells bytes trace.recording)) }
-    ensures err { IfErr result (λ fault. IfSome (R.remaining source) (λ bytes. TellsOf bytes fault)) }
-    ensures memory { IfErr result (λ fault. IfSome (R.remaining source) (λ bytes. TellsLineOf bytes fault)) }
+    ensures ok { IfOk result
+        (λ trace. IfSome (R.remaining source) (λ bytes. Spells bytes trace.recording)) }
+    ensures err { IfErr result
+        (λ fault. IfSome (R.remaining source) (λ bytes. TellsOf bytes fault)) }
+    ensures memory { IfErr result
+        (λ fault. IfSome (R.remaining source) (λ bytes. TellsLineOf bytes fault)) }
 {
     let mut reader = TraceReader::new(alloc, source);
     for _i in 0..MAX_PIECES {

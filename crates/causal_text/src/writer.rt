@@ -27,7 +27,8 @@ fn canonical_version(trace: &Trace) -> Version
 
 // numbers with a comma before each, and what ends them
 fn push_numbers(out: &mut String, numbers: &[u32], end: &str) -> Result<(), AllocError>
-    ensures { OnOk result (string_bytes out.new ≡ string_bytes out.old ++ numbers_text numbers.now end.now) }
+    ensures { OnOk result
+        (string_bytes out.new ≡ string_bytes out.old ++ numbers_text numbers.now end.now) }
 {
     for number in numbers {
         write!(out, ",{number}")?;
@@ -37,7 +38,8 @@ fn push_numbers(out: &mut String, numbers: &[u32], end: &str) -> Result<(), Allo
 
 // an array that begins with a name
 fn push_named(out: &mut String, name: &str, numbers: &[u32], end: &str) -> Result<(), AllocError>
-    ensures { OnOk result (string_bytes out.new ≡ string_bytes out.old ++ named_text name.now numbers.now end.now) }
+    ensures { OnOk result
+        (string_bytes out.new ≡ string_bytes out.old ++ named_text name.now numbers.now end.now) }
 {
     write!(out, "[\"{name}\"")?;
     push_numbers(out, numbers, end)
@@ -82,7 +84,8 @@ fn push_listed(
     numbers: &[u32],
     dets: &[Det],
 ) -> Result<(), AllocError>
-    ensures { OnOk result (string_bytes out.new ≡ string_bytes out.old ++ listed_text name.now numbers.now dets.now) }
+    ensures { OnOk result
+        (string_bytes out.new ≡ string_bytes out.old ++ listed_text name.now numbers.now dets.now) }
 {
     push_named(out, name, numbers, ",")?;
     push_dets(out, dets)?;
@@ -91,7 +94,8 @@ fn push_listed(
 
 // an entry of one determinant
 fn push_stable(out: &mut String, det: &Det) -> Result<(), AllocError>
-    ensures { OnOk result (string_bytes out.new ≡ string_bytes out.old ++ entry_text (Entry.Stable det.now)) }
+    ensures { OnOk result
+        (string_bytes out.new ≡ string_bytes out.old ++ entry_text (Entry.Stable det.now)) }
 {
     push_named(out, "stable", &[], ",")?;
     push_det(out, det)?;
@@ -127,7 +131,8 @@ fn push_entry(out: &mut String, entry: &Entry) -> Result<(), AllocError>
 }
 
 fn push_entries(out: &mut String, entries: &[Entry]) -> Result<(), AllocError>
-    ensures { OnOk result (string_bytes out.new ≡ string_bytes out.old ++ entries_text entries.now) }
+    ensures { OnOk result
+        (string_bytes out.new ≡ string_bytes out.old ++ entries_text entries.now) }
 {
     for entry in entries {
         push_entry(out, entry)?;
@@ -137,7 +142,8 @@ fn push_entries(out: &mut String, entries: &[Entry]) -> Result<(), AllocError>
 }
 
 fn push_trace(out: &mut String, trace: &Trace) -> Result<(), AllocError>
-    ensures { OnOk result (string_bytes out.new ≡ string_bytes out.old ++ canonical trace.now.recording) }
+    ensures { OnOk result
+        (string_bytes out.new ≡ string_bytes out.old ++ canonical trace.now.recording) }
 {
     let version = canonical_version(trace).number();
     push_named(
@@ -165,8 +171,10 @@ pub fn text_of(alloc: Global, trace: &Trace) -> Result<Vec<u8>, NoMemory>
 /// answered only where a write answered an error, of any kind, or took no byte; `Memory` only where a growth was
 /// refused, before the first write.
 pub fn write_trace<W: Write>(alloc: Global, trace: &Trace, writer: &mut W) -> Result<(), WriteFault>
-    ensures ok { OnOk result (Appends (W.contents writer.old) (W.contents writer.new) (canonical trace.now.recording)) }
-    ensures err { IfErr result (StopsInTrace trace.now.recording (W.contents writer.old) (W.contents writer.new)) }
+    ensures ok { OnOk result
+        (Appends (W.contents writer.old) (W.contents writer.new) (canonical trace.now.recording)) }
+    ensures err { IfErr result
+        (StopsInTrace trace.now.recording (W.contents writer.old) (W.contents writer.new)) }
     ensures cause { IfErr result (λ fault. fault.cause ≡ WriteCause.Memory → fault.written ≡ 0) }
 {
     match text_of(alloc, trace) {

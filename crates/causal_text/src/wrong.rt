@@ -162,7 +162,8 @@ fn doubled(trace: &Trace, says: &Shape) -> Option<Wrong>
 
 fn no_delivery(alloc: Global, trace: &Trace, says: &Shape) -> Result<Option<Wrong>, NoMemory>
     ensures wrong { IfOk result (λ found. IfSome found (IsWrong trace.now.recording says.now)) }
-    ensures kind { IfOk result (λ found. IfSome found (λ wrong. kind_told wrong ≡ TextKind.NoDelivery)) }
+    ensures kind { IfOk result
+        (λ found. IfSome found (λ wrong. kind_told wrong ≡ TextKind.NoDelivery)) }
 {
     let Shape::Entry { entry } = says else {
         return Ok(None);

@@ -68,7 +68,8 @@ fn push_array(
     name: &[u8],
     lines: &[&[u8]],
 ) -> Result<(), AllocError>
-    ensures { OnOk result (Adds out.old out.new (told.array name.now (map (λ line. line.now) lines.now))) }
+    ensures { OnOk result
+        (Adds out.old out.new (told.array name.now (map (λ line. line.now) lines.now))) }
 {
     out.push(b'[')?;
     push_listed(alloc, out, name, lines)?;
@@ -82,7 +83,8 @@ fn push_listed(
     name: &[u8],
     lines: &[&[u8]],
 ) -> Result<(), AllocError>
-    ensures { OnOk result (Adds out.old out.new (told.listed name.now (map (λ line. line.now) lines.now))) }
+    ensures { OnOk result
+        (Adds out.old out.new (told.listed name.now (map (λ line. line.now) lines.now))) }
 {
     let [line, more @ ..] = lines else {
         return Ok(());
@@ -133,7 +135,8 @@ fn push_words(
     name: &[u8],
     words: &[&[u8]],
 ) -> Result<(), AllocError>
-    ensures { OnOk result (Adds out.old out.new (told.members name.now (map (λ word. word.now) words.now))) }
+    ensures { OnOk result
+        (Adds out.old out.new (told.members name.now (map (λ word. word.now) words.now))) }
 {
     let [word, fields @ ..] = words else {
         return Ok(());
@@ -151,7 +154,8 @@ fn push_named(out: &mut Vec<u8>, name: &[u8], word: &[u8]) -> Result<(), AllocEr
 }
 
 fn push_fields(alloc: Global, out: &mut Vec<u8>, fields: &[&[u8]]) -> Result<(), AllocError>
-    ensures { OnOk result (Adds out.old out.new (flat_map told.field_member (map (λ field. field.now) fields.now))) }
+    ensures { OnOk result
+        (Adds out.old out.new (flat_map told.field_member (map (λ field. field.now) fields.now))) }
 {
     for field in fields {
         push_field(alloc, out, field)?;
