@@ -1,5 +1,5 @@
 -- What a run of the program writes as JSON.
-use Rattle.std.specs.Prelude.{◌≡◌, ℕ, ◌≤◌, ◌<◌, ⊤, List, length, take, Option, IfSome}
+use Rattle.std.specs.Prelude.{◌≡◌, ℕ, ◌≤◌, ◌<◌, List, length, take, Option, IfSome}
 use Rattle.std.specs.Io.KnownBytes.{Appends, Keeps}
 use Rattle.causal_report.specs.Objects.{verdict_object, ranges_object}
 use Rattle.causal_commands.specs.declared.ended.Ended.{Ended}
