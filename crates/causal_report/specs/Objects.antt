@@ -60,12 +60,12 @@ members name [] = []
 members name (word ∷ fields) = named name word ++ flat_map field_member fields
 
 -- the same of what stands before the sentence
-abbrev pub unsaid : List ℕ → List (List ℕ) → List ℕ
-unsaid name [] = []
-unsaid name (fields ∷ sentence) = members name (parts 32 fields)
+abbrev pub before_sentence : List ℕ → List (List ℕ) → List ℕ
+before_sentence name [] = []
+before_sentence name (fields ∷ sentence) = members name (parts 32 fields)
 
 abbrev pub line_members : List ℕ → List ℕ → List ℕ
-line_members name line = unsaid name (parts 58 line)
+line_members name line = before_sentence name (parts 58 line)
 
 abbrev pub object : List ℕ → List ℕ → List ℕ
 object name line = codes "{" ++ (line_members name line ++ codes "}")
