@@ -6,8 +6,7 @@ use Rattle.causal_trace.specs.declared.entry.Entry.{Entry}
 use Rattle.causal_trace.specs.declared.entry.Entry.TheVariants.{Send, Deliver, Stable, Crash, Restart, Forget}
 use Rattle.causal_trace.specs.Past.{instant, entry_at, is_down, is_stable, logs, has}
 use Rattle.causal_trace.proofs.Lemmas.Reached.{reaches_begins}
-use Rattle.causal_audit.specs.Inside.Ahead.{HasNoneUntil}
-use Rattle.causal_audit.specs.Inside.Changes.{HasMentions}
+use Rattle.causal_audit.specs.Inside.Changes.{HasNoneUntil, HasMentions}
 use Rattle.causal_audit.specs.Quiet.{is_turn, mentioned_by}
 use Rattle.causal_audit.specs.Inside.Sights.{IsUnheard}
 use Rattle.causal_audit.specs.Inside.Staying.{MentionsNone}

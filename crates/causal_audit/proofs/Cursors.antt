@@ -6,7 +6,7 @@ use Rattle.std.proofs.lemmas.List.{get_or_default}
 use Rattle.std.proofs.Math.Dec.{ltb}
 use Rattle.causal_audit.specs.declared.changes.Changes.{Changes}
 use Rattle.causal_audit.specs.declared.changes.Ahead.{Ahead}
-use Rattle.causal_audit.specs.Inside.Ahead.{AreAhead, HasNoneUntil, IsCursor}
+use Rattle.causal_audit.specs.Inside.Changes.{AreAhead, HasNoneUntil, IsCursor}
 
 -- ---- the numbers that a cursor has passed
 

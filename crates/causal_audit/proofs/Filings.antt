@@ -14,21 +14,19 @@ use Rattle.causal_trace.specs.Past.{lane, entry_at, has}
 use Rattle.causal_trace.specs.Dependence.{actor, IsEventOf}
 use Rattle.causal_clock.specs.declared.Event.{Event}
 use Rattle.causal_clock.specs.Timeline.{lane_of}
-use Rattle.causal_audit.specs.Inside.Filed.{Ascends, AreLanes, list_at, with_added, AreMentions, AreMentionsWith, Numbers, mentions_of, number_of}
+use Rattle.causal_audit.specs.Inside.Filed.{Ascends, AreLanes, list_at, with_added, AreMentions, AreMentionsWith, Numbers, mentions_of, number_of, AreTurnsOf, IsFirstCrash, is_turn_of}
 use Rattle.std.specs.Ordering.{nat_cmp}
 use Rattle.std.specs.FinSet.{FinSet, contains, empty, remove, contains-empty}
 use Rattle.std.specs.List.Sorted.{IsNonDecreasing}
 use Rattle.causal_trace.specs.declared.entry.Entry.TheVariants.{Send, Deliver, Stable, Crash, Restart, Forget}
 use Rattle.causal_trace.proofs.Lemmas.Instants.{entry_beyond}
-use Rattle.causal_audit.specs.Inside.Ahead.{HasNoneUntil}
-use Rattle.causal_audit.specs.Inside.ByProcess.{AreTurnsOf, IsFirstCrash, is_turn_of}
+use Rattle.causal_audit.specs.Inside.Changes.{HasNoneUntil, HasMentions}
 use Rattle.causal_audit.specs.Inside.Staying.{restarts_one, RestartsNone}
 use Rattle.causal_audit.specs.Spread.{IsCrashOf}
 use Rattle.causal_audit.proofs.Reaching.{left_out}
 use Rattle.std.proofs.Math.Seq.{get_or-append_seam}
 use Rattle.causal_name.specs.declared.Det.{Det}
 use Rattle.causal_name.specs.Names.{same_det}
-use Rattle.causal_audit.specs.Inside.Changes.{HasMentions}
 use Rattle.causal_audit.specs.Quiet.{mentioned_by}
 use Rattle.causal_audit.specs.declared.numbering.Node.{Node}
 

@@ -16,7 +16,7 @@ use Rattle.causal_trace.specs.Dependence as run
 use Rattle.causal_clock.specs.declared.Event.{Event}
 use Rattle.causal_clock.specs.Timeline.{lane_of}
 use Rattle.causal_clock.specs.Precedence.{Reaches, onward}
-use Rattle.causal_audit.specs.Inside.Followed.{HasFirstsUntil}
+use Rattle.causal_audit.specs.Inside.Changes.{HasFirstsUntil}
 use Rattle.causal_audit.specs.Inside.Filed.{Ascends, AreLanes, AreFirsts, AreReached, IsFirstReached, list_at}
 use Rattle.causal_audit.specs.Inside.Stands.{Stands}
 use Rattle.causal_audit.proofs.Legal.{delivery_event}

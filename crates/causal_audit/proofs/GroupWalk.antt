@@ -21,12 +21,10 @@ use Rattle.causal_audit.specs.Earlier.{earlier}
 use Rattle.causal_audit.specs.Laws.{gone}
 use Rattle.causal_audit.specs.Quiet.{is_turn, Agree, mentioned_by}
 use Rattle.causal_audit.specs.Inside.Among.{FirstBreachBy, HasNoOrphanBy, LeastAmongBy}
-use Rattle.causal_audit.specs.Inside.BreachAt.{BreachAt, TellsBreachAt}
-use Rattle.causal_audit.specs.Inside.Followed.{IsReachedBy}
-use Rattle.causal_audit.specs.Inside.Group.{AreHeldBefore, IsKnown, IsLeastIn, IsStep, position_at, sight_at, HasRoom, HaveNone, IsFollowed, HaveMarked}
-use Rattle.causal_audit.specs.Inside.Reaching.{IsNewly, row, HasRowRoom, IsReach, SeesReach, IsPut}
+use Rattle.causal_audit.specs.Inside.Sights.{BreachAt, TellsBreachAt, IsSight, IsSightAfter, AreDependents, TellsNextReach}
+use Rattle.causal_audit.specs.Inside.Changes.{IsReachedBy}
+use Rattle.causal_audit.specs.Inside.Group.{AreHeldBefore, IsKnown, IsLeastIn, IsStep, position_at, sight_at, HasRoom, HaveNone, IsFollowed, HaveMarked, IsNewly, row, HasRowRoom, IsReach, SeesReach, IsPut, IsHeldSo, IsDeliveredTo, IsHeldBy}
 use Rattle.causal_audit.specs.Inside.Scans.{positions_of, IsDeliveryAt}
-use Rattle.causal_audit.specs.Inside.Sights.{IsSight, IsSightAfter, AreDependents, TellsNextReach}
 use Rattle.causal_audit.proofs.AmongLemmas.{among_push, among_wider, among_none}
 use Rattle.causal_audit.proofs.Between.{quiet_step, held_step, none_agrees, sight_agrees}
 use Rattle.causal_audit.proofs.Orphaned.{accepted_next, first_breach_is}
@@ -38,7 +36,6 @@ use Rattle.std.specs.Cmp.{nat_cmp_total}
 use Rattle.std.proofs.lemmas.Bool.Decides.{eqb_tells}
 use Rattle.causal_name.specs.declared.Pid.{Pid}
 use Rattle.causal_trace.specs.declared.entry.Entry.TheVariants.{Deliver, Crash, Restart, Forget, Send, Stable}
-use Rattle.causal_audit.specs.Inside.Held.{IsHeldSo, IsDeliveredTo, IsHeldBy}
 use Rattle.causal_trace.specs.Limits.{max_entries}
 use Rattle.causal_audit.specs.declared.group.room.Room.{Room}
 use Rattle.causal_audit.specs.declared.reach.Reach.{Reach}

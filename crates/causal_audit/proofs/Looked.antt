@@ -14,12 +14,11 @@ use Rattle.causal_audit.specs.declared.look.Look.{Look}
 use Rattle.causal_audit.specs.declared.look.Stop.{Stop}
 use Rattle.causal_audit.specs.declared.thin.Stretch.{Stretch}
 use Rattle.causal_audit.specs.declared.turns.Passing.{Passing}
-use Rattle.causal_audit.specs.Inside.Ahead.{HasNoneUntil, IsCursor}
+use Rattle.causal_audit.specs.Inside.Changes.{HasNoneUntil, IsCursor}
 use Rattle.causal_audit.specs.Inside.Kept.{AreTurnsKept}
-use Rattle.causal_audit.specs.Inside.Looks.{IsPassed, IsStop}
+use Rattle.causal_audit.specs.Inside.Looks.{IsPassed, IsStop, IsThinAt, StandsBy}
 use Rattle.causal_audit.specs.Inside.Passing.{HasPassed}
 use Rattle.causal_audit.specs.Inside.Sights.{Shows, ShowsDownAfter, ShowsHoldersAfter}
-use Rattle.causal_audit.specs.Inside.Standing.{IsThinAt, StandsBy}
 use Rattle.causal_audit.specs.Inside.Staying.{MentionsNone, RestartsNone}
 use Rattle.causal_audit.specs.Quiet.{mentioned_by}
 use Rattle.causal_audit.proofs.Staying.{gone_many, holds_until, mentioned_next, none_mention, stands_until, none_later, thin_ends}

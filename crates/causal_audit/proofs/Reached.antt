@@ -13,7 +13,7 @@ use Rattle.causal_audit.proofs.Between.{reaches_more, known_already, instants_ag
 use Rattle.causal_name.specs.declared.Pid.{Pid}
 use Rattle.causal_name.specs.declared.Det.{Det}
 use Rattle.causal_trace.specs.declared.entry.Entry.TheVariants.{Send, Deliver}
-use Rattle.causal_audit.specs.Inside.Sights.{TellsNextReach, AreDependents, IsSight, IsSightAfter}
+use Rattle.causal_audit.specs.Inside.Sights.{TellsNextReach, AreDependents, IsSight, IsSightAfter, BreachAt, TellsBreachAt}
 use Rattle.causal_audit.proofs.Swept.{sent_before}
 use Rattle.std.specs.Ordering.{nat_cmp}
 use Rattle.std.specs.FinSet.{FinSet, contains}
@@ -24,9 +24,7 @@ use Rattle.causal_audit.specs.declared.breach.Breach.{Breach}
 use Rattle.causal_audit.specs.declared.changes.Changes.{Changes}
 use Rattle.causal_audit.specs.declared.sight.Sight.{Sight}
 use Rattle.causal_audit.specs.Quiet.{AreQuiet, Agree}
-use Rattle.causal_audit.specs.Inside.Ahead.{AreNoneUntil}
-use Rattle.causal_audit.specs.Inside.BreachAt.{BreachAt, TellsBreachAt}
-use Rattle.causal_audit.specs.Inside.Followed.{AreFirstsBelow, AreFollowed, IsReachedBy}
+use Rattle.causal_audit.specs.Inside.Changes.{AreNoneUntil, AreFirstsBelow, AreFollowed, IsReachedBy}
 use Rattle.causal_audit.proofs.Staying.{mentioned_listed, entry_then}
 use Rattle.causal_audit.proofs.Orphaned.{accepted_next}
 use Rattle.causal_audit.proofs.Steps.{entry_read, next_state}

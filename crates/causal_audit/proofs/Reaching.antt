@@ -19,7 +19,7 @@ use Rattle.causal_trace.proofs.Lemmas.Accepted.{accepted_forward, delivers_sent,
 use Rattle.causal_trace.proofs.Lemmas.Reached.{event_below, reaches_begins, reaches_old, depends_restarted}
 use Rattle.causal_audit.specs.declared.reach.Reach.{Reach}
 use Rattle.causal_audit.specs.declared.scan.Window.{Window}
-use Rattle.causal_audit.specs.Inside.Reaching.{AreOwnRows, IsNewly, IsPut, IsReach, SeesReach, TellsReached, row, window_at}
+use Rattle.causal_audit.specs.Inside.Group.{AreOwnRows, IsNewly, IsPut, IsReach, SeesReach, TellsReached, row, window_at}
 use Rattle.causal_audit.specs.Inside.Sights.{TellsNextReach}
 use Rattle.causal_audit.proofs.Between.{IsNoTurn, reaches_more, depends_more, depends_before}
 use Rattle.causal_audit.proofs.Legal.{sent_event}

@@ -26,9 +26,8 @@ use Rattle.causal_audit.proofs.Begun.{onward_to}
 use Rattle.causal_audit.proofs.Staying.{entry_then}
 use Rattle.causal_trace.specs.Judgement.{HasOrphan}
 use Rattle.causal_audit.specs.declared.thins.Thins.{Thins}
-use Rattle.causal_audit.specs.Inside.ByProcess.{IsFirstCrash}
-use Rattle.causal_audit.specs.Inside.Standing.{IsBareAt, IsThinAt}
-use Rattle.causal_audit.specs.Inside.Thins.{AreThins, MayBeOpen}
+use Rattle.causal_audit.specs.Inside.Filed.{IsFirstCrash}
+use Rattle.causal_audit.specs.Inside.Looks.{IsBareAt, IsThinAt, AreThins, MayBeOpen}
 use Rattle.std.proofs.lemmas.Grind.{get_or-set_at}
 use Rattle.std.proofs.lemmas.List.{length-set, get_or-set_other}
 use Rattle.causal_audit.proofs.Link.{delivers_below}

@@ -10,7 +10,7 @@ use Rattle.causal_trace.specs.declared.entry.Entry.{Entry}
 use Rattle.causal_trace.specs.declared.entry.Entry.TheVariants.{Send, Deliver, Stable, Crash, Restart, Forget}
 use Rattle.causal_trace.specs.Past.{instant, is_down, is_stable, logs, has, entry_at}
 use Rattle.causal_audit.specs.Laws.{gone}
-use Rattle.causal_audit.specs.Inside.Standing.{IsThinAt, RulesOut, StandsBy}
+use Rattle.causal_audit.specs.Inside.Looks.{IsThinAt, RulesOut, StandsBy}
 use Rattle.causal_audit.specs.Lasting.{may_release, NoneReleasedFrom, IsOver, OrphansEnd}
 use Rattle.causal_trace.proofs.Lemmas.AtInstants.{instants_stay, one_more_instant, last_instant, instant_length, det_then, accepted_then}
 use Rattle.causal_audit.proofs.Lemmas.Judged.{exposed}
@@ -27,8 +27,7 @@ use Rattle.causal_audit.proofs.Begun.{onward_to}
 use Rattle.causal_audit.proofs.Between.{logs_stay, next_entry}
 use Rattle.std.proofs.lemmas.Bool.Decides.{eqb_tells}
 use Rattle.causal_trace.specs.Judgement.{HasOrphan}
-use Rattle.causal_audit.specs.Inside.Ahead.{HasNoneUntil}
-use Rattle.causal_audit.specs.Inside.Changes.{AreMentionsOf, HasMentions}
+use Rattle.causal_audit.specs.Inside.Changes.{HasNoneUntil, AreMentionsOf, HasMentions}
 use Rattle.causal_audit.specs.Inside.Sights.{Shows}
 use Rattle.causal_audit.specs.declared.thin.Standing.{Standing}
 use Rattle.causal_audit.specs.declared.thin.Standing.TheVariants.{Kept, Thin, Bare}

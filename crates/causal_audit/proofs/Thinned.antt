@@ -12,9 +12,7 @@ use Rattle.causal_trace.specs.declared.entry.Entry.{Entry}
 use Rattle.causal_audit.specs.declared.look.Look.{Look}
 use Rattle.causal_audit.specs.declared.thin.Stretch.{Stretch}
 use Rattle.causal_audit.specs.declared.thins.Thins.{Thins}
-use Rattle.causal_audit.specs.Inside.Looks.{IsPassed}
-use Rattle.causal_audit.specs.Inside.Standing.{IsBareAt, IsThinAt}
-use Rattle.causal_audit.specs.Inside.Thins.{AreFound, AreRising, AreThins, IsInOne}
+use Rattle.causal_audit.specs.Inside.Looks.{IsPassed, IsBareAt, IsThinAt, AreFound, AreRising, AreThins, IsInOne}
 
 -- where nothing is looked at nothing is found
 pub none_rising : AreRising []

@@ -12,8 +12,7 @@ use Rattle.causal_trace.specs.Past.{det_at, instant}
 use Rattle.causal_trace.specs.Rows.{Recording}
 use Rattle.causal_trace.proofs.Lemmas.AtInstants.{instant_length}
 use Rattle.causal_audit.specs.Inside.Among.{HasNoOrphanBy}
-use Rattle.causal_audit.specs.Inside.Scans.{IsDeliveryAt}
-use Rattle.causal_audit.specs.Inside.Surveys.{AreUncovered}
+use Rattle.causal_audit.specs.Inside.Scans.{IsDeliveryAt, AreUncovered}
 use Rattle.causal_audit.proofs.Orphaned.{not_yet}
 
 -- a list ascends with one more number that is above all of its

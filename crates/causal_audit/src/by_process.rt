@@ -4,8 +4,7 @@ ghost use Rattle.std.specs.List.{All};
 ghost use Rattle.std.specs.List.Sorted.{IsNonDecreasing};
 ghost use Rattle.causal_trace.specs.declared.entry.Entry.{Entry};
 ghost use Rattle.causal_trace.specs.Limits.{max_entries};
-ghost use Rattle.causal_audit.specs.Inside.ByProcess.{AreTurnsOf, IsProcessOf};
-ghost use Rattle.causal_audit.specs.Inside.Filed.{list_at, lists_in, past_of};
+ghost use Rattle.causal_audit.specs.Inside.Filed.{AreTurnsOf, IsProcessOf, list_at, lists_in, past_of};
 
 use crate::cursor::Cursor;
 use crate::lists::{add_to, empty_lists};
@@ -51,7 +50,7 @@ fn note(lists: &mut Vec<Vec<u32>>, restarts: bool, entry: &Entry, i: u32) -> Res
 
 impl ByProcess {
     ghost use Rattle.std.specs.Prelude.{Contains, true};
-    ghost use Rattle.causal_audit.specs.Inside.Ahead.{HasNoneUntil};
+    ghost use Rattle.causal_audit.specs.Inside.Changes.{HasNoneUntil};
     ghost use Rattle.causal_audit.specs.Inside.Staying.{RestartsNone};
 
     /// The positions of the restarts of each process, or of its crashes.

@@ -25,7 +25,7 @@ pub struct Ahead<'a> {
 }
 
 impl<'a> Changes<'a> {
-    ghost use Rattle.causal_audit.specs.Inside.Ahead.{AreAhead};
+    ghost use Rattle.causal_audit.specs.Inside.Changes.{AreAhead};
 
     /// All of them.
     pub fn ahead(&self) -> Ahead<'a>
@@ -49,7 +49,7 @@ pub struct Next {
 
 impl Ahead<'_> {
     ghost use Rattle.causal_audit.specs.declared.changes.Changes.{Changes};
-    ghost use Rattle.causal_audit.specs.Inside.Ahead.{AreAhead, PassesNone, TellsNewly, TellsNext};
+    ghost use Rattle.causal_audit.specs.Inside.Changes.{AreAhead, PassesNone, TellsNewly, TellsNext};
 
     /// The first change that is not below `from`, or `end` if that comes first. Those before it are passed.
     pub fn next(&mut self, from: u32, end: u32) -> Next

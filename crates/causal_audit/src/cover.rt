@@ -5,7 +5,7 @@ ghost use Rattle.causal_name.specs.declared.Det.{Det};
 ghost use Rattle.causal_trace.specs.Past.{has};
 ghost use Rattle.causal_audit.specs.Quiet.{mentioned_by};
 ghost use Rattle.causal_audit.specs.Inside.Sights.{ShowsDownAfter, ShowsHoldersAfter};
-ghost use Rattle.causal_audit.specs.Inside.Standing.{StandsBy};
+ghost use Rattle.causal_audit.specs.Inside.Looks.{StandsBy};
 
 use crate::holding::holders_after;
 use crate::sight::down_after;

@@ -11,7 +11,7 @@ pub struct Cursor<'a> {
 }
 
 impl Cursor<'_> {
-    ghost use Rattle.causal_audit.specs.Inside.Ahead.{IsCursor, HasNoneUntil};
+    ghost use Rattle.causal_audit.specs.Inside.Changes.{IsCursor, HasNoneUntil};
 
     /// A cursor that has passed the positions below `from`.
     pub fn at(list: &[u32], from: u32) -> Cursor<'_>

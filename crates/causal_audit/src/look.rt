@@ -6,8 +6,7 @@ ghost use Rattle.causal_trace.specs.declared.entry.Entry.{Entry};
 ghost use Rattle.causal_trace.specs.Limits.{max_entries};
 ghost use Rattle.causal_trace.specs.Past.{instant, is_stable};
 ghost use Rattle.causal_trace.specs.Rows.{IsWellFormed};
-ghost use Rattle.causal_audit.specs.Inside.Ahead.{HasNoneUntil};
-ghost use Rattle.causal_audit.specs.Inside.Changes.{AreMentionsOf, HasMentions};
+ghost use Rattle.causal_audit.specs.Inside.Changes.{HasNoneUntil, AreMentionsOf, HasMentions};
 ghost use Rattle.causal_audit.specs.Inside.Outlines.{AreMentionsOf-prop};
 
 use crate::cover::Cover;

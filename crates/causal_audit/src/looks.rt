@@ -19,7 +19,7 @@ pub struct Looks<'a> {
 }
 
 impl<'a> Looks<'a> {
-    ghost use Rattle.causal_audit.specs.Inside.AllLooks.{AreAllLooks, IsLookOf};
+    ghost use Rattle.causal_audit.specs.Inside.Looks.{AreAllLooks, IsLookOf};
 
     /// What was found of a determinant; None where nothing mentions it.
     pub fn find(&self, det: Det) -> Option<&Thins>

@@ -2,9 +2,9 @@
 ghost use Rattle.std.specs.Prelude.{◌≡◌, ◌≤◌, length, Some};
 ghost use Rattle.causal_name.specs.declared.Det.{Det};
 ghost use Rattle.causal_trace.specs.Past.{det_at};
-ghost use Rattle.causal_audit.specs.Inside.BreachAt.{TellsBreachAt};
+ghost use Rattle.causal_audit.specs.Inside.Sights.{TellsBreachAt};
 ghost use Rattle.causal_audit.specs.Inside.Among.{FirstBreachBy};
-ghost use Rattle.causal_audit.specs.Inside.Followed.{AreFollowed, IsReachedBy};
+ghost use Rattle.causal_audit.specs.Inside.Changes.{AreFollowed, IsReachedBy};
 
 use crate::breach::Breach;
 use crate::changes::Changes;

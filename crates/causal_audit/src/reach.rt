@@ -3,7 +3,7 @@ ghost use Rattle.std.specs.Prelude.{◌≡◌, ◌<◌, ◌≤◌, ℕ, List, If
 ghost use Rattle.std.specs.FinSet as set;
 ghost use Rattle.std.specs.List.{All};
 ghost use Rattle.causal_trace.specs.declared.entry.Entry.{Entry};
-ghost use Rattle.causal_audit.specs.Inside.Reaching.{AreOwnRows, HasRowOf, HasRowRoom, HasRows, IsPut, IsReach, SeesReach, TellsReached, row, window_at};
+ghost use Rattle.causal_audit.specs.Inside.Group.{AreOwnRows, HasRowOf, HasRowRoom, HasRows, IsPut, IsReach, SeesReach, TellsReached, row, window_at};
 
 use crate::scan::Window;
 use causal_holders::Holders;

@@ -3,9 +3,9 @@
 ghost use Rattle.std.specs.Prelude.{◌≡◌, ◌+◌, ◌≤◌, ◌<◌, IfOk, OnOk, Some, length};
 ghost use Rattle.causal_trace.specs.Past.{det_at, instant};
 ghost use Rattle.causal_audit.specs.Inside.Among.{HasNoOrphanFrom};
-ghost use Rattle.causal_audit.specs.Inside.AllLooks.{AreAllLooks};
+ghost use Rattle.causal_audit.specs.Inside.Looks.{AreAllLooks};
 ghost use Rattle.causal_audit.specs.Inside.Kept.{AreMentionsKept};
-ghost use Rattle.causal_audit.specs.Inside.Surveys.{AreGathered, asked_of, most_of};
+ghost use Rattle.causal_audit.specs.Inside.Scans.{AreGathered, asked_of, most_of};
 
 use crate::by_process::ByProcess;
 use crate::looks::Looks;
@@ -30,7 +30,7 @@ pub struct Survey<'a, 'r> {
 }
 
 impl<'a, 'r> Model for Survey<'a, 'r> {
-    ghost use Rattle.causal_audit.specs.Inside.Surveys.{Asked, IsSurvey};
+    ghost use Rattle.causal_audit.specs.Inside.Scans.{Asked, IsSurvey};
 
     ghost Value = { Asked };
 

@@ -3,8 +3,7 @@ ghost use Rattle.std.specs.Prelude.{◌≡◌, ◌+◌, ◌≤◌, ◌<◌, ℕ,
 ghost use Rattle.causal_name.specs.declared.Det.{Det};
 ghost use Rattle.causal_trace.specs.declared.entry.Entry.{Entry};
 ghost use Rattle.causal_trace.specs.Limits.{max_entries};
-ghost use Rattle.causal_audit.specs.Inside.Looks.{IsPassed};
-ghost use Rattle.causal_audit.specs.Inside.Thins.{AreFound, AreRising, AreThins, EndsBy, MayBeOpen};
+ghost use Rattle.causal_audit.specs.Inside.Looks.{IsPassed, AreFound, AreRising, AreThins, EndsBy, MayBeOpen};
 
 use crate::look::Look;
 use crate::thin::{Standing, Stretch};

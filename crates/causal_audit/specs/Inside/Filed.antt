@@ -1,5 +1,5 @@
--- The lists of positions that tables keep, so that only changes are looked at.
-use Rattle.std.specs.Prelude.{◌≡◌, ℕ, ◌+◌, ◌<◌, ◌≤◌, ◌⊎◌, true, if◌then◌else◌, List, [], ◌∷◌, ◌++◌, length, map, Option, Some, None, slice_set, slice_index_or, Contains}
+-- The lists of positions that are kept of a run.
+use Rattle.std.specs.Prelude.{◌≡◌, ℕ, ◌+◌, ◌<◌, ◌≤◌, ◌⊎◌, true, if◌then◌else◌, List, [], ◌∷◌, ◌++◌, length, map, Option, Some, None, slice_set, slice_index_or, Contains, ◌&&◌, ◌==◌, not, Bool, false, MatchOption}
 use Rattle.std.specs.Global.{Vec}
 use Rattle.std.specs.List.{All}
 use Rattle.std.specs.List.Sorted.{IsNonDecreasing}
@@ -18,6 +18,8 @@ use Rattle.causal_clock.specs.Precedence.{Reaches}
 use Rattle.causal_audit.specs.Inside.Changes.{AreMentionsOf, HasMentions, HasTurns}
 use Rattle.causal_audit.specs.Quiet.{mentioned_by}
 use Rattle.causal_audit.specs.Inside.Sights.{Shows}
+use Rattle.causal_trace.specs.declared.entry.Entry.TheVariants.{Crash, Restart}
+use Rattle.causal_audit.specs.Spread.{IsCrashOf}
 
 -- a list ascends, and has only numbers below a bound
 pub record Ascends (bound : ℕ) (list : List ℕ) : Type 0 where
@@ -102,3 +104,28 @@ pub record AreMentionsWith (past : List Entry) (dets : List Det) (numbers : Numb
   pub mentioned : (d : Det) → HasMentions past d (mentions_of numbers lists d)
   pub noted : (d : Det) → has dets d ≡ true → Contains (mentions_of numbers lists d) (length past)
   pub only : (d : Det) (v : ℕ) → Contains (mentions_of numbers lists d) v → ((e : Entry) × (entry_at past v ≡ Some e) × (has (mentioned_by e) d ≡ true)) ⊎ ((v ≡ length past) × (has dets d ≡ true))
+
+-- whether an entry restarts this process, where restarts are meant, or else crashes it
+abbrev pub is_turn_of : Bool → ℕ → Entry → Bool
+is_turn_of restarts p (Crash who) = not restarts && (who.0 == p)
+is_turn_of restarts p (Restart who listed) = restarts && (who.0 == p)
+is_turn_of restarts p _ = false
+
+-- it does so to this one alone, or to none
+abbrev pub IsProcessOf : Bool → Entry → Option ℕ → Type 0
+IsProcessOf restarts e found = MatchOption found
+    ((p : ℕ) → is_turn_of restarts p e ≡ false)
+    (λ q. (p : ℕ) → is_turn_of restarts p e ≡ (q == p))
+
+-- for each process the positions of the entries that do so, and no others: an entry whose position is not there does not
+pub record AreTurnsOf (restarts : Bool) (past : List Entry) (lists : List (List ℕ)) : Type 0 where
+  pub ascend : All (Ascends (length past)) lists
+  pub only : (p v : ℕ) → Contains (list_at lists p) v → (e : Entry) × (entry_at past v ≡ Some e) × (is_turn_of restarts p e ≡ true)
+  pub all : (p v : ℕ) (e : Entry) → entry_at past v ≡ Some e → (Contains (list_at lists p) v → ⊥) → is_turn_of restarts p e ≡ false
+
+-- c is the position of the first crash of p after k, or `end` where there is none before that
+pub record IsFirstCrash (past : List Entry) (p k end c : ℕ) : Type 0 where
+  pub within : c ≤ end
+  pub after : k < c
+  pub found : c < end → IsCrashOf past p c
+  pub none : (v : ℕ) → k < v → v < c → IsCrashOf past p v → ⊥

@@ -5,8 +5,7 @@ use Rattle.causal_name.specs.declared.Det.{Det}
 use Rattle.causal_trace.specs.declared.entry.Entry.{Entry}
 use Rattle.causal_audit.specs.declared.mentions.Mentions.{Mentions}
 use Rattle.causal_audit.specs.declared.turns.Turns.{Turns}
-use Rattle.causal_audit.specs.Inside.ByProcess.{AreTurnsOf}
-use Rattle.causal_audit.specs.Inside.Filed.{Ascends, AreMentions, AreMentionsWith, AreTurns, lists_in, mentions_of}
+use Rattle.causal_audit.specs.Inside.Filed.{AreTurnsOf, Ascends, AreMentions, AreMentionsWith, AreTurns, lists_in, mentions_of}
 
 -- the positions of the crashes and restarts are kept, who is down after each, and the restarts of each process
 pub record AreTurnsKept (past : List Entry) (turns : Turns) : Type 0 where

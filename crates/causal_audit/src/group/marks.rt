@@ -3,9 +3,8 @@ ghost use Rattle.std.specs.Prelude.{◌≡◌, ◌+◌, ◌≤◌, ◌<◌, ◌�
 ghost use Rattle.std.specs.FinSet as set;
 ghost use Rattle.std.specs.List.{All};
 ghost use Rattle.std.specs.List.Sorted.{IsNonDecreasing};
-ghost use Rattle.causal_audit.specs.Inside.Ahead.{HasNoneUntil};
-ghost use Rattle.causal_audit.specs.Inside.Group.{AreMarked, HaveMarked, IsUntouchedBefore, IsMarked};
-ghost use Rattle.causal_audit.specs.Inside.Reaching.{row};
+ghost use Rattle.causal_audit.specs.Inside.Changes.{HasNoneUntil};
+ghost use Rattle.causal_audit.specs.Inside.Group.{AreMarked, HaveMarked, IsUntouchedBefore, IsMarked, row};
 
 use crate::reach::put;
 use crate::scan::{Scan, Window};

@@ -1,7 +1,6 @@
 use Rattle.std.proofs.Common.{◌<◌, ◌∷◌, length, map, sym, ap, subst, ◌∙◌, arith}
 use Rattle.std.proofs.lemmas.List.{length-map}
-use Rattle.causal_audit.specs.Inside.ByProcess.{AreTurnsOf}
-use Rattle.causal_audit.specs.Inside.Filed.{with_added}
+use Rattle.causal_audit.specs.Inside.Filed.{AreTurnsOf, with_added}
 use Rattle.causal_audit.proofs.Filings.{turns_more, turns_same, on_ok}
 use Rattle.causal_audit.proofs.by_process.note.Goals as goal
 

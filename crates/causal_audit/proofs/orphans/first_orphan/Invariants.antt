@@ -1,7 +1,7 @@
 use Rattle.std.proofs.Common.{ℕ, ◌≤◌, ◌-◌, length}
 use Rattle.causal_trace.specs.Past.{instant}
 use Rattle.causal_trace.specs.Judgement.{HasOrphan}
-use Rattle.causal_audit.specs.Inside.Ahead.{AreAhead}
+use Rattle.causal_audit.specs.Inside.Changes.{AreAhead}
 use Rattle.causal_audit.specs.Inside.Sights.{IsSight}
 use Rattle.causal_audit.proofs.orphans.first_orphan.Given as goal
 

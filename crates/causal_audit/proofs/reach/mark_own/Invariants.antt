@@ -1,6 +1,6 @@
 use Rattle.std.proofs.Common.{◌≡◌, length}
 use Rattle.std.specs.Prelude.{vec_capacity}
-use Rattle.causal_audit.specs.Inside.Reaching.{AreOwnRows}
+use Rattle.causal_audit.specs.Inside.Group.{AreOwnRows}
 use Rattle.causal_audit.proofs.reach.mark_own.Given as goal
 
 -- the places so far are in their rows

@@ -2,7 +2,7 @@ use Rattle.std.proofs.Common.{◌≡◌, ◌-◌, ◌<◌, length, get_or, ap, s
 use Rattle.std.proofs.Math.ListN.{set}
 use Rattle.std.specs.FinSet.{empty, insert}
 use Rattle.std.proofs.lemmas.List.{get_or_default}
-use Rattle.causal_audit.specs.Inside.Reaching.{IsPut}
+use Rattle.causal_audit.specs.Inside.Group.{IsPut}
 use Rattle.causal_audit.proofs.GroupWalk.{put_in}
 use Rattle.causal_audit.proofs.reach.put.Goals as goal
 

@@ -2,8 +2,7 @@ use Rattle.std.proofs.Common.{◌≡◌, false, length, reverse, ap, subst, sym,
 use Rattle.std.proofs.lemmas.List.{reverse-reverse}
 use Rattle.causal_trace.specs.State.{past_at}
 use Rattle.causal_trace.proofs.Lemmas.Instants.{past_whole}
-use Rattle.causal_audit.specs.Inside.ByProcess.{AreTurnsOf}
-use Rattle.causal_audit.specs.Inside.Filed.{lists_in}
+use Rattle.causal_audit.specs.Inside.Filed.{AreTurnsOf, lists_in}
 use Rattle.causal_audit.specs.Inside.Spreads.{AreSpreads, process_at}
 use Rattle.causal_audit.proofs.survey.windows_of.Goals as goal
 

@@ -3,7 +3,7 @@ use Rattle.std.specs.Prelude.{Contains}
 use Rattle.std.specs.List.Sorted.{IsNonDecreasing}
 use Rattle.std.proofs.lemmas.List.{get_or-map, length-map}
 use Rattle.std.proofs.lemmas.List.Elements.{All-get_or}
-use Rattle.causal_audit.specs.Inside.Ahead.{HasNoneUntil}
+use Rattle.causal_audit.specs.Inside.Changes.{HasNoneUntil}
 use Rattle.causal_audit.specs.Inside.Filed.{list_at, lists_in}
 use Rattle.causal_audit.proofs.by_process.ByProcess.next_of.Goals as goal
 

@@ -2,8 +2,7 @@ use Rattle.std.proofs.Common.{◌≡◌, ◌<◌, [], ℕ, List, Vec, Global, le
 use Rattle.std.proofs.lemmas.List.Elements.{All-map}
 use Rattle.causal_trace.specs.State.{past_at}
 use Rattle.causal_trace.proofs.Lemmas.Instants.{past_more, past_length}
-use Rattle.causal_audit.specs.Inside.ByProcess.{AreTurnsOf}
-use Rattle.causal_audit.specs.Inside.Filed.{lists_in}
+use Rattle.causal_audit.specs.Inside.Filed.{AreTurnsOf, lists_in}
 use Rattle.causal_audit.proofs.Filings.{turns_ascend, turns_of_none}
 use Rattle.causal_audit.proofs.by_process.ByProcess.of.Goals as goal
 

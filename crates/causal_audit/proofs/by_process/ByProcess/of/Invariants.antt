@@ -1,7 +1,6 @@
 use Rattle.std.proofs.Common.{◌≡◌, vec_len}
 use Rattle.causal_trace.specs.State.{past_at}
-use Rattle.causal_audit.specs.Inside.ByProcess.{AreTurnsOf}
-use Rattle.causal_audit.specs.Inside.Filed.{lists_in}
+use Rattle.causal_audit.specs.Inside.Filed.{AreTurnsOf, lists_in}
 use Rattle.causal_audit.proofs.by_process.ByProcess.of.Given as goal
 
 -- those of the entries so far

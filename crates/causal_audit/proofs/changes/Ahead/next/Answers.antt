@@ -2,7 +2,7 @@ use Rattle.std.proofs.Common.{ℕ, ◌≡◌, ◌≤◌, inl, inr, true, List, s
 use Rattle.std.specs.Prelude.{◌↔◌, ◌==◌, Contains}
 use Rattle.std.proofs.lemmas.Bool.{eqb-true}
 use Rattle.std.proofs.lemmas.Bool.Decides.{eqb_tells}
-use Rattle.causal_audit.specs.Inside.Ahead.{HasNoneUntil}
+use Rattle.causal_audit.specs.Inside.Changes.{HasNoneUntil}
 use Rattle.causal_audit.proofs.changes.Ahead.next.Goals as goal
 
 pub returns-clause-bounds : goal.returns-clause-bounds

@@ -1,5 +1,5 @@
 use Rattle.std.proofs.Common.{ℕ, ◌-◌, List, length}
-use Rattle.causal_audit.specs.Inside.Ahead.{IsCursor}
+use Rattle.causal_audit.specs.Inside.Changes.{IsCursor}
 use Rattle.causal_audit.proofs.cursor.Cursor.next.Given as goal
 
 -- what has been passed is below

@@ -1,6 +1,6 @@
 use Rattle.std.proofs.Common.{◌≡◌, ◌+◌, ◌<◌, length, Some, sym, subst, ◌∙◌, arith}
 use Rattle.causal_audit.specs.Inside.Filed.{number_of}
-use Rattle.causal_audit.specs.Inside.Thins.{AreThins}
+use Rattle.causal_audit.specs.Inside.Looks.{AreThins}
 use Rattle.causal_audit.proofs.Filings.{number_below}
 use Rattle.causal_audit.proofs.looks.Looks.find.Goals as goal
 

@@ -1,5 +1,5 @@
 use Rattle.std.proofs.Common.{◌≡◌, length}
-use Rattle.causal_audit.specs.Inside.AllLooks.{AreLooksBelow}
+use Rattle.causal_audit.specs.Inside.Looks.{AreLooksBelow}
 use Rattle.causal_audit.proofs.looks.Looks.of.Given as goal
 
 -- those of the numbers so far

@@ -1,5 +1,5 @@
 use Rattle.std.proofs.Common.{sym, subst, arith}
-use Rattle.causal_audit.specs.Inside.Reaching.{TellsReached}
+use Rattle.causal_audit.specs.Inside.Group.{TellsReached}
 use Rattle.causal_audit.proofs.Reaching.{told_before, told_at}
 use Rattle.causal_audit.proofs.reach.Reach.reaching.Goals as goal
 

@@ -1,8 +1,7 @@
 use Rattle.std.proofs.Common.{ℕ, ◌≡◌, ◌<◌, ◌≤◌, true, length}
 use Rattle.std.specs.Prelude.{vec_capacity}
 use Rattle.std.specs.FinSet.{contains}
-use Rattle.causal_audit.specs.Inside.Group.{AreMarked}
-use Rattle.causal_audit.specs.Inside.Reaching.{row}
+use Rattle.causal_audit.specs.Inside.Group.{AreMarked, row}
 use Rattle.causal_audit.proofs.scan.Scan.mark_all.Given as goal
 
 -- the places so far are marked, and no others

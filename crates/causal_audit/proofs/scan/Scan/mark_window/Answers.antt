@@ -3,9 +3,8 @@ use Rattle.std.specs.Prelude.{Contains}
 use Rattle.std.specs.FinSet.{contains}
 use Rattle.causal_trace.specs.Past.{has, instant}
 use Rattle.causal_audit.specs.Quiet.{mentioned_by}
-use Rattle.causal_audit.specs.Inside.Group.{IsMarked}
+use Rattle.causal_audit.specs.Inside.Group.{IsMarked, row}
 use Rattle.causal_audit.specs.Inside.Filed.{lists_in, mentions_of}
-use Rattle.causal_audit.specs.Inside.Reaching.{row}
 use Rattle.causal_audit.specs.Inside.Scans.{Scanned}
 use Rattle.causal_audit.proofs.Staying.{mentioned_listed}
 use Rattle.causal_audit.proofs.Steps.{entry_then}

@@ -3,8 +3,7 @@ use Rattle.causal_trace.specs.Past.{det_at}
 use Rattle.std.proofs.lemmas.List.{map-append}
 use Rattle.std.proofs.lemmas.List.Elements.{All-push}
 use Rattle.causal_audit.specs.declared.scan.Window.{Window}
-use Rattle.causal_audit.specs.Inside.Scans.{IsWindow, positions_of}
-use Rattle.causal_audit.specs.Inside.Surveys.{AreGathered, AreUncovered, Asked}
+use Rattle.causal_audit.specs.Inside.Scans.{IsWindow, positions_of, AreGathered, AreUncovered, Asked}
 use Rattle.causal_audit.proofs.Uncovered.{one_gathered, one_left_out}
 use Rattle.causal_audit.proofs.Windowed.{position}
 use Rattle.causal_audit.proofs.survey.Survey.gather.Goals as goal

@@ -1,7 +1,6 @@
 use Rattle.std.proofs.Common.{sym, subst}
 use Rattle.std.proofs.lemmas.List.Elements.{All-nil}
-use Rattle.causal_audit.specs.Inside.Scans.{IsWindow}
-use Rattle.causal_audit.specs.Inside.Surveys.{AreGathered}
+use Rattle.causal_audit.specs.Inside.Scans.{IsWindow, AreGathered}
 use Rattle.causal_audit.proofs.Uncovered.{none_gathered}
 use Rattle.causal_audit.proofs.survey.Survey.uncovered.Goals as goal
 

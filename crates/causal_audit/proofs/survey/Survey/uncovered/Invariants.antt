@@ -1,4 +1,4 @@
-use Rattle.causal_audit.specs.Inside.Surveys.{AreGathered}
+use Rattle.causal_audit.specs.Inside.Scans.{AreGathered}
 use Rattle.causal_audit.proofs.survey.Survey.uncovered.Given as goal
 
 -- those so far are gathered

@@ -1,9 +1,9 @@
 use Rattle.std.proofs.Common.{◌≡◌, inl, inr, get_or, Some, refl, arith}
 use Rattle.std.proofs.lemmas.Bool.{cases_lt}
 use Rattle.causal_trace.specs.Past.{det_at, instant}
-use Rattle.causal_audit.specs.Inside.AllLooks.{AreAllLooks}
+use Rattle.causal_audit.specs.Inside.Looks.{AreAllLooks}
 use Rattle.causal_audit.specs.Inside.Filed.{lists_in}
-use Rattle.causal_audit.specs.Inside.Surveys.{most_of}
+use Rattle.causal_audit.specs.Inside.Scans.{most_of}
 use Rattle.causal_audit.proofs.Receivers.{stays_with, orphan_open}
 use Rattle.causal_audit.proofs.Filings.{first_crash_is}
 use Rattle.causal_audit.proofs.Staying.{of_most}

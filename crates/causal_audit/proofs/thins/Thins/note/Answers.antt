@@ -1,6 +1,6 @@
 use Rattle.std.proofs.Common.{ℕ, ◌≤◌, refl, subst, arith}
 use Rattle.causal_audit.specs.declared.thin.Standing.TheVariants.{Kept}
-use Rattle.causal_audit.specs.Inside.Standing.{RulesOut}
+use Rattle.causal_audit.specs.Inside.Looks.{RulesOut}
 use Rattle.causal_audit.proofs.Thinned.{none_more, one_more}
 use Rattle.causal_audit.proofs.thins.Thins.note.Goals as goal
 

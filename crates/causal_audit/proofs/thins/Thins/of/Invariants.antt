@@ -1,6 +1,5 @@
 use Rattle.std.proofs.Common.{◌+◌, ◌-◌, ◌≤◌}
-use Rattle.causal_audit.specs.Inside.Looks.{IsStop}
-use Rattle.causal_audit.specs.Inside.Thins.{AreFound}
+use Rattle.causal_audit.specs.Inside.Looks.{IsStop, AreFound}
 use Rattle.causal_audit.proofs.thins.Thins.of.Given as goal
 
 -- all before the instant to which the look has come is found
