@@ -21,7 +21,7 @@ use Rattle.causal_name.specs.Names.{same_det}
 use Rattle.causal_name.specs.Sets.{count_below}
 use Rattle.causal_trace.specs.Judgement.{HasOrphan}
 use Rattle.causal_audit.specs.Laws.{gone, IsExposed}
-use Rattle.causal_audit.specs.Inside.Group.{IsDeliveredTo}
+use Rattle.causal_audit.specs.Inside.Group.Walk.{IsDeliveredTo}
 use Rattle.causal_audit.specs.declared.sight.Sight.{Sight}
 use Rattle.causal_audit.specs.Quiet.{is_turn, mentioned_by, IsQuiet, AreQuiet, Agree, InstantsAgree, OrphansAgree}
 use Rattle.causal_trace.proofs.Lemmas.AtInstants.{instants_stay, one_more_instant, last_instant, accepted_then, det_then, det_within, instant_length}

@@ -17,7 +17,7 @@ use Rattle.causal_audit.specs.declared.sight.Sight.{Sight}
 use Rattle.causal_audit.specs.Inside.Sights.{IsSight, IsUnheard, Shows}
 use Rattle.causal_audit.specs.Laws.{gone}
 use Rattle.causal_audit.specs.Verdicts.{IsLeastOrphan}
-use Rattle.causal_audit.proofs.Staying.{gone_many, gone_shown}
+use Rattle.causal_audit.proofs.look.Staying.{gone_many, gone_shown}
 use Rattle.causal_audit.proofs.Lemmas.Judged.{exposed, crash_contains, orphan_without, gone_crash, gone_orphan}
 use Rattle.causal_audit.proofs.Legal.{event_inside}
 use Rattle.causal_audit.proofs.Shown.{shows_none, down_inside, logs_inside}

@@ -13,7 +13,7 @@ use Rattle.causal_trace.specs.Dependence.{actor, is_delivery_of, IsEventOf, in_o
 use Rattle.causal_trace.proofs.Lemmas.Reached.{event_below, reaches_old, reaches_newest, ReachesNewest, is_newest, in_lane, through_message, reaches_begins, depends_restarted}
 use Rattle.causal_trace.proofs.Lemmas.Accepted.{accepted_forward}
 use Rattle.causal_audit.proofs.Between.{reaches_more, IsNoTurn, depends_before}
-use Rattle.causal_audit.proofs.Link.{delivers_below}
+use Rattle.causal_audit.proofs.by_clock.Link.{delivers_below}
 use Rattle.causal_name.specs.Sets.{count_below}
 use Rattle.causal_holders.proofs.Lemmas.Counting.{count_below-within}
 use Rattle.causal_trace.specs.Judgement.{HasOrphan}
@@ -21,7 +21,7 @@ use Rattle.causal_audit.specs.Laws.{gone}
 use Rattle.causal_audit.specs.Lasting.{may_release}
 use Rattle.causal_audit.specs.Sweep.{MayNewlyFail, SweepLaw, OneNewOrphan}
 use Rattle.causal_audit.proofs.Lemmas.Judged.{exposed, unexposed, orphan_without}
-use Rattle.causal_audit.proofs.Staying.{stable_more, gone_more}
+use Rattle.causal_audit.proofs.look.Staying.{stable_more, gone_more}
 use Rattle.causal_audit.proofs.Legal.{sends_up}
 
 -- ==== whether an event reaches another, and whether a process depends on a delivery, is decided

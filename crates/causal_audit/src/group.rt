@@ -3,6 +3,8 @@
 pub mod held;
 pub mod marks;
 pub mod ordered;
+pub mod reach;
 pub mod room;
+pub mod scan;
 pub mod seen;
 pub mod walk;

@@ -1,10 +1,10 @@
 //! The memory of a walk over the entries for a group of deliveries, which is made once for all groups.
 ghost use Rattle.std.specs.Prelude.{◌≡◌, ◌≤◌, ◌<◌, ◌↔◌, ℕ, IfOk, length};
 ghost use Rattle.std.specs.List.{All};
-ghost use Rattle.causal_audit.specs.Inside.Group.{ArePlaces, HasRoom, HasRowsFor, IsFollowed, IsUntouchedBefore, sight_at};
+ghost use Rattle.causal_audit.specs.Inside.Group.Walk.{ArePlaces, HasRoom, HasRowsFor, IsFollowed, IsUntouchedBefore, sight_at};
 
-use crate::reach::{Reach, clear, make_empty};
-use crate::scan::{Scan, Window};
+use crate::group::reach::{Reach, clear, make_empty};
+use crate::group::scan::{Scan, Window};
 use crate::sight::Sight;
 use causal_holders::Holders;
 use causal_name::NoMemory;

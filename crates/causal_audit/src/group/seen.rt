@@ -3,14 +3,14 @@ ghost use Rattle.std.specs.Prelude.{◌≡◌, ◌<◌, ◌+◌, ◌⊎◌, ℕ,
 ghost use Rattle.std.specs.FinSet as set;
 ghost use Rattle.causal_audit.specs.Quiet.{is_turn};
 ghost use Rattle.causal_audit.specs.Inside.Among.{FirstBreachBy, HasNoOrphanBy, LeastAmongBy};
-ghost use Rattle.causal_audit.specs.Inside.Group.{AreHeldBefore, AreKnown, ArePlaces, HaveNone, IsKnown, IsLeastIn, IsStep, position_at, sight_at};
-ghost use Rattle.causal_audit.specs.Inside.Scans.{positions_of};
+ghost use Rattle.causal_audit.specs.Inside.Group.Walk.{AreHeldBefore, AreKnown, ArePlaces, HaveNone, IsKnown, IsLeastIn, IsStep, position_at, sight_at};
+ghost use Rattle.causal_audit.specs.Inside.Group.Scans.{positions_of};
 
 use crate::breach::{Breach, earlier};
-use crate::orphans::{breach_at, is_reached};
-use crate::scan::Window;
+use crate::by_clock::orphans::{breach_at, is_reached};
+use crate::group::scan::Window;
+use crate::index::turns::is_turn;
 use crate::sight::Sight;
-use crate::turns::is_turn;
 use causal_holders::Holders;
 use causal_trace::entry::Entry;
 use causal_trace::trace::Trace;

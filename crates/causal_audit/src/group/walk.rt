@@ -2,15 +2,15 @@
 ghost use Rattle.std.specs.Prelude.{◌≤◌, ℕ, length};
 ghost use Rattle.std.specs.List.{All};
 ghost use Rattle.causal_audit.specs.Inside.Among.{LeastAmongBy};
-ghost use Rattle.causal_audit.specs.Inside.Group.{HasRoom, HasRowsFor, HaveNone, IsFollowed};
-ghost use Rattle.causal_audit.specs.Inside.Scans.{IsDeliveryAt, IsWindow, positions_of};
+ghost use Rattle.causal_audit.specs.Inside.Group.Walk.{HasRoom, HasRowsFor, HaveNone, IsFollowed};
+ghost use Rattle.causal_audit.specs.Inside.Group.Scans.{IsDeliveryAt, IsWindow, positions_of};
 
 use crate::breach::{Breach, earlier, horizon};
 use crate::group::held::{held_by, hold};
+use crate::group::reach::set_at;
 use crate::group::room::{Room, places_of};
+use crate::group::scan::{Scan, Window, last_of};
 use crate::group::seen::{Step, see_step};
-use crate::reach::set_at;
-use crate::scan::{Scan, Window, last_of};
 use causal_trace::trace::Trace;
 
 /// How many deliveries are followed by one walk.

@@ -1,5 +1,5 @@
 use Rattle.std.proofs.Common.{ℕ, ◌≡◌, ◌<◌, length}
-use Rattle.causal_audit.specs.Inside.Group.{sight_at}
+use Rattle.causal_audit.specs.Inside.Group.Walk.{sight_at}
 use Rattle.causal_audit.proofs.group.room.fill.Given as goal
 
 -- those so far are the same

@@ -1,5 +1,5 @@
 use Rattle.std.specs.FinSet.{len}
-use Rattle.causal_audit.proofs.GroupWalk.{HaveSeen}
+use Rattle.causal_audit.proofs.group.GroupWalk.{HaveSeen}
 use Rattle.causal_audit.proofs.group.seen.see_each.Given as goal
 
 -- those of the places that are not left have been seen

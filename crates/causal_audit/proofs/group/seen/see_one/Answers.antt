@@ -5,9 +5,9 @@ use Rattle.std.proofs.lemmas.List.{get_or-set_same, get_or_default}
 use Rattle.std.specs.Prelude.{false}
 use Rattle.causal_audit.specs.declared.sight.Sight.{Sight}
 use Rattle.causal_audit.specs.Inside.Sights.{TellsBreachAt, IsSightAfter}
-use Rattle.causal_audit.specs.Inside.Changes.{IsReachedBy}
-use Rattle.causal_audit.specs.Inside.Group.{IsKnown, position_at, sight_at}
-use Rattle.causal_audit.proofs.GroupWalk.{known_next, found_next}
+use Rattle.causal_audit.specs.Inside.ByClock.Changes.{IsReachedBy}
+use Rattle.causal_audit.specs.Inside.Group.Walk.{IsKnown, position_at, sight_at}
+use Rattle.causal_audit.proofs.group.GroupWalk.{known_next, found_next}
 use Rattle.causal_audit.proofs.group.seen.see_one.Goals as goal
 
 abbrev zero : Sight

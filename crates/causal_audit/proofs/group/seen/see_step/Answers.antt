@@ -1,6 +1,6 @@
 use Rattle.std.proofs.Common.{◌+◌, inl, inr, sym, subst}
-use Rattle.causal_audit.specs.Inside.Group.{IsKnown, sight_at}
-use Rattle.causal_audit.proofs.GroupWalk.{least_in_all, known_still, none_still, in_or_out}
+use Rattle.causal_audit.specs.Inside.Group.Walk.{IsKnown, sight_at}
+use Rattle.causal_audit.proofs.group.GroupWalk.{least_in_all, known_still, none_still, in_or_out}
 use Rattle.causal_audit.proofs.group.seen.see_step.Goals as goal
 
 pub returns-clause-known : goal.returns-clause-known

@@ -2,9 +2,9 @@ use Rattle.std.proofs.Common.{◌≡◌, ◌∙◌, ◌+◌, ◌-◌, ◌<◌, �
 use Rattle.causal_trace.specs.Past.{instant}
 use Rattle.causal_trace.specs.Judgement.{HasOrphan}
 use Rattle.causal_audit.specs.Inside.Among.{LeastAmongBy}
-use Rattle.causal_audit.specs.Inside.Scans.{positions_of}
-use Rattle.causal_audit.specs.Inside.Group.{row, IsHeldBy, IsHeldSo}
-use Rattle.causal_audit.proofs.GroupWalk.{place_of, held_then, mentions_here, is_step, told_after, room_stays, none_of_all}
+use Rattle.causal_audit.specs.Inside.Group.Scans.{positions_of}
+use Rattle.causal_audit.specs.Inside.Group.Walk.{row, IsHeldBy, IsHeldSo}
+use Rattle.causal_audit.proofs.group.GroupWalk.{place_of, held_then, mentions_here, is_step, told_after, room_stays, none_of_all}
 use Rattle.causal_audit.proofs.Steps.{next_state, entry_read}
 use Rattle.causal_audit.proofs.group.walk.follow.Goals as goal
 
