@@ -4,7 +4,7 @@ use Rattle.std.specs.Prelude.{◌⊎◌, ◌↔◌, ◌&&◌, ◌||◌, not, ◌
 use Rattle.std.specs.Ordering.{nat_cmp}
 use Rattle.std.specs.FinSet.{FinSet, contains, insert, remove}
 use Rattle.std.proofs.lemmas.Bool.{false≢true, eq-eqb, ne_eqb, cases_lt, cond-true, cond-false}
-use Rattle.std.proofs.lemmas.Bool.Decides.{eqb_tells}
+use Rattle.std.proofs.lemmas.Bool.Decides.{eqb_tells, nat_tests}
 use Rattle.causal_name.specs.declared.Pid.{Pid}
 use Rattle.causal_name.specs.declared.Det.{Det}
 use Rattle.causal_trace.specs.declared.entry.Entry.{Entry}
@@ -176,16 +176,13 @@ no_turn_stays (Restart who listed) past h p = absurd (false≢true (sym h))
 no_turn_stays (Forget who listed) past h p = (refl, refl)
 
 or_unlisted : (w l b : Bool) → l ≡ false → b ≡ ((w && l) || b)
-or_unlisted true l b h = ap (λ x. x || b) (sym h)
-or_unlisted false l b h = refl
+or_unlisted w l b h = grind (arith, nat_tests)
 
 and_unlisted : (w l b : Bool) → l ≡ false → b ≡ (not (w && l) && b)
-and_unlisted true l b h = ap (λ x. not x && b) (sym h)
-and_unlisted false l b h = refl
+and_unlisted w l b h = grind (arith, nat_tests)
 
 or_false : (a b : Bool) → (a || false) ≡ false → b ≡ (a || b)
-or_false true b h = absurd (false≢true (sym h))
-or_false false b h = refl
+or_false a b h = grind (arith, nat_tests)
 
 pub logs_stay : (e : Entry) (past : List Entry) (d : Det) → is_turn e ≡ false → has (mentioned_by e) d ≡ false → (p : ℕ) → logs past p d ≡ logs (e ∷ past) p d
 logs_stay (Send from to ssn) past d h l p = refl
@@ -219,12 +216,10 @@ quiet_step n e past k d formed quiet = record {
 
 -- a delivery to a process that logs d already, and on which it does not newly depend, changes nothing
 held_or : (a b : Bool) → b ≡ true → b ≡ (a || b)
-held_or true b h = h
-held_or false b h = refl
+held_or a b h = grind (arith, nat_tests)
 
 apart_or : (a l b : Bool) → a ≡ false → b ≡ ((a && l) || b)
-apart_or true l b h = absurd (false≢true (sym h))
-apart_or false l b h = refl
+apart_or a l b h = grind (arith, nat_tests)
 
 pub held_step : (n : ℕ) (e : Entry) (past : List Entry) (k : ℕ) (d : Det) → AreAccepted n (e ∷ past) → IsDeliveredTo e past d
     → ((p : ℕ) → actor e ≡ Some p → Reaches (e ∷ past) k (length past) → Depends past k p) → Agree past (e ∷ past) k d

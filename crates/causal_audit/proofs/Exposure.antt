@@ -5,6 +5,7 @@ use Rattle.std.specs.Ordering.{nat_cmp}
 use Rattle.std.specs.Cmp.{nat_cmp_total}
 use Rattle.std.specs.FinSet.{FinSet, contains, empty, union, difference, len, contains-empty, contains-difference}
 use Rattle.std.proofs.lemmas.Bool.{false≢true, or_cases}
+use Rattle.std.proofs.lemmas.Bool.Decides.{nat_tests}
 use Rattle.causal_name.specs.declared.Det.{Det}
 use Rattle.causal_name.specs.Sets.{count_below}
 use Rattle.causal_holders.specs.Members.{IsLeast}
@@ -31,9 +32,7 @@ sight_begun past k d down shown none = record {
 }
 
 not_parts : (a b : Bool) → (a && not b) ≡ true → (a ≡ true) × (b ≡ false)
-not_parts true true h = absurd (false≢true h)
-not_parts true false h = (refl, refl)
-not_parts false b h = absurd (false≢true h)
+not_parts a b h = grind (arith, nat_tests)
 
 pub depends_inside : (n : ℕ) (past : List Entry) (k p : ℕ) → AreAccepted n past → Depends past k p → p < n
 depends_inside n past k p formed d = event_inside n past formed d.event p _ d.present

@@ -1,11 +1,11 @@
 -- What one more entry makes of the sets that show who is down and who holds a determinant.
-use Rattle.std.proofs.Common.{ℕ, ◌≡◌, ◌<◌, inl, inr, Bool, true, false, List, [], ◌∷◌, None, refl, sym, ap, subst, ◌∙◌}
+use Rattle.std.proofs.Common.{ℕ, ◌≡◌, ◌<◌, inl, inr, Bool, true, false, List, [], ◌∷◌, None, refl, sym, ap, subst, ◌∙◌, arith}
 use Rattle.std.specs.Prelude.{◌&&◌, ◌||◌, ◌==◌, not, nat_lt}
 use Rattle.std.specs.Ordering.{nat_cmp}
 use Rattle.std.specs.Cmp.{nat_cmp_total, unsigned_tied}
 use Rattle.std.specs.FinSet.{FinSet, contains, empty, insert, remove, len, contains-empty, contains-insert, contains-remove}
 use Rattle.std.proofs.lemmas.Bool.{false≢true, cases_lt, le-ltb, eqb-true, and_parts, or_cases}
-use Rattle.std.proofs.lemmas.Bool.Decides.{eqb_tells}
+use Rattle.std.proofs.lemmas.Bool.Decides.{eqb_tells, nat_tests}
 use Rattle.causal_name.specs.declared.Pid.{Pid}
 use Rattle.causal_name.specs.declared.Det.{Det}
 use Rattle.causal_name.specs.Sets.{count_below}
@@ -33,8 +33,7 @@ pub removed : (s : FinSet nat_cmp) (p q : ℕ) → contains (remove s p) q ≡ (
 removed s p q = contains-remove nat_cmp_total s p q ∙ ap (λ b. not b && contains s q) (unsigned_tied q p ∙ same_number p q)
 
 and_true : (a b : Bool) → b ≡ true → a ≡ (a && b)
-and_true true b h = sym h
-and_true false b h = refl
+and_true a b h = grind (arith, nat_tests)
 
 not_and_true : (a b : Bool) → b ≡ true → not a ≡ not (a && b)
 not_and_true a b h = ap not (and_true a b h)

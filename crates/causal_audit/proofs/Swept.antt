@@ -2,7 +2,7 @@
 use Rattle.std.proofs.Common.{ℕ, zero, suc, ◌≡◌, ◌<◌, inl, inr, true, false, List, [], ◌∷◌, length, Option, Some, None, refl, sym, subst, ◌∙◌, ap, arith, ◌+◌, ◌≤◌, Bool, cond}
 use Rattle.std.specs.Prelude.{◌⊎◌, ◌&&◌, ◌||◌, ◌==◌, not}
 use Rattle.std.proofs.lemmas.Bool.{false≢true, cases_Bool, cases_lt, eqb-true, eq-eqb, or_parts, false_from_ne_true, cond-true, cond-false, ne_eqb}
-use Rattle.std.proofs.lemmas.Bool.Decides.{eqb_tells}
+use Rattle.std.proofs.lemmas.Bool.Decides.{eqb_tells, nat_tests}
 use Rattle.causal_name.specs.declared.Pid.{Pid}
 use Rattle.causal_name.specs.declared.Det.{Det}
 use Rattle.causal_trace.specs.declared.entry.Entry.{Entry}
@@ -194,8 +194,7 @@ stored n f past k d det formed at has =
     (stable_fewer (Stable det) past d x.unstable) x.few x.without
 
 held_by_other : (w b : Bool) → w ≡ false → (not w && b) ≡ false → b ≡ false
-held_by_other true b h k = absurd (false≢true (sym h))
-held_by_other false b h k = k
+held_by_other w b h k = grind (arith, nat_tests)
 
 pub crashed : (n f : ℕ) (past : List Entry) (k : ℕ) (d : Det) (who : Pid) → AreAccepted n (Crash who ∷ past) → det_at (Crash who ∷ past) k ≡ Some d
     → HasOrphan n f (Crash who ∷ past) k → HasOrphan n f past k
@@ -209,15 +208,10 @@ crashed n f past k d who formed at has =
 -- ---- a forgetting that does not list it
 
 unforgotten : (a w h b : Bool) → h ≡ false → (a || b) ≡ true → (a || (not (w && h) && b)) ≡ true
-unforgotten true w h b miss k = refl
-unforgotten false true true b miss k = absurd (false≢true (sym miss))
-unforgotten false true false b miss k = k
-unforgotten false false h b miss k = k
+unforgotten a w h b miss k = grind (arith, nat_tests)
 
 not_held : (w h b : Bool) → h ≡ false → (not (w && h) && b) ≡ false → b ≡ false
-not_held true true b miss k = absurd (false≢true (sym miss))
-not_held true false b miss k = k
-not_held false h b miss k = k
+not_held w h b miss k = grind (arith, nat_tests)
 
 pub forgotten : (n f : ℕ) (past : List Entry) (k : ℕ) (d : Det) (who : Pid) (listed : List Det) → AreAccepted n (Forget who listed ∷ past) → det_at (Forget who listed ∷ past) k ≡ Some d
     → has listed d ≡ false → HasOrphan n f (Forget who listed ∷ past) k → HasOrphan n f past k
@@ -231,9 +225,7 @@ forgotten n f past k d who listed formed at miss orphaned =
 -- ---- a restart that lists it
 
 relisted : (w a h b : Bool) → h ≡ true → (a || b) ≡ true → ((not w && a) || ((w && h) || b)) ≡ true
-relisted true a true b hit k = refl
-relisted true a false b hit k = absurd (false≢true hit)
-relisted false a h b hit k = k
+relisted w a h b hit k = grind (arith, nat_tests)
 
 pub restarted : (n f : ℕ) (past : List Entry) (k : ℕ) (d : Det) (who : Pid) (listed : List Det) → AreAccepted n (Restart who listed ∷ past) → det_at (Restart who listed ∷ past) k ≡ Some d
     → has listed d ≡ true → HasOrphan n f (Restart who listed ∷ past) k → HasOrphan n f past k

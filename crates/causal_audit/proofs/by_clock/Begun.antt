@@ -1,5 +1,7 @@
 -- What is known where the walk of a delivery begins.
 use Rattle.std.proofs.Common.{ℕ, zero, suc, ◌≡◌, ◌+◌, ◌-◌, ◌<◌, ◌≤◌, Bool, true, false, List, ◌∷◌, length, Some, refl, sym, ap, subst, ◌∙◌, arith}
+use Rattle.std.proofs.lemmas.Bool.{and_right}
+use Rattle.std.proofs.lemmas.Bool.Decides.{nat_tests}
 use Rattle.std.specs.Prelude.{◌||◌, ◌&&◌, ◌==◌, not}
 use Rattle.causal_name.specs.declared.Det.{Det}
 use Rattle.causal_trace.specs.declared.entry.Entry.{Entry}
@@ -42,20 +44,15 @@ down_stays past s t up within quiet p =
 -- ---- before the first mention
 
 or_none : (w l b : Bool) → l ≡ false → b ≡ false → ((w && l) || b) ≡ false
-or_none true l b h k = ap (λ x. x || b) h ∙ k
-or_none false l b h k = k
-
-and_none : (w b : Bool) → b ≡ false → (not w && b) ≡ false
-and_none true b k = refl
-and_none false b k = k
+or_none w l b h k = grind (arith, nat_tests)
 
 unlogged_stays : (e : Entry) (past : List Entry) (d : Det) → has (mentioned_by e) d ≡ false → (p : ℕ) → logs past p d ≡ false → logs (e ∷ past) p d ≡ false
 unlogged_stays (Send from to ssn) past d h p none = none
 unlogged_stays (Deliver to send rsn listed) past d h p none = or_none (to.0 == p) (has listed d) (logs past p d) h none
 unlogged_stays (Stable det) past d h p none = none
-unlogged_stays (Crash who) past d h p none = and_none (who.0 == p) (logs past p d) none
+unlogged_stays (Crash who) past d h p none = and_right (not (who.0 == p)) (logs past p d) none
 unlogged_stays (Restart who listed) past d h p none = or_none (who.0 == p) (has listed d) (logs past p d) h none
-unlogged_stays (Forget who listed) past d h p none = and_none (who.0 == p && has listed d) (logs past p d) none
+unlogged_stays (Forget who listed) past d h p none = and_right (not (who.0 == p && has listed d)) (logs past p d) none
 
 -- before the delivery and the first mention of its determinant nothing is known of it
 pub unheard_before : (past : List Entry) (k : ℕ) (d : Det) (t : ℕ) → MentionsNone past d 0 t → t ≤ k → t ≤ length past → IsUnheard (instant past t) k d

@@ -3,6 +3,7 @@ use Rattle.std.proofs.Common.{ℕ, zero, suc, ◌≡◌, ◌-◌, ◌<◌, ◌�
 use Rattle.std.specs.Prelude.{OnOk, ◌↔◌, ◌⊎◌, ◌||◌, Contains}
 use Rattle.std.specs.Result.{is_err}
 use Rattle.std.proofs.lemmas.Bool.{false≢true, or_cases, eqb-true, eq-eqb, cases_lt, or_left, or_right}
+use Rattle.std.proofs.lemmas.Bool.Decides.{nat_tests}
 use Rattle.causal_trace.specs.declared.entry.Entry.{Entry}
 use Rattle.causal_trace.specs.Past.{instant, det_at, lane, entry_at}
 use Rattle.causal_trace.specs.Rows.{AreAccepted, Recording, IsWellFormed}
@@ -105,11 +106,7 @@ module _ (n : ℕ) (past : List Entry) (k : ℕ) (depends : ℕ → Bool) (are :
       ]
 
       one_of : (a b c : Bool) → (a ≡ true) ⊎ ((b ≡ true) ⊎ (c ≡ true)) → (a || (b || c)) ≡ true
-      one_of true b c h = refl
-      one_of false true c h = refl
-      one_of false false c (inl h) = absurd (false≢true h)
-      one_of false false c (inr (inl h)) = absurd (false≢true h)
-      one_of false false c (inr (inr h)) = h
+      one_of a b c h = grind (arith, nat_tests)
 
       how : ReachesNewest e past k p → (own || (depends to.0 || brings)) ≡ true
       how (is_newest is) = one_of own (depends to.0) brings (inl (is_own.1 (sym is)))

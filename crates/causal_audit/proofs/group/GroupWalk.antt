@@ -3,7 +3,7 @@ use Rattle.std.proofs.Common.{ℕ, ◌≡◌, ◌+◌, ◌++◌, ◌<◌, inl, i
 use Rattle.std.specs.Prelude.{◌⊎◌, Contains, ◌&&◌, ◌==◌, not, ◌↔◌, vec_capacity, ◌||◌}
 use Rattle.std.specs.Ordering.{nat_cmp}
 use Rattle.std.specs.FinSet.{FinSet, contains, remove, empty, union, difference, contains-empty, contains-union, contains-difference, insert}
-use Rattle.std.proofs.lemmas.Bool.{or_cases, or_left, or_right, false≢true, eqb-true, eq-eqb}
+use Rattle.std.proofs.lemmas.Bool.{or_cases, or_left, or_right, false≢true, eqb-true, eq-eqb, and_from, cases_Bool}
 use Rattle.std.proofs.lemmas.List.Elements.{Contains-push, Contains-push_cases, Contains-append_left, Contains-get_or}
 use Rattle.std.proofs.lemmas.List.{length-map, get_or-map, get_or-set_same, get_or-set_other, take_min}
 use Rattle.causal_name.specs.declared.Det.{Det}
@@ -33,7 +33,7 @@ use Rattle.causal_audit.proofs.by_clock.Reached.{reached_after}
 use Rattle.causal_audit.proofs.Steps.{up_to_next}
 use Rattle.causal_audit.proofs.group.Windowed.{position}
 use Rattle.std.specs.Cmp.{nat_cmp_total}
-use Rattle.std.proofs.lemmas.Bool.Decides.{eqb_tells}
+use Rattle.std.proofs.lemmas.Bool.Decides.{eqb_tells, nat_tests}
 use Rattle.causal_name.specs.declared.Pid.{Pid}
 use Rattle.causal_trace.specs.declared.entry.Entry.TheVariants.{Deliver, Crash, Restart, Forget, Send, Stable}
 use Rattle.causal_trace.specs.Limits.{max_entries}
@@ -189,11 +189,7 @@ seen_more r f windows t places rest old mid new least found p within so_far same
 -- ---- all of them
 
 pub in_or_out : (s : FinSet nat_cmp) (j : ℕ) → (contains s j ≡ true) ⊎ (contains s j ≡ false)
-in_or_out s j = either (contains s j)
-  where
-    either : (b : Bool) → (b ≡ true) ⊎ (b ≡ false)
-    either true = inl refl
-    either false = inr refl
+in_or_out s j = cases_Bool (contains s j)
 
 -- a place with a position among the windows'
 pub place_of : (windows : List Window) (k : ℕ) → Contains (positions_of windows) k → (j : ℕ) × (j < length windows) × (position_at windows j ≡ k)
@@ -215,28 +211,18 @@ least_in_all r f end windows places found least none =
 
 -- ==== what one more entry makes of what each process is known to hold
 
-both : (a b : Bool) → a ≡ true → b ≡ true → (a && b) ≡ true
-both true b h k = k
-both false b h k = h
-
 not_first : (a b c : Bool) → a ≡ false → c ≡ true → (not (a && b) && c) ≡ true
-not_first true b c h k = absurd (false≢true (sym h))
-not_first false b c h k = k
+not_first a b c h k = grind (arith, nat_tests)
 
 not_second : (a b c : Bool) → b ≡ false → c ≡ true → (not (a && b) && c) ≡ true
-not_second true true c h k = absurd (false≢true (sym h))
-not_second true false c h k = k
-not_second false b c h k = k
+not_second a b c h k = grind (arith, nat_tests)
 
 apart_and : (a c : Bool) → a ≡ false → c ≡ true → (not a && c) ≡ true
-apart_and true c h k = absurd (false≢true (sym h))
-apart_and false c h k = k
+apart_and a c h k = grind (arith, nat_tests)
 
 -- a member of a difference is one of the first set, and none of the second
 parts : (a b : Bool) → (a && not b) ≡ true → (a ≡ true) × (b ≡ false)
-parts true true h = absurd (false≢true h)
-parts true false h = (refl, refl)
-parts false b h = absurd (false≢true h)
+parts a b h = grind (arith, nat_tests)
 
 -- the rows of all processes but p are as before, and that of p has these places at most
 module _ (old new : List (FinSet nat_cmp)) (p : ℕ) (places : FinSet nat_cmp) (others : (i : ℕ) → (i ≡ p → ⊥) → row new i ≡ row old i)
@@ -254,7 +240,7 @@ held_delivery to send rsn listed mentioned old new others here past j d says so 
     elim (at_row old new to.0 (union (row old to.0) mentioned) others here past j d so q h) [
       | inl is ↦ elim (or_cases (contains (row old to.0) j) (contains mentioned j) (sym (contains-union nat_cmp_total (row old to.0) mentioned j) ∙ is.2)) [
         | inl had ↦ or_right ((to.0 == q) && has listed d) (logs past q d) (subst (λ i. logs past i d ≡ true) is.1 (so to.0 had))
-        | inr now ↦ or_left ((to.0 == q) && has listed d) (logs past q d) (both (to.0 == q) (has listed d) is.0 (sym says ∙ now))
+        | inr now ↦ or_left ((to.0 == q) && has listed d) (logs past q d) (and_from (to.0 == q) (has listed d) is.0 (sym says ∙ now))
       ]
       | inr other ↦ or_right ((to.0 == q) && has listed d) (logs past q d) other.1
     ]
@@ -264,7 +250,7 @@ pub held_restart : (who : Pid) (listed : List Det) (mentioned : FinSet nat_cmp) 
     → (past : List Entry) (j : ℕ) (d : Det) → contains mentioned j ≡ has listed d → IsHeldSo past j d old → IsHeldSo (Restart who listed ∷ past) j d new
 held_restart who listed mentioned old new others here past j d says so q h =
     elim (at_row old new who.0 mentioned others here past j d so q h) [
-      | inl is ↦ or_left ((who.0 == q) && has listed d) (logs past q d) (both (who.0 == q) (has listed d) is.0 (sym says ∙ is.2))
+      | inl is ↦ or_left ((who.0 == q) && has listed d) (logs past q d) (and_from (who.0 == q) (has listed d) is.0 (sym says ∙ is.2))
       | inr other ↦ or_right ((who.0 == q) && has listed d) (logs past q d) other.1
     ]
 

@@ -6,7 +6,7 @@ use Rattle.std.specs.Ordering.{nat_cmp}
 use Rattle.std.specs.Cmp.{nat_cmp_total}
 use Rattle.std.specs.FinSet.{FinSet, contains, empty, len, len-insert, remove, same_set, nat_cmp-IsAntisymmetric, union, difference, insert, contains-empty, contains-union, contains-difference}
 use Rattle.std.proofs.lemmas.Bool.{false≢true, and_parts, eqb-true, eq-eqb, ne_eqb}
-use Rattle.std.proofs.lemmas.Bool.Decides.{eqb_tells}
+use Rattle.std.proofs.lemmas.Bool.Decides.{eqb_tells, nat_tests}
 use Rattle.std.proofs.lemmas.List.{get_or-set_same, get_or-set_other, length-set}
 use Rattle.causal_name.specs.declared.Pid.{Pid}
 use Rattle.causal_name.specs.declared.Det.{Det}
@@ -215,9 +215,7 @@ module _ (n : ℕ) (past : List Entry) (start k j : ℕ) (reached present : Sets
         ]
       where
         known : (a b c : Bool) → b ≡ true → (a || (b || c)) ≡ true
-        known true b c h = refl
-        known false true c h = refl
-        known false false c h = absurd (false≢true h)
+        known a b c h = grind (arith, nat_tests)
 
     abbrev pub newly : FinSet nat_cmp
     newly = difference hit (row present to.0)
@@ -238,13 +236,10 @@ module _ (n : ℕ) (past : List Entry) (start k j : ℕ) (reached present : Sets
     )
       where
         first : (a b : Bool) → (a && not b) ≡ true → a ≡ true
-        first true b h = refl
-        first false b h = absurd (false≢true h)
+        first a b h = grind (arith, nat_tests)
 
         either_new : (a b : Bool) → a ≡ true → ((a && not b) ≡ true) ⊎ (b ≡ true)
-        either_new true true h = inr refl
-        either_new true false h = inl refl
-        either_new false b h = absurd (false≢true h)
+        either_new a b h = grind (arith, nat_tests)
 
 -- what is told of an entry that is known by an equation is what a reach sees
 pub seen : (x y : Entry) (t : ℕ) (old new : Reach) (newly : FinSet nat_cmp) → x ≡ y
@@ -319,8 +314,7 @@ fewer s p within =
     out = removed s p p ∙ ap (λ b. not b && contains s p) (eq-eqb p p refl)
 
     either : (b c : Bool) → (b ≡ true → c ≡ true) → (b || (not b && c)) ≡ c
-    either true c h = sym (h refl)
-    either false c h = refl
+    either b c h = grind (arith, nat_tests)
 
     back : insert (remove s p) p ≡ s
     back = same_set nat_cmp_total nat_cmp-IsAntisymmetric (insert (remove s p) p) s

@@ -4,8 +4,8 @@ use Rattle.std.specs.Prelude.{◌⊎◌, OnOk, Contains, ◌==◌, ◌&&◌, ◌
 use Rattle.std.specs.Option.{is_some, option_map_or}
 use Rattle.std.specs.List.{All}
 use Rattle.std.proofs.Math.ListN.{get_or-eq_default, get_or-append}
-use Rattle.std.proofs.lemmas.Bool.{cases_lt, false≢true, cond-true, cond-false, false_from_ne_true, eqb-true, eq-eqb, ne_eqb, and_parts, or_cases, cases_Bool}
-use Rattle.std.proofs.lemmas.Bool.Decides.{eqb_tells}
+use Rattle.std.proofs.lemmas.Bool.{cases_lt, false≢true, cond-true, cond-false, false_from_ne_true, eqb-true, eq-eqb, ne_eqb, and_parts, or_cases, cases_Bool, or_left, or_right}
+use Rattle.std.proofs.lemmas.Bool.Decides.{eqb_tells, nat_tests}
 use Rattle.std.proofs.lemmas.List.{get_or-set_same, get_or-set_other, get_or_past, length-map, length-reverse, reverse-append}
 use Rattle.std.proofs.lemmas.List.Elements.{All-push, All-set, All-get_or, All-weaker, Contains-append_left, Contains-push, Contains-push_cases}
 use Rattle.std.proofs.lemmas.List.Sorted.{IsNonDecreasingBy-push}
@@ -342,13 +342,11 @@ has_more : (dets : List Det) (det d : Det) → has (dets ++ det ∷ []) d ≡ (h
 has_more [] det d = or_none (same_det d det)
   where
     or_none : (a : Bool) → (a || false) ≡ a
-    or_none true = refl
-    or_none false = refl
+    or_none a = grind (arith, nat_tests)
 has_more (x ∷ dets) det d = ap (λ b. same_det d x || b) (has_more dets det d) ∙ or_or (same_det d x) (has dets d) (same_det d det)
   where
     or_or : (a b c : Bool) → (a || (b || c)) ≡ ((a || b) || c)
-    or_or true b c = refl
-    or_or false b c = refl
+    or_or a b c = grind (arith, nat_tests)
 
 -- what the list of a determinant has, it has with one more position in some list
 keeps_of : (o : Option ℕ) (lists : List (List ℕ)) (m v w : ℕ) → m < length lists → Contains (option_map_or (list_at lists) o []) w → Contains (option_map_or (list_at (with_added lists m v)) o []) w
@@ -364,14 +362,6 @@ cases_of (Some j) lists m v w there has =
       | inr new ↦ inr (ap (λ x. Some x) new.0, new.1)
     ]
 
-or_more : (a b : Bool) → a ≡ true → (a || b) ≡ true
-or_more true b h = refl
-or_more false b h = absurd (false≢true h)
-
-more_or : (a b : Bool) → b ≡ true → (a || b) ≡ true
-more_or true b h = refl
-more_or false b h = h
-
 pub mentions_more : (past : List Entry) (dets : List Det) (numbers : Numbers) (lists : List (List ℕ)) (det : Det) (m : ℕ) → number_of numbers det ≡ Some m → m < length lists → AreMentionsWith past dets numbers lists → AreMentionsWith past (dets ++ det ∷ []) numbers (with_added lists m (length past))
 mentions_more past dets numbers lists det m at there are =
     record {
@@ -386,9 +376,9 @@ mentions_more past dets numbers lists det m at there are =
       only = λ d v listed. elim (cases_of (number_of numbers d) lists m (length past) v there listed) [
         | inl old ↦ elim (are.only d v old) [
           | inl before ↦ inl before
-          | inr now ↦ inr (now.0, has_more dets det d ∙ or_more (has dets d) (same_det d det) now.1)
+          | inr now ↦ inr (now.0, has_more dets det d ∙ or_left (has dets d) (same_det d det) now.1)
         ]
-        | inr new ↦ inr (sym new.1, has_more dets det d ∙ more_or (has dets d) (same_det d det) (numbers_apart numbers d det m new.0 at))
+        | inr new ↦ inr (sym new.1, has_more dets det d ∙ or_right (has dets d) (same_det d det) (numbers_apart numbers d det m new.0 at))
       ];
     }
 

@@ -2,7 +2,7 @@
 use Rattle.std.proofs.Common.{ℕ, ◌≡◌, ◌<◌, ◌≤◌, inl, inr, true, false, cond, List, [], ◌∷◌, length, Option, Some, None, refl, sym, ap, subst, ◌∙◌, arith, get_or, ◌+◌, Bool, ◌≢◌}
 use Rattle.std.specs.Prelude.{◌⊎◌, ◌==◌, ◌||◌, not, ◌&&◌, slice_set}
 use Rattle.std.specs.Option.{option_map, option_map_or}
-use Rattle.std.proofs.lemmas.Bool.{cases_lt, false≢true, eqb-true, eq-eqb, or_from, cond-true, cond-false, ne_eqb, false_from_ne_true}
+use Rattle.std.proofs.lemmas.Bool.{cases_lt, false≢true, eqb-true, eq-eqb, or_from, cond-true, cond-false, ne_eqb, false_from_ne_true, or_right}
 use Rattle.causal_name.specs.declared.Det.{Det}
 use Rattle.causal_name.specs.declared.MsgName.{MsgName}
 use Rattle.causal_trace.specs.declared.entry.Entry.{Entry}
@@ -21,7 +21,7 @@ use Rattle.causal_audit.proofs.Legal.{delivery_event}
 use Rattle.causal_audit.proofs.Orphaned.{not_yet}
 use Rattle.causal_audit.proofs.by_clock.Reached.{reaches_whole, event_whole}
 use Rattle.causal_audit.specs.Inside.Index.Spreads.{acting, process_at, AreSpreads, with_delivered, spread_at}
-use Rattle.std.proofs.lemmas.Bool.Decides.{eqb_tells}
+use Rattle.std.proofs.lemmas.Bool.Decides.{eqb_tells, nat_tests}
 use Rattle.causal_audit.proofs.by_clock.Begun.{onward_to}
 use Rattle.causal_audit.proofs.look.Staying.{entry_then}
 use Rattle.causal_trace.specs.Judgement.{HasOrphan}
@@ -162,15 +162,11 @@ stays_with n past formed stays are k v p l before of reach =
 abbrev Fell : ℕ → ℕ → List Entry → Type 0
 Fell p l past = ((is_down past p ≡ true) × (l ≤ lane past p)) ⊎ (l < lane past p)
 
-or_stays : (a b : Bool) → b ≡ true → (a || b) ≡ true
-or_stays true b h = refl
-or_stays false b h = h
-
 fell_more : (e : Entry) (past : List Entry) (p l : ℕ) → Fell p l past → Fell p l (e ∷ past)
 fell_more (Send from to ssn) past p l h = h
 fell_more (Deliver to send rsn listed) past p l h = h
 fell_more (Stable det) past p l h = h
-fell_more (Crash who) past p l (inl h) = inl (or_stays (who.0 == p) (is_down past p) h.0, h.1)
+fell_more (Crash who) past p l (inl h) = inl (or_right (who.0 == p) (is_down past p) h.0, h.1)
 fell_more (Crash who) past p l (inr h) = inr h
 fell_more (Restart who listed) past p l h =
     elim (eqb_tells who.0 p) [

@@ -1,7 +1,7 @@
 -- Until when those who are down or hold a determinant are still so, and how it stands until then.
 use Rattle.std.proofs.Common.{ℕ, ◌≡◌, ◌+◌, ◌<◌, ◌≤◌, inl, inr, Bool, true, false, List, [], ◌∷◌, length, refl, sym, ap, subst, ◌∙◌, arith, Some, zero, suc, ◌-◌}
 use Rattle.std.specs.Prelude.{◌||◌, ◌&&◌, ◌==◌, not, ◌↔◌, Contains, if◌then◌else◌, min}
-use Rattle.std.proofs.lemmas.Bool.{cases_lt, false≢true, ne_eqb, eqb-true, or_cases, and_parts, false_from_ne_true, or_right, eq-eqb}
+use Rattle.std.proofs.lemmas.Bool.{cases_lt, false≢true, ne_eqb, eqb-true, or_cases, and_parts, false_from_ne_true, or_right, eq-eqb, and_right}
 use Rattle.causal_name.specs.declared.Det.{Det}
 use Rattle.causal_name.specs.Names.{same_det}
 use Rattle.causal_name.specs.Sets.{count_below}
@@ -25,7 +25,7 @@ use Rattle.causal_audit.specs.Quiet.{mentioned_by}
 use Rattle.causal_audit.specs.Inside.Look.Staying.{restarts_one, GoneStay, HoldersStay, MentionsNone, RestartsNone}
 use Rattle.causal_audit.proofs.by_clock.Begun.{onward_to}
 use Rattle.causal_audit.proofs.Between.{logs_stay, next_entry}
-use Rattle.std.proofs.lemmas.Bool.Decides.{eqb_tells}
+use Rattle.std.proofs.lemmas.Bool.Decides.{eqb_tells, nat_tests}
 use Rattle.causal_trace.specs.Judgement.{HasOrphan}
 use Rattle.causal_audit.specs.Inside.ByClock.Changes.{HasNoneUntil, AreMentionsOf, HasMentions}
 use Rattle.causal_audit.specs.Inside.Sights.{Shows}
@@ -57,14 +57,10 @@ kept P (e ∷ past) t u keeps up within h =
 
 -- ---- what is stable stays stable
 
-pub or_more : (a b : Bool) → b ≡ true → (a || b) ≡ true
-or_more true b h = refl
-or_more false b h = h
-
 pub stable_more : (e : Entry) (past : List Entry) (d : Det) → is_stable past d ≡ true → is_stable (e ∷ past) d ≡ true
 stable_more (Send from to ssn) past d h = h
 stable_more (Deliver to send rsn listed) past d h = h
-stable_more (Stable det) past d h = or_more (same_det d det) (is_stable past d) h
+stable_more (Stable det) past d h = or_right (same_det d det) (is_stable past d) h
 stable_more (Crash who) past d h = h
 stable_more (Restart who listed) past d h = h
 stable_more (Forget who listed) past d h = h
@@ -76,12 +72,10 @@ keeps_stable (e ∷ past) t d = (keeps_stable past t d, λ _ h. stable_more e pa
 -- ---- who is down or holds a determinant stays so where none is released
 
 or_between : (a b c : Bool) → (a || b) ≡ true → (a || (c || b)) ≡ true
-or_between true b c h = refl
-or_between false b c h = or_more c b h
+or_between a b c h = grind (arith, nat_tests)
 
 or_turned : (w a b : Bool) → (a || b) ≡ true → ((w || a) || (not w && b)) ≡ true
-or_turned true a b h = refl
-or_turned false a b h = h
+or_turned w a b h = grind (arith, nat_tests)
 
 pub gone_more : (e : Entry) (past : List Entry) (d : Det) (p : ℕ) → may_release e ≡ false → gone past d p ≡ true → gone (e ∷ past) d p ≡ true
 gone_more (Send from to ssn) past d p stays h = h
@@ -150,13 +144,8 @@ gone_stay past d members t u p up within unmentioned unrestarted inside here =
 
 -- ---- those who hold it
 
-and_none : (w b : Bool) → b ≡ false → (not w && b) ≡ false
-and_none true b h = refl
-and_none false b h = h
-
 crashed_down : (w b : Bool) → not w ≡ true → b ≡ false → (w || b) ≡ false
-crashed_down true b h k = absurd (false≢true h)
-crashed_down false b h k = k
+crashed_down w b h k = grind (arith, nat_tests)
 
 -- who holds a determinant is up
 pub holder_up : (n : ℕ) (past : List Entry) (d : Det) (p : ℕ) → AreAccepted n past → logs past p d ≡ true → is_down past p ≡ false
@@ -174,23 +163,18 @@ holder_up n (Crash who ∷ past) d p formed h =
 holder_up n (Restart who listed ∷ past) d p formed h =
     elim (or_cases (who.0 == p && has listed d) (logs past p d) h) [
       | inl new ↦ ap (λ b. not b && is_down past p) (and_parts (who.0 == p) (has listed d) new).0
-      | inr old ↦ and_none (who.0 == p) (is_down past p) (holder_up n past d p formed.0 old)
+      | inr old ↦ and_right (not (who.0 == p)) (is_down past p) (holder_up n past d p formed.0 old)
     ]
 holder_up n (Forget who listed ∷ past) d p formed h = holder_up n past d p formed.0 (and_parts (not (who.0 == p && has listed d)) (logs past p d) h).1
 
 up_held : (held down : Bool) → (held ≡ true → down ≡ false) → held ≡ (held && not down)
-up_held true down h = sym (ap not (h refl))
-up_held false down h = refl
+up_held held down h = grind (arith, nat_tests)
 
 crash_held : (w was down held : Bool) → held ≡ (was && not down) → (not w && held) ≡ (was && not (w || down))
-crash_held true true down held h = refl
-crash_held true false down held h = refl
-crash_held false was down held h = h
+crash_held w was down held h = grind (arith, nat_tests)
 
 restart_held : (w listed was down held : Bool) → listed ≡ false → (w ≡ true → was ≡ false) → held ≡ (was && not down) → ((w && listed) || held) ≡ (was && not (not w && down))
-restart_held true listed true down held none out h = absurd (false≢true (sym (out refl)))
-restart_held true listed false down held none out h = ap (λ b. b || held) none ∙ h
-restart_held false listed was down held none out h = h
+restart_held w listed was down held none out h = grind (arith, nat_tests)
 
 held_next : (e : Entry) (past : List Entry) (d : Det) (members : FinSet nat_cmp) (p : ℕ) (was : Bool) → has (mentioned_by e) d ≡ false → restarts_one members e ≡ false → (was ≡ true → contains members p ≡ true)
     → logs past p d ≡ (was && not (is_down past p)) → logs (e ∷ past) p d ≡ (was && not (is_down (e ∷ past) p))

@@ -1,9 +1,10 @@
-use Rattle.std.proofs.Common.{ℕ, ◌≡◌, ◌∙◌, inl, inr, Bool, true, false, refl, sym, ap}
+use Rattle.std.proofs.Common.{ℕ, ◌≡◌, ◌∙◌, inl, inr, Bool, true, false, refl, sym, ap, arith}
 use Rattle.std.specs.Prelude.{◌&&◌, ◌||◌, ◌⊎◌, not}
 use Rattle.std.specs.Ordering.{nat_cmp}
 use Rattle.std.specs.Cmp.{nat_cmp_total}
 use Rattle.std.specs.FinSet.{FinSet, contains, union, difference, contains-union, contains-difference}
 use Rattle.std.proofs.lemmas.Bool.{false≢true}
+use Rattle.std.proofs.lemmas.Bool.Decides.{nat_tests}
 use Rattle.causal_audit.proofs.group.seen.touched.Goals as goal
 
 -- what is in the common part
@@ -14,15 +15,10 @@ in_both a b c d j =
     ∙ ap (λ x. contains a j && not x) (contains-union nat_cmp_total b (difference c d) j ∙ ap (λ x. contains b j || x) (contains-difference nat_cmp_total c d j)))
 
 first : (a b : Bool) → (a && b) ≡ true → a ≡ true
-first true b h = refl
-first false b h = absurd (false≢true h)
+first a b h = grind (arith, nat_tests)
 
 neither : (a b c d : Bool) → a ≡ true → (a && not (a && not (b || (c && not d)))) ≡ false → (b ≡ false) × ((c ≡ false) ⊎ (d ≡ true))
-neither true true c d h out = absurd (false≢true (sym out))
-neither true false true true h out = (refl, inr refl)
-neither true false true false h out = absurd (false≢true (sym out))
-neither true false false d h out = (refl, inl refl)
-neither false b c d h out = absurd (false≢true h)
+neither a b c d h out = grind (arith, nat_tests)
 
 both_is : (c : goal.After-minus-3) → (j : ℕ) → contains c.minus-3.result j
     ≡ (contains c.args.all j && not (contains c.args.all j && not (contains c.args.step.now.newly j || (contains c.args.step.now.mentioned j && not (contains c.args.held j)))))
