@@ -1,30 +1,12 @@
 -- What one more entry makes of who depends on a delivery, and what stays between two changes.
-use Rattle.std.proofs.Common.{ℕ, ◌≡◌, ◌≢◌, ◌+◌, inl, inr, Bool, true, false, cond, List, ◌∷◌, length, Some, None, refl, sym, ap, subst, ◌∙◌, zero, suc, ◌-◌, ◌<◌, ◌≤◌, [], arith}
-use Rattle.std.specs.Prelude.{◌⊎◌, ◌↔◌, ◌&&◌, ◌||◌, not, ◌==◌}
-use Rattle.std.specs.Ordering.{nat_cmp}
-use Rattle.std.specs.FinSet.{FinSet, contains, insert, remove}
-use Rattle.std.proofs.lemmas.Bool.{false≢true, eq-eqb, ne_eqb, cases_lt, cond-true, cond-false}
-use Rattle.std.proofs.lemmas.Bool.Decides.{eqb_tells, nat_tests}
-use Rattle.causal_name.specs.declared.Pid.{Pid}
-use Rattle.causal_name.specs.declared.Det.{Det}
-use Rattle.causal_trace.specs.declared.entry.Entry.{Entry}
-use Rattle.causal_trace.specs.declared.entry.Entry.TheVariants.{Send, Deliver, Stable, Crash, Restart, Forget}
-use Rattle.causal_trace.specs.Past.{is_down, lane, instant, entry_at, det_at, is_stable, logs, has}
-use Rattle.causal_trace.specs.Rows.{AreAccepted, first_fault}
-use Rattle.causal_trace.specs.Dependence.{actor, IsEventOf, DirectlyPrecedes, in_order, by_message, Reaches, itself, onward, Depends}
-use Rattle.causal_trace.proofs.Lemmas.Reached.{event_below, reaches_old, depends_restarted, reaches_begins}
-use Rattle.causal_trace.proofs.Lemmas.Accepted.{accepted_forward, delivers_up}
+use Rattle.causal_audit.proofs.Common.{ℕ, ◌≡◌, ◌≢◌, ◌+◌, inl, inr, Bool, true, false, cond, List, ◌∷◌, length, Some, None, refl, sym, ap, subst, ◌∙◌, zero, suc, ◌-◌, ◌<◌, ◌≤◌, [], arith, ◌⊎◌, ◌↔◌, ◌&&◌, ◌||◌, not, ◌==◌, nat_cmp, FinSet, contains, insert, remove, false≢true, eq-eqb, ne_eqb, cases_lt, cond-true, cond-false, eqb_tells, nat_tests, Pid, Det, Entry, Send, Deliver, Stable, Crash, Restart, Forget, is_down, lane, instant, entry_at, det_at, is_stable, logs, has, AreAccepted, first_fault, actor, IsEventOf, DirectlyPrecedes, in_order, by_message, Reaches, itself, onward, Depends, event_below, reaches_old, depends_restarted, reaches_begins, accepted_forward, delivers_up, same_det, count_below, HasOrphan, instants_stay, one_more_instant, last_instant, accepted_then, det_then, det_within, instant_length}
 use Rattle.causal_audit.specs.Inside.Sights.{AreDependents, TellsNextReach, IsSight}
 use Rattle.causal_audit.proofs.Legal.{sends_up}
 use Rattle.causal_audit.proofs.Shown.{inserted, removed}
-use Rattle.causal_name.specs.Names.{same_det}
-use Rattle.causal_name.specs.Sets.{count_below}
-use Rattle.causal_trace.specs.Judgement.{HasOrphan}
 use Rattle.causal_audit.specs.Laws.{gone, IsExposed}
 use Rattle.causal_audit.specs.Inside.Group.Walk.{IsDeliveredTo}
 use Rattle.causal_audit.specs.declared.sight.Sight.{Sight}
 use Rattle.causal_audit.specs.Quiet.{is_turn, mentioned_by, IsQuiet, AreQuiet, Agree, InstantsAgree, OrphansAgree}
-use Rattle.causal_trace.proofs.Lemmas.AtInstants.{instants_stay, one_more_instant, last_instant, accepted_then, det_then, det_within, instant_length}
 use Rattle.causal_audit.proofs.Lemmas.Judged.{exposed, unexposed}
 
 -- ==== what one more entry makes of who depends on a delivery

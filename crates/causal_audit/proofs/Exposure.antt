@@ -1,19 +1,6 @@
 -- Orphans, by what is known of a delivery at an instant.
-use Rattle.std.proofs.Common.{ℕ, ◌≡◌, ◌<◌, ◌≤◌, inl, inr, Bool, true, false, List, Some, refl, sym, ap, subst, ◌∙◌, arith}
-use Rattle.std.specs.Prelude.{◌&&◌, not}
-use Rattle.std.specs.Ordering.{nat_cmp}
-use Rattle.std.specs.Cmp.{nat_cmp_total}
-use Rattle.std.specs.FinSet.{FinSet, contains, empty, union, difference, len, contains-empty, contains-difference}
-use Rattle.std.proofs.lemmas.Bool.{false≢true, or_cases}
-use Rattle.std.proofs.lemmas.Bool.Decides.{nat_tests}
-use Rattle.causal_name.specs.declared.Det.{Det}
-use Rattle.causal_name.specs.Sets.{count_below}
+use Rattle.causal_audit.proofs.Common.{ℕ, ◌≡◌, ◌<◌, ◌≤◌, inl, inr, Bool, true, false, List, Some, refl, sym, ap, subst, ◌∙◌, arith, ◌&&◌, not, nat_cmp, nat_cmp_total, FinSet, contains, empty, union, difference, len, contains-empty, contains-difference, false≢true, or_cases, nat_tests, Det, count_below, Entry, is_down, logs, det_at, Depends, AreAccepted, HasOrphan, IsCrashSet, IsOrphan}
 use Rattle.causal_holders.specs.Members.{IsLeast}
-use Rattle.causal_trace.specs.declared.entry.Entry.{Entry}
-use Rattle.causal_trace.specs.Past.{is_down, logs, det_at}
-use Rattle.causal_trace.specs.Dependence.{Depends}
-use Rattle.causal_trace.specs.Rows.{AreAccepted}
-use Rattle.causal_trace.specs.Judgement.{HasOrphan, IsCrashSet, IsOrphan}
 use Rattle.causal_audit.specs.declared.sight.Sight.{Sight}
 use Rattle.causal_audit.specs.Inside.Sights.{IsSight, IsUnheard, Shows}
 use Rattle.causal_audit.specs.Laws.{gone}

@@ -1,6 +1,7 @@
 pub mod Lemmas
 mod AmongLemmas
 mod Begins
+mod Common
 mod Between
 mod Exposure
 mod HeldOutside

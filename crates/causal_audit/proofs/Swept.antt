@@ -1,22 +1,7 @@
 -- Which deliveries may come to have an orphan by one more entry.
-use Rattle.std.proofs.Common.{ℕ, zero, suc, ◌≡◌, ◌<◌, inl, inr, true, false, List, [], ◌∷◌, length, Option, Some, None, refl, sym, subst, ◌∙◌, ap, arith, ◌+◌, ◌≤◌, Bool, cond}
-use Rattle.std.specs.Prelude.{◌⊎◌, ◌&&◌, ◌||◌, ◌==◌, not}
-use Rattle.std.proofs.lemmas.Bool.{false≢true, cases_Bool, cases_lt, eqb-true, eq-eqb, or_parts, false_from_ne_true, cond-true, cond-false, ne_eqb}
-use Rattle.std.proofs.lemmas.Bool.Decides.{eqb_tells, nat_tests}
-use Rattle.causal_name.specs.declared.Pid.{Pid}
-use Rattle.causal_name.specs.declared.Det.{Det}
-use Rattle.causal_trace.specs.declared.entry.Entry.{Entry}
-use Rattle.causal_trace.specs.declared.entry.Entry.TheVariants.{Send, Deliver, Stable, Crash, Restart, Forget}
-use Rattle.causal_trace.specs.Past.{is_down, lane, is_stable, logs, has, det_at, det_of}
-use Rattle.causal_trace.specs.Rows.{AreAccepted}
-use Rattle.causal_trace.specs.Dependence.{actor, is_delivery_of, IsEventOf, in_order, by_message, Reaches, itself, onward, Depends}
-use Rattle.causal_trace.proofs.Lemmas.Reached.{event_below, reaches_old, reaches_newest, ReachesNewest, is_newest, in_lane, through_message, reaches_begins, depends_restarted}
-use Rattle.causal_trace.proofs.Lemmas.Accepted.{accepted_forward}
+use Rattle.causal_audit.proofs.Common.{ℕ, zero, suc, ◌≡◌, ◌<◌, inl, inr, true, false, List, [], ◌∷◌, length, Option, Some, None, refl, sym, subst, ◌∙◌, ap, arith, ◌+◌, ◌≤◌, Bool, cond, ◌⊎◌, ◌&&◌, ◌||◌, ◌==◌, not, false≢true, cases_Bool, cases_lt, eqb-true, eq-eqb, or_parts, false_from_ne_true, cond-true, cond-false, ne_eqb, eqb_tells, nat_tests, Pid, Det, Entry, Send, Deliver, Stable, Crash, Restart, Forget, is_down, lane, is_stable, logs, has, det_at, det_of, AreAccepted, actor, is_delivery_of, IsEventOf, in_order, by_message, Reaches, itself, onward, Depends, event_below, reaches_old, reaches_newest, ReachesNewest, is_newest, in_lane, through_message, reaches_begins, depends_restarted, accepted_forward, count_below, count_below-within, HasOrphan}
 use Rattle.causal_audit.proofs.Between.{reaches_more, IsNoTurn, depends_before}
 use Rattle.causal_audit.proofs.by_clock.Link.{delivers_below}
-use Rattle.causal_name.specs.Sets.{count_below}
-use Rattle.causal_holders.proofs.Lemmas.Counting.{count_below-within}
-use Rattle.causal_trace.specs.Judgement.{HasOrphan}
 use Rattle.causal_audit.specs.Laws.{gone}
 use Rattle.causal_audit.specs.Lasting.{may_release}
 use Rattle.causal_audit.specs.Sweep.{MayNewlyFail, SweepLaw, OneNewOrphan}
@@ -38,7 +23,7 @@ both_known (inr none) b = inr (λ h. none h.0)
 either_known : {A B : Type 0} → Known A → Known B → Known (A ⊎ B)
 either_known (inl a) b = inl (inl a)
 either_known (inr none) (inl b) = inl (inr b)
-either_known (inr none) (inr no) = inr (λ h. elim h [ inl a ↦ none a | inr b ↦ no b ])
+either_known (inr none) (inr neither) = inr (λ h. elim h [ inl a ↦ none a | inr b ↦ neither b ])
 
 same_known : (m n : ℕ) → Known (m ≡ n)
 same_known m n = elim (eqb_tells m n) [ inl h ↦ inl h.1 | inr h ↦ inr h.1 ]

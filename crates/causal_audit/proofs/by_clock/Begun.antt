@@ -1,19 +1,10 @@
 -- What is known where the walk of a delivery begins.
-use Rattle.std.proofs.Common.{ℕ, zero, suc, ◌≡◌, ◌+◌, ◌-◌, ◌<◌, ◌≤◌, Bool, true, false, List, ◌∷◌, length, Some, refl, sym, ap, subst, ◌∙◌, arith}
-use Rattle.std.proofs.lemmas.Bool.{and_right}
-use Rattle.std.proofs.lemmas.Bool.Decides.{nat_tests}
-use Rattle.std.specs.Prelude.{◌||◌, ◌&&◌, ◌==◌, not}
-use Rattle.causal_name.specs.declared.Det.{Det}
-use Rattle.causal_trace.specs.declared.entry.Entry.{Entry}
-use Rattle.causal_trace.specs.declared.entry.Entry.TheVariants.{Send, Deliver, Stable, Crash, Restart, Forget}
-use Rattle.causal_trace.specs.Past.{instant, entry_at, is_down, is_stable, logs, has}
-use Rattle.causal_trace.proofs.Lemmas.Reached.{reaches_begins}
+use Rattle.causal_audit.proofs.Common.{ℕ, zero, suc, ◌≡◌, ◌+◌, ◌-◌, ◌<◌, ◌≤◌, Bool, true, false, List, ◌∷◌, length, Some, refl, sym, ap, subst, ◌∙◌, arith, and_right, nat_tests, ◌||◌, ◌&&◌, ◌==◌, not, Det, Entry, Send, Deliver, Stable, Crash, Restart, Forget, instant, entry_at, is_down, is_stable, logs, has, reaches_begins, instant_length}
 use Rattle.causal_audit.specs.Inside.ByClock.Changes.{HasNoneUntil, HasMentions}
 use Rattle.causal_audit.specs.Quiet.{is_turn, mentioned_by}
 use Rattle.causal_audit.specs.Inside.Sights.{IsUnheard}
 use Rattle.causal_audit.specs.Inside.Look.Staying.{MentionsNone}
 use Rattle.causal_audit.proofs.Between.{next_entry, no_turn_stays, stable_stays}
-use Rattle.causal_trace.proofs.Lemmas.AtInstants.{instant_length}
 use Rattle.causal_audit.proofs.Steps.{no_entry}
 
 -- ---- from an instant to a later one, entry by entry

@@ -1,24 +1,9 @@
 -- The event of one more entry: that it may be added, and that the clock then stands for one more entry.
-use Rattle.std.proofs.Common.{ℕ, ◌≡◌, ◌≢◌, ◌+◌, ◌<◌, inl, inr, true, cond, List, [], ◌∷◌, ◌++◌, length, Option, Some, None, refl, sym, ap, ◌∙◌, arith, get_or, length-append, false, subst}
-use Rattle.std.specs.Prelude.{◌↔◌, slice_index, slice_set, ◌==◌}
-use Rattle.std.proofs.Math.ListN.{get_or-append}
-use Rattle.std.proofs.Math.Seq.{get_or-append_seam}
-use Rattle.std.proofs.lemmas.Bool.{false≢true, cases_lt, eq-eqb, ne_eqb, eqb-true}
-use Rattle.std.proofs.lemmas.Bool.Decides.{eqb_tells}
-use Rattle.std.proofs.lemmas.List.{get_or-set_same, get_or-set_other, length-set}
-use Rattle.causal_name.specs.declared.Pid.{Pid}
-use Rattle.causal_name.specs.declared.Det.{Det}
-use Rattle.causal_trace.specs.declared.entry.Entry.{Entry}
-use Rattle.causal_trace.specs.declared.entry.Entry.TheVariants.{Restart, Send, Deliver, Stable, Crash, Forget}
-use Rattle.causal_trace.specs.Past.{lane, restarts}
-use Rattle.causal_trace.specs.Dependence.{actor, is_delivery_of, IsEventOf, Delivers}
-use Rattle.causal_trace.proofs.Lemmas.Reached.{event_below, event_lane}
+use Rattle.causal_audit.proofs.Common.{ℕ, ◌≡◌, ◌≢◌, ◌+◌, ◌<◌, inl, inr, true, cond, List, [], ◌∷◌, ◌++◌, length, Option, Some, None, refl, sym, ap, ◌∙◌, arith, get_or, length-append, false, subst, ◌↔◌, slice_index, slice_set, ◌==◌, get_or-append, get_or-append_seam, false≢true, cases_lt, eq-eqb, ne_eqb, eqb-true, eqb_tells, get_or-set_same, get_or-set_other, length-set, Pid, Det, Entry, Restart, Send, Deliver, Stable, Crash, Forget, lane, restarts, actor, is_delivery_of, IsEventOf, Delivers, event_below, event_lane, AreAccepted, delivers_sent, sent_within}
 use Rattle.causal_clock.specs.declared.Event.{Event}
 use Rattle.causal_clock.specs.Timeline.{Timeline, lane_of, send_of, with_event}
 use Rattle.causal_audit.specs.Inside.ByClock.Stands.{Stands, Mirrors, CanMirror}
 use Rattle.causal_audit.proofs.by_clock.Link.{delivers_below}
-use Rattle.causal_trace.specs.Rows.{AreAccepted}
-use Rattle.causal_trace.proofs.Lemmas.Accepted.{delivers_sent, sent_within}
 use Rattle.causal_clock.specs.declared.ClockFault.{ClockFault}
 use Rattle.causal_clock.specs.declared.ClockFault.TheVariants.{Lanes as ClockLanes, NoMemory as ClockNoMemory}
 use Rattle.causal_audit.proofs.Legal.{restarts_few, entry_short}

@@ -1,26 +1,9 @@
 -- Which entries a delivery reaches, at each instant and in the whole run, and how one is followed from change to change.
-use Rattle.std.proofs.Common.{ℕ, zero, suc, ◌≡◌, ◌-◌, ◌<◌, ◌≤◌, inl, false, Result, Ok, Err, List, [], ◌∷◌, length, drop, sym, arith, inr, Bool, true, Some, refl, ap, subst, ◌∙◌, ◌+◌, get_or, Option}
-use Rattle.std.specs.Prelude.{OnOk, ◌↔◌, ◌⊎◌, ◌||◌, Contains}
+use Rattle.causal_audit.proofs.Common.{ℕ, zero, suc, ◌≡◌, ◌-◌, ◌<◌, ◌≤◌, inl, false, Result, Ok, Err, List, [], ◌∷◌, length, drop, sym, arith, inr, Bool, true, Some, refl, ap, subst, ◌∙◌, ◌+◌, get_or, Option, OnOk, ◌↔◌, ◌⊎◌, ◌||◌, Contains, false≢true, or_cases, eqb-true, eq-eqb, cases_lt, or_left, or_right, nat_tests, Entry, instant, det_at, lane, entry_at, AreAccepted, Recording, IsWellFormed, IsEventOf, Reaches, actor, in_order, by_message, itself, onward, Depends, reaches_old, event_below, reaches_newest, ReachesNewest, is_newest, in_lane, through_message, accepted_forward, Pid, Det, Send, Deliver, nat_cmp, FinSet, contains, HasOrphan, entries_of, accepted_then, det_then, instant_length}
 use Rattle.std.specs.Result.{is_err}
-use Rattle.std.proofs.lemmas.Bool.{false≢true, or_cases, eqb-true, eq-eqb, cases_lt, or_left, or_right}
-use Rattle.std.proofs.lemmas.Bool.Decides.{nat_tests}
-use Rattle.causal_trace.specs.declared.entry.Entry.{Entry}
-use Rattle.causal_trace.specs.Past.{instant, det_at, lane, entry_at}
-use Rattle.causal_trace.specs.Rows.{AreAccepted, Recording, IsWellFormed}
-use Rattle.causal_trace.specs.Dependence.{IsEventOf, Reaches, actor, in_order, by_message, itself, onward, Depends}
-use Rattle.causal_trace.proofs.Lemmas.Reached.{reaches_old, event_below, reaches_newest, ReachesNewest, is_newest, in_lane, through_message}
-use Rattle.causal_trace.proofs.Lemmas.Accepted.{accepted_forward}
 use Rattle.causal_audit.proofs.Between.{reaches_more, known_already, instants_agree, none_agrees, sight_agrees}
-use Rattle.causal_name.specs.declared.Pid.{Pid}
-use Rattle.causal_name.specs.declared.Det.{Det}
-use Rattle.causal_trace.specs.declared.entry.Entry.TheVariants.{Send, Deliver}
 use Rattle.causal_audit.specs.Inside.Sights.{TellsNextReach, AreDependents, IsSight, IsSightAfter, BreachAt, TellsBreachAt}
 use Rattle.causal_audit.proofs.Swept.{sent_before}
-use Rattle.std.specs.Ordering.{nat_cmp}
-use Rattle.std.specs.FinSet.{FinSet, contains}
-use Rattle.causal_trace.specs.Judgement.{HasOrphan}
-use Rattle.causal_trace.specs.State.{entries_of}
-use Rattle.causal_trace.proofs.Lemmas.AtInstants.{accepted_then, det_then, instant_length}
 use Rattle.causal_audit.specs.declared.breach.Breach.{Breach}
 use Rattle.causal_audit.specs.declared.by_clock.changes.Changes.{Changes}
 use Rattle.causal_audit.specs.declared.sight.Sight.{Sight}

@@ -1,18 +1,5 @@
 -- A walk over the entries for the deliveries of a group.
-use Rattle.std.proofs.Common.{ℕ, ◌≡◌, ◌+◌, ◌++◌, ◌<◌, inl, inr, Bool, true, false, List, [], ◌∷◌, length, Option, Some, None, refl, sym, ap, subst, ◌∙◌, arith, ◌-◌, ◌≤◌, min, take}
-use Rattle.std.specs.Prelude.{◌⊎◌, Contains, ◌&&◌, ◌==◌, not, ◌↔◌, vec_capacity, ◌||◌}
-use Rattle.std.specs.Ordering.{nat_cmp}
-use Rattle.std.specs.FinSet.{FinSet, contains, remove, empty, union, difference, contains-empty, contains-union, contains-difference, insert}
-use Rattle.std.proofs.lemmas.Bool.{or_cases, or_left, or_right, false≢true, eqb-true, eq-eqb, and_from, cases_Bool}
-use Rattle.std.proofs.lemmas.List.Elements.{Contains-push, Contains-push_cases, Contains-append_left, Contains-get_or}
-use Rattle.std.proofs.lemmas.List.{length-map, get_or-map, get_or-set_same, get_or-set_other, take_min}
-use Rattle.causal_name.specs.declared.Det.{Det}
-use Rattle.causal_trace.specs.declared.entry.Entry.{Entry}
-use Rattle.causal_trace.specs.Past.{instant, det_at, has, logs, entry_at}
-use Rattle.causal_trace.specs.Rows.{Recording, AreAccepted, IsWellFormed}
-use Rattle.causal_trace.specs.Dependence.{actor, Reaches, Depends}
-use Rattle.causal_trace.specs.Judgement.{HasOrphan}
-use Rattle.causal_trace.proofs.Lemmas.AtInstants.{accepted_then, det_then, instant_length}
+use Rattle.causal_audit.proofs.Common.{ℕ, ◌≡◌, ◌+◌, ◌++◌, ◌<◌, inl, inr, Bool, true, false, List, [], ◌∷◌, length, Option, Some, None, refl, sym, ap, subst, ◌∙◌, arith, ◌-◌, ◌≤◌, min, take, ◌⊎◌, Contains, ◌&&◌, ◌==◌, not, ◌↔◌, vec_capacity, ◌||◌, nat_cmp, FinSet, contains, remove, empty, union, difference, contains-empty, contains-union, contains-difference, insert, or_cases, or_left, or_right, false≢true, eqb-true, eq-eqb, and_from, cases_Bool, Contains-push, Contains-push_cases, Contains-append_left, Contains-get_or, length-map, get_or-map, get_or-set_same, get_or-set_other, take_min, Det, Entry, instant, det_at, has, logs, entry_at, Recording, AreAccepted, IsWellFormed, actor, Reaches, Depends, HasOrphan, accepted_then, det_then, instant_length, nat_cmp_total, eqb_tells, nat_tests, Pid, Deliver, Crash, Restart, Forget, Send, Stable, max_entries, set, take-length}
 use Rattle.causal_audit.specs.declared.breach.Breach.{Breach}
 use Rattle.causal_audit.specs.declared.group.seen.Step.{Step}
 use Rattle.causal_audit.specs.declared.group.scan.Window.{Window}
@@ -32,16 +19,9 @@ use Rattle.causal_audit.proofs.group.Reaching.{left_in, left_out, none_in}
 use Rattle.causal_audit.proofs.by_clock.Reached.{reached_after}
 use Rattle.causal_audit.proofs.Steps.{up_to_next}
 use Rattle.causal_audit.proofs.group.Windowed.{position}
-use Rattle.std.specs.Cmp.{nat_cmp_total}
-use Rattle.std.proofs.lemmas.Bool.Decides.{eqb_tells, nat_tests}
-use Rattle.causal_name.specs.declared.Pid.{Pid}
-use Rattle.causal_trace.specs.declared.entry.Entry.TheVariants.{Deliver, Crash, Restart, Forget, Send, Stable}
-use Rattle.causal_trace.specs.Limits.{max_entries}
 use Rattle.causal_audit.specs.declared.group.room.Room.{Room}
 use Rattle.causal_audit.specs.declared.group.reach.Reach.{Reach}
 use Rattle.causal_audit.proofs.Shown.{inserted}
-use Rattle.std.proofs.Math.ListN.{set}
-use Rattle.std.proofs.Math.Seq.{take-length}
 
 -- ==== what one more entry makes of what is known of the deliveries of a group
 

@@ -1,7 +1,5 @@
 -- The positions of windows, and what holds of a list of windows.
-use Rattle.std.proofs.Common.{ℕ, ◌∷◌, [], List}
-use Rattle.std.specs.List.{All}
-use Rattle.std.proofs.lemmas.List.Elements.{All-cons, All-head, All-nil, All-tail}
+use Rattle.causal_audit.proofs.Common.{ℕ, ◌∷◌, [], List, All, All-cons, All-head, All-nil, All-tail}
 use Rattle.causal_audit.specs.declared.group.scan.Window.{Window}
 use Rattle.causal_audit.specs.Inside.Group.Scans.{positions_of}
 

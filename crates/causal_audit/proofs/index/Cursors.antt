@@ -1,8 +1,5 @@
 -- A walk over an ascending list.
-use Rattle.std.proofs.Common.{ℕ, ◌≡◌, ◌+◌, ◌<◌, ◌≤◌, inl, inr, true, false, List, length, get_or, subst, arith}
-use Rattle.std.specs.List.Sorted.{IsNonDecreasing, IsPartitionPoint}
-use Rattle.std.proofs.lemmas.Bool.{cases_lt, ltb-true}
-use Rattle.std.proofs.lemmas.List.{get_or_default}
+use Rattle.causal_audit.proofs.Common.{ℕ, ◌≡◌, ◌+◌, ◌<◌, ◌≤◌, inl, inr, true, false, List, length, get_or, subst, arith, IsNonDecreasing, IsPartitionPoint, cases_lt, ltb-true, get_or_default}
 use Rattle.std.proofs.Math.Dec.{ltb}
 use Rattle.causal_audit.specs.declared.by_clock.changes.Changes.{Changes}
 use Rattle.causal_audit.specs.declared.by_clock.changes.Ahead.{Ahead}

@@ -1,13 +1,6 @@
 -- Chains of determinants, from the heads of their messages.
-use Rattle.std.proofs.Common.{ℕ, zero, suc, ◌≡◌, ◌+◌, ◌<◌, ◌≤◌, inl, inr, Bool, true, false, cond, ◌==◌, List, [], ◌∷◌, ◌++◌, length, map, take, replicate, get_or, set, reverse, Option, Some, None, refl, sym, ap, subst, ◌∙◌, arith}
-use Rattle.std.specs.Prelude.{◌&&◌}
-use Rattle.std.specs.Option.{option_map_or}
-use Rattle.std.proofs.lemmas.Bool.{cases_Bool, eq-eqb, ne_eqb, eqb-true, and_parts, cond-true, cond-false}
-use Rattle.std.proofs.lemmas.Bool.Decides.{eqb_tells}
-use Rattle.std.proofs.lemmas.List.{get_or-set_same, get_or-set_other, reverse-append, reverse-reverse, length-reverse, get_or_append_left, length-map, length-replicate}
-use Rattle.std.proofs.Math.Seq.{get_or-append_seam}
-use Rattle.causal_name.specs.declared.Det.{Det}
-use Rattle.causal_name.specs.Names.{same_det}
+use Rattle.causal_audit.proofs.Common.{ℕ, zero, suc, ◌≡◌, ◌+◌, ◌<◌, ◌≤◌, inl, inr, Bool, true, false, cond, ◌==◌, List, [], ◌∷◌, ◌++◌, length, map, take, get_or, reverse, Option, Some, None, refl, sym, ap, subst, ◌∙◌, arith, ◌&&◌, option_map_or, cases_Bool, eq-eqb, ne_eqb, eqb-true, and_parts, cond-true, cond-false, eqb_tells, get_or-set_same, get_or-set_other, reverse-append, reverse-reverse, length-reverse, get_or_append_left, length-map, length-replicate, get_or-append_seam, Det, same_det}
+use Rattle.std.proofs.Common.{replicate, set}
 use Rattle.causal_audit.specs.Inside.Index.Filed.{number_of}
 use Rattle.causal_audit.specs.Inside.Index.Chains.{Heads, heads_of, head_of, HasHead, IsBelow, IsIndex, LeadDown, is_kin, sought}
 use Rattle.causal_audit.specs.declared.index.numbering.Node.{Node}

@@ -1,35 +1,20 @@
 -- How long a delivery stays with its receiver, and what that means for its orphans.
-use Rattle.std.proofs.Common.{ℕ, ◌≡◌, ◌<◌, ◌≤◌, inl, inr, true, false, cond, List, [], ◌∷◌, length, Option, Some, None, refl, sym, ap, subst, ◌∙◌, arith, get_or, ◌+◌, Bool, ◌≢◌}
-use Rattle.std.specs.Prelude.{◌⊎◌, ◌==◌, ◌||◌, not, ◌&&◌, slice_set}
-use Rattle.std.specs.Option.{option_map, option_map_or}
-use Rattle.std.proofs.lemmas.Bool.{cases_lt, false≢true, eqb-true, eq-eqb, or_from, cond-true, cond-false, ne_eqb, false_from_ne_true, or_right}
-use Rattle.causal_name.specs.declared.Det.{Det}
+use Rattle.causal_audit.proofs.Common.{ℕ, ◌≡◌, ◌<◌, ◌≤◌, inl, inr, true, false, cond, List, [], ◌∷◌, length, Option, Some, None, refl, sym, ap, subst, ◌∙◌, arith, get_or, ◌+◌, Bool, ◌≢◌, ◌⊎◌, ◌==◌, ◌||◌, not, ◌&&◌, slice_set, option_map, option_map_or, cases_lt, false≢true, eqb-true, eq-eqb, or_from, cond-true, cond-false, ne_eqb, false_from_ne_true, or_right, Det, Entry, Send, Deliver, Stable, Crash, Restart, Forget, instant, is_down, logs, lane, det_at, det_of, det_from, message_at, entry_at, AreAccepted, actor, IsEventOf, Delivers, DirectlyPrecedes, in_order, by_message, Reaches, itself, onward, is_delivery_of, accepted_forward, event_below, event_lane, instant_length, det_then, eqb_tells, nat_tests, HasOrphan, length-set, get_or-set_other}
 use Rattle.causal_name.specs.declared.MsgName.{MsgName}
-use Rattle.causal_trace.specs.declared.entry.Entry.{Entry}
-use Rattle.causal_trace.specs.declared.entry.Entry.TheVariants.{Send, Deliver, Stable, Crash, Restart, Forget}
-use Rattle.causal_trace.specs.Past.{instant, is_down, logs, lane, det_at, det_of, det_from, message_at, entry_at}
-use Rattle.causal_trace.specs.Rows.{AreAccepted}
-use Rattle.causal_trace.specs.Dependence.{actor, IsEventOf, Delivers, DirectlyPrecedes, in_order, by_message, Reaches, itself, onward, is_delivery_of}
-use Rattle.causal_trace.proofs.Lemmas.Accepted.{accepted_forward}
-use Rattle.causal_trace.proofs.Lemmas.Reached.{event_below, event_lane}
 use Rattle.causal_audit.specs.Laws.{gone}
 use Rattle.causal_audit.specs.Spread.{StaysAlone, CoveredHasNone, StaysUntil, CrashedHasNone}
 use Rattle.causal_trace.proofs.Lemmas.Happened.{event_once}
-use Rattle.causal_trace.proofs.Lemmas.AtInstants.{instant_length, det_then}
 use Rattle.causal_audit.proofs.Lemmas.Judged.{exposed}
 use Rattle.causal_audit.proofs.Legal.{delivery_event}
 use Rattle.causal_audit.proofs.Orphaned.{not_yet}
 use Rattle.causal_audit.proofs.by_clock.Reached.{reaches_whole, event_whole}
 use Rattle.causal_audit.specs.Inside.Index.Spreads.{acting, process_at, AreSpreads, with_delivered, spread_at}
-use Rattle.std.proofs.lemmas.Bool.Decides.{eqb_tells, nat_tests}
 use Rattle.causal_audit.proofs.by_clock.Begun.{onward_to}
 use Rattle.causal_audit.proofs.look.Staying.{entry_then}
-use Rattle.causal_trace.specs.Judgement.{HasOrphan}
 use Rattle.causal_audit.specs.declared.look.thins.Thins.{Thins}
 use Rattle.causal_audit.specs.Inside.Index.Filed.{IsFirstCrash}
 use Rattle.causal_audit.specs.Inside.Look.Looks.{IsBareAt, IsThinAt, AreThins, MayBeOpen}
 use Rattle.std.proofs.lemmas.Grind.{get_or-set_at}
-use Rattle.std.proofs.lemmas.List.{length-set, get_or-set_other}
 use Rattle.causal_audit.proofs.by_clock.Link.{delivers_below}
 
 -- ==== how long a delivery stays with its receiver

@@ -1,13 +1,5 @@
 -- One step of a look at a determinant.
-use Rattle.std.proofs.Common.{ℕ, ◌≡◌, ◌+◌, ◌<◌, ◌≤◌, inl, inr, true, List, ◌∷◌, length, get_or, Some, sym, ap, subst, ◌∙◌, arith}
-use Rattle.std.specs.Prelude.{◌==◌, Contains}
-use Rattle.std.specs.Ordering.{nat_cmp}
-use Rattle.std.specs.FinSet.{FinSet, difference, len, union}
-use Rattle.causal_trace.specs.declared.entry.Entry.{Entry}
-use Rattle.causal_trace.specs.Past.{instant, entry_at, has, is_down, is_stable, logs}
-use Rattle.causal_trace.specs.Rows.{AreAccepted}
-use Rattle.causal_trace.specs.State.{entries_of}
-use Rattle.causal_trace.proofs.Lemmas.AtInstants.{accepted_then}
+use Rattle.causal_audit.proofs.Common.{ℕ, ◌≡◌, ◌+◌, ◌<◌, ◌≤◌, inl, inr, true, List, ◌∷◌, length, get_or, Some, sym, ap, subst, ◌∙◌, arith, ◌==◌, Contains, nat_cmp, FinSet, difference, len, union, Entry, instant, entry_at, has, is_down, is_stable, logs, AreAccepted, entries_of, accepted_then}
 use Rattle.causal_audit.specs.declared.look.cover.Cover.{Cover}
 use Rattle.causal_audit.specs.declared.index.cursor.Cursor.{Cursor}
 use Rattle.causal_audit.specs.declared.look.Look.{Look}

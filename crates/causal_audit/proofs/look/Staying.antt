@@ -1,32 +1,14 @@
 -- Until when those who are down or hold a determinant are still so, and how it stands until then.
-use Rattle.std.proofs.Common.{ℕ, ◌≡◌, ◌+◌, ◌<◌, ◌≤◌, inl, inr, Bool, true, false, List, [], ◌∷◌, length, refl, sym, ap, subst, ◌∙◌, arith, Some, zero, suc, ◌-◌}
-use Rattle.std.specs.Prelude.{◌||◌, ◌&&◌, ◌==◌, not, ◌↔◌, Contains, if◌then◌else◌, min}
-use Rattle.std.proofs.lemmas.Bool.{cases_lt, false≢true, ne_eqb, eqb-true, or_cases, and_parts, false_from_ne_true, or_right, eq-eqb, and_right}
-use Rattle.causal_name.specs.declared.Det.{Det}
-use Rattle.causal_name.specs.Names.{same_det}
-use Rattle.causal_name.specs.Sets.{count_below}
-use Rattle.causal_holders.proofs.Lemmas.Counting.{count_below-within, count_below-le, members_counted}
-use Rattle.causal_trace.specs.declared.entry.Entry.{Entry}
-use Rattle.causal_trace.specs.declared.entry.Entry.TheVariants.{Send, Deliver, Stable, Crash, Restart, Forget}
-use Rattle.causal_trace.specs.Past.{instant, is_down, is_stable, logs, has, entry_at}
+use Rattle.causal_audit.proofs.Common.{ℕ, ◌≡◌, ◌+◌, ◌<◌, ◌≤◌, inl, inr, Bool, true, false, List, [], ◌∷◌, length, refl, sym, ap, subst, ◌∙◌, arith, Some, zero, suc, ◌-◌, ◌||◌, ◌&&◌, ◌==◌, not, ◌↔◌, Contains, if◌then◌else◌, min, cases_lt, false≢true, ne_eqb, eqb-true, or_cases, and_parts, false_from_ne_true, or_right, eq-eqb, and_right, Det, same_det, count_below, count_below-within, count_below-le, members_counted, Entry, Send, Deliver, Stable, Crash, Restart, Forget, instant, is_down, is_stable, logs, has, entry_at, instants_stay, one_more_instant, last_instant, instant_length, det_then, accepted_then, nat_cmp_total, nat_cmp, FinSet, contains, difference, contains-difference, union, len, contains-union, Pid, AreAccepted, delivers_up, eqb_tells, nat_tests, HasOrphan}
 use Rattle.causal_audit.specs.Laws.{gone}
 use Rattle.causal_audit.specs.Inside.Look.Looks.{IsThinAt, RulesOut, StandsBy}
 use Rattle.causal_audit.specs.Lasting.{may_release, NoneReleasedFrom, IsOver, OrphansEnd}
-use Rattle.causal_trace.proofs.Lemmas.AtInstants.{instants_stay, one_more_instant, last_instant, instant_length, det_then, accepted_then}
 use Rattle.causal_audit.proofs.Lemmas.Judged.{exposed}
 use Rattle.causal_audit.proofs.Orphaned.{not_yet}
-use Rattle.std.specs.Cmp.{nat_cmp_total}
-use Rattle.std.specs.Ordering.{nat_cmp}
-use Rattle.std.specs.FinSet.{FinSet, contains, difference, contains-difference, union, len, contains-union}
-use Rattle.causal_name.specs.declared.Pid.{Pid}
-use Rattle.causal_trace.specs.Rows.{AreAccepted}
-use Rattle.causal_trace.proofs.Lemmas.Accepted.{delivers_up}
 use Rattle.causal_audit.specs.Quiet.{mentioned_by}
 use Rattle.causal_audit.specs.Inside.Look.Staying.{restarts_one, GoneStay, HoldersStay, MentionsNone, RestartsNone}
 use Rattle.causal_audit.proofs.by_clock.Begun.{onward_to}
 use Rattle.causal_audit.proofs.Between.{logs_stay, next_entry}
-use Rattle.std.proofs.lemmas.Bool.Decides.{eqb_tells, nat_tests}
-use Rattle.causal_trace.specs.Judgement.{HasOrphan}
 use Rattle.causal_audit.specs.Inside.ByClock.Changes.{HasNoneUntil, AreMentionsOf, HasMentions}
 use Rattle.causal_audit.specs.Inside.Sights.{Shows}
 use Rattle.causal_audit.specs.declared.look.thin.Standing.{Standing}

@@ -1,16 +1,5 @@
 -- What a survey gathers: one delivery more, and what all together tell.
-use Rattle.std.proofs.Common.{ℕ, ◌≡◌, ◌+◌, ◌<◌, ◌≤◌, inl, inr, List, [], ◌∷◌, ◌++◌, length, get_or, Some, sym, subst, arith, length-append}
-use Rattle.std.specs.Prelude.{◌⊎◌, Contains}
-use Rattle.std.specs.List.{All}
-use Rattle.std.specs.List.Sorted.{IsStrictlyIncreasing}
-use Rattle.std.proofs.Math.ListN.{get_or-append}
-use Rattle.std.proofs.Math.Seq.{get_or-append_seam}
-use Rattle.std.proofs.lemmas.Bool.{cases_lt}
-use Rattle.std.proofs.lemmas.List.Elements.{All-push, All-weaker, Contains-append_left, Contains-push}
-use Rattle.causal_name.specs.declared.Det.{Det}
-use Rattle.causal_trace.specs.Past.{det_at, instant}
-use Rattle.causal_trace.specs.Rows.{Recording}
-use Rattle.causal_trace.proofs.Lemmas.AtInstants.{instant_length}
+use Rattle.causal_audit.proofs.Common.{ℕ, ◌≡◌, ◌+◌, ◌<◌, ◌≤◌, inl, inr, List, [], ◌∷◌, ◌++◌, length, get_or, Some, sym, subst, arith, length-append, ◌⊎◌, Contains, All, IsStrictlyIncreasing, get_or-append, get_or-append_seam, cases_lt, All-push, All-weaker, Contains-append_left, Contains-push, Det, det_at, instant, Recording, instant_length}
 use Rattle.causal_audit.specs.Inside.Among.{HasNoOrphanBy}
 use Rattle.causal_audit.specs.Inside.Group.Scans.{IsDeliveryAt, AreUncovered}
 use Rattle.causal_audit.proofs.Orphaned.{not_yet}

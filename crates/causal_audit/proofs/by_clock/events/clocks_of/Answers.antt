@@ -1,10 +1,6 @@
-use Rattle.std.proofs.Common.{◌≡◌, ◌+◌, ◌∷◌, ◌++◌, length, take, drop, arith, sym, subst, ap, ◌∙◌}
+use Rattle.causal_audit.proofs.Common.{◌≡◌, ◌+◌, ◌∷◌, ◌++◌, length, take, drop, arith, sym, subst, ap, ◌∙◌, length-reverse, instant, AreAccepted, accepted_then, last_instant}
 use Rattle.std.proofs.lemmas.Grind.{common_steps}
-use Rattle.std.proofs.lemmas.List.{length-reverse}
-use Rattle.causal_trace.specs.Past.{instant}
-use Rattle.causal_trace.specs.Rows.{AreAccepted}
 use Rattle.causal_audit.specs.Inside.ByClock.Stands.{Mirrors, Stands}
-use Rattle.causal_trace.proofs.Lemmas.AtInstants.{accepted_then, last_instant}
 use Rattle.causal_audit.proofs.by_clock.Mirrored.{mirrors_none}
 use Rattle.causal_audit.proofs.by_clock.Reached.{if_ok}
 use Rattle.causal_audit.proofs.Steps.{next_state, no_entry}

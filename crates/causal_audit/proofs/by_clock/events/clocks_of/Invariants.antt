@@ -1,6 +1,4 @@
-use Rattle.std.proofs.Common.{◌≡◌}
-use Rattle.causal_trace.specs.Past.{instant}
-use Rattle.causal_trace.specs.State.{entries_of}
+use Rattle.causal_audit.proofs.Common.{◌≡◌, instant, entries_of}
 use Rattle.causal_audit.specs.Inside.ByClock.Stands.{Mirrors}
 use Rattle.causal_audit.proofs.by_clock.events.clocks_of.Given as goal
 

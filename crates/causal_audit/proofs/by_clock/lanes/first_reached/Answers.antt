@@ -1,5 +1,4 @@
-use Rattle.std.proofs.Common.{◌≡◌, ◌+◌, ◌-◌, ◌/◌, ◌<◌, length, get_or, sym, subst, ◌∙◌, arith}
-use Rattle.std.proofs.lemmas.Bool.{false≢true}
+use Rattle.causal_audit.proofs.Common.{◌≡◌, ◌+◌, ◌-◌, ◌/◌, ◌<◌, length, get_or, sym, subst, ◌∙◌, arith, false≢true}
 use Rattle.causal_clock.specs.Precedence.{Reaches}
 use Rattle.causal_audit.proofs.by_clock.Firsts.{none_before, first_at, first_none}
 use Rattle.causal_audit.proofs.by_clock.lanes.first_reached.Goals as goal

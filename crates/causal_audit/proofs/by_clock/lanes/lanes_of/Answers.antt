@@ -1,7 +1,4 @@
-use Rattle.std.proofs.Common.{◌≡◌, ◌<◌, [], ℕ, List, Vec, Global, length, map, sym, subst, ◌∙◌, arith}
-use Rattle.std.proofs.lemmas.List.Elements.{All-map}
-use Rattle.causal_trace.specs.State.{past_at}
-use Rattle.causal_trace.proofs.Lemmas.Instants.{past_more, past_length}
+use Rattle.causal_audit.proofs.Common.{◌≡◌, ◌<◌, [], ℕ, List, Vec, Global, length, map, sym, subst, ◌∙◌, arith, All-map, past_at, past_more, past_length}
 use Rattle.causal_audit.specs.Inside.Index.Filed.{AreLanes}
 use Rattle.causal_audit.proofs.index.Filings.{lanes_none}
 use Rattle.causal_audit.proofs.by_clock.lanes.lanes_of.Goals as goal

@@ -1,5 +1,4 @@
-use Rattle.std.proofs.Common.{◌≡◌, map, vec_len}
-use Rattle.causal_trace.specs.State.{past_at}
+use Rattle.causal_audit.proofs.Common.{◌≡◌, map, vec_len, past_at}
 use Rattle.causal_audit.specs.Inside.Index.Filed.{AreLanes}
 use Rattle.causal_audit.proofs.by_clock.lanes.lanes_of.Given as goal
 

@@ -1,6 +1,4 @@
-use Rattle.std.proofs.Common.{◌<◌, ◌∷◌, length, map, sym, ap, subst, ◌∙◌, arith}
-use Rattle.std.proofs.lemmas.List.{length-map}
-use Rattle.causal_trace.specs.Dependence.{actor}
+use Rattle.causal_audit.proofs.Common.{◌<◌, ◌∷◌, length, map, sym, ap, subst, ◌∙◌, arith, length-map, actor}
 use Rattle.causal_clock.specs.Timeline.{lane_of}
 use Rattle.causal_audit.specs.Inside.Index.Filed.{AreLanes, with_added}
 use Rattle.causal_audit.proofs.index.Filings.{lanes_more, lanes_same, has_actor, no_actor, on_ok}

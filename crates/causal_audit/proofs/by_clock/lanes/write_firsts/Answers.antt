@@ -1,9 +1,4 @@
-use Rattle.std.proofs.Common.{ℕ, ◌≡◌, ◌≢◌, ◌<◌, inl, inr, [], List, Vec, Global, length, map, get_or, sym, ap, subst, ◌∙◌, arith}
-use Rattle.std.specs.Prelude.{Contains}
-use Rattle.std.proofs.Math.ListN.{set}
-use Rattle.std.proofs.lemmas.Bool.Decides.{eqb_tells}
-use Rattle.std.proofs.lemmas.List.{get_or-map, length-map, get_or-set_same, get_or-set_other}
-use Rattle.std.proofs.lemmas.List.Sorted.{IsNonDecreasingBy-from_sort, IsPermutation-sym}
+use Rattle.causal_audit.proofs.Common.{ℕ, ◌≡◌, ◌≢◌, ◌<◌, inl, inr, [], List, Vec, Global, length, map, get_or, sym, ap, subst, ◌∙◌, arith, Contains, set, eqb_tells, get_or-map, length-map, get_or-set_same, get_or-set_other, IsNonDecreasingBy-from_sort, IsPermutation-sym}
 use Rattle.causal_audit.specs.Inside.Index.Filed.{Ascends, IsFirstReached, list_at}
 use Rattle.causal_audit.proofs.by_clock.Firsts.{firsts_from, reached_from}
 use Rattle.causal_audit.proofs.by_clock.lanes.write_firsts.Goals as goal

@@ -1,7 +1,4 @@
-use Rattle.std.proofs.Common.{ℕ, ◌+◌, ◌<◌, ◌≤◌, Some, None, sym, subst, arith}
-use Rattle.causal_trace.specs.Past.{instant, is_down}
-use Rattle.causal_trace.specs.Judgement.{HasOrphan}
-use Rattle.causal_trace.proofs.Lemmas.AtInstants.{instant_length}
+use Rattle.causal_audit.proofs.Common.{ℕ, ◌+◌, ◌<◌, ◌≤◌, Some, None, sym, subst, arith, instant, is_down, HasOrphan, instant_length}
 use Rattle.causal_audit.specs.Inside.Sights.{IsSight, Shows}
 use Rattle.causal_audit.proofs.by_clock.Begun.{unheard_before}
 use Rattle.causal_audit.proofs.index.Cursors.{ahead_later}

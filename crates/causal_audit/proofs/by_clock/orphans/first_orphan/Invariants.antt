@@ -1,6 +1,4 @@
-use Rattle.std.proofs.Common.{ℕ, ◌≤◌, ◌-◌, length}
-use Rattle.causal_trace.specs.Past.{instant}
-use Rattle.causal_trace.specs.Judgement.{HasOrphan}
+use Rattle.causal_audit.proofs.Common.{ℕ, ◌≤◌, ◌-◌, length, instant, HasOrphan}
 use Rattle.causal_audit.specs.Inside.ByClock.Changes.{AreAhead}
 use Rattle.causal_audit.specs.Inside.Sights.{IsSight}
 use Rattle.causal_audit.proofs.by_clock.orphans.first_orphan.Given as goal

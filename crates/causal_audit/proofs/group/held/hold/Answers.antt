@@ -1,5 +1,4 @@
-use Rattle.std.proofs.Common.{◌≡◌, ◌∙◌, true, sym, ap, subst}
-use Rattle.std.specs.FinSet.{contains, union, difference}
+use Rattle.causal_audit.proofs.Common.{◌≡◌, ◌∙◌, true, sym, ap, subst, contains, union, difference}
 use Rattle.causal_audit.specs.Inside.Group.Walk.{KeepsHeld, row}
 use Rattle.causal_audit.proofs.group.GroupWalk.{held_delivery, held_crash, held_forget}
 use Rattle.causal_audit.proofs.group.held.hold.Goals as goal

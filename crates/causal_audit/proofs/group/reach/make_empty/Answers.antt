@@ -1,9 +1,5 @@
-use Rattle.std.proofs.Common.{◌∙◌, inl, inr, ◌≡◌, arith}
-use Rattle.std.specs.Prelude.{vec_len}
+use Rattle.causal_audit.proofs.Common.{◌∙◌, inl, inr, ◌≡◌, arith, vec_len, empty, get_or-eq_default, cases_lt, cond-true}
 use Rattle.std.specs.Result.{is_ok}
-use Rattle.std.specs.FinSet.{empty}
-use Rattle.std.proofs.Math.ListN.{get_or-eq_default}
-use Rattle.std.proofs.lemmas.Bool.{cases_lt, cond-true}
 use Rattle.causal_audit.proofs.group.reach.make_empty.Goals as goal
 
 pub returns-clause-none : goal.returns-clause-none

@@ -1,5 +1,4 @@
-use Rattle.std.proofs.Common.{◌≡◌, length}
-use Rattle.std.specs.Prelude.{vec_capacity}
+use Rattle.causal_audit.proofs.Common.{◌≡◌, length, vec_capacity}
 use Rattle.causal_audit.specs.Inside.Group.Walk.{AreOwnRows}
 use Rattle.causal_audit.proofs.group.reach.mark_own.Given as goal
 

@@ -1,7 +1,4 @@
-use Rattle.std.proofs.Common.{◌≡◌, ◌-◌, ◌<◌, length, get_or, ap, subst, sym, ◌∙◌, arith}
-use Rattle.std.proofs.Math.ListN.{set}
-use Rattle.std.specs.FinSet.{empty, insert}
-use Rattle.std.proofs.lemmas.List.{get_or_default}
+use Rattle.causal_audit.proofs.Common.{◌≡◌, ◌-◌, ◌<◌, length, get_or, ap, subst, sym, ◌∙◌, arith, set, empty, insert, get_or_default}
 use Rattle.causal_audit.specs.Inside.Group.Walk.{IsPut}
 use Rattle.causal_audit.proofs.group.GroupWalk.{put_in}
 use Rattle.causal_audit.proofs.group.reach.put.Goals as goal

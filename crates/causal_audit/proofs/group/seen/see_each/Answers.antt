@@ -1,7 +1,4 @@
-use Rattle.std.proofs.Common.{◌≡◌, ◌∙◌, sym, ap, subst}
-use Rattle.std.specs.Prelude.{ℕ, false}
-use Rattle.std.specs.FinSet.{contains, contains-empty}
-use Rattle.std.specs.Ordering.{nat_cmp}
+use Rattle.causal_audit.proofs.Common.{◌≡◌, ◌∙◌, sym, ap, subst, ℕ, false, contains, contains-empty, nat_cmp}
 use Rattle.causal_audit.specs.Inside.Group.Walk.{IsKnown}
 use Rattle.causal_audit.proofs.group.GroupWalk.{among_windows, seen_none, seen_more}
 use Rattle.causal_audit.proofs.group.Reaching.{fewer}

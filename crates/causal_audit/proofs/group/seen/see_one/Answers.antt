@@ -1,8 +1,4 @@
-use Rattle.std.proofs.Common.{◌≡◌, ◌∙◌, ◌+◌, ◌<◌, length, sym, ap, subst, arith}
-use Rattle.std.proofs.Math.ListN.{set}
-use Rattle.std.specs.FinSet.{empty}
-use Rattle.std.proofs.lemmas.List.{get_or-set_same, get_or_default}
-use Rattle.std.specs.Prelude.{false}
+use Rattle.causal_audit.proofs.Common.{◌≡◌, ◌∙◌, ◌+◌, ◌<◌, length, sym, ap, subst, arith, set, empty, get_or-set_same, get_or_default, false}
 use Rattle.causal_audit.specs.declared.sight.Sight.{Sight}
 use Rattle.causal_audit.specs.Inside.Sights.{TellsBreachAt, IsSightAfter}
 use Rattle.causal_audit.specs.Inside.ByClock.Changes.{IsReachedBy}

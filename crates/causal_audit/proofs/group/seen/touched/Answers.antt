@@ -1,10 +1,4 @@
-use Rattle.std.proofs.Common.{ℕ, ◌≡◌, ◌∙◌, inl, inr, Bool, true, false, refl, sym, ap, arith}
-use Rattle.std.specs.Prelude.{◌&&◌, ◌||◌, ◌⊎◌, not}
-use Rattle.std.specs.Ordering.{nat_cmp}
-use Rattle.std.specs.Cmp.{nat_cmp_total}
-use Rattle.std.specs.FinSet.{FinSet, contains, union, difference, contains-union, contains-difference}
-use Rattle.std.proofs.lemmas.Bool.{false≢true}
-use Rattle.std.proofs.lemmas.Bool.Decides.{nat_tests}
+use Rattle.causal_audit.proofs.Common.{ℕ, ◌≡◌, ◌∙◌, inl, inr, Bool, true, false, refl, sym, ap, arith, ◌&&◌, ◌||◌, ◌⊎◌, not, nat_cmp, nat_cmp_total, FinSet, contains, union, difference, contains-union, contains-difference, false≢true, nat_tests}
 use Rattle.causal_audit.proofs.group.seen.touched.Goals as goal
 
 -- what is in the common part

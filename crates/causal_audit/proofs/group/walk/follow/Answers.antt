@@ -1,6 +1,4 @@
-use Rattle.std.proofs.Common.{◌≡◌, ◌∙◌, ◌+◌, ◌-◌, ◌<◌, ◌≤◌, length, refl, sym, ap, subst, arith}
-use Rattle.causal_trace.specs.Past.{instant}
-use Rattle.causal_trace.specs.Judgement.{HasOrphan}
+use Rattle.causal_audit.proofs.Common.{◌≡◌, ◌∙◌, ◌+◌, ◌-◌, ◌<◌, ◌≤◌, length, refl, sym, ap, subst, arith, instant, HasOrphan}
 use Rattle.causal_audit.specs.Inside.Among.{LeastAmongBy}
 use Rattle.causal_audit.specs.Inside.Group.Scans.{positions_of}
 use Rattle.causal_audit.specs.Inside.Group.Walk.{row, IsHeldBy, IsHeldSo}

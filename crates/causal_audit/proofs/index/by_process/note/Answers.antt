@@ -1,5 +1,4 @@
-use Rattle.std.proofs.Common.{◌<◌, ◌∷◌, length, map, sym, ap, subst, ◌∙◌, arith}
-use Rattle.std.proofs.lemmas.List.{length-map}
+use Rattle.causal_audit.proofs.Common.{◌<◌, ◌∷◌, length, map, sym, ap, subst, ◌∙◌, arith, length-map}
 use Rattle.causal_audit.specs.Inside.Index.Filed.{AreTurnsOf, with_added}
 use Rattle.causal_audit.proofs.index.Filings.{turns_more, turns_same, on_ok}
 use Rattle.causal_audit.proofs.index.by_process.note.Goals as goal

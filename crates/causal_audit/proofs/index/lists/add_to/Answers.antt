@@ -1,6 +1,4 @@
-use Rattle.std.proofs.Common.{◌≡◌, ◌<◌, ◌∷◌, ◌++◌, [], Vec, Global, List, ℕ, length, map, get_or, sym, ap, ◌∙◌, arith}
-use Rattle.std.proofs.Math.ListN.{set}
-use Rattle.std.proofs.lemmas.List.{map-set, get_or-map}
+use Rattle.causal_audit.proofs.Common.{◌≡◌, ◌<◌, ◌∷◌, ◌++◌, [], Vec, Global, List, ℕ, length, map, get_or, sym, ap, ◌∙◌, arith, set, map-set, get_or-map}
 use Rattle.causal_audit.proofs.index.lists.add_to.Goals as goal
 
 pub returns-clause-added : goal.returns-clause-added

@@ -1,5 +1,4 @@
-use Rattle.std.proofs.Common.{◌≡◌, [], vec_len}
-use Rattle.std.specs.List.{All}
+use Rattle.causal_audit.proofs.Common.{◌≡◌, [], vec_len, All}
 use Rattle.causal_audit.proofs.index.lists.empty_lists.Given as goal
 
 abbrev pub invariant-loop : goal.invariant-loop

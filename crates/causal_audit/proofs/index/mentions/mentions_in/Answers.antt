@@ -1,6 +1,4 @@
-use Rattle.std.proofs.Common.{◌<◌, length, map, sym, subst, arith}
-use Rattle.causal_trace.specs.State.{past_at}
-use Rattle.causal_trace.proofs.Lemmas.Instants.{past_more, past_length}
+use Rattle.causal_audit.proofs.Common.{◌<◌, length, map, sym, subst, arith, past_at, past_more, past_length}
 use Rattle.causal_audit.specs.Inside.Index.Filed.{AreMentions}
 use Rattle.causal_audit.proofs.index.mentions.mentions_in.Goals as goal
 

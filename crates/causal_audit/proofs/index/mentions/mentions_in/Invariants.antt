@@ -1,5 +1,4 @@
-use Rattle.std.proofs.Common.{map}
-use Rattle.causal_trace.specs.State.{past_at}
+use Rattle.causal_audit.proofs.Common.{map, past_at}
 use Rattle.causal_audit.specs.Inside.Index.Filed.{AreMentions}
 use Rattle.causal_audit.proofs.index.mentions.mentions_in.Given as goal
 

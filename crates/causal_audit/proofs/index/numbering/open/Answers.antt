@@ -1,6 +1,4 @@
-use Rattle.std.proofs.Common.{Vec, Global, Option, ℕ, ◌≡◌, ◌<◌, [], List, None, length, map, get_or, refl, sym, ap, subst, ◌∙◌, arith}
-use Rattle.std.proofs.lemmas.Bool.{cond-true, eq-eqb}
-use Rattle.std.proofs.lemmas.List.{map-set, get_or-map, length-map, length-set}
+use Rattle.causal_audit.proofs.Common.{Vec, Global, Option, ℕ, ◌≡◌, ◌<◌, [], List, None, length, map, get_or, refl, sym, ap, subst, ◌∙◌, arith, cond-true, eq-eqb, map-set, get_or-map, length-map, length-set}
 use Rattle.causal_audit.specs.Inside.Index.Chains.{HasHead, head_of, heads_of}
 use Rattle.causal_audit.proofs.index.Filings.{on_ok}
 use Rattle.causal_audit.proofs.index.Indexed.{head_same, heads_replaced}

@@ -1,7 +1,4 @@
-use Rattle.std.proofs.Common.{◌≡◌, ◌<◌, ◌+◌, cond, length, get_or, reverse, Some, None, sym, ap, subst, ◌∙◌, arith}
-use Rattle.std.specs.Option.{option_map_or}
-use Rattle.std.proofs.lemmas.Bool.{cond-true, cond-false}
-use Rattle.causal_name.specs.Names.{same_det}
+use Rattle.causal_audit.proofs.Common.{◌≡◌, ◌<◌, ◌+◌, cond, length, get_or, reverse, Some, None, sym, ap, subst, ◌∙◌, arith, option_map_or, cond-true, cond-false, same_det}
 use Rattle.causal_audit.specs.Inside.Index.Chains.{IsBelow, sought}
 use Rattle.causal_audit.specs.declared.index.numbering.Node.{Node}
 use Rattle.causal_audit.proofs.index.Indexed.{leads_in, below_higher, chain_ends, walk_falls}

@@ -1,5 +1,4 @@
-use Rattle.std.proofs.Common.{◌≡◌, ◌+◌, length, reverse}
-use Rattle.std.specs.Option.{option_map_or}
+use Rattle.causal_audit.proofs.Common.{◌≡◌, ◌+◌, length, reverse, option_map_or}
 use Rattle.causal_audit.specs.Inside.Index.Chains.{IsBelow, sought}
 use Rattle.causal_audit.proofs.index.numbering.search.Given as goal
 

@@ -1,7 +1,4 @@
-use Rattle.std.proofs.Common.{◌≡◌, ◌+◌, ◌-◌, ◌<◌, length, Some, refl, sym, ap, subst, ◌∙◌, arith}
-use Rattle.std.specs.Prelude.{slice_set}
-use Rattle.std.proofs.lemmas.List.{length-set}
-use Rattle.causal_trace.specs.Past.{entry_at}
+use Rattle.causal_audit.proofs.Common.{◌≡◌, ◌+◌, ◌-◌, ◌<◌, length, Some, refl, sym, ap, subst, ◌∙◌, arith, slice_set, length-set, entry_at}
 use Rattle.causal_audit.specs.Inside.Index.Spreads.{process_at, spread_at, with_delivered}
 use Rattle.causal_audit.proofs.index.Receivers.{process_is, AreSpreadsFrom, noted_length, spreads_begun, spreads_next}
 use Rattle.causal_audit.proofs.Steps.{how_many, entry_read}

@@ -1,6 +1,4 @@
-use Rattle.std.proofs.Common.{◌≡◌, ◌≤◌, length}
-use Rattle.causal_trace.specs.Rows.{Recording, IsWellFormed}
-use Rattle.causal_trace.specs.State.{entries_of}
+use Rattle.causal_audit.proofs.Common.{◌≡◌, ◌≤◌, length, Recording, IsWellFormed, entries_of}
 use Rattle.causal_audit.specs.Inside.Index.Spreads.{process_at}
 use Rattle.causal_audit.proofs.index.Receivers.{AreSpreadsFrom}
 use Rattle.causal_audit.proofs.index.spreads.stays_of.Given as goal

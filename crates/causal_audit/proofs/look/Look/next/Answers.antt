@@ -1,5 +1,4 @@
-use Rattle.std.proofs.Common.{◌+◌, refl, subst, arith}
-use Rattle.std.specs.FinSet.{union}
+use Rattle.causal_audit.proofs.Common.{◌+◌, refl, subst, arith, union}
 use Rattle.causal_audit.specs.declared.look.thin.Stretch.{Stretch}
 use Rattle.causal_audit.specs.Inside.Look.Looks.{StandsBy}
 use Rattle.causal_audit.proofs.look.Looked.{is_change, passed_to, written, onward_stop, over}

@@ -1,5 +1,4 @@
-use Rattle.std.proofs.Common.{◌≤◌, length, ◌∙◌, arith}
-use Rattle.causal_trace.specs.Past.{instant, logs}
+use Rattle.causal_audit.proofs.Common.{◌≤◌, length, ◌∙◌, arith, instant, logs}
 use Rattle.causal_audit.proofs.by_clock.Begun.{unheard_before}
 use Rattle.causal_audit.proofs.Steps.{entry_then}
 use Rattle.causal_audit.proofs.Shown.{shows_none}

@@ -1,7 +1,4 @@
-use Rattle.std.proofs.Common.{◌≡◌, false, length, reverse, ap, subst, sym, ◌∙◌}
-use Rattle.std.proofs.lemmas.List.{reverse-reverse}
-use Rattle.causal_trace.specs.State.{past_at}
-use Rattle.causal_trace.proofs.Lemmas.Instants.{past_whole}
+use Rattle.causal_audit.proofs.Common.{◌≡◌, false, length, reverse, ap, subst, sym, ◌∙◌, reverse-reverse, past_at, past_whole}
 use Rattle.causal_audit.specs.Inside.Index.Filed.{AreTurnsOf, lists_in}
 use Rattle.causal_audit.specs.Inside.Index.Spreads.{AreSpreads, process_at}
 use Rattle.causal_audit.proofs.look.survey.windows_of.Goals as goal

@@ -1,7 +1,4 @@
-use Rattle.std.proofs.Common.{ℕ, ◌≡◌, ◌≤◌, inl, inr, true, List, subst, arith}
-use Rattle.std.specs.Prelude.{◌↔◌, ◌==◌, Contains}
-use Rattle.std.proofs.lemmas.Bool.{eqb-true}
-use Rattle.std.proofs.lemmas.Bool.Decides.{eqb_tells}
+use Rattle.causal_audit.proofs.Common.{ℕ, ◌≡◌, ◌≤◌, inl, inr, true, List, subst, arith, ◌↔◌, ◌==◌, Contains, eqb-true, eqb_tells}
 use Rattle.causal_audit.specs.Inside.ByClock.Changes.{HasNoneUntil}
 use Rattle.causal_audit.proofs.by_clock.changes.Ahead.next.Goals as goal
 

@@ -1,7 +1,4 @@
-use Rattle.std.proofs.Common.{◌≡◌, ◌≤◌, true, length, sym, subst, arith}
-use Rattle.std.specs.FinSet.{contains}
-use Rattle.causal_trace.specs.Past.{instant, is_down}
-use Rattle.causal_trace.proofs.Lemmas.AtInstants.{instant_length}
+use Rattle.causal_audit.proofs.Common.{◌≡◌, ◌≤◌, true, length, sym, subst, arith, contains, instant, is_down, instant_length}
 use Rattle.causal_audit.specs.declared.group.scan.Window.{Window}
 use Rattle.causal_audit.specs.Inside.Group.Walk.{position_at}
 use Rattle.causal_audit.specs.Inside.Group.Scans.{Scanned}

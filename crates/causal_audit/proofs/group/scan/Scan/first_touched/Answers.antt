@@ -1,7 +1,4 @@
-use Rattle.std.proofs.Common.{◌≡◌, ◌≤◌, ◌∙◌, Vec, Global, ℕ, List, Some, map, subst, sym, arith}
-use Rattle.std.specs.Prelude.{Contains, false}
-use Rattle.std.specs.List.Sorted.{IsNonDecreasing}
-use Rattle.causal_trace.specs.Past.{has, instant}
+use Rattle.causal_audit.proofs.Common.{◌≡◌, ◌≤◌, ◌∙◌, Vec, Global, ℕ, List, Some, map, subst, sym, arith, Contains, false, IsNonDecreasing, has, instant}
 use Rattle.causal_audit.specs.Quiet.{mentioned_by}
 use Rattle.causal_audit.specs.Inside.Group.Walk.{IsUntouchedBefore}
 use Rattle.causal_audit.specs.Inside.Group.Scans.{Scanned}

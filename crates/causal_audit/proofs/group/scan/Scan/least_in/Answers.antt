@@ -1,8 +1,4 @@
-use Rattle.std.proofs.Common.{◌≤◌, length, sym, subst, arith}
-use Rattle.std.specs.List.{All}
-use Rattle.causal_trace.specs.Past.{instant}
-use Rattle.causal_trace.specs.Judgement.{HasOrphan}
-use Rattle.causal_trace.proofs.Lemmas.AtInstants.{instant_length}
+use Rattle.causal_audit.proofs.Common.{◌≤◌, length, sym, subst, arith, All, instant, HasOrphan, instant_length}
 use Rattle.causal_audit.specs.declared.group.scan.Window.{Window}
 use Rattle.causal_audit.specs.Inside.Among.{LeastAmongBy}
 use Rattle.causal_audit.specs.Inside.Group.Walk.{HaveNone, position_at}

@@ -1,6 +1,4 @@
-use Rattle.std.proofs.Common.{◌≡◌, ◌++◌, [], List, sym, ap, subst, ◌∙◌, append_assoc, append-nil, arith}
-use Rattle.std.proofs.lemmas.List.{map-append, nil_from_length}
-use Rattle.std.specs.List.{All}
+use Rattle.causal_audit.proofs.Common.{◌≡◌, ◌++◌, [], List, sym, ap, subst, ◌∙◌, append_assoc, append-nil, arith, map-append, nil_from_length, All}
 use Rattle.std.specs.Slice.Iter.{chunks_rest, chunks_size}
 use Rattle.causal_audit.proofs.AmongLemmas.{among_joined, among_none, horizon_within}
 use Rattle.causal_audit.proofs.group.GroupWalk.{room_within}

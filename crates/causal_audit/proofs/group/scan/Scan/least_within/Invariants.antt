@@ -1,5 +1,4 @@
-use Rattle.std.proofs.Common.{ℕ, ◌≡◌, ◌++◌, List}
-use Rattle.std.specs.List.{All}
+use Rattle.causal_audit.proofs.Common.{ℕ, ◌≡◌, ◌++◌, List, All}
 use Rattle.std.specs.Slice.Iter.{chunks_rest, chunks_size}
 use Rattle.causal_audit.specs.Inside.Among.{LeastAmongBy}
 use Rattle.causal_audit.specs.Inside.Group.Walk.{HasRoom}

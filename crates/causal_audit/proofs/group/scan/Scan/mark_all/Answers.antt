@@ -1,5 +1,4 @@
-use Rattle.std.proofs.Common.{refl, ap, sym, ◌∙◌, arith}
-use Rattle.std.specs.FinSet.{contains}
+use Rattle.causal_audit.proofs.Common.{refl, ap, sym, ◌∙◌, arith, contains}
 use Rattle.causal_audit.proofs.group.Reaching.{none_in}
 use Rattle.causal_audit.proofs.group.scan.Scan.mark_all.Goals as goal
 

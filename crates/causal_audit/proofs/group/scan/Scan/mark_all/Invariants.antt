@@ -1,6 +1,4 @@
-use Rattle.std.proofs.Common.{ℕ, ◌≡◌, ◌<◌, ◌≤◌, true, length}
-use Rattle.std.specs.Prelude.{vec_capacity}
-use Rattle.std.specs.FinSet.{contains}
+use Rattle.causal_audit.proofs.Common.{ℕ, ◌≡◌, ◌<◌, ◌≤◌, true, length, vec_capacity, contains}
 use Rattle.causal_audit.specs.Inside.Group.Walk.{AreMarked, row}
 use Rattle.causal_audit.proofs.group.scan.Scan.mark_all.Given as goal
 

@@ -1,7 +1,4 @@
-use Rattle.std.proofs.Common.{◌≡◌, ◌∙◌, ◌+◌, ◌<◌, inl, inr, length, Some, refl, subst, sym, arith}
-use Rattle.std.specs.Prelude.{Contains}
-use Rattle.std.specs.FinSet.{contains}
-use Rattle.causal_trace.specs.Past.{has, instant}
+use Rattle.causal_audit.proofs.Common.{◌≡◌, ◌∙◌, ◌+◌, ◌<◌, inl, inr, length, Some, refl, subst, sym, arith, Contains, contains, has, instant}
 use Rattle.causal_audit.specs.Quiet.{mentioned_by}
 use Rattle.causal_audit.specs.Inside.Group.Walk.{IsMarked, row}
 use Rattle.causal_audit.specs.Inside.Index.Filed.{lists_in, mentions_of}

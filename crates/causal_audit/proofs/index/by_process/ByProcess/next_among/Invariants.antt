@@ -1,5 +1,4 @@
-use Rattle.std.proofs.Common.{◌≤◌}
-use Rattle.std.specs.FinSet.{len}
+use Rattle.causal_audit.proofs.Common.{◌≤◌, len}
 use Rattle.causal_audit.specs.Inside.Index.Filed.{lists_in}
 use Rattle.causal_audit.proofs.index.Filings.{RestNone}
 use Rattle.causal_audit.proofs.index.by_process.ByProcess.next_among.Given as goal

@@ -1,8 +1,4 @@
-use Rattle.std.proofs.Common.{◌≡◌, ◌<◌, [], ℕ, Vec, Global, List, length, sym, ap, subst, ◌∙◌, arith}
-use Rattle.std.specs.Prelude.{Contains}
-use Rattle.std.specs.List.Sorted.{IsNonDecreasing}
-use Rattle.std.proofs.lemmas.List.{get_or-map, length-map}
-use Rattle.std.proofs.lemmas.List.Elements.{All-get_or}
+use Rattle.causal_audit.proofs.Common.{◌≡◌, ◌<◌, [], ℕ, Vec, Global, List, length, sym, ap, subst, ◌∙◌, arith, Contains, IsNonDecreasing, get_or-map, length-map, All-get_or}
 use Rattle.causal_audit.specs.Inside.ByClock.Changes.{HasNoneUntil}
 use Rattle.causal_audit.specs.Inside.Index.Filed.{list_at, lists_in}
 use Rattle.causal_audit.proofs.index.by_process.ByProcess.next_of.Goals as goal

@@ -1,5 +1,4 @@
-use Rattle.std.proofs.Common.{◌≡◌, vec_len}
-use Rattle.causal_trace.specs.State.{past_at}
+use Rattle.causal_audit.proofs.Common.{◌≡◌, vec_len, past_at}
 use Rattle.causal_audit.specs.Inside.Index.Filed.{AreTurnsOf, lists_in}
 use Rattle.causal_audit.proofs.index.by_process.ByProcess.of.Given as goal
 

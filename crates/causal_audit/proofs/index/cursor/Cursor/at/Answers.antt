@@ -1,7 +1,5 @@
-use Rattle.std.proofs.Common.{◌≡◌, true, false, refl, rules}
-use Rattle.std.specs.List.Sorted.{IsPartitionPoint}
+use Rattle.causal_audit.proofs.Common.{◌≡◌, true, false, refl, rules, IsPartitionPoint, IsPartitionPoint-from_clause, IsPartitionedBy-ltb}
 use Rattle.std.proofs.Math.Dec.{ltb}
-use Rattle.std.proofs.lemmas.List.Sorted.{IsPartitionPoint-from_clause, IsPartitionedBy-ltb}
 use Rattle.causal_audit.proofs.index.Cursors.{passed_at}
 use Rattle.causal_audit.proofs.index.cursor.Cursor.at.Goals as goal
 

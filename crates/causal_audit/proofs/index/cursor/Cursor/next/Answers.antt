@@ -1,6 +1,4 @@
-use Rattle.std.proofs.Common.{◌≡◌, ◌<◌, ◌≤◌, length, get_or, arith, subst, sym, ◌∙◌}
-use Rattle.std.specs.List.Sorted.{IsNonDecreasing}
-use Rattle.std.proofs.lemmas.List.{get_or_default}
+use Rattle.causal_audit.proofs.Common.{◌≡◌, ◌<◌, ◌≤◌, length, get_or, arith, subst, sym, ◌∙◌, IsNonDecreasing, get_or_default}
 use Rattle.causal_audit.proofs.index.Cursors.{none_found, none_left, passed_one}
 use Rattle.causal_audit.proofs.index.cursor.Cursor.next.Goals as goal
 

@@ -1,5 +1,4 @@
-use Rattle.std.proofs.Common.{◌<◌, ◌∷◌, ◌++◌, [], length, sym, ap, subst, ◌∙◌, arith}
-use Rattle.std.proofs.lemmas.List.{length-map}
+use Rattle.causal_audit.proofs.Common.{◌<◌, ◌∷◌, ◌++◌, [], length, sym, ap, subst, ◌∙◌, arith, length-map}
 use Rattle.causal_audit.specs.Inside.Index.Filed.{AreMentionsWith, lists_in, with_added}
 use Rattle.causal_audit.proofs.index.Filings.{on_ok, number_below, mentions_more, mentions_alike}
 use Rattle.causal_audit.proofs.index.mentions.Mentions.add.Goals as goal

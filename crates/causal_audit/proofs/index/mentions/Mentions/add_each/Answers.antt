@@ -1,5 +1,4 @@
-use Rattle.std.proofs.Common.{◌<◌, length, take, sym, subst}
-use Rattle.std.proofs.lemmas.List.{take_more}
+use Rattle.causal_audit.proofs.Common.{◌<◌, length, take, sym, subst, take_more}
 use Rattle.causal_audit.specs.Inside.Index.Kept.{AreMentionsWithKept}
 use Rattle.causal_audit.proofs.index.mentions.Mentions.add_each.Goals as goal
 

@@ -1,5 +1,4 @@
-use Rattle.std.proofs.Common.{◌≡◌, List, [], length, take}
-use Rattle.causal_trace.specs.declared.entry.Entry.{Entry}
+use Rattle.causal_audit.proofs.Common.{◌≡◌, List, [], length, take, Entry}
 use Rattle.causal_audit.specs.Inside.Index.Kept.{AreMentionsWithKept}
 use Rattle.causal_audit.proofs.index.mentions.Mentions.add_each.Given as goal
 

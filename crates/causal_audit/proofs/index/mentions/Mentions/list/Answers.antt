@@ -1,7 +1,4 @@
-use Rattle.std.proofs.Common.{◌≡◌, ◌<◌, [], ℕ, Vec, Global, List, length, map, sym, ap, ◌∙◌, arith}
-use Rattle.std.specs.Prelude.{Some}
-use Rattle.std.specs.Option.{option_map_or}
-use Rattle.std.proofs.lemmas.List.{get_or-map}
+use Rattle.causal_audit.proofs.Common.{◌≡◌, ◌<◌, [], ℕ, Vec, Global, List, length, map, sym, ap, ◌∙◌, arith, Some, option_map_or, get_or-map}
 use Rattle.causal_audit.specs.Inside.Index.Filed.{list_at, number_of}
 use Rattle.causal_audit.proofs.index.Filings.{number_below}
 use Rattle.causal_audit.proofs.index.mentions.Mentions.list.Goals as goal

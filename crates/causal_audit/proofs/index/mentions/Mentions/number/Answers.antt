@@ -1,6 +1,4 @@
-use Rattle.std.proofs.Common.{ℕ, ◌≡◌, ◌∷◌, ◌++◌, [], Vec, Global, List, None, sym, ap, subst, ◌∙◌, arith}
-use Rattle.std.specs.List.{All}
-use Rattle.std.proofs.lemmas.List.{length-map, map-append}
+use Rattle.causal_audit.proofs.Common.{ℕ, ◌≡◌, ◌∷◌, ◌++◌, [], Vec, Global, List, None, sym, ap, subst, ◌∙◌, arith, All, length-map, map-append}
 use Rattle.causal_audit.specs.Inside.Index.Filed.{Ascends, lists_in, mentions_of, number_of}
 use Rattle.causal_audit.proofs.index.Filings.{new_same, new_ascend}
 use Rattle.causal_audit.proofs.index.mentions.Mentions.number.Goals as goal

@@ -1,6 +1,4 @@
-use Rattle.std.proofs.Common.{Vec, Global, Option, ℕ, ◌≡◌, ◌∷◌, [], List, Some, cond, length, map, reverse, sym, ap, subst, ◌∙◌, arith}
-use Rattle.std.proofs.lemmas.List.{length-map, length-reverse, reverse-append}
-use Rattle.causal_name.specs.declared.Det.{Det}
+use Rattle.causal_audit.proofs.Common.{Vec, Global, Option, ℕ, ◌≡◌, ◌∷◌, [], List, Some, cond, length, map, reverse, sym, ap, subst, ◌∙◌, arith, length-map, length-reverse, reverse-append, Det}
 use Rattle.causal_audit.specs.Inside.Index.Chains.{IsIndex, head_of, is_kin}
 use Rattle.causal_audit.specs.declared.index.numbering.Node.{Node}
 use Rattle.causal_audit.proofs.index.Indexed.{index_same, index_more}

@@ -1,5 +1,4 @@
-use Rattle.std.proofs.Common.{◌≡◌, get_or, reverse, Some, sym, ap, subst, ◌∙◌}
-use Rattle.std.proofs.lemmas.List.{reverse-reverse}
+use Rattle.causal_audit.proofs.Common.{◌≡◌, get_or, reverse, Some, sym, ap, subst, ◌∙◌, reverse-reverse}
 use Rattle.causal_audit.specs.Inside.Index.Filed.{number_of}
 use Rattle.causal_audit.specs.declared.index.numbering.Node.{Node}
 use Rattle.causal_audit.proofs.index.Filings.{node_of}

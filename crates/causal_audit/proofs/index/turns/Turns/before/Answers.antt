@@ -1,8 +1,5 @@
-use Rattle.std.proofs.Common.{◌≡◌, ◌≤◌, true, false, length, get_or, sym, subst, rules}
-use Rattle.std.specs.List.Sorted.{IsPartitionPoint, IsPartitionedBy}
+use Rattle.causal_audit.proofs.Common.{◌≡◌, ◌≤◌, true, false, length, get_or, sym, subst, rules, IsPartitionPoint, IsPartitionedBy, ltb-true, ltb-false, IsPartitionPoint-from_clause, IsPartitionedBy-ltb}
 use Rattle.std.proofs.Math.Dec.{ltb}
-use Rattle.std.proofs.lemmas.Bool.{ltb-true, ltb-false}
-use Rattle.std.proofs.lemmas.List.Sorted.{IsPartitionPoint-from_clause, IsPartitionedBy-ltb}
 use Rattle.causal_audit.proofs.index.turns.Turns.before.Goals as goal
 
 pub returns : goal.returns

@@ -1,7 +1,4 @@
-use Rattle.std.proofs.Common.{◌≡◌, ◌∷◌, ◌+◌, ◌<◌, [], length, refl, sym, subst, arith}
-use Rattle.causal_trace.specs.Past.{is_down}
-use Rattle.causal_trace.specs.State.{past_at}
-use Rattle.causal_trace.proofs.Lemmas.Instants.{past_more, past_length}
+use Rattle.causal_audit.proofs.Common.{◌≡◌, ◌∷◌, ◌+◌, ◌<◌, [], length, refl, sym, subst, arith, is_down, past_at, past_more, past_length}
 use Rattle.causal_audit.specs.Inside.Index.Filed.{AreTurns}
 use Rattle.causal_audit.specs.Inside.Sights.{Shows}
 use Rattle.causal_audit.proofs.Shown.{shows_none}

@@ -1,5 +1,4 @@
-use Rattle.causal_trace.specs.Past.{is_down}
-use Rattle.causal_trace.specs.State.{past_at}
+use Rattle.causal_audit.proofs.Common.{is_down, past_at}
 use Rattle.causal_audit.specs.Inside.Index.Filed.{AreTurns}
 use Rattle.causal_audit.specs.Inside.Sights.{Shows}
 use Rattle.causal_audit.proofs.index.turns.Turns.of.Given as goal

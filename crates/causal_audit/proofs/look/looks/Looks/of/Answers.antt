@@ -1,6 +1,4 @@
-use Rattle.std.proofs.Common.{ℕ, Vec, Global, List, map, sym, subst}
-use Rattle.std.specs.List.Sorted.{IsNonDecreasing}
-use Rattle.causal_trace.specs.Past.{instant}
+use Rattle.causal_audit.proofs.Common.{ℕ, Vec, Global, List, map, sym, subst, IsNonDecreasing, instant}
 use Rattle.causal_audit.specs.Inside.ByClock.Changes.{AreMentionsOf, HasMentions}
 use Rattle.causal_audit.proofs.index.Filings.{mentions_ascend}
 use Rattle.causal_audit.proofs.look.looks.Looks.of.Goals as goal

@@ -1,7 +1,4 @@
-use Rattle.std.proofs.Common.{◌≡◌, ◌+◌, ◌∷◌, [], Some, None, sym, ◌∙◌, subst, arith}
-use Rattle.causal_trace.specs.Past.{det_at}
-use Rattle.std.proofs.lemmas.List.{map-append}
-use Rattle.std.proofs.lemmas.List.Elements.{All-push}
+use Rattle.causal_audit.proofs.Common.{◌≡◌, ◌+◌, ◌∷◌, [], Some, None, sym, ◌∙◌, subst, arith, det_at, map-append, All-push}
 use Rattle.causal_audit.specs.declared.group.scan.Window.{Window}
 use Rattle.causal_audit.specs.Inside.Group.Scans.{IsWindow, positions_of, AreGathered, AreUncovered, Asked}
 use Rattle.causal_audit.proofs.look.Uncovered.{one_gathered, one_left_out}

@@ -1,5 +1,4 @@
-use Rattle.std.proofs.Common.{sym, subst}
-use Rattle.std.proofs.lemmas.List.Elements.{All-nil}
+use Rattle.causal_audit.proofs.Common.{sym, subst, All-nil}
 use Rattle.causal_audit.specs.Inside.Group.Scans.{IsWindow, AreGathered}
 use Rattle.causal_audit.proofs.look.Uncovered.{none_gathered}
 use Rattle.causal_audit.proofs.look.survey.Survey.uncovered.Goals as goal

@@ -1,6 +1,4 @@
-use Rattle.std.proofs.Common.{◌≡◌, inl, inr, get_or, Some, refl, arith}
-use Rattle.std.proofs.lemmas.Bool.{cases_lt}
-use Rattle.causal_trace.specs.Past.{det_at, instant}
+use Rattle.causal_audit.proofs.Common.{◌≡◌, inl, inr, get_or, Some, refl, arith, cases_lt, det_at, instant}
 use Rattle.causal_audit.specs.Inside.Look.Looks.{AreAllLooks}
 use Rattle.causal_audit.specs.Inside.Index.Filed.{lists_in}
 use Rattle.causal_audit.specs.Inside.Group.Scans.{most_of}

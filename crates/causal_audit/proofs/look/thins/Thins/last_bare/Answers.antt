@@ -1,8 +1,5 @@
-use Rattle.std.proofs.Common.{◌≡◌, ◌<◌, ◌≤◌, ◌-◌, length, get_or, true, false, sym, subst, arith, rules}
-use Rattle.std.specs.List.Sorted.{IsPartitionPoint, IsPartitionedBy}
+use Rattle.causal_audit.proofs.Common.{◌≡◌, ◌<◌, ◌≤◌, ◌-◌, length, get_or, true, false, sym, subst, arith, rules, IsPartitionPoint, IsPartitionedBy, leb-true, leb-false, IsPartitionPoint-from_clause, IsPartitionedBy-leb}
 use Rattle.std.proofs.Math.Dec.{leb}
-use Rattle.std.proofs.lemmas.Bool.{leb-true, leb-false}
-use Rattle.std.proofs.lemmas.List.Sorted.{IsPartitionPoint-from_clause, IsPartitionedBy-leb}
 use Rattle.causal_audit.specs.declared.look.thin.Stretch.{Stretch}
 use Rattle.causal_audit.proofs.look.Thinned.{none_before, last_before}
 use Rattle.causal_audit.proofs.look.thins.Thins.last_bare.Goals as goal

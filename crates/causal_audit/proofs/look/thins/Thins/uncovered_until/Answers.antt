@@ -1,5 +1,4 @@
-use Rattle.std.proofs.Common.{inl, inr, arith}
-use Rattle.std.proofs.lemmas.Bool.{cases_lt}
+use Rattle.causal_audit.proofs.Common.{inl, inr, arith, cases_lt}
 use Rattle.causal_audit.proofs.look.thins.Thins.uncovered_until.Goals as goal
 
 pub returns-then-k-bare-clause-covered : goal.returns-then-k-bare-clause-covered
