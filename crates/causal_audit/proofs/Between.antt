@@ -4,7 +4,6 @@ use Rattle.causal_audit.specs.Inside.Sights.{AreDependents, TellsNextReach, IsSi
 use Rattle.causal_audit.proofs.Legal.{sends_up}
 use Rattle.causal_audit.proofs.Shown.{inserted, removed}
 use Rattle.causal_audit.specs.Laws.{gone, IsExposed}
-use Rattle.causal_audit.specs.Inside.Group.Walk.{IsDeliveredTo}
 use Rattle.causal_audit.specs.declared.sight.Sight.{Sight}
 use Rattle.causal_audit.specs.Quiet.{is_turn, mentioned_by, IsQuiet, AreQuiet, Agree, InstantsAgree, OrphansAgree}
 use Rattle.causal_audit.proofs.Lemmas.Judged.{exposed, unexposed}
@@ -195,36 +194,6 @@ quiet_step n e past k d formed quiet = record {
     ],
   );
 }
-
--- a delivery to a process that logs d already, and on which it does not newly depend, changes nothing
-held_or : (a b : Bool) → b ≡ true → b ≡ (a || b)
-held_or a b h = grind (arith, nat_tests)
-
-apart_or : (a l b : Bool) → a ≡ false → b ≡ ((a && l) || b)
-apart_or a l b h = grind (arith, nat_tests)
-
-pub held_step : (n : ℕ) (e : Entry) (past : List Entry) (k : ℕ) (d : Det) → AreAccepted n (e ∷ past) → IsDeliveredTo e past d
-    → ((p : ℕ) → actor e ≡ Some p → Reaches (e ∷ past) k (length past) → Depends past k p) → Agree past (e ∷ past) k d
-held_step n (Deliver to send rsn listed) past k d formed held known = record {
-  down = λ p. refl;
-  logged = λ p. elim (eqb_tells to.0 p) [
-    | inl is ↦ held_or ((to.0 == p) && has listed d) (logs past p d) (subst (λ q. logs past q d ≡ true) is.1 held)
-    | inr apart ↦ apart_or (to.0 == p) (has listed d) (logs past p d) apart.0
-  ];
-  stable = refl;
-  dependents = λ p. (
-    depends_more (Deliver to send rsn listed) past k p (refl, refl),
-    λ depends. elim (depends_before n (Deliver to send rsn listed) past k p formed (refl, refl) depends) [
-      | inl old ↦ old
-      | inr new ↦ known p new.0 new.1
-    ],
-  );
-}
-held_step n (Send from to ssn) past k d formed held known = absurd held
-held_step n (Stable det) past k d formed held known = absurd held
-held_step n (Crash who) past k d formed held known = absurd held
-held_step n (Restart who listed) past k d formed held known = absurd held
-held_step n (Forget who listed) past k d formed held known = absurd held
 
 -- ---- from instant to instant
 

@@ -1,44 +1,33 @@
 -- A walk over the entries for the deliveries of a group.
-use Rattle.causal_audit.proofs.Common.{ℕ, ◌≡◌, ◌+◌, ◌++◌, ◌<◌, inl, inr, Bool, true, false, List, [], ◌∷◌, length, Option, Some, None, refl, sym, ap, subst, ◌∙◌, arith, ◌-◌, ◌≤◌, min, take, ◌⊎◌, Contains, ◌&&◌, ◌==◌, not, ◌↔◌, vec_capacity, ◌||◌, nat_cmp, FinSet, contains, remove, empty, union, difference, contains-empty, contains-union, contains-difference, insert, or_cases, or_left, or_right, false≢true, eqb-true, eq-eqb, and_from, cases_Bool, Contains-push, Contains-push_cases, Contains-append_left, Contains-get_or, length-map, get_or-map, get_or-set_same, get_or-set_other, take_min, Det, Entry, instant, det_at, has, logs, entry_at, Recording, AreAccepted, IsWellFormed, actor, Reaches, Depends, HasOrphan, accepted_then, det_then, instant_length, nat_cmp_total, eqb_tells, nat_tests, Pid, Deliver, Crash, Restart, Forget, Send, Stable, max_entries, set, take-length}
+use Rattle.causal_audit.proofs.Common.{ℕ, ◌≡◌, ◌+◌, ◌++◌, ◌<◌, inl, inr, Bool, true, false, List, [], ◌∷◌, length, Option, Some, None, refl, sym, ap, subst, ◌∙◌, arith, ◌-◌, ◌≤◌, min, take, ◌⊎◌, Contains, ◌&&◌, ◌==◌, not, ◌↔◌, vec_capacity, ◌||◌, nat_cmp, FinSet, contains, remove, empty, union, difference, contains-empty, contains-union, contains-difference, insert, or_cases, or_left, or_right, false≢true, false_from_ne_true, eqb-true, eq-eqb, and_from, cases_Bool, Contains-push, Contains-push_cases, Contains-append_left, Contains-get_or, length-map, length-set, get_or-map, get_or-set_same, get_or-set_other, take_min, Det, Entry, instant, det_at, has, logs, is_down, is_stable, entry_at, Recording, AreAccepted, IsWellFormed, actor, Reaches, Depends, HasOrphan, accepted_then, det_then, det_within, instant_length, nat_cmp_total, eqb_tells, nat_tests, Pid, Deliver, Crash, Restart, Forget, Send, Stable, max_entries, set, take-length}
 use Rattle.causal_audit.specs.declared.breach.Breach.{Breach}
-use Rattle.causal_audit.specs.declared.group.seen.Step.{Step}
+use Rattle.causal_audit.specs.declared.group.copies.Copies.{Copies}
+use Rattle.causal_audit.specs.declared.group.suspects.Step.{Step}
 use Rattle.causal_audit.specs.declared.group.scan.Window.{Window}
-use Rattle.causal_audit.specs.declared.sight.Sight.{Sight}
 use Rattle.causal_audit.specs.Earlier.{earlier}
-use Rattle.causal_audit.specs.Laws.{gone}
-use Rattle.causal_audit.specs.Quiet.{is_turn, Agree, mentioned_by}
+use Rattle.causal_audit.specs.Laws.{gone, IsExposed}
+use Rattle.causal_audit.specs.Sweep.{MayNewlyFail}
+use Rattle.causal_audit.specs.Quiet.{is_turn, mentioned_by}
 use Rattle.causal_audit.specs.Inside.Among.{FirstBreachBy, HasNoOrphanBy, LeastAmongBy}
-use Rattle.causal_audit.specs.Inside.Sights.{BreachAt, TellsBreachAt, IsSight, IsSightAfter, AreDependents, TellsNextReach}
-use Rattle.causal_audit.specs.Inside.ByClock.Changes.{IsReachedBy}
-use Rattle.causal_audit.specs.Inside.Group.Walk.{AreHeldBefore, IsKnown, IsLeastIn, IsStep, position_at, sight_at, HasRoom, HaveNone, IsFollowed, HaveMarked, IsNewly, row, HasRowRoom, IsReach, SeesReach, IsPut, IsHeldSo, IsDeliveredTo, IsHeldBy}
+use Rattle.causal_audit.specs.Inside.Sights.{BreachAt, Shows, IsSight}
+use Rattle.causal_audit.specs.Inside.Group.Walk.{AreCopied, AreCopies, AreCopiesAfter, copies_at, no_copies, AreHeldBefore, IsLacked, IsSuspected, TellsBreachOf, IsLeastIn, IsStep, position_at, HasRoom, HaveNone, IsFollowed, ArePlaces, HaveMarked, IsNewly, row, HasRowRoom, IsReach, SeesReach, IsPut, IsHeldSo, IsDeliveredTo, IsHeldBy}
 use Rattle.causal_audit.specs.Inside.Group.Scans.{positions_of, IsDeliveryAt}
 use Rattle.causal_audit.proofs.AmongLemmas.{among_push, among_wider, among_none}
-use Rattle.causal_audit.proofs.Between.{quiet_step, held_step, none_agrees, sight_agrees}
+use Rattle.causal_audit.proofs.Between.{depends_before, logs_stay, stable_stays}
+use Rattle.causal_audit.proofs.Lemmas.Judged.{exposed, gone_orphan}
+use Rattle.causal_audit.proofs.Swept.{sweep_law, one_new_orphan}
 use Rattle.causal_audit.proofs.Orphaned.{accepted_next, first_breach_is}
 use Rattle.causal_audit.proofs.group.Reaching.{left_in, left_out, none_in}
-use Rattle.causal_audit.proofs.by_clock.Reached.{reached_after}
 use Rattle.causal_audit.proofs.Steps.{up_to_next}
 use Rattle.causal_audit.proofs.group.Windowed.{position}
 use Rattle.causal_audit.specs.declared.group.room.Room.{Room}
 use Rattle.causal_audit.specs.declared.group.reach.Reach.{Reach}
 use Rattle.causal_audit.proofs.Shown.{inserted}
 
+abbrev Sets : Type 0
+Sets = List (FinSet nat_cmp)
+
 -- ==== what one more entry makes of what is known of the deliveries of a group
-
--- ---- one delivery
-
--- whether it reaches the entry is told by what is new and what was known
-pub tells_next : (e : Entry) (past : List Entry) (k j : ℕ) (newly dependents : FinSet nat_cmp) (hit : Bool) → IsNewly past e k j newly → AreDependents past k dependents → IsReachedBy e dependents (contains newly j) hit → TellsNextReach past e k hit
-tells_next e past k j newly dependents hit is are by p of = (
-  λ h. elim (or_cases (contains newly j) (contains dependents p) (sym (by p of) ∙ h)) [
-    | inl new ↦ is.sound new
-    | inr known ↦ reached_after e past k p of ((are p).0 known)
-  ],
-  λ reach. by p of ∙ elim (is.complete p of reach) [
-    | inl new ↦ or_left (contains newly j) (contains dependents p) new
-    | inr known ↦ or_right (contains newly j) (contains dependents p) ((are p).1 known)
-  ],
-)
 
 module _ (r : Recording) (windows : List Window) (s : Step) (step : IsStep r windows s) where
   pub accepted_here : AreAccepted r.processes (s.entry.now ∷ instant r.past s.t)
@@ -52,62 +41,132 @@ module _ (r : Recording) (windows : List Window) (s : Step) (step : IsStep r win
   first_here f k None none at = λ u low has. up_to_next (λ u. HasOrphan r.processes f (instant r.past u) k → ⊥) s.t none at u low has
   first_here f k (Some b) none at = (omega (arith, at.0), first_breach_is r f k s.t b step.below none at.0 at.1 at.2)
 
-  module _ (j : ℕ) (low : j < length windows) (turn : is_turn s.entry.now ≡ false) (old : contains s.newly j ≡ false) (places : FinSet nat_cmp)
-      (held : AreHeldBefore r windows s places) (still : (contains s.mentioned j ≡ false) ⊎ (contains places j ≡ true)) where
-    -- who newly depends on it depended on it before
-    known_before : (d : Det) → det_at r.past (position_at windows j) ≡ Some d → (p : ℕ) → actor s.entry.now ≡ Some p
-        → Reaches (s.entry.now ∷ instant r.past s.t) (position_at windows j) (length (instant r.past s.t)) → Depends (instant r.past s.t) (position_at windows j) p
-    known_before d at p of reach = elim ((step.newly j d low at).complete p of reach) [
-      | inl new ↦ absurd (false≢true (sym old ∙ new))
-      | inr known ↦ known
+-- ---- where the copies of a determinant are
+
+held_or : (a b : Bool) → b ≡ true → b ≡ (a || b)
+held_or a b h = grind (arith, nat_tests)
+
+apart_or : (a l b : Bool) → a ≡ false → b ≡ ((a && l) || b)
+apart_or a l b h = grind (arith, nat_tests)
+
+-- a delivery to a process that logs d already changes nothing of them
+copies_held : (e : Entry) (past : List Entry) (d : Det) (copies : Copies) → IsDeliveredTo e past d → AreCopies past d copies → AreCopies (e ∷ past) d copies
+copies_held (Deliver to send rsn listed) past d copies held are = record {
+  holders = λ p. are.holders p ∙ elim (eqb_tells to.0 p) [
+    | inl is ↦ held_or ((to.0 == p) && has listed d) (logs past p d) (subst (λ q. logs past q d ≡ true) is.1 held)
+    | inr apart ↦ apart_or (to.0 == p) (has listed d) (logs past p d) apart.0
+  ];
+  stable = are.stable;
+}
+copies_held (Send from to ssn) past d copies held are = absurd held
+copies_held (Stable det) past d copies held are = absurd held
+copies_held (Crash who) past d copies held are = absurd held
+copies_held (Restart who listed) past d copies held are = absurd held
+copies_held (Forget who listed) past d copies held are = absurd held
+
+-- an entry that neither turns nor mentions what its process lacks changes nothing of them
+pub copies_still : (e : Entry) (past : List Entry) (d : Det) (copies : Copies) → is_turn e ≡ false → (has (mentioned_by e) d ≡ false) ⊎ IsDeliveredTo e past d → AreCopies past d copies → AreCopies (e ∷ past) d copies
+copies_still e past d copies turn (inl silent) are = record { holders = λ p. are.holders p ∙ logs_stay e past d turn silent p; stable = are.stable ∙ stable_stays e past d silent }
+copies_still e past d copies turn (inr held) are = copies_held e past d copies held are
+
+-- those of the places that are not left have been renewed
+pub record HaveRenewed (e : Entry) (mentioned places rest : FinSet nat_cmp) (old now : List Copies) : Type 0 where
+  pub count : length now ≡ length old
+  pub left : (j : ℕ) → contains rest j ≡ true → contains places j ≡ true
+  pub renewed : (j : ℕ) → contains places j ≡ true → contains rest j ≡ false → AreCopiesAfter e (contains mentioned j) (copies_at old j) (copies_at now j)
+  pub ahead : (j : ℕ) → contains rest j ≡ true → copies_at now j ≡ copies_at old j
+  pub others : (j : ℕ) → contains places j ≡ false → copies_at now j ≡ copies_at old j
+
+pub renewed_none : (e : Entry) (mentioned places : FinSet nat_cmp) (old : List Copies) → HaveRenewed e mentioned places places old old
+renewed_none e mentioned places old = record {
+  count = refl;
+  left = λ j h. h;
+  renewed = λ j h out. absurd (false≢true (sym out ∙ h));
+  ahead = λ j h. refl;
+  others = λ j h. refl;
+}
+
+pub renewed_more : (e : Entry) (mentioned places rest : FinSet nat_cmp) (old mid : List Copies) (p : ℕ) (here : Copies) → contains rest p ≡ true → p < length mid
+    → HaveRenewed e mentioned places rest old mid → AreCopiesAfter e (contains mentioned p) (copies_at mid p) here
+    → HaveRenewed e mentioned places (remove rest p) old (set mid p here)
+renewed_more e mentioned places rest old mid p here within inside so_far after = record {
+  count = length-set mid p here ∙ so_far.count;
+  left = λ j h. so_far.left j (left_in rest p j h).0;
+  renewed = λ j h out. elim (left_out rest p j out) [
+    | inl is ↦ subst (λ x. AreCopiesAfter e (contains mentioned x) (copies_at old x) (copies_at (set mid p here) x)) (sym is)
+        (subst (λ c. AreCopiesAfter e (contains mentioned p) (copies_at old p) c) (sym (get_or-set_same mid p here no_copies inside))
+        (subst (λ c. AreCopiesAfter e (contains mentioned p) c here) (so_far.ahead p within) after))
+    | inr gone ↦ subst (AreCopiesAfter e (contains mentioned j) (copies_at old j)) (sym (get_or-set_other mid p j here no_copies (λ is. false≢true (sym gone ∙ ap (contains rest) is ∙ within)))) (so_far.renewed j h gone)
+  ];
+  ahead = λ j h. let still = left_in rest p j h in get_or-set_other mid p j here no_copies still.1 ∙ so_far.ahead j still.0;
+  others = λ j h. get_or-set_other mid p j here no_copies (λ is. false≢true (sym h ∙ ap (contains places) is ∙ so_far.left p within)) ∙ so_far.others j h;
+}
+
+-- ---- which deliveries may newly have an orphan
+
+module _ (n f : ℕ) (e : Entry) (past : List Entry) (k j : ℕ) (d : Det) (newly mentioned : FinSet nat_cmp) (present held : Sets) (formed : AreAccepted n (e ∷ past)) (at : det_at (e ∷ past) k ≡ Some d)
+    (depend : (p : ℕ) → (contains (row present p) j ≡ true) ↔ Depends (e ∷ past) k p) (so : IsHeldSo (e ∷ past) j d held) (has_one : HasOrphan n f (e ∷ past) k) where
+  abbrev orphan : IsExposed n f (e ∷ past) k d
+  orphan = exposed n f (e ∷ past) k d at has_one
+
+  not_held : contains (row held orphan.orphan) j ≡ false
+  not_held = false_from_ne_true (contains (row held orphan.orphan) j) (λ h. false≢true (sym orphan.without ∙ so orphan.orphan h))
+
+  lacking : IsLacked present held n j
+  lacking = (orphan.orphan, orphan.process, (depend orphan.orphan).1 orphan.depends, not_held)
+
+suspect_by : (n f : ℕ) (e : Entry) (past : List Entry) (k j : ℕ) (d : Det) (newly mentioned : FinSet nat_cmp) (present held : Sets) → AreAccepted n (e ∷ past) → det_at (e ∷ past) k ≡ Some d
+    → IsNewly past e k j newly → contains mentioned j ≡ has (mentioned_by e) d → ((p : ℕ) → (contains (row present p) j ≡ true) ↔ Depends (e ∷ past) k p) → IsHeldSo (e ∷ past) j d held
+    → HasOrphan n f (e ∷ past) k → (HasOrphan n f past k → ⊥) → MayNewlyFail past e k d → IsSuspected e newly mentioned present held n j
+suspect_by n f (Deliver to send rsn listed) past k j d newly mentioned present held formed at is says depend so has_one never may =
+    let e = Deliver to send rsn listed in
+    let x = exposed n f (e ∷ past) k d at has_one in
+    let only : x.orphan ≡ to.0 = one_new_orphan n f past k d to send rsn listed x.orphan formed at has_one never (gone_orphan n f (e ∷ past) k d at x.orphan x.process x.unstable x.depends x.without) in
+    let new : contains newly j ≡ true = elim (depends_before n e past k to.0 formed (refl, refl) may.0) [
+      | inl old ↦ absurd (may.1 old)
+      | inr reach ↦ elim (is.complete to.0 refl reach.1) [ inl new ↦ new | inr old ↦ absurd (may.1 old) ]
+    ] in
+    (new, subst (λ p. contains (row held p) j ≡ false) only (not_held n f e past k j d newly mentioned present held formed at depend so has_one))
+suspect_by n f (Restart who listed) past k j d newly mentioned present held formed at is says depend so has_one never may =
+    (says ∙ may, lacking n f (Restart who listed) past k j d newly mentioned present held formed at depend so has_one)
+suspect_by n f (Forget who listed) past k j d newly mentioned present held formed at is says depend so has_one never may =
+    (says ∙ may, lacking n f (Forget who listed) past k j d newly mentioned present held formed at depend so has_one)
+suspect_by n f (Send from to ssn) past k j d newly mentioned present held formed at is says depend so has_one never may = absurd may
+suspect_by n f (Stable det) past k j d newly mentioned present held formed at is says depend so has_one never may = absurd may
+suspect_by n f (Crash who) past k j d newly mentioned present held formed at is says depend so has_one never may = absurd may
+
+-- one that has an orphan after a step, and had none before, is suspected
+pub suspect : (r : Recording) (f : ℕ) (windows : List Window) (start : ℕ) (room : Room) (s : Step) → IsStep r windows s → IsFollowed r windows start (s.t + 1) room
+    → (j : ℕ) → j < length windows → HasNoOrphanBy r f (position_at windows j) s.t → HasOrphan r.processes f (instant r.past (s.t + 1)) (position_at windows j)
+    → IsSuspected s.entry.now s.newly s.mentioned room.reach.present.items room.held.items r.processes j
+suspect r f windows start room s step now j low none has_one =
+    let k = position_at windows j in
+    let made = step.made j low in
+    let past = instant r.past s.t in
+    let e = s.entry.now in
+    let formed = accepted_here r windows s step in
+    let then : HasOrphan r.processes f (e ∷ past) k = subst (λ p. HasOrphan r.processes f p k) step.next has_one in
+    let early : k < s.t + 1 = omega (arith, det_within (instant r.past (s.t + 1)) k has_one.is_orphan.det has_one.is_orphan.delivered, length_after r windows s step) in
+    let at : det_at (e ∷ past) k ≡ Some made.0 = ap (λ p. det_at p k) (sym step.next) ∙ det_then r.past (s.t + 1) k early (omega (arith, step.below)) ∙ made.1 in
+    let told = now.told j made.0 low made.1 in
+    let never : HasOrphan r.processes f past k → ⊥ = none s.t (omega arith) in
+    elim (sweep_law r.processes f e past k made.0 formed at then) [
+      | inl old ↦ absurd (never old)
+      | inr may ↦ suspect_by r.processes f e past k j made.0 s.newly s.mentioned room.reach.present.items room.held.items formed at (step.newly j made.0 low made.1) (step.mentioned j made.0 low made.1)
+          (λ p. subst (λ x. (contains (row room.reach.present.items p) j ≡ true) ↔ Depends x k p) step.next (told.depends p))
+          (subst (λ x. IsHeldSo x j made.0 room.held.items) step.next (now.held j made.0 low made.1)) then never may
     ]
-
-    -- an entry that neither turns nor reaches, nor mentions what its process lacks, changes nothing
-    agrees : (d : Det) → det_at r.past (position_at windows j) ≡ Some d → Agree (instant r.past s.t) (s.entry.now ∷ instant r.past s.t) (position_at windows j) d
-    agrees d at = elim still [
-      | inl silent ↦ quiet_step r.processes s.entry.now (instant r.past s.t) (position_at windows j) d accepted_here (record {
-        no_turn = turn;
-        unmentioned = sym (step.mentioned j d low at) ∙ silent;
-        known = known_before d at;
-      })
-      | inr holds ↦ held_step r.processes s.entry.now (instant r.past s.t) (position_at windows j) d accepted_here (held j d low at holds) (known_before d at)
-    ]
-
-    -- so that the same is known
-    pub known_still : (sight : Sight) → IsKnown r windows s.t j sight → IsKnown r windows (s.t + 1) j sight
-    known_still sight known d at =
-        subst (λ past. IsSight past (position_at windows j) d sight) (sym step.next)
-        (sight_agrees (instant r.past s.t) (s.entry.now ∷ instant r.past s.t) (position_at windows j) d sight (agrees d at) (known d at))
-
-    -- and there still is no orphan
-    pub none_still : (f : ℕ) → HasNoOrphanBy r f (position_at windows j) s.t → HasNoOrphanBy r f (position_at windows j) (s.t + 1)
-    none_still f none =
-        let made = step.made j low in
-        up_to_next (λ u. HasOrphan r.processes f (instant r.past u) (position_at windows j) → ⊥) s.t none (λ has.
-        none s.t (omega arith)
-        (none_agrees r.processes f r.past (position_at windows j) made.0 s.t (s.t + 1) made.1 (omega arith) (omega (arith, step.below))
-        (subst (λ past. Agree (instant r.past s.t) past (position_at windows j) made.0) (sym step.next) (agrees made.0 made.1)) has))
 
 -- ---- some of them, one by one
 
--- what is known of one after the entry
-pub known_next : (r : Recording) (windows : List Window) (s : Step) (step : IsStep r windows s) (j : ℕ) → j < length windows → (before after : Sight) (hit : Bool)
-    → IsKnown r windows s.t j before → IsReachedBy s.entry.now before.dependents (contains s.newly j) hit → IsSightAfter s.entry.now (contains s.mentioned j) hit before after → IsKnown r windows (s.t + 1) j after
-known_next r windows s step j low before after hit known by sees d at =
-    let k = position_at windows j in
-    let sight = known d at in
-    subst (λ past. IsSight past k d after) (sym step.next)
-    (sees r.processes (instant r.past s.t) k d (accepted_here r windows s step) (step.mentioned j d low at)
-    (tells_next s.entry.now (instant r.past s.t) k j s.newly before.dependents hit (step.newly j d low at) sight.dependents by) sight)
-
--- how it then first has an orphan
-pub found_next : (r : Recording) (windows : List Window) (s : Step) (step : IsStep r windows s) (j f : ℕ) → j < length windows → (after : Sight) (found : Option Breach)
-    → HasNoOrphanBy r f (position_at windows j) s.t → IsKnown r windows (s.t + 1) j after → TellsBreachAt f (position_at windows j) (s.t + 1) after found → FirstBreachBy r f (s.t + 1) (position_at windows j) found
-found_next r windows s step j f low after found none known tells =
+-- how one first has an orphan after the entry
+pub found_next : (r : Recording) (windows : List Window) (start : ℕ) (room : Room) (s : Step) (step : IsStep r windows s) → IsFollowed r windows start (s.t + 1) room → (j f : ℕ) → j < length windows → (found : Option Breach)
+    → HasNoOrphanBy r f (position_at windows j) s.t → TellsBreachOf room f (position_at windows j) j (s.t + 1) found → FirstBreachBy r f (s.t + 1) (position_at windows j) found
+found_next r windows start room s step now j f low found none tells =
     let made = step.made j low in
     first_here r windows s step f (position_at windows j) found none
     (tells r.processes (instant r.past (s.t + 1)) made.0 (accepted_then r.processes r.past (s.t + 1) step.formed.accepted) (length_after r windows s step)
-    (λ early. det_then r.past (s.t + 1) (position_at windows j) early (omega (arith, step.below)) ∙ made.1) (known made.0 made.1))
+    (λ early. det_then r.past (s.t + 1) (position_at windows j) early (omega (arith, step.below)) ∙ made.1) (now.told j made.0 low made.1) (now.copied j made.0 low made.1) now.down)
 
 -- the position of a place is one of the windows'
 pub among_windows : (windows : List Window) (j : ℕ) → j < length windows → Contains (positions_of windows) (position_at windows j)
@@ -116,44 +175,27 @@ among_windows windows j low =
     let count : j < length (positions_of windows) = omega (arith, low, length-map windows position) in
     subst (Contains (positions_of windows)) (get_or-map position windows j zero 0 low) (Contains-get_or (positions_of windows) j 0 count)
 
--- those of the places that are not left have been seen
-pub record HaveSeen (r : Recording) (f : ℕ) (windows : List Window) (t : ℕ) (places rest : FinSet nat_cmp) (old now : List Sight) (least : Option Breach) : Type 0 where
-  pub count : length now ≡ length old
+-- those of the places that are not left have been judged
+pub record HaveJudged (r : Recording) (f : ℕ) (windows : List Window) (t : ℕ) (places rest : FinSet nat_cmp) (least : Option Breach) : Type 0 where
   pub left : (j : ℕ) → contains rest j ≡ true → contains places j ≡ true
-  pub known : (j : ℕ) → contains places j ≡ true → contains rest j ≡ false → IsKnown r windows (t + 1) j (sight_at now j)
-  pub ahead : (j : ℕ) → contains rest j ≡ true → sight_at now j ≡ sight_at old j
-  pub others : (j : ℕ) → contains places j ≡ false → sight_at now j ≡ sight_at old j
   pub done : List ℕ
   pub inside : (k : ℕ) → Contains done k → Contains (positions_of windows) k
   pub each : (j : ℕ) → contains places j ≡ true → contains rest j ≡ false → Contains done (position_at windows j)
   pub found : LeastAmongBy r f (t + 1) done least
 
-pub seen_none : (r : Recording) (f : ℕ) (windows : List Window) (t : ℕ) (places : FinSet nat_cmp) (old : List Sight) → HaveSeen r f windows t places places old old None
-seen_none r f windows t places old = record {
-  count = refl;
+pub judged_none : (r : Recording) (f : ℕ) (windows : List Window) (t : ℕ) (places : FinSet nat_cmp) → HaveJudged r f windows t places places None
+judged_none r f windows t places = record {
   left = λ j h. h;
-  known = λ j h out. absurd (false≢true (sym out ∙ h));
-  ahead = λ j h. refl;
-  others = λ j h. refl;
   done = [];
   inside = λ k listed. absurd (omega (arith, listed.1));
   each = λ j h out. absurd (false≢true (sym out ∙ h));
   found = among_none r f (t + 1);
 }
 
-pub seen_more : (r : Recording) (f : ℕ) (windows : List Window) (t : ℕ) (places rest : FinSet nat_cmp) (old mid new : List Sight) (least found : Option Breach) (p : ℕ) → contains rest p ≡ true
-    → HaveSeen r f windows t places rest old mid least → length new ≡ length mid → ((j : ℕ) → (j ≡ p → ⊥) → sight_at new j ≡ sight_at mid j) → IsKnown r windows (t + 1) p (sight_at new p)
-    → Contains (positions_of windows) (position_at windows p) → FirstBreachBy r f (t + 1) (position_at windows p) found
-    → HaveSeen r f windows t places (remove rest p) old new (earlier least found)
-seen_more r f windows t places rest old mid new least found p within so_far same others here among first = record {
-  count = same ∙ so_far.count;
+pub judged_more : (r : Recording) (f : ℕ) (windows : List Window) (t : ℕ) (places rest : FinSet nat_cmp) (least found : Option Breach) (p : ℕ) → contains rest p ≡ true → HaveJudged r f windows t places rest least
+    → Contains (positions_of windows) (position_at windows p) → FirstBreachBy r f (t + 1) (position_at windows p) found → HaveJudged r f windows t places (remove rest p) (earlier least found)
+judged_more r f windows t places rest least found p within so_far among first = record {
   left = λ j h. so_far.left j (left_in rest p j h).0;
-  known = λ j h out. elim (left_out rest p j out) [
-    | inl is ↦ subst (λ x. IsKnown r windows (t + 1) x (sight_at new x)) (sym is) here
-    | inr gone ↦ subst (IsKnown r windows (t + 1) j) (sym (others j (λ is. false≢true (sym gone ∙ ap (contains rest) is ∙ within)))) (so_far.known j h gone)
-  ];
-  ahead = λ j h. let still = left_in rest p j h in others j still.1 ∙ so_far.ahead j still.0;
-  others = λ j h. others j (λ is. false≢true (sym h ∙ ap (contains places) is ∙ so_far.left p within)) ∙ so_far.others j h;
   done = so_far.done ++ position_at windows p ∷ [];
   inside = λ k listed. elim (Contains-push_cases so_far.done (position_at windows p) k listed) [
     | inl old ↦ so_far.inside k old
@@ -170,6 +212,22 @@ seen_more r f windows t places rest old mid new least found p within so_far same
 
 pub in_or_out : (s : FinSet nat_cmp) (j : ℕ) → (contains s j ≡ true) ⊎ (contains s j ≡ false)
 in_or_out s j = cases_Bool (contains s j)
+
+-- the copies after a step
+pub copied_next : (r : Recording) (windows : List Window) (s : Step) → IsStep r windows s → (all held places : FinSet nat_cmp) (old new : List Copies) → ArePlaces windows all → AreHeldBefore r windows s held
+    → ((j : ℕ) → contains all j ≡ true → contains places j ≡ false → (is_turn s.entry.now ≡ false) × ((contains s.mentioned j ≡ false) ⊎ (contains held j ≡ true)))
+    → ((j : ℕ) → contains places j ≡ false → copies_at new j ≡ copies_at old j) → ((j : ℕ) → contains places j ≡ true → AreCopiesAfter s.entry.now (contains s.mentioned j) (copies_at old j) (copies_at new j))
+    → AreCopied r windows s.t old → AreCopied r windows (s.t + 1) new
+copied_next r windows s step all held places old new are before quiet others renewed known j d low at =
+    let past = instant r.past s.t in
+    let told = step.mentioned j d low at in
+    subst (λ x. AreCopies x d (copies_at new j)) (sym step.next) (elim (in_or_out places j) [
+      | inl seen ↦ renewed j seen past d told (known j d low at)
+      | inr out ↦
+          let still = quiet j ((are j).1 low) out in
+          subst (AreCopies (s.entry.now ∷ past) d) (sym (others j out))
+          (copies_still s.entry.now past d (copies_at old j) still.0 (elim still.1 [ inl silent ↦ inl (sym told ∙ silent) | inr holds ↦ inr (before j d low at holds) ]) (known j d low at))
+    ])
 
 -- a place with a position among the windows'
 pub place_of : (windows : List Window) (k : ℕ) → Contains (positions_of windows) k → (j : ℕ) × (j < length windows) × (position_at windows j ≡ k)
@@ -301,12 +359,12 @@ is_step r windows start room s followed formed below next new sees short from in
 }
 
 -- the room stays
-pub room_stays : (old new : Room) → ((entries : ℕ) → HasRowRoom entries old.reach → HasRowRoom entries new.reach) → vec_capacity new.mentioned ≡ vec_capacity old.mentioned → length new.sights.items ≡ length old.sights.items
+pub room_stays : (old new : Room) → ((entries : ℕ) → HasRowRoom entries old.reach → HasRowRoom entries new.reach) → vec_capacity new.mentioned ≡ vec_capacity old.mentioned → length new.copies.items ≡ length old.copies.items
     → (entries : ℕ) → HasRoom entries old → HasRoom entries new
-room_stays old new rows mentioned sights entries was = record {
+room_stays old new rows mentioned copies entries was = record {
   reach = rows entries was.reach;
   mentioned = omega (arith, mentioned, was.mentioned);
-  sights = sights ∙ was.sights;
+  copies = copies ∙ was.copies;
 }
 
 -- where there is room for so many entries there is room for fewer
@@ -314,7 +372,7 @@ pub room_within : (many few : ℕ) (room : Room) → few ≤ many → HasRoom ma
 room_within many few room low is = record {
   reach = record { reached = omega (arith, low, is.reach.reached); present = is.reach.present };
   mentioned = omega (arith, low, is.mentioned);
-  sights = is.sights;
+  copies = is.copies;
 }
 
 -- where none is the least there is none
@@ -335,9 +393,6 @@ places_more places place are j = (
 )
 
 -- ==== which entries of a walk mention the determinants of the deliveries of a group
-
-abbrev Sets : Type 0
-Sets = List (FinSet nat_cmp)
 
 -- ---- one place into one row
 

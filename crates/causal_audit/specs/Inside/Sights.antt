@@ -1,13 +1,5 @@
 -- What is known of one delivery at a state, and whether it has an orphan there.
-use Rattle.std.specs.Prelude.{◌≡◌, ℕ, ◌↔◌, Bool, true, false, List, ◌∷◌, length, Option, Some, MatchOption, ◌<◌}
-use Rattle.std.specs.Ordering.{nat_cmp}
-use Rattle.std.specs.FinSet.{FinSet, contains}
-use Rattle.causal_name.specs.declared.Det.{Det}
-use Rattle.causal_trace.specs.declared.entry.Entry.{Entry}
-use Rattle.causal_trace.specs.Past.{det_at, has, is_down, logs, is_stable}
-use Rattle.causal_trace.specs.Rows.{AreAccepted}
-use Rattle.causal_trace.specs.Judgement.{HasOrphan}
-use Rattle.causal_trace.specs.Dependence.{actor, Reaches, Depends}
+use Rattle.causal_audit.specs.Inside.Common.{◌≡◌, ℕ, ◌↔◌, Bool, true, false, List, ◌∷◌, length, Option, Some, MatchOption, ◌<◌, nat_cmp, FinSet, contains, Det, Entry, det_at, has, is_down, logs, is_stable, AreAccepted, HasOrphan, actor, Reaches, Depends}
 use Rattle.causal_audit.specs.declared.sight.Sight.{Sight}
 use Rattle.causal_audit.specs.declared.sight.Exposed.{Exposed}
 use Rattle.causal_audit.specs.Quiet.{mentioned_by}

@@ -2,37 +2,20 @@
 ghost use Rattle.std.specs.Prelude.{◌≡◌, ◌≤◌, length, Some};
 ghost use Rattle.causal_name.specs.declared.Det.{Det};
 ghost use Rattle.causal_trace.specs.Past.{det_at};
-ghost use Rattle.causal_audit.specs.Inside.Sights.{TellsBreachAt};
 ghost use Rattle.causal_audit.specs.Inside.Among.{FirstBreachBy};
 ghost use Rattle.causal_audit.specs.Inside.ByClock.Changes.{AreFollowed, IsReachedBy};
 
 use crate::breach::Breach;
 use crate::by_clock::changes::Changes;
-use crate::sight::Sight;
+use crate::sight::{Sight, breach_at};
 use causal_holders::Holders;
 use causal_name::Det;
 use causal_trace::entry::Entry;
 use causal_trace::trace::Trace;
 
-/// How the delivery at position k has an orphan at the instant t; None where it has none. It has none before it is made.
-pub fn breach_at(sight: &Sight, f: u16, k: u32, t: u32) -> Option<Breach>
-    ensures { TellsBreachAt f k t sight.now result }
-{
-    if t <= k {
-        return None;
-    }
-    let found = sight.exposed(f)?;
-    Some(Breach {
-        instant: t,
-        delivery: k,
-        crash: found.crash,
-        orphan: found.orphan,
-    })
-}
-
 /// Whether a delivery reaches the entry, where these processes depend on it before, and it newly reaches a process by the
 /// entry or not.
-pub fn is_reached(entry: &Entry, dependents: Holders, newly: bool) -> bool
+fn is_reached(entry: &Entry, dependents: Holders, newly: bool) -> bool
     ensures { IsReachedBy entry.now dependents newly result }
 {
     match entry {

@@ -1,17 +1,10 @@
 -- Where something may change for a delivery, and a walk over that.
-use Rattle.std.specs.Prelude.{◌≡◌, ℕ, true, false, List, Some, Contains, ◌<◌, ◌≤◌, ◌↔◌, slice_index_or, ◌⊎◌, ◌||◌, Bool}
-use Rattle.causal_name.specs.declared.Det.{Det}
-use Rattle.causal_trace.specs.declared.entry.Entry.{Entry}
-use Rattle.causal_trace.specs.Past.{entry_at, has}
+use Rattle.causal_audit.specs.Inside.Common.{◌≡◌, ℕ, true, false, List, Some, Contains, ◌<◌, ◌≤◌, ◌↔◌, slice_index_or, ◌⊎◌, ◌||◌, Bool, Det, Entry, entry_at, has, nat_cmp, FinSet, contains, IsNonDecreasing, actor, IsEventOf, Reaches}
 use Rattle.causal_audit.specs.Quiet.{is_turn, mentioned_by}
 use Rattle.causal_audit.specs.declared.by_clock.changes.Changes.{Changes}
 use Rattle.causal_audit.specs.declared.by_clock.changes.Ahead.{Ahead}
 use Rattle.causal_audit.specs.declared.by_clock.changes.Next.{Next}
 use Rattle.causal_audit.specs.declared.index.cursor.Cursor.{Cursor}
-use Rattle.std.specs.Ordering.{nat_cmp}
-use Rattle.std.specs.FinSet.{FinSet, contains}
-use Rattle.std.specs.List.Sorted.{IsNonDecreasing}
-use Rattle.causal_trace.specs.Dependence.{actor, IsEventOf, Reaches}
 
 -- an entry whose position is not in the list does not mention d
 abbrev pub HasMentions : List Entry → Det → List ℕ → Type 0

@@ -1,10 +1,5 @@
 -- How the events of a clock stand for the entries of a run.
-use Rattle.std.specs.Prelude.{◌≡◌, ℕ, ◌<◌, ◌≤◌, ◌↔◌, Some, List, ◌∷◌, length, slice_index}
-use Rattle.causal_trace.specs.declared.entry.Entry.{Entry}
-use Rattle.causal_trace.specs.Past.{lane, restarts}
-use Rattle.causal_trace.specs.Rows.{AreAccepted, IsWellFormed, Recording}
-use Rattle.causal_trace.specs.State.{entries_of}
-use Rattle.causal_trace.specs.Dependence.{IsEventOf, Delivers}
+use Rattle.causal_audit.specs.Inside.Common.{◌≡◌, ℕ, ◌<◌, ◌≤◌, ◌↔◌, Some, List, ◌∷◌, length, slice_index, Entry, lane, restarts, AreAccepted, IsWellFormed, Recording, entries_of, IsEventOf, Delivers}
 use Rattle.causal_clock.specs.declared.Event.{Event}
 use Rattle.causal_clock.specs.Timeline.{Timeline, lane_of, send_of}
 use Rattle.causal_audit.specs.Inside.Index.Spreads.{AreSpreads, process_at}

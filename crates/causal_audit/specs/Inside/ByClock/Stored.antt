@@ -1,7 +1,5 @@
 -- What the tables of a recorded run keep of it.
-use Rattle.std.specs.Prelude.{ℕ, ◌+◌, ◌≤◌, List, length}
-use Rattle.causal_trace.specs.Limits.{max_processes, max_entries, max_restarts}
-use Rattle.causal_trace.specs.Rows.{Recording, IsWellFormed}
+use Rattle.causal_audit.specs.Inside.Common.{ℕ, ◌+◌, ◌≤◌, List, length, max_processes, max_entries, max_restarts, Recording, IsWellFormed}
 use Rattle.causal_clock.specs.declared.Event.{Event}
 use Rattle.causal_audit.specs.Inside.Index.Filed.{AreLanes, AreMentions, Numbers}
 use Rattle.causal_audit.specs.Inside.Index.Kept.{AreTurnsKept}

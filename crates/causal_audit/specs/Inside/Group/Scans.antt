@@ -1,18 +1,11 @@
 -- Which deliveries are followed, and what a survey reads to tell them.
-use Rattle.std.specs.Prelude.{◌≡◌, ℕ, ◌≤◌, List, length, map, Some, ◌-◌, ◌<◌, ◌⊎◌, false, min, Contains}
-use Rattle.std.specs.List.{All}
-use Rattle.causal_name.specs.declared.Det.{Det}
-use Rattle.causal_trace.specs.declared.entry.Entry.{Entry}
-use Rattle.causal_trace.specs.Past.{det_at, instant}
-use Rattle.causal_trace.specs.Rows.{Recording, IsWellFormed}
+use Rattle.causal_audit.specs.Inside.Common.{◌≡◌, ℕ, ◌≤◌, List, length, map, Some, ◌-◌, ◌<◌, ◌⊎◌, false, min, Contains, All, Det, Entry, det_at, instant, Recording, IsWellFormed, IsStrictlyIncreasing, max_entries}
 use Rattle.causal_audit.specs.Inside.Among.{HasNoOrphanFrom, HasNoOrphanBy}
 use Rattle.causal_audit.specs.declared.index.mentions.Mentions.{Mentions}
 use Rattle.causal_audit.specs.declared.group.scan.Window.{Window}
 use Rattle.causal_audit.specs.declared.index.turns.Turns.{Turns}
 use Rattle.causal_audit.specs.Lasting.{NoneReleasedFrom}
 use Rattle.causal_audit.specs.Inside.Index.Kept.{AreMentionsKept, AreTurnsKept}
-use Rattle.std.specs.List.Sorted.{IsStrictlyIncreasing}
-use Rattle.causal_trace.specs.Limits.{max_entries}
 use Rattle.causal_audit.specs.declared.index.by_process.ByProcess.{ByProcess}
 use Rattle.causal_audit.specs.Inside.Index.Filed.{AreTurnsOf, lists_in}
 use Rattle.causal_audit.specs.Inside.Index.Spreads.{AreSpreads, process_at}

@@ -1,25 +1,16 @@
 -- What is known of the deliveries of a group, by their places, in one walk over the entries.
-use Rattle.std.specs.Prelude.{◌≡◌, ℕ, ◌+◌, ◌<◌, ◌≤◌, ◌↔◌, ◌⊎◌, true, List, ◌∷◌, length, Some, slice_index_or, vec_capacity, false, Option, Contains}
-use Rattle.std.specs.Ordering.{nat_cmp}
-use Rattle.std.specs.FinSet.{FinSet, contains, empty}
-use Rattle.causal_name.specs.declared.Det.{Det}
-use Rattle.causal_trace.specs.declared.entry.Entry.{Entry}
-use Rattle.causal_trace.specs.Past.{det_at, has, logs, instant, entry_at}
-use Rattle.causal_trace.specs.Rows.{AreAccepted, Recording, IsWellFormed}
-use Rattle.causal_trace.specs.Dependence.{actor, IsEventOf, Reaches, Depends}
+use Rattle.causal_audit.specs.Inside.Common.{◌≡◌, ℕ, ◌+◌, ◌<◌, ◌≤◌, ◌↔◌, ◌⊎◌, Bool, true, false, List, ◌∷◌, length, Option, Some, slice_index_or, vec_capacity, Contains, nat_cmp, FinSet, contains, empty, Det, Entry, det_at, has, logs, is_stable, is_down, instant, entry_at, AreAccepted, Recording, IsWellFormed, actor, IsEventOf, Reaches, Depends, Deliver, Restart, Forget, max_entries}
 use Rattle.causal_audit.specs.declared.group.reach.Reach.{Reach}
 use Rattle.causal_audit.specs.declared.group.scan.Window.{Window}
-use Rattle.causal_trace.specs.declared.entry.Entry.TheVariants.{Deliver}
 use Rattle.causal_audit.specs.Quiet.{mentioned_by}
-use Rattle.causal_trace.specs.Limits.{max_entries}
 use Rattle.causal_audit.specs.Inside.Among.{HasNoOrphanBy, LeastAmongBy}
 use Rattle.causal_audit.specs.Inside.Group.Scans.{IsDeliveryAt, positions_of}
-use Rattle.causal_audit.specs.Inside.Sights.{IsSight}
+use Rattle.causal_audit.specs.Inside.Sights.{BreachAt, Shows}
 use Rattle.causal_audit.specs.Inside.Look.Staying.{MentionsNone}
 use Rattle.causal_audit.specs.declared.breach.Breach.{Breach}
 use Rattle.causal_audit.specs.declared.group.room.Room.{Room}
-use Rattle.causal_audit.specs.declared.group.seen.Step.{Step}
-use Rattle.causal_audit.specs.declared.sight.Sight.{Sight}
+use Rattle.causal_audit.specs.declared.group.suspects.Step.{Step}
+use Rattle.causal_audit.specs.declared.group.copies.Copies.{Copies}
 
 -- the set at a row, empty where there is none
 abbrev pub row : List (FinSet nat_cmp) → ℕ → FinSet nat_cmp
@@ -131,17 +122,40 @@ IsMarked past start place window rows =
 abbrev pub AreMarked : List Entry → ℕ → List Window → ℕ → List (FinSet nat_cmp) → Type 0
 AreMarked past start windows count rows = (j : ℕ) → j < count → IsMarked past start j (window_at windows j) rows
 
--- what is known of the delivery at a place; where nothing is, that of a delivery of which nobody heard while nobody is down
-abbrev pub sight_at : List Sight → ℕ → Sight
-sight_at sights j = slice_index_or sights j (record { down = empty; holders = empty; stable = false; dependents = empty })
+-- these are the copies of the determinant d
+pub record AreCopies (past : List Entry) (d : Det) (copies : Copies) : Type 0 where
+  pub holders : Shows copies.holders (λ p. logs past p d)
+  pub stable : copies.stable ≡ is_stable past d
 
--- this is known of the delivery at a place, if there is one, at the instant t
-abbrev pub IsKnown : Recording → List Window → ℕ → ℕ → Sight → Type 0
-IsKnown r windows t j s = (d : Det) → det_at r.past (position_at windows j) ≡ Some d → IsSight (instant r.past t) (position_at windows j) d s
+-- where they were the one, they are the other with one more entry, which mentions the determinant or not
+abbrev pub AreCopiesAfter : Entry → Bool → Copies → Copies → Type 0
+AreCopiesAfter e mentioned before after =
+    (past : List Entry) (d : Det) → mentioned ≡ has (mentioned_by e) d → AreCopies past d before → AreCopies (e ∷ past) d after
 
--- and so for the delivery at each place
-abbrev pub AreKnown : Recording → List Window → ℕ → List Sight → Type 0
-AreKnown r windows t sights = (j : ℕ) → j < length windows → IsKnown r windows t j (sight_at sights j)
+-- those of a determinant of which nobody heard
+abbrev pub no_copies : Copies
+no_copies = record { holders = empty; stable = false }
+
+-- the copies at a place
+abbrev pub copies_at : List Copies → ℕ → Copies
+copies_at copies j = slice_index_or copies j no_copies
+
+-- at each place there are the copies of its delivery's determinant at the instant t
+abbrev pub AreCopied : Recording → List Window → ℕ → List Copies → Type 0
+AreCopied r windows t copies =
+    (j : ℕ) (d : Det) → j < length windows → det_at r.past (position_at windows j) ≡ Some d → AreCopies (instant r.past t) d (copies_at copies j)
+
+-- one of n processes depends on the place, and is not known to hold its determinant
+abbrev pub IsLacked : List (FinSet nat_cmp) → List (FinSet nat_cmp) → ℕ → ℕ → Type 0
+IsLacked present held n j = (p : ℕ) × (p < n) × (contains (row present p) j ≡ true) × (contains (row held p) j ≡ false)
+
+-- the place may newly have an orphan by an entry: it newly reaches a receiver that is not known to hold its determinant, or one
+-- is lacking after a restart that does not list it, or after a forgetting that does
+abbrev pub IsSuspected : Entry → FinSet nat_cmp → FinSet nat_cmp → List (FinSet nat_cmp) → List (FinSet nat_cmp) → ℕ → ℕ → Type 0
+IsSuspected (Deliver to send rsn listed) newly mentioned present held n j = (contains newly j ≡ true) × (contains (row held to.0) j ≡ false)
+IsSuspected (Restart who listed) newly mentioned present held n j = (contains mentioned j ≡ false) × IsLacked present held n j
+IsSuspected (Forget who listed) newly mentioned present held n j = (contains mentioned j ≡ true) × IsLacked present held n j
+IsSuspected _ newly mentioned present held n j = ⊥
 
 -- the entry of a step is that at its position; each window is of a delivery, of which it is told whether it newly reaches the
 -- entry's process, and whether the entry mentions its determinant
@@ -182,17 +196,17 @@ HaveNone r f windows t = (j : ℕ) → j < length windows → HasNoOrphanBy r f 
 abbrev pub ArePlaces : List Window → FinSet nat_cmp → Type 0
 ArePlaces windows all = (j : ℕ) → (contains all j ≡ true) ↔ (j < length windows)
 
--- there is room for walks over so many entries, and at each place for what is known there
+-- there is room for walks over so many entries, and at each place for copies
 pub record HasRoom (entries : ℕ) (room : Room) : Type 0 where
   pub reach : HasRowRoom entries room.reach
   pub mentioned : entries ≤ vec_capacity room.mentioned
-  pub sights : length room.sights.items ≡ 256
+  pub copies : length room.copies.items ≡ 256
 
--- there is a row for each entry of a walk from `start` up to `end`, and something is known at each place
+-- there is a row for each entry of a walk from `start` up to `end`, and at each place there are copies
 pub record HasRowsFor (start end : ℕ) (room : Room) : Type 0 where
   pub reach : HasRows start end room.reach
   pub mentioned : start + length room.mentioned.items ≡ end
-  pub sights : length room.sights.items ≡ 256
+  pub copies : length room.copies.items ≡ 256
 
 -- at the instant t of a walk that began at `start`
 pub record IsFollowed (r : Recording) (windows : List Window) (start t : ℕ) (room : Room) : Type 0 where
@@ -200,5 +214,13 @@ pub record IsFollowed (r : Recording) (windows : List Window) (start t : ℕ) (r
   pub told : (j : ℕ) (d : Det) → j < length windows → det_at r.past (position_at windows j) ≡ Some d
       → IsReach (instant r.past t) (position_at windows j) j room.reach
   pub marked : AreMarked r.past start windows (length windows) room.mentioned.items
-  pub known : AreKnown r windows t room.sights.items
+  pub copied : AreCopied r windows t room.copies.items
   pub held : AreHeld r windows t room.held.items
+  pub down : Shows room.down (λ p. is_down (instant r.past t) p)
+
+-- how the delivery of a place, which stands at position k, has an orphan at the instant t, where the room is at that
+abbrev pub TellsBreachOf : Room → ℕ → ℕ → ℕ → ℕ → Option Breach → Type 0
+TellsBreachOf room f k place t found =
+    (n : ℕ) (past : List Entry) (d : Det) → AreAccepted n past → length past ≡ t → (k < t → det_at past k ≡ Some d)
+    → IsReach past k place room.reach → AreCopies past d (copies_at room.copies.items place) → Shows room.down (λ p. is_down past p)
+    → BreachAt n f past k t found

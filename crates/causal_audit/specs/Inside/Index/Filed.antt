@@ -1,24 +1,12 @@
 -- The lists of positions that are kept of a run.
-use Rattle.std.specs.Prelude.{◌≡◌, ℕ, ◌+◌, ◌<◌, ◌≤◌, ◌⊎◌, true, if◌then◌else◌, List, [], ◌∷◌, ◌++◌, length, map, Option, Some, None, slice_set, slice_index_or, Contains, ◌&&◌, ◌==◌, not, Bool, false, MatchOption}
+use Rattle.causal_audit.specs.Inside.Common.{◌≡◌, ℕ, ◌+◌, ◌<◌, ◌≤◌, ◌⊎◌, true, if◌then◌else◌, List, [], ◌∷◌, ◌++◌, length, map, Option, Some, None, slice_set, slice_index_or, Contains, ◌&&◌, ◌==◌, not, Bool, false, MatchOption, All, IsNonDecreasing, option_map_or, nat_cmp, FinSet, Det, same_det, Entry, entry_at, has, instant, is_down, past_at, IsEventOf, Crash, Restart}
 use Rattle.std.specs.Global.{Vec}
-use Rattle.std.specs.List.{All}
-use Rattle.std.specs.List.Sorted.{IsNonDecreasing}
-use Rattle.std.specs.Option.{option_map_or}
-use Rattle.std.specs.Ordering.{nat_cmp}
-use Rattle.std.specs.FinSet.{FinSet}
-use Rattle.causal_name.specs.declared.Det.{Det}
-use Rattle.causal_name.specs.Names.{same_det}
-use Rattle.causal_trace.specs.declared.entry.Entry.{Entry}
-use Rattle.causal_trace.specs.Past.{entry_at, has, instant, is_down}
-use Rattle.causal_trace.specs.State.{past_at}
-use Rattle.causal_trace.specs.Dependence.{IsEventOf}
 use Rattle.causal_clock.specs.declared.Event.{Event}
 use Rattle.causal_clock.specs.Timeline.{lane_of}
 use Rattle.causal_clock.specs.Precedence.{Reaches}
 use Rattle.causal_audit.specs.Inside.ByClock.Changes.{AreMentionsOf, HasMentions, HasTurns}
 use Rattle.causal_audit.specs.Quiet.{mentioned_by}
 use Rattle.causal_audit.specs.Inside.Sights.{Shows}
-use Rattle.causal_trace.specs.declared.entry.Entry.TheVariants.{Crash, Restart}
 use Rattle.causal_audit.specs.Spread.{IsCrashOf}
 
 -- a list ascends, and has only numbers below a bound

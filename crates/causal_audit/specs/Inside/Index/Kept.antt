@@ -1,8 +1,5 @@
 -- What is kept of turns and of mentions, told of the values that keep it.
-use Rattle.std.specs.Prelude.{◌≡◌, ℕ, true, List}
-use Rattle.std.specs.List.{All}
-use Rattle.causal_name.specs.declared.Det.{Det}
-use Rattle.causal_trace.specs.declared.entry.Entry.{Entry}
+use Rattle.causal_audit.specs.Inside.Common.{◌≡◌, ℕ, true, List, All, Det, Entry}
 use Rattle.causal_audit.specs.declared.index.mentions.Mentions.{Mentions}
 use Rattle.causal_audit.specs.declared.index.turns.Turns.{Turns}
 use Rattle.causal_audit.specs.Inside.Index.Filed.{AreTurnsOf, Ascends, AreMentions, AreMentionsWith, AreTurns, lists_in, mentions_of}

@@ -1,11 +1,9 @@
 -- What an outline of a run says has one proof at most, and what a look at a determinant says.
-use Rattle.std.specs.Prelude.{◌≡◌, ℕ, Bool, true, List, [], ◌∷◌, Option, Some}
+use Rattle.causal_audit.specs.Inside.Common.{◌≡◌, ℕ, Bool, true, List, [], ◌∷◌, Option, Some, Det, Entry}
 use Rattle.std.specs.Coded.{Unit-prop, codes}
 use Rattle.std.proofs.Props.{props}
 use Rattle.std.proofs.Common.{sym, subst, ◌∙◌}
 use Rattle.std.proofs.Math.Bool.{Bool-set}
-use Rattle.causal_name.specs.declared.Det.{Det}
-use Rattle.causal_trace.specs.declared.entry.Entry.{Entry}
 use Rattle.causal_audit.specs.declared.index.turns.Turns.{Turns}
 use Rattle.causal_audit.specs.Inside.ByClock.Changes.{AreMentionsOf}
 use Rattle.causal_audit.specs.Inside.Index.Kept.{AreTurnsKept}

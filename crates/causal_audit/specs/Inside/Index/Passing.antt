@@ -1,7 +1,5 @@
 -- A place among the crashes and restarts of a run.
-use Rattle.std.specs.Prelude.{◌≡◌, ℕ, ◌<◌, ◌≤◌, length}
-use Rattle.std.specs.List.{AllWithin}
-use Rattle.std.specs.List.Sorted.{IsPartitionPoint}
+use Rattle.causal_audit.specs.Inside.Common.{◌≡◌, ℕ, ◌<◌, ◌≤◌, length, AllWithin, IsPartitionPoint}
 use Rattle.causal_audit.specs.declared.index.turns.Turns.{Turns}
 use Rattle.causal_audit.specs.declared.index.turns.Passing.{Passing}
 

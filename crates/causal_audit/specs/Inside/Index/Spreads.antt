@@ -1,10 +1,5 @@
 -- How long each entry stays with its process, as it is noted entry by entry.
-use Rattle.std.specs.Prelude.{◌≡◌, ℕ, ◌<◌, ◌≤◌, List, length, slice_index_or, slice_set, min}
-use Rattle.std.specs.Option.{option_map_or}
-use Rattle.causal_trace.specs.declared.entry.Entry.{Entry}
-use Rattle.causal_trace.specs.declared.entry.Entry.TheVariants.{Deliver, Send}
-use Rattle.causal_trace.specs.Past.{entry_at}
-use Rattle.causal_trace.specs.Dependence.{Delivers}
+use Rattle.causal_audit.specs.Inside.Common.{◌≡◌, ℕ, ◌<◌, ◌≤◌, List, length, slice_index_or, slice_set, min, option_map_or, Entry, Deliver, Send, entry_at, Delivers}
 
 -- for each entry a position, before which no send of its process from it on is delivered
 pub record AreSpreads (past : List Entry) (whose : ℕ → ℕ) (spreads : List ℕ) : Type 0 where

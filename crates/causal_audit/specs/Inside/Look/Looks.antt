@@ -1,11 +1,6 @@
 -- Where a look at a determinant stands, how the determinant stands then, and what all looks found.
-use Rattle.std.specs.Prelude.{◌≡◌, ℕ, ◌<◌, ◌≤◌, true, false, List, ◌+◌, ◌⊎◌, Contains, length, Some, slice_index_or}
-use Rattle.std.specs.Ordering.{nat_cmp}
-use Rattle.std.specs.FinSet.{FinSet, contains, len, union}
-use Rattle.causal_name.specs.declared.Det.{Det}
+use Rattle.causal_audit.specs.Inside.Common.{◌≡◌, ℕ, ◌<◌, ◌≤◌, true, false, List, ◌+◌, ◌⊎◌, Contains, length, Some, slice_index_or, nat_cmp, FinSet, contains, len, union, Det, Entry, instant, is_stable, is_down, logs, All, IsNonDecreasingBy, Recording}
 use Rattle.causal_name.specs.Sets.{count_below}
-use Rattle.causal_trace.specs.declared.entry.Entry.{Entry}
-use Rattle.causal_trace.specs.Past.{instant, is_stable, is_down, logs}
 use Rattle.causal_audit.specs.Laws.{gone}
 use Rattle.causal_audit.specs.declared.look.thin.Standing.{Standing}
 use Rattle.causal_audit.specs.declared.look.thin.Standing.TheVariants.{Kept, Thin, Bare}
@@ -14,10 +9,7 @@ use Rattle.causal_audit.specs.Inside.Sights.{Shows}
 use Rattle.causal_audit.specs.declared.look.Look.{Look}
 use Rattle.causal_audit.specs.declared.look.Stop.{Stop}
 use Rattle.causal_audit.specs.declared.look.thin.Stretch.{Stretch}
-use Rattle.std.specs.List.{All}
-use Rattle.std.specs.List.Sorted.{IsNonDecreasingBy}
 use Rattle.causal_audit.specs.declared.look.thins.Thins.{Thins}
-use Rattle.causal_trace.specs.Rows.{Recording}
 use Rattle.causal_audit.specs.Inside.Index.Filed.{Numbers, number_of}
 use Rattle.causal_audit.specs.declared.look.looks.Looks.{Looks}
 

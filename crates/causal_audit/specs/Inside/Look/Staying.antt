@@ -1,12 +1,5 @@
 -- Until when those who are down or hold a determinant are still so.
-use Rattle.std.specs.Prelude.{◌≡◌, ℕ, ◌<◌, ◌≤◌, ◌&&◌, Bool, true, false, not, List, length, Some}
-use Rattle.std.specs.Ordering.{nat_cmp}
-use Rattle.std.specs.FinSet.{FinSet, contains}
-use Rattle.causal_name.specs.declared.Det.{Det}
-use Rattle.causal_trace.specs.declared.entry.Entry.{Entry}
-use Rattle.causal_trace.specs.declared.entry.Entry.TheVariants.{Restart}
-use Rattle.causal_trace.specs.Past.{instant, entry_at, has, is_down, logs}
-use Rattle.causal_trace.specs.Rows.{AreAccepted}
+use Rattle.causal_audit.specs.Inside.Common.{◌≡◌, ℕ, ◌<◌, ◌≤◌, ◌&&◌, Bool, true, false, not, List, length, Some, nat_cmp, FinSet, contains, Det, Entry, Restart, instant, entry_at, has, is_down, logs, AreAccepted}
 use Rattle.causal_audit.specs.Laws.{gone}
 use Rattle.causal_audit.specs.Quiet.{mentioned_by}
 
