@@ -1,13 +1,5 @@
 -- The least breach of the deliveries at given positions.
-use Rattle.std.proofs.Common.{ℕ, ◌≡◌, ◌+◌, ◌<◌, ◌≤◌, inl, inr, Bool, true, false, List, [], ◌∷◌, ◌++◌, Option, Some, None, length, refl, sym, subst, arith}
-use Rattle.std.specs.Prelude.{◌⊎◌, Contains, if◌then◌else◌, min}
-use Rattle.std.proofs.lemmas.Bool.{cases_lt}
-use Rattle.std.proofs.lemmas.Bool.Decides.{nat_tests}
-use Rattle.std.proofs.lemmas.List.Elements.{Contains-append_cases, Contains-append_left, Contains-append_right, Contains-push, Contains-push_cases}
-use Rattle.causal_name.specs.declared.Det.{Det}
-use Rattle.causal_trace.specs.Past.{instant, deliveries_in, det_at}
-use Rattle.causal_trace.specs.Rows.{Recording, AreAccepted}
-use Rattle.causal_trace.specs.Judgement.{HasOrphan}
+use Rattle.causal_audit.proofs.Common.{ℕ, ◌≡◌, ◌+◌, ◌<◌, ◌≤◌, inl, inr, Bool, true, false, List, [], ◌∷◌, ◌++◌, Option, Some, None, length, refl, sym, subst, arith, ◌⊎◌, Contains, if◌then◌else◌, min, cases_lt, nat_tests, Contains-append_cases, Contains-append_left, Contains-append_right, Contains-push, Contains-push_cases, Det, instant, deliveries_in, det_at, Recording, AreAccepted, HasOrphan}
 use Rattle.causal_audit.specs.declared.breach.Breach.{Breach}
 use Rattle.causal_audit.specs.Earlier.{comes_before, earlier}
 use Rattle.causal_audit.specs.Numbers.{IsNumbered}

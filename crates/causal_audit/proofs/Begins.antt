@@ -1,6 +1,5 @@
 -- What is read of a list whose elements are all the same.
-use Rattle.std.proofs.Common.{ℕ, zero, suc, ◌≡◌, List, get_or, refl, ap, ◌∙◌}
-use Rattle.std.proofs.Math.ListN.{replicate}
+use Rattle.causal_audit.proofs.Common.{ℕ, zero, suc, ◌≡◌, List, get_or, refl, ap, ◌∙◌, replicate}
 
 replicated : {A : Type 0} → (n m : ℕ) (x : A) → get_or (replicate n x) m x ≡ x
 replicated zero m x = refl

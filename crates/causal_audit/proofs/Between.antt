@@ -1,30 +1,11 @@
 -- What one more entry makes of who depends on a delivery, and what stays between two changes.
-use Rattle.std.proofs.Common.{ℕ, ◌≡◌, ◌≢◌, ◌+◌, inl, inr, Bool, true, false, cond, List, ◌∷◌, length, Some, None, refl, sym, ap, subst, ◌∙◌, zero, suc, ◌-◌, ◌<◌, ◌≤◌, [], arith}
-use Rattle.std.specs.Prelude.{◌⊎◌, ◌↔◌, ◌&&◌, ◌||◌, not, ◌==◌}
-use Rattle.std.specs.Ordering.{nat_cmp}
-use Rattle.std.specs.FinSet.{FinSet, contains, insert, remove}
-use Rattle.std.proofs.lemmas.Bool.{false≢true, eq-eqb, ne_eqb, cases_lt, cond-true, cond-false}
-use Rattle.std.proofs.lemmas.Bool.Decides.{eqb_tells}
-use Rattle.causal_name.specs.declared.Pid.{Pid}
-use Rattle.causal_name.specs.declared.Det.{Det}
-use Rattle.causal_trace.specs.declared.entry.Entry.{Entry}
-use Rattle.causal_trace.specs.declared.entry.Entry.TheVariants.{Send, Deliver, Stable, Crash, Restart, Forget}
-use Rattle.causal_trace.specs.Past.{is_down, lane, instant, entry_at, det_at, is_stable, logs, has}
-use Rattle.causal_trace.specs.Rows.{AreAccepted, first_fault}
-use Rattle.causal_trace.specs.Dependence.{actor, IsEventOf, DirectlyPrecedes, in_order, by_message, Reaches, itself, onward, Depends}
-use Rattle.causal_trace.proofs.Lemmas.Reached.{event_below, reaches_old, depends_restarted, reaches_begins}
-use Rattle.causal_trace.proofs.Lemmas.Accepted.{accepted_forward, delivers_up}
+use Rattle.causal_audit.proofs.Common.{ℕ, ◌≡◌, ◌≢◌, ◌+◌, inl, inr, Bool, true, false, cond, List, ◌∷◌, length, Some, None, refl, sym, ap, subst, ◌∙◌, zero, suc, ◌-◌, ◌<◌, ◌≤◌, [], arith, ◌⊎◌, ◌↔◌, ◌&&◌, ◌||◌, not, ◌==◌, nat_cmp, FinSet, contains, insert, remove, false≢true, eq-eqb, ne_eqb, cases_lt, cond-true, cond-false, eqb_tells, nat_tests, Pid, Det, Entry, Send, Deliver, Stable, Crash, Restart, Forget, is_down, lane, instant, entry_at, det_at, is_stable, logs, has, AreAccepted, first_fault, actor, IsEventOf, DirectlyPrecedes, in_order, by_message, Reaches, itself, onward, Depends, event_below, reaches_old, depends_restarted, reaches_begins, accepted_forward, delivers_up, same_det, count_below, HasOrphan, instants_stay, one_more_instant, last_instant, accepted_then, det_then, det_within, instant_length}
 use Rattle.causal_audit.specs.Inside.Sights.{AreDependents, TellsNextReach, IsSight}
 use Rattle.causal_audit.proofs.Legal.{sends_up}
 use Rattle.causal_audit.proofs.Shown.{inserted, removed}
-use Rattle.causal_name.specs.Names.{same_det}
-use Rattle.causal_name.specs.Sets.{count_below}
-use Rattle.causal_trace.specs.Judgement.{HasOrphan}
 use Rattle.causal_audit.specs.Laws.{gone, IsExposed}
-use Rattle.causal_audit.specs.Inside.Held.{IsDeliveredTo}
 use Rattle.causal_audit.specs.declared.sight.Sight.{Sight}
 use Rattle.causal_audit.specs.Quiet.{is_turn, mentioned_by, IsQuiet, AreQuiet, Agree, InstantsAgree, OrphansAgree}
-use Rattle.causal_trace.proofs.Lemmas.AtInstants.{instants_stay, one_more_instant, last_instant, accepted_then, det_then, det_within, instant_length}
 use Rattle.causal_audit.proofs.Lemmas.Judged.{exposed, unexposed}
 
 -- ==== what one more entry makes of who depends on a delivery
@@ -176,16 +157,13 @@ no_turn_stays (Restart who listed) past h p = absurd (false≢true (sym h))
 no_turn_stays (Forget who listed) past h p = (refl, refl)
 
 or_unlisted : (w l b : Bool) → l ≡ false → b ≡ ((w && l) || b)
-or_unlisted true l b h = ap (λ x. x || b) (sym h)
-or_unlisted false l b h = refl
+or_unlisted w l b h = grind (arith, nat_tests)
 
 and_unlisted : (w l b : Bool) → l ≡ false → b ≡ (not (w && l) && b)
-and_unlisted true l b h = ap (λ x. not x && b) (sym h)
-and_unlisted false l b h = refl
+and_unlisted w l b h = grind (arith, nat_tests)
 
 or_false : (a b : Bool) → (a || false) ≡ false → b ≡ (a || b)
-or_false true b h = absurd (false≢true (sym h))
-or_false false b h = refl
+or_false a b h = grind (arith, nat_tests)
 
 pub logs_stay : (e : Entry) (past : List Entry) (d : Det) → is_turn e ≡ false → has (mentioned_by e) d ≡ false → (p : ℕ) → logs past p d ≡ logs (e ∷ past) p d
 logs_stay (Send from to ssn) past d h l p = refl
@@ -216,38 +194,6 @@ quiet_step n e past k d formed quiet = record {
     ],
   );
 }
-
--- a delivery to a process that logs d already, and on which it does not newly depend, changes nothing
-held_or : (a b : Bool) → b ≡ true → b ≡ (a || b)
-held_or true b h = h
-held_or false b h = refl
-
-apart_or : (a l b : Bool) → a ≡ false → b ≡ ((a && l) || b)
-apart_or true l b h = absurd (false≢true (sym h))
-apart_or false l b h = refl
-
-pub held_step : (n : ℕ) (e : Entry) (past : List Entry) (k : ℕ) (d : Det) → AreAccepted n (e ∷ past) → IsDeliveredTo e past d
-    → ((p : ℕ) → actor e ≡ Some p → Reaches (e ∷ past) k (length past) → Depends past k p) → Agree past (e ∷ past) k d
-held_step n (Deliver to send rsn listed) past k d formed held known = record {
-  down = λ p. refl;
-  logged = λ p. elim (eqb_tells to.0 p) [
-    | inl is ↦ held_or ((to.0 == p) && has listed d) (logs past p d) (subst (λ q. logs past q d ≡ true) is.1 held)
-    | inr apart ↦ apart_or (to.0 == p) (has listed d) (logs past p d) apart.0
-  ];
-  stable = refl;
-  dependents = λ p. (
-    depends_more (Deliver to send rsn listed) past k p (refl, refl),
-    λ depends. elim (depends_before n (Deliver to send rsn listed) past k p formed (refl, refl) depends) [
-      | inl old ↦ old
-      | inr new ↦ known p new.0 new.1
-    ],
-  );
-}
-held_step n (Send from to ssn) past k d formed held known = absurd held
-held_step n (Stable det) past k d formed held known = absurd held
-held_step n (Crash who) past k d formed held known = absurd held
-held_step n (Restart who listed) past k d formed held known = absurd held
-held_step n (Forget who listed) past k d formed held known = absurd held
 
 -- ---- from instant to instant
 

@@ -1,23 +1,11 @@
 -- Orphans, by what is known of a delivery at an instant.
-use Rattle.std.proofs.Common.{ℕ, ◌≡◌, ◌<◌, ◌≤◌, inl, inr, Bool, true, false, List, Some, refl, sym, ap, subst, ◌∙◌, arith}
-use Rattle.std.specs.Prelude.{◌&&◌, not}
-use Rattle.std.specs.Ordering.{nat_cmp}
-use Rattle.std.specs.Cmp.{nat_cmp_total}
-use Rattle.std.specs.FinSet.{FinSet, contains, empty, union, difference, len, contains-empty, contains-difference}
-use Rattle.std.proofs.lemmas.Bool.{false≢true, or_cases}
-use Rattle.causal_name.specs.declared.Det.{Det}
-use Rattle.causal_name.specs.Sets.{count_below}
+use Rattle.causal_audit.proofs.Common.{ℕ, ◌≡◌, ◌<◌, ◌≤◌, inl, inr, Bool, true, false, List, Some, refl, sym, ap, subst, ◌∙◌, arith, ◌&&◌, not, nat_cmp, nat_cmp_total, FinSet, contains, empty, union, difference, len, contains-empty, contains-difference, false≢true, or_cases, nat_tests, Det, count_below, Entry, is_down, logs, det_at, Depends, AreAccepted, HasOrphan, IsCrashSet, IsOrphan}
 use Rattle.causal_holders.specs.Members.{IsLeast}
-use Rattle.causal_trace.specs.declared.entry.Entry.{Entry}
-use Rattle.causal_trace.specs.Past.{is_down, logs, det_at}
-use Rattle.causal_trace.specs.Dependence.{Depends}
-use Rattle.causal_trace.specs.Rows.{AreAccepted}
-use Rattle.causal_trace.specs.Judgement.{HasOrphan, IsCrashSet, IsOrphan}
 use Rattle.causal_audit.specs.declared.sight.Sight.{Sight}
 use Rattle.causal_audit.specs.Inside.Sights.{IsSight, IsUnheard, Shows}
 use Rattle.causal_audit.specs.Laws.{gone}
 use Rattle.causal_audit.specs.Verdicts.{IsLeastOrphan}
-use Rattle.causal_audit.proofs.Staying.{gone_many, gone_shown}
+use Rattle.causal_audit.proofs.look.Staying.{gone_many, gone_shown}
 use Rattle.causal_audit.proofs.Lemmas.Judged.{exposed, crash_contains, orphan_without, gone_crash, gone_orphan}
 use Rattle.causal_audit.proofs.Legal.{event_inside}
 use Rattle.causal_audit.proofs.Shown.{shows_none, down_inside, logs_inside}
@@ -31,9 +19,7 @@ sight_begun past k d down shown none = record {
 }
 
 not_parts : (a b : Bool) → (a && not b) ≡ true → (a ≡ true) × (b ≡ false)
-not_parts true true h = absurd (false≢true h)
-not_parts true false h = (refl, refl)
-not_parts false b h = absurd (false≢true h)
+not_parts a b h = grind (arith, nat_tests)
 
 pub depends_inside : (n : ℕ) (past : List Entry) (k p : ℕ) → AreAccepted n past → Depends past k p → p < n
 depends_inside n past k p formed d = event_inside n past formed d.event p _ d.present

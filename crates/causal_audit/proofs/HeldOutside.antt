@@ -1,11 +1,5 @@
 -- An instant is safe exactly where what survivors depend on is held outside each crash set.
-use Rattle.std.proofs.Common.{ℕ, zero, suc, ◌≡◌, ◌<◌, inl, inr, Bool, true, false, List, sym, ◌∙◌, ap, arith}
-use Rattle.std.specs.Prelude.{◌⊎◌}
-use Rattle.std.proofs.lemmas.Bool.{false≢true, cases_Bool, cases_lt}
-use Rattle.causal_name.specs.declared.Det.{Det}
-use Rattle.causal_trace.specs.declared.entry.Entry.{Entry}
-use Rattle.causal_trace.specs.Past.{logs, is_stable}
-use Rattle.causal_trace.specs.Judgement.{HasOrphan, IsSafe}
+use Rattle.causal_audit.proofs.Common.{ℕ, zero, suc, ◌≡◌, ◌<◌, inl, inr, Bool, true, false, List, sym, ◌∙◌, ap, arith, ◌⊎◌, false≢true, cases_Bool, cases_lt, Det, Entry, logs, is_stable, HasOrphan, IsSafe}
 use Rattle.causal_audit.specs.Held.{AreHeld, SafeIsHeld}
 
 -- some process below n holds it outside the set, or none does

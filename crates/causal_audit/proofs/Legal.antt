@@ -1,18 +1,7 @@
 -- What is known of the entries of a well-formed run.
-use Rattle.std.proofs.Common.{ℕ, ◌≡◌, ◌<◌, inl, inr, true, false, cond, List, [], ◌∷◌, length, Option, Some, None, refl, subst, arith}
-use Rattle.std.specs.Prelude.{◌==◌, nat_le}
-use Rattle.std.specs.Option.{option_map_or}
-use Rattle.std.proofs.lemmas.Bool.{false≢true, eqb-true}
-use Rattle.std.proofs.lemmas.Bool.Decides.{nat_tests}
-use Rattle.causal_name.specs.declared.Pid.{Pid}
-use Rattle.causal_name.specs.declared.Det.{Det}
-use Rattle.causal_trace.specs.declared.entry.Entry.{Entry}
-use Rattle.causal_trace.specs.declared.entry.Entry.TheVariants.{Send, Deliver, Stable, Crash, Restart, Forget}
+use Rattle.causal_audit.proofs.Common.{ℕ, ◌≡◌, ◌<◌, inl, inr, true, false, cond, List, [], ◌∷◌, length, Option, Some, None, refl, subst, arith, ◌==◌, nat_le, option_map_or, false≢true, eqb-true, nat_tests, Pid, Det, Entry, Send, Deliver, Stable, Crash, Restart, Forget, is_down, lane, restarts, listed_in, listed_by, entry_at, is_send_to, is_sent_to, det_of, det_at, first_fault, AreAccepted, actor, is_delivery_of, IsEventOf, Delivers, row_fails, delivers_sent}
+use Rattle.causal_trace.specs.Rows.{rows}
 use Rattle.causal_trace.specs.declared.fault.TraceFault.TheVariants.{NotUp, Lanes}
-use Rattle.causal_trace.specs.Past.{is_down, lane, restarts, listed_in, listed_by, entry_at, is_send_to, is_sent_to, det_of, det_at}
-use Rattle.causal_trace.specs.Rows.{rows, first_fault, AreAccepted}
-use Rattle.causal_trace.specs.Dependence.{actor, is_delivery_of, IsEventOf, Delivers}
-use Rattle.causal_trace.proofs.Lemmas.Accepted.{row_fails, delivers_sent}
 use Rattle.causal_trace.proofs.Lemmas.Formed.{within_limits, limits}
 use Rattle.causal_audit.proofs.Shown.{send_inside, deliver_inside}
 

@@ -1,18 +1,6 @@
 -- Deliveries by their numbers.
-use Rattle.std.proofs.Common.{ℕ, zero, suc, ◌≡◌, ◌+◌, ◌-◌, drop, ◌<◌, ◌≤◌, inl, inr, true, List, [], ◌∷◌, length, Option, Some, None, refl, sym, ap, subst, ◌∙◌, arith}
-use Rattle.std.specs.Prelude.{◌==◌}
-use Rattle.std.specs.Option.{option_map, option_and_then}
-use Rattle.std.proofs.lemmas.Bool.{false≢true, cases_lt, cond-true, cond-false}
-use Rattle.std.proofs.lemmas.Bool.Decides.{eqb_tells}
-use Rattle.causal_name.specs.declared.Pid.{Pid}
-use Rattle.causal_name.specs.declared.Det.{Det}
-use Rattle.causal_trace.specs.declared.entry.Entry.{Entry}
-use Rattle.causal_trace.specs.declared.entry.Entry.TheVariants.{Send, Deliver, Stable, Crash, Restart, Forget}
-use Rattle.causal_trace.specs.Past.{instant, entry_at, det_at, det_of, det_from, message_sent, deliveries_in}
-use Rattle.causal_trace.specs.Rows.{AreAccepted}
-use Rattle.causal_trace.proofs.Lemmas.Accepted.{delivers_sent}
+use Rattle.causal_audit.proofs.Common.{ℕ, zero, suc, ◌≡◌, ◌+◌, ◌-◌, drop, ◌<◌, ◌≤◌, inl, inr, true, List, [], ◌∷◌, length, Option, Some, None, refl, sym, ap, subst, ◌∙◌, arith, ◌==◌, option_map, option_and_then, false≢true, cases_lt, cond-true, cond-false, eqb_tells, Pid, Det, Entry, Send, Deliver, Stable, Crash, Restart, Forget, instant, entry_at, det_at, det_of, det_from, message_sent, deliveries_in, AreAccepted, delivers_sent, instants_stay, one_more_instant}
 use Rattle.causal_audit.specs.Numbers.{is_delivery, IsNumbered}
-use Rattle.causal_trace.proofs.Lemmas.AtInstants.{instants_stay, one_more_instant}
 use Rattle.causal_audit.proofs.Legal.{sent_is}
 use Rattle.causal_audit.proofs.Lemmas.NumberLemmas.{no_fewer, one_more}
 

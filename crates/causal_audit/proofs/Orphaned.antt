@@ -1,14 +1,8 @@
 -- From instant to instant: when a delivery has had no orphan so far.
-use Rattle.std.proofs.Common.{ℕ, ◌≡◌, ◌+◌, ◌<◌, ◌≤◌, List, ◌∷◌, length, Some, None, sym, subst, ◌∙◌, arith}
-use Rattle.causal_trace.specs.declared.entry.Entry.{Entry}
-use Rattle.causal_trace.specs.Past.{instant}
-use Rattle.causal_trace.specs.Rows.{Recording, IsWellFormed, AreAccepted}
-use Rattle.causal_trace.specs.Judgement.{HasOrphan}
-use Rattle.causal_trace.proofs.Lemmas.Instants.{det_beyond}
+use Rattle.causal_audit.proofs.Common.{ℕ, ◌≡◌, ◌+◌, ◌<◌, ◌≤◌, List, ◌∷◌, length, Some, None, sym, subst, ◌∙◌, arith, Entry, instant, Recording, IsWellFormed, AreAccepted, HasOrphan, det_beyond, accepted_then}
 use Rattle.causal_audit.specs.declared.breach.Breach.{Breach}
 use Rattle.causal_audit.specs.Breaches.{IsFirstBreach}
 use Rattle.causal_audit.specs.Verdicts.{IsLeastOrphan}
-use Rattle.causal_trace.proofs.Lemmas.AtInstants.{accepted_then}
 
 -- a delivery that is still to come has no orphan
 pub not_yet : (n f : ℕ) (past : List Entry) (k : ℕ) → length past ≤ k → HasOrphan n f past k → ⊥

@@ -1,7 +1,5 @@
 -- What holds of each element of a list holds of those of its parts.
-use Rattle.std.proofs.Common.{◌++◌, List, [], ◌∷◌}
-use Rattle.std.specs.List.{All}
-use Rattle.std.proofs.lemmas.List.Elements.{All-cons, All-head, All-nil, All-tail}
+use Rattle.causal_audit.proofs.Common.{◌++◌, List, [], ◌∷◌, All, All-cons, All-head, All-nil, All-tail}
 
 -- what holds of a list holds of its first part
 pub all_left : {A : Type 0} (P : A → Type 0) (xs ys : List A) → All P (xs ++ ys) → All P xs

@@ -1,20 +1,7 @@
 -- From one instant of a recorded run to the next, by the entry read there.
-use Rattle.std.specs.Prelude.{◌==◌}
-use Rattle.std.proofs.Common.{ℕ, ◌≡◌, ◌+◌, ◌<◌, ◌≤◌, inl, inr, List, [], ◌∷◌, length, get_or, reverse, take, Some, sym, ap, subst, ◌∙◌, arith}
-use Rattle.std.specs.Ordering.{nat_cmp}
-use Rattle.std.specs.FinSet.{FinSet, empty, len}
-use Rattle.std.proofs.lemmas.Bool.{cases_lt, cond-false, ne_eqb}
-use Rattle.std.proofs.lemmas.List.{length-reverse, take_all}
-use Rattle.causal_name.specs.Sets.{count_below}
-use Rattle.causal_trace.specs.declared.entry.Entry.{Entry}
-use Rattle.causal_trace.specs.Past.{instant, entry_at, is_down}
-use Rattle.causal_trace.specs.Rows.{Recording, IsWellFormed}
-use Rattle.causal_trace.specs.State.{past_at, entries_of}
-use Rattle.causal_trace.proofs.Lemmas.Instants.{past_more}
+use Rattle.causal_audit.proofs.Common.{◌==◌, ℕ, ◌≡◌, ◌+◌, ◌<◌, ◌≤◌, inl, inr, List, [], ◌∷◌, length, get_or, reverse, take, Some, sym, ap, subst, ◌∙◌, arith, nat_cmp, FinSet, empty, len, cases_lt, cond-false, ne_eqb, length-reverse, take_all, count_below, Entry, instant, entry_at, is_down, Recording, IsWellFormed, past_at, entries_of, past_more, count_below-none, read_instant, accepted_then, instants_stay, one_more_instant}
 use Rattle.causal_audit.specs.Inside.Sights.{Shows}
-use Rattle.causal_holders.proofs.Lemmas.Counting.{count_below-none}
 use Rattle.causal_audit.proofs.Between.{next_entry}
-use Rattle.causal_trace.proofs.Lemmas.AtInstants.{read_instant, accepted_then, instants_stay, one_more_instant}
 use Rattle.causal_audit.proofs.Shown.{shows_none, down_members, counted}
 
 module _ (r : Recording) (es : List Entry) (read : es ≡ entries_of r) where

@@ -1,27 +1,12 @@
 -- Which deliveries may come to have an orphan by one more entry.
-use Rattle.std.proofs.Common.{ℕ, zero, suc, ◌≡◌, ◌<◌, inl, inr, true, false, List, [], ◌∷◌, length, Option, Some, None, refl, sym, subst, ◌∙◌, ap, arith, ◌+◌, ◌≤◌, Bool, cond}
-use Rattle.std.specs.Prelude.{◌⊎◌, ◌&&◌, ◌||◌, ◌==◌, not}
-use Rattle.std.proofs.lemmas.Bool.{false≢true, cases_Bool, cases_lt, eqb-true, eq-eqb, or_parts, false_from_ne_true, cond-true, cond-false, ne_eqb}
-use Rattle.std.proofs.lemmas.Bool.Decides.{eqb_tells}
-use Rattle.causal_name.specs.declared.Pid.{Pid}
-use Rattle.causal_name.specs.declared.Det.{Det}
-use Rattle.causal_trace.specs.declared.entry.Entry.{Entry}
-use Rattle.causal_trace.specs.declared.entry.Entry.TheVariants.{Send, Deliver, Stable, Crash, Restart, Forget}
-use Rattle.causal_trace.specs.Past.{is_down, lane, is_stable, logs, has, det_at, det_of}
-use Rattle.causal_trace.specs.Rows.{AreAccepted}
-use Rattle.causal_trace.specs.Dependence.{actor, is_delivery_of, IsEventOf, in_order, by_message, Reaches, itself, onward, Depends}
-use Rattle.causal_trace.proofs.Lemmas.Reached.{event_below, reaches_old, reaches_newest, ReachesNewest, is_newest, in_lane, through_message, reaches_begins, depends_restarted}
-use Rattle.causal_trace.proofs.Lemmas.Accepted.{accepted_forward}
+use Rattle.causal_audit.proofs.Common.{ℕ, zero, suc, ◌≡◌, ◌<◌, inl, inr, true, false, List, [], ◌∷◌, length, Option, Some, None, refl, sym, subst, ◌∙◌, ap, arith, ◌+◌, ◌≤◌, Bool, cond, ◌⊎◌, ◌&&◌, ◌||◌, ◌==◌, not, false≢true, cases_Bool, cases_lt, eqb-true, eq-eqb, or_parts, false_from_ne_true, cond-true, cond-false, ne_eqb, eqb_tells, nat_tests, Pid, Det, Entry, Send, Deliver, Stable, Crash, Restart, Forget, is_down, lane, is_stable, logs, has, det_at, det_of, AreAccepted, actor, is_delivery_of, IsEventOf, in_order, by_message, Reaches, itself, onward, Depends, event_below, reaches_old, reaches_newest, ReachesNewest, is_newest, in_lane, through_message, reaches_begins, depends_restarted, accepted_forward, count_below, count_below-within, HasOrphan}
 use Rattle.causal_audit.proofs.Between.{reaches_more, IsNoTurn, depends_before}
-use Rattle.causal_audit.proofs.Link.{delivers_below}
-use Rattle.causal_name.specs.Sets.{count_below}
-use Rattle.causal_holders.proofs.Lemmas.Counting.{count_below-within}
-use Rattle.causal_trace.specs.Judgement.{HasOrphan}
+use Rattle.causal_audit.proofs.by_clock.Link.{delivers_below}
 use Rattle.causal_audit.specs.Laws.{gone}
 use Rattle.causal_audit.specs.Lasting.{may_release}
 use Rattle.causal_audit.specs.Sweep.{MayNewlyFail, SweepLaw, OneNewOrphan}
 use Rattle.causal_audit.proofs.Lemmas.Judged.{exposed, unexposed, orphan_without}
-use Rattle.causal_audit.proofs.Staying.{stable_more, gone_more}
+use Rattle.causal_audit.proofs.look.Staying.{stable_more, gone_more}
 use Rattle.causal_audit.proofs.Legal.{sends_up}
 
 -- ==== whether an event reaches another, and whether a process depends on a delivery, is decided
@@ -30,47 +15,30 @@ use Rattle.causal_audit.proofs.Legal.{sends_up}
 abbrev Known : Type 0 → Type 0
 Known P = P ⊎ (P → ⊥)
 
--- some number below a bound has a property that is known of each, or none has it
-some_below : (P : ℕ → Type 0) (n : ℕ) → ((j : ℕ) → j < n → Known (P j)) → ((j : ℕ) × (j < n) × P j) ⊎ ((j : ℕ) → j < n → P j → ⊥)
-some_below P zero known = inr (λ j below _. omega (arith, below))
-some_below P (suc n) known = elim (known n (omega arith)) [
-  | inl here ↦ inl (n, omega arith, here)
-  | inr not_here ↦ elim (some_below P n (λ j below. known j (omega (arith, below)))) [
-    | inl some ↦ inl (some.0, omega (arith, some.1), some.2)
-    | inr none ↦ inr (λ j below has. elim (cases_lt j n) [
-      | inl early ↦ none j early has
-      | inr late ↦ let same : j ≡ n = omega (arith, late, below) in not_here (subst P same has)
-    ])
-  ]
-]
+both_known : {A B : Type 0} → Known A → Known B → Known (A × B)
+both_known (inl a) (inl b) = inl (a, b)
+both_known (inl a) (inr none) = inr (λ h. none h.1)
+both_known (inr none) b = inr (λ h. none h.0)
+
+either_known : {A B : Type 0} → Known A → Known B → Known (A ⊎ B)
+either_known (inl a) b = inl (inl a)
+either_known (inr none) (inl b) = inl (inr b)
+either_known (inr none) (inr neither) = inr (λ h. elim h [ inl a ↦ none a | inr b ↦ neither b ])
+
+same_known : (m n : ℕ) → Known (m ≡ n)
+same_known m n = elim (eqb_tells m n) [ inl h ↦ inl h.1 | inr h ↦ inr h.1 ]
 
 actor_known : (a : Option ℕ) (p : ℕ) → Known (a ≡ Some p)
 actor_known None p = inr (λ is. cc)
-actor_known (Some q) p = elim (eqb_tells q p) [
-  | inl h ↦ inl (ap Some h.1)
-  | inr h ↦ inr (λ is. let same : q ≡ p = cc in h.1 same)
-]
+actor_known (Some q) p = elim (same_known q p) [ inl is ↦ inl (ap Some is) | inr other ↦ inr (λ is. let same : q ≡ p = cc in other same) ]
 
 -- whether an entry is an event of p in this lane
 event_known : (past : List Entry) (i p l : ℕ) → Known (IsEventOf past i p l)
 event_known [] i p l = inr (λ at. at)
-event_known (e ∷ past) i p l = elim (event_known past i p l) [
-  | inl old ↦ inl (inl old)
-  | inr not_old ↦ elim (eqb_tells i (length past)) [
-    | inr apart ↦ inr (λ at. event_not_old e past i p l not_old (λ new. apart.1 new.0) at)
-    | inl here ↦ elim (actor_known (actor e) p) [
-      | inr other ↦ inr (λ at. event_not_old e past i p l not_old (λ new. other new.1) at)
-      | inl own ↦ elim (eqb_tells (lane past p) l) [
-        | inr another ↦ inr (λ at. event_not_old e past i p l not_old (λ new. another.1 new.2) at)
-        | inl same ↦ inl (inr (here.1, own, same.1))
-      ]
-    ]
-  ]
-]
-  where
-    event_not_old : (e : Entry) (past : List Entry) (i p l : ℕ) → (IsEventOf past i p l → ⊥) → ((i ≡ length past) × (actor e ≡ Some p) × (lane past p ≡ l) → ⊥) → IsEventOf (e ∷ past) i p l → ⊥
-    event_not_old e past i p l old new (inl h) = old h
-    event_not_old e past i p l old new (inr h) = new h
+event_known (e ∷ past) i p l = either_known (event_known past i p l) (elim (both_known (same_known i (length past)) (both_known (actor_known (actor e) p) (same_known (lane past p) l))) [
+  | inl h ↦ inl (h.0, h.1.0, h.1.1)
+  | inr none ↦ inr (λ h. none (h.0, (h.1, h.2)))
+])
 
 -- what is no event is reached by nothing
 no_event_reached : (e : Entry) (past : List Entry) (k i : ℕ) → actor e ≡ None → ((j : ℕ) → is_delivery_of j e ≡ false) → i ≡ length past → Reaches (e ∷ past) k i → ⊥
@@ -81,52 +49,51 @@ no_event_reached e past k i none quiet is (onward {j} r (in_order q l h a (inr b
 no_event_reached e past k i none quiet is (onward {j} r (by_message (inl h))) = omega (arith, delivers_below past i j h, is)
 no_event_reached e past k i none quiet is (onward {j} r (by_message (inr h))) = false≢true (sym (quiet j) ∙ h.1)
 
--- the entry delivers what an event sends that k reaches
-abbrev ByMessage : Entry → List Entry → ℕ → ℕ → Type 0
-ByMessage e past k j = (is_delivery_of j e ≡ true) × Reaches past k j
-
-module _ (n : ℕ) (e : Entry) (past : List Entry) (k i p : ℕ) (formed : AreAccepted n (e ∷ past)) (is : i ≡ length past) (who : actor e ≡ Some p) where
-  abbrev InLane : ℕ → Type 0
-  InLane j = IsEventOf past j p (lane past p) × Reaches past k j
-
-  here : IsEventOf (e ∷ past) i p (lane past p)
-  here = inr (is, who, refl)
-
-  unreached : (k ≡ length past → ⊥) → ((j : ℕ) → j < length past → InLane j → ⊥) → ((j : ℕ) → ByMessage e past k j → ⊥) → ReachesNewest e past k p → ⊥
-  unreached newest mate sent (is_newest same) = newest same
-  unreached newest mate sent (in_lane j at r) = mate j (event_below past j p (lane past p) at) (at, r)
-  unreached newest mate sent (through_message j of r) = sent j (of, r)
-
-  event_reached : ((j : ℕ) × (j < length past) × InLane j) ⊎ ((j : ℕ) → j < length past → InLane j → ⊥) → ((j : ℕ) × ByMessage e past k j) ⊎ ((j : ℕ) → ByMessage e past k j → ⊥) → Known (Reaches (e ∷ past) k i)
-  event_reached (inl mate) sent = inl (onward (reaches_more e past k mate.0 mate.2.1) (in_order p (lane past p) (omega (arith, mate.1, is)) (inl mate.2.0) here))
-  event_reached (inr mate) (inl sent) = inl (onward (reaches_more e past k sent.0 sent.1.1) (by_message (inr (is, sent.1.0))))
-  event_reached (inr mate) (inr sent) = elim (eqb_tells k (length past)) [
-    | inl same ↦ inl (subst (λ x. Reaches (e ∷ past) x i) (is ∙ sym same.1) (itself p (lane past p) here))
-    | inr apart ↦ inr (λ r. unreached apart.1 mate sent (reaches_newest e past k p i (accepted_forward n (e ∷ past) formed) is who r))
-  ]
-
-message_known : (past : List Entry) (k : ℕ) (to : Pid) (send rsn : ℕ) (listed : List Det) → Known (Reaches past k send)
-    → ((j : ℕ) × ByMessage (Deliver to send rsn listed) past k j) ⊎ ((j : ℕ) → ByMessage (Deliver to send rsn listed) past k j → ⊥)
-message_known past k to send rsn listed (inl r) = inl (send, (eq-eqb send send refl, r))
-message_known past k to send rsn listed (inr none) = inr (λ j both. none (subst (Reaches past k) (sym (eqb-true send j both.0)) both.1))
-
-module _ (n : ℕ) (past : List Entry) (k i : ℕ) (is : i ≡ length past) (before : (j : ℕ) → j < length past → Known (Reaches past k j)) where
-  mate_known : (p : ℕ) → ((j : ℕ) × (j < length past) × (IsEventOf past j p (lane past p) × Reaches past k j)) ⊎ ((j : ℕ) → j < length past → IsEventOf past j p (lane past p) × Reaches past k j → ⊥)
-  mate_known p = some_below (λ j. IsEventOf past j p (lane past p) × Reaches past k j) (length past) (λ j below. elim (event_known past j p (lane past p)) [
-    | inr no_event ↦ inr (λ both. no_event both.0)
-    | inl at ↦ elim (before j below) [ inl r ↦ inl (at, r) | inr none ↦ inr (λ both. none both.1) ]
+-- some number below a bound has a property that is known of each, or none has it
+some_below : (P : ℕ → Type 0) (n : ℕ) → ((j : ℕ) → j < n → Known (P j)) → Known ((j : ℕ) × (j < n) × P j)
+some_below P zero known = inr (λ some. absurd (omega (arith, some.1)))
+some_below P (suc n) known = elim (either_known (known n (omega arith)) (some_below P n (λ j below. known j (omega (arith, below))))) [
+  | inl (inl here) ↦ inl (n, omega arith, here)
+  | inl (inr some) ↦ inl (some.0, omega (arith, some.1), some.2)
+  | inr none ↦ inr (λ some. elim (cases_lt some.0 n) [
+    | inl early ↦ none (inr (some.0, early, some.2))
+    | inr late ↦ let same : some.0 ≡ n = omega (arith, late, some.1) in none (inl (subst P same some.2))
   ])
+]
 
-  newest_known : (e : Entry) → AreAccepted n (e ∷ past) → Known (Reaches (e ∷ past) k i)
-  newest_known (Send from to ssn) formed = event_reached n (Send from to ssn) past k i from.0 formed is refl (mate_known from.0) (inr (λ j both. false≢true both.0))
-  newest_known (Deliver to send rsn listed) formed =
+module _ (n : ℕ) (past : List Entry) (k : ℕ) (before : (j : ℕ) → j < length past → Known (Reaches past k j)) where
+  mate_known : (p : ℕ) → Known ((j : ℕ) × (j < length past) × (IsEventOf past j p (lane past p) × Reaches past k j))
+  mate_known p = some_below (λ j. IsEventOf past j p (lane past p) × Reaches past k j) (length past) (λ j below. both_known (event_known past j p (lane past p)) (before j below))
+
+  -- the newest entry is an event of p: it is k itself, or one of its lane or the send of its message is reached
+  event_reached : (e : Entry) (i p : ℕ) → AreAccepted n (e ∷ past) → i ≡ length past → actor e ≡ Some p
+      → Known ((j : ℕ) × (is_delivery_of j e ≡ true) × Reaches past k j) → Known (Reaches (e ∷ past) k i)
+  event_reached e i p formed is who sent =
+      let here : IsEventOf (e ∷ past) i p (lane past p) = inr (is, who, refl) in
+      elim (either_known (same_known k i) (either_known (mate_known p) sent)) [
+        | inl (inl same) ↦ inl (subst (λ x. Reaches (e ∷ past) x i) (sym same) (itself p (lane past p) here))
+        | inl (inr (inl mate)) ↦ inl (onward (reaches_more e past k mate.0 mate.2.1) (in_order p (lane past p) (omega (arith, mate.1, is)) (inl mate.2.0) here))
+        | inl (inr (inr by)) ↦ inl (onward (reaches_more e past k by.0 by.2) (by_message (inr (is, by.1))))
+        | inr none ↦ inr (λ r. elim (reaches_newest e past k p i (accepted_forward n (e ∷ past) formed) is who r) [
+          | is_newest same ↦ none (inl (same ∙ sym is))
+          | in_lane j at reach ↦ none (inr (inl (j, event_below past j p (lane past p) at, (at, reach))))
+          | through_message j of reach ↦ none (inr (inr (j, of, reach)))
+        ])
+      ]
+
+  newest_known : (e : Entry) (i : ℕ) → AreAccepted n (e ∷ past) → i ≡ length past → Known (Reaches (e ∷ past) k i)
+  newest_known (Send from to ssn) i formed is = event_reached (Send from to ssn) i from.0 formed is refl (inr (λ by. false≢true by.1))
+  newest_known (Deliver to send rsn listed) i formed is =
       let e = Deliver to send rsn listed in
       let early : send < length past = accepted_forward n (e ∷ past) formed (length past) send (inr (refl, eq-eqb send send refl)) in
-      event_reached n e past k i to.0 formed is refl (mate_known to.0) (message_known past k to send rsn listed (before send early))
-  newest_known (Stable det) formed = inr (no_event_reached (Stable det) past k i refl (λ j. refl) is)
-  newest_known (Crash who) formed = inr (no_event_reached (Crash who) past k i refl (λ j. refl) is)
-  newest_known (Restart who listed) formed = inr (no_event_reached (Restart who listed) past k i refl (λ j. refl) is)
-  newest_known (Forget who listed) formed = inr (no_event_reached (Forget who listed) past k i refl (λ j. refl) is)
+      event_reached e i to.0 formed is refl (elim (before send early) [
+        | inl r ↦ inl (send, eq-eqb send send refl, r)
+        | inr none ↦ inr (λ by. none (subst (Reaches past k) (sym (eqb-true send by.0 by.1)) by.2))
+      ])
+  newest_known (Stable det) i formed is = inr (no_event_reached (Stable det) past k i refl (λ j. refl) is)
+  newest_known (Crash who) i formed is = inr (no_event_reached (Crash who) past k i refl (λ j. refl) is)
+  newest_known (Restart who listed) i formed is = inr (no_event_reached (Restart who listed) past k i refl (λ j. refl) is)
+  newest_known (Forget who listed) i formed is = inr (no_event_reached (Forget who listed) past k i refl (λ j. refl) is)
 
 -- whether an event reaches another
 pub reach_known : (n : ℕ) (past : List Entry) (k i : ℕ) → AreAccepted n past → i < length past → Known (Reaches past k i)
@@ -136,16 +103,16 @@ reach_known n (e ∷ past) k i formed below = elim (cases_lt i (length past)) [
     | inl r ↦ inl (reaches_more e past k i r)
     | inr none ↦ inr (λ r. none (reaches_old e past k (accepted_forward n (e ∷ past) formed) i early r))
   ]
-  | inr late ↦ newest_known n past k i (omega (arith, late, below)) (λ j h. reach_known n past k j formed.0 h) e formed
+  | inr late ↦ newest_known n past k (λ j h. reach_known n past k j formed.0 h) e i formed (omega (arith, late, below))
 ]
 
 -- whether a process depends on a delivery
 pub depends_known : (n : ℕ) (past : List Entry) (k p : ℕ) → AreAccepted n past → Known (Depends past k p)
 depends_known n past k p formed = elim (cases_Bool (is_down past p)) [
   | inl down ↦ inr (λ d. false≢true (sym d.up ∙ down))
-  | inr up ↦ elim (mate_known n past k (length past) refl (λ j h. reach_known n past k j formed h) p) [
+  | inr up ↦ elim (mate_known n past k (λ j h. reach_known n past k j formed h) p) [
     | inl mate ↦ inl (record { up = up; event = mate.0; present = mate.2.0; reached = mate.2.1 })
-    | inr none ↦ inr (λ d. none d.event (event_below past d.event p (lane past p) d.present) (d.present, d.reached))
+    | inr none ↦ inr (λ d. none (d.event, event_below past d.event p (lane past p) d.present, (d.present, d.reached)))
   ]
 ]
 
@@ -212,8 +179,7 @@ stored n f past k d det formed at has =
     (stable_fewer (Stable det) past d x.unstable) x.few x.without
 
 held_by_other : (w b : Bool) → w ≡ false → (not w && b) ≡ false → b ≡ false
-held_by_other true b h k = absurd (false≢true (sym h))
-held_by_other false b h k = k
+held_by_other w b h k = grind (arith, nat_tests)
 
 pub crashed : (n f : ℕ) (past : List Entry) (k : ℕ) (d : Det) (who : Pid) → AreAccepted n (Crash who ∷ past) → det_at (Crash who ∷ past) k ≡ Some d
     → HasOrphan n f (Crash who ∷ past) k → HasOrphan n f past k
@@ -227,15 +193,10 @@ crashed n f past k d who formed at has =
 -- ---- a forgetting that does not list it
 
 unforgotten : (a w h b : Bool) → h ≡ false → (a || b) ≡ true → (a || (not (w && h) && b)) ≡ true
-unforgotten true w h b miss k = refl
-unforgotten false true true b miss k = absurd (false≢true (sym miss))
-unforgotten false true false b miss k = k
-unforgotten false false h b miss k = k
+unforgotten a w h b miss k = grind (arith, nat_tests)
 
 not_held : (w h b : Bool) → h ≡ false → (not (w && h) && b) ≡ false → b ≡ false
-not_held true true b miss k = absurd (false≢true (sym miss))
-not_held true false b miss k = k
-not_held false h b miss k = k
+not_held w h b miss k = grind (arith, nat_tests)
 
 pub forgotten : (n f : ℕ) (past : List Entry) (k : ℕ) (d : Det) (who : Pid) (listed : List Det) → AreAccepted n (Forget who listed ∷ past) → det_at (Forget who listed ∷ past) k ≡ Some d
     → has listed d ≡ false → HasOrphan n f (Forget who listed ∷ past) k → HasOrphan n f past k
@@ -249,9 +210,7 @@ forgotten n f past k d who listed formed at miss orphaned =
 -- ---- a restart that lists it
 
 relisted : (w a h b : Bool) → h ≡ true → (a || b) ≡ true → ((not w && a) || ((w && h) || b)) ≡ true
-relisted true a true b hit k = refl
-relisted true a false b hit k = absurd (false≢true hit)
-relisted false a h b hit k = k
+relisted w a h b hit k = grind (arith, nat_tests)
 
 pub restarted : (n f : ℕ) (past : List Entry) (k : ℕ) (d : Det) (who : Pid) (listed : List Det) → AreAccepted n (Restart who listed ∷ past) → det_at (Restart who listed ∷ past) k ≡ Some d
     → has listed d ≡ true → HasOrphan n f (Restart who listed ∷ past) k → HasOrphan n f past k

@@ -7,8 +7,8 @@ ghost use Rattle.causal_audit.specs.Verdicts.{IsVerdict};
 
 use crate::breach::{Breach, Excess};
 use crate::excess::{deciding_in, first_excess_in};
+use crate::index::mentions::mentioned;
 use crate::judging::decided;
-use crate::mentions::mentioned;
 use crate::prepared::Prepared;
 use crate::verdict::Verdict;
 use causal_name::NoMemory;

@@ -1,8 +1,12 @@
 //! The deliveries of a group are followed by one walk over the entries.
 
+pub mod copies;
 pub mod held;
+pub mod judged;
 pub mod marks;
 pub mod ordered;
+pub mod reach;
 pub mod room;
-pub mod seen;
+pub mod scan;
+pub mod suspects;
 pub mod walk;

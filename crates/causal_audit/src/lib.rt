@@ -21,70 +21,25 @@ pub mod judging;
 pub mod laws;
 /// A run that is prepared, and parts of its deliveries.
 pub mod prepared;
+/// A run with its vector clocks.
+pub mod tables;
 /// A verdict.
 pub mod verdict;
 
-// The recording's index: what is read of a run before anything is followed.
+// How they are told.
 
-/// The crashes of each process, and its restarts.
-mod by_process;
-/// Lists of positions by numbers.
-mod lists;
-/// Which entries mention each determinant.
-mod mentions;
-/// The numbers of determinants.
-mod numbering;
-/// What tells who is down at an instant.
-mod outline;
-/// From which position on no process is released.
-mod releases;
-/// How long each entry stays with its process.
-mod spreads;
-/// The crashes and restarts, in order.
-mod turns;
-
-// The look at a determinant: until when a delivery with it may be uncovered.
-
-/// Who is down and holds a determinant.
-mod cover;
-/// A walk over a list of positions.
-mod cursor;
-/// A look at one determinant.
-mod look;
-/// The looks at all of them.
-mod looks;
-/// Which deliveries have to be followed, by the looks.
-mod survey;
-/// How a determinant stands through a stretch of instants.
-mod thin;
-/// What a look found.
-mod thins;
-
-// The walk over the entries for a group of deliveries.
-
-/// The walk, its memory and its steps.
+/// One delivery is followed from change to change.
+mod by_clock;
+/// The walk over the entries for a group of deliveries.
 mod group;
 /// Who holds a determinant after one more entry.
 mod holding;
-/// Which deliveries of a group reach an entry.
-mod reach;
-/// Which deliveries are followed, and what is read for that.
-mod scan;
+/// What is read of a run before anything is followed.
+mod index;
+/// A look at a determinant: until when a delivery with it may be uncovered.
+mod look;
 /// What is known of one delivery at an instant.
 mod sight;
-
-// The tables: one delivery is followed from change to change.
-
-/// The entries that may change something for a delivery.
-mod changes;
-/// The events of a clock that stand for the entries.
-mod events;
-/// The events of each lane.
-mod lanes;
-/// The first instant at which a delivery has an orphan.
-mod orphans;
-/// A run with its vector clocks.
-pub mod tables;
 
 pub use audit::{horizon_in, least_by, verdict_of};
 pub use breach::{Breach, Excess, earlier};

@@ -6,15 +6,25 @@ ghost use Rattle.causal_trace.specs.declared.entry.Entry.{Entry};
 ghost use Rattle.causal_trace.specs.Limits.{max_entries};
 ghost use Rattle.causal_trace.specs.Past.{instant, is_stable};
 ghost use Rattle.causal_trace.specs.Rows.{IsWellFormed};
-ghost use Rattle.causal_audit.specs.Inside.Ahead.{HasNoneUntil};
-ghost use Rattle.causal_audit.specs.Inside.Changes.{AreMentionsOf, HasMentions};
-ghost use Rattle.causal_audit.specs.Inside.Outlines.{AreMentionsOf-prop};
+ghost use Rattle.causal_audit.specs.Inside.ByClock.Changes.{HasNoneUntil, AreMentionsOf, HasMentions};
+ghost use Rattle.causal_audit.specs.Inside.Index.Outlines.{AreMentionsOf-prop};
 
-use crate::cover::Cover;
-use crate::cursor::Cursor;
-use crate::outline::Outline;
-use crate::thin::{Standing, Stretch};
-use crate::turns::Passing;
+/// Who is down and holds a determinant.
+pub mod cover;
+/// The looks at all of them.
+pub mod looks;
+/// Which deliveries have to be followed, by the looks.
+pub mod survey;
+/// How a determinant stands through a stretch of instants.
+pub mod thin;
+/// What a look found.
+pub mod thins;
+
+use crate::index::cursor::Cursor;
+use crate::index::outline::Outline;
+use crate::index::turns::Passing;
+use crate::look::cover::Cover;
+use crate::look::thin::{Standing, Stretch};
 use causal_holders::Holders;
 use causal_name::Det;
 use causal_trace::entry::Entry;
@@ -68,7 +78,7 @@ fn is_written(entry: &Entry, det: Det) -> bool
 }
 
 impl<'a> Look<'a> {
-    ghost use Rattle.causal_audit.specs.Inside.Looks.{IsPassed, IsStop};
+    ghost use Rattle.causal_audit.specs.Inside.Look.Looks.{IsPassed, IsStop};
 
     /// A look from the first mention on, or from an instant before the end if that comes first: until then nobody holds the
     /// determinant.

@@ -5,12 +5,12 @@ ghost use Rattle.causal_audit.specs.Parts.{AreEnough, LeastOf, part_of};
 use crate::breach::Breach;
 use crate::group::ordered::put_in_order;
 use crate::group::room::Room;
-use crate::mentions::{Mentions, mentions_in};
-use crate::outline::Outline;
-use crate::releases::lasting_from;
-use crate::scan::{Scan, Window};
-use crate::survey::windows_of;
-use crate::turns::Turns;
+use crate::group::scan::{Scan, Window};
+use crate::index::mentions::{Mentions, mentions_in};
+use crate::index::outline::Outline;
+use crate::index::releases::lasting_from;
+use crate::index::turns::Turns;
+use crate::look::survey::windows_of;
 use causal_name::NoMemory;
 use causal_trace::trace::Trace;
 use std::alloc::Global;
@@ -32,7 +32,7 @@ pub struct Prepared {
 
 impl Model for Prepared {
     ghost use Rattle.causal_audit.specs.Parts.{Followed};
-    ghost use Rattle.causal_audit.specs.Inside.Scans.{IsPrepared, positions_of};
+    ghost use Rattle.causal_audit.specs.Inside.Group.Scans.{IsPrepared, positions_of};
 
     ghost Value = { Followed };
 
@@ -135,8 +135,8 @@ pub struct Part<'a> {
 impl<'a> Model for Part<'a> {
     ghost use Rattle.causal_audit.specs.Parts.{Followed};
     ghost use Rattle.std.specs.Prelude.{◌≤◌};
-    ghost use Rattle.causal_audit.specs.Inside.Group.{HasRoom};
-    ghost use Rattle.causal_audit.specs.Inside.Scans.{AreWindows, positions_of};
+    ghost use Rattle.causal_audit.specs.Inside.Group.Walk.{HasRoom};
+    ghost use Rattle.causal_audit.specs.Inside.Group.Scans.{AreWindows, positions_of};
 
     ghost Value = { Followed };
 

@@ -2,8 +2,9 @@
 //! told by counting: no crash set is tried.
 ghost use Rattle.std.specs.Prelude.{◌≡◌};
 ghost use Rattle.std.specs.FinSet as set;
-ghost use Rattle.causal_audit.specs.Inside.Sights.{ExposesLeast, IsSightAfter, IsSightBegun, ShowsDependentsAfter, ShowsDownAfter, ShowsStableAfter};
+ghost use Rattle.causal_audit.specs.Inside.Sights.{ExposesLeast, TellsBreachAt, IsSightAfter, IsSightBegun, ShowsDependentsAfter, ShowsDownAfter, ShowsStableAfter};
 
+use crate::breach::Breach;
 use crate::holding::holders_after;
 use causal_holders::Holders;
 use causal_trace::entry::Entry;
@@ -54,7 +55,7 @@ pub fn down_after(down: Holders, entry: &Entry) -> Holders
 }
 
 /// Whether a determinant is stable after one more entry, which mentions it or does not.
-fn stable_after(stable: bool, entry: &Entry, mentioned: bool) -> bool
+pub fn stable_after(stable: bool, entry: &Entry, mentioned: bool) -> bool
     ensures { ShowsStableAfter entry.now mentioned stable result }
 {
     match entry {
@@ -133,4 +134,20 @@ impl Sight {
         }
         Some(Exposed { crash, orphan })
     }
+}
+
+/// How the delivery at position k has an orphan at the instant t; None where it has none. It has none before it is made.
+pub fn breach_at(sight: &Sight, f: u16, k: u32, t: u32) -> Option<Breach>
+    ensures { TellsBreachAt f k t sight.now result }
+{
+    if t <= k {
+        return None;
+    }
+    let found = sight.exposed(f)?;
+    Some(Breach {
+        instant: t,
+        delivery: k,
+        crash: found.crash,
+        orphan: found.orphan,
+    })
 }

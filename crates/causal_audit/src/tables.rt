@@ -5,17 +5,17 @@ ghost use Rattle.causal_trace.specs.Limits.{max_entries};
 ghost use Rattle.causal_trace.specs.Past.{deliveries_in, det_at};
 ghost use Rattle.causal_trace.specs.Rows.{IsWellFormed};
 ghost use Rattle.causal_audit.specs.Inside.Among.{FirstBreachBy};
-ghost use Rattle.causal_audit.specs.Inside.Filed.{past_of};
+ghost use Rattle.causal_audit.specs.Inside.Index.Filed.{past_of};
 ghost use Rattle.causal_audit.specs.Numbers.{IsNumbered, ArePositions};
-ghost use Rattle.causal_audit.specs.Inside.Positions.{ArePositionsAfter};
+ghost use Rattle.causal_audit.specs.Inside.ByClock.Positions.{ArePositionsAfter};
 
 use crate::breach::Breach;
-use crate::changes::Changes;
-use crate::events::clocks_of;
-use crate::lanes::{LANES, lanes_of, write_firsts};
-use crate::mentions::{Mentions, mentions_in};
-use crate::orphans::first_orphan;
-use crate::turns::Turns;
+use crate::by_clock::changes::Changes;
+use crate::by_clock::events::clocks_of;
+use crate::by_clock::lanes::{LANES, lanes_of, write_firsts};
+use crate::by_clock::orphans::first_orphan;
+use crate::index::mentions::{Mentions, mentions_in};
+use crate::index::turns::Turns;
 use causal_clock::Clocks;
 use causal_name::{Det, NoMemory};
 use causal_trace::entry::Entry;
@@ -37,8 +37,8 @@ pub struct Tables {
 
 impl Model for Tables {
     ghost use Rattle.causal_trace.specs.Rows.{Recording};
-    ghost use Rattle.causal_audit.specs.Inside.Filed.{lists_in};
-    ghost use Rattle.causal_audit.specs.Inside.Stored.{AreIndexes, AreTables};
+    ghost use Rattle.causal_audit.specs.Inside.Index.Filed.{lists_in};
+    ghost use Rattle.causal_audit.specs.Inside.ByClock.Stored.{AreIndexes, AreTables};
 
     ghost Value = { Recording };
 

@@ -1,14 +1,5 @@
 -- Orphans, by the processes that are down or hold the determinant.
-use Rattle.std.proofs.Common.{ℕ, ◌≡◌, ◌<◌, ◌≤◌, inl, inr, Bool, true, false, List, Some, refl, sym, ap, ◌∙◌, arith}
-use Rattle.std.specs.Prelude.{◌⊎◌}
-use Rattle.std.proofs.lemmas.Bool.{both_ways, or_from, or_left, or_parts, false_from_ne_true, true_from_ne_false}
-use Rattle.causal_name.specs.declared.Det.{Det}
-use Rattle.causal_name.specs.Sets.{count_below, IsWithin}
-use Rattle.causal_trace.specs.declared.entry.Entry.{Entry}
-use Rattle.causal_trace.specs.Past.{is_down, logs, is_stable, det_at}
-use Rattle.causal_trace.specs.Dependence.{Depends}
-use Rattle.causal_trace.specs.Judgement.{IsCrashSet, IsOrphan, HasOrphan, IsSafe}
-use Rattle.causal_holders.proofs.Lemmas.Counting.{count_below-within, count_below-le}
+use Rattle.causal_audit.proofs.Common.{ℕ, ◌≡◌, ◌<◌, ◌≤◌, inl, inr, Bool, true, false, List, Some, refl, sym, ap, ◌∙◌, arith, ◌⊎◌, both_ways, or_from, or_left, or_parts, false_from_ne_true, true_from_ne_false, Det, count_below, IsWithin, Entry, is_down, logs, is_stable, det_at, Depends, IsCrashSet, IsOrphan, HasOrphan, IsSafe, count_below-within, count_below-le}
 use Rattle.causal_audit.specs.Laws.{gone, IsExposed, OrphansAreCounted, CrashSetsContain, GoneIsCrashSet, NoOrphansCondition}
 
 module _ (n f : ℕ) (past : List Entry) (k : ℕ) (d : Det) (at : det_at past k ≡ Some d) where

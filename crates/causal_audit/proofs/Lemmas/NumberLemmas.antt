@@ -1,12 +1,5 @@
 -- Deliveries are counted, and each has a number.
-use Rattle.std.proofs.Common.{ℕ, ◌≡◌, ◌+◌, ◌<◌, ◌≤◌, inl, inr, true, List, [], ◌∷◌, length, Some, None, refl, sym, ◌∙◌, arith}
-use Rattle.std.specs.Prelude.{◌==◌}
-use Rattle.std.proofs.lemmas.Bool.{false≢true, cond-true, cond-false}
-use Rattle.std.proofs.lemmas.Bool.Decides.{eqb_tells}
-use Rattle.causal_name.specs.declared.Det.{Det}
-use Rattle.causal_trace.specs.declared.entry.Entry.{Entry}
-use Rattle.causal_trace.specs.declared.entry.Entry.TheVariants.{Send, Deliver, Stable, Crash, Restart, Forget}
-use Rattle.causal_trace.specs.Past.{det_at, det_of, deliveries_in}
+use Rattle.causal_audit.proofs.Common.{ℕ, ◌≡◌, ◌+◌, ◌<◌, ◌≤◌, inl, inr, true, List, [], ◌∷◌, length, Some, None, refl, sym, ◌∙◌, arith, ◌==◌, false≢true, cond-true, cond-false, eqb_tells, Det, Entry, Send, Deliver, Stable, Crash, Restart, Forget, det_at, det_of, deliveries_in}
 use Rattle.causal_audit.specs.Numbers.{is_delivery, IsNumbered}
 
 -- with a delivery there is one more of them

@@ -1,13 +1,5 @@
 -- A recorded run has one verdict.
-use Rattle.std.proofs.Common.{ℕ, ◌≡◌, ◌<◌, inl, inr, Bool, true, false, List, refl, sym, subst, ◌∙◌, arith}
-use Rattle.std.specs.Ordering.{nat_cmp}
-use Rattle.std.specs.Cmp.{nat_cmp_total}
-use Rattle.std.specs.FinSet.{FinSet, contains, same_set, nat_cmp-IsAntisymmetric}
-use Rattle.std.proofs.lemmas.Bool.{false≢true, cases_lt}
-use Rattle.causal_name.specs.Sets.{IsWithin}
-use Rattle.causal_trace.specs.declared.entry.Entry.{Entry}
-use Rattle.causal_trace.specs.Past.{instant, is_down}
-use Rattle.causal_trace.specs.Rows.{Recording}
+use Rattle.causal_audit.proofs.Common.{ℕ, ◌≡◌, ◌<◌, inl, inr, Bool, true, false, List, refl, sym, subst, ◌∙◌, arith, nat_cmp, nat_cmp_total, FinSet, contains, same_set, nat_cmp-IsAntisymmetric, false≢true, cases_lt, nat_tests, IsWithin, Entry, instant, is_down, Recording}
 use Rattle.causal_audit.specs.declared.verdict.Verdict.TheVariants.{Accept, Exceeded, Orphan}
 use Rattle.causal_audit.specs.Verdicts.{IsFirstUnsafe, HasMembers, IsExcess, IsBreach}
 use Rattle.causal_audit.specs.Laws.{VerdictsAreOne}
@@ -22,13 +14,8 @@ three_ways G a b below above same =
 one_instant : (r : Recording) (f t u : ℕ) → IsFirstUnsafe r f t → IsFirstUnsafe r f u → t ≡ u
 one_instant r f t u a b = three_ways (t ≡ u) t u (λ h. absurd (a.unsafe (b.before t h))) (λ h. absurd (b.unsafe (a.before u h))) (λ h. h)
 
-unless_true : (b : Bool) → (b ≡ true → ⊥) → b ≡ false
-unless_true true h = absurd (h refl)
-unless_true false h = refl
-
 same_bool : (a b : Bool) → (a ≡ true → b ≡ true) → (b ≡ true → a ≡ true) → a ≡ b
-same_bool true b h k = sym (h refl)
-same_bool false b h k = sym (unless_true b (λ e. false≢true (k e)))
+same_bool a b h k = grind (arith, nat_tests)
 
 -- sets with the same members below n, and none from n on
 pub same_members : (n : ℕ) (s t : FinSet nat_cmp) → ((p : ℕ) → contains s p ≡ true → p < n) → ((p : ℕ) → contains t p ≡ true → p < n) → IsWithin n (contains s) (contains t) → IsWithin n (contains t) (contains s) → s ≡ t

@@ -1,7 +1,5 @@
 -- Neighbouring parts of the deliveries that are followed.
-use Rattle.std.proofs.Common.{ℕ, ◌≡◌, ◌+◌, ◌-◌, ◌≤◌, ◌++◌, Option, drop, length, take, ap, sym, subst, ◌∙◌, arith}
-use Rattle.std.proofs.Math.Seq.{take-add}
-use Rattle.std.proofs.lemmas.List.{drop-drop, take_all}
+use Rattle.causal_audit.proofs.Common.{ℕ, ◌≡◌, ◌+◌, ◌-◌, ◌≤◌, ◌++◌, Option, drop, length, take, ap, sym, subst, ◌∙◌, arith, take-add, drop-drop, take_all}
 use Rattle.causal_audit.specs.declared.breach.Breach.{Breach}
 use Rattle.causal_audit.specs.Earlier.{earlier}
 use Rattle.causal_audit.specs.Parts.{Followed, LeastAmongBy, LeastOf, part_of}

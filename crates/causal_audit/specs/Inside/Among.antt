@@ -1,8 +1,5 @@
 -- The first breach of a delivery, as far as an instant.
-use Rattle.std.specs.Prelude.{ℕ, ◌≤◌, Option, Some, None, MatchOption}
-use Rattle.causal_trace.specs.Past.{instant}
-use Rattle.causal_trace.specs.Rows.{Recording}
-use Rattle.causal_trace.specs.Judgement.{HasOrphan}
+use Rattle.causal_audit.specs.Inside.Common.{ℕ, ◌≤◌, Option, Some, None, MatchOption, instant, Recording, HasOrphan}
 use Rattle.causal_audit.specs.declared.breach.Breach.{Breach}
 use Rattle.causal_audit.specs.Breaches.{IsFirstBreach}
 pub use Rattle.causal_audit.specs.Parts.{IsLeastAmong, LeastAmongBy}

@@ -1,18 +1,10 @@
--- What is known of one delivery at a state: who is down, who holds its determinant, whether that is stable, and who
--- depends on the delivery.
-use Rattle.std.specs.Prelude.{◌≡◌, ℕ, ◌↔◌, Bool, true, false, List, ◌∷◌, length, Option, Some, MatchOption}
-use Rattle.std.specs.Ordering.{nat_cmp}
-use Rattle.std.specs.FinSet.{FinSet, contains}
-use Rattle.causal_name.specs.declared.Det.{Det}
-use Rattle.causal_trace.specs.declared.entry.Entry.{Entry}
-use Rattle.causal_trace.specs.Past.{det_at, has, is_down, logs, is_stable}
-use Rattle.causal_trace.specs.Rows.{AreAccepted}
-use Rattle.causal_trace.specs.Judgement.{HasOrphan}
-use Rattle.causal_trace.specs.Dependence.{actor, Reaches, Depends}
+-- What is known of one delivery at a state, and whether it has an orphan there.
+use Rattle.causal_audit.specs.Inside.Common.{◌≡◌, ℕ, ◌↔◌, Bool, true, false, List, ◌∷◌, length, Option, Some, MatchOption, ◌<◌, nat_cmp, FinSet, contains, Det, Entry, det_at, has, is_down, logs, is_stable, AreAccepted, HasOrphan, actor, Reaches, Depends}
 use Rattle.causal_audit.specs.declared.sight.Sight.{Sight}
 use Rattle.causal_audit.specs.declared.sight.Exposed.{Exposed}
 use Rattle.causal_audit.specs.Quiet.{mentioned_by}
 use Rattle.causal_audit.specs.Verdicts.{IsLeastOrphan}
+use Rattle.causal_audit.specs.declared.breach.Breach.{Breach}
 
 -- the members of the set are just the numbers that pass
 abbrev pub Shows : FinSet nat_cmp → (ℕ → Bool) → Type 0
@@ -74,3 +66,15 @@ abbrev pub ExposesLeast : ℕ → Sight → Option Exposed → Type 0
 ExposesLeast f s found =
     (n : ℕ) (past : List Entry) (k : ℕ) (d : Det) → AreAccepted n past → det_at past k ≡ Some d → IsSight past k d s
     → MatchOption found (HasOrphan n f past k → ⊥) (λ x. IsLeastOrphan n f past k x.crash x.orphan)
+
+-- how the delivery at position k has an orphan at the instant t, whose state is this past; None where it has none
+abbrev pub BreachAt : ℕ → ℕ → List Entry → ℕ → ℕ → Option Breach → Type 0
+BreachAt n f past k t found = MatchOption found
+    (HasOrphan n f past k → ⊥)
+    (λ b. (b.instant ≡ t) × (b.delivery ≡ k) × IsLeastOrphan n f past k b.crash b.orphan)
+
+-- how each delivery at position k has an orphan at the instant t, of which this is the sight there
+abbrev pub TellsBreachAt : ℕ → ℕ → ℕ → Sight → Option Breach → Type 0
+TellsBreachAt f k t s found =
+    (n : ℕ) (past : List Entry) (d : Det) → AreAccepted n past → length past ≡ t → (k < t → det_at past k ≡ Some d)
+    → IsSight past k d s → BreachAt n f past k t found

@@ -1,10 +1,9 @@
 //! Whose determinants each process is known to hold, of the deliveries of a group, by their places.
 ghost use Rattle.std.specs.Prelude.{◌≡◌, ℕ, true, length};
 ghost use Rattle.std.specs.FinSet as set;
-ghost use Rattle.causal_audit.specs.Inside.Held.{IsHeldBy, KeepsHeld};
-ghost use Rattle.causal_audit.specs.Inside.Reaching.{row};
+ghost use Rattle.causal_audit.specs.Inside.Group.Walk.{IsHeldBy, KeepsHeld, row};
 
-use crate::reach::set_at;
+use crate::group::reach::set_at;
 use causal_holders::Holders;
 use causal_trace::entry::Entry;
 

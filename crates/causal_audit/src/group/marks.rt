@@ -3,12 +3,11 @@ ghost use Rattle.std.specs.Prelude.{◌≡◌, ◌+◌, ◌≤◌, ◌<◌, ◌�
 ghost use Rattle.std.specs.FinSet as set;
 ghost use Rattle.std.specs.List.{All};
 ghost use Rattle.std.specs.List.Sorted.{IsNonDecreasing};
-ghost use Rattle.causal_audit.specs.Inside.Ahead.{HasNoneUntil};
-ghost use Rattle.causal_audit.specs.Inside.Group.{AreMarked, HaveMarked, IsUntouchedBefore, IsMarked};
-ghost use Rattle.causal_audit.specs.Inside.Reaching.{row};
+ghost use Rattle.causal_audit.specs.Inside.ByClock.Changes.{HasNoneUntil};
+ghost use Rattle.causal_audit.specs.Inside.Group.Walk.{AreMarked, HaveMarked, IsUntouchedBefore, IsMarked, row};
 
-use crate::reach::put;
-use crate::scan::{Scan, Window};
+use crate::group::reach::put;
+use crate::group::scan::{Scan, Window};
 use causal_holders::Holders;
 
 /// Puts a place into the rows of the entries at these positions.

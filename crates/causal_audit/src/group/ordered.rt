@@ -1,8 +1,8 @@
 //! In which order deliveries are followed: those that are open until the same instant side by side.
 ghost use Rattle.std.specs.Prelude.{IsPermutation};
 
-use crate::mentions::Mentions;
-use crate::scan::Window;
+use crate::group::scan::Window;
+use crate::index::mentions::Mentions;
 use causal_name::NoMemory;
 use causal_trace::trace::Trace;
 

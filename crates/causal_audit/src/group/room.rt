@@ -1,11 +1,11 @@
 //! The memory of a walk over the entries for a group of deliveries, which is made once for all groups.
-ghost use Rattle.std.specs.Prelude.{◌≡◌, ◌≤◌, ◌<◌, ◌↔◌, ℕ, IfOk, length};
+ghost use Rattle.std.specs.Prelude.{◌≤◌, ℕ, IfOk, length};
 ghost use Rattle.std.specs.List.{All};
-ghost use Rattle.causal_audit.specs.Inside.Group.{ArePlaces, HasRoom, HasRowsFor, IsFollowed, IsUntouchedBefore, sight_at};
+ghost use Rattle.causal_audit.specs.Inside.Group.Walk.{ArePlaces, HasRoom, HasRowsFor, IsFollowed, IsUntouchedBefore};
 
-use crate::reach::{Reach, clear, make_empty};
-use crate::scan::{Scan, Window};
-use crate::sight::Sight;
+use crate::group::copies::{Copies, forget_all, no_copies};
+use crate::group::reach::{Reach, clear, make_empty};
+use crate::group::scan::{Scan, Window};
 use causal_holders::Holders;
 use causal_name::NoMemory;
 use std::alloc::Global;
@@ -17,14 +17,15 @@ const PLACES: usize = 256;
 const PROCESSES: usize = 256;
 
 /// What a walk keeps of the deliveries of a group, by their places: which of them reach the entries and on which the processes
-/// depend, of which the entries mention the determinant, whose determinants each process is known to hold, and what is known of
-/// each.
+/// depend, of which the entries mention the determinant, whose determinants each process is known to hold, and where their copies
+/// are; and who is down.
 #[derive(Drop)]
 pub struct Room {
     pub reach: Reach,
     pub mentioned: Vec<Holders>,
     pub held: Vec<Holders>,
-    pub sights: Vec<Sight>,
+    pub copies: Vec<Copies>,
+    pub down: Holders,
 }
 
 impl Room {
@@ -38,23 +39,14 @@ impl Room {
         let reach = Reach::new(alloc, entries)?;
         let mentioned = Vec::with_capacity(alloc, entries as usize)?;
         let held = vec![in alloc; Holders::none(); PROCESSES]?;
-        let sights = vec![in alloc; Sight::begin(Holders::none()); PLACES]?;
+        let copies = vec![in alloc; no_copies(); PLACES]?;
         Ok(Room {
             reach,
             mentioned,
             held,
-            sights,
+            copies,
+            down: Holders::none(),
         })
-    }
-}
-
-/// Makes each of these the same.
-fn fill(sights: &mut Vec<Sight>, sight: &Sight)
-    ensures count { length sights.new.items ≡ length sights.old.items }
-    ensures filled { (j : ℕ) → j < length sights.old.items → sight_at sights.new.items j ≡ sight.now }
-{
-    for i in 0..sights.len() {
-        sights[i] = *sight;
     }
 }
 
@@ -87,7 +79,7 @@ impl Scan<'_> {
         make_empty(&mut room.mentioned, (end - start) as usize);
         self.mark_all(&mut room.mentioned, start, windows);
         clear(&mut room.held);
-        let down = self.outline.turns.from(start).down();
-        fill(&mut room.sights, &Sight::begin(down));
+        forget_all(&mut room.copies);
+        room.down = self.outline.turns.from(start).down();
     }
 }

@@ -2,15 +2,18 @@
 ghost use Rattle.std.specs.Prelude.{◌≤◌, ℕ, length};
 ghost use Rattle.std.specs.List.{All};
 ghost use Rattle.causal_audit.specs.Inside.Among.{LeastAmongBy};
-ghost use Rattle.causal_audit.specs.Inside.Group.{HasRoom, HasRowsFor, HaveNone, IsFollowed};
-ghost use Rattle.causal_audit.specs.Inside.Scans.{IsDeliveryAt, IsWindow, positions_of};
+ghost use Rattle.causal_audit.specs.Inside.Group.Walk.{HasRoom, HasRowsFor, HaveNone, IsFollowed};
+ghost use Rattle.causal_audit.specs.Inside.Group.Scans.{IsDeliveryAt, IsWindow, positions_of};
 
 use crate::breach::{Breach, earlier, horizon};
+use crate::group::copies::{renew, touched};
 use crate::group::held::{held_by, hold};
+use crate::group::judged::judge;
+use crate::group::reach::set_at;
 use crate::group::room::{Room, places_of};
-use crate::group::seen::{Step, see_step};
-use crate::reach::set_at;
-use crate::scan::{Scan, Window, last_of};
+use crate::group::scan::{Scan, Window, last_of};
+use crate::group::suspects::Step;
+use crate::sight::down_after;
 use causal_trace::trace::Trace;
 
 /// How many deliveries are followed by one walk.
@@ -49,10 +52,13 @@ fn follow(
             mentioned,
         };
         let held = held_by(&room.held, entry);
-        if let Some(found) = see_step(&mut room.sights, trace, f, windows, &step, held, all) {
+        let places = touched(entry, mentioned, held, all);
+        renew(&mut room.copies, entry, mentioned, places);
+        hold(&mut room.held, entry, mentioned);
+        room.down = down_after(room.down, entry);
+        if let Some(found) = judge(&*room, trace, f, windows, &step, all) {
             return Some(found);
         }
-        hold(&mut room.held, entry, mentioned);
     }
     None
 }
@@ -79,8 +85,8 @@ impl Scan<'_> {
     /// `end`; None where none of them has an orphan by then.
     ///
     /// They are followed in groups of 256: for each the entries are walked once, and no further than a breach that was found.
-    /// An entry of a walk takes time as the deliveries of the group that it newly reaches or whose determinants it mentions,
-    /// and a crash and a restart as all of them. No memory is taken.
+    /// An entry of a walk takes time as the determinants of the group that it newly mentions and the deliveries that may newly
+    /// have an orphan; a crash and a restart as all of them, a restart and a forgetting as the processes. No memory is taken.
     pub fn least_within(
         &self,
         f: u16,

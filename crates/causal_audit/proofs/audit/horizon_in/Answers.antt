@@ -1,5 +1,4 @@
-use Rattle.std.proofs.Common.{◌≤◌, Some, length, subst, arith}
-use Rattle.causal_trace.specs.Past.{deliveries_in}
+use Rattle.causal_audit.proofs.Common.{◌≤◌, Some, length, subst, arith, deliveries_in}
 use Rattle.causal_audit.specs.Breaches.{LeastBreachBy, deciding}
 use Rattle.causal_audit.proofs.VerdictLemmas.{least_later}
 use Rattle.causal_audit.proofs.audit.horizon_in.Goals as goal

@@ -1,11 +1,5 @@
-use Rattle.std.proofs.Common.{ℕ, List, length, ◌≡◌, ◌+◌, ◌<◌, ◌∷◌, ◌≤◌, arith, sym, subst}
-use Rattle.causal_name.specs.Sets.{count_below}
-use Rattle.causal_trace.specs.Past.{instant, is_down}
-use Rattle.causal_trace.specs.declared.entry.Entry.{Entry}
-use Rattle.causal_trace.specs.Rows.{Recording}
-use Rattle.causal_trace.specs.State.{entries_of}
+use Rattle.causal_audit.proofs.Common.{ℕ, List, length, ◌≡◌, ◌+◌, ◌<◌, ◌∷◌, ◌≤◌, arith, sym, subst, count_below, instant, is_down, Entry, Recording, entries_of, accepted_then}
 use Rattle.causal_audit.specs.Inside.Sights.{Shows}
-use Rattle.causal_trace.proofs.Lemmas.AtInstants.{accepted_then}
 use Rattle.causal_audit.proofs.Shown.{down_members}
 use Rattle.causal_audit.proofs.Steps.{how_many, next_state, nobody_down, down_count, few_at_first, up_to_next}
 use Rattle.causal_audit.proofs.excess.first_excess_in.Goals as goal

@@ -1,6 +1,4 @@
-use Rattle.std.proofs.Common.{ℕ, ◌≤◌}
-use Rattle.causal_name.specs.Sets.{count_below}
-use Rattle.causal_trace.specs.Past.{instant, is_down}
+use Rattle.causal_audit.proofs.Common.{ℕ, ◌≤◌, count_below, instant, is_down}
 use Rattle.causal_audit.specs.Inside.Sights.{Shows}
 use Rattle.causal_audit.proofs.excess.first_excess_in.Given as goal
 

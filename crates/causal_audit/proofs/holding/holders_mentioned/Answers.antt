@@ -1,5 +1,4 @@
-use Rattle.std.proofs.Common.{◌≡◌, true, ap, sym, ◌∙◌}
-use Rattle.causal_trace.specs.Past.{has, logs}
+use Rattle.causal_audit.proofs.Common.{◌≡◌, true, ap, sym, ◌∙◌, has, logs}
 use Rattle.causal_audit.specs.Quiet.{mentioned_by}
 use Rattle.causal_audit.proofs.Shown.{shows_listed, shows_forgotten}
 use Rattle.causal_audit.proofs.holding.holders_mentioned.Goals as goal

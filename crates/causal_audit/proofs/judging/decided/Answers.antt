@@ -1,8 +1,5 @@
-use Rattle.std.proofs.Common.{◌+◌, length, subst, arith}
-use Rattle.causal_trace.specs.Past.{deliveries_in}
-use Rattle.causal_trace.specs.Rows.{Recording}
+use Rattle.causal_audit.proofs.Common.{◌+◌, length, subst, arith, deliveries_in, Recording, ℕ, Option, Some, None}
 use Rattle.causal_audit.specs.declared.breach.Excess.{Excess}
-use Rattle.std.specs.Prelude.{ℕ, Option, Some, None}
 use Rattle.causal_audit.specs.declared.breach.Breach.{Breach}
 use Rattle.causal_audit.specs.Breaches.{FirstExcess, LeastBreachBy, deciding}
 use Rattle.causal_audit.proofs.VerdictLemmas.{accepted, exceeded, orphaned, no_orphan_by, no_orphan_before, few_ever, few_before}

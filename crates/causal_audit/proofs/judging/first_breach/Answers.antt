@@ -1,5 +1,4 @@
-use Rattle.std.proofs.Common.{ℕ, length, Option, Some, None, arith, subst}
-use Rattle.causal_trace.specs.Rows.{Recording}
+use Rattle.causal_audit.proofs.Common.{ℕ, length, Option, Some, None, arith, subst, Recording}
 use Rattle.causal_audit.specs.declared.breach.Breach.{Breach}
 use Rattle.causal_audit.specs.Breaches.{FirstBreach}
 use Rattle.causal_audit.specs.Inside.Among.{FirstBreachBy}

@@ -1,7 +1,5 @@
-use Rattle.std.proofs.Common.{length, ap, subst, ◌∙◌}
-use Rattle.causal_trace.specs.Past.{deliveries_in}
+use Rattle.causal_audit.proofs.Common.{length, ap, subst, ◌∙◌, deliveries_in, Recording}
 use Rattle.causal_audit.specs.Breaches.{LeastBreachBy, deciding}
-use Rattle.causal_trace.specs.Rows.{Recording}
 use Rattle.causal_audit.specs.Verdicts.{IsVerdict}
 use Rattle.causal_audit.proofs.Lemmas.OneVerdict.{one_verdict}
 use Rattle.causal_audit.proofs.judging.judge.Goals as goal

@@ -1,5 +1,4 @@
-use Rattle.std.proofs.Common.{◌≡◌, arith, subst}
-use Rattle.causal_trace.specs.Past.{deliveries_in}
+use Rattle.causal_audit.proofs.Common.{◌≡◌, arith, subst, deliveries_in}
 use Rattle.causal_audit.proofs.AmongLemmas.{IsLeastBelow, below_all, below_more, below_none}
 use Rattle.causal_audit.proofs.judging.least_by.Goals as goal
 

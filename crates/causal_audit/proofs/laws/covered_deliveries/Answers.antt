@@ -1,4 +1,4 @@
-use Rattle.causal_audit.proofs.Receivers.{crashed, alone, covered}
+use Rattle.causal_audit.proofs.index.Receivers.{crashed, alone, covered}
 use Rattle.causal_audit.proofs.laws.covered_deliveries.Goals as goal
 
 pub returns : goal.returns

@@ -1,5 +1,4 @@
-use Rattle.std.proofs.Common.{◌∷◌, sym, subst}
-use Rattle.causal_trace.specs.Past.{is_down}
+use Rattle.causal_audit.proofs.Common.{◌∷◌, sym, subst, is_down}
 use Rattle.causal_audit.specs.Inside.Sights.{Shows}
 use Rattle.causal_audit.proofs.Shown.{shows_with, shows_without}
 use Rattle.causal_audit.proofs.sight.down_after.Goals as goal

@@ -1,8 +1,6 @@
-use Rattle.std.proofs.Common.{◌≡◌, ◌∙◌, true, sym, ap, subst}
-use Rattle.std.specs.FinSet.{contains, union, difference}
-use Rattle.causal_audit.specs.Inside.Held.{KeepsHeld}
-use Rattle.causal_audit.specs.Inside.Reaching.{row}
-use Rattle.causal_audit.proofs.GroupWalk.{held_delivery, held_crash, held_forget}
+use Rattle.causal_audit.proofs.Common.{◌≡◌, ◌∙◌, true, sym, ap, subst, contains, union, difference}
+use Rattle.causal_audit.specs.Inside.Group.Walk.{KeepsHeld, row}
+use Rattle.causal_audit.proofs.group.GroupWalk.{held_delivery, held_crash, held_forget}
 use Rattle.causal_audit.proofs.group.held.hold.Goals as goal
 
 before_is : (c : goal.After-put_row) → c.set_at-before.result ≡ row c.args.held.now.items c.in-Deliver.to.0

@@ -1,7 +1,5 @@
-use Rattle.std.proofs.Common.{◌∙◌, sym, ap, arith}
-use Rattle.std.specs.FinSet.{contains, empty}
-use Rattle.std.proofs.Math.ListN.{get_or-eq_default}
-use Rattle.causal_audit.proofs.Reaching.{none_in}
+use Rattle.causal_audit.proofs.Common.{◌∙◌, sym, ap, arith, contains, empty, get_or-eq_default}
+use Rattle.causal_audit.proofs.group.Reaching.{none_in}
 use Rattle.causal_audit.proofs.group.held.put_row.Goals as goal
 
 pub returns-else-i-len-clause-here : goal.returns-else-i-len-clause-here

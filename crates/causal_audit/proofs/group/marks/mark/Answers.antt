@@ -1,7 +1,6 @@
-use Rattle.std.proofs.Common.{get_or, take, subst, sym, ◌∙◌, arith}
-use Rattle.std.proofs.lemmas.List.{take_more}
-use Rattle.causal_audit.proofs.GroupWalk.{take_all, marked_more}
-use Rattle.causal_audit.specs.Inside.Group.{HaveMarked}
+use Rattle.causal_audit.proofs.Common.{get_or, take, subst, sym, ◌∙◌, arith, take_more}
+use Rattle.causal_audit.proofs.group.GroupWalk.{take_all, marked_more}
+use Rattle.causal_audit.specs.Inside.Group.Walk.{HaveMarked}
 use Rattle.causal_audit.proofs.group.marks.mark.Goals as goal
 
 pub loop-position-preserved : goal.loop-position-preserved

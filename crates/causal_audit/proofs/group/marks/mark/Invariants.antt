@@ -1,6 +1,5 @@
-use Rattle.std.proofs.Common.{◌≡◌, length, take}
-use Rattle.std.specs.Prelude.{vec_capacity}
-use Rattle.causal_audit.specs.Inside.Group.{HaveMarked}
+use Rattle.causal_audit.proofs.Common.{◌≡◌, length, take, vec_capacity}
+use Rattle.causal_audit.specs.Inside.Group.Walk.{HaveMarked}
 use Rattle.causal_audit.proofs.group.marks.mark.Given as goal
 
 -- the positions so far

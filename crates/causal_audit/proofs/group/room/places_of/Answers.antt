@@ -1,7 +1,6 @@
-use Rattle.std.proofs.Common.{sym, ap, ◌∙◌, arith}
-use Rattle.std.specs.FinSet.{contains}
-use Rattle.causal_audit.proofs.GroupWalk.{places_more}
-use Rattle.causal_audit.proofs.Reaching.{none_in}
+use Rattle.causal_audit.proofs.Common.{sym, ap, ◌∙◌, arith, contains}
+use Rattle.causal_audit.proofs.group.GroupWalk.{places_more}
+use Rattle.causal_audit.proofs.group.Reaching.{none_in}
 use Rattle.causal_audit.proofs.group.room.places_of.Goals as goal
 
 pub loop-place-init : goal.loop-place-init

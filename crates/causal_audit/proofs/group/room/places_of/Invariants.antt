@@ -1,6 +1,4 @@
-use Rattle.std.proofs.Common.{ℕ, ◌≡◌, ◌<◌, true}
-use Rattle.std.specs.Prelude.{◌↔◌}
-use Rattle.std.specs.FinSet.{contains}
+use Rattle.causal_audit.proofs.Common.{ℕ, ◌≡◌, ◌<◌, true, ◌↔◌, contains}
 use Rattle.causal_audit.proofs.group.room.places_of.Given as goal
 
 -- those so far

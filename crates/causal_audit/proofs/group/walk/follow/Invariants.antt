@@ -1,5 +1,5 @@
 use Rattle.std.proofs.Common.{ℕ}
-use Rattle.causal_audit.specs.Inside.Group.{HasRoom, HasRowsFor, HaveNone, IsFollowed}
+use Rattle.causal_audit.specs.Inside.Group.Walk.{HasRoom, HasRowsFor, HaveNone, IsFollowed}
 use Rattle.causal_audit.proofs.group.walk.follow.Given as goal
 
 -- what is known at this instant, and no delivery has had an orphan so far

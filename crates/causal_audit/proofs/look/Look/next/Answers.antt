@@ -1,8 +1,7 @@
-use Rattle.std.proofs.Common.{◌+◌, refl, subst, arith}
-use Rattle.std.specs.FinSet.{union}
-use Rattle.causal_audit.specs.declared.thin.Stretch.{Stretch}
-use Rattle.causal_audit.specs.Inside.Standing.{StandsBy}
-use Rattle.causal_audit.proofs.Looked.{is_change, passed_to, written, onward_stop, over}
+use Rattle.causal_audit.proofs.Common.{◌+◌, refl, subst, arith, union}
+use Rattle.causal_audit.specs.declared.look.thin.Stretch.{Stretch}
+use Rattle.causal_audit.specs.Inside.Look.Looks.{StandsBy}
+use Rattle.causal_audit.proofs.look.Looked.{is_change, passed_to, written, onward_stop, over}
 use Rattle.causal_audit.proofs.look.Look.next.Goals as goal
 
 pub overflow_add-stop : goal.overflow_add-stop

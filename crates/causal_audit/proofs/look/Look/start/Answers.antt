@@ -1,9 +1,8 @@
-use Rattle.std.proofs.Common.{◌≤◌, length, ◌∙◌, arith}
-use Rattle.causal_trace.specs.Past.{instant, logs}
-use Rattle.causal_audit.proofs.Begun.{unheard_before}
+use Rattle.causal_audit.proofs.Common.{◌≤◌, length, ◌∙◌, arith, instant, logs}
+use Rattle.causal_audit.proofs.by_clock.Begun.{unheard_before}
 use Rattle.causal_audit.proofs.Steps.{entry_then}
 use Rattle.causal_audit.proofs.Shown.{shows_none}
-use Rattle.causal_audit.proofs.Turned.{passed_down}
+use Rattle.causal_audit.proofs.index.Turned.{passed_down}
 use Rattle.causal_audit.proofs.look.Look.start.Goals as goal
 
 pub returns-clause-stop : goal.returns-clause-stop

@@ -1,18 +1,14 @@
-use Rattle.std.proofs.Common.{◌≡◌, inl, length, reverse, ap, subst, ◌∙◌}
+use Rattle.causal_audit.proofs.Common.{◌≡◌, inl, length, reverse, ap, subst, ◌∙◌, reverse-reverse, All-permutation, Contains-permutation, IsPermutation-map, IsPermutation-sym, past_at, past_whole}
 use Rattle.std.specs.Prelude.{IsPermutation}
-use Rattle.std.proofs.lemmas.List.{reverse-reverse}
-use Rattle.std.proofs.lemmas.List.Sorted.{All-permutation, Contains-permutation, IsPermutation-map, IsPermutation-sym}
-use Rattle.causal_trace.specs.State.{past_at}
-use Rattle.causal_trace.proofs.Lemmas.Instants.{past_whole}
-use Rattle.causal_audit.specs.Inside.Kept.{AreMentionsKept, AreTurnsKept}
-use Rattle.causal_audit.specs.Inside.Scans.{IsDeliveryAt, IsPrepared, IsWindow, positions_of}
-use Rattle.causal_audit.specs.declared.scan.Window.{Window}
+use Rattle.causal_audit.specs.Inside.Index.Kept.{AreMentionsKept, AreTurnsKept}
+use Rattle.causal_audit.specs.Inside.Group.Scans.{IsDeliveryAt, IsPrepared, IsWindow, positions_of}
+use Rattle.causal_audit.specs.declared.group.scan.Window.{Window}
 use Rattle.causal_audit.specs.Parts.{AreEnough}
 use Rattle.causal_audit.specs.Lasting.{NoneReleasedFrom}
 use Rattle.causal_audit.proofs.AmongLemmas.{among_all, among_wider}
-use Rattle.causal_audit.proofs.Uncovered.{any_other}
+use Rattle.causal_audit.proofs.look.Uncovered.{any_other}
 use Rattle.causal_audit.proofs.Steps.{begins}
-use Rattle.causal_audit.proofs.Windowed.{of_positions}
+use Rattle.causal_audit.proofs.group.Windowed.{of_positions}
 use Rattle.causal_audit.proofs.prepared.Prepared.of.Goals as goal
 
 pub invariant_of-outline : goal.invariant_of-outline

@@ -1,10 +1,7 @@
-use Rattle.std.proofs.Common.{ℕ, ◌≡◌, ◌-◌, take, drop, ap, subst, sym, ◌∙◌, arith}
-use Rattle.std.specs.List.{take-map, drop-map}
-use Rattle.std.proofs.lemmas.List.Elements.{All-drop, All-take}
-use Rattle.causal_trace.specs.Rows.{Recording}
+use Rattle.causal_audit.proofs.Common.{ℕ, ◌≡◌, ◌-◌, take, drop, ap, subst, sym, ◌∙◌, arith, take-map, drop-map, All-drop, All-take, Recording}
 use Rattle.causal_audit.specs.Parts.{Followed, part_of}
-use Rattle.causal_audit.specs.declared.scan.Window.{Window}
-use Rattle.causal_audit.specs.Inside.Scans.{AreWindows, IsDeliveryAt, IsWindow, positions_of}
+use Rattle.causal_audit.specs.declared.group.scan.Window.{Window}
+use Rattle.causal_audit.specs.Inside.Group.Scans.{AreWindows, IsDeliveryAt, IsWindow, positions_of}
 use Rattle.causal_audit.proofs.prepared.Prepared.part.Goals as goal
 
 abbrev is_of_delivery : Recording → Window → Type 0

@@ -1,5 +1,4 @@
-use Rattle.std.proofs.Common.{◌≡◌, ◌<◌, arith, sym, ◌∙◌, ap}
-use Rattle.std.specs.FinSet.{len, union, difference, empty}
+use Rattle.causal_audit.proofs.Common.{◌≡◌, ◌<◌, arith, sym, ◌∙◌, ap, len, union, difference, empty}
 use Rattle.causal_holders.specs.Members.{IsLeast}
 use Rattle.causal_audit.proofs.Exposure.{not_many, not_none, least_orphan_is}
 use Rattle.causal_audit.proofs.sight.Sight.exposed.Goals as goal

@@ -1,13 +1,8 @@
-use Rattle.std.proofs.Common.{◌≡◌, ℕ, Vec, Global, List, length, map, Some, arith, subst, sym}
-use Rattle.std.specs.Prelude.{Contains}
-use Rattle.std.specs.List.{All}
-use Rattle.std.specs.List.Sorted.{IsNonDecreasing}
-use Rattle.causal_trace.specs.Past.{det_at}
-use Rattle.causal_audit.specs.Inside.Changes.{AreMentionsOf, HasMentions, HasTurns}
-use Rattle.causal_audit.specs.Inside.Filed.{Ascends, AreFirsts, AreReached, list_at}
-use Rattle.causal_audit.proofs.Firsts.{firsts_listed, firsts_reached}
-use Rattle.causal_trace.proofs.Lemmas.AtInstants.{det_within}
-use Rattle.causal_audit.proofs.Filings.{mentions_ascend}
+use Rattle.causal_audit.proofs.Common.{◌≡◌, ℕ, Vec, Global, List, length, map, Some, arith, subst, sym, Contains, All, IsNonDecreasing, det_at, det_within}
+use Rattle.causal_audit.specs.Inside.ByClock.Changes.{AreMentionsOf, HasMentions, HasTurns}
+use Rattle.causal_audit.specs.Inside.Index.Filed.{Ascends, AreFirsts, AreReached, list_at}
+use Rattle.causal_audit.proofs.by_clock.Firsts.{firsts_listed, firsts_reached}
+use Rattle.causal_audit.proofs.index.Filings.{mentions_ascend}
 use Rattle.causal_audit.proofs.tables.Tables.first_orphan.Goals as goal
 
 abbrev positions : Vec ℕ Global → List ℕ

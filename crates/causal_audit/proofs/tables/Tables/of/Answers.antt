@@ -1,9 +1,6 @@
-use Rattle.std.proofs.Common.{◌≡◌, ℕ, Vec, Global, List, length, map, reverse, arith, ap, subst, ◌∙◌}
-use Rattle.std.proofs.lemmas.List.{length-map, reverse-reverse}
-use Rattle.causal_trace.specs.State.{past_at}
-use Rattle.causal_trace.proofs.Lemmas.Instants.{past_whole}
-use Rattle.causal_audit.specs.Inside.Filed.{AreLanes, AreMentions}
-use Rattle.causal_audit.specs.Inside.Kept.{AreTurnsKept}
+use Rattle.causal_audit.proofs.Common.{◌≡◌, ℕ, Vec, Global, List, length, map, reverse, arith, ap, subst, ◌∙◌, length-map, reverse-reverse, past_at, past_whole}
+use Rattle.causal_audit.specs.Inside.Index.Filed.{AreLanes, AreMentions}
+use Rattle.causal_audit.specs.Inside.Index.Kept.{AreTurnsKept}
 use Rattle.causal_audit.specs.Numbers.{ArePositions}
 use Rattle.causal_audit.proofs.tables.Tables.of.Goals as goal
 

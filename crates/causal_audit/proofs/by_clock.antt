@@ -1,0 +1,5 @@
+pub mod Begun
+pub mod Firsts
+pub mod Link
+pub mod Mirrored
+pub mod Reached

@@ -1,0 +1,60 @@
+-- What is known where the walk of a delivery begins.
+use Rattle.causal_audit.proofs.Common.{ℕ, zero, suc, ◌≡◌, ◌+◌, ◌-◌, ◌<◌, ◌≤◌, Bool, true, false, List, ◌∷◌, length, Some, refl, sym, ap, subst, ◌∙◌, arith, and_right, nat_tests, ◌||◌, ◌&&◌, ◌==◌, not, Det, Entry, Send, Deliver, Stable, Crash, Restart, Forget, instant, entry_at, is_down, is_stable, logs, has, reaches_begins, instant_length}
+use Rattle.causal_audit.specs.Inside.ByClock.Changes.{HasNoneUntil, HasMentions}
+use Rattle.causal_audit.specs.Quiet.{is_turn, mentioned_by}
+use Rattle.causal_audit.specs.Inside.Sights.{IsUnheard}
+use Rattle.causal_audit.specs.Inside.Look.Staying.{MentionsNone}
+use Rattle.causal_audit.proofs.Between.{next_entry, no_turn_stays, stable_stays}
+use Rattle.causal_audit.proofs.Steps.{no_entry}
+
+-- ---- from an instant to a later one, entry by entry
+
+module _ (P : List Entry → Type 0) (past : List Entry) (s : ℕ) where
+  onward_for : (more : ℕ) → s + more ≤ length past → ((v : ℕ) (e : Entry) → s ≤ v → v < s + more → entry_at past v ≡ Some e → P (instant past v) → P (e ∷ instant past v)) → P (instant past s) → P (instant past (s + more))
+  onward_for zero within step here = let same : s ≡ s + 0 = omega arith in subst (λ x. P (instant past x)) same here
+  onward_for (suc more) within step here =
+      let found = next_entry past (s + more) (omega (arith, within)) in
+      let same : s + more + 1 ≡ s + suc more = omega arith in
+      subst (λ x. P (instant past x)) same
+      (subst P (sym found.2)
+      (step (s + more) found.0 (omega arith) (omega arith) found.1
+      (onward_for more (omega (arith, within)) (λ v e above below at. step v e above (omega (arith, below)) at) here)))
+
+  pub onward_to : (t : ℕ) → s ≤ t → t ≤ length past → ((v : ℕ) (e : Entry) → s ≤ v → v < t → entry_at past v ≡ Some e → P (instant past v) → P (e ∷ instant past v)) → P (instant past s) → P (instant past t)
+  onward_to t up within step here =
+      let same : s + (t - s) ≡ t = omega (arith, up) in
+      subst (λ x. P (instant past x)) same
+      (onward_for (t - s) (omega (arith, same, within)) (λ v e above below at. step v e above (omega (arith, below, same)) at) here)
+
+-- the same processes are down where none has crashed or restarted in between
+pub down_stays : (past : List Entry) (s t : ℕ) → s ≤ t → t ≤ length past → ((v : ℕ) (e : Entry) → s ≤ v → v < t → entry_at past v ≡ Some e → is_turn e ≡ false) → (p : ℕ) → is_down (instant past s) p ≡ is_down (instant past t) p
+down_stays past s t up within quiet p =
+    onward_to (λ x. is_down (instant past s) p ≡ is_down x p) past s t up within
+    (λ v e above below at same. same ∙ sym (no_turn_stays e (instant past v) (quiet v e above below at) p).0) refl
+
+-- ---- before the first mention
+
+or_none : (w l b : Bool) → l ≡ false → b ≡ false → ((w && l) || b) ≡ false
+or_none w l b h k = grind (arith, nat_tests)
+
+unlogged_stays : (e : Entry) (past : List Entry) (d : Det) → has (mentioned_by e) d ≡ false → (p : ℕ) → logs past p d ≡ false → logs (e ∷ past) p d ≡ false
+unlogged_stays (Send from to ssn) past d h p none = none
+unlogged_stays (Deliver to send rsn listed) past d h p none = or_none (to.0 == p) (has listed d) (logs past p d) h none
+unlogged_stays (Stable det) past d h p none = none
+unlogged_stays (Crash who) past d h p none = and_right (not (who.0 == p)) (logs past p d) none
+unlogged_stays (Restart who listed) past d h p none = or_none (who.0 == p) (has listed d) (logs past p d) h none
+unlogged_stays (Forget who listed) past d h p none = and_right (not (who.0 == p && has listed d)) (logs past p d) none
+
+-- before the delivery and the first mention of its determinant nothing is known of it
+pub unheard_before : (past : List Entry) (k : ℕ) (d : Det) (t : ℕ) → MentionsNone past d 0 t → t ≤ k → t ≤ length past → IsUnheard (instant past t) k d
+unheard_before past k d t unmentioned early within = record {
+  unlogged = λ p. onward_to (λ x. logs x p d ≡ false) past 0 t (omega arith) within
+      (λ v e above below at so. unlogged_stays e (instant past v) d (unmentioned v e above below at) p so) (ap (λ x. logs x p d) (no_entry past));
+  unstable = onward_to (λ x. is_stable x d ≡ false) past 0 t (omega arith) within
+      (λ v e above below at so. sym (stable_stays e (instant past v) d (unmentioned v e above below at)) ∙ so) (ap (λ x. is_stable x d) (no_entry past));
+  independent = λ p depends. omega (arith, reaches_begins (instant past t) k depends.event depends.reached, instant_length past t within, early);
+}
+
+pub unheard_until : (past : List Entry) (k : ℕ) (d : Det) (mentions : List ℕ) (t : ℕ) → HasMentions past d mentions → HasNoneUntil mentions 0 t → t ≤ k → t ≤ length past → IsUnheard (instant past t) k d
+unheard_until past k d mentions t mentioned none early within =
+    unheard_before past k d t (λ v e above below at. mentioned v e at (none v above below)) early within

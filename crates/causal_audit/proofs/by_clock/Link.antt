@@ -1,0 +1,58 @@
+-- What reaches what in a run is what precedes what in the clock that stands for it.
+use Rattle.causal_audit.proofs.Common.{ℕ, ◌≡◌, ◌<◌, ◌≤◌, inl, inr, List, length, refl, subst, ◌∙◌, arith, ◌↔◌, cases_lt, Entry, AreAccepted, IsEventOf, Delivers, DirectlyPrecedes, in_order, by_message, Reaches, itself, onward, event_below, accepted_forward}
+use Rattle.causal_clock.specs.declared.Event.{Event}
+use Rattle.causal_clock.specs.Timeline.{lane_of}
+use Rattle.causal_clock.specs.Precedence as clock
+use Rattle.causal_audit.specs.Inside.ByClock.Stands.{Stands}
+use Rattle.causal_audit.proofs.Legal.{sender_event, receiver_event}
+
+pub delivers_below : (past : List Entry) (j i : ℕ) → Delivers past j i → j < length past
+delivers_below past j i h = let into = receiver_event past j i h in event_below past j into.0 into.1 into.2
+
+-- what reaches an event reaches the later ones of its lane
+reach_later : (past : List Entry) (i j k p l : ℕ) → Reaches past i j → j ≤ k → IsEventOf past j p l → IsEventOf past k p l → Reaches past i k
+reach_later past i j k p l reach up at to =
+    elim (cases_lt j k) [
+      | inl h ↦ onward reach (in_order p l h at to)
+      | inr h ↦ let same : j ≡ k = omega arith in subst (Reaches past i) same reach
+    ]
+
+module _ (n : ℕ) (past : List Entry) (formed : AreAccepted n past) (events : List Event) (stands : Stands past events) where
+  clock_direct : (i j : ℕ) → DirectlyPrecedes past i j → clock.DirectlyPrecedes events i j
+  clock_direct i j (in_order p l less a b) = record {
+    earlier = less;
+    within = omega (arith, event_below past j p l b, stands.count);
+    because = inl ((stands.same_lane i j p p l l a b).1 (refl, refl));
+  }
+  clock_direct i j (by_message h) = record {
+    earlier = accepted_forward n past formed j i h;
+    within = omega (arith, delivers_below past j i h, stands.count);
+    because = inr ((stands.receives j i (delivers_below past j i h)).1 h);
+  }
+
+  pub in_clock : (i j : ℕ) → Reaches past i j → clock.Reaches events i j
+  in_clock i j (itself p l at) = clock.itself (omega (arith, event_below past i p l at, stands.count))
+  in_clock i k (onward {j} r d) = clock.onward (in_clock i j r) (clock_direct j k d)
+
+  -- two events of one lane of the clock are of one lane of a process
+  pub same_event : (i k p q l m : ℕ) → IsEventOf past i p l → IsEventOf past k q m → lane_of events i ≡ lane_of events k → IsEventOf past i q m
+  same_event i k p q l m at to same =
+      let one = (stands.same_lane i k p q l m at to).0 same in
+      subst (λ x. IsEventOf past i q x) one.1 (subst (λ x. IsEventOf past i x l) one.0 at)
+
+  pub in_run : {i j : ℕ} → clock.Reaches events i j → (p l : ℕ) → IsEventOf past i p l → (k q m : ℕ) → j ≤ k → IsEventOf past k q m → lane_of events j ≡ lane_of events k → Reaches past i k
+  in_run (clock.itself {i = i} h) p l at k q m up to same = reach_later past i i k q m (itself p l at) up (same_event i k p q l m at to same) to
+  in_run {i} (clock.onward {j = j} {k = k} reach d) p l at k2 q m up to same =
+      elim d.because [
+        | inl lanes ↦ in_run reach p l at k2 q m (omega (arith, d.earlier, up)) to (lanes ∙ same)
+        | inr sent ↦
+            let delivers : Delivers past k j = (stands.receives k j (omega (arith, d.within, stands.count))).0 sent in
+            let from = sender_event n past formed k j delivers in
+            let into = receiver_event past k j delivers in
+            let here : Reaches past i j = in_run reach p l at j from.0 from.1 (omega arith) from.2 refl in
+            reach_later past i k k2 q m (onward here (by_message delivers)) up (same_event k k2 into.0 q into.1 m into.2 to same) to
+      ]
+
+  -- of two events the clock tells whether one reaches the other
+  pub clock_tells : (i j p q l m : ℕ) → IsEventOf past i p l → IsEventOf past j q m → clock.Reaches events i j ↔ Reaches past i j
+  clock_tells i j p q l m at to = (λ r. in_run r p l at j q m (omega arith) to refl, in_clock i j)

@@ -1,0 +1,63 @@
+use Rattle.std.proofs.Common.{Err, ◌≤◌, length, arith, ap}
+use Rattle.causal_audit.proofs.by_clock.Mirrored.{room, some_lane, sender_in, receiver_in, sent_in, restarted_in, lanes_left, after_send, after_deliver, after_stable, after_crash, after_forget, after_restart, only_memory}
+use Rattle.causal_audit.proofs.by_clock.events.note.Goals as goal
+
+pub bounds-present-from : goal.bounds-present-from
+bounds-present-from c = (sender_in _ _ _ c.requires _ _ _ c.in-Send.is).0
+
+pub local-requires-clause-lane : goal.local-requires-clause-lane
+local-requires-clause-lane c = (sender_in _ _ _ c.requires _ _ _ c.in-Send.is).1
+
+pub local-requires-clause-room : goal.local-requires-clause-room
+local-requires-clause-room c = room _ _ _ c.requires
+
+pub bounds-present-to : goal.bounds-present-to
+bounds-present-to c = (receiver_in _ _ _ c.requires _ _ _ _ c.in-Deliver.is).0
+
+pub receive-requires-clause-lane : goal.receive-requires-clause-lane
+receive-requires-clause-lane c = (receiver_in _ _ _ c.requires _ _ _ _ c.in-Deliver.is).1
+
+pub receive-requires-clause-sent : goal.receive-requires-clause-sent
+receive-requires-clause-sent c = sent_in _ _ _ c.requires _ _ _ _ c.in-Deliver.is
+
+pub receive-requires-clause-room : goal.receive-requires-clause-room
+receive-requires-clause-room c = room _ _ _ c.requires
+
+pub bounds-present-who : goal.bounds-present-who
+bounds-present-who c = restarted_in _ _ _ c.requires _ _ c.in-Restart.is
+
+pub local-requires-in-Restart-clause-room : goal.local-requires-in-Restart-clause-room
+local-requires-in-Restart-clause-room c = omega (arith, room _ _ _ c.requires, ap (λ t. length t.events) c.in-Ok.ensures.opened)
+
+pub local-requires-in-Stable-clause-room : goal.local-requires-in-Stable-clause-room
+local-requires-in-Stable-clause-room c = room _ _ _ c.requires
+
+pub local-requires-in-Crash-clause-room : goal.local-requires-in-Crash-clause-room
+local-requires-in-Crash-clause-room c = room _ _ _ c.requires
+
+pub local-requires-in-Forget-clause-room : goal.local-requires-in-Forget-clause-room
+local-requires-in-Forget-clause-room c = room _ _ _ c.requires
+
+pub returns-in_ok-local-in-Send-clause-mirrors : goal.returns-in_ok-local-in-Send-clause-mirrors
+returns-in_ok-local-in-Send-clause-mirrors c = λ n past accepted m. rw c.in_ok-local-in-Send.ensures.appended (after_send n past _ _ _ accepted m _ _ _ c.in-Send.is)
+
+pub returns-in_ok-receive-in-Deliver-clause-mirrors : goal.returns-in_ok-receive-in-Deliver-clause-mirrors
+returns-in_ok-receive-in-Deliver-clause-mirrors c = λ n past accepted m. rw c.in_ok-receive-in-Deliver.ensures.appended (after_deliver n past _ _ _ accepted m _ _ _ _ c.in-Deliver.is)
+
+pub returns-in_ok-local-in-Stable-clause-mirrors : goal.returns-in_ok-local-in-Stable-clause-mirrors
+returns-in_ok-local-in-Stable-clause-mirrors c = λ n past accepted m. rw c.in_ok-local-in-Stable.ensures.appended (after_stable n past _ _ _ accepted m _ c.in-Stable.is (some_lane _ _ _ c.requires))
+
+pub returns-in_ok-local-in-Crash-clause-mirrors : goal.returns-in_ok-local-in-Crash-clause-mirrors
+returns-in_ok-local-in-Crash-clause-mirrors c = λ n past accepted m. rw c.in_ok-local-in-Crash.ensures.appended (after_crash n past _ _ _ accepted m _ c.in-Crash.is (some_lane _ _ _ c.requires))
+
+pub returns-in_ok-local-in-Forget-clause-mirrors : goal.returns-in_ok-local-in-Forget-clause-mirrors
+returns-in_ok-local-in-Forget-clause-mirrors c = λ n past accepted m. rw c.in_ok-local-in-Forget.ensures.appended (after_forget n past _ _ _ accepted m _ _ c.in-Forget.is (some_lane _ _ _ c.requires))
+
+pub returns-in_ok-local-in-Restart-clause-mirrors : goal.returns-in_ok-local-in-Restart-clause-mirrors
+returns-in_ok-local-in-Restart-clause-mirrors c = λ n past accepted m. rw (c.in_ok-local-in-Restart.ensures.appended, c.in-Ok.ensures.opened, c.in-Ok.ensures.number) (after_restart n past _ _ _ accepted m _ _ c.in-Restart.is)
+
+pub returns-in-Err-clause-refused : goal.returns-in-Err-clause-refused
+returns-in-Err-clause-refused c =
+    only_memory c.in-Err.fault (λ e.
+    let many : 192 ≤ c.args.clocks.now.opened = c.in-Err.ensures.lanes.0 (ap Err e) in
+    omega (arith, many, lanes_left _ _ _ c.requires _ _ c.in-Restart.is))

@@ -1,0 +1,451 @@
+-- A walk over the entries for the deliveries of a group.
+use Rattle.causal_audit.proofs.Common.{ℕ, ◌≡◌, ◌+◌, ◌++◌, ◌<◌, inl, inr, Bool, true, false, List, [], ◌∷◌, length, Option, Some, None, refl, sym, ap, subst, ◌∙◌, arith, ◌-◌, ◌≤◌, min, take, ◌⊎◌, Contains, ◌&&◌, ◌==◌, not, ◌↔◌, vec_capacity, ◌||◌, nat_cmp, FinSet, contains, remove, empty, union, difference, contains-empty, contains-union, contains-difference, insert, or_cases, or_left, or_right, false≢true, false_from_ne_true, eqb-true, eq-eqb, and_from, cases_Bool, Contains-push, Contains-push_cases, Contains-append_left, Contains-get_or, length-map, length-set, get_or-map, get_or-set_same, get_or-set_other, take_min, Det, Entry, instant, det_at, has, logs, is_down, is_stable, entry_at, Recording, AreAccepted, IsWellFormed, actor, Reaches, Depends, HasOrphan, accepted_then, det_then, det_within, instant_length, nat_cmp_total, eqb_tells, nat_tests, Pid, Deliver, Crash, Restart, Forget, Send, Stable, max_entries, set, take-length}
+use Rattle.causal_audit.specs.declared.breach.Breach.{Breach}
+use Rattle.causal_audit.specs.declared.group.copies.Copies.{Copies}
+use Rattle.causal_audit.specs.declared.group.suspects.Step.{Step}
+use Rattle.causal_audit.specs.declared.group.scan.Window.{Window}
+use Rattle.causal_audit.specs.Earlier.{earlier}
+use Rattle.causal_audit.specs.Laws.{gone, IsExposed}
+use Rattle.causal_audit.specs.Sweep.{MayNewlyFail}
+use Rattle.causal_audit.specs.Quiet.{is_turn, mentioned_by}
+use Rattle.causal_audit.specs.Inside.Among.{FirstBreachBy, HasNoOrphanBy, LeastAmongBy}
+use Rattle.causal_audit.specs.Inside.Sights.{BreachAt, Shows, IsSight}
+use Rattle.causal_audit.specs.Inside.Group.Walk.{AreCopied, AreCopies, AreCopiesAfter, copies_at, no_copies, AreHeldBefore, IsLacked, IsSuspected, TellsBreachOf, IsLeastIn, IsStep, position_at, HasRoom, HaveNone, IsFollowed, ArePlaces, HaveMarked, IsNewly, row, HasRowRoom, IsReach, SeesReach, IsPut, IsHeldSo, IsDeliveredTo, IsHeldBy}
+use Rattle.causal_audit.specs.Inside.Group.Scans.{positions_of, IsDeliveryAt}
+use Rattle.causal_audit.proofs.AmongLemmas.{among_push, among_wider, among_none}
+use Rattle.causal_audit.proofs.Between.{depends_before, logs_stay, stable_stays}
+use Rattle.causal_audit.proofs.Lemmas.Judged.{exposed, gone_orphan}
+use Rattle.causal_audit.proofs.Swept.{sweep_law, one_new_orphan}
+use Rattle.causal_audit.proofs.Orphaned.{accepted_next, first_breach_is}
+use Rattle.causal_audit.proofs.group.Reaching.{left_in, left_out, none_in}
+use Rattle.causal_audit.proofs.Steps.{up_to_next}
+use Rattle.causal_audit.proofs.group.Windowed.{position}
+use Rattle.causal_audit.specs.declared.group.room.Room.{Room}
+use Rattle.causal_audit.specs.declared.group.reach.Reach.{Reach}
+use Rattle.causal_audit.proofs.Shown.{inserted}
+
+abbrev Sets : Type 0
+Sets = List (FinSet nat_cmp)
+
+-- ==== what one more entry makes of what is known of the deliveries of a group
+
+module _ (r : Recording) (windows : List Window) (s : Step) (step : IsStep r windows s) where
+  pub accepted_here : AreAccepted r.processes (s.entry.now ∷ instant r.past s.t)
+  accepted_here = accepted_next r step.formed s.t s.entry.now step.below step.next
+
+  pub length_after : length (instant r.past (s.t + 1)) ≡ s.t + 1
+  length_after = instant_length r.past (s.t + 1) (omega (arith, step.below))
+
+  -- the first breach by the next instant is the one there
+  pub first_here : (f k : ℕ) (found : Option Breach) → HasNoOrphanBy r f k s.t → BreachAt r.processes f (instant r.past (s.t + 1)) k (s.t + 1) found → FirstBreachBy r f (s.t + 1) k found
+  first_here f k None none at = λ u low has. up_to_next (λ u. HasOrphan r.processes f (instant r.past u) k → ⊥) s.t none at u low has
+  first_here f k (Some b) none at = (omega (arith, at.0), first_breach_is r f k s.t b step.below none at.0 at.1 at.2)
+
+-- ---- where the copies of a determinant are
+
+held_or : (a b : Bool) → b ≡ true → b ≡ (a || b)
+held_or a b h = grind (arith, nat_tests)
+
+apart_or : (a l b : Bool) → a ≡ false → b ≡ ((a && l) || b)
+apart_or a l b h = grind (arith, nat_tests)
+
+-- a delivery to a process that logs d already changes nothing of them
+copies_held : (e : Entry) (past : List Entry) (d : Det) (copies : Copies) → IsDeliveredTo e past d → AreCopies past d copies → AreCopies (e ∷ past) d copies
+copies_held (Deliver to send rsn listed) past d copies held are = record {
+  holders = λ p. are.holders p ∙ elim (eqb_tells to.0 p) [
+    | inl is ↦ held_or ((to.0 == p) && has listed d) (logs past p d) (subst (λ q. logs past q d ≡ true) is.1 held)
+    | inr apart ↦ apart_or (to.0 == p) (has listed d) (logs past p d) apart.0
+  ];
+  stable = are.stable;
+}
+copies_held (Send from to ssn) past d copies held are = absurd held
+copies_held (Stable det) past d copies held are = absurd held
+copies_held (Crash who) past d copies held are = absurd held
+copies_held (Restart who listed) past d copies held are = absurd held
+copies_held (Forget who listed) past d copies held are = absurd held
+
+-- an entry that neither turns nor mentions what its process lacks changes nothing of them
+pub copies_still : (e : Entry) (past : List Entry) (d : Det) (copies : Copies) → is_turn e ≡ false → (has (mentioned_by e) d ≡ false) ⊎ IsDeliveredTo e past d → AreCopies past d copies → AreCopies (e ∷ past) d copies
+copies_still e past d copies turn (inl silent) are = record { holders = λ p. are.holders p ∙ logs_stay e past d turn silent p; stable = are.stable ∙ stable_stays e past d silent }
+copies_still e past d copies turn (inr held) are = copies_held e past d copies held are
+
+-- those of the places that are not left have been renewed
+pub record HaveRenewed (e : Entry) (mentioned places rest : FinSet nat_cmp) (old now : List Copies) : Type 0 where
+  pub count : length now ≡ length old
+  pub left : (j : ℕ) → contains rest j ≡ true → contains places j ≡ true
+  pub renewed : (j : ℕ) → contains places j ≡ true → contains rest j ≡ false → AreCopiesAfter e (contains mentioned j) (copies_at old j) (copies_at now j)
+  pub ahead : (j : ℕ) → contains rest j ≡ true → copies_at now j ≡ copies_at old j
+  pub others : (j : ℕ) → contains places j ≡ false → copies_at now j ≡ copies_at old j
+
+pub renewed_none : (e : Entry) (mentioned places : FinSet nat_cmp) (old : List Copies) → HaveRenewed e mentioned places places old old
+renewed_none e mentioned places old = record {
+  count = refl;
+  left = λ j h. h;
+  renewed = λ j h out. absurd (false≢true (sym out ∙ h));
+  ahead = λ j h. refl;
+  others = λ j h. refl;
+}
+
+pub renewed_more : (e : Entry) (mentioned places rest : FinSet nat_cmp) (old mid : List Copies) (p : ℕ) (here : Copies) → contains rest p ≡ true → p < length mid
+    → HaveRenewed e mentioned places rest old mid → AreCopiesAfter e (contains mentioned p) (copies_at mid p) here
+    → HaveRenewed e mentioned places (remove rest p) old (set mid p here)
+renewed_more e mentioned places rest old mid p here within inside so_far after = record {
+  count = length-set mid p here ∙ so_far.count;
+  left = λ j h. so_far.left j (left_in rest p j h).0;
+  renewed = λ j h out. elim (left_out rest p j out) [
+    | inl is ↦ subst (λ x. AreCopiesAfter e (contains mentioned x) (copies_at old x) (copies_at (set mid p here) x)) (sym is)
+        (subst (λ c. AreCopiesAfter e (contains mentioned p) (copies_at old p) c) (sym (get_or-set_same mid p here no_copies inside))
+        (subst (λ c. AreCopiesAfter e (contains mentioned p) c here) (so_far.ahead p within) after))
+    | inr gone ↦ subst (AreCopiesAfter e (contains mentioned j) (copies_at old j)) (sym (get_or-set_other mid p j here no_copies (λ is. false≢true (sym gone ∙ ap (contains rest) is ∙ within)))) (so_far.renewed j h gone)
+  ];
+  ahead = λ j h. let still = left_in rest p j h in get_or-set_other mid p j here no_copies still.1 ∙ so_far.ahead j still.0;
+  others = λ j h. get_or-set_other mid p j here no_copies (λ is. false≢true (sym h ∙ ap (contains places) is ∙ so_far.left p within)) ∙ so_far.others j h;
+}
+
+-- ---- which deliveries may newly have an orphan
+
+module _ (n f : ℕ) (e : Entry) (past : List Entry) (k j : ℕ) (d : Det) (newly mentioned : FinSet nat_cmp) (present held : Sets) (formed : AreAccepted n (e ∷ past)) (at : det_at (e ∷ past) k ≡ Some d)
+    (depend : (p : ℕ) → (contains (row present p) j ≡ true) ↔ Depends (e ∷ past) k p) (so : IsHeldSo (e ∷ past) j d held) (has_one : HasOrphan n f (e ∷ past) k) where
+  abbrev orphan : IsExposed n f (e ∷ past) k d
+  orphan = exposed n f (e ∷ past) k d at has_one
+
+  not_held : contains (row held orphan.orphan) j ≡ false
+  not_held = false_from_ne_true (contains (row held orphan.orphan) j) (λ h. false≢true (sym orphan.without ∙ so orphan.orphan h))
+
+  lacking : IsLacked present held n j
+  lacking = (orphan.orphan, orphan.process, (depend orphan.orphan).1 orphan.depends, not_held)
+
+suspect_by : (n f : ℕ) (e : Entry) (past : List Entry) (k j : ℕ) (d : Det) (newly mentioned : FinSet nat_cmp) (present held : Sets) → AreAccepted n (e ∷ past) → det_at (e ∷ past) k ≡ Some d
+    → IsNewly past e k j newly → contains mentioned j ≡ has (mentioned_by e) d → ((p : ℕ) → (contains (row present p) j ≡ true) ↔ Depends (e ∷ past) k p) → IsHeldSo (e ∷ past) j d held
+    → HasOrphan n f (e ∷ past) k → (HasOrphan n f past k → ⊥) → MayNewlyFail past e k d → IsSuspected e newly mentioned present held n j
+suspect_by n f (Deliver to send rsn listed) past k j d newly mentioned present held formed at is says depend so has_one never may =
+    let e = Deliver to send rsn listed in
+    let x = exposed n f (e ∷ past) k d at has_one in
+    let only : x.orphan ≡ to.0 = one_new_orphan n f past k d to send rsn listed x.orphan formed at has_one never (gone_orphan n f (e ∷ past) k d at x.orphan x.process x.unstable x.depends x.without) in
+    let new : contains newly j ≡ true = elim (depends_before n e past k to.0 formed (refl, refl) may.0) [
+      | inl old ↦ absurd (may.1 old)
+      | inr reach ↦ elim (is.complete to.0 refl reach.1) [ inl new ↦ new | inr old ↦ absurd (may.1 old) ]
+    ] in
+    (new, subst (λ p. contains (row held p) j ≡ false) only (not_held n f e past k j d newly mentioned present held formed at depend so has_one))
+suspect_by n f (Restart who listed) past k j d newly mentioned present held formed at is says depend so has_one never may =
+    (says ∙ may, lacking n f (Restart who listed) past k j d newly mentioned present held formed at depend so has_one)
+suspect_by n f (Forget who listed) past k j d newly mentioned present held formed at is says depend so has_one never may =
+    (says ∙ may, lacking n f (Forget who listed) past k j d newly mentioned present held formed at depend so has_one)
+suspect_by n f (Send from to ssn) past k j d newly mentioned present held formed at is says depend so has_one never may = absurd may
+suspect_by n f (Stable det) past k j d newly mentioned present held formed at is says depend so has_one never may = absurd may
+suspect_by n f (Crash who) past k j d newly mentioned present held formed at is says depend so has_one never may = absurd may
+
+-- one that has an orphan after a step, and had none before, is suspected
+pub suspect : (r : Recording) (f : ℕ) (windows : List Window) (start : ℕ) (room : Room) (s : Step) → IsStep r windows s → IsFollowed r windows start (s.t + 1) room
+    → (j : ℕ) → j < length windows → HasNoOrphanBy r f (position_at windows j) s.t → HasOrphan r.processes f (instant r.past (s.t + 1)) (position_at windows j)
+    → IsSuspected s.entry.now s.newly s.mentioned room.reach.present.items room.held.items r.processes j
+suspect r f windows start room s step now j low none has_one =
+    let k = position_at windows j in
+    let made = step.made j low in
+    let past = instant r.past s.t in
+    let e = s.entry.now in
+    let formed = accepted_here r windows s step in
+    let then : HasOrphan r.processes f (e ∷ past) k = subst (λ p. HasOrphan r.processes f p k) step.next has_one in
+    let early : k < s.t + 1 = omega (arith, det_within (instant r.past (s.t + 1)) k has_one.is_orphan.det has_one.is_orphan.delivered, length_after r windows s step) in
+    let at : det_at (e ∷ past) k ≡ Some made.0 = ap (λ p. det_at p k) (sym step.next) ∙ det_then r.past (s.t + 1) k early (omega (arith, step.below)) ∙ made.1 in
+    let told = now.told j made.0 low made.1 in
+    let never : HasOrphan r.processes f past k → ⊥ = none s.t (omega arith) in
+    elim (sweep_law r.processes f e past k made.0 formed at then) [
+      | inl old ↦ absurd (never old)
+      | inr may ↦ suspect_by r.processes f e past k j made.0 s.newly s.mentioned room.reach.present.items room.held.items formed at (step.newly j made.0 low made.1) (step.mentioned j made.0 low made.1)
+          (λ p. subst (λ x. (contains (row room.reach.present.items p) j ≡ true) ↔ Depends x k p) step.next (told.depends p))
+          (subst (λ x. IsHeldSo x j made.0 room.held.items) step.next (now.held j made.0 low made.1)) then never may
+    ]
+
+-- ---- some of them, one by one
+
+-- how one first has an orphan after the entry
+pub found_next : (r : Recording) (windows : List Window) (start : ℕ) (room : Room) (s : Step) (step : IsStep r windows s) → IsFollowed r windows start (s.t + 1) room → (j f : ℕ) → j < length windows → (found : Option Breach)
+    → HasNoOrphanBy r f (position_at windows j) s.t → TellsBreachOf room f (position_at windows j) j (s.t + 1) found → FirstBreachBy r f (s.t + 1) (position_at windows j) found
+found_next r windows start room s step now j f low found none tells =
+    let made = step.made j low in
+    first_here r windows s step f (position_at windows j) found none
+    (tells r.processes (instant r.past (s.t + 1)) made.0 (accepted_then r.processes r.past (s.t + 1) step.formed.accepted) (length_after r windows s step)
+    (λ early. det_then r.past (s.t + 1) (position_at windows j) early (omega (arith, step.below)) ∙ made.1) (now.told j made.0 low made.1) (now.copied j made.0 low made.1) now.down)
+
+-- the position of a place is one of the windows'
+pub among_windows : (windows : List Window) (j : ℕ) → j < length windows → Contains (positions_of windows) (position_at windows j)
+among_windows windows j low =
+    let zero : Window = record { position = 0; until = 0 } in
+    let count : j < length (positions_of windows) = omega (arith, low, length-map windows position) in
+    subst (Contains (positions_of windows)) (get_or-map position windows j zero 0 low) (Contains-get_or (positions_of windows) j 0 count)
+
+-- those of the places that are not left have been judged
+pub record HaveJudged (r : Recording) (f : ℕ) (windows : List Window) (t : ℕ) (places rest : FinSet nat_cmp) (least : Option Breach) : Type 0 where
+  pub left : (j : ℕ) → contains rest j ≡ true → contains places j ≡ true
+  pub done : List ℕ
+  pub inside : (k : ℕ) → Contains done k → Contains (positions_of windows) k
+  pub each : (j : ℕ) → contains places j ≡ true → contains rest j ≡ false → Contains done (position_at windows j)
+  pub found : LeastAmongBy r f (t + 1) done least
+
+pub judged_none : (r : Recording) (f : ℕ) (windows : List Window) (t : ℕ) (places : FinSet nat_cmp) → HaveJudged r f windows t places places None
+judged_none r f windows t places = record {
+  left = λ j h. h;
+  done = [];
+  inside = λ k listed. absurd (omega (arith, listed.1));
+  each = λ j h out. absurd (false≢true (sym out ∙ h));
+  found = among_none r f (t + 1);
+}
+
+pub judged_more : (r : Recording) (f : ℕ) (windows : List Window) (t : ℕ) (places rest : FinSet nat_cmp) (least found : Option Breach) (p : ℕ) → contains rest p ≡ true → HaveJudged r f windows t places rest least
+    → Contains (positions_of windows) (position_at windows p) → FirstBreachBy r f (t + 1) (position_at windows p) found → HaveJudged r f windows t places (remove rest p) (earlier least found)
+judged_more r f windows t places rest least found p within so_far among first = record {
+  left = λ j h. so_far.left j (left_in rest p j h).0;
+  done = so_far.done ++ position_at windows p ∷ [];
+  inside = λ k listed. elim (Contains-push_cases so_far.done (position_at windows p) k listed) [
+    | inl old ↦ so_far.inside k old
+    | inr new ↦ subst (Contains (positions_of windows)) new among
+  ];
+  each = λ j h out. elim (left_out rest p j out) [
+    | inl is ↦ subst (λ x. Contains (so_far.done ++ position_at windows p ∷ []) (position_at windows x)) (sym is) (Contains-push so_far.done (position_at windows p))
+    | inr gone ↦ Contains-append_left so_far.done (position_at windows p ∷ []) (position_at windows j) (so_far.each j h gone)
+  ];
+  found = among_push r f (t + 1) so_far.done (position_at windows p) least found so_far.found first;
+}
+
+-- ---- all of them
+
+pub in_or_out : (s : FinSet nat_cmp) (j : ℕ) → (contains s j ≡ true) ⊎ (contains s j ≡ false)
+in_or_out s j = cases_Bool (contains s j)
+
+-- the copies after a step
+pub copied_next : (r : Recording) (windows : List Window) (s : Step) → IsStep r windows s → (all held places : FinSet nat_cmp) (old new : List Copies) → ArePlaces windows all → AreHeldBefore r windows s held
+    → ((j : ℕ) → contains all j ≡ true → contains places j ≡ false → (is_turn s.entry.now ≡ false) × ((contains s.mentioned j ≡ false) ⊎ (contains held j ≡ true)))
+    → ((j : ℕ) → contains places j ≡ false → copies_at new j ≡ copies_at old j) → ((j : ℕ) → contains places j ≡ true → AreCopiesAfter s.entry.now (contains s.mentioned j) (copies_at old j) (copies_at new j))
+    → AreCopied r windows s.t old → AreCopied r windows (s.t + 1) new
+copied_next r windows s step all held places old new are before quiet others renewed known j d low at =
+    let past = instant r.past s.t in
+    let told = step.mentioned j d low at in
+    subst (λ x. AreCopies x d (copies_at new j)) (sym step.next) (elim (in_or_out places j) [
+      | inl seen ↦ renewed j seen past d told (known j d low at)
+      | inr out ↦
+          let still = quiet j ((are j).1 low) out in
+          subst (AreCopies (s.entry.now ∷ past) d) (sym (others j out))
+          (copies_still s.entry.now past d (copies_at old j) still.0 (elim still.1 [ inl silent ↦ inl (sym told ∙ silent) | inr holds ↦ inr (before j d low at holds) ]) (known j d low at))
+    ])
+
+-- a place with a position among the windows'
+pub place_of : (windows : List Window) (k : ℕ) → Contains (positions_of windows) k → (j : ℕ) × (j < length windows) × (position_at windows j ≡ k)
+place_of windows k listed =
+    let zero : Window = record { position = 0; until = 0 } in
+    let low : listed.0 < length windows = omega (arith, listed.1, length-map windows position) in
+    (listed.0, low, sym (get_or-map position windows listed.0 zero k low) ∙ listed.2)
+
+-- the least of some is that of all where the others have none
+pub least_in_all : (r : Recording) (f end : ℕ) (windows : List Window) (places : FinSet nat_cmp) (found : Option Breach) → IsLeastIn r f end windows places found
+    → ((j : ℕ) → j < length windows → contains places j ≡ false → HasNoOrphanBy r f (position_at windows j) end) → LeastAmongBy r f end (positions_of windows) found
+least_in_all r f end windows places found least none =
+    among_wider r f end least.positions (positions_of windows) found least.inside (λ k listed.
+    let at = place_of windows k listed in
+    elim (in_or_out places at.0) [
+      | inl seen ↦ inl (subst (Contains least.positions) at.2 (least.each at.0 seen))
+      | inr out ↦ inr (subst (λ x. HasNoOrphanBy r f x end) at.2 (none at.0 at.1 out))
+    ]) least.least
+
+-- ==== what one more entry makes of what each process is known to hold
+
+not_first : (a b c : Bool) → a ≡ false → c ≡ true → (not (a && b) && c) ≡ true
+not_first a b c h k = grind (arith, nat_tests)
+
+not_second : (a b c : Bool) → b ≡ false → c ≡ true → (not (a && b) && c) ≡ true
+not_second a b c h k = grind (arith, nat_tests)
+
+apart_and : (a c : Bool) → a ≡ false → c ≡ true → (not a && c) ≡ true
+apart_and a c h k = grind (arith, nat_tests)
+
+-- a member of a difference is one of the first set, and none of the second
+parts : (a b : Bool) → (a && not b) ≡ true → (a ≡ true) × (b ≡ false)
+parts a b h = grind (arith, nat_tests)
+
+-- the rows of all processes but p are as before, and that of p has these places at most
+module _ (old new : List (FinSet nat_cmp)) (p : ℕ) (places : FinSet nat_cmp) (others : (i : ℕ) → (i ≡ p → ⊥) → row new i ≡ row old i)
+    (here : (j : ℕ) → contains (row new p) j ≡ true → contains places j ≡ true) (past : List Entry) (j : ℕ) (d : Det) (so : IsHeldSo past j d old) where
+  at_row : (q : ℕ) → contains (row new q) j ≡ true → (((p == q) ≡ true) × (p ≡ q) × (contains places j ≡ true)) ⊎ (((p == q) ≡ false) × (logs past q d ≡ true))
+  at_row q h = elim (eqb_tells p q) [
+    | inl is ↦ inl (is.0, is.1, here j (subst (λ i. contains (row new i) j ≡ true) (sym is.1) h))
+    | inr apart ↦ inr (apart.0, so q (subst (λ s. contains s j ≡ true) (others q (λ e. apart.1 (sym e))) h))
+  ]
+
+pub held_delivery : (to : Pid) (send rsn : ℕ) (listed : List Det) (mentioned : FinSet nat_cmp) (old new : List (FinSet nat_cmp)) → ((i : ℕ) → (i ≡ to.0 → ⊥) → row new i ≡ row old i)
+    → ((j : ℕ) → contains (row new to.0) j ≡ true → contains (union (row old to.0) mentioned) j ≡ true)
+    → (past : List Entry) (j : ℕ) (d : Det) → contains mentioned j ≡ has listed d → IsHeldSo past j d old → IsHeldSo (Deliver to send rsn listed ∷ past) j d new
+held_delivery to send rsn listed mentioned old new others here past j d says so q h =
+    elim (at_row old new to.0 (union (row old to.0) mentioned) others here past j d so q h) [
+      | inl is ↦ elim (or_cases (contains (row old to.0) j) (contains mentioned j) (sym (contains-union nat_cmp_total (row old to.0) mentioned j) ∙ is.2)) [
+        | inl had ↦ or_right ((to.0 == q) && has listed d) (logs past q d) (subst (λ i. logs past i d ≡ true) is.1 (so to.0 had))
+        | inr now ↦ or_left ((to.0 == q) && has listed d) (logs past q d) (and_from (to.0 == q) (has listed d) is.0 (sym says ∙ now))
+      ]
+      | inr other ↦ or_right ((to.0 == q) && has listed d) (logs past q d) other.1
+    ]
+
+pub held_restart : (who : Pid) (listed : List Det) (mentioned : FinSet nat_cmp) (old new : List (FinSet nat_cmp)) → ((i : ℕ) → (i ≡ who.0 → ⊥) → row new i ≡ row old i)
+    → ((j : ℕ) → contains (row new who.0) j ≡ true → contains mentioned j ≡ true)
+    → (past : List Entry) (j : ℕ) (d : Det) → contains mentioned j ≡ has listed d → IsHeldSo past j d old → IsHeldSo (Restart who listed ∷ past) j d new
+held_restart who listed mentioned old new others here past j d says so q h =
+    elim (at_row old new who.0 mentioned others here past j d so q h) [
+      | inl is ↦ or_left ((who.0 == q) && has listed d) (logs past q d) (and_from (who.0 == q) (has listed d) is.0 (sym says ∙ is.2))
+      | inr other ↦ or_right ((who.0 == q) && has listed d) (logs past q d) other.1
+    ]
+
+pub held_forget : (who : Pid) (listed : List Det) (mentioned : FinSet nat_cmp) (old new : List (FinSet nat_cmp)) → ((i : ℕ) → (i ≡ who.0 → ⊥) → row new i ≡ row old i)
+    → ((j : ℕ) → contains (row new who.0) j ≡ true → contains (difference (row old who.0) mentioned) j ≡ true)
+    → (past : List Entry) (j : ℕ) (d : Det) → contains mentioned j ≡ has listed d → IsHeldSo past j d old → IsHeldSo (Forget who listed ∷ past) j d new
+held_forget who listed mentioned old new others here past j d says so q h =
+    elim (at_row old new who.0 (difference (row old who.0) mentioned) others here past j d so q h) [
+      | inl is ↦
+          let left = parts (contains (row old who.0) j) (contains mentioned j) (sym (contains-difference nat_cmp_total (row old who.0) mentioned j) ∙ is.2) in
+          not_second (who.0 == q) (has listed d) (logs past q d) (sym says ∙ left.1) (subst (λ i. logs past i d ≡ true) is.1 (so who.0 left.0))
+      | inr other ↦ not_first (who.0 == q) (has listed d) (logs past q d) other.0 other.1
+    ]
+
+pub held_crash : (who : Pid) (old new : List (FinSet nat_cmp)) → ((i : ℕ) → (i ≡ who.0 → ⊥) → row new i ≡ row old i)
+    → ((j : ℕ) → contains (row new who.0) j ≡ true → contains {R = nat_cmp} empty j ≡ true)
+    → (past : List Entry) (j : ℕ) (d : Det) → IsHeldSo past j d old → IsHeldSo (Crash who ∷ past) j d new
+held_crash who old new others here past j d so q h =
+    elim (at_row old new who.0 empty others here past j d so q h) [
+      | inl is ↦ absurd (false≢true (sym (contains-empty nat_cmp j) ∙ is.2))
+      | inr other ↦ apart_and (who.0 == q) (logs past q d) other.0 other.1
+    ]
+
+-- ==== a walk over the entries for the deliveries of a group
+
+module _ (r : Recording) (windows : List Window) (start : ℕ) (room : Room) (t : ℕ) (e : Entry) (new_ones : FinSet nat_cmp) (followed : IsFollowed r windows start t room) (formed : IsWellFormed r) (below : t < length r.past)
+    (next : instant r.past (t + 1) ≡ e ∷ instant r.past t) (new : Reach) (sees : SeesReach e t room.reach new new_ones) where
+  sees_each : (j : ℕ) (d : Det) → j < length windows → det_at r.past (position_at windows j) ≡ Some d
+      → IsReach (e ∷ instant r.past t) (position_at windows j) j new × IsNewly (instant r.past t) e (position_at windows j) j new_ones
+  sees_each j d low at =
+      let k = position_at windows j in
+      sees r.processes (instant r.past t) k j d formed.count.1 (accepted_next r formed t e below next) (instant_length r.past t (omega (arith, below)))
+      (λ here. ap (λ past. det_at past k) (sym next) ∙ det_then r.past (t + 1) k (omega (arith, here)) (omega (arith, below)) ∙ at) (followed.told j d low at)
+
+  -- the deliveries reach the entries so far
+  pub told_after : (j : ℕ) (d : Det) → j < length windows → det_at r.past (position_at windows j) ≡ Some d → IsReach (instant r.past (t + 1)) (position_at windows j) j new
+  told_after j d low at = subst (λ past. IsReach past (position_at windows j) j new) (sym next) (sees_each j d low at).0
+
+-- the receiver of a delivery logs what its row says
+pub held_then : (e : Entry) (past : List Entry) (rows : List (FinSet nat_cmp)) (places : FinSet nat_cmp) (j : ℕ) (d : Det) → IsHeldBy e rows places → IsHeldSo past j d rows → contains places j ≡ true → IsDeliveredTo e past d
+held_then (Deliver to send rsn listed) past rows places j d by so h = so to.0 (subst (λ s. contains s j ≡ true) by h)
+held_then (Send from to ssn) past rows places j d by so h = none_in j (subst (λ s. contains s j ≡ true) by h)
+held_then (Stable det) past rows places j d by so h = none_in j (subst (λ s. contains s j ≡ true) by h)
+held_then (Crash who) past rows places j d by so h = none_in j (subst (λ s. contains s j ≡ true) by h)
+held_then (Restart who listed) past rows places j d by so h = none_in j (subst (λ s. contains s j ≡ true) by h)
+held_then (Forget who listed) past rows places j d by so h = none_in j (subst (λ s. contains s j ≡ true) by h)
+
+-- the row of an entry tells which determinants it mentions
+pub mentions_here : (r : Recording) (windows : List Window) (start t : ℕ) (room : Room) (x : Entry) (places : FinSet nat_cmp) → IsFollowed r windows start t room → start ≤ t → t - start < length room.mentioned.items
+    → places ≡ row room.mentioned.items (t - start) → entry_at r.past t ≡ Some x → (j : ℕ) (d : Det) → j < length windows → det_at r.past (position_at windows j) ≡ Some d → contains places j ≡ has (mentioned_by x) d
+mentions_here r windows start t room x places followed from inside marks there j d low at =
+    let same : t ≡ start + (t - start) = omega (arith, from) in
+    ap (λ set. contains set j) marks ∙ followed.marked j low (t - start) d x inside at (subst (λ v. entry_at r.past v ≡ Some x) same there)
+
+-- what a step is told
+pub is_step : (r : Recording) (windows : List Window) (start : ℕ) (room : Room) (s : Step) → IsFollowed r windows start s.t room → IsWellFormed r → s.t < length r.past → instant r.past (s.t + 1) ≡ s.entry.now ∷ instant r.past s.t
+    → (new : Reach) → SeesReach s.entry.now s.t room.reach new s.newly
+    → length r.past ≤ max_entries → start ≤ s.t → s.t - start < length room.mentioned.items → s.mentioned ≡ row room.mentioned.items (s.t - start) → entry_at r.past s.t ≡ Some s.entry.now
+    → ((j : ℕ) → j < length windows → IsDeliveryAt r.past (position_at windows j)) → IsStep r windows s
+is_step r windows start room s followed formed below next new sees short from inside marks there made = record {
+  formed = formed;
+  short = short;
+  below = below;
+  next = next;
+  made = made;
+  newly = λ j d low at. (sees_each r windows start room s.t s.entry.now s.newly followed formed below next new sees j d low at).1;
+  mentioned = mentions_here r windows start s.t room s.entry.now s.mentioned followed from inside marks there;
+}
+
+-- the room stays
+pub room_stays : (old new : Room) → ((entries : ℕ) → HasRowRoom entries old.reach → HasRowRoom entries new.reach) → vec_capacity new.mentioned ≡ vec_capacity old.mentioned → length new.copies.items ≡ length old.copies.items
+    → (entries : ℕ) → HasRoom entries old → HasRoom entries new
+room_stays old new rows mentioned copies entries was = record {
+  reach = rows entries was.reach;
+  mentioned = omega (arith, mentioned, was.mentioned);
+  copies = copies ∙ was.copies;
+}
+
+-- where there is room for so many entries there is room for fewer
+pub room_within : (many few : ℕ) (room : Room) → few ≤ many → HasRoom many room → HasRoom few room
+room_within many few room low is = record {
+  reach = record { reached = omega (arith, low, is.reach.reached); present = is.reach.present };
+  mentioned = omega (arith, low, is.mentioned);
+  copies = is.copies;
+}
+
+-- where none is the least there is none
+pub none_of_all : (r : Recording) (f end : ℕ) (windows : List Window) → LeastAmongBy r f end (positions_of windows) None → HaveNone r f windows end
+none_of_all r f end windows none j low u within has = none (position_at windows j) u (among_windows windows j low) within has
+
+-- the places of one window more
+pub places_more : (places : FinSet nat_cmp) (place : ℕ) → ((j : ℕ) → (contains places j ≡ true) ↔ (j < place)) → (j : ℕ) → (contains (insert places place) j ≡ true) ↔ (j < place + 1)
+places_more places place are j = (
+  λ h. elim (or_cases (place == j) (contains places j) (sym (inserted places place j) ∙ h)) [
+    | inl now ↦ omega (arith, eqb-true place j now)
+    | inr old ↦ omega (arith, (are j).0 old)
+  ],
+  λ low. inserted places place j ∙ elim (eqb_tells place j) [
+    | inl now ↦ or_left (place == j) (contains places j) now.0
+    | inr apart ↦ or_right (place == j) (contains places j) ((are j).1 (let ne : place ≡ j → ⊥ = apart.1 in omega (arith, low, ne)))
+  ],
+)
+
+-- ==== which entries of a walk mention the determinants of the deliveries of a group
+
+-- ---- one place into one row
+
+pub put_in : (rows : Sets) (start place position r : ℕ) → start + r ≡ position → r < length rows → IsPut start place position rows (set rows r (insert (row rows r) place))
+put_in rows start place position r at inside i j low =
+    elim (eqb_tells i r) [
+      | inl here ↦
+          let same : contains (row (set rows r (insert (row rows r) place)) i) j ≡ ((place == j) || contains (row rows i) j) =
+          ap (λ x. contains (row (set rows r (insert (row rows r) place)) x) j) here.1 ∙ ap (λ s. contains s j) (get_or-set_same rows r (insert (row rows r) place) empty inside) ∙ inserted (row rows r) place j
+          ∙ ap (λ x. (place == j) || contains (row rows x) j) (sym here.1) in (
+            λ h. elim (or_cases (place == j) (contains (row rows i) j) (sym same ∙ h)) [
+              | inl now ↦ inr (sym (eqb-true place j now), omega (arith, at, here.1))
+              | inr old ↦ inl old
+            ],
+            λ h. same ∙ elim h [
+              | inl old ↦ or_right (place == j) (contains (row rows i) j) old
+              | inr new ↦ or_left (place == j) (contains (row rows i) j) (eq-eqb place j (sym new.0))
+            ],
+          )
+      | inr apart ↦
+          let same : row (set rows r (insert (row rows r) place)) i ≡ row rows i = get_or-set_other rows r i (insert (row rows r) place) empty apart.1 in (
+            λ h. inl (ap (λ s. contains s j) (sym same) ∙ h),
+            λ h. elim h [
+              | inl old ↦ ap (λ s. contains s j) same ∙ old
+              | inr new ↦ absurd (apart.1 (omega (arith, at, new.1)))
+            ],
+          )
+    ]
+
+-- ---- one position more
+
+-- so many as there are, or more, are all
+pub take_all : {X : Type 0} → (xs : List X) (i : ℕ) → length xs ≤ i → take i xs ≡ xs
+take_all xs i many =
+    let same : min i (length xs) ≡ length xs = omega (arith, many) in
+    sym (take_min i xs) ∙ ap (λ n. take n xs) same ∙ take-length xs
+
+pub marked_more : (start place position : ℕ) (done : List ℕ) (old mid new : Sets) → length mid ≡ length old → HaveMarked start place done old mid → IsPut start place position mid new → HaveMarked start place (done ++ position ∷ []) old new
+marked_more start place position done old mid new same marked is i j low =
+    let before = marked i j low in
+    let here = is i j (omega (arith, low, same)) in (
+      λ h. elim (here.0 h) [
+        | inl was ↦ elim (before.0 was) [
+          | inl first ↦ inl first
+          | inr listed ↦ inr (listed.0, Contains-append_left done (position ∷ []) (start + i) listed.1)
+        ]
+        | inr now ↦ inr (now.0, subst (Contains (done ++ position ∷ [])) (sym now.1) (Contains-push done position))
+      ],
+      λ h. elim h [
+        | inl first ↦ here.1 (inl (before.1 (inl first)))
+        | inr listed ↦ elim (Contains-push_cases done position (start + i) listed.1) [
+          | inl was ↦ here.1 (inl (before.1 (inr (listed.0, was))))
+          | inr now ↦ here.1 (inr (listed.0, sym now))
+        ]
+      ],
+    )

@@ -1,0 +1,13 @@
+-- The positions of windows, and what holds of a list of windows.
+use Rattle.causal_audit.proofs.Common.{ℕ, ◌∷◌, [], List, All, All-cons, All-head, All-nil, All-tail}
+use Rattle.causal_audit.specs.declared.group.scan.Window.{Window}
+use Rattle.causal_audit.specs.Inside.Group.Scans.{positions_of}
+
+abbrev pub position : Window → ℕ
+position window = window.position
+
+-- what holds of the positions holds of each window's
+pub of_positions : (P : ℕ → Type 0) (windows : List Window) → All P (positions_of windows) → All (λ window. P window.position) windows
+of_positions P [] all = All-nil (λ window. P (position window))
+of_positions P (window ∷ windows) all =
+    All-cons (λ w. P (position w)) window windows (All-head P window.position (positions_of windows) all) (of_positions P windows (All-tail P window.position (positions_of windows) all))

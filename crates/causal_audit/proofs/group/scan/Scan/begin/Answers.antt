@@ -1,0 +1,39 @@
+use Rattle.causal_audit.proofs.Common.{◌≡◌, ◌≤◌, true, length, sym, subst, arith, contains, instant, is_down, logs, instant_length}
+use Rattle.causal_audit.specs.declared.group.scan.Window.{Window}
+use Rattle.causal_audit.specs.Inside.Group.Walk.{AreCopies, position_at}
+use Rattle.causal_audit.specs.Inside.Group.Scans.{Scanned}
+use Rattle.causal_audit.specs.Inside.Sights.{Shows}
+use Rattle.causal_audit.proofs.Shown.{shows_none}
+use Rattle.causal_audit.proofs.group.Reaching.{none_in}
+use Rattle.causal_audit.proofs.by_clock.Begun.{unheard_before}
+use Rattle.causal_audit.proofs.index.Turned.{passed_down}
+use Rattle.causal_audit.proofs.group.scan.Scan.begin.Goals as goal
+
+abbrev zero : Window
+zero = record { position = 0; until = 0 }
+
+pub returns-clause-begun : goal.returns-clause-begun
+returns-clause-begun c =
+    let r = c.args.self.now.run in
+    let windows = c.args.windows.now in
+    let start = c.args.start in
+    let run = c.self.inside.outline.trace.now.recording in
+    let turns = c.self.inside.outline.turns.now in
+    let walk = passed_down run.past turns start c.from.result c.self.inside.outline.turned c.from.ensures in
+    let inside : c.args.end ≤ c.self.inside.end = subst (λ (s : Scanned). c.args.end ≤ s.end) (sym c.self.view_is) c.requires.within in
+    let within : start ≤ length run.past = omega (arith, c.requires.ordered, inside, c.self.invariant.within) in
+    let early : start ≤ length r.past = subst (λ (s : Scanned). start ≤ length s.run.past) c.self.view_is within in
+    let shown : Shows c.down-room.result (λ p. is_down (instant r.past start) p) =
+    subst (λ (s : Scanned). Shows c.down-room.result (λ p. is_down (instant s.run.past start) p)) c.self.view_is (c.down-room.ensures run.past start within walk.0 walk.1) in
+    record {
+      start_is = c.begin.ensures.rows.start;
+      told = λ j d low at. c.begin.ensures.begins (instant r.past start) j (instant_length r.past start early) low;
+      marked = c.mark_all.ensures.marked;
+      copied = λ j d low at.
+          let untouched = c.requires.from j zero low in
+          let none = unheard_before r.past (position_at windows j) d start (untouched.unmentioned d at) untouched.made early in
+          subst (AreCopies (instant r.past start) d) (sym (c.forget_all.ensures.none j (omega (arith, low, c.requires.few, c.requires.room.copies))))
+          (record { holders = shows_none (λ p. logs (instant r.past start) p d) none.unlogged; stable = sym none.unstable });
+      held = λ j d low at p h. absurd (none_in j (subst (λ s. contains s j ≡ true) (c.clear.ensures.none p) h));
+      down = shown;
+    }

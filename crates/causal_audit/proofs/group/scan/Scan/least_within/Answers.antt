@@ -1,0 +1,85 @@
+use Rattle.causal_audit.proofs.Common.{◌≡◌, ◌++◌, [], List, sym, ap, subst, ◌∙◌, append_assoc, append-nil, arith, map-append, nil_from_length, All}
+use Rattle.std.specs.Slice.Iter.{chunks_rest, chunks_size}
+use Rattle.causal_audit.proofs.AmongLemmas.{among_joined, among_none, horizon_within}
+use Rattle.causal_audit.proofs.group.GroupWalk.{room_within}
+use Rattle.causal_audit.proofs.Sifted.{all_left, all_right}
+use Rattle.causal_audit.specs.Inside.Among.{LeastAmongBy, horizon}
+use Rattle.causal_audit.specs.Earlier.{earlier}
+use Rattle.causal_audit.specs.Inside.Group.Scans.{IsDeliveryAt, IsWindow, positions_of}
+use Rattle.causal_audit.specs.declared.group.scan.Window.{Window}
+use Rattle.causal_audit.proofs.group.Windowed.{position}
+use Rattle.causal_audit.proofs.group.scan.Scan.least_within.Goals as goal
+
+pub loop-group-init : goal.loop-group-init
+loop-group-init c =
+    let r = c.args.self.now.run in
+    let same = c.into_iter-group-iterator.ensures.into_iter_gives in
+    let size : chunks_size c.into_iter-group-iterator.result ≡ 256 = ap chunks_size same ∙ c.chunks-group-items.ensures.size in
+    let rest : chunks_rest c.into_iter-group-iterator.result ≡ c.args.windows.now = ap chunks_rest same ∙ c.chunks-group-items.ensures.rest in
+    record {
+      next = omega (arith, size);
+      finite = tt;
+      size = size;
+      deliveries = subst (All (λ (window : Window). IsDeliveryAt r.past window.position)) (sym rest) c.requires.deliveries;
+      none_later = subst (All (IsWindow r c.args.f c.args.end)) (sym rest) c.requires.windows;
+      room = λ entries has. has;
+      least = ([], rest, among_none r c.args.f c.args.end);
+    }
+
+pub least_in-found-requires-clause-within : goal.least_in-found-requires-clause-within
+least_in-found-requires-clause-within c =
+    let bound = horizon_within c.args.self.now.run c.args.f c.args.end (positions_of c.loop-group.invariant.least.0) c.loop-group.least c.loop-group.invariant.least.2 in
+    omega (arith, c.horizon.ensures, bound, c.requires.within)
+
+pub least_in-found-requires-clause-windows : goal.least_in-found-requires-clause-windows
+least_in-found-requires-clause-windows c k window below u from before =
+    let bound = horizon_within c.args.self.now.run c.args.f c.args.end (positions_of c.loop-group.invariant.least.0) c.loop-group.least c.loop-group.invariant.least.2 in
+    let over = IsWindow c.args.self.now.run c.args.f c.args.end in
+    all_left over c.in-Some.group.now (chunks_rest c.next.new.self) (subst (All over) c.in-Some.ensures.steps.1.0 c.loop-group.invariant.none_later) k window below u from (omega (arith, before, c.horizon.ensures, bound))
+
+pub least_in-found-requires-clause-deliveries : goal.least_in-found-requires-clause-deliveries
+least_in-found-requires-clause-deliveries c =
+    let of : Window → Type 0 = λ window. IsDeliveryAt c.args.self.now.run.past window.position in
+    all_left of c.in-Some.group.now (chunks_rest c.next.new.self) (subst (All of) c.in-Some.ensures.steps.1.0 c.loop-group.invariant.deliveries)
+
+pub least_in-found-requires-clause-room : goal.least_in-found-requires-clause-room
+least_in-found-requires-clause-room c =
+    let i = c.loop-group.invariant in
+    let bound = horizon_within c.args.self.now.run c.args.f c.args.end (positions_of i.least.0) c.loop-group.least i.least.2 in
+    room_within c.args.end c.horizon.result c.loop-group.room (omega (arith, c.horizon.ensures, bound)) (i.room c.args.end c.requires.room)
+
+pub loop-group-preserved : goal.loop-group-preserved
+loop-group-preserved c =
+    let r = c.args.self.now.run in
+    let f = c.args.f in
+    let end = c.args.end in
+    let invariant = c.loop-group.invariant in
+    let group = c.in-Some.group.now in
+    let later = chunks_rest c.next.new.self in
+    let parts : chunks_rest c.loop-group.group-iterator ≡ group ++ later = c.in-Some.ensures.steps.1.0 in
+    let size : chunks_size c.next.new.self ≡ 256 = c.in-Some.ensures.steps.0 ∙ invariant.size in
+    let done = invariant.least.0 in
+    record {
+      next = omega (arith, size);
+      finite = tt;
+      size = size;
+      deliveries = all_right (λ (window : Window). IsDeliveryAt r.past window.position) group later (subst (All (λ (window : Window). IsDeliveryAt r.past window.position)) parts invariant.deliveries);
+      none_later = all_right (IsWindow r f end) group later (subst (All (IsWindow r f end)) parts invariant.none_later);
+      room = λ entries has. c.least_in-found.ensures.room entries (invariant.room entries has);
+      least = (
+        done ++ group,
+        append_assoc done group later ∙ ap (λ (list : List Window). done ++ list) (sym parts) ∙ invariant.least.1,
+        subst (LeastAmongBy r f end (positions_of (done ++ group))) (sym c.earlier-least.ensures)
+            (subst (λ list. LeastAmongBy r f end list (earlier c.loop-group.least c.least_in-found.result)) (sym (map-append position done group))
+            (among_joined r f end c.horizon.result (positions_of done) (positions_of group) c.loop-group.least c.least_in-found.result c.horizon.ensures invariant.least.2 c.least_in-found.ensures.found)),
+      );
+    }
+
+pub returns-clause-found : goal.returns-clause-found
+returns-clause-found c =
+    let r = c.args.self.now.run in
+    let invariant = c.loop-group.invariant in
+    let done = invariant.least.0 in
+    let none : chunks_rest c.loop-group.group-iterator ≡ [] = nil_from_length _ c.in-None.ensures.steps.1.0 in
+    let whole : done ≡ c.args.windows.now = sym (append-nil done) ∙ ap (λ (list : List Window). done ++ list) (sym none) ∙ invariant.least.1 in
+    subst (λ (list : List Window). LeastAmongBy r c.args.f c.args.end (positions_of list) c.loop-group.least) whole invariant.least.2

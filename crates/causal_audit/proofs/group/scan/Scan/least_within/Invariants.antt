@@ -1,0 +1,19 @@
+use Rattle.causal_audit.proofs.Common.{ℕ, ◌≡◌, ◌++◌, List, All}
+use Rattle.std.specs.Slice.Iter.{chunks_rest, chunks_size}
+use Rattle.causal_audit.specs.Inside.Among.{LeastAmongBy}
+use Rattle.causal_audit.specs.Inside.Group.Walk.{HasRoom}
+use Rattle.causal_audit.specs.declared.group.scan.Window.{Window}
+use Rattle.causal_audit.specs.Inside.Group.Scans.{IsDeliveryAt, IsWindow, positions_of}
+use Rattle.causal_audit.proofs.group.scan.Scan.least_within.Given as goal
+
+-- the least of the groups so far
+abbrev pub invariant-loop-group : goal.invariant-loop-group
+invariant-loop-group l = record {
+  next : goal.iterator-loop-group.can_next l.group-iterator;
+  finite : goal.iterator-loop-group.is_finite l.group-iterator;
+  size : chunks_size l.group-iterator ≡ 256;
+  deliveries : All (λ (window : Window). IsDeliveryAt l.self.run.past window.position) (chunks_rest l.group-iterator);
+  none_later : All (IsWindow l.self.run l.f l.end) (chunks_rest l.group-iterator);
+  room : (entries : ℕ) → HasRoom entries l.fn.room → HasRoom entries l.room;
+  least : (done : List Window) × (done ++ chunks_rest l.group-iterator ≡ l.windows) × LeastAmongBy l.self.run l.f l.end (positions_of done) l.least;
+}

@@ -1,0 +1,443 @@
+-- The lists of positions that are kept of a run: one more position, and one more entry.
+use Rattle.causal_audit.proofs.Common.{ℕ, ◌≡◌, ◌≢◌, ◌+◌, ◌-◌, ◌<◌, ◌≤◌, inl, inr, true, false, Result, Ok, Err, List, [], ◌∷◌, ◌++◌, length, get_or, Option, Some, None, refl, sym, ap, subst, ◌∙◌, arith, Bool, map, reverse, ◌⊎◌, OnOk, Contains, ◌==◌, ◌&&◌, ◌||◌, is_some, option_map_or, All, get_or-eq_default, get_or-append, cases_lt, false≢true, cond-true, cond-false, false_from_ne_true, eqb-true, eq-eqb, ne_eqb, and_parts, or_cases, cases_Bool, or_left, or_right, eqb_tells, nat_tests, get_or-set_same, get_or-set_other, get_or_past, length-map, length-reverse, reverse-append, All-push, All-set, All-get_or, All-weaker, Contains-append_left, Contains-push, Contains-push_cases, IsNonDecreasingBy-push, Entry, lane, entry_at, has, actor, IsEventOf, nat_cmp, FinSet, contains, empty, remove, contains-empty, IsNonDecreasing, Send, Deliver, Stable, Crash, Restart, Forget, entry_beyond, get_or-append_seam, Det, same_det}
+use Rattle.causal_clock.specs.declared.Event.{Event}
+use Rattle.causal_clock.specs.Timeline.{lane_of}
+use Rattle.causal_audit.specs.Inside.Index.Filed.{Ascends, AreLanes, list_at, with_added, AreMentions, AreMentionsWith, Numbers, mentions_of, number_of, AreTurnsOf, IsFirstCrash, is_turn_of}
+use Rattle.causal_audit.specs.Inside.ByClock.Changes.{HasNoneUntil, HasMentions}
+use Rattle.causal_audit.specs.Inside.Look.Staying.{restarts_one, RestartsNone}
+use Rattle.causal_audit.specs.Spread.{IsCrashOf}
+use Rattle.causal_audit.proofs.group.Reaching.{left_out}
+use Rattle.causal_audit.specs.Quiet.{mentioned_by}
+use Rattle.causal_audit.specs.declared.index.numbering.Node.{Node}
+
+-- ==== the lists of positions that tables keep: one more position, and one more entry
+
+-- ---- a list with one more position
+
+pub ascends_weaker : (low high : ℕ) (list : List ℕ) → low ≤ high → Ascends low list → Ascends high list
+ascends_weaker low high list more a = record {
+  ascending = a.ascending;
+  below = All-weaker (λ v. v < low) (λ v. v < high) (λ v h. omega (arith, h, more)) list a.below;
+}
+
+pub ascends_push : (v : ℕ) (list : List ℕ) → Ascends (v + 1) list → Ascends (v + 1) (list ++ v ∷ [])
+ascends_push v list a = record {
+  ascending = IsNonDecreasingBy-push (λ x. x) list v a.ascending (λ d some. let last : get_or list (length list - 1) d < v + 1 = a.below (length list - 1) d (omega (arith, some)) in omega (arith, last));
+  below = All-push (λ w. w < v + 1) list v a.below (omega arith);
+}
+
+-- ---- lists with one more position in one of them
+
+module _ (lists : List (List ℕ)) (m v : ℕ) (there : m < length lists) where
+  added_here : list_at (with_added lists m v) m ≡ list_at lists m ++ v ∷ []
+  added_here = get_or-set_same lists m (list_at lists m ++ v ∷ []) [] there
+
+  added_other : (j : ℕ) → j ≢ m → list_at (with_added lists m v) j ≡ list_at lists j
+  added_other j apart = get_or-set_other lists m j (list_at lists m ++ v ∷ []) [] apart
+
+  pub added_has : Contains (list_at (with_added lists m v) m) v
+  added_has = subst (λ list. Contains list v) (sym added_here) (Contains-push (list_at lists m) v)
+
+  pub added_keeps : (j w : ℕ) → Contains (list_at lists j) w → Contains (list_at (with_added lists m v) j) w
+  added_keeps j w has =
+      elim (eqb_tells j m) [
+        | inl same ↦ subst (λ x. Contains (list_at (with_added lists m v) x) w) (sym same.1) (subst (λ list. Contains list w) (sym added_here) (Contains-append_left (list_at lists m) (v ∷ []) w (subst (λ x. Contains (list_at lists x) w) same.1 has)))
+        | inr apart ↦ subst (λ list. Contains list w) (sym (added_other j apart.1)) has
+      ]
+
+  pub added_cases : (j w : ℕ) → Contains (list_at (with_added lists m v) j) w → Contains (list_at lists j) w ⊎ ((j ≡ m) × (v ≡ w))
+  added_cases j w has =
+      elim (eqb_tells j m) [
+        | inl same ↦ elim (Contains-push_cases (list_at lists m) v w (subst (λ list. Contains list w) added_here (subst (λ x. Contains (list_at (with_added lists m v) x) w) same.1 has))) [
+          | inl old ↦ inl (subst (λ x. Contains (list_at lists x) w) (sym same.1) old)
+          | inr new ↦ inr (same.1, new)
+        ]
+        | inr apart ↦ inl (subst (λ list. Contains list w) (added_other j apart.1) has)
+      ]
+
+  pub added_ascend : All (Ascends (v + 1)) lists → All (Ascends (v + 1)) (with_added lists m v)
+  added_ascend all = All-set (Ascends (v + 1)) lists m (list_at lists m ++ v ∷ []) (ascends_push v (list_at lists m) (All-get_or (Ascends (v + 1)) lists m [] there all)) all
+
+pub ascend_weaker : (low high : ℕ) (lists : List (List ℕ)) → low ≤ high → All (Ascends low) lists → All (Ascends high) lists
+ascend_weaker low high lists more all = All-weaker (Ascends low) (Ascends high) (λ list. ascends_weaker low high list more) lists all
+
+-- ---- empty lists
+
+pub empty_ascend : (lists : List (List ℕ)) → All (λ list. list ≡ []) lists → All (Ascends 0) lists
+empty_ascend lists all = All-weaker (λ list. list ≡ []) (Ascends 0) (λ list is. subst (Ascends 0) (sym is) (record { ascending = λ i j d low high. absurd (omega (arith, high)); below = λ i d low. absurd (omega (arith, low)) })) lists all
+
+pub nothing_in : (lists : List (List ℕ)) → All (λ list. list ≡ []) lists → (m v : ℕ) → Contains (list_at lists m) v → ⊥
+nothing_in lists all m v has =
+    elim (cases_lt m (length lists)) [
+      | inl there ↦ let is : list_at lists m ≡ [] = all m [] there in omega (arith, has.1, ap length is)
+      | inr beyond ↦ let is : list_at lists m ≡ [] = get_or-eq_default lists [] beyond in omega (arith, has.1, ap length is)
+    ]
+
+-- ---- the lanes, with one more entry
+
+one_longer : (e : Entry) (past : List Entry) → length past + 1 ≡ length (e ∷ past)
+one_longer e past = omega arith
+
+pub lanes_more : (e : Entry) (past : List Entry) (events : List Event) (lists : List (List ℕ)) (m p : ℕ) → actor e ≡ Some p → lane_of events (length past) ≡ m → m < length lists → AreLanes past events lists → AreLanes (e ∷ past) events (with_added lists m (length past))
+lanes_more e past events lists m p of lane_is there are = record {
+  ascend = subst (λ n. All (Ascends n) (with_added lists m (length past))) (one_longer e past)
+      (added_ascend lists m (length past) there (ascend_weaker (length past) (length past + 1) lists (omega arith) are.ascend));
+  inside = λ j v has. elim (added_cases lists m (length past) there j v has) [
+    | inl old ↦ let was = are.inside j v old in (was.0, was.1, was.2, inl was.3)
+    | inr new ↦ (ap (lane_of events) (sym new.1) ∙ lane_is ∙ sym new.0, p, lane past p, inr (sym new.1, of, refl))
+  ];
+  each = each;
+}
+  where
+    each : (v q l : ℕ) → IsEventOf (e ∷ past) v q l → Contains (list_at (with_added lists m (length past)) (lane_of events v)) v
+    each v q l (inl at) = added_keeps lists m (length past) there (lane_of events v) v (are.each v q l at)
+    each v q l (inr at) =
+        subst (λ w. Contains (list_at (with_added lists m (length past)) (lane_of events w)) w) (sym at.0)
+        (subst (λ j. Contains (list_at (with_added lists m (length past)) j) (length past)) (sym lane_is) (added_has lists m (length past) there))
+
+pub lanes_same : (e : Entry) (past : List Entry) (events : List Event) (lists : List (List ℕ)) → actor e ≡ None → AreLanes past events lists → AreLanes (e ∷ past) events lists
+lanes_same e past events lists none are = record {
+  ascend = subst (λ n. All (Ascends n) lists) (one_longer e past) (ascend_weaker (length past) (length past + 1) lists (omega arith) are.ascend);
+  inside = λ j v has. let was = are.inside j v has in (was.0, was.1, was.2, inl was.3);
+  each = each;
+}
+  where
+    each : (v q l : ℕ) → IsEventOf (e ∷ past) v q l → Contains (list_at lists (lane_of events v)) v
+    each v q l (inl at) = are.each v q l at
+    each v q l (inr at) = absurd (let x : None ≡ Some q = sym none ∙ at.1 in cc)
+
+pub lanes_none : (events : List Event) (lists : List (List ℕ)) → All (λ list. list ≡ []) lists → AreLanes [] events lists
+lanes_none events lists all = record {
+  ascend = empty_ascend lists all;
+  inside = λ m v has. absurd (nothing_in lists all m v has);
+  each = λ v p l at. absurd at;
+}
+
+-- what an entry's actor is, by whether it has one
+pub has_actor : (o : Option ℕ) → is_some o ≡ true → (p : ℕ) × (o ≡ Some p)
+has_actor None h = absurd (false≢true h)
+has_actor (Some p) h = (p, refl)
+
+pub no_actor : (o : Option ℕ) → is_some o ≡ false → o ≡ None
+no_actor None h = refl
+no_actor (Some p) h = absurd (false≢true (sym h))
+
+pub on_ok : {A E P Q : Type 0} (r : Result A E) → (P → Q) → OnOk r P → OnOk r Q
+on_ok (Ok x) f h = f h
+on_ok (Err e) f h = tt
+
+-- ==== the lists of the crashes of each process, and of its restarts
+
+-- ---- one more entry
+
+-- an entry before the newest is the same without that
+older_entry : (e : Entry) (past : List Entry) (v : ℕ) (x : Entry) → entry_at past v ≡ Some x → entry_at (e ∷ past) v ≡ Some x
+older_entry e past v x at =
+    elim (cases_lt v (length past)) [
+      | inl below ↦ cond-false (v == length past) (Some e) (entry_at past v) (ne_eqb v (length past) (λ is. omega (arith, is, below))) ∙ at
+      | inr beyond ↦ absurd (let is : None ≡ Some x = sym (entry_beyond past v beyond) ∙ at in cc)
+    ]
+
+-- and one with the newest is that, or an older one
+entry_cases : (e : Entry) (past : List Entry) (v : ℕ) (x : Entry) → entry_at (e ∷ past) v ≡ Some x → (entry_at past v ≡ Some x) ⊎ ((v ≡ length past) × (e ≡ x))
+entry_cases e past v x at =
+    elim (eqb_tells v (length past)) [
+      | inl here ↦
+          let is : Some e ≡ Some x = sym (cond-true (v == length past) (Some e) (entry_at past v) here.0) ∙ at in
+          let same : e ≡ x = cc is in
+          inr (here.1, same)
+      | inr apart ↦ inl (sym (cond-false (v == length past) (Some e) (entry_at past v) apart.0) ∙ at)
+    ]
+
+module _ (restarts : Bool) (e : Entry) (past : List Entry) (lists : List (List ℕ)) (are : AreTurnsOf restarts past lists) where
+  longer : length past + 1 ≡ length (e ∷ past)
+  longer = omega arith
+
+  -- an entry that is of no process
+  pub turns_same : ((p : ℕ) → is_turn_of restarts p e ≡ false) → AreTurnsOf restarts (e ∷ past) lists
+  turns_same none = record {
+    ascend = subst (λ n. All (Ascends n) lists) longer (ascend_weaker (length past) (length past + 1) lists (omega arith) are.ascend);
+    only = λ p v listed. let was = are.only p v listed in (was.0, older_entry e past v was.0 was.1, was.2);
+    all = λ p v x at absent. elim (entry_cases e past v x at) [
+      | inl old ↦ are.all p v x old absent
+      | inr new ↦ subst (λ y. is_turn_of restarts p y ≡ false) new.1 (none p)
+    ];
+  }
+
+  -- and one of this process
+  pub turns_more : (q : ℕ) → ((p : ℕ) → is_turn_of restarts p e ≡ (q == p)) → q < length lists → AreTurnsOf restarts (e ∷ past) (with_added lists q (length past))
+  turns_more q of there = record {
+    ascend = subst (λ n. All (Ascends n) (with_added lists q (length past))) longer (added_ascend lists q (length past) there (ascend_weaker (length past) (length past + 1) lists (omega arith) are.ascend));
+    only = λ p v listed. elim (added_cases lists q (length past) there p v listed) [
+      | inl old ↦ let was = are.only p v old in (was.0, older_entry e past v was.0 was.1, was.2)
+      | inr new ↦ (e, cond-true (v == length past) (Some e) (entry_at past v) (eq-eqb v (length past) (sym new.1)), of p ∙ eq-eqb q p (sym new.0))
+    ];
+    all = λ p v x at absent. elim (entry_cases e past v x at) [
+      | inl old ↦ are.all p v x old (λ has. absent (added_keeps lists q (length past) there p v has))
+      | inr new ↦
+          let here : Contains (list_at (with_added lists q (length past)) q) v = subst (Contains (list_at (with_added lists q (length past)) q)) (sym new.0) (added_has lists q (length past) there) in
+          subst (λ y. is_turn_of restarts p y ≡ false) new.1 (of p ∙ ne_eqb q p (λ same. absent (subst (λ m. Contains (list_at (with_added lists q (length past)) m) v) same here)))
+    ];
+  }
+
+-- ---- before the first entry
+
+pub turns_of_none : (restarts : Bool) (lists : List (List ℕ)) → All (λ list. list ≡ []) lists → AreTurnsOf restarts [] lists
+turns_of_none restarts lists all = record {
+  ascend = empty_ascend lists all;
+  only = λ p v listed. absurd (nothing_in lists all p v listed);
+  all = λ p v e at. absurd (let x : None ≡ Some e = at in cc);
+}
+
+-- the lists ascend
+pub turns_ascend : (restarts : Bool) (past : List Entry) (lists : List (List ℕ)) → AreTurnsOf restarts past lists → All IsNonDecreasing lists
+turns_ascend restarts past lists are = All-weaker (Ascends (length past)) IsNonDecreasing (λ list a. a.ascending) lists are.ascend
+
+-- ---- the first crash
+
+crash_from : (past : List Entry) (p v : ℕ) (e : Entry) → entry_at past v ≡ Some e → is_turn_of false p e ≡ true → IsCrashOf past p v
+crash_from past p v (Crash who) at is = (who, at, eqb-true who.0 p is)
+crash_from past p v (Restart who listed) at is = absurd (false≢true is)
+crash_from past p v (Send from to ssn) at is = absurd (false≢true is)
+crash_from past p v (Deliver to send rsn listed) at is = absurd (false≢true is)
+crash_from past p v (Stable det) at is = absurd (false≢true is)
+crash_from past p v (Forget who listed) at is = absurd (false≢true is)
+
+pub first_crash_is : (past : List Entry) (lists : List (List ℕ)) (p k end c : ℕ) → AreTurnsOf false past lists → k + 1 ≤ c → c ≤ end → HasNoneUntil (list_at lists p) (k + 1) c → (c < end → Contains (list_at lists p) c) → IsFirstCrash past p k end c
+first_crash_is past lists p k end c are after within none found = record {
+  within = within;
+  after = omega (arith, after);
+  found = λ early. let at = are.only p c (found early) in crash_from past p c at.0 at.1 at.2;
+  none = λ v above below of. false≢true (sym (are.all p v (Crash of.0) of.1 (none v (omega (arith, above)) below)) ∙ eq-eqb of.0.0 p of.2);
+}
+
+-- ---- the least over some processes
+
+-- of those that are not left none restarts before `next`
+abbrev pub RestNone : List (List ℕ) → FinSet nat_cmp → FinSet nat_cmp → ℕ → ℕ → Type 0
+RestNone lists members rest from next =
+    (p : ℕ) → contains members p ≡ true → contains rest p ≡ false → HasNoneUntil (list_at lists p) from next
+
+pub rest_less : (lists : List (List ℕ)) (members rest : FinSet nat_cmp) (from next nearer p : ℕ) → nearer ≤ next → HasNoneUntil (list_at lists p) from nearer → RestNone lists members rest from next → RestNone lists members (remove rest p) from nearer
+rest_less lists members rest from next nearer p low here none q member out =
+    elim (left_out rest p q out) [
+      | inl same ↦ subst (λ x. HasNoneUntil (list_at lists x) from nearer) (sym same) here
+      | inr gone ↦ λ v late early. none q member gone v late (omega (arith, early, low))
+    ]
+
+-- an entry that restarts one of these processes restarts that one
+restarted_one : (members : FinSet nat_cmp) (e : Entry) → restarts_one members e ≡ true → (p : ℕ) × (contains members p ≡ true) × (is_turn_of true p e ≡ true)
+restarted_one members (Send from to ssn) h = absurd (false≢true h)
+restarted_one members (Deliver to send rsn listed) h = absurd (false≢true h)
+restarted_one members (Stable det) h = absurd (false≢true h)
+restarted_one members (Crash who) h = absurd (false≢true h)
+restarted_one members (Restart who listed) h = (who.0, h, eq-eqb who.0 who.0 refl)
+restarted_one members (Forget who listed) h = absurd (false≢true h)
+
+-- where none is left, none of them restarts before `next`
+pub none_rest : (past : List Entry) (lists : List (List ℕ)) (members : FinSet nat_cmp) (from next : ℕ) → AreTurnsOf true past lists → RestNone lists members empty from next → RestartsNone past members from next
+none_rest past lists members from next are none v e late early at =
+    false_from_ne_true (restarts_one members e) (λ is.
+    let one = restarted_one members e is in
+    false≢true (sym (are.all one.0 v e at (none one.0 one.1 (contains-empty nat_cmp one.0) v late early)) ∙ one.2))
+
+-- ==== the lists of the entries that mention each determinant
+
+-- determinants that are the same are one
+pub same_is : (x y : Det) → same_det x y ≡ true → x ≡ y
+same_is x y h =
+    let source = and_parts (x.source.0 == y.source.0) (x.ssn == y.ssn && (x.dest.0 == y.dest.0 && x.rsn == y.rsn)) h in
+    let ssn = and_parts (x.ssn == y.ssn) (x.dest.0 == y.dest.0 && x.rsn == y.rsn) source.1 in
+    let dest = and_parts (x.dest.0 == y.dest.0) (x.rsn == y.rsn) ssn.1 in
+    λ i. record {
+      source = record { 0 = eqb-true x.source.0 y.source.0 source.0 i };
+      ssn = eqb-true x.ssn y.ssn ssn.0 i;
+      dest = record { 0 = eqb-true x.dest.0 y.dest.0 dest.0 i };
+      rsn = eqb-true x.rsn y.rsn dest.1 i;
+    }
+
+-- ---- numbers
+
+-- a number is below how many there are
+pub number_below : (numbers : Numbers) (d : Det) (m : ℕ) → number_of numbers d ≡ Some m → m < length numbers
+number_below [] d m at = absurd (let x : None ≡ Some m = at in cc)
+number_below (x ∷ older) d m at =
+    elim (cases_Bool (same_det x d)) [
+      | inl same ↦
+          let is : Some (length older) ≡ Some m = sym (cond-true (same_det x d) (Some (length older)) (number_of older d) same) ∙ at in
+          let it : length older ≡ m = cc is in
+          omega (arith, it)
+      | inr other ↦ omega (arith, number_below older d m (sym (cond-false (same_det x d) (Some (length older)) (number_of older d) other) ∙ at))
+    ]
+
+newest_below : (x : Det) (older : Numbers) (c d : Det) (m : ℕ) → same_det x c ≡ true → same_det x d ≡ false → number_of (x ∷ older) c ≡ Some m → number_of (x ∷ older) d ≡ Some m → ⊥
+newest_below x older c d m same other at to =
+    let is : Some (length older) ≡ Some m = sym (cond-true (same_det x c) (Some (length older)) (number_of older c) same) ∙ at in
+    let it : length older ≡ m = cc is in
+    omega (arith, it, number_below older d m (sym (cond-false (same_det x d) (Some (length older)) (number_of older d) other) ∙ to))
+
+-- only one determinant has each number
+pub numbers_apart : (numbers : Numbers) (c d : Det) (m : ℕ) → number_of numbers c ≡ Some m → number_of numbers d ≡ Some m → same_det c d ≡ true
+numbers_apart [] c d m at to = absurd (let x : None ≡ Some m = at in cc)
+numbers_apart (x ∷ older) c d m at to =
+    elim (cases_Bool (same_det x c)) [
+      | inl same_c ↦ elim (cases_Bool (same_det x d)) [
+        | inl same_d ↦ subst (λ y. same_det y d ≡ true) (same_is x c same_c) same_d
+        | inr other ↦ absurd (newest_below x older c d m same_c other at to)
+      ]
+      | inr other_c ↦ elim (cases_Bool (same_det x d)) [
+        | inl same_d ↦ absurd (newest_below x older d c m same_d other_c to at)
+        | inr other_d ↦
+            numbers_apart older c d m (sym (cond-false (same_det x c) (Some (length older)) (number_of older c) other_c) ∙ at)
+            (sym (cond-false (same_det x d) (Some (length older)) (number_of older d) other_d) ∙ to)
+      ]
+    ]
+
+-- ---- a new list, for a determinant that has none
+
+module _ (numbers : Numbers) (lists : List (List ℕ)) (det : Det) (none : number_of numbers det ≡ None) (numbered : length lists ≡ length numbers) where
+  old_list : (o : Option ℕ) → ((m : ℕ) → o ≡ Some m → m < length lists) → option_map_or (list_at (lists ++ [] ∷ [])) o [] ≡ option_map_or (list_at lists) o []
+  old_list None inside = refl
+  old_list (Some m) inside = get_or-append lists ([] ∷ []) [] m (inside m refl)
+
+  pub new_same : (d : Det) → mentions_of (det ∷ numbers) (lists ++ [] ∷ []) d ≡ mentions_of numbers lists d
+  new_same d =
+      elim (cases_Bool (same_det det d)) [
+        | inl same ↦
+            ap (λ o. option_map_or (list_at (lists ++ [] ∷ [])) o []) (cond-true (same_det det d) (Some (length numbers)) (number_of numbers d) same)
+            ∙ ap (λ m. list_at (lists ++ [] ∷ []) m) (sym numbered)
+            ∙ get_or-append_seam lists [] [] []
+            ∙ sym (ap (λ o. option_map_or (list_at lists) o []) (ap (number_of numbers) (sym (same_is det d same)) ∙ none))
+        | inr other ↦
+            ap (λ o. option_map_or (list_at (lists ++ [] ∷ [])) o []) (cond-false (same_det det d) (Some (length numbers)) (number_of numbers d) other)
+            ∙ old_list (number_of numbers d) (λ m at. omega (arith, numbered, number_below numbers d m at))
+      ]
+
+pub new_ascend : (bound : ℕ) (lists : List (List ℕ)) → All (Ascends bound) lists → All (Ascends bound) (lists ++ [] ∷ [])
+new_ascend bound lists all = All-push (Ascends bound) lists [] all (record { ascending = λ i j d low high. absurd (omega (arith, high)); below = λ i d low. absurd (omega (arith, low)) })
+
+-- ---- one more position in the list of a determinant
+
+has_more : (dets : List Det) (det d : Det) → has (dets ++ det ∷ []) d ≡ (has dets d || same_det d det)
+has_more [] det d = or_none (same_det d det)
+  where
+    or_none : (a : Bool) → (a || false) ≡ a
+    or_none a = grind (arith, nat_tests)
+has_more (x ∷ dets) det d = ap (λ b. same_det d x || b) (has_more dets det d) ∙ or_or (same_det d x) (has dets d) (same_det d det)
+  where
+    or_or : (a b c : Bool) → (a || (b || c)) ≡ ((a || b) || c)
+    or_or a b c = grind (arith, nat_tests)
+
+-- what the list of a determinant has, it has with one more position in some list
+keeps_of : (o : Option ℕ) (lists : List (List ℕ)) (m v w : ℕ) → m < length lists → Contains (option_map_or (list_at lists) o []) w → Contains (option_map_or (list_at (with_added lists m v)) o []) w
+keeps_of None lists m v w there has = has
+keeps_of (Some j) lists m v w there has = added_keeps lists m v there j w has
+
+-- and what it has then, it had, or it is the list with one more position
+cases_of : (o : Option ℕ) (lists : List (List ℕ)) (m v w : ℕ) → m < length lists → Contains (option_map_or (list_at (with_added lists m v)) o []) w → Contains (option_map_or (list_at lists) o []) w ⊎ ((o ≡ Some m) × (v ≡ w))
+cases_of None lists m v w there has = inl has
+cases_of (Some j) lists m v w there has =
+    elim (added_cases lists m v there j w has) [
+      | inl old ↦ inl old
+      | inr new ↦ inr (ap (λ x. Some x) new.0, new.1)
+    ]
+
+pub mentions_more : (past : List Entry) (dets : List Det) (numbers : Numbers) (lists : List (List ℕ)) (det : Det) (m : ℕ) → number_of numbers det ≡ Some m → m < length lists → AreMentionsWith past dets numbers lists → AreMentionsWith past (dets ++ det ∷ []) numbers (with_added lists m (length past))
+mentions_more past dets numbers lists det m at there are =
+    record {
+      ascend = added_ascend lists m (length past) there are.ascend;
+      mentioned = λ d v e is unlisted. are.mentioned d v e is (λ listed. unlisted (keeps_of (number_of numbers d) lists m (length past) v there listed));
+      noted = λ d listed. elim (or_cases (has dets d) (same_det d det) (sym (has_more dets det d) ∙ listed)) [
+        | inl before ↦ keeps_of (number_of numbers d) lists m (length past) (length past) there (are.noted d before)
+        | inr now ↦
+            subst (λ o. Contains (option_map_or (list_at (with_added lists m (length past))) o []) (length past)) (sym (ap (number_of numbers) (same_is d det now) ∙ at))
+            (added_has lists m (length past) there)
+      ];
+      only = λ d v listed. elim (cases_of (number_of numbers d) lists m (length past) v there listed) [
+        | inl old ↦ elim (are.only d v old) [
+          | inl before ↦ inl before
+          | inr now ↦ inr (now.0, has_more dets det d ∙ or_left (has dets d) (same_det d det) now.1)
+        ]
+        | inr new ↦ inr (sym new.1, has_more dets det d ∙ or_right (has dets d) (same_det d det) (numbers_apart numbers d det m new.0 at))
+      ];
+    }
+
+-- ---- with a new number the lists say the same
+
+pub mentions_alike : (past : List Entry) (dets : List Det) (numbers new : Numbers) (lists more : List (List ℕ)) → ((bound : ℕ) → All (Ascends bound) lists → All (Ascends bound) more) → ((d : Det) → mentions_of new more d ≡ mentions_of numbers lists d) → AreMentionsWith past dets numbers lists → AreMentionsWith past dets new more
+mentions_alike past dets numbers new lists more ascend same are = record {
+  ascend = ascend (length past + 1) are.ascend;
+  mentioned = λ d. subst (HasMentions past d) (sym (same d)) (are.mentioned d);
+  noted = λ d listed. subst (λ list. Contains list (length past)) (sym (same d)) (are.noted d listed);
+  only = λ d v listed. are.only d v (subst (λ list. Contains list v) (same d) listed);
+}
+
+-- ---- one more entry
+
+entry_within : (past : List Entry) (v : ℕ) (e : Entry) → entry_at past v ≡ Some e → v < length past
+entry_within past v e at =
+    elim (cases_lt v (length past)) [
+      | inl below ↦ below
+      | inr beyond ↦ absurd (let x : None ≡ Some e = sym (entry_beyond past v beyond) ∙ at in cc)
+    ]
+
+pub mentions_begun : (past : List Entry) (numbers : Numbers) (lists : List (List ℕ)) → AreMentions past numbers lists → AreMentionsWith past [] numbers lists
+mentions_begun past numbers lists are = record {
+  ascend = ascend_weaker (length past) (length past + 1) lists (omega arith) are.ascend;
+  mentioned = are.mentioned;
+  noted = λ d listed. absurd (false≢true listed);
+  only = λ d v listed. inl (are.only d v listed);
+}
+
+pub mentions_done : (e : Entry) (past : List Entry) (numbers : Numbers) (lists : List (List ℕ)) → AreMentionsWith past (mentioned_by e) numbers lists → AreMentions (e ∷ past) numbers lists
+mentions_done e past numbers lists are = record {
+  ascend = let more : length past + 1 ≡ length (e ∷ past) = omega arith in subst (λ n. All (Ascends n) lists) more are.ascend;
+  mentioned = λ d v x at unlisted. elim (eqb_tells v (length past)) [
+    | inl newest ↦
+        let is : Some e ≡ Some x = sym (cond-true (v == length past) (Some e) (entry_at past v) newest.0) ∙ at in
+        let it : e ≡ x = cc is in
+        false_from_ne_true (has (mentioned_by x) d)
+        (λ listed. unlisted (subst (λ w. Contains (mentions_of numbers lists d) w) (sym newest.1) (are.noted d (ap (λ y. has (mentioned_by y) d) it ∙ listed))))
+    | inr older ↦ are.mentioned d v x (sym (cond-false (v == length past) (Some e) (entry_at past v) older.0) ∙ at) unlisted
+  ];
+  only = λ d v listed. elim (are.only d v listed) [
+    | inl before ↦
+        let low : v < length past = entry_within past v before.0 before.1 in
+        (before.0, cond-false (v == length past) (Some e) (entry_at past v) (ne_eqb v (length past) (λ is. omega (arith, is, low))) ∙ before.1, before.2)
+    | inr now ↦ (e, cond-true (v == length past) (Some e) (entry_at past v) (eq-eqb v (length past) now.0), now.1)
+  ];
+}
+
+pub mentions_ascend : (past : List Entry) (numbers : Numbers) (lists : List (List ℕ)) → AreMentions past numbers lists → (d : Det) → IsNonDecreasing (mentions_of numbers lists d)
+mentions_ascend past numbers lists are d = list_of (number_of numbers d)
+  where
+    list_of : (o : Option ℕ) → IsNonDecreasing (option_map_or (list_at lists) o [])
+    list_of None = λ i j x low high. absurd (omega (arith, high))
+    list_of (Some m) =
+        elim (cases_lt m (length lists)) [
+          | inl inside ↦ (are.ascend m [] inside).ascending
+          | inr beyond ↦ subst IsNonDecreasing (sym (get_or_past lists m [] beyond)) (λ i j x low high. absurd (omega (arith, high)))
+        ]
+
+-- ==== the determinant of a number
+
+abbrev dets : List Node → List Det
+dets nodes = map (λ (node : Node). node.det) nodes
+
+-- the node of a number has the determinant that is found by it; nodes stand here with the newest first
+pub node_of : (nodes : List Node) (d : Det) (m : ℕ) (x : Node) → number_of (dets nodes) d ≡ Some m → (get_or (reverse nodes) m x).det ≡ d
+node_of [] d m x at = absurd (let e : None ≡ Some m = at in cc)
+node_of (node ∷ older) d m x at =
+    elim (cases_Bool (same_det node.det d)) [
+      | inl same ↦
+          let is : Some (length (dets older)) ≡ Some m = sym (cond-true (same_det node.det d) (Some (length (dets older))) (number_of (dets older) d) same) ∙ at in
+          let last : length (dets older) ≡ m = cc is in
+          let here : m ≡ length (reverse older) = omega (arith, last, length-map older (λ (node : Node). node.det), length-reverse older) in
+          ap (λ (y : Node). y.det) (ap (λ i. get_or (reverse (node ∷ older)) i x) here ∙ ap (λ xs. get_or xs (length (reverse older)) x) (reverse-append (node ∷ []) older) ∙ get_or-append_seam (reverse older) node [] x)
+          ∙ same_is node.det d same
+      | inr other ↦
+          let old = sym (cond-false (same_det node.det d) (Some (length (dets older))) (number_of (dets older) d) other) ∙ at in
+          let inside : m < length (reverse older) = omega (arith, number_below (dets older) d m old, length-map older (λ (node : Node). node.det), length-reverse older) in
+          ap (λ (y : Node). y.det) (ap (λ xs. get_or xs m x) (reverse-append (node ∷ []) older) ∙ get_or-append (reverse older) (node ∷ []) x m inside)
+          ∙ node_of older d m x old
+    ]

@@ -1,0 +1,380 @@
+-- How long a delivery stays with its receiver, and what that means for its orphans.
+use Rattle.causal_audit.proofs.Common.{ℕ, ◌≡◌, ◌<◌, ◌≤◌, inl, inr, true, false, cond, List, [], ◌∷◌, length, Option, Some, None, refl, sym, ap, subst, ◌∙◌, arith, get_or, ◌+◌, Bool, ◌≢◌, ◌⊎◌, ◌==◌, ◌||◌, not, ◌&&◌, slice_set, option_map, option_map_or, cases_lt, false≢true, eqb-true, eq-eqb, or_from, cond-true, cond-false, ne_eqb, false_from_ne_true, or_right, Det, Entry, Send, Deliver, Stable, Crash, Restart, Forget, instant, is_down, logs, lane, det_at, det_of, det_from, message_at, entry_at, AreAccepted, actor, IsEventOf, Delivers, DirectlyPrecedes, in_order, by_message, Reaches, itself, onward, is_delivery_of, accepted_forward, event_below, event_lane, instant_length, det_then, eqb_tells, nat_tests, HasOrphan, length-set, get_or-set_other}
+use Rattle.causal_name.specs.declared.MsgName.{MsgName}
+use Rattle.causal_audit.specs.Laws.{gone}
+use Rattle.causal_audit.specs.Spread.{StaysAlone, CoveredHasNone, StaysUntil, CrashedHasNone}
+use Rattle.causal_trace.proofs.Lemmas.Happened.{event_once}
+use Rattle.causal_audit.proofs.Lemmas.Judged.{exposed}
+use Rattle.causal_audit.proofs.Legal.{delivery_event}
+use Rattle.causal_audit.proofs.Orphaned.{not_yet}
+use Rattle.causal_audit.proofs.by_clock.Reached.{reaches_whole, event_whole}
+use Rattle.causal_audit.specs.Inside.Index.Spreads.{acting, process_at, AreSpreads, with_delivered, spread_at}
+use Rattle.causal_audit.proofs.by_clock.Begun.{onward_to}
+use Rattle.causal_audit.proofs.look.Staying.{entry_then}
+use Rattle.causal_audit.specs.declared.look.thins.Thins.{Thins}
+use Rattle.causal_audit.specs.Inside.Index.Filed.{IsFirstCrash}
+use Rattle.causal_audit.specs.Inside.Look.Looks.{IsBareAt, IsThinAt, AreThins, MayBeOpen}
+use Rattle.std.proofs.lemmas.Grind.{get_or-set_at}
+use Rattle.causal_audit.proofs.by_clock.Link.{delivers_below}
+
+-- ==== how long a delivery stays with its receiver
+
+-- ---- what is reached is of the same lane, or a message of the lane was delivered before
+
+-- a delivery, at j or before, of a message that the lane sends at i or later
+abbrev Left : List Entry → ℕ → ℕ → ℕ → ℕ → Type 0
+Left past i p l v = (s : ℕ) × (j : ℕ) × (i ≤ s) × IsEventOf past s p l × Delivers past j s × (j ≤ v)
+
+-- what an event reaches is no earlier
+pub reach_later : (n : ℕ) (past : List Entry) → AreAccepted n past → (i j : ℕ) → Reaches past i j → i ≤ j
+reach_later n past formed i j (itself p l at) = omega arith
+reach_later n past formed i k (onward {j} r (in_order p l less a b)) = omega (arith, reach_later n past formed i j r, less)
+reach_later n past formed i k (onward {j} r (by_message h)) = omega (arith, reach_later n past formed i j r, accepted_forward n past formed k j h)
+
+precedes_less : (n : ℕ) (past : List Entry) → AreAccepted n past → (i j : ℕ) → DirectlyPrecedes past i j → i < j
+precedes_less n past formed i j (in_order p l less a b) = less
+precedes_less n past formed i j (by_message h) = accepted_forward n past formed j i h
+
+module _ (n : ℕ) (past : List Entry) (formed : AreAccepted n past) (i p l : ℕ) (of : IsEventOf past i p l) where
+  next_stays : (j v : ℕ) → i ≤ j → IsEventOf past j p l → DirectlyPrecedes past j v → IsEventOf past v p l ⊎ Left past i p l v
+  next_stays j v after here (in_order q m less a b) =
+      let one = event_once past j q m p l a here in
+      inl (subst (λ x. IsEventOf past v p x) one.1 (subst (λ x. IsEventOf past v x m) one.0 b))
+  next_stays j v after here (by_message h) = inr (j, v, after, here, h, omega arith)
+
+  pub stays_or_left : (v : ℕ) → Reaches past i v → IsEventOf past v p l ⊎ Left past i p l v
+  stays_or_left v (itself q m at) = inl of
+  stays_or_left v (onward {j} r direct) =
+      elim (stays_or_left j r) [
+        | inl here ↦ next_stays j v (reach_later n past formed i j r) here direct
+        | inr left ↦ inr (left.0, left.1, left.2, left.3, left.4, omega (arith, left.5, precedes_less n past formed j v direct))
+      ]
+
+-- ---- the receiver of a delivery is the process of its event
+
+receiver_named : (past : List Entry) (e : Entry) (d : Det) (p : ℕ) → det_of past e ≡ Some d → actor e ≡ Some p → p ≡ d.dest.0
+receiver_named past (Send from to ssn) d p h of = absurd (let k : None ≡ Some d = h in cc)
+receiver_named past (Deliver to send rsn listed) d p h of = named (message_at past send) h
+  where
+    named : (o : Option MsgName) → option_map (det_from to rsn) o ≡ Some d → p ≡ d.dest.0
+    named None h = absurd (let k : None ≡ Some d = h in cc)
+    named (Some m) h = let k : det_from to rsn m ≡ d = cc h in let q : to.0 ≡ p = cc of in sym q ∙ ap (λ x. x.dest.0) k
+receiver_named past (Stable det) d p h of = absurd (let k : None ≡ Some d = h in cc)
+receiver_named past (Crash who) d p h of = absurd (let k : None ≡ Some d = h in cc)
+receiver_named past (Restart who listed) d p h of = absurd (let k : None ≡ Some d = h in cc)
+receiver_named past (Forget who listed) d p h of = absurd (let k : None ≡ Some d = h in cc)
+
+receiver_is : (past : List Entry) (k : ℕ) (d : Det) (p l : ℕ) → det_at past k ≡ Some d → IsEventOf past k p l → p ≡ d.dest.0
+receiver_is [] k d p l h of = absurd of
+receiver_is (e ∷ past) k d p l h of =
+    elim (k == length past) as (λ b. (k == length past) ≡ b → cond b (det_of past e) (det_at past k) ≡ Some d → p ≡ d.dest.0) [
+      | true ↦ λ here at. newest (eqb-true k (length past) here) at of
+      | false ↦ λ there at. older (λ old. receiver_is past k d p l at old) there of
+    ] refl h
+  where
+    newest : k ≡ length past → det_of past e ≡ Some d → IsEventOf (e ∷ past) k p l → p ≡ d.dest.0
+    newest is at (inl old) = omega (arith, is, event_below past k p l old)
+    newest is at (inr new) = receiver_named past e d p at new.1
+
+    older : (IsEventOf past k p l → p ≡ d.dest.0) → (k == length past) ≡ false → IsEventOf (e ∷ past) k p l → p ≡ d.dest.0
+    older before apart (inl old) = before old
+    older before apart (inr new) = absurd (false≢true (sym apart ∙ eq-eqb k (length past) new.0))
+
+-- ---- while it stays, only the receiver depends
+
+pub alone : StaysAlone
+alone n past k d spread u q formed at stays low within depends =
+    let from = delivery_event past k d at in
+    let early : depends.event < u = omega (arith, event_below (instant past u) depends.event q (lane (instant past u) q) depends.present, instant_length past u within) in
+    let reach = reaches_whole past u k depends.event depends.reached in
+    let own : IsEventOf past depends.event from.0 from.1 = stays depends.event from.0 from.1 (omega (arith, early, low)) from.2 reach in
+    let here : IsEventOf past depends.event q (lane (instant past u) q) = event_whole past u depends.event q (lane (instant past u) q) depends.present in
+    (event_once past depends.event q (lane (instant past u) q) from.0 from.1 here own).0 ∙ receiver_is past k d from.0 from.1 at from.2
+
+-- ---- where a delivery is covered, it has no orphan
+
+pub covered : CoveredHasNone
+covered n f past k d spread u formed at stays within (inl ahead) has = not_yet n f (instant past u) k (omega (arith, ahead, instant_length past u within)) has
+covered n f past k d spread u formed at stays within (inr more) has =
+    elim (cases_lt k u) [
+      | inr ahead ↦ not_yet n f (instant past u) k (omega (arith, ahead, instant_length past u within)) has
+      | inl made ↦
+          let e = exposed n f (instant past u) k d (det_then past u k made within ∙ at) has in
+          elim more [
+            | inl many ↦ omega (arith, many, e.few)
+            | inr held ↦
+                let one : e.orphan ≡ d.dest.0 = alone n past k d spread u e.orphan formed at stays held.0 within e.depends in
+                let none : gone (instant past u) d e.orphan ≡ false = or_from (is_down (instant past u) e.orphan) (logs (instant past u) e.orphan d) e.depends.up e.without in
+                false≢true (sym none ∙ ap (gone (instant past u) d) one ∙ held.1)
+          ]
+    ]
+
+-- ==== the process of each entry, and how long a delivery stays with it
+
+acting_is : (e : Entry) (p : ℕ) → actor e ≡ Some p → acting e ≡ p
+acting_is (Send from to ssn) p is = cc
+acting_is (Deliver to send rsn listed) p is = cc
+acting_is (Stable det) p is = absurd (let k : None ≡ Some p = is in cc)
+acting_is (Crash who) p is = absurd (let k : None ≡ Some p = is in cc)
+acting_is (Restart who listed) p is = absurd (let k : None ≡ Some p = is in cc)
+acting_is (Forget who listed) p is = absurd (let k : None ≡ Some p = is in cc)
+
+-- an event is an entry of its process
+process_of_event : (past : List Entry) (i p l : ℕ) → IsEventOf past i p l → process_at past i ≡ p
+process_of_event [] i p l of = absurd of
+process_of_event (e ∷ past) i p l (inl old) =
+    ap (λ o. option_map_or acting o 0) (cond-false (i == length past) (Some e) (entry_at past i) (ne_eqb i (length past) (λ is. omega (arith, is, event_below past i p l old)))) ∙ process_of_event past i p l old
+process_of_event (e ∷ past) i p l (inr new) = ap (λ o. option_map_or acting o 0) (cond-true (i == length past) (Some e) (entry_at past i) (eq-eqb i (length past) new.0)) ∙ acting_is e p new.1
+
+pub process_is : (past : List Entry) (i : ℕ) (e : Entry) → entry_at past i ≡ Some e → process_at past i ≡ acting e
+process_is past i e at = ap (λ o. option_map_or acting o 0) at
+
+-- a delivery stays with its process
+pub stays_with : (n : ℕ) (past : List Entry) → AreAccepted n past → (stays : List ℕ) → AreSpreads past (process_at past) stays → (k : ℕ) → StaysUntil past k (get_or stays k 0)
+stays_with n past formed stays are k v p l before of reach =
+    elim (stays_or_left n past formed k p l of v reach) [
+      | inl same ↦ same
+      | inr left ↦
+          let lanes : process_at past left.0 ≡ process_at past k = process_of_event past left.0 p l left.3 ∙ sym (process_of_event past k p l of) in
+          let low : get_or stays k 0 ≤ left.1 = are.each k left.0 left.1 (event_below past k p l of) left.2 lanes left.4 in
+          let none : ⊥ = omega (arith, before, left.5, low) in
+          absurd none
+    ]
+
+-- ==== a delivery that has not left its receiver, and whose receiver has crashed since
+
+-- a process that went down in a lane no earlier than l is still down, or up in a later lane
+abbrev Fell : ℕ → ℕ → List Entry → Type 0
+Fell p l past = ((is_down past p ≡ true) × (l ≤ lane past p)) ⊎ (l < lane past p)
+
+fell_more : (e : Entry) (past : List Entry) (p l : ℕ) → Fell p l past → Fell p l (e ∷ past)
+fell_more (Send from to ssn) past p l h = h
+fell_more (Deliver to send rsn listed) past p l h = h
+fell_more (Stable det) past p l h = h
+fell_more (Crash who) past p l (inl h) = inl (or_right (who.0 == p) (is_down past p) h.0, h.1)
+fell_more (Crash who) past p l (inr h) = inr h
+fell_more (Restart who listed) past p l h =
+    elim (eqb_tells who.0 p) [
+      | inl here ↦ inr (let up : lane (Restart who listed ∷ past) p ≡ lane past p + 1 = ap (λ b. cond b (lane past p + 1) (lane past p)) here.0 in omega (arith, up, low h))
+      | inr apart ↦ elim h [
+        | inl down ↦ inl (ap (λ b. not b && is_down past p) apart.0 ∙ down.0, subst (λ x. l ≤ x) (sym (ap (λ b. cond b (lane past p + 1) (lane past p)) apart.0)) down.1)
+        | inr late ↦ inr (subst (λ x. l < x) (sym (ap (λ b. cond b (lane past p + 1) (lane past p)) apart.0)) late)
+      ]
+    ]
+  where
+    low : Fell p l past → l ≤ lane past p
+    low (inl down) = down.1
+    low (inr late) = omega (arith, late)
+fell_more (Forget who listed) past p l h = h
+
+pub crashed : CrashedHasNone
+crashed n past k d spread c u q formed at stays crash after before low within depends =
+    let then = instant past (c + 1) in
+    let from = delivery_event then k d (det_then past (c + 1) k (omega (arith, after)) (omega (arith, before, within)) ∙ at) in
+    let early : depends.event < u = omega (arith, event_below (instant past u) depends.event q (lane (instant past u) q) depends.present, instant_length past u within) in
+    let own : IsEventOf past depends.event from.0 from.1 =
+    stays depends.event from.0 from.1 (omega (arith, early, low)) (event_whole past (c + 1) k from.0 from.1 from.2) (reaches_whole past u k depends.event depends.reached) in
+    let here : IsEventOf past depends.event q (lane (instant past u) q) = event_whole past u depends.event q (lane (instant past u) q) depends.present in
+    let same = event_once past depends.event q (lane (instant past u) q) from.0 from.1 here own in
+    let who : crash.0.0 ≡ q = crash.2 ∙ sym (alone n past k d spread u q formed at stays low within depends) in
+    let down : is_down then q ≡ true =
+    ap (λ x. is_down x q) (entry_then past c (Crash crash.0) (omega (arith, before, within)) crash.1) ∙ ap (λ b. b || is_down (instant past c) q) (eq-eqb crash.0.0 q who) in
+    let lane_low : from.1 ≤ lane then q = subst (λ x. from.1 ≤ lane then x) (sym same.0) (event_lane then k from.0 from.1 from.2) in
+    let fell : Fell q from.1 (instant past u) =
+    onward_to (Fell q from.1) past (c + 1) u (omega (arith, before)) within (λ v e above below there h. fell_more e (instant past v) q from.1 h) (inl (down, lane_low)) in
+    elim fell [
+      | inl still ↦ false≢true (sym depends.up ∙ still.0)
+      | inr late ↦ omega (arith, late, same.1)
+    ]
+
+-- ==== where a delivery has an orphan its determinant is thin
+
+module _ (n most : ℕ) (past : List Entry) (formed : AreAccepted n past) (k : ℕ) (d : Det) (at : det_at past k ≡ Some d) (spread : ℕ) (stays : StaysUntil past k spread) (u : ℕ) (within : u ≤ length past) (has : HasOrphan n most (instant past u) k) where
+  -- the delivery is made
+  pub orphan_made : k < u
+  orphan_made =
+      elim (cases_lt k u) [
+        | inl made ↦ made
+        | inr coming ↦ absurd (not_yet n most (instant past u) k (omega (arith, coming, instant_length past u within)) has)
+      ]
+
+  pub orphan_thin : IsThinAt n most past d u
+  orphan_thin =
+      let e = exposed n most (instant past u) k d (det_then past u k orphan_made within ∙ at) has in
+      record { unstable = e.unstable; few = e.few }
+
+  -- and bare, while it stays with its receiver
+  pub orphan_bare : u ≤ spread → IsBareAt n most past d u
+  orphan_bare low = record {
+    thin = orphan_thin;
+    receiver = false_from_ne_true (gone (instant past u) d d.dest.0) (λ here. covered n most past k d spread u formed at stays within (inr (inr (low, here))) has);
+  }
+
+  -- which has not crashed since
+  pub orphan_alive : u ≤ spread → (end c : ℕ) → u ≤ end → IsFirstCrash past d.dest.0 k end c → u ≤ c
+  orphan_alive low end c bound first =
+      elim (cases_lt c u) [
+        | inl after ↦ absurd (crashed n past k d spread c u has.orphan formed at stays (first.found (omega (arith, after, bound))) first.after after low within has.is_orphan.depends)
+        | inr before ↦ before
+      ]
+
+  -- so it may be uncovered by what was found of its determinant
+  pub orphan_open : (end c : ℕ) (thins : Thins) → u ≤ end → IsFirstCrash past d.dest.0 k end c → thins.from ≤ k → AreThins n most past d (end + 1) thins → MayBeOpen thins k spread c u
+  orphan_open end c thins bound first from found =
+      let after : thins.from < u = omega (arith, from, orphan_made) in
+      let before : u < end + 1 = omega (arith, bound) in
+      record {
+        made = orphan_made;
+        thin = found.last u after before orphan_thin;
+        left = elim (cases_lt spread u) [
+          | inl out ↦ inl out
+          | inr inside ↦ inr (orphan_alive inside end c bound first, found.bare u after before (orphan_bare inside))
+        ];
+      }
+
+-- ==== the first position after each entry at which a message of its process is delivered, from the last entry to the first
+
+-- ---- the entry that delivers
+
+newest_delivers : (x e : Entry) (past : List Entry) (j s : ℕ) → j ≡ length past → x ≡ e → Delivers (x ∷ past) j s → is_delivery_of s e ≡ true
+newest_delivers x e past j s here same (inl old) = absurd (omega (arith, here, delivers_below past j s old))
+newest_delivers x e past j s here same (inr new) = ap (is_delivery_of s) (sym same) ∙ new.1
+
+older_delivers : (x : Entry) (past : List Entry) (j s : ℕ) → j ≢ length past → Delivers (x ∷ past) j s → Delivers past j s
+older_delivers x past j s there (inl old) = old
+older_delivers x past j s there (inr new) = absurd (there new.0)
+
+pub delivers_entry : (past : List Entry) (j s : ℕ) (e : Entry) → entry_at past j ≡ Some e → Delivers past j s → is_delivery_of s e ≡ true
+delivers_entry [] j s e at delivers = absurd delivers
+delivers_entry (x ∷ past) j s e at delivers =
+    elim (eqb_tells j (length past)) [
+      | inl here ↦
+          let is : Some x ≡ Some e = sym (cond-true (j == length past) (Some x) (entry_at past j) here.0) ∙ at in
+          let same : x ≡ e = cc is in
+          newest_delivers x e past j s here.1 same delivers
+      | inr there ↦ delivers_entry past j s e (sym (cond-false (j == length past) (Some x) (entry_at past j) there.0) ∙ at) (older_delivers x past j s there.1 delivers)
+    ]
+
+-- ---- what an entry notes at its send
+
+-- what stands at a place then is the position, or what stood there
+noted_cases : (e : Entry) (i : ℕ) (list : List ℕ) (s : ℕ) → s < length list → (get_or (with_delivered e i list) s 0 ≡ i) ⊎ (get_or (with_delivered e i list) s 0 ≡ get_or list s 0)
+noted_cases (Send from to ssn) i list s there = inr refl
+noted_cases (Deliver to send rsn listed) i list s there =
+    elim (eqb_tells s send) [
+      | inl here ↦ inl (get_or-set_at list send s i 0 here.1 (omega (arith, here.1, there)))
+      | inr apart ↦ inr (get_or-set_other list send s i 0 apart.1)
+    ]
+noted_cases (Stable det) i list s there = inr refl
+noted_cases (Crash who) i list s there = inr refl
+noted_cases (Restart who listed) i list s there = inr refl
+noted_cases (Forget who listed) i list s there = inr refl
+
+noted_here : (e : Entry) (i : ℕ) (list : List ℕ) (s : ℕ) → is_delivery_of s e ≡ true → s < length list → get_or (with_delivered e i list) s 0 ≡ i
+noted_here (Send from to ssn) i list s is there = absurd (false≢true is)
+noted_here (Deliver to send rsn listed) i list s is there = get_or-set_at list send s i 0 (sym (eqb-true send s is)) (omega (arith, eqb-true send s is, there))
+noted_here (Stable det) i list s is there = absurd (false≢true is)
+noted_here (Crash who) i list s is there = absurd (false≢true is)
+noted_here (Restart who listed) i list s is there = absurd (false≢true is)
+noted_here (Forget who listed) i list s is there = absurd (false≢true is)
+
+pub noted_length : (e : Entry) (i : ℕ) (list : List ℕ) → length (with_delivered e i list) ≡ length list
+noted_length (Send from to ssn) i list = refl
+noted_length (Deliver to send rsn listed) i list = length-set list send i
+noted_length (Stable det) i list = refl
+noted_length (Crash who) i list = refl
+noted_length (Restart who listed) i list = refl
+noted_length (Forget who listed) i list = refl
+
+-- ---- from the last entry to the first
+
+-- what is known when the entries from position i on have been noted
+pub record AreSpreadsFrom (past : List Entry) (whose : ℕ → ℕ) (i : ℕ) (spreads lanes : List ℕ) : Type 0 where
+  pub count : length spreads ≡ length past
+  pub firsts : (s j : ℕ) → s < i → i ≤ j → Delivers past j s → get_or spreads s 0 ≤ j
+  pub outs : (s j : ℕ) → i ≤ s → Delivers past j s → get_or lanes (whose s) 0 ≤ j
+  pub each : (k s j : ℕ) → i ≤ k → k < length past → k ≤ s → whose s ≡ whose k → Delivers past j s → get_or spreads k 0 ≤ j
+
+module _ (n : ℕ) (past : List Entry) (formed : AreAccepted n past) (whose : ℕ → ℕ) where
+  after : (j s : ℕ) → Delivers past j s → s < j
+  after j s = accepted_forward n past formed j s
+
+  pub spreads_begun : (i : ℕ) (spreads outs : List ℕ) → i ≡ length past → length spreads ≡ length past → AreSpreadsFrom past whose i spreads outs
+  spreads_begun i spreads outs end count = record {
+    count = count;
+    firsts = λ s j low high delivers. absurd (omega (arith, end, high, delivers_below past j s delivers));
+    outs = λ s j high delivers. absurd (omega (arith, end, high, after j s delivers, delivers_below past j s delivers));
+    each = λ k s j high low. absurd (omega (arith, end, high, low));
+  }
+
+  module _ (i lane : ℕ) (e : Entry) (spreads outs : List ℕ) (at : entry_at past i ≡ Some e) (below : i < length past) (of : whose i ≡ lane) (there : lane < length outs) (before : AreSpreadsFrom past whose (i + 1) spreads outs) where
+    abbrev noted : List ℕ
+    noted = with_delivered e i spreads
+
+    abbrev first : ℕ
+    first = spread_at e i lane spreads outs
+
+    long : length noted ≡ length past
+    long = noted_length e i spreads ∙ before.count
+
+    -- what is noted is no later than a delivery from i on, where what was noted before is no later
+    noted_low : (s j : ℕ) → s < length past → i ≤ j → get_or spreads s 0 ≤ j → get_or noted s 0 ≤ j
+    noted_low s j inside up low =
+        elim (noted_cases e i spreads s (omega (arith, inside, before.count))) [
+          | inl here ↦ omega (arith, here, up)
+          | inr same ↦ omega (arith, same, low)
+        ]
+
+    first_own : first ≤ get_or noted i 0
+    first_own = omega arith
+
+    first_lane : first ≤ get_or outs lane 0
+    first_lane = omega arith
+
+    noted_first : (s j : ℕ) → s < i → i ≤ j → Delivers past j s → get_or noted s 0 ≤ j
+    noted_first s j low up delivers =
+        elim (eqb_tells j i) [
+          | inl now ↦
+              let here : is_delivery_of s e ≡ true = delivers_entry past i s e at (subst (λ x. Delivers past x s) now.1 delivers) in
+              omega (arith, noted_here e i spreads s here (omega (arith, low, below, before.count)), up)
+          | inr later ↦ noted_low s j (omega (arith, low, below)) up (before.firsts s j (omega (arith, low)) (omega (arith, up, later.1)) delivers)
+        ]
+
+    outs_next : (s j : ℕ) → i ≤ s → Delivers past j s → get_or (slice_set outs lane first) (whose s) 0 ≤ j
+    outs_next s j up delivers =
+        elim (eqb_tells (whose s) lane) [
+          | inl same ↦
+              let here : get_or (slice_set outs lane first) (whose s) 0 ≡ first = get_or-set_at outs lane (whose s) first 0 same.1 there in
+              elim (eqb_tells s i) [
+                | inl own ↦
+                    let late : i < j = omega (arith, own.1, after j s delivers) in
+                    let low : get_or noted i 0 ≤ j = noted_low i j below (omega (arith, late)) (before.firsts i j (omega arith) (omega (arith, late)) (subst (Delivers past j) own.1 delivers)) in
+                    omega (arith, here, first_own, low)
+                | inr other ↦
+                    let low : get_or outs lane 0 ≤ j = subst (λ m. get_or outs m 0 ≤ j) same.1 (before.outs s j (omega (arith, up, other.1)) delivers) in
+                    omega (arith, here, first_lane, low)
+              ]
+          | inr apart ↦
+              let other : s ≢ i = λ is. apart.1 (ap whose is ∙ of) in
+              omega (arith, get_or-set_other outs lane (whose s) first 0 apart.1, before.outs s j (omega (arith, up, other)) delivers)
+        ]
+
+    pub spreads_next : AreSpreadsFrom past whose i (slice_set noted i first) (slice_set outs lane first)
+    spreads_next = record {
+      count = length-set noted i first ∙ long;
+      firsts = λ s j low up delivers.
+          let apart : s ≢ i = λ is. omega (arith, is, low) in
+          omega (arith, get_or-set_other noted i s first 0 apart, noted_first s j low up delivers);
+      outs = outs_next;
+      each = λ k s j up inside onward lanes delivers.
+          elim (eqb_tells k i) [
+            | inl own ↦
+                let same : whose s ≡ lane = lanes ∙ ap whose own.1 ∙ of in
+                let here : get_or (slice_set outs lane first) (whose s) 0 ≡ first = get_or-set_at outs lane (whose s) first 0 same there in
+                let is : get_or (slice_set noted i first) k 0 ≡ first = get_or-set_at noted i k first 0 own.1 (omega (arith, below, long)) in
+                omega (arith, is, here, outs_next s j (omega (arith, own.1, onward)) delivers)
+            | inr other ↦
+                let low : get_or noted k 0 ≤ j = noted_low k j inside (omega (arith, up, onward, after j s delivers)) (before.each k s j (omega (arith, up, other.1)) inside onward lanes delivers) in
+                omega (arith, get_or-set_other noted i k first 0 other.1, low)
+          ];
+    }

@@ -1,0 +1,97 @@
+-- The crashes and restarts, and who is down after each.
+use Rattle.causal_audit.proofs.Common.{ℕ, ◌≡◌, ◌+◌, ◌<◌, ◌≤◌, inl, inr, true, false, List, [], length, get_or, Some, None, refl, sym, ap, subst, ◌∙◌, arith, nat_cmp, FinSet, empty, IsPartitionPoint, cases_lt, false≢true, false_from_ne_true, get_or_default, Entry, Send, Deliver, Stable, Crash, Restart, Forget, instant, entry_at, is_down}
+use Rattle.causal_audit.specs.declared.index.turns.Turns.{Turns}
+use Rattle.causal_audit.specs.declared.index.turns.Passing.{Passing}
+use Rattle.causal_audit.specs.Inside.Index.Filed.{AreTurns}
+use Rattle.causal_audit.specs.Quiet.{is_turn}
+use Rattle.causal_audit.specs.Inside.Index.Kept.{AreTurnsKept}
+use Rattle.causal_audit.specs.Inside.Index.Passing.{HasPassed}
+use Rattle.causal_audit.specs.Inside.Sights.{Shows}
+use Rattle.causal_audit.specs.Inside.Look.Staying.{restarts_one, RestartsNone}
+use Rattle.causal_audit.proofs.by_clock.Begun.{down_stays}
+use Rattle.causal_audit.proofs.Steps.{nobody_down}
+
+pub turns_none : AreTurns [] [] []
+turns_none = record {
+  ascends = record { ascending = λ i j d low high. absurd (omega (arith, high)); below = λ i d low. absurd (omega (arith, low)) };
+  turned = λ v e at. absurd (let x : None ≡ Some e = at in cc);
+  counted = refl;
+  shown = λ i s low. absurd (omega (arith, low));
+}
+
+-- ---- who is down at an instant
+
+module _ (past : List Entry) (list : List ℕ) (downs : List (FinSet nat_cmp)) (are : AreTurns past list downs) (t passed : ℕ) (within : t ≤ length past) (inside : passed ≤ length list)
+    (point : IsPartitionPoint (λ v. v < t) (λ v. t ≤ v) list passed) where
+  no_turn : (s : ℕ) → ((i : ℕ) → i < passed → get_or list i 0 < s) → (v : ℕ) (e : Entry) → s ≤ v → v < t → entry_at past v ≡ Some e → is_turn e ≡ false
+  no_turn s old v e late early at =
+      are.turned v e at (λ listed.
+      let value : get_or list listed.0 0 ≡ v = get_or_default list listed.0 0 v listed.1 ∙ listed.2 in
+      elim (cases_lt listed.0 passed) [
+        | inl behind ↦ let low : get_or list listed.0 0 < s = old listed.0 behind in omega (arith, low, value, late)
+        | inr ahead ↦ let high : t ≤ get_or list listed.0 v = point.1 listed.0 v ahead listed.1 in omega (arith, high, listed.2, early)
+      ])
+
+  pub none_turned : passed ≡ 0 → Shows empty (λ p. is_down (instant past t) p)
+  none_turned is p =
+      nobody_down past p ∙ down_stays past 0 t (omega arith) within (no_turn 0 (λ i low. absurd (omega (arith, low, is)))) p
+
+  pub last_turned : (j : ℕ) → passed ≡ j + 1 → (s : FinSet nat_cmp) → s ≡ get_or downs j s → Shows s (λ p. is_down (instant past t) p)
+  last_turned j is s value p =
+      let there : j < length list = omega (arith, is, inside) in
+      let last : get_or list j 0 < t = point.0 j 0 (omega arith) (omega (arith, is)) in
+      let before : (i : ℕ) → i < passed → get_or list i 0 < get_or list j 0 + 1 = λ i low.
+      let up : get_or list i 0 ≤ get_or list j 0 = are.ascends.ascending i j 0 (omega (arith, low, is)) there in omega (arith, up)
+      in
+      subst (λ x. Shows x (λ q. is_down (instant past (get_or list j 0 + 1)) q)) (sym value) (are.shown j s there) p
+      ∙ down_stays past (get_or list j 0 + 1) t (omega (arith, last)) within (no_turn (get_or list j 0 + 1) before) p
+
+-- ---- a walk that stops where one of these processes restarts
+
+restarts_turn : (members : FinSet nat_cmp) (e : Entry) → restarts_one members e ≡ true → is_turn e ≡ true
+restarts_turn members (Send from to ssn) h = absurd (false≢true h)
+restarts_turn members (Deliver to send rsn listed) h = absurd (false≢true h)
+restarts_turn members (Stable det) h = absurd (false≢true h)
+restarts_turn members (Crash who) h = absurd (false≢true h)
+restarts_turn members (Restart who listed) h = refl
+restarts_turn members (Forget who listed) h = absurd (false≢true h)
+
+-- none of those that were passed, from `from` on, restarts one of these
+abbrev pub PassNone : List Entry → List ℕ → FinSet nat_cmp → ℕ → ℕ → Type 0
+PassNone past list members from passed =
+    (i : ℕ) (e : Entry) → i < passed → from ≤ get_or list i 0 → entry_at past (get_or list i 0) ≡ Some e → restarts_one members e ≡ false
+
+module _ (past : List Entry) (list : List ℕ) (downs : List (FinSet nat_cmp)) (are : AreTurns past list downs) (members : FinSet nat_cmp) (from passed : ℕ) (none : PassNone past list members from passed) where
+  pub none_restarts : (u : ℕ) → ((i v : ℕ) → passed ≤ i → i < length list → u ≤ get_or list i v) → RestartsNone past members from u
+  none_restarts u rest v e late early at =
+      false_from_ne_true (restarts_one members e) (λ is.
+      false≢true (sym (are.turned v e at (λ listed.
+      let value : get_or list listed.0 0 ≡ v = get_or_default list listed.0 0 v listed.1 ∙ listed.2 in
+      elim (cases_lt listed.0 passed) [
+        | inl behind ↦ false≢true (sym (none listed.0 e behind (omega (arith, value, late)) (ap (entry_at past) value ∙ at)) ∙ is)
+        | inr ahead ↦ let high : u ≤ get_or list listed.0 v = rest listed.0 v ahead listed.1 in omega (arith, high, listed.2, early)
+      ])) ∙ restarts_turn members e is))
+
+  module _ (x : ℕ) (there : passed < length list) (is : x ≡ get_or list passed x) where
+    pub left_above : (i v : ℕ) → passed ≤ i → i < length list → x ≤ get_or list i v
+    left_above i v ahead inside =
+        let up : get_or list passed v ≤ get_or list i v = are.ascends.ascending passed i v ahead inside in
+        omega (arith, up, is, get_or_default list passed x v there)
+
+    pub passed_one_more : (e : Entry) → entry_at past x ≡ Some e → restarts_one members e ≡ false → PassNone past list members from (passed + 1)
+    passed_one_more e at not_one i y low late here =
+        elim (cases_lt i passed) [
+          | inl before ↦ none i y before late here
+          | inr last ↦
+              let same : i ≡ passed = omega (arith, low, last) in
+              let value : get_or list i 0 ≡ x = ap (λ j. get_or list j 0) same ∙ get_or_default list passed 0 x there ∙ sym is in
+              let one : Some y ≡ Some e = sym here ∙ ap (entry_at past) value ∙ at in
+              let entry : y ≡ e = cc one in
+              ap (restarts_one members) entry ∙ not_one
+        ]
+
+-- ---- where a walk stands
+
+-- who is down is told of the turns that it walks over
+pub passed_down : (past : List Entry) (turns : Turns) (t : ℕ) (walk : Passing) → AreTurnsKept past turns → HasPassed turns t walk → AreTurnsKept past walk.turns.now × HasPassed walk.turns.now t walk
+passed_down past turns t walk are has = (subst (AreTurnsKept past) (sym has.over) are, subst (λ x. HasPassed x t walk) (sym has.over) has)

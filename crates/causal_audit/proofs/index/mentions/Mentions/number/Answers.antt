@@ -1,0 +1,24 @@
+use Rattle.causal_audit.proofs.Common.{ℕ, ◌≡◌, ◌∷◌, ◌++◌, [], Vec, Global, List, None, sym, ap, subst, ◌∙◌, arith, All, length-map, map-append}
+use Rattle.causal_audit.specs.Inside.Index.Filed.{Ascends, lists_in, mentions_of, number_of}
+use Rattle.causal_audit.proofs.index.Filings.{new_same, new_ascend}
+use Rattle.causal_audit.proofs.index.mentions.Mentions.number.Goals as goal
+
+-- the lists after a push of an empty one
+pushed : (old reserved new : List (Vec ℕ Global)) (fresh : Vec ℕ Global) → fresh.items ≡ [] → reserved ≡ old → new ≡ reserved ++ fresh ∷ [] → lists_in new ≡ lists_in old ++ [] ∷ []
+pushed old reserved new fresh empty same items =
+    ap lists_in (items ∙ ap (λ lists. lists ++ fresh ∷ []) same) ∙ map-append (λ list. list.items) old (fresh ∷ []) ∙ ap (λ list. lists_in old ++ list ∷ []) empty
+
+pub returns-clause-ascend : goal.returns-clause-ascend
+returns-clause-ascend c bound all =
+    let more = pushed c.args.self.now.lists.items c.reserve.new.self.items c.push_reserved.new.self.items c.new.result c.new.ensures.items c.in_ok-reserve.ensures.items c.push_reserved.ensures.items in
+    subst (All (Ascends bound)) (sym more) (new_ascend bound (lists_in c.args.self.now.lists.items) all)
+
+pub returns-clause-same : goal.returns-clause-same
+returns-clause-same c d =
+    let old = c.args.self.now in
+    let lists = lists_in old.lists.items in
+    let more = pushed old.lists.items c.reserve.new.self.items c.push_reserved.new.self.items c.new.result c.new.ensures.items c.in_ok-reserve.ensures.items c.push_reserved.ensures.items in
+    let none : number_of old.numbers c.args.det ≡ None = sym c.in_default.ensures in
+    ap (λ ls. mentions_of c.add.new.self ls d) more
+    ∙ ap (λ numbers. mentions_of numbers (lists ++ [] ∷ []) d) c.in_ok-add.ensures.ok
+    ∙ new_same old.numbers lists c.args.det none (omega (arith, old.numbered, length-map old.lists.items (λ list. list.items))) d

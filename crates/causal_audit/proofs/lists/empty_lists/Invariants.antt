@@ -1,6 +1,0 @@
-use Rattle.std.proofs.Common.{◌≡◌, [], vec_len}
-use Rattle.std.specs.List.{All}
-use Rattle.causal_audit.proofs.lists.empty_lists.Given as goal
-
-abbrev pub invariant-loop : goal.invariant-loop
-invariant-loop l = record { count : vec_len l.lists ≡ l.counter; empty : All (λ list. list.items ≡ []) l.lists.items }

@@ -1,0 +1,4 @@
+pub mod Looked
+pub mod Staying
+pub mod Thinned
+pub mod Uncovered

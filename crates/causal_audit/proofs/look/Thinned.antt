@@ -1,0 +1,129 @@
+-- What a look finds, stretch by stretch, and what it tells of a delivery.
+use Rattle.causal_audit.proofs.Common.{ℕ, ◌≡◌, ◌-◌, ◌<◌, ◌≤◌, inl, inr, List, [], ◌∷◌, ◌++◌, length, get_or, sym, subst, arith, ◌⊎◌, min, All, IsPartitionPoint, cases_lt, get_or_default, All-push, All-weaker, Contains-append_left, Contains-push, IsNonDecreasingBy-push, Det, Entry}
+use Rattle.causal_audit.specs.declared.look.Look.{Look}
+use Rattle.causal_audit.specs.declared.look.thin.Stretch.{Stretch}
+use Rattle.causal_audit.specs.declared.look.thins.Thins.{Thins}
+use Rattle.causal_audit.specs.Inside.Look.Looks.{IsPassed, IsBareAt, IsThinAt, AreFound, AreRising, AreThins, IsInOne}
+
+-- where nothing is looked at nothing is found
+pub none_rising : AreRising []
+none_rising = record { firsts = λ i j d low high. absurd (omega (arith, high)); lasts = λ i j d low high. absurd (omega (arith, high)) }
+
+pub none_thin : (n most : ℕ) (past : List Entry) (d : Det) (from : ℕ) (thins : Thins) → thins.from ≡ from → thins.bare.items ≡ [] → thins.last ≡ 0 → AreThins n most past d from thins
+none_thin n most past d from thins is none zero = record {
+  bound = omega (arith, zero);
+  last = λ u after before _. absurd (omega (arith, after, before, is));
+  bare = λ u after before _. absurd (omega (arith, after, before, is));
+  rising = subst AreRising (sym none) none_rising;
+  firsts_below = subst (All (λ (s : Stretch). s.first < from)) (sym none) (λ k d inside. absurd (omega (arith, inside)));
+  lasts_below = subst (All (λ (s : Stretch). s.last < from)) (sym none) (λ k d inside. absurd (omega (arith, inside)));
+}
+
+-- ---- one stretch more
+
+module _ (look : Look) (t next : ℕ) (s : Stretch) (passed : IsPassed look t next s) (old new : Thins) (same : new.from ≡ old.from) (found : AreFound look t old) where
+  abbrev n : ℕ
+  n = look.run.trace.now.recording.processes
+
+  abbrev past : List Entry
+  past = look.run.trace.now.recording.past
+
+  -- an instant before `next` is before t, or of the stretch, or thin no more
+  abbrev Placed : ℕ → Type 0
+  Placed u = (u < t) ⊎ (((t ≤ u) × (u ≤ s.last)) ⊎ (IsThinAt n look.most past look.det u → ⊥))
+
+  placed : (u : ℕ) → u < next → Placed u
+  placed u below =
+      elim (cases_lt u t) [
+        | inl before ↦ inl before
+        | inr here ↦ elim (cases_lt s.last u) [
+          | inl after ↦ inr (inr (passed.after u after below))
+          | inr inside ↦ inr (inl (here, inside))
+        ]
+      ]
+
+  below_next : (xs : List Stretch) (at : Stretch → ℕ) → All (λ x. at x < t) xs → All (λ x. at x < next) xs
+  below_next xs at all = All-weaker (λ x. at x < t) (λ x. at x < next) (λ x low. omega (arith, low, passed.order, passed.last)) xs all
+
+  -- with no stretch more, where it is not thin in this one, or the first mention comes after it
+  pub none_more : new.bare.items ≡ old.bare.items → old.last ≤ new.last → new.last ≤ next → ((u : ℕ) → old.from < u → t ≤ u → u ≤ s.last → IsThinAt n look.most past look.det u → u ≤ new.last)
+      → ((u : ℕ) → old.from < u → t ≤ u → u ≤ s.last → IsBareAt n look.most past look.det u → ⊥) → AreFound look next new
+  none_more items up bound thin bare = record {
+    bound = bound;
+    last = λ u after below is. elim (placed u below) [
+      | inl before ↦ omega (arith, up, found.last u (omega (arith, after, same)) before is)
+      | inr more ↦ elim more [
+        | inl inside ↦ thin u (omega (arith, after, same)) inside.0 inside.1 is
+        | inr none ↦ absurd (none is)
+      ]
+    ];
+    bare = λ u after below is. subst (λ xs. IsInOne xs u) (sym items) (elim (placed u below) [
+      | inl before ↦ found.bare u (omega (arith, after, same)) before is
+      | inr more ↦ elim more [
+        | inl inside ↦ absurd (bare u (omega (arith, after, same)) inside.0 inside.1 is)
+        | inr none ↦ absurd (none is.thin)
+      ]
+    ]);
+    rising = subst AreRising (sym items) found.rising;
+    firsts_below = subst (All (λ (x : Stretch). x.first < next)) (sym items) (below_next old.bare.items (λ (x : Stretch). x.first) found.firsts_below);
+    lasts_below = subst (All (λ (x : Stretch). x.last < next)) (sym items) (below_next old.bare.items (λ (x : Stretch). x.last) found.lasts_below);
+  }
+
+  -- the last element of a list of which all are below t
+  last_low : (xs : List Stretch) (at : Stretch → ℕ) (y : ℕ) → t ≤ y → All (λ x. at x < t) xs → (d : Stretch) → 0 < length xs → at (get_or xs (length xs - 1) d) ≤ y
+  last_low xs at y up all d some = let low : at (get_or xs (length xs - 1) d) < t = all (length xs - 1) d (omega (arith, some)) in omega (arith, low, up)
+
+  rising_more : AreRising (old.bare.items ++ s ∷ [])
+  rising_more = record {
+    firsts = IsNonDecreasingBy-push (λ (x : Stretch). x.first) old.bare.items s found.rising.firsts (last_low old.bare.items (λ (x : Stretch). x.first) s.first (omega (arith, passed.first)) found.firsts_below);
+    lasts = IsNonDecreasingBy-push (λ (x : Stretch). x.last) old.bare.items s found.rising.lasts (last_low old.bare.items (λ (x : Stretch). x.last) s.last passed.order found.lasts_below);
+  }
+
+  in_old : (u : ℕ) → IsInOne old.bare.items u → IsInOne (old.bare.items ++ s ∷ []) u
+  in_old u one = (one.0, Contains-append_left old.bare.items (s ∷ []) one.0 one.1, one.2, one.3)
+
+  -- with this stretch more
+  pub one_more : new.bare.items ≡ old.bare.items ++ s ∷ [] → new.last ≡ s.last → AreFound look next new
+  one_more items last = record {
+    bound = omega (arith, last, passed.last);
+    last = λ u after below is. elim (placed u below) [
+      | inl before ↦ omega (arith, found.bound, passed.order, last, found.last u (omega (arith, after, same)) before is)
+      | inr more ↦ elim more [
+        | inl inside ↦ omega (arith, last, inside.1)
+        | inr none ↦ absurd (none is)
+      ]
+    ];
+    bare = λ u after below is. subst (λ xs. IsInOne xs u) (sym items) (elim (placed u below) [
+      | inl before ↦ in_old u (found.bare u (omega (arith, after, same)) before is)
+      | inr more ↦ elim more [
+        | inl inside ↦ (s, Contains-push old.bare.items s, omega (arith, passed.first, inside.0), inside.1)
+        | inr none ↦ absurd (none is.thin)
+      ]
+    ]);
+    rising = subst AreRising (sym items) rising_more;
+    firsts_below = subst (All (λ (x : Stretch). x.first < next)) (sym items) (All-push (λ (x : Stretch). x.first < next) old.bare.items s (below_next old.bare.items (λ (x : Stretch). x.first) found.firsts_below) (omega (arith, passed.first, passed.order, passed.last)));
+    lasts_below = subst (All (λ (x : Stretch). x.last < next)) (sym items) (All-push (λ (x : Stretch). x.last < next) old.bare.items s (below_next old.bare.items (λ (x : Stretch). x.last) found.lasts_below) passed.last);
+  }
+
+-- ---- the last instant up to a bound
+
+module _ (xs : List Stretch) (bound passed : ℕ) (point : IsPartitionPoint (λ (s : Stretch). s.first ≤ bound) (λ (s : Stretch). bound < s.first) xs passed) where
+  pub none_before : passed ≡ 0 → (u : ℕ) → u ≤ bound → IsInOne xs u → ⊥
+  none_before none u low one =
+      let ahead : bound < (get_or xs one.1.0 one.0).first = point.1 one.1.0 one.0 (omega (arith, none)) one.1.1 in
+      let at : (get_or xs one.1.0 one.0).first ≡ one.0.first = cc (one.1.2) in
+      omega (arith, ahead, at, one.2, low)
+
+  pub last_before : AreRising xs → 0 < passed → passed ≤ length xs → (x : Stretch) → x ≡ get_or xs (passed - 1) x → (u : ℕ) → u ≤ bound → IsInOne xs u → u ≤ min x.last bound
+  last_before rising some inside x is u low one =
+      elim (cases_lt one.1.0 passed) [
+        | inl before ↦
+            let up : (get_or xs one.1.0 one.0).last ≤ (get_or xs (passed - 1) one.0).last = rising.lasts one.1.0 (passed - 1) one.0 (omega (arith, before)) (omega (arith, some, inside)) in
+            let at : (get_or xs one.1.0 one.0).last ≡ one.0.last = cc (one.1.2) in
+            let here : (get_or xs (passed - 1) one.0).last ≡ x.last = cc (is, get_or_default xs (passed - 1) one.0 x (omega (arith, some, inside))) in
+            omega (arith, up, at, here, one.3, low)
+        | inr after ↦
+            let ahead : bound < (get_or xs one.1.0 one.0).first = point.1 one.1.0 one.0 after one.1.1 in
+            let at : (get_or xs one.1.0 one.0).first ≡ one.0.first = cc (one.1.2) in
+            absurd (omega (arith, ahead, at, one.2, low))
+      ]

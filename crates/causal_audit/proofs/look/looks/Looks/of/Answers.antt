@@ -1,0 +1,19 @@
+use Rattle.causal_audit.proofs.Common.{ℕ, Vec, Global, List, map, sym, subst, IsNonDecreasing, instant}
+use Rattle.causal_audit.specs.Inside.ByClock.Changes.{AreMentionsOf, HasMentions}
+use Rattle.causal_audit.proofs.index.Filings.{mentions_ascend}
+use Rattle.causal_audit.proofs.look.looks.Looks.of.Goals as goal
+
+abbrev positions : Vec ℕ Global → List ℕ
+positions list = list.items
+
+pub invariant_of-look : goal.invariant_of-look
+invariant_of-look c =
+    let past = instant c.args.run.now.trace.now.recording.past c.args.end in
+    let mentions = c.args.mentions.now in
+    let det = c.det-det.result in
+    record {
+      within = c.requires.within;
+      ascending = subst IsNonDecreasing (sym c.list.ensures) (mentions_ascend past mentions.numbers (map positions mentions.lists.items) c.requires.mentioned det);
+      mentioned = subst (HasMentions past det) (sym c.list.ensures) (c.requires.mentioned.mentioned det);
+      only = subst (AreMentionsOf past det) (sym c.list.ensures) (c.requires.mentioned.only det);
+    }

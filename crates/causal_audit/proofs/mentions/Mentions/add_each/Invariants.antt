@@ -1,9 +1,0 @@
-use Rattle.std.proofs.Common.{◌≡◌, List, [], length, take}
-use Rattle.causal_trace.specs.declared.entry.Entry.{Entry}
-use Rattle.causal_audit.specs.Inside.Kept.{AreMentionsWithKept}
-use Rattle.causal_audit.proofs.mentions.Mentions.add_each.Given as goal
-
--- the determinants so far have it
-abbrev pub invariant-loop-det : goal.invariant-loop-det
-invariant-loop-det l =
-    (past : List Entry) → length past ≡ l.i → AreMentionsWithKept past [] l.fn.self → AreMentionsWithKept past (take l.det-index l.dets) l.self

@@ -1,8 +1,0 @@
-use Rattle.std.proofs.Common.{map}
-use Rattle.causal_trace.specs.State.{past_at}
-use Rattle.causal_audit.specs.Inside.Filed.{AreMentions}
-use Rattle.causal_audit.proofs.mentions.mentions_in.Given as goal
-
--- those of the entries so far
-abbrev pub invariant-loop-i : goal.invariant-loop-i
-invariant-loop-i l = AreMentions (past_at l.entries l.i) l.mentions.numbers (map (λ list. list.items) l.mentions.lists.items)

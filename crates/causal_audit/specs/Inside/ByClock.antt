@@ -1,0 +1,4 @@
+pub mod Changes
+pub mod Positions
+pub mod Stands
+pub mod Stored

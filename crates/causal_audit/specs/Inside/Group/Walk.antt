@@ -1,0 +1,226 @@
+-- What is known of the deliveries of a group, by their places, in one walk over the entries.
+use Rattle.causal_audit.specs.Inside.Common.{◌≡◌, ℕ, ◌+◌, ◌<◌, ◌≤◌, ◌↔◌, ◌⊎◌, Bool, true, false, List, ◌∷◌, length, Option, Some, slice_index_or, vec_capacity, Contains, nat_cmp, FinSet, contains, empty, Det, Entry, det_at, has, logs, is_stable, is_down, instant, entry_at, AreAccepted, Recording, IsWellFormed, actor, IsEventOf, Reaches, Depends, Deliver, Restart, Forget, max_entries}
+use Rattle.causal_audit.specs.declared.group.reach.Reach.{Reach}
+use Rattle.causal_audit.specs.declared.group.scan.Window.{Window}
+use Rattle.causal_audit.specs.Quiet.{mentioned_by}
+use Rattle.causal_audit.specs.Inside.Among.{HasNoOrphanBy, LeastAmongBy}
+use Rattle.causal_audit.specs.Inside.Group.Scans.{IsDeliveryAt, positions_of}
+use Rattle.causal_audit.specs.Inside.Sights.{BreachAt, Shows}
+use Rattle.causal_audit.specs.Inside.Look.Staying.{MentionsNone}
+use Rattle.causal_audit.specs.declared.breach.Breach.{Breach}
+use Rattle.causal_audit.specs.declared.group.room.Room.{Room}
+use Rattle.causal_audit.specs.declared.group.suspects.Step.{Step}
+use Rattle.causal_audit.specs.declared.group.copies.Copies.{Copies}
+
+-- the set at a row, empty where there is none
+abbrev pub row : List (FinSet nat_cmp) → ℕ → FinSet nat_cmp
+row rows i = slice_index_or rows i empty
+
+-- the window at a place; where there is none, one that is over before the first instant
+abbrev pub window_at : List Window → ℕ → Window
+window_at windows j = slice_index_or windows j (record { position = 0; until = 0 })
+
+-- the walk begins no later than at the delivery at k, whose place is j, and row i is of the i-th entry from there: the
+-- rows of the entries so far tell which of them it reaches, those ahead where it stands, and those of the processes whose
+-- present lane depends on it
+pub record IsReach (past : List Entry) (k j : ℕ) (reach : Reach) : Type 0 where
+  pub early : reach.start ≤ k
+  pub behind : (i p l : ℕ) → IsEventOf past (reach.start + i) p l
+      → (contains (row reach.reached.items i) j ≡ true) ↔ Reaches past k (reach.start + i)
+  pub ahead : (i : ℕ) → i < length reach.reached.items → length past ≤ reach.start + i
+      → (contains (row reach.reached.items i) j ≡ true) ↔ (reach.start + i ≡ k)
+  pub depends : (p : ℕ) → (contains (row reach.present.items p) j ≡ true) ↔ Depends past k p
+
+-- in the row of the entry at a position, if there is one, the place is in now; the rows begin with that of the entry at `start`
+abbrev pub IsPut : ℕ → ℕ → ℕ → List (FinSet nat_cmp) → List (FinSet nat_cmp) → Type 0
+IsPut start place position old new =
+    (i j : ℕ) → i < length old
+    → (contains (row new i) j ≡ true) ↔ ((contains (row old i) j ≡ true) ⊎ ((j ≡ place) × (start + i ≡ position)))
+
+-- each row from the one of the entry at `start` on has just those of the first `count` places whose positions it is
+abbrev pub AreOwnRows : List Window → ℕ → ℕ → List (FinSet nat_cmp) → Type 0
+AreOwnRows windows start count rows =
+    (i j : ℕ) → i < length rows
+    → (contains (row rows i) j ≡ true) ↔ ((j < count) × ((window_at windows j).position ≡ start + i))
+
+-- there is room for the rows of so many entries, and a row for each process
+pub record HasRowRoom (entries : ℕ) (reach : Reach) : Type 0 where
+  pub reached : entries ≤ vec_capacity reach.reached
+  pub present : length reach.present.items ≡ 256
+
+-- there is a row for each entry from the first of a walk up to its end, and for each process
+pub record HasRows (first end : ℕ) (reach : Reach) : Type 0 where
+  pub start : reach.start ≡ first
+  pub reached : first + length reach.reached.items ≡ end
+  pub present : length reach.present.items ≡ 256
+
+-- there is a row for the entry at t, and for each process
+pub record HasRowOf (t : ℕ) (reach : Reach) : Type 0 where
+  pub from : reach.start ≤ t
+  pub reached : t < reach.start + length reach.reached.items
+  pub present : length reach.present.items ≡ 256
+
+-- of the event at v the set tells which of the deliveries reach it
+abbrev pub TellsReached : Reach → ℕ → FinSet nat_cmp → Type 0
+TellsReached reach v told =
+    (n : ℕ) (past : List Entry) (k j p l : ℕ) → AreAccepted n past → IsReach past k j reach → IsEventOf past v p l
+    → (contains told j ≡ true) ↔ Reaches past k v
+
+-- the place is among the new ones only where k reaches the next entry, and where it does, unless the process depended on k
+pub record IsNewly (past : List Entry) (e : Entry) (k j : ℕ) (newly : FinSet nat_cmp) : Type 0 where
+  pub sound : contains newly j ≡ true → Reaches (e ∷ past) k (length past)
+  pub complete : (p : ℕ) → actor e ≡ Some p → Reaches (e ∷ past) k (length past) → (contains newly j ≡ true) ⊎ Depends past k p
+
+-- with the entry at position t the same is told of each delivery of which it was told, and which it newly reaches
+abbrev pub SeesReach : Entry → ℕ → Reach → Reach → FinSet nat_cmp → Type 0
+SeesReach e t old new newly =
+    (n : ℕ) (past : List Entry) (k j : ℕ) (d : Det) → n ≤ 256 → AreAccepted n (e ∷ past) → length past ≡ t
+    → (k ≡ t → det_at (e ∷ past) k ≡ Some d) → IsReach past k j old → IsReach (e ∷ past) k j new × IsNewly past e k j newly
+
+-- the places in the row of a delivery's receiver; none for any other entry
+abbrev pub IsHeldBy : Entry → List (FinSet nat_cmp) → FinSet nat_cmp → Type 0
+IsHeldBy (Deliver to send rsn listed) rows places = places ≡ row rows to.0
+IsHeldBy _ rows places = places ≡ empty
+
+-- the entry delivers to a process that logs d
+abbrev pub IsDeliveredTo : Entry → List Entry → Det → Type 0
+IsDeliveredTo (Deliver to send rsn listed) past d = logs past to.0 d ≡ true
+IsDeliveredTo _ past d = ⊥
+
+-- each process whose row has the place logs the determinant d
+abbrev pub IsHeldSo : List Entry → ℕ → Det → List (FinSet nat_cmp) → Type 0
+IsHeldSo past j d rows = (p : ℕ) → contains (row rows p) j ≡ true → logs past p d ≡ true
+
+-- where that was so, it is with one more entry, which mentions the determinants of these places
+abbrev pub KeepsHeld : Entry → FinSet nat_cmp → List (FinSet nat_cmp) → List (FinSet nat_cmp) → Type 0
+KeepsHeld e mentioned old new =
+    (past : List Entry) (j : ℕ) (d : Det) → contains mentioned j ≡ has (mentioned_by e) d
+    → IsHeldSo past j d old → IsHeldSo (e ∷ past) j d new
+
+-- the position of the delivery at a place
+abbrev pub position_at : List Window → ℕ → ℕ
+position_at windows j = (window_at windows j).position
+
+-- before this position neither the delivery stands nor an entry that mentions its determinant
+pub record IsUntouchedBefore (past : List Entry) (start : ℕ) (window : Window) : Type 0 where
+  pub made : start ≤ window.position
+  pub unmentioned : (d : Det) → det_at past window.position ≡ Some d → MentionsNone past d 0 start
+
+-- in the rows of the entries at these positions, if there are such, the place is in now
+abbrev pub HaveMarked : ℕ → ℕ → List ℕ → List (FinSet nat_cmp) → List (FinSet nat_cmp) → Type 0
+HaveMarked start place positions old new =
+    (i j : ℕ) → i < length old
+    → (contains (row new i) j ≡ true) ↔ ((contains (row old i) j ≡ true) ⊎ ((j ≡ place) × Contains positions (start + i)))
+
+-- each row has the place where its entry mentions the determinant of the window's delivery
+abbrev pub IsMarked : List Entry → ℕ → ℕ → Window → List (FinSet nat_cmp) → Type 0
+IsMarked past start place window rows =
+    (i : ℕ) (d : Det) (e : Entry) → i < length rows → det_at past window.position ≡ Some d → entry_at past (start + i) ≡ Some e
+    → contains (row rows i) place ≡ has (mentioned_by e) d
+
+-- and so it is for the first `count` places
+abbrev pub AreMarked : List Entry → ℕ → List Window → ℕ → List (FinSet nat_cmp) → Type 0
+AreMarked past start windows count rows = (j : ℕ) → j < count → IsMarked past start j (window_at windows j) rows
+
+-- these are the copies of the determinant d
+pub record AreCopies (past : List Entry) (d : Det) (copies : Copies) : Type 0 where
+  pub holders : Shows copies.holders (λ p. logs past p d)
+  pub stable : copies.stable ≡ is_stable past d
+
+-- where they were the one, they are the other with one more entry, which mentions the determinant or not
+abbrev pub AreCopiesAfter : Entry → Bool → Copies → Copies → Type 0
+AreCopiesAfter e mentioned before after =
+    (past : List Entry) (d : Det) → mentioned ≡ has (mentioned_by e) d → AreCopies past d before → AreCopies (e ∷ past) d after
+
+-- those of a determinant of which nobody heard
+abbrev pub no_copies : Copies
+no_copies = record { holders = empty; stable = false }
+
+-- the copies at a place
+abbrev pub copies_at : List Copies → ℕ → Copies
+copies_at copies j = slice_index_or copies j no_copies
+
+-- at each place there are the copies of its delivery's determinant at the instant t
+abbrev pub AreCopied : Recording → List Window → ℕ → List Copies → Type 0
+AreCopied r windows t copies =
+    (j : ℕ) (d : Det) → j < length windows → det_at r.past (position_at windows j) ≡ Some d → AreCopies (instant r.past t) d (copies_at copies j)
+
+-- one of n processes depends on the place, and is not known to hold its determinant
+abbrev pub IsLacked : List (FinSet nat_cmp) → List (FinSet nat_cmp) → ℕ → ℕ → Type 0
+IsLacked present held n j = (p : ℕ) × (p < n) × (contains (row present p) j ≡ true) × (contains (row held p) j ≡ false)
+
+-- the place may newly have an orphan by an entry: it newly reaches a receiver that is not known to hold its determinant, or one
+-- is lacking after a restart that does not list it, or after a forgetting that does
+abbrev pub IsSuspected : Entry → FinSet nat_cmp → FinSet nat_cmp → List (FinSet nat_cmp) → List (FinSet nat_cmp) → ℕ → ℕ → Type 0
+IsSuspected (Deliver to send rsn listed) newly mentioned present held n j = (contains newly j ≡ true) × (contains (row held to.0) j ≡ false)
+IsSuspected (Restart who listed) newly mentioned present held n j = (contains mentioned j ≡ false) × IsLacked present held n j
+IsSuspected (Forget who listed) newly mentioned present held n j = (contains mentioned j ≡ true) × IsLacked present held n j
+IsSuspected _ newly mentioned present held n j = ⊥
+
+-- the entry of a step is that at its position; each window is of a delivery, of which it is told whether it newly reaches the
+-- entry's process, and whether the entry mentions its determinant
+pub record IsStep (r : Recording) (windows : List Window) (s : Step) : Type 0 where
+  pub formed : IsWellFormed r
+  pub short : length r.past ≤ max_entries
+  pub below : s.t < length r.past
+  pub next : instant r.past (s.t + 1) ≡ s.entry.now ∷ instant r.past s.t
+  pub made : (j : ℕ) → j < length windows → IsDeliveryAt r.past (position_at windows j)
+  pub newly : (j : ℕ) (d : Det) → j < length windows → det_at r.past (position_at windows j) ≡ Some d
+      → IsNewly (instant r.past s.t) s.entry.now (position_at windows j) j s.newly
+  pub mentioned : (j : ℕ) (d : Det) → j < length windows → det_at r.past (position_at windows j) ≡ Some d
+      → contains s.mentioned j ≡ has (mentioned_by s.entry.now) d
+
+-- each process whose row has the place of a delivery logs its determinant at the instant t
+abbrev pub AreHeld : Recording → List Window → ℕ → List (FinSet nat_cmp) → Type 0
+AreHeld r windows t rows =
+    (j : ℕ) (d : Det) → j < length windows → det_at r.past (position_at windows j) ≡ Some d → IsHeldSo (instant r.past t) j d rows
+
+-- the entry of a step delivers to a process that logs the determinants of these places
+abbrev pub AreHeldBefore : Recording → List Window → Step → FinSet nat_cmp → Type 0
+AreHeldBefore r windows s places =
+    (j : ℕ) (d : Det) → j < length windows → det_at r.past (position_at windows j) ≡ Some d → contains places j ≡ true
+    → IsDeliveredTo s.entry.now (instant r.past s.t) d
+
+-- the least breach of the deliveries at these places, if it comes by the instant `end`
+pub record IsLeastIn (r : Recording) (f end : ℕ) (windows : List Window) (places : FinSet nat_cmp) (found : Option Breach) : Type 0 where
+  pub positions : List ℕ
+  pub inside : (k : ℕ) → Contains positions k → Contains (positions_of windows) k
+  pub each : (j : ℕ) → contains places j ≡ true → Contains positions (position_at windows j)
+  pub least : LeastAmongBy r f end positions found
+
+-- none of the deliveries has an orphan up to an instant
+abbrev pub HaveNone : Recording → ℕ → List Window → ℕ → Type 0
+HaveNone r f windows t = (j : ℕ) → j < length windows → HasNoOrphanBy r f (position_at windows j) t
+
+-- the places of a group
+abbrev pub ArePlaces : List Window → FinSet nat_cmp → Type 0
+ArePlaces windows all = (j : ℕ) → (contains all j ≡ true) ↔ (j < length windows)
+
+-- there is room for walks over so many entries, and at each place for copies
+pub record HasRoom (entries : ℕ) (room : Room) : Type 0 where
+  pub reach : HasRowRoom entries room.reach
+  pub mentioned : entries ≤ vec_capacity room.mentioned
+  pub copies : length room.copies.items ≡ 256
+
+-- there is a row for each entry of a walk from `start` up to `end`, and at each place there are copies
+pub record HasRowsFor (start end : ℕ) (room : Room) : Type 0 where
+  pub reach : HasRows start end room.reach
+  pub mentioned : start + length room.mentioned.items ≡ end
+  pub copies : length room.copies.items ≡ 256
+
+-- at the instant t of a walk that began at `start`
+pub record IsFollowed (r : Recording) (windows : List Window) (start t : ℕ) (room : Room) : Type 0 where
+  pub start_is : room.reach.start ≡ start
+  pub told : (j : ℕ) (d : Det) → j < length windows → det_at r.past (position_at windows j) ≡ Some d
+      → IsReach (instant r.past t) (position_at windows j) j room.reach
+  pub marked : AreMarked r.past start windows (length windows) room.mentioned.items
+  pub copied : AreCopied r windows t room.copies.items
+  pub held : AreHeld r windows t room.held.items
+  pub down : Shows room.down (λ p. is_down (instant r.past t) p)
+
+-- how the delivery of a place, which stands at position k, has an orphan at the instant t, where the room is at that
+abbrev pub TellsBreachOf : Room → ℕ → ℕ → ℕ → ℕ → Option Breach → Type 0
+TellsBreachOf room f k place t found =
+    (n : ℕ) (past : List Entry) (d : Det) → AreAccepted n past → length past ≡ t → (k < t → det_at past k ≡ Some d)
+    → IsReach past k place room.reach → AreCopies past d (copies_at room.copies.items place) → Shows room.down (λ p. is_down past p)
+    → BreachAt n f past k t found

@@ -1,0 +1,119 @@
+-- The lists of positions that are kept of a run.
+use Rattle.causal_audit.specs.Inside.Common.{◌≡◌, ℕ, ◌+◌, ◌<◌, ◌≤◌, ◌⊎◌, true, if◌then◌else◌, List, [], ◌∷◌, ◌++◌, length, map, Option, Some, None, slice_set, slice_index_or, Contains, ◌&&◌, ◌==◌, not, Bool, false, MatchOption, All, IsNonDecreasing, option_map_or, nat_cmp, FinSet, Det, same_det, Entry, entry_at, has, instant, is_down, past_at, IsEventOf, Crash, Restart}
+use Rattle.std.specs.Global.{Vec}
+use Rattle.causal_clock.specs.declared.Event.{Event}
+use Rattle.causal_clock.specs.Timeline.{lane_of}
+use Rattle.causal_clock.specs.Precedence.{Reaches}
+use Rattle.causal_audit.specs.Inside.ByClock.Changes.{AreMentionsOf, HasMentions, HasTurns}
+use Rattle.causal_audit.specs.Quiet.{mentioned_by}
+use Rattle.causal_audit.specs.Inside.Sights.{Shows}
+use Rattle.causal_audit.specs.Spread.{IsCrashOf}
+
+-- a list ascends, and has only numbers below a bound
+pub record Ascends (bound : ℕ) (list : List ℕ) : Type 0 where
+  pub ascending : IsNonDecreasing list
+  pub below : All (λ v. v < bound) list
+
+-- the lists themselves, of what a program keeps
+abbrev pub lists_in : {A : Type 0} → List (Vec A) → List (List A)
+lists_in lists = map (λ list. list.items) lists
+
+-- what these entries record, the oldest of which stands first
+abbrev pub past_of : List Entry → List Entry
+past_of entries = past_at entries (length entries)
+
+-- the list of a number
+abbrev pub list_at : List (List ℕ) → ℕ → List ℕ
+list_at lists m = slice_index_or lists m []
+
+-- the lists with one more number at the end of one of them
+abbrev pub with_added : List (List ℕ) → ℕ → ℕ → List (List ℕ)
+with_added lists m v = slice_set lists m (list_at lists m ++ v ∷ [])
+
+-- the positions of the crashes and restarts, and who is down after each
+pub record AreTurns (past : List Entry) (list : List ℕ) (downs : List (FinSet nat_cmp)) : Type 0 where
+  pub ascends : Ascends (length past) list
+  pub turned : HasTurns past list
+  pub counted : length downs ≡ length list
+  pub shown : (i : ℕ) (s : FinSet nat_cmp) → i < length list → Shows (slice_index_or downs i s) (λ p. is_down (instant past (slice_index_or list i 0 + 1)) p)
+
+-- all events of the list are of one lane
+abbrev pub AreOfOneLane : List Event → List ℕ → Type 0
+AreOfOneLane events lane = (v w : ℕ) → Contains lane v → Contains lane w → lane_of events v ≡ lane_of events w
+
+-- each list has events of its own lane alone
+abbrev pub AreInLanes : List Event → List (List ℕ) → Type 0
+AreInLanes events lanes = (m v : ℕ) → Contains (list_at lanes m) v → lane_of events v ≡ m
+
+-- for each lane of the clock the positions of its sends and deliveries
+pub record AreLanes (past : List Entry) (events : List Event) (lanes : List (List ℕ)) : Type 0 where
+  pub ascend : All (Ascends (length past)) lanes
+  pub inside : (m v : ℕ) → Contains (list_at lanes m) v → (lane_of events v ≡ m) × (p : ℕ) × (l : ℕ) × IsEventOf past v p l
+  pub each : (v p l : ℕ) → IsEventOf past v p l → Contains (list_at lanes (lane_of events v)) v
+
+-- if k reaches any event of the list, then this one, and it is the first of them; below `end` it is one that k reaches
+pub record IsFirstReached (events : List Event) (k : ℕ) (lane : List ℕ) (end first : ℕ) : Type 0 where
+  pub any : (v : ℕ) → Contains lane v → Reaches events k v → (first ≤ v) × Contains lane first × Reaches events k first
+  pub below : first < end → Contains lane first × Reaches events k first
+
+-- of each lane of which k reaches an event, the list has the first one
+abbrev pub AreFirsts : List Event → ℕ → List (List ℕ) → List ℕ → Type 0
+AreFirsts events k lanes firsts =
+    (m v : ℕ) → Contains (list_at lanes m) v → Reaches events k v
+    → (i : ℕ) × Contains firsts i × (i ≤ v) × Contains (list_at lanes m) i × Reaches events k i
+
+-- each of them below `end` is an event of some lane, and k reaches it
+abbrev pub AreReached : List Event → ℕ → List (List ℕ) → ℕ → List ℕ → Type 0
+AreReached events k lanes end firsts =
+    (v : ℕ) → v < end → Contains firsts v → (m : ℕ) × Contains (list_at lanes m) v × Reaches events k v
+
+-- determinants that have numbers, the newest first
+abbrev pub Numbers : Type 0
+Numbers = List Det
+
+-- the number of a determinant: how many were numbered before it
+abbrev pub number_of : Numbers → Det → Option ℕ
+number_of [] d = None
+number_of (det ∷ older) d = if same_det det d then Some (length older) else number_of older d
+
+-- the list of a determinant
+abbrev pub mentions_of : Numbers → List (List ℕ) → Det → List ℕ
+mentions_of numbers lists d = option_map_or (list_at lists) (number_of numbers d) []
+
+-- for each determinant the positions of the entries that mention it, and no others
+pub record AreMentions (past : List Entry) (numbers : Numbers) (lists : List (List ℕ)) : Type 0 where
+  pub ascend : All (Ascends (length past)) lists
+  pub mentioned : (d : Det) → HasMentions past d (mentions_of numbers lists d)
+  pub only : (d : Det) → AreMentionsOf past d (mentions_of numbers lists d)
+
+-- the same, and these determinants have the next position too
+pub record AreMentionsWith (past : List Entry) (dets : List Det) (numbers : Numbers) (lists : List (List ℕ)) : Type 0 where
+  pub ascend : All (Ascends (length past + 1)) lists
+  pub mentioned : (d : Det) → HasMentions past d (mentions_of numbers lists d)
+  pub noted : (d : Det) → has dets d ≡ true → Contains (mentions_of numbers lists d) (length past)
+  pub only : (d : Det) (v : ℕ) → Contains (mentions_of numbers lists d) v → ((e : Entry) × (entry_at past v ≡ Some e) × (has (mentioned_by e) d ≡ true)) ⊎ ((v ≡ length past) × (has dets d ≡ true))
+
+-- whether an entry restarts this process, where restarts are meant, or else crashes it
+abbrev pub is_turn_of : Bool → ℕ → Entry → Bool
+is_turn_of restarts p (Crash who) = not restarts && (who.0 == p)
+is_turn_of restarts p (Restart who listed) = restarts && (who.0 == p)
+is_turn_of restarts p _ = false
+
+-- it does so to this one alone, or to none
+abbrev pub IsProcessOf : Bool → Entry → Option ℕ → Type 0
+IsProcessOf restarts e found = MatchOption found
+    ((p : ℕ) → is_turn_of restarts p e ≡ false)
+    (λ q. (p : ℕ) → is_turn_of restarts p e ≡ (q == p))
+
+-- for each process the positions of the entries that do so, and no others: an entry whose position is not there does not
+pub record AreTurnsOf (restarts : Bool) (past : List Entry) (lists : List (List ℕ)) : Type 0 where
+  pub ascend : All (Ascends (length past)) lists
+  pub only : (p v : ℕ) → Contains (list_at lists p) v → (e : Entry) × (entry_at past v ≡ Some e) × (is_turn_of restarts p e ≡ true)
+  pub all : (p v : ℕ) (e : Entry) → entry_at past v ≡ Some e → (Contains (list_at lists p) v → ⊥) → is_turn_of restarts p e ≡ false
+
+-- c is the position of the first crash of p after k, or `end` where there is none before that
+pub record IsFirstCrash (past : List Entry) (p k end c : ℕ) : Type 0 where
+  pub within : c ≤ end
+  pub after : k < c
+  pub found : c < end → IsCrashOf past p c
+  pub none : (v : ℕ) → k < v → v < c → IsCrashOf past p v → ⊥

@@ -1,0 +1,91 @@
+//! Which delivery of a group has an orphan at one instant.
+ghost use Rattle.std.specs.Prelude.{◌≡◌, ◌<◌, ◌≤◌, ◌+◌, ◌&&◌, ◌||◌, ◌==◌, ℕ, length};
+ghost use Rattle.std.specs.FinSet as set;
+ghost use Rattle.causal_audit.specs.Inside.Among.{LeastAmongBy};
+ghost use Rattle.causal_audit.specs.Inside.Group.Scans.{positions_of};
+ghost use Rattle.causal_audit.specs.Inside.Group.Walk.{ArePlaces, HaveNone, IsFollowed, IsStep, TellsBreachOf, row};
+
+use crate::breach::{Breach, earlier};
+use crate::group::room::Room;
+use crate::group::scan::Window;
+use crate::group::suspects::{Step, both, suspected};
+use crate::sight::{Sight, breach_at, with};
+use causal_holders::Holders;
+use causal_trace::trace::Trace;
+
+/// The processes with one more, where that depends on a delivery.
+fn with_dependent(dependents: Holders, p: u8, depends: bool) -> Holders
+    ensures { (q : ℕ) → set.contains result q ≡ ((depends && (p == q)) || set.contains dependents q) }
+{
+    if depends {
+        with(dependents, p)
+    } else {
+        dependents
+    }
+}
+
+/// Which processes depend on the delivery of a place.
+fn dependents_of(present: &[Holders], place: u8) -> Holders
+    requires { length present.now ≤ 256 }
+    ensures { (p : ℕ) → set.contains result p ≡ set.contains (row present.now p) place }
+{
+    let mut dependents = Holders::none();
+    for (p, places) in present.iter().enumerate() {
+        dependents = with_dependent(dependents, p as u8, places.contains(place));
+    }
+    dependents
+}
+
+/// How the delivery of a place, which stands at position k, has an orphan at the instant t; None where it has none.
+fn judge_one(room: &Room, f: u16, k: u32, place: u8, t: u32) -> Option<Breach>
+    requires copies { length room.now.copies.items ≡ 256 }
+    requires present { length room.now.reach.present.items ≡ 256 }
+    ensures { TellsBreachOf room.now f k place t result }
+{
+    let copies = room.copies[usize::from(place)];
+    if copies.stable {
+        return None;
+    }
+    let gone = room.down.union(copies.holders);
+    if gone.len() > u32::from(f) {
+        return None;
+    }
+    let sight = Sight {
+        down: room.down,
+        holders: copies.holders,
+        stable: copies.stable,
+        dependents: dependents_of(&room.reach.present, place),
+    };
+    breach_at(&sight, f, k, t)
+}
+
+/// How a delivery of a group first has an orphan after the entry of a step, if one has: that of the least position. Only those
+/// that may newly have one are asked.
+pub fn judge(
+    room: &Room,
+    trace: &Trace,
+    f: u16,
+    windows: &[Window],
+    step: &Step<'_>,
+    all: Holders,
+) -> Option<Breach>
+    requires all { ArePlaces windows.now all }
+    requires copies { length room.now.copies.items ≡ 256 }
+    requires present { length room.now.reach.present.items ≡ 256 }
+    requires step { IsStep trace.now.recording windows.now step.now }
+    requires followed { IsFollowed trace.now.recording windows.now room.now.reach.start (step.now.t + 1) room.now }
+    requires none { HaveNone trace.now.recording f windows.now step.now.t }
+    ensures followed { IsFollowed trace.now.recording windows.now room.now.reach.start (step.now.t + 1) room.now }
+    ensures found { LeastAmongBy trace.now.recording f (step.now.t + 1) (positions_of windows.now) result }
+{
+    let places = suspected(step, &room.reach.present, &room.held, trace.processes());
+    let mut least = None;
+    let mut rest = both(all, places);
+    while let Some(place) = rest.least() {
+        rest.remove(place);
+        let position = windows[usize::from(place)].position;
+        let found = judge_one(room, f, position, place, step.t + 1);
+        least = earlier(least, found);
+    }
+    least
+}

@@ -1,0 +1,20 @@
+//! What is read of a run before anything is followed.
+
+/// The crashes of each process, and its restarts.
+pub mod by_process;
+/// A walk over a list of positions.
+pub mod cursor;
+/// Lists of positions by numbers.
+pub mod lists;
+/// Which entries mention each determinant.
+pub mod mentions;
+/// The numbers of determinants.
+pub mod numbering;
+/// What tells who is down at an instant.
+pub mod outline;
+/// From which position on no process is released.
+pub mod releases;
+/// How long each entry stays with its process.
+pub mod spreads;
+/// The crashes and restarts, in order.
+pub mod turns;

@@ -1,0 +1,61 @@
+//! One look at each determinant that is mentioned.
+ghost use Rattle.std.specs.Prelude.{◌≡◌, ◌≤◌, IfOk, IfSome, length};
+ghost use Rattle.causal_trace.specs.Past.{instant};
+ghost use Rattle.causal_audit.specs.Inside.Index.Kept.{AreMentionsKept};
+
+use crate::index::mentions::Mentions;
+use crate::index::outline::Outline;
+use crate::look::Look;
+use crate::look::thins::Thins;
+use causal_name::{Det, NoMemory};
+use std::alloc::Global;
+
+/// What the looks found, by the numbers of the determinants.
+#[derive(Drop)]
+pub struct Looks<'a> {
+    pub mentions: &'a Mentions,
+    pub found: Vec<Thins>,
+    ghost each: { length found.items ≡ length mentions.now.numbers },
+}
+
+impl<'a> Looks<'a> {
+    ghost use Rattle.causal_audit.specs.Inside.Look.Looks.{AreAllLooks, IsLookOf};
+
+    /// What was found of a determinant; None where nothing mentions it.
+    pub fn find(&self, det: Det) -> Option<&Thins>
+        ensures { IfSome result (λ thins. IsLookOf self.now det thins.now) }
+    {
+        match self.mentions.numbers.find(det) {
+            Some(number) => Some(&self.found[number]),
+            None => None,
+        }
+    }
+
+    /// What one look at each determinant finds, where at most `most` processes may crash. All of them pass the mentions
+    /// once, and each the restarts of processes that were down or held its determinant.
+    pub fn of(
+        alloc: Global,
+        run: &Outline<'a>,
+        mentions: &'a Mentions,
+        most: u16,
+        end: u32,
+    ) -> Result<Looks<'a>, NoMemory>
+        requires within { end ≤ length run.now.trace.now.recording.past }
+        requires mentioned { AreMentionsKept (instant run.now.trace.now.recording.past end) mentions.now }
+        ensures { IfOk result (AreAllLooks run.now.trace.now.recording most end) }
+    {
+        let mut found = Vec::with_capacity(alloc, mentions.lists.len())?;
+        for number in 0..mentions.lists.len() {
+            let det = mentions.numbers.det(number);
+            let look = Look {
+                run: *run,
+                mentions: mentions.list(det),
+                det,
+                most,
+                end,
+            };
+            found.push(Thins::of(alloc, &look)?)?;
+        }
+        Ok(Looks { mentions, found })
+    }
+}
