@@ -50,7 +50,8 @@ pub(crate) fn step_at(
     input: &Input,
 ) -> Result<Vec<Outgoing>, NoMemory>
     requires { HasBox slots.old.items q }
-    ensures ok { IfOk result (λ sends. StepsAt answers q input.now sends.items slots.old.items slots.new.items) }
+    ensures ok { IfOk result
+        (λ sends. StepsAt answers q input.now sends.items slots.old.items slots.new.items) }
     ensures few { IfOk result (λ sends. length sends.items ≤ 8) }
     ensures others { SameElsewhere answers q slots.old.items slots.new.items }
     ensures err { OnErr result (SameAnswers answers slots.old.items slots.new.items) }

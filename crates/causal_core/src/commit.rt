@@ -47,12 +47,15 @@ pub(crate) fn commit(
     requires insertions { length (carried_by grown) + 1 ≤ (room_of cell.old).log }
     requires short { length trace.old.recording.past + 9 ≤ max_entries }
     ensures number { result ≡ length (receivers trace.old.recording.processes sends.items) }
-    ensures recording { trace.new.recording ≡ with_step trace.old.recording q grown sends.items (memory_of cell.old) }
+    ensures recording { trace.new.recording
+        ≡ with_step trace.old.recording q grown sends.items (memory_of cell.old) }
     ensures formed { IsWellFormed trace.new.recording }
-    ensures memory { memory_of cell.new ≡ step_kept trace.old.recording grown sends.items (memory_of cell.old) }
+    ensures memory { memory_of cell.new
+        ≡ step_kept trace.old.recording grown sends.items (memory_of cell.old) }
     ensures fit { Fits trace.new.recording.past q.0 (memory_of cell.new) }
     ensures others { OthersFit q.0 trace.old.recording.past trace.new.recording.past }
-    ensures bodies { bodies_of cell.new ≡ bodies_of cell.old ++ sent_bodies trace.old.recording.processes sends.items }
+    ensures bodies { bodies_of cell.new
+        ≡ bodies_of cell.old ++ sent_bodies trace.old.recording.processes sends.items }
 {
     let Grown {
         own,
@@ -77,7 +80,8 @@ pub(crate) fn commit_at(
     requires up { is_some (at (memories_in cells.old.items) q.0) ≡ true }
     requires legal { MayCome trace.old.recording (entry_of q grown) }
     requires sent { message_at trace.old.recording.past grown.send ≡ Some (message_of grown.own) }
-    requires fit { AllFit trace.old.recording.processes trace.old.recording.past (memories_in cells.old.items) }
+    requires fit { AllFit trace.old.recording.processes trace.old.recording.past
+        (memories_in cells.old.items) }
     requires logged { IsLogDelivered trace.old.recording.past (entry_of q grown)
         (grown_log grown (memory_at (memories_in cells.old.items) q.0).log) }
     requires ascending { is_ascending (dets_of (next_batch grown)) ≡ true }
@@ -87,7 +91,8 @@ pub(crate) fn commit_at(
     requires spare { 9 ≤ trace.old.spare }
     requires room { 8 ≤ (room_at (rooms_in cells.old.items) q.0).sent }
     requires received { 1 ≤ (room_at (rooms_in cells.old.items) q.0).received }
-    requires insertions { length (carried_by grown) + 1 ≤ (room_at (rooms_in cells.old.items) q.0).log }
+    requires insertions { length (carried_by grown) + 1 ≤
+        (room_at (rooms_in cells.old.items) q.0).log }
     requires short { length trace.old.recording.past + 9 ≤ max_entries }
     ensures number { result ≡ length (receivers trace.old.recording.processes sends.items) }
     ensures recording { trace.new.recording
@@ -95,7 +100,8 @@ pub(crate) fn commit_at(
     ensures formed { IsWellFormed trace.new.recording }
     ensures memories { memories_in cells.new.items
         ≡ step_kept_at trace.old.recording q grown sends.items (memories_in cells.old.items) }
-    ensures fit { AllFit trace.old.recording.processes trace.new.recording.past (memories_in cells.new.items) }
+    ensures fit { AllFit trace.old.recording.processes trace.new.recording.past
+        (memories_in cells.new.items) }
     ensures bodies { bodies_in cells.new.items
         ≡ with_bodies (bodies_in cells.old.items) q.0 (sent_bodies trace.old.recording.processes sends.items) }
 {

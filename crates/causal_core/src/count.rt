@@ -13,7 +13,8 @@ use causal_name::Det;
 
 /// Whether an up process logs the determinant.
 fn logs(cell: &Option<Cell>, det: Det) -> bool
-    ensures { result ≡ option_map_or (λ m. is_some (fin.get m.log det)) (option_map memory_of cell.now) false }
+    ensures { result
+        ≡ option_map_or (λ m. is_some (fin.get m.log det)) (option_map memory_of cell.now) false }
 {
     match cell {
         Some(cell) => cell.log.known(det).is_some(),

@@ -97,7 +97,8 @@ pub(crate) fn is_full(trace: &Trace, entries: u32, listed: usize) -> bool
 /// Drops what a process has.
 fn empty(cells: &mut Vec<Option<Cell>>, p: usize)
     requires { p < vec_len cells.old }
-    ensures memories { memories_in cells.new.items ≡ slice_set (memories_in cells.old.items) p None }
+    ensures memories { memories_in cells.new.items
+        ≡ slice_set (memories_in cells.old.items) p None }
     ensures bodies { bodies_in cells.new.items ≡ slice_set (bodies_in cells.old.items) p [] }
 {
     cells[p] = None;
@@ -106,7 +107,8 @@ fn empty(cells: &mut Vec<Option<Cell>>, p: usize)
 /// That a determinant is stable becomes known to p.
 fn mark_at(cells: &mut Vec<Option<Cell>>, p: Pid, det: Det)
     requires { is_some (at (memories_in cells.old.items) p.0) ≡ true }
-    ensures memories { memories_in cells.new.items ≡ changed (with_stable det) (memories_in cells.old.items) p.0 }
+    ensures memories { memories_in cells.new.items
+        ≡ changed (with_stable det) (memories_in cells.old.items) p.0 }
     ensures bodies { bodies_in cells.new.items ≡ bodies_in cells.old.items }
 {
     let Some(cell) = &mut cells[usize::from(p.0)] else {
@@ -295,10 +297,12 @@ impl Data {
         requires grown { IsGrown self.old q (message_of grown.own) grown }
         requires few { length sends.items ≤ 8 }
         requires room { HasRoom q.0 (length (carried_by grown) + 1) self.old }
-        ensures run { self.new.run ≡ with_delivery self.old.run q (message_of grown.own) sends.items }
+        ensures run { self.new.run
+            ≡ with_delivery self.old.run q (message_of grown.own) sends.items }
         ensures step { Steps self.old.run (asked_by q grown) (Told.Delivered result) self.new.run }
         ensures det { det_at self.new.run.recording.past result.first ≡ Some result.det }
-        ensures bodies { self.new.bodies ≡ with_bodies self.old.bodies q.0 (sent_in self.old.run sends.items) }
+        ensures bodies { self.new.bodies
+            ≡ with_bodies self.old.bodies q.0 (sent_in self.old.run sends.items) }
     {
         let first = self.trace.len();
         let det = grown.own;
@@ -341,7 +345,8 @@ impl Data {
         store: &S,
     ) -> Result<Log, NoMemory>
         requires { IsStored (S.contents store.now) self.now.run.recording.past }
-        ensures { IfOk result (λ log. log.map ≡ gathered_log (memories_of self.now.run) (stable_of self.now.run) p) }
+        ensures { IfOk result
+            (λ log. log.map ≡ gathered_log (memories_of self.now.run) (stable_of self.now.run) p) }
     {
         let stored = store.all(alloc)?;
         gather(

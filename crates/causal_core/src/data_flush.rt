@@ -21,7 +21,8 @@ use std::alloc::Global;
 /// A process drops what it knows to be stable.
 fn drop_stable_at(cells: &mut Vec<Option<Cell>>, p: Pid)
     requires { is_some (at (memories_in cells.old.items) p.0) ≡ true }
-    ensures memories { memories_in cells.new.items ≡ changed (with_log unmarked) (memories_in cells.old.items) p.0 }
+    ensures memories { memories_in cells.new.items
+        ≡ changed (with_log unmarked) (memories_in cells.old.items) p.0 }
     ensures bodies { bodies_in cells.new.items ≡ bodies_in cells.old.items }
 {
     let Some(cell) = &mut cells[usize::from(p.0)] else {
@@ -153,7 +154,8 @@ impl Data {
         requires some { 1 ≤ length listed.items }
         requires spare { 1 ≤ self.old.spare }
         ensures count { result ≡ length listed.items }
-        ensures run { self.new.run ≡ extended self.old.run (Ask.Forget p) (Entries.Forget p listed.items ∷ []) }
+        ensures run { self.new.run
+            ≡ extended self.old.run (Ask.Forget p) (Entries.Forget p listed.items ∷ []) }
         ensures bodies { self.new.bodies ≡ self.old.bodies }
     {
         let count = listed.len() as u32;

@@ -34,8 +34,10 @@ use std::sync::Arc;
 /// Puts what a process has into its place.
 pub(crate) fn put(cells: &mut Vec<Option<Cell>>, p: usize, cell: Cell)
     requires { p < vec_len cells.old }
-    ensures memories { memories_in cells.new.items ≡ slice_set (memories_in cells.old.items) p (Some (memory_of cell)) }
-    ensures bodies { bodies_in cells.new.items ≡ slice_set (bodies_in cells.old.items) p (bodies_of cell) }
+    ensures memories { memories_in cells.new.items
+        ≡ slice_set (memories_in cells.old.items) p (Some (memory_of cell)) }
+    ensures bodies { bodies_in cells.new.items
+        ≡ slice_set (bodies_in cells.old.items) p (bodies_of cell) }
 {
     cells[p] = Some(cell);
 }
@@ -55,7 +57,8 @@ fn listed_and_shares(
     log: &Log,
 ) -> Result<(Vec<Det>, Vec<Arc<Batch>>), NoMemory>
     ensures listed { IfOk result (λ made. made.0.items ≡ fin.keys log.now.map) }
-    ensures shares { IfOk result (λ made. batches_of made.1.items ≡ replicate 8 (chosen f log.now.map)) }
+    ensures shares { IfOk result
+        (λ made. batches_of made.1.items ≡ replicate 8 (chosen f log.now.map)) }
 {
     let listed = log.dets(alloc)?;
     let shares = chosen_shares(alloc, f, log)?;
@@ -85,7 +88,8 @@ fn reason_or_memory(reason: Option<CoreFault>) -> CoreFault
 impl Data {
     /// Whether a restart that lists so many determinants would pass a limit.
     fn is_full_for(&self, listed: usize) -> bool
-        ensures { result ≡ (is_full self.now.run 9 listed || nat_le 192 (restarts self.now.run.recording.past)) }
+        ensures { result
+            ≡ (is_full self.now.run 9 listed || nat_le 192 (restarts self.now.run.recording.past)) }
     {
         self.trace.restarts() as usize >= MAX_RESTARTS || is_full(&self.trace, 9, listed)
     }
@@ -118,7 +122,8 @@ impl Data {
     /// Where memory was refused, what stands against the restart, and `NoMemory` where nothing does.
     fn log_for<S: Stable>(&self, alloc: Global, p: Pid, store: &S) -> Result<Log, CoreFault>
         requires { IsStored (S.contents store.now) self.now.run.recording.past }
-        ensures ok { IfOk result (λ log. log.map ≡ gathered_log (memories_of self.now.run) (stable_of self.now.run) p) }
+        ensures ok { IfOk result
+            (λ log. log.map ≡ gathered_log (memories_of self.now.run) (stable_of self.now.run) p) }
         ensures refused { IfErr result (IsReason self.now.run (Ask.Restart p)) }
     {
         match self.gather(alloc, p, store) {
@@ -195,7 +200,8 @@ impl Data {
         requires room { 9 ≤ self.old.spare }
         ensures run { self.new.run ≡ with_restart self.old.run p sends.items }
         ensures step { Steps self.old.run (Ask.Restart p) (Told.Restarted result) self.new.run }
-        ensures bodies { self.new.bodies ≡ slice_set self.old.bodies p.0 (sent_in self.old.run sends.items) }
+        ensures bodies { self.new.bodies
+            ≡ slice_set self.old.bodies p.0 (sent_in self.old.run sends.items) }
     {
         let first = self.trace.len();
         let Gathered {

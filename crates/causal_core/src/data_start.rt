@@ -21,7 +21,8 @@ use std::alloc::Global;
 
 /// What n processes have before they begin.
 fn fresh_cells(alloc: Global, n: u16, f: u16) -> Result<Vec<Option<Cell>>, NoMemory>
-    ensures memories { IfOk result (λ cells. memories_in cells.items ≡ replicate n (Some (fresh fin.empty))) }
+    ensures memories { IfOk result
+        (λ cells. memories_in cells.items ≡ replicate n (Some (fresh fin.empty))) }
     ensures bodies { IfOk result (λ cells. bodies_in cells.items ≡ replicate n []) }
 {
     let mut cells = Vec::new(alloc);

@@ -30,7 +30,8 @@ fn down_among(cells: &[Option<Cell>]) -> Holders
 impl Data {
     /// The processes that are down.
     pub(crate) fn down(&self) -> Holders
-        ensures { HasMembers self.now.run.recording.processes result (is_down self.now.run.recording.past) }
+        ensures { HasMembers self.now.run.recording.processes result
+            (is_down self.now.run.recording.past) }
     {
         down_among(self.cells.as_slice())
     }
@@ -39,7 +40,8 @@ impl Data {
 impl<S: Stable> Core<S> {
     /// The processes that are down. It takes no memory.
     pub fn down(&self) -> Holders
-        ensures { HasMembers (run_of self.now).recording.processes result (is_down (run_of self.now).recording.past) }
+        ensures { HasMembers (run_of self.now).recording.processes result
+            (is_down (run_of self.now).recording.past) }
     {
         self.held.down()
     }

@@ -31,9 +31,11 @@ fn write_one<S: Stable>(held: &mut Data, store: &mut S, p: Pid, det: Det) -> Res
     ensures ok { OnOk result (held.new.run ≡ flushed held.old.run p (det ∷ [])) }
     ensures err { OnErr result (held.new.run ≡ held.old.run) }
     ensures stored { IsStored (S.contents store.new) held.new.run.recording.past }
-    ensures filled { map is_some (memories_of held.new.run) ≡ map is_some (memories_of held.old.run) }
+    ensures filled { map is_some (memories_of held.new.run)
+        ≡ map is_some (memories_of held.old.run) }
     ensures why { IfErr result (λ fault. flush_reason_of fault ≡ None) }
-    ensures fault { result ≡ Err CoreFault.StoreFault → HasFailed (S.faults store.old) (S.faults store.new) }
+    ensures fault { result ≡ Err CoreFault.StoreFault
+        → HasFailed (S.faults store.old) (S.faults store.new) }
     ensures faults { S.faults store.old ≤ S.faults store.new }
     ensures bodies { held.new.bodies ≡ held.old.bodies }
     ensures room { held.old.stable_room ≤ held.new.stable_room + 1 }
@@ -60,7 +62,8 @@ fn write_all<S: Stable>(
 ) -> Result<u32, FlushFault>
     requires process { p.0 < held.old.run.recording.processes }
     requires up { is_some (at (memories_of held.old.run) p.0) ≡ true }
-    requires logged { list_all (λ d. is_some (fin.get (log_at (memories_of held.old.run) p.0) d)) dets.now ≡ true }
+    requires logged { list_all
+        (λ d. is_some (fin.get (log_at (memories_of held.old.run) p.0) d)) dets.now ≡ true }
     requires short { length held.old.run.recording.past + length dets.now ≤ max_entries }
     requires room { length dets.now ≤ held.old.stable_room }
     requires stored { IsStored (S.contents store.old) held.old.run.recording.past }
@@ -70,7 +73,8 @@ fn write_all<S: Stable>(
     ensures why { IfErr result (λ f. flush_reason_of f.fault ≡ None) }
     ensures fault { IfErr result (TellsFailure (S.faults store.old) (S.faults store.new)) }
     ensures stored { IsStored (S.contents store.new) held.new.run.recording.past }
-    ensures filled { map is_some (memories_of held.new.run) ≡ map is_some (memories_of held.old.run) }
+    ensures filled { map is_some (memories_of held.new.run)
+        ≡ map is_some (memories_of held.old.run) }
     ensures bodies { held.new.bodies ≡ held.old.bodies }
 {
     let mut done = 0;
@@ -96,7 +100,8 @@ impl<S: Stable> Core<S> {
     pub fn flush(&mut self, p: Pid) -> Result<u32, FlushFault>
         requires { p.0 < 256 }
         ensures step { Steps (run_of self.old) (Ask.Flush p) (told_flush result) (run_of self.new) }
-        ensures fault { IfErr result (TellsFailure (S.faults (store_of self.old)) (S.faults (store_of self.new))) }
+        ensures fault { IfErr result
+            (TellsFailure (S.faults (store_of self.old)) (S.faults (store_of self.new))) }
         ensures bodies { (state_of self.new).bodies ≡ (state_of self.old).bodies }
         ensures boxes { SameAnswers answers (state_of self.old).slots (state_of self.new).slots }
     {

@@ -20,7 +20,8 @@ impl<S: Stable> Core<S> {
     /// of these stands, `NoMemory` where memory was refused. A refusal changes nothing.
     pub fn forget(&mut self, p: Pid) -> Result<u32, CoreFault>
         requires { p.0 < 256 }
-        ensures step { Steps (run_of self.old) (Ask.Forget p) (told_forget result) (run_of self.new) }
+        ensures step { Steps (run_of self.old)
+            (Ask.Forget p) (told_forget result) (run_of self.new) }
         ensures bodies { (state_of self.new).bodies ≡ (state_of self.old).bodies }
         ensures boxes { SameAnswers answers (state_of self.old).slots (state_of self.new).slots }
     {

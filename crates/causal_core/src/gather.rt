@@ -58,7 +58,8 @@ fn gather_into(
     stored: &[Det],
     p: Pid,
 ) -> Result<(), NoMemory>
-    ensures { OnOk result (log.new.map ≡ gathered_onto log.old.map (memories_in cells.now) stored.now p) }
+    ensures { OnOk result
+        (log.new.map ≡ gathered_onto log.old.map (memories_in cells.now) stored.now p) }
 {
     know_all(log, cells)?;
     hold_known(alloc, log, p)?;

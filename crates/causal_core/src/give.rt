@@ -60,7 +60,8 @@ fn give_kept(
 ) -> Result<Vec<Outgoing>, NoMemory>
     requires box_there { HasBox slots.old.items q }
     requires kept { ssn < vec_len cell.old.sent }
-    ensures ok { IfOk result (λ sends. StepsAt answers q (Given source (body_in (bodies_of cell.old) ssn))
+    ensures ok { IfOk result
+        (λ sends. StepsAt answers q (Given source (body_in (bodies_of cell.old) ssn))
         sends.items slots.old.items slots.new.items) }
     ensures few { IfOk result (λ sends. length sends.items ≤ 8) }
     ensures others { SameElsewhere answers q slots.old.items slots.new.items }

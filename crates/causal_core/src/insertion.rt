@@ -42,7 +42,8 @@ pub(crate) fn listed(alloc: Global, own: Det, items: &[Item]) -> Result<Vec<Det>
 
 /// Lists the next determinant, after the one more where that comes first; says whether that one has its place.
 fn place(listed: &mut Vec<Det>, own: Det, placed: bool, det: Det) -> Result<bool, NoMemory>
-    ensures { IfOk result (λ now_placed. ListsNext own det placed now_placed listed.old.items listed.new.items) }
+    ensures { IfOk result
+        (λ now_placed. ListsNext own det placed now_placed listed.old.items listed.new.items) }
 {
     if placed {
         listed.push(det)?;

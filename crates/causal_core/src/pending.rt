@@ -31,7 +31,8 @@ fn is_pending(trace: &Trace, cells: &[Option<Cell>], q: Pid, name: MsgName) -> b
 
 /// Lists one more name, where it is wanted.
 fn push_if(names: &mut Vec<MsgName>, name: MsgName, wanted: bool) -> Result<(), NoMemory>
-    ensures { OnOk result (names.new.items ≡ names.old.items ++ (if wanted then name ∷ [] else [])) }
+    ensures { OnOk result
+        (names.new.items ≡ names.old.items ++ (if wanted then name ∷ [] else [])) }
 {
     if wanted {
         names.push(name)?;
@@ -60,7 +61,8 @@ fn list_pending(
     count: u32,
 ) -> Result<(), NoMemory>
     requires { SameReceived trace.now.recording.past (memories_in cells.now) q }
-    ensures { OnOk result (names.new.items ≡ names.old.items ++ pending_of (memories_in cells.now) q source count) }
+    ensures { OnOk result
+        (names.new.items ≡ names.old.items ++ pending_of (memories_in cells.now) q source count) }
 {
     for ssn in 0..count {
         let name = MsgName { source, ssn };
@@ -78,7 +80,8 @@ fn pending_among(
 ) -> Result<Vec<MsgName>, NoMemory>
     requires received { SameReceived trace.now.recording.past (memories_in cells.now) q }
     requires few { length cells.now ≤ max_processes }
-    requires short { (p : ℕ) → option_map_or (λ m. length m.sent) (at (memories_in cells.now) p) 0 ≤ max_entries }
+    requires short { (p : ℕ)
+        → option_map_or (λ m. length m.sent) (at (memories_in cells.now) p) 0 ≤ max_entries }
     ensures { IfOk result (λ names. names.items ≡ pending_in (memories_in cells.now) q) }
 {
     let mut names = Vec::new(alloc);
@@ -119,9 +122,11 @@ impl<S: Stable> Core<S> {
     /// The first of `NoProcess` and `Down`; where neither stands, `NoMemory` where memory was refused.
     pub fn pending(&self, q: Pid) -> Result<Vec<MsgName>, CoreFault>
         requires { q.0 < 256 }
-        ensures ok { IfOk result (λ names. names.items ≡ pending_in (memories_of (run_of self.now)) q) }
+        ensures ok { IfOk result
+            (λ names. names.items ≡ pending_in (memories_of (run_of self.now)) q) }
         ensures legal { OnOk result (pending_fault (run_of self.now) q ≡ None) }
-        ensures refused { IfErr result (λ fault. pending_fault (run_of self.now) q ≡ reason_of fault) }
+        ensures refused { IfErr result
+            (λ fault. pending_fault (run_of self.now) q ≡ reason_of fault) }
     {
         self.held.pending(self.alloc, q)
     }

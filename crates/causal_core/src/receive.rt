@@ -28,7 +28,8 @@ pub(crate) fn receive(
     requires legal { MayCome trace.old.recording (Entries.Deliver q send own.rsn listed.items) }
     requires sent { message_at trace.old.recording.past send ≡ Some (message_of own) }
     requires fit { Fits trace.old.recording.past q.0 (memory_of cell.old) }
-    requires logged { IsLogDelivered trace.old.recording.past (Entries.Deliver q send own.rsn listed.items)
+    requires logged { IsLogDelivered trace.old.recording.past
+        (Entries.Deliver q send own.rsn listed.items)
         (gained carried.now own (memory_of cell.old).log) }
     requires spare { 1 ≤ trace.old.spare }
     requires room { 1 ≤ (room_of cell.old).received }

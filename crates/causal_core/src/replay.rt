@@ -20,8 +20,10 @@ impl<S: Stable> Core<S> {
     /// Delivers the message that is named for p's next delivery, if one is named.
     fn deliver_named(&mut self, p: Pid) -> Result<Option<Delivered>, CoreFault>
         requires { p.0 < 256 }
-        ensures ok { IfOk result (λ told. Redelivered answers p told (state_of self.old) (state_of self.new)) }
-        ensures refused { OnErr result (IsUnchanged answers (state_of self.old) (state_of self.new)) }
+        ensures ok { IfOk result
+            (λ told. Redelivered answers p told (state_of self.old) (state_of self.new)) }
+        ensures refused { OnErr result
+            (IsUnchanged answers (state_of self.old) (state_of self.new)) }
         ensures fault { IfErr result (λ fault. RefusesNamed (run_of self.old) p fault) }
     {
         let name = match self.named(p) {
@@ -73,11 +75,13 @@ impl<S: Stable> Core<S> {
     /// `NoProcess`, `Down`, also for a limit of 0; else where the first delivery is refused, and nothing has changed, its fault.
     pub fn replay(&mut self, p: Pid, limit: u32) -> Result<u32, CoreFault>
         requires { p.0 < 256 }
-        ensures ok { IfOk result (λ count. Replayed answers p count (state_of self.old) (state_of self.new)) }
+        ensures ok { IfOk result
+            (λ count. Replayed answers p count (state_of self.old) (state_of self.new)) }
         ensures within { IfOk result (λ count. count ≤ limit) }
         ensures ends { IfOk result (λ count. Ends p limit count (run_of self.new)) }
         ensures legal { OnOk result (IsOk (naming (run_of self.old) p)) }
-        ensures refused { OnErr result (IsUnchanged answers (state_of self.old) (state_of self.new)) }
+        ensures refused { OnErr result
+            (IsUnchanged answers (state_of self.old) (state_of self.new)) }
         ensures fault { IfErr result (λ fault. RefusesNamed (run_of self.old) p fault) }
         ensures none { limit ≡ 0 → IfErr result (λ fault. naming (run_of self.old) p ≡ Err fault) }
     {

@@ -40,9 +40,12 @@ impl<S: Stable> Core<S> {
         mut spare: Box<dyn Process + Send>,
     ) -> Result<Restarted, Refused>
         requires { p.0 < 256 }
-        ensures step { Steps (run_of self.old) (Ask.Restart p) (told_restart fault_of result) (run_of self.new) }
-        ensures ok { OnOk result (Restarts answers p spare (state_of self.old) (state_of self.new)) }
-        ensures refused { OnErr result (IsUnchanged answers (state_of self.old) (state_of self.new)) }
+        ensures step { Steps (run_of self.old) (Ask.Restart p)
+            (told_restart fault_of result) (run_of self.new) }
+        ensures ok { OnOk result
+            (Restarts answers p spare (state_of self.old) (state_of self.new)) }
+        ensures refused { OnErr result
+            (IsUnchanged answers (state_of self.old) (state_of self.new)) }
         ensures spare { IfErr result (λ refused. AnswersAlike answers spare refused.spare) }
     {
         let gathered = match self.held.prepare_restart(self.alloc, p, &self.store) {

@@ -65,7 +65,8 @@ impl<S: Stable> Core<S> {
         requires { p.0 < 256 }
         ensures step { Steps (run_of self.old) (Ask.Crash p) (told_crash result) (run_of self.new) }
         ensures ok { OnOk result (Crashes answers p (state_of self.old) (state_of self.new)) }
-        ensures refused { OnErr result (IsUnchanged answers (state_of self.old) (state_of self.new)) }
+        ensures refused { OnErr result
+            (IsUnchanged answers (state_of self.old) (state_of self.new)) }
     {
         let first = match self.held.crash(p) {
             Ok(first) => first,
@@ -82,10 +83,14 @@ impl<S: Stable> Core<S> {
     /// changes nothing.
     pub fn deliver(&mut self, q: Pid, source: Pid, ssn: u32) -> Result<Delivered, CoreFault>
         requires { q.0 < 256 }
-        ensures step { Steps (run_of self.old) (Ask.Deliver q source ssn) (told_delivery result) (run_of self.new) }
-        ensures det { IfOk result (λ d. det_at (run_of self.new).recording.past d.first ≡ Some d.det) }
-        ensures ok { OnOk result (Delivers answers q source ssn (state_of self.old) (state_of self.new)) }
-        ensures refused { OnErr result (IsUnchanged answers (state_of self.old) (state_of self.new)) }
+        ensures step { Steps (run_of self.old)
+            (Ask.Deliver q source ssn) (told_delivery result) (run_of self.new) }
+        ensures det { IfOk result
+            (λ d. det_at (run_of self.new).recording.past d.first ≡ Some d.det) }
+        ensures ok { OnOk result
+            (Delivers answers q source ssn (state_of self.old) (state_of self.new)) }
+        ensures refused { OnErr result
+            (IsUnchanged answers (state_of self.old) (state_of self.new)) }
     {
         let rsn = self.held.next_rsn(q);
         let stored = self.store.least_of(Slot { dest: q, rsn });
@@ -120,7 +125,8 @@ impl<S: Stable> Core<S> {
         requires { p.0 < 256 }
         ensures ok { IfOk result (λ dets. dets.items ≡ gathered (run_of self.now) p) }
         ensures legal { OnOk result (gathering_fault (run_of self.now) p ≡ None) }
-        ensures refused { IfErr result (λ fault. gathering_fault (run_of self.now) p ≡ reason_of fault) }
+        ensures refused { IfErr result
+            (λ fault. gathering_fault (run_of self.now) p ≡ reason_of fault) }
     {
         if let Some(fault) = self.held.gathering_fault(p) {
             return Err(fault);

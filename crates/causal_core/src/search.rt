@@ -30,7 +30,8 @@ pub(crate) fn cell_at(cells: &[Option<Cell>], p: Pid) -> Option<&Cell>
 
 /// The message of that name that its sender keeps for q.
 pub(crate) fn message(cells: &[Option<Cell>], q: Pid, source: Pid, ssn: u32) -> Option<&Message>
-    ensures { option_map kept_of (option_copied result) ≡ kept_for (memories_in cells.now) q (name source ssn) }
+    ensures { option_map kept_of (option_copied result)
+        ≡ kept_for (memories_in cells.now) q (name source ssn) }
 {
     let Some(sender) = cell_at(cells, source) else {
         return None;

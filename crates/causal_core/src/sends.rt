@@ -34,17 +34,21 @@ pub(crate) fn append_sends(
     requires few { length sends.items ≤ 8 }
     requires shares { batches_of shares.items ≡ replicate 8 (shared_batch shares.items) }
     requires ascending { is_ascending (dets_of (shared_batch shares.items)) ≡ true }
-    requires delivered { are_delivered trace.old.recording.past (dets_of (shared_batch shares.items)) ≡ true }
+    requires delivered { are_delivered trace.old.recording.past
+        (dets_of (shared_batch shares.items)) ≡ true }
     requires spare { 8 ≤ trace.old.spare }
     requires room { 8 ≤ (room_of cell.old).sent }
     requires short { length trace.old.recording.past + 8 ≤ max_entries }
     ensures number { result ≡ length (receivers trace.old.recording.processes sends.items) }
-    ensures recording { trace.new.recording ≡ with_sends trace.old.recording q sends.items (memory_of cell.old) }
+    ensures recording { trace.new.recording
+        ≡ with_sends trace.old.recording q sends.items (memory_of cell.old) }
     ensures formed { IsWellFormed trace.new.recording }
-    ensures memory { memory_of cell.new ≡ keep_sends trace.old.recording shares.items sends.items (memory_of cell.old) }
+    ensures memory { memory_of cell.new
+        ≡ keep_sends trace.old.recording shares.items sends.items (memory_of cell.old) }
     ensures fit { Fits trace.new.recording.past q.0 (memory_of cell.new) }
     ensures others { OthersFit q.0 trace.old.recording.past trace.new.recording.past }
-    ensures bodies { bodies_of cell.new ≡ bodies_of cell.old ++ sent_bodies trace.old.recording.processes sends.items }
+    ensures bodies { bodies_of cell.new
+        ≡ bodies_of cell.old ++ sent_bodies trace.old.recording.processes sends.items }
 {
     let n = trace.processes();
     let mut number = 0;
@@ -70,9 +74,11 @@ fn send(trace: &mut Trace, cell: &mut Cell, q: Pid, outgoing: Outgoing, batch: A
     requires short { length trace.old.recording.past < max_entries }
     requires ascending { is_ascending (dets_of (arc_value batch)) ≡ true }
     requires delivered { are_delivered trace.old.recording.past (dets_of (arc_value batch)) ≡ true }
-    ensures recording { trace.new.recording ≡ with_send trace.old.recording q outgoing.to (memory_of cell.old) }
+    ensures recording { trace.new.recording
+        ≡ with_send trace.old.recording q outgoing.to (memory_of cell.old) }
     ensures formed { IsWellFormed trace.new.recording }
-    ensures memory { memory_of cell.new ≡ keep_send trace.old.recording outgoing.to batch (memory_of cell.old) }
+    ensures memory { memory_of cell.new
+        ≡ keep_send trace.old.recording outgoing.to batch (memory_of cell.old) }
     ensures fit { Fits trace.new.recording.past q.0 (memory_of cell.new) }
     ensures others { OthersFit q.0 trace.old.recording.past trace.new.recording.past }
     ensures delivered { StayDelivered trace.old.recording.past trace.new.recording.past }

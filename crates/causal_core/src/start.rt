@@ -37,7 +37,8 @@ fn begin(
     mut process: Box<dyn Process + Send>,
 ) -> Result<(), NoMemory>
     requires { MayBegin (length slots.old.items) held.old.run }
-    ensures { OnOk result (Begins answers process slots.old.items slots.new.items held.old held.new) }
+    ensures { OnOk result
+        (Begins answers process slots.old.items slots.new.items held.old held.new) }
 {
     let p = Pid(slots.len() as u8);
     let fresh = held.prepare_begin(alloc)?;
@@ -56,7 +57,8 @@ fn begin_all(
     requires run { held.old.run ≡ opening (length boxes.items) held.old.run.faults [] }
     requires bodies { held.old.bodies ≡ replicate (length boxes.items) [] }
     requires few { length boxes.items ≤ max_processes }
-    ensures { IfOk result (λ slots. HaveAllBegun answers held.old.run.faults boxes.items slots.items held.new) }
+    ensures { IfOk result
+        (λ slots. HaveAllBegun answers held.old.run.faults boxes.items slots.items held.new) }
 {
     let mut slots = Vec::new(alloc);
     for process in boxes {
@@ -80,7 +82,8 @@ impl<S: Stable> Core<S> {
     ) -> Result<Core<S>, StartFault>
         requires { f < 65536 }
         ensures ok { IfOk result (λ core. Starts answers f boxes.items (state_of core)) }
-        ensures opens { IfOk result (λ core. IsOpening (length boxes.items) (run_of core).recording.past) }
+        ensures opens { IfOk result
+            (λ core. IsOpening (length boxes.items) (run_of core).recording.past) }
         ensures stored { IfOk result (λ core. S.contents core.store ≡ fin.empty) }
         ensures legal { OnOk result (start_fault (length boxes.items) (S.contents store) ≡ None) }
         ensures refused { IfErr result (IsStartReason (length boxes.items) (S.contents store)) }

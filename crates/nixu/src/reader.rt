@@ -46,7 +46,8 @@ pub extern "C" fn nixu_reader_feed(
     ensures fault { result ≡ FAULT → (b : List ℕ) → HasReadIn reader.old.held.value b
         → TellsFaultOfAll (b ++ piece.now) told.new }
     ensures closed { result ≡ CLOSED → (b : List ℕ) → HasReadIn reader.old.held.value b → ⊥ }
-    ensures none { IsNoReader reader.old.held.value → (result ≡ CLOSED) × (reader.new.held.value ≡ reader.old.held.value) }
+    ensures none { IsNoReader reader.old.held.value
+        → (result ≡ CLOSED) × (reader.new.held.value ≡ reader.old.held.value) }
     ensures left { IsReader reader.old.held.value → result ≢ OK → reader.new.held.value ≡ None }
     ensures kept { result ≢ FAULT → told.new ≡ told.old }
     ensures status { (result ≢ MISUSED) × (result ≤ CLOSED) }
@@ -68,7 +69,8 @@ pub extern "C" fn nixu_reader_feed(
 /// Feeds a reader with one more piece.
 fn feed(fed: &mut FedReader, piece: &[u8], told: &mut Summary) -> u32
     ensures ok { result ≡ OK → (b : List ℕ) → HasRead fed.old b → HasRead fed.new (b ++ piece.now) }
-    ensures fault { result ≡ FAULT → (b : List ℕ) → HasRead fed.old b → TellsFaultOfAll (b ++ piece.now) told.new }
+    ensures fault { result ≡ FAULT → (b : List ℕ)
+        → HasRead fed.old b → TellsFaultOfAll (b ++ piece.now) told.new }
     ensures closed { result ≡ CLOSED → (b : List ℕ) → HasRead fed.old b → ⊥ }
     ensures kept { result ≢ FAULT → told.new ≡ told.old }
     ensures status { (result ≢ MISUSED) × (result ≤ CLOSED) }
@@ -104,8 +106,10 @@ pub extern "C" fn nixu_reader_finish(
         → TellsFaults b (length faults.now) told.old told.new }
     ensures misused { (result ≡ MISUSED) ↔ (length told.old < length faults.now) }
     ensures closed { result ≡ CLOSED → (b : List ℕ) → HasReadIn reader.old.held.value b → ⊥ }
-    ensures none { IsNoReader reader.old.held.value → (MISUSED ≤ result) × (reader.new.held.value ≡ reader.old.held.value) }
-    ensures left { IsReader reader.old.held.value → result ≢ MISUSED → reader.new.held.value ≡ None }
+    ensures none { IsNoReader reader.old.held.value
+        → (MISUSED ≤ result) × (reader.new.held.value ≡ reader.old.held.value) }
+    ensures left { IsReader reader.old.held.value
+        → result ≢ MISUSED → reader.new.held.value ≡ None }
     ensures stays { result ≡ MISUSED → reader.new.held.value ≡ reader.old.held.value }
     ensures kept { NO_MEMORY ≤ result → told.new ≡ told.old }
     ensures status { result ≤ CLOSED }
@@ -129,8 +133,10 @@ pub extern "C" fn nixu_reader_finish(
 /// Ends the text that a reader was fed with.
 fn finish(alloc: Global, fed: FedReader, faults: &[u16], told: &mut [Summary]) -> u32
     requires { length faults.now ≤ length told.old }
-    ensures ok { result ≡ OK → (b : List ℕ) → HasRead fed b → TellsVerdicts b faults.now told.old told.new }
-    ensures fault { result ≡ FAULT → (b : List ℕ) → HasRead fed b → TellsFaults b (length faults.now) told.old told.new }
+    ensures ok { result ≡ OK → (b : List ℕ) → HasRead fed b
+        → TellsVerdicts b faults.now told.old told.new }
+    ensures fault { result ≡ FAULT → (b : List ℕ) → HasRead fed b
+        → TellsFaults b (length faults.now) told.old told.new }
     ensures closed { result ≡ CLOSED → (b : List ℕ) → HasRead fed b → ⊥ }
     ensures kept { NO_MEMORY ≤ result → told.new ≡ told.old }
     ensures status { (result ≢ MISUSED) × (result ≤ CLOSED) }

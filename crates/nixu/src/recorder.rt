@@ -24,9 +24,11 @@ use std::alloc::Global;
 /// [`NO_MEMORY`]. Where it does not answer `OK`, nothing changes.
 #[unsafe(no_mangle)]
 pub extern "C" fn nixu_trace_open(alloc: Global, trace: &mut Handle, processes: u16) -> u32
-    ensures ok { result ≡ OK → recording_in trace.new.held.value ≡ Some (record { processes = processes; past = [] }) }
+    ensures ok { result ≡ OK
+        → recording_in trace.new.held.value ≡ Some (record { processes = processes; past = [] }) }
     ensures count { result ≡ OK → IsProcessCount processes }
-    ensures misused { result ≡ MISUSED → IsSome trace.old.held.value ⊎ (IsProcessCount processes → ⊥) }
+    ensures misused { result ≡ MISUSED
+        → IsSome trace.old.held.value ⊎ (IsProcessCount processes → ⊥) }
     ensures open { IsSome trace.old.held.value → result ≡ MISUSED }
     ensures kept { result ≢ OK → trace.new.held.value ≡ trace.old.held.value }
     ensures status { (result ≢ FAULT) × (result ≤ MISUSED) }
@@ -60,7 +62,8 @@ pub extern "C" fn nixu_trace_push(
         → TellsAgainstIn (recording_in trace.old.held.value) (entry_of entry.now listed.now) fault.new }
     ensures misused { result ≡ MISUSED → entry_of entry.now listed.now ≡ None }
     ensures closed { (result ≡ CLOSED) ↔ (recording_in trace.old.held.value ≡ None) }
-    ensures kept { result ≢ OK → recording_in trace.new.held.value ≡ recording_in trace.old.held.value }
+    ensures kept { result ≢ OK
+        → recording_in trace.new.held.value ≡ recording_in trace.old.held.value }
     ensures unsaid { result ≢ FAULT → fault.new ≡ fault.old }
     ensures status { result ≤ CLOSED }
 {
@@ -83,8 +86,10 @@ fn push(
     listed: &[Determinant],
     fault: &mut u32,
 ) -> u32
-    ensures ok { result ≡ OK → Takes trace.old.recording (entry_of entry.now listed.now) trace.new.recording }
-    ensures fault { result ≡ FAULT → TellsAgainst trace.old.recording (entry_of entry.now listed.now) fault.new }
+    ensures ok { result ≡ OK
+        → Takes trace.old.recording (entry_of entry.now listed.now) trace.new.recording }
+    ensures fault { result ≡ FAULT
+        → TellsAgainst trace.old.recording (entry_of entry.now listed.now) fault.new }
     ensures misused { result ≡ MISUSED → entry_of entry.now listed.now ≡ None }
     ensures kept { result ≢ OK → trace.new.recording ≡ trace.old.recording }
     ensures unsaid { result ≢ FAULT → fault.new ≡ fault.old }
@@ -170,7 +175,8 @@ pub extern "C" fn nixu_trace_text(
     out: &mut [u8],
     needed: &mut usize,
 ) -> u32
-    ensures ok { result ≡ OK → OfTrace trace.old.held.value (λ r. IsGiven (canonical r) out.old out.new needed.new) }
+    ensures ok { result ≡ OK
+        → OfTrace trace.old.held.value (λ r. IsGiven (canonical r) out.old out.new needed.new) }
     ensures closed { (result ≡ CLOSED) ↔ (recording_in trace.old.held.value ≡ None) }
     ensures stays { trace.new.held.value ≡ trace.old.held.value }
     ensures kept { result ≢ OK → IsUntouched out.old out.new needed.old needed.new }

@@ -39,7 +39,8 @@ pub extern "C" fn nixu_line(
     out: &mut [u8],
     needed: &mut usize,
 ) -> u32
-    ensures ok { result ≡ OK → Gives (IsShown View.Line text.now faults) out.old out.new needed.new }
+    ensures ok { result ≡ OK
+        → Gives (IsShown View.Line text.now faults) out.old out.new needed.new }
     ensures fault { result ≡ FAULT → Gives (IsFaultLine text.now) out.old out.new needed.new }
     ensures kept { result ≡ NO_MEMORY → IsUntouched out.old out.new needed.old needed.new }
     ensures status { result ≤ NO_MEMORY }
@@ -57,7 +58,8 @@ pub extern "C" fn nixu_explain(
     out: &mut [u8],
     needed: &mut usize,
 ) -> u32
-    ensures ok { result ≡ OK → Gives (IsShown View.Reason text.now faults) out.old out.new needed.new }
+    ensures ok { result ≡ OK
+        → Gives (IsShown View.Reason text.now faults) out.old out.new needed.new }
     ensures fault { result ≡ FAULT → Gives (IsFaultLine text.now) out.old out.new needed.new }
     ensures kept { result ≡ NO_MEMORY → IsUntouched out.old out.new needed.old needed.new }
     ensures status { result ≤ NO_MEMORY }
@@ -75,7 +77,8 @@ pub extern "C" fn nixu_draw(
     out: &mut [u8],
     needed: &mut usize,
 ) -> u32
-    ensures ok { result ≡ OK → Gives (IsShown View.Picture text.now faults) out.old out.new needed.new }
+    ensures ok { result ≡ OK
+        → Gives (IsShown View.Picture text.now faults) out.old out.new needed.new }
     ensures fault { result ≡ FAULT → Gives (IsFaultLine text.now) out.old out.new needed.new }
     ensures kept { result ≡ NO_MEMORY → IsUntouched out.old out.new needed.old needed.new }
     ensures status { result ≤ NO_MEMORY }
@@ -150,7 +153,8 @@ fn showing(
     view: View,
 ) -> Result<Vec<u8>, NoMemory>
     requires { IsVerdict trace.now.recording faults judged.now.verdict }
-    ensures { IfOk result (λ bytes. IsShowing view trace.now.recording faults judged.now bytes.items) }
+    ensures { IfOk result
+        (λ bytes. IsShowing view trace.now.recording faults judged.now bytes.items) }
 {
     match view {
         View::Line => verdict_line(alloc, faults, judged),
@@ -162,7 +166,8 @@ fn showing(
 /// The line of a verdict, and below it why it is so.
 fn reasoned(alloc: Global, trace: &Trace, faults: u16, judged: &Judged) -> Result<Vec<u8>, NoMemory>
     requires { IsVerdict trace.now.recording faults judged.now.verdict }
-    ensures { IfOk result (λ bytes. IsShowing View.Reason trace.now.recording faults judged.now bytes.items) }
+    ensures { IfOk result
+        (λ bytes. IsShowing View.Reason trace.now.recording faults judged.now bytes.items) }
 {
     let mut bytes = verdict_line(alloc, faults, judged)?;
     let reason = reason_text(alloc, trace, faults, judged.verdict)?;
