@@ -1,5 +1,6 @@
 -- The first breach of a delivery, as far as an instant.
-use Rattle.causal_audit.specs.Inside.Common.{ℕ, ◌≤◌, Option, Some, None, MatchOption, instant, Recording, HasOrphan}
+use Rattle.std.specs.Prelude.{ℕ, ◌≤◌, Option, Some, None, MatchOption}
+use Rattle.causal_audit.specs.Inside.Common.{instant, Recording, HasOrphan}
 use Rattle.causal_audit.specs.declared.breach.Breach.{Breach}
 use Rattle.causal_audit.specs.Breaches.{IsFirstBreach}
 pub use Rattle.causal_audit.specs.Parts.{IsLeastAmong, LeastAmongBy}

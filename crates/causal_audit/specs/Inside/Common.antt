@@ -1,5 +1,4 @@
 -- The names that these definitions cite, passed on from one place. Declares nothing.
-pub use Rattle.std.specs.Prelude.{ℕ, ◌≤◌, Option, Some, None, MatchOption, ◌≡◌, true, false, List, Contains, ◌<◌, ◌↔◌, slice_index_or, ◌⊎◌, ◌||◌, Bool, ◌∷◌, length, slice_index, ◌+◌, map, ◌-◌, min, vec_capacity, ◌==◌, if◌then◌else◌, [], IfSome, ◌++◌, slice_set, ◌&&◌, not}
 pub use Rattle.std.specs.Option.{option_map_or}
 pub use Rattle.std.specs.List.{All, AllWithin}
 pub use Rattle.std.specs.List.Sorted.{IsNonDecreasing, IsStrictlyIncreasing, IsPartitionPoint, IsNonDecreasingBy}

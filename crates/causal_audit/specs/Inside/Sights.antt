@@ -1,5 +1,6 @@
 -- What is known of one delivery at a state, and whether it has an orphan there.
-use Rattle.causal_audit.specs.Inside.Common.{◌≡◌, ℕ, ◌↔◌, Bool, true, false, List, ◌∷◌, length, Option, Some, MatchOption, ◌<◌, nat_cmp, FinSet, contains, Det, Entry, det_at, has, is_down, logs, is_stable, AreAccepted, HasOrphan, actor, Reaches, Depends}
+use Rattle.std.specs.Prelude.{◌≡◌, ℕ, ◌↔◌, Bool, true, false, List, ◌∷◌, length, Option, Some, MatchOption, ◌<◌}
+use Rattle.causal_audit.specs.Inside.Common.{nat_cmp, FinSet, contains, Det, Entry, det_at, has, is_down, logs, is_stable, AreAccepted, HasOrphan, actor, Reaches, Depends}
 use Rattle.causal_audit.specs.declared.sight.Sight.{Sight}
 use Rattle.causal_audit.specs.declared.sight.Exposed.{Exposed}
 use Rattle.causal_audit.specs.Quiet.{mentioned_by}

@@ -1,5 +1,6 @@
 -- Where something may change for a delivery, and a walk over that.
-use Rattle.causal_audit.specs.Inside.Common.{◌≡◌, ℕ, true, false, List, Some, Contains, ◌<◌, ◌≤◌, ◌↔◌, slice_index_or, ◌⊎◌, ◌||◌, Bool, Det, Entry, entry_at, has, nat_cmp, FinSet, contains, IsNonDecreasing, actor, IsEventOf, Reaches}
+use Rattle.std.specs.Prelude.{◌≡◌, ℕ, true, false, List, Some, Contains, ◌<◌, ◌≤◌, ◌↔◌, slice_index_or, ◌⊎◌, ◌||◌, Bool}
+use Rattle.causal_audit.specs.Inside.Common.{Det, Entry, entry_at, has, nat_cmp, FinSet, contains, IsNonDecreasing, actor, IsEventOf, Reaches}
 use Rattle.causal_audit.specs.Quiet.{is_turn, mentioned_by}
 use Rattle.causal_audit.specs.declared.by_clock.changes.Changes.{Changes}
 use Rattle.causal_audit.specs.declared.by_clock.changes.Ahead.{Ahead}

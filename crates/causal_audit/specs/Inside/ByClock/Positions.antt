@@ -1,5 +1,6 @@
 -- What one more entry changes of the positions of the deliveries.
-use Rattle.causal_audit.specs.Inside.Common.{◌≡◌, ℕ, List, ◌∷◌, length, Entry}
+use Rattle.std.specs.Prelude.{◌≡◌, ℕ, List, ◌∷◌, length}
+use Rattle.causal_audit.specs.Inside.Common.{Entry}
 use Rattle.causal_audit.specs.Numbers.{ArePositions}
 
 -- `after` has the positions of all deliveries with one more entry, at position i, where `before` has them without it

@@ -1,5 +1,6 @@
 -- How the events of a clock stand for the entries of a run.
-use Rattle.causal_audit.specs.Inside.Common.{◌≡◌, ℕ, ◌<◌, ◌≤◌, ◌↔◌, Some, List, ◌∷◌, length, slice_index, Entry, lane, restarts, AreAccepted, IsWellFormed, Recording, entries_of, IsEventOf, Delivers}
+use Rattle.std.specs.Prelude.{◌≡◌, ℕ, ◌<◌, ◌≤◌, ◌↔◌, Some, List, ◌∷◌, length, slice_index}
+use Rattle.causal_audit.specs.Inside.Common.{Entry, lane, restarts, AreAccepted, IsWellFormed, Recording, entries_of, IsEventOf, Delivers}
 use Rattle.causal_clock.specs.declared.Event.{Event}
 use Rattle.causal_clock.specs.Timeline.{Timeline, lane_of, send_of}
 use Rattle.causal_audit.specs.Inside.Index.Spreads.{AreSpreads, process_at}

@@ -1,5 +1,6 @@
 -- What the tables of a recorded run keep of it.
-use Rattle.causal_audit.specs.Inside.Common.{ℕ, ◌+◌, ◌≤◌, List, length, max_processes, max_entries, max_restarts, Recording, IsWellFormed}
+use Rattle.std.specs.Prelude.{ℕ, ◌+◌, ◌≤◌, List, length}
+use Rattle.causal_audit.specs.Inside.Common.{max_processes, max_entries, max_restarts, Recording, IsWellFormed}
 use Rattle.causal_clock.specs.declared.Event.{Event}
 use Rattle.causal_audit.specs.Inside.Index.Filed.{AreLanes, AreMentions, Numbers}
 use Rattle.causal_audit.specs.Inside.Index.Kept.{AreTurnsKept}

@@ -1,5 +1,6 @@
 -- Which deliveries are followed, and what a survey reads to tell them.
-use Rattle.causal_audit.specs.Inside.Common.{◌≡◌, ℕ, ◌≤◌, List, length, map, Some, ◌-◌, ◌<◌, ◌⊎◌, false, min, Contains, All, Det, Entry, det_at, instant, Recording, IsWellFormed, IsStrictlyIncreasing, max_entries}
+use Rattle.std.specs.Prelude.{◌≡◌, ℕ, ◌≤◌, List, length, map, Some, ◌-◌, ◌<◌, ◌⊎◌, false, min, Contains}
+use Rattle.causal_audit.specs.Inside.Common.{All, Det, Entry, det_at, instant, Recording, IsWellFormed, IsStrictlyIncreasing, max_entries}
 use Rattle.causal_audit.specs.Inside.Among.{HasNoOrphanFrom, HasNoOrphanBy}
 use Rattle.causal_audit.specs.declared.index.mentions.Mentions.{Mentions}
 use Rattle.causal_audit.specs.declared.group.scan.Window.{Window}

@@ -1,5 +1,6 @@
 -- What is known of the deliveries of a group, by their places, in one walk over the entries.
-use Rattle.causal_audit.specs.Inside.Common.{◌≡◌, ℕ, ◌+◌, ◌<◌, ◌≤◌, ◌↔◌, ◌⊎◌, Bool, true, false, List, ◌∷◌, length, Option, Some, slice_index_or, vec_capacity, Contains, nat_cmp, FinSet, contains, empty, Det, Entry, det_at, has, logs, is_stable, is_down, instant, entry_at, AreAccepted, Recording, IsWellFormed, actor, IsEventOf, Reaches, Depends, Deliver, Restart, Forget, max_entries}
+use Rattle.std.specs.Prelude.{◌≡◌, ℕ, ◌+◌, ◌<◌, ◌≤◌, ◌↔◌, ◌⊎◌, Bool, true, false, List, ◌∷◌, length, Option, Some, slice_index_or, vec_capacity, Contains}
+use Rattle.causal_audit.specs.Inside.Common.{nat_cmp, FinSet, contains, empty, Det, Entry, det_at, has, logs, is_stable, is_down, instant, entry_at, AreAccepted, Recording, IsWellFormed, actor, IsEventOf, Reaches, Depends, Deliver, Restart, Forget, max_entries}
 use Rattle.causal_audit.specs.declared.group.reach.Reach.{Reach}
 use Rattle.causal_audit.specs.declared.group.scan.Window.{Window}
 use Rattle.causal_audit.specs.Quiet.{mentioned_by}

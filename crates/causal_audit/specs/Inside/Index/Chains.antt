@@ -1,7 +1,8 @@
 -- How determinants are numbered: of each sender there is a list of heads, one for each number of a message, and a head
 -- leads along the nodes to the determinants of that message, the newest first. Nodes stand here with the newest first,
 -- and a node's place is how many nodes are older: it is the number of the node's determinant.
-use Rattle.causal_audit.specs.Inside.Common.{◌≡◌, ℕ, ◌<◌, Bool, false, ◌==◌, if◌then◌else◌, List, [], ◌∷◌, length, map, slice_index_or, Option, Some, None, IfSome, option_map_or, Det, message_of, same_det, same_message}
+use Rattle.std.specs.Prelude.{◌≡◌, ℕ, ◌<◌, Bool, false, ◌==◌, if◌then◌else◌, List, [], ◌∷◌, length, map, slice_index_or, Option, Some, None, IfSome}
+use Rattle.causal_audit.specs.Inside.Common.{option_map_or, Det, message_of, same_det, same_message}
 use Rattle.causal_audit.specs.Inside.Index.Filed.{number_of}
 use Rattle.causal_audit.specs.declared.index.numbering.Node.{Node}
 

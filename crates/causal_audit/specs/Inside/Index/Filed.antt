@@ -1,5 +1,6 @@
 -- The lists of positions that are kept of a run.
-use Rattle.causal_audit.specs.Inside.Common.{◌≡◌, ℕ, ◌+◌, ◌<◌, ◌≤◌, ◌⊎◌, true, if◌then◌else◌, List, [], ◌∷◌, ◌++◌, length, map, Option, Some, None, slice_set, slice_index_or, Contains, ◌&&◌, ◌==◌, not, Bool, false, MatchOption, All, IsNonDecreasing, option_map_or, nat_cmp, FinSet, Det, same_det, Entry, entry_at, has, instant, is_down, past_at, IsEventOf, Crash, Restart}
+use Rattle.std.specs.Prelude.{◌≡◌, ℕ, ◌+◌, ◌<◌, ◌≤◌, ◌⊎◌, true, if◌then◌else◌, List, [], ◌∷◌, ◌++◌, length, map, Option, Some, None, slice_set, slice_index_or, Contains, ◌&&◌, ◌==◌, not, Bool, false, MatchOption}
+use Rattle.causal_audit.specs.Inside.Common.{All, IsNonDecreasing, option_map_or, nat_cmp, FinSet, Det, same_det, Entry, entry_at, has, instant, is_down, past_at, IsEventOf, Crash, Restart}
 use Rattle.std.specs.Global.{Vec}
 use Rattle.causal_clock.specs.declared.Event.{Event}
 use Rattle.causal_clock.specs.Timeline.{lane_of}

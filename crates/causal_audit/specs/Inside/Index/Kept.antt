@@ -1,5 +1,6 @@
 -- What is kept of turns and of mentions, told of the values that keep it.
-use Rattle.causal_audit.specs.Inside.Common.{◌≡◌, ℕ, true, List, All, Det, Entry}
+use Rattle.std.specs.Prelude.{◌≡◌, ℕ, true, List}
+use Rattle.causal_audit.specs.Inside.Common.{All, Det, Entry}
 use Rattle.causal_audit.specs.declared.index.mentions.Mentions.{Mentions}
 use Rattle.causal_audit.specs.declared.index.turns.Turns.{Turns}
 use Rattle.causal_audit.specs.Inside.Index.Filed.{AreTurnsOf, Ascends, AreMentions, AreMentionsWith, AreTurns, lists_in, mentions_of}

@@ -1,5 +1,6 @@
 -- What an outline of a run says has one proof at most, and what a look at a determinant says.
-use Rattle.causal_audit.specs.Inside.Common.{◌≡◌, ℕ, Bool, true, List, [], ◌∷◌, Option, Some, Det, Entry}
+use Rattle.std.specs.Prelude.{◌≡◌, ℕ, Bool, true, List, [], ◌∷◌, Option, Some}
+use Rattle.causal_audit.specs.Inside.Common.{Det, Entry}
 use Rattle.std.specs.Coded.{Unit-prop, codes}
 use Rattle.std.proofs.Props.{props}
 use Rattle.std.proofs.Common.{sym, subst, ◌∙◌}

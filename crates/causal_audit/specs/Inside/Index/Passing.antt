@@ -1,5 +1,6 @@
 -- A place among the crashes and restarts of a run.
-use Rattle.causal_audit.specs.Inside.Common.{◌≡◌, ℕ, ◌<◌, ◌≤◌, length, AllWithin, IsPartitionPoint}
+use Rattle.std.specs.Prelude.{◌≡◌, ℕ, ◌<◌, ◌≤◌, length}
+use Rattle.causal_audit.specs.Inside.Common.{AllWithin, IsPartitionPoint}
 use Rattle.causal_audit.specs.declared.index.turns.Turns.{Turns}
 use Rattle.causal_audit.specs.declared.index.turns.Passing.{Passing}
 

@@ -1,5 +1,6 @@
 -- What one more entry changes of how long a process stays down or holds a determinant.
-use Rattle.causal_audit.specs.Inside.Common.{◌≡◌, ℕ, List, ◌∷◌, length, Entry}
+use Rattle.std.specs.Prelude.{◌≡◌, ℕ, List, ◌∷◌, length}
+use Rattle.causal_audit.specs.Inside.Common.{Entry}
 use Rattle.causal_audit.specs.Lasting.{NoneReleasedFrom}
 
 -- from `after` on none is released with one more entry, where from `before` on none was without it

@@ -1,5 +1,6 @@
 -- How long each entry stays with its process, as it is noted entry by entry.
-use Rattle.causal_audit.specs.Inside.Common.{◌≡◌, ℕ, ◌<◌, ◌≤◌, List, length, slice_index_or, slice_set, min, option_map_or, Entry, Deliver, Send, entry_at, Delivers}
+use Rattle.std.specs.Prelude.{◌≡◌, ℕ, ◌<◌, ◌≤◌, List, length, slice_index_or, slice_set, min}
+use Rattle.causal_audit.specs.Inside.Common.{option_map_or, Entry, Deliver, Send, entry_at, Delivers}
 
 -- for each entry a position, before which no send of its process from it on is delivered
 pub record AreSpreads (past : List Entry) (whose : ℕ → ℕ) (spreads : List ℕ) : Type 0 where

@@ -1,5 +1,6 @@
 -- Where a look at a determinant stands, how the determinant stands then, and what all looks found.
-use Rattle.causal_audit.specs.Inside.Common.{◌≡◌, ℕ, ◌<◌, ◌≤◌, true, false, List, ◌+◌, ◌⊎◌, Contains, length, Some, slice_index_or, nat_cmp, FinSet, contains, len, union, Det, Entry, instant, is_stable, is_down, logs, All, IsNonDecreasingBy, Recording}
+use Rattle.std.specs.Prelude.{◌≡◌, ℕ, ◌<◌, ◌≤◌, true, false, List, ◌+◌, ◌⊎◌, Contains, length, Some, slice_index_or}
+use Rattle.causal_audit.specs.Inside.Common.{nat_cmp, FinSet, contains, len, union, Det, Entry, instant, is_stable, is_down, logs, All, IsNonDecreasingBy, Recording}
 use Rattle.causal_name.specs.Sets.{count_below}
 use Rattle.causal_audit.specs.Laws.{gone}
 use Rattle.causal_audit.specs.declared.look.thin.Standing.{Standing}

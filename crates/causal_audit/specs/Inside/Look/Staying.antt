@@ -1,5 +1,6 @@
 -- Until when those who are down or hold a determinant are still so.
-use Rattle.causal_audit.specs.Inside.Common.{◌≡◌, ℕ, ◌<◌, ◌≤◌, ◌&&◌, Bool, true, false, not, List, length, Some, nat_cmp, FinSet, contains, Det, Entry, Restart, instant, entry_at, has, is_down, logs, AreAccepted}
+use Rattle.std.specs.Prelude.{◌≡◌, ℕ, ◌<◌, ◌≤◌, ◌&&◌, Bool, true, false, not, List, length, Some}
+use Rattle.causal_audit.specs.Inside.Common.{nat_cmp, FinSet, contains, Det, Entry, Restart, instant, entry_at, has, is_down, logs, AreAccepted}
 use Rattle.causal_audit.specs.Laws.{gone}
 use Rattle.causal_audit.specs.Quiet.{mentioned_by}
 
