@@ -54,7 +54,3 @@ unheard_before past k d t unmentioned early within = record {
       (λ v e above below at so. sym (stable_stays e (instant past v) d (unmentioned v e above below at)) ∙ so) (ap (λ x. is_stable x d) (no_entry past));
   independent = λ p depends. omega (arith, reaches_begins (instant past t) k depends.event depends.reached, instant_length past t within, early);
 }
-
-pub unheard_until : (past : List Entry) (k : ℕ) (d : Det) (mentions : List ℕ) (t : ℕ) → HasMentions past d mentions → HasNoneUntil mentions 0 t → t ≤ k → t ≤ length past → IsUnheard (instant past t) k d
-unheard_until past k d mentions t mentioned none early within =
-    unheard_before past k d t (λ v e above below at. mentioned v e at (none v above below)) early within

@@ -283,15 +283,6 @@ held_delivery to send rsn listed mentioned old new others here past j d says so 
       | inr other ↦ or_right ((to.0 == q) && has listed d) (logs past q d) other.1
     ]
 
-pub held_restart : (who : Pid) (listed : List Det) (mentioned : FinSet nat_cmp) (old new : List (FinSet nat_cmp)) → ((i : ℕ) → (i ≡ who.0 → ⊥) → row new i ≡ row old i)
-    → ((j : ℕ) → contains (row new who.0) j ≡ true → contains mentioned j ≡ true)
-    → (past : List Entry) (j : ℕ) (d : Det) → contains mentioned j ≡ has listed d → IsHeldSo past j d old → IsHeldSo (Restart who listed ∷ past) j d new
-held_restart who listed mentioned old new others here past j d says so q h =
-    elim (at_row old new who.0 mentioned others here past j d so q h) [
-      | inl is ↦ or_left ((who.0 == q) && has listed d) (logs past q d) (and_from (who.0 == q) (has listed d) is.0 (sym says ∙ is.2))
-      | inr other ↦ or_right ((who.0 == q) && has listed d) (logs past q d) other.1
-    ]
-
 pub held_forget : (who : Pid) (listed : List Det) (mentioned : FinSet nat_cmp) (old new : List (FinSet nat_cmp)) → ((i : ℕ) → (i ≡ who.0 → ⊥) → row new i ≡ row old i)
     → ((j : ℕ) → contains (row new who.0) j ≡ true → contains (difference (row old who.0) mentioned) j ≡ true)
     → (past : List Entry) (j : ℕ) (d : Det) → contains mentioned j ≡ has listed d → IsHeldSo past j d old → IsHeldSo (Forget who listed ∷ past) j d new
