@@ -1,21 +1,22 @@
 //! The member of an object that a field makes.
 ghost use Rattle.std.specs.Prelude.{OnOk, map};
-ghost use Rattle.causal_report.specs.Inside.Added.{Adds};
+ghost use Rattle.causal_report.specs.Inside.Added.{AddsBytes};
 ghost use Rattle.causal_report.specs.Objects as told;
 
 use crate::json::parts::parts;
 use std::alloc::{AllocError, Global};
 
-/// Adds the member of a field.
+/// AddsBytes the member of a field.
 pub(crate) fn push_field(alloc: Global, out: &mut Vec<u8>, field: &[u8]) -> Result<(), AllocError>
-    ensures { OnOk result (Adds out.old out.new (told.field_member field.now)) }
+    ensures { OnOk result (AddsBytes out.old out.new (told.field_member field.now)) }
 {
     let found = parts(alloc, b'=', field)?;
     push_member(out, found.as_slice())
 }
 
 fn push_member(out: &mut Vec<u8>, field: &[&[u8]]) -> Result<(), AllocError>
-    ensures { OnOk result (Adds out.old out.new (told.member (map (λ part. part.now) field.now))) }
+    ensures { OnOk result
+        (AddsBytes out.old out.new (told.member (map (λ part. part.now) field.now))) }
 {
     match field {
         [key, value] => push_pair(out, key, value),
@@ -25,7 +26,7 @@ fn push_member(out: &mut Vec<u8>, field: &[&[u8]]) -> Result<(), AllocError>
 }
 
 fn push_pair(out: &mut Vec<u8>, key: &[u8], value: &[u8]) -> Result<(), AllocError>
-    ensures { OnOk result (Adds out.old out.new (told.pair key.now value.now)) }
+    ensures { OnOk result (AddsBytes out.old out.new (told.pair key.now value.now)) }
 {
     out.push(b',')?;
     push_quoted(out, key)?;
@@ -34,14 +35,14 @@ fn push_pair(out: &mut Vec<u8>, key: &[u8], value: &[u8]) -> Result<(), AllocErr
 }
 
 fn push_kind(out: &mut Vec<u8>, word: &[u8]) -> Result<(), AllocError>
-    ensures { OnOk result (Adds out.old out.new (told.kind word.now)) }
+    ensures { OnOk result (AddsBytes out.old out.new (told.kind word.now)) }
 {
     out.extend_from_slice(b",\"kind\":".as_slice())?;
     push_quoted(out, word)
 }
 
 fn push_value(out: &mut Vec<u8>, key: &[u8], value: &[u8]) -> Result<(), AllocError>
-    ensures { OnOk result (Adds out.old out.new (told.value key.now value.now)) }
+    ensures { OnOk result (AddsBytes out.old out.new (told.value key.now value.now)) }
 {
     if key == b"by".as_slice() {
         push_quoted(out, value)
@@ -52,9 +53,9 @@ fn push_value(out: &mut Vec<u8>, key: &[u8], value: &[u8]) -> Result<(), AllocEr
     }
 }
 
-/// Adds a text in quotes.
+/// AddsBytes a text in quotes.
 pub(crate) fn push_quoted(out: &mut Vec<u8>, text: &[u8]) -> Result<(), AllocError>
-    ensures { OnOk result (Adds out.old out.new (told.quoted text.now)) }
+    ensures { OnOk result (AddsBytes out.old out.new (told.quoted text.now)) }
 {
     out.push(b'"')?;
     out.extend_from_slice(text)?;
@@ -62,7 +63,7 @@ pub(crate) fn push_quoted(out: &mut Vec<u8>, text: &[u8]) -> Result<(), AllocErr
 }
 
 fn push_list(out: &mut Vec<u8>, value: &[u8]) -> Result<(), AllocError>
-    ensures { OnOk result (Adds out.old out.new (told.list value.now)) }
+    ensures { OnOk result (AddsBytes out.old out.new (told.list value.now)) }
 {
     if value == b"-".as_slice() {
         return out.extend_from_slice(b"[]".as_slice());
@@ -73,7 +74,7 @@ fn push_list(out: &mut Vec<u8>, value: &[u8]) -> Result<(), AllocError>
 }
 
 fn push_number(out: &mut Vec<u8>, value: &[u8]) -> Result<(), AllocError>
-    ensures { OnOk result (Adds out.old out.new (told.number value.now)) }
+    ensures { OnOk result (AddsBytes out.old out.new (told.number value.now)) }
 {
     if value == b"-".as_slice() {
         out.extend_from_slice(b"null".as_slice())

@@ -1,6 +1,6 @@
 //! The objects of answers.
 ghost use Rattle.std.specs.Prelude.{◌≡◌, OnOk, IfOk, map, flat_map};
-ghost use Rattle.causal_report.specs.Inside.Added.{Adds};
+ghost use Rattle.causal_report.specs.Inside.Added.{AddsBytes};
 ghost use Rattle.causal_report.specs.Objects as told;
 
 use crate::json::member::{push_field, push_quoted};
@@ -43,7 +43,8 @@ pub fn ranges_object(alloc: Global, text: &[u8]) -> Result<Vec<u8>, AllocError>
 }
 
 fn push_verdict(alloc: Global, out: &mut Vec<u8>, lines: &[&[u8]]) -> Result<(), AllocError>
-    ensures { OnOk result (Adds out.old out.new (told.verdict (map (λ line. line.now) lines.now))) }
+    ensures { OnOk result
+        (AddsBytes out.old out.new (told.verdict (map (λ line. line.now) lines.now))) }
 {
     let [line, facts @ ..] = lines else {
         return Ok(());
@@ -53,7 +54,8 @@ fn push_verdict(alloc: Global, out: &mut Vec<u8>, lines: &[&[u8]]) -> Result<(),
 }
 
 fn push_reason(alloc: Global, out: &mut Vec<u8>, facts: &[&[u8]]) -> Result<(), AllocError>
-    ensures { OnOk result (Adds out.old out.new (told.reason (map (λ line. line.now) facts.now))) }
+    ensures { OnOk result
+        (AddsBytes out.old out.new (told.reason (map (λ line. line.now) facts.now))) }
 {
     if facts.is_empty() {
         return Ok(());
@@ -69,14 +71,14 @@ fn push_array(
     lines: &[&[u8]],
 ) -> Result<(), AllocError>
     ensures { OnOk result
-        (Adds out.old out.new (told.array name.now (map (λ line. line.now) lines.now))) }
+        (AddsBytes out.old out.new (told.array name.now (map (λ line. line.now) lines.now))) }
 {
     out.push(b'[')?;
     push_listed(alloc, out, name, lines)?;
     out.extend_from_slice(b"]".as_slice())
 }
 
-/// Adds an object for each line, with commas between them.
+/// AddsBytes an object for each line, with commas between them.
 fn push_listed(
     alloc: Global,
     out: &mut Vec<u8>,
@@ -84,7 +86,7 @@ fn push_listed(
     lines: &[&[u8]],
 ) -> Result<(), AllocError>
     ensures { OnOk result
-        (Adds out.old out.new (told.listed name.now (map (λ line. line.now) lines.now))) }
+        (AddsBytes out.old out.new (told.listed name.now (map (λ line. line.now) lines.now))) }
 {
     let [line, more @ ..] = lines else {
         return Ok(());
@@ -99,7 +101,7 @@ fn push_more(
     name: &[u8],
     lines: &[&[u8]],
 ) -> Result<(), AllocError>
-    ensures { OnOk result (Adds out.old out.new
+    ensures { OnOk result (AddsBytes out.old out.new
         (flat_map (told.next_object name.now) (map (λ line. line.now) lines.now))) }
 {
     for line in lines {
@@ -110,16 +112,16 @@ fn push_more(
 }
 
 fn push_object(alloc: Global, out: &mut Vec<u8>, name: &[u8], line: &[u8]) -> Result<(), AllocError>
-    ensures { OnOk result (Adds out.old out.new (told.object name.now line.now)) }
+    ensures { OnOk result (AddsBytes out.old out.new (told.object name.now line.now)) }
 {
     out.push(b'{')?;
     push_line(alloc, out, name, line)?;
     out.extend_from_slice(b"}".as_slice())
 }
 
-/// Adds what a line says, but for its sentence.
+/// AddsBytes what a line says, but for its sentence.
 fn push_line(alloc: Global, out: &mut Vec<u8>, name: &[u8], line: &[u8]) -> Result<(), AllocError>
-    ensures { OnOk result (Adds out.old out.new (told.line_members name.now line.now)) }
+    ensures { OnOk result (AddsBytes out.old out.new (told.line_members name.now line.now)) }
 {
     let found = parts(alloc, b':', line)?;
     let [fields, ..] = found.as_slice() else {
@@ -136,7 +138,7 @@ fn push_words(
     words: &[&[u8]],
 ) -> Result<(), AllocError>
     ensures { OnOk result
-        (Adds out.old out.new (told.members name.now (map (λ word. word.now) words.now))) }
+        (AddsBytes out.old out.new (told.members name.now (map (λ word. word.now) words.now))) }
 {
     let [word, fields @ ..] = words else {
         return Ok(());
@@ -146,7 +148,7 @@ fn push_words(
 }
 
 fn push_named(out: &mut Vec<u8>, name: &[u8], word: &[u8]) -> Result<(), AllocError>
-    ensures { OnOk result (Adds out.old out.new (told.named name.now word.now)) }
+    ensures { OnOk result (AddsBytes out.old out.new (told.named name.now word.now)) }
 {
     push_quoted(out, name)?;
     out.push(b':')?;
@@ -155,7 +157,7 @@ fn push_named(out: &mut Vec<u8>, name: &[u8], word: &[u8]) -> Result<(), AllocEr
 
 fn push_fields(alloc: Global, out: &mut Vec<u8>, fields: &[&[u8]]) -> Result<(), AllocError>
     ensures { OnOk result
-        (Adds out.old out.new (flat_map told.field_member (map (λ field. field.now) fields.now))) }
+        (AddsBytes out.old out.new (flat_map told.field_member (map (λ field. field.now) fields.now))) }
 {
     for field in fields {
         push_field(alloc, out, field)?;
