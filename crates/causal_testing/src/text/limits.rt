@@ -48,17 +48,18 @@ fn fault_read(alloc: Global, text: &[u8], entries: u32) -> Option<TextFault> {
 
 /// Whether so many sends are read within a limit of as many, and the last of one more is one too many.
 fn are_most(alloc: Global, count: u32) -> Result<bool, Fail> {
+    let next = count.saturating_add(1);
     let mut text = sends(alloc, count)?;
-    let mut more = sends(alloc, count + 1)?;
+    let mut more = sends(alloc, next)?;
     write!(text, "[\"end\",{count}]\n")?;
-    write!(more, "[\"end\",{}]\n", count + 1)?;
+    write!(more, "[\"end\",{next}]\n")?;
     let one_more = TextFault {
-        line: count + 2,
+        line: next.saturating_add(1),
         kind: TextKind::TooLong,
     };
     Ok(
         entries_read(alloc, text.as_bytes(), count) == Some(count)
-            && entries_read(alloc, more.as_bytes(), count + 1) == Some(count + 1)
+            && entries_read(alloc, more.as_bytes(), next) == Some(next)
             && fault_read(alloc, more.as_bytes(), count) == Some(one_more),
     )
 }
