@@ -15,3 +15,5 @@ mod replies;
 mod same;
 pub mod seat;
 pub mod shared;
+#[cfg(test)]
+mod tests;

@@ -303,7 +303,7 @@ fn finish_fault<S: Stable>(
 }
 
 /// The same as `finish`, over the value that was behind the lock.
-fn settle<S: Stable>(
+pub(crate) fn settle<S: Stable>(
     locked: Locked<S>,
     seats: &[Seat],
     tag: u64,
