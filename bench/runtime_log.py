@@ -15,7 +15,7 @@ CRATES = ("causal_name", "causal_holders", "causal_log")
 LISTED = """\
 causal_name: thiserror
 causal_holders: causal_name
-causal_log: causal_name causal_holders indexmap thiserror
+causal_log: causal_name causal_holders thiserror
 runtime_log: anyhow causal_name causal_log
 """
 RUNS = 5
@@ -101,17 +101,19 @@ def keys():
     """Determinants that were chosen to collide, and the targets."""
     lines = [
         "",
-        "Determinants that a log takes in and tells of: *alike* share a group of a hash table whose seed is fixed, *any* are as many "
-        "others.",
+        "Determinants that a log takes in and tells of: *alike* share a group of a hash table whose seed is fixed, and *any* are as many "
+        "others of the same kind, in random order. *near* share the log's heads as far as deliveries of one run can make them, and *dense* are as "
+        "many others of a run.",
         "",
-        "| determinants | alike ms | any ms |",
-        "|---|---|---|",
+        "| determinants | alike ms | any ms | near ms | dense ms |",
+        "|---|---|---|---|---|",
     ]
     targets = []
     for count in KEYS:
-        _, alike, others = least(("keys", count), 1)
-        lines.append(f"| {count:,} | {alike / 1e6:.2f} | {others / 1e6:.2f} |")
-        targets.append((f"{count:,} determinants chosen to collide / as many others", alike / others, 1.3))
+        _, alike, others, near, dense = least(("keys", count), 1)
+        lines.append(f"| {count:,} | {alike / 1e6:.2f} | {others / 1e6:.2f} | {near / 1e6:.2f} | {dense / 1e6:.2f} |")
+        targets.append((f"{count:,} determinants chosen to collide in a hash / as many others", alike / others, 1.3))
+        targets.append((f"{count:,} determinants of a run chosen to share heads / as many others of a run", near / dense, 1.3))
     return lines, targets
 
 

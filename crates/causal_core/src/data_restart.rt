@@ -47,7 +47,8 @@ fn chosen_shares(alloc: Global, f: u16, log: &Log) -> Result<Vec<Arc<Batch>>, No
     ensures { IfOk result (λ shares. batches_of shares.items ≡ replicate 8 (chosen f log.now.map)) }
 {
     let batch = log.choose(alloc, f)?;
-    shares(alloc, batch)
+    let batch = Arc::new(alloc, batch)?;
+    shares(alloc, &batch)
 }
 
 /// What a restart entry lists of a log, and eight shares of what the log chooses for f failures.

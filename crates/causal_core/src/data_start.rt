@@ -20,7 +20,7 @@ use causal_trace::trace::Trace;
 use std::alloc::Global;
 
 /// What n processes have before they begin.
-fn fresh_cells(alloc: Global, n: u16, f: u16) -> Result<Vec<Option<Cell>>, NoMemory>
+fn fresh_cells(alloc: Global, n: u16) -> Result<Vec<Option<Cell>>, NoMemory>
     ensures memories { IfOk result
         (λ cells. memories_in cells.items ≡ replicate n (Some (fresh fin.empty))) }
     ensures bodies { IfOk result (λ cells. bodies_in cells.items ≡ replicate n []) }
@@ -28,7 +28,7 @@ fn fresh_cells(alloc: Global, n: u16, f: u16) -> Result<Vec<Option<Cell>>, NoMem
     let mut cells = Vec::new(alloc);
     for i in 0..n {
         cells.push(Some(Cell {
-            log: Log::carrying(alloc, f),
+            log: Log::new(alloc),
             sent: Vec::new(alloc),
             received: Vec::new(alloc),
         }))?;
@@ -44,7 +44,7 @@ impl Data {
         ensures run { IfOk result (λ held. held.run ≡ opening n f []) }
         ensures bodies { IfOk result (λ held. held.bodies ≡ replicate n []) }
     {
-        let cells = fresh_cells(alloc, n, f)?;
+        let cells = fresh_cells(alloc, n)?;
         let Ok(trace) = Trace::new(alloc, n) else {
             return Err(NoMemory);
         };
@@ -64,7 +64,7 @@ impl Data {
         ensures room { OnOk result (8 ≤ self.new.spare) }
     {
         self.trace.reserve(8)?;
-        gathered(alloc, self.faults, Log::carrying(alloc, self.faults))
+        gathered(alloc, self.faults, Log::new(alloc))
     }
 
     /// Records what process p sends as it begins.

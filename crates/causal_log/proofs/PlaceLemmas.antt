@@ -126,7 +126,7 @@ same_learned es log distinct =
     fin.same_map dets_total exact_dets _ _ (λ q.
     get_all es log q distinct ∙ ap (λ o. heard_at o (fin.get log q)) (sym (found_order es q)) ∙ sym (get_all (in_order es) log q (order_distinct es)))
 
-not_itself : (d : Det) → is_before d d ≡ false
+pub not_itself : (d : Det) → is_before d d ≡ false
 not_itself d = by (is_before d d) refl
   where
     by : (b : Bool) → is_before d d ≡ b → b ≡ false

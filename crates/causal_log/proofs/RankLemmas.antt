@@ -12,7 +12,7 @@ use Rattle.causal_name.specs.declared.Slot.{Slot}
 use Rattle.causal_name.specs.Names.{same_det, same_pid, same_slot, slot_of, is_before, is_ascending}
 use Rattle.causal_name.proofs.Lemmas.DetOrder.{same_is, same_itself}
 use Rattle.causal_log.specs.Slots.{is_of_slot, first_of_slot}
-use Rattle.causal_log.specs.Inside.Ranks.{IsAmong, IsLeastOfSlot, AreSlots}
+use Rattle.causal_log.specs.Inside.Ranks.{IsAmong, IsLeastOfSlot}
 use Rattle.causal_log.proofs.EntryLemmas.{below}
 use Rattle.causal_log.proofs.PlaceLemmas.{not_after}
 use Rattle.causal_log.proofs.Lemmas.Ascents.{before_trans}
@@ -107,45 +107,3 @@ module _ (dest : Pid) (rsn : ℕ) where
 pub not_both : (a b : Bool) → (a && b) ≡ false → a ≡ true → b ≡ false
 not_both true b h one = h
 not_both false b h one = absurd (true≢false (sym one))
-
-number_is : (a b : ℕ) → (a == b) ≡ true → a ≡ b
-number_is a b h = grind (arith, nat_tests)
-
-number_same : (a : ℕ) → (a == a) ≡ true
-number_same a = grind (arith, nat_tests)
-
-same_slot_is : (a b : Slot) → same_slot a b ≡ true → a ≡ b
-same_slot_is a b h =
-    let two = both (same_pid a.dest b.dest) (a.rsn == b.rsn) h in
-    let dest = number_is a.dest.0 b.dest.0 two.0 in
-    let rsn = number_is a.rsn b.rsn two.1 in
-    λ i. record { dest = record { 0 = dest i }; rsn = rsn i }
-
-fills_own : (d : Det) → is_of_slot d.dest d.rsn d ≡ true
-fills_own d = ap (λ b. b && d.rsn == d.rsn) (number_same d.dest.0) ∙ number_same d.rsn
-
-module _ (dets : List Det) (d : Det) (es : List (Slot × Det)) (are : AreSlots dets es) where
-  -- a determinant that is below the least of its slot is the least from then on
-  pub slots_put : (fs : List (Slot × Det)) → ((q : Slot) → lookup (same_slot q) fs ≡ cond (same_slot (slot_of d) q) (Some d) (lookup (same_slot q) es))
-      → option_map_or (λ f. is_before d f) (lookup (same_slot (slot_of d)) es) true ≡ true → AreSlots (dets ++ d ∷ []) fs
-  slots_put fs put low slot = subst (IsLeastOfSlot slot.dest slot.rsn (dets ++ d ∷ [])) (sym (put slot)) (by (same_slot (slot_of d) slot) refl)
-    where
-      by : (b : Bool) → same_slot (slot_of d) slot ≡ b → IsLeastOfSlot slot.dest slot.rsn (dets ++ d ∷ []) (cond b (Some d) (lookup (same_slot slot) es))
-      by true same =
-          subst (λ s. IsLeastOfSlot s.dest s.rsn (dets ++ d ∷ []) (Some d)) (same_slot_is (slot_of d) slot same)
-          (less d.dest d.rsn d dets (lookup (same_slot (slot_of d)) es) (fills_own d) low (are (slot_of d)))
-      by false apart = more slot.dest slot.rsn d dets (lookup (same_slot slot) es) (λ fits. absurd (true≢false (sym fits ∙ apart))) (are slot)
-
-  -- and any other leaves the least of each slot
-  pub slots_kept : option_map_or (λ f. is_before d f) (lookup (same_slot (slot_of d)) es) true ≡ false → AreSlots (dets ++ d ∷ []) es
-  slots_kept high slot =
-      more slot.dest slot.rsn d dets (lookup (same_slot slot) es)
-      (λ fits. ap (λ s. option_map_or (λ f. is_before d f) (lookup (same_slot s) es) true) (sym (same_slot_is (slot_of d) slot fits)) ∙ high) (are slot)
-
--- the least of a slot are those of any list with the same determinants
-least_like : (dest : Pid) (rsn : ℕ) (dets ds : List Det) (o : Option Det) → ((q : Det) → list_any (same_det q) ds ≡ list_any (same_det q) dets) → IsLeastOfSlot dest rsn dets o → IsLeastOfSlot dest rsn ds o
-least_like dest rsn dets ds None same is = λ q there. is q (sym (same q) ∙ there)
-least_like dest rsn dets ds (Some d) same is = (is.0, same d ∙ is.1, λ q there fits. is.2 q (sym (same q) ∙ there) fits)
-
-pub slots_like : (dets ds : List Det) (es : List (Slot × Det)) → ((q : Det) → list_any (same_det q) ds ≡ list_any (same_det q) dets) → AreSlots dets es → AreSlots ds es
-slots_like dets ds es same are slot = least_like slot.dest slot.rsn dets ds (lookup (same_slot slot) es) same (are slot)

@@ -72,14 +72,7 @@ impl Known {
     pub(crate) fn is_carried(&self, f: u16) -> bool
         ensures { result ≡ is_carried f self.now }
     {
-        self.is_within(u32::from(f))
-    }
-
-    /// The same for a number of 32 bits.
-    pub(crate) fn is_within(&self, failures: u32) -> bool
-        ensures { result ≡ is_carried failures self.now }
-    {
-        !self.stable && self.holders.len() <= failures
+        !self.stable && self.holders.len() <= u32::from(f)
     }
 }
 

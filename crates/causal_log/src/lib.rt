@@ -33,18 +33,19 @@
 #![tactic(auto)]
 
 mod batch;
+mod carried;
 mod entries;
 mod failing;
-mod hearing;
+mod index;
 mod known;
 pub mod laws;
 mod learning;
 mod log;
 mod memory;
-mod notes;
+mod merging;
 mod ranks;
-mod slots;
 mod stable;
+mod table;
 
 pub use batch::{Batch, Item};
 pub use failing::FailingStore;

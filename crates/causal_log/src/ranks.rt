@@ -8,7 +8,7 @@ ghost use Rattle.causal_log.specs.Inside.Ranks.{IsLeastOfSlot};
 use causal_name::{Det, Pid};
 
 /// Whether a determinant comes before the one that was found, where one was.
-pub(crate) fn is_below(det: &Det, found: Option<Det>) -> bool
+fn is_below(det: &Det, found: Option<Det>) -> bool
     ensures { result ≡ option_map_or (λ f. is_before det.now f) found true }
 {
     match found {
@@ -18,23 +18,10 @@ pub(crate) fn is_below(det: &Det, found: Option<Det>) -> bool
 }
 
 /// Whether a determinant fills a slot, and comes before the one that was found.
-fn is_lesser(det: &Det, dest: Pid, rsn: u32, found: Option<Det>) -> bool
+pub(crate) fn is_lesser(det: &Det, dest: Pid, rsn: u32, found: Option<Det>) -> bool
     ensures { result ≡ (is_of_slot dest rsn det.now && option_map_or (λ f. is_before det.now f) found true) }
 {
     det.dest == dest && det.rsn == rsn && is_below(det, found)
-}
-
-/// The least of some determinants that fills a slot.
-pub(crate) fn least_of_slot(dets: &[Det], dest: Pid, rsn: u32) -> Option<Det>
-    ensures { IsLeastOfSlot dest rsn dets.now result }
-{
-    let mut least = None;
-    for det in dets {
-        if is_lesser(det, dest, rsn, least) {
-            least = Some(*det);
-        }
-    }
-    least
 }
 
 /// How many of some determinants come before one.

@@ -1,5 +1,5 @@
 -- Sets of determinants, and what a list of ascending determinants says of the set that it makes: for writers of stores.
-use Rattle.std.proofs.Common.{◌≡◌, ◌∙◌, Bool, true, false, cond, ◌||◌, List, [], ◌∷◌, map, length, Option, Some, None, is_some, refl, sym, ap, subst}
+use Rattle.std.proofs.Common.{◌≡◌, ◌∙◌, Bool, true, false, cond, ◌||◌, List, [], ◌∷◌, ◌++◌, map, length, Option, Some, None, is_some, refl, sym, ap, subst}
 use Rattle.std.specs.List.{list_any}
 use Rattle.std.specs.List.Sorted.{IsStrictlySortedBy}
 use Rattle.std.specs.Ordering.{eq_by_cmp, match_ordering}
@@ -14,7 +14,14 @@ use Rattle.causal_name.specs.Names.{det_cmp, same_det}
 use Rattle.std.proofs.lemmas.List.{length-map}
 use Rattle.causal_log.specs.Stores.{DetSet, set_of, with_det, has, count_in, dets_in}
 use Rattle.causal_name.proofs.Lemmas.DetOrder.{dets_total, exact_dets, det_ties}
-use Rattle.causal_log.proofs.EntryLemmas.{entries_strict}
+use Rattle.std.proofs.lemmas.List.Sorted.{IsPermutation-map}
+use Rattle.std.proofs.lemmas.List.Folds.{list_any-append}
+use Rattle.std.proofs.lemmas.Map.Made.{is_some-lookup}
+use Rattle.std.specs.List.{IsDistinct}
+use Rattle.std.specs.List.Sorted.{IsPermutation, IsSorted}
+use Rattle.causal_log.proofs.EntryLemmas.{entries_strict, get_log, own_entries, ascending_log}
+use Rattle.causal_log.proofs.PlaceLemmas.{same_length}
+use Rattle.causal_log.proofs.SortLemmas.{moved_log, still_distinct}
 
 abbrev paired : List Det → List (Det × Unit {0})
 paired ds = map (λ d. (d, tt)) ds
@@ -100,3 +107,49 @@ among_put ds d q ascend new =
     ∙ ap (λ s. has s q) (with_det_set ds d ascend new)
     ∙ stored (set_of ds) d q
     ∙ ap (λ b. same_det q d || b) (listed (set_of ds) q ∙ ap (list_any (same_det q)) (dets_set ds ascend))
+
+-- of any list, a determinant is a member of its set where it is one of the list's
+pub has_list : (ds : List Det) (d : Det) → has (set_of ds) d ≡ list_any (same_det d) ds
+has_list ds d = ap is_some (get_log (paired ds) d) ∙ is_some-lookup (same_det d) (paired ds) ∙ ap (list_any (same_det d)) (keys_paired ds)
+
+each_once : (ds : List Det) → IsDistinct same_det ds → IsDistinct same_det (keys_of (paired ds))
+each_once ds distinct = subst (IsDistinct same_det) (sym (keys_paired ds)) distinct
+
+-- a list that has each once has as many as its set
+pub count_list : (ds : List Det) → IsDistinct same_det ds → count_in (set_of ds) ≡ length ds
+count_list ds distinct = fin.len-entries (set_of ds) ∙ sym (same_length (paired ds) (each_once ds distinct)) ∙ length-map ds (λ d. (d, tt))
+
+-- and once it is sorted it is the set's members
+pub sorted_list : (ds fs : List Det) → IsPermutation ds fs → IsDistinct same_det ds → IsSorted det_cmp fs → fs ≡ dets_in (set_of ds)
+sorted_list ds fs moved distinct sorted =
+    let pairs = IsPermutation-map (λ d. (d, tt)) ds fs moved in
+    let once = still_distinct (paired ds) (paired fs) pairs (each_once ds distinct) in
+    sym (keys_paired fs)
+    ∙ ap (λ es. keys_of es) (sym (own_entries (paired fs) (ascending_log (paired fs) (subst (IsSorted det_cmp) (sym (keys_paired fs)) sorted) once)))
+    ∙ ap (λ (s : DetSet). dets_in s) (moved_log (paired ds) (paired fs) pairs (each_once ds distinct))
+
+-- sets with the same members are the same
+same_set : (s t : DetSet) → ((q : Det) → has s q ≡ has t q) → s ≡ t
+same_set s t h = fin.same_map dets_total exact_dets s t (λ q. unit_same (fin.get s q) (fin.get t q) (h q))
+  where
+    unit_same : (a b : Option (Unit {0})) → is_some a ≡ is_some b → a ≡ b
+    unit_same None None h = refl
+    unit_same None (Some u) h = Prim.cc
+    unit_same (Some u) None h = Prim.cc
+    unit_same (Some u) (Some v) h = refl
+
+-- a list with one more makes the set with that one
+pub set_push : (ds : List Det) (d : Det) → set_of (ds ++ d ∷ []) ≡ with_det (set_of ds) d
+set_push ds d =
+    same_set (set_of (ds ++ d ∷ [])) (with_det (set_of ds) d) (λ q.
+    has_list (ds ++ d ∷ []) q
+    ∙ list_any-append (same_det q) ds (d ∷ [])
+    ∙ turned (list_any (same_det q) ds) (same_det q d)
+    ∙ ap (λ b. same_det q d || b) (sym (has_list ds q))
+    ∙ sym (stored (set_of ds) d q))
+  where
+    turned : (a b : Bool) → (a || (b || false)) ≡ (b || a)
+    turned true true = refl
+    turned true false = refl
+    turned false true = refl
+    turned false false = refl

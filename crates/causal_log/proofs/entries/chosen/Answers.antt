@@ -9,5 +9,5 @@ pub returns : goal.returns
 returns c =
     IfOk-weaker c.carried.result _ _ (λ items is.
     is
-    ∙ ap (λ es. map item_of (filter (λ e. is_carried c.args.f e.1) es)) (sym (own_entries c.sort.new.entries.entries c.in_ok-sort.ensures.ascending))
-    ∙ ap (chosen c.args.f) c.in_ok-sort.ensures.same) c.carried.ensures
+    ∙ ap (λ es. map item_of (filter (λ e. is_carried c.args.f e.1) es)) (c.as_slice.ensures.value ∙ sym (own_entries c.in_ok-copy.copy.items c.in_ok-copy.ensures.ascending))
+    ∙ ap (chosen c.args.f) c.in_ok-copy.ensures.same) c.carried.ensures

@@ -1,0 +1,145 @@
+-- What a look-up finds after an entry was added, or the value of one was changed.
+use Rattle.std.proofs.Common.{ℕ, zero, suc, ◌≡◌, ◌∙◌, ◌||◌, ◌+◌, ◌<◌, Bool, true, false, cond, get_or, List, [], ◌∷◌, ◌++◌, take, Option, Some, None, is_some, unwrap_or, slice_get, set, length, true≢false, refl, sym, ap, subst, arith}
+use Rattle.std.proofs.lemmas.List.{get_or-map, take_more}
+use Rattle.std.proofs.lemmas.Map.Entries.{length-keys_of}
+use Rattle.std.specs.List.{AllByRecursion, IsDistinct, list_any}
+use Rattle.std.specs.Map.{lookup, keys_of}
+use Rattle.causal_name.specs.declared.Det.{Det}
+use Rattle.causal_name.specs.Names.{same_det}
+use Rattle.causal_name.proofs.Lemmas.DetOrder.{same_is, same_itself}
+use Rattle.causal_log.proofs.Lemmas.Searches.{same_turned}
+
+module _ {V : Type 0} where
+  missed_first : (b : Bool) (v : V) (o : Option V) → cond b (Some v) o ≡ None → (b ≡ false) × (o ≡ None)
+  missed_first true v o h = absurd (true≢false (ap is_some h))
+  missed_first false v o h = (refl, h)
+
+  pub lookup_push : (es : List (Det × V)) (d : Det) (v : V) → lookup (same_det d) es ≡ None
+      → (q : Det) → lookup (same_det q) (es ++ (d, v) ∷ []) ≡ cond (same_det d q) (Some v) (lookup (same_det q) es)
+  lookup_push [] d v none q = ap (λ b. cond b (Some v) None) (same_turned q d)
+  lookup_push (e ∷ es) d v none q =
+      let two = missed_first (same_det d e.0) e.1 (lookup (same_det d) es) none in
+      by two.0 (lookup_push es d v two.1 q) (same_det q e.0) refl
+    where
+      by : same_det d e.0 ≡ false → lookup (same_det q) (es ++ (d, v) ∷ []) ≡ cond (same_det d q) (Some v) (lookup (same_det q) es) → (b : Bool) → same_det q e.0 ≡ b
+          → cond b (Some e.1) (lookup (same_det q) (es ++ (d, v) ∷ [])) ≡ cond (same_det d q) (Some v) (cond b (Some e.1) (lookup (same_det q) es))
+      by apart later true is = sym (ap (λ b. cond b (Some v) (Some e.1)) (ap (same_det d) (same_is q e.0 is) ∙ apart))
+      by apart later false is = later
+
+  all_at : (P : Det → Type 0) (es : List (Det × V)) (i : ℕ) (d : Det) (v : V) → AllByRecursion P (keys_of es) → slice_get es i ≡ Some (d, v) → P d
+  all_at P [] i d v all at = absurd (true≢false (sym (ap is_some at)))
+  all_at P (e ∷ es) zero d v all at = subst P (ap (λ o. (unwrap_or o e).0) at) all.0
+  all_at P (e ∷ es) (suc i) d v all at = all_at P es i d v all.1 at
+
+  pub lookup_set : (es : List (Det × V)) (i : ℕ) (d : Det) (was v : V) → IsDistinct same_det (keys_of es) → slice_get es i ≡ Some (d, was)
+      → (q : Det) → lookup (same_det q) (set es i (d, v)) ≡ cond (same_det d q) (Some v) (lookup (same_det q) es)
+  unfolding IsDistinct
+  lookup_set [] i d was v distinct at q = absurd (true≢false (sym (ap is_some at)))
+  lookup_set (e ∷ es) zero d was v distinct at q =
+      by (same_det q d) refl ∙ sym (ap (λ x. cond (same_det d q) (Some v) (cond (same_det q x) (Some e.1) (lookup (same_det q) es))) (ap (λ o. (unwrap_or o e).0) at))
+    where
+      by : (b : Bool) → same_det q d ≡ b → cond b (Some v) (lookup (same_det q) es) ≡ cond (same_det d q) (Some v) (cond b (Some e.1) (lookup (same_det q) es))
+      by true is = sym (ap (λ b. cond b (Some v) (Some e.1)) (same_turned d q ∙ is))
+      by false is = sym (ap (λ b. cond b (Some v) (lookup (same_det q) es)) (same_turned d q ∙ is))
+  lookup_set (e ∷ es) (suc i) d was v distinct at q =
+      by (all_at (λ y. same_det e.0 y ≡ false) es i d was distinct.0 at) (lookup_set es i d was v distinct.1 at q) (same_det q e.0) refl
+    where
+      by : same_det e.0 d ≡ false → lookup (same_det q) (set es i (d, v)) ≡ cond (same_det d q) (Some v) (lookup (same_det q) es) → (b : Bool) → same_det q e.0 ≡ b
+          → cond b (Some e.1) (lookup (same_det q) (set es i (d, v))) ≡ cond (same_det d q) (Some v) (cond b (Some e.1) (lookup (same_det q) es))
+      by apart later true is = sym (ap (λ b. cond b (Some v) (Some e.1)) (ap (same_det d) (same_is q e.0 is) ∙ same_turned d e.0 ∙ apart))
+      by apart later false is = later
+
+  pub keys_set : (es : List (Det × V)) (i : ℕ) (d : Det) (was v : V) → slice_get es i ≡ Some (d, was) → keys_of (set es i (d, v)) ≡ keys_of es
+  keys_set [] i d was v at = refl
+  keys_set (e ∷ es) zero d was v at = ap (λ x. x ∷ keys_of es) (sym (ap (λ o. (unwrap_or o e).0) at))
+  keys_set (e ∷ es) (suc i) d was v at = ap (λ xs. e.0 ∷ xs) (keys_set es i d was v at)
+
+  pub keys_push : (es : List (Det × V)) (d : Det) (v : V) → keys_of (es ++ (d, v) ∷ []) ≡ keys_of es ++ d ∷ []
+  keys_push [] d v = refl
+  keys_push (e ∷ es) d v = ap (λ xs. e.0 ∷ xs) (keys_push es d v)
+
+  -- a determinant that stands at a place of the keys is found
+  pub lookup_there : (es : List (Det × V)) (i : ℕ) (d : Det) → slice_get (keys_of es) i ≡ Some d → lookup (same_det d) es ≡ None → ⊥
+  lookup_there [] i d at none = true≢false (sym (ap is_some at))
+  lookup_there (e ∷ es) zero d at none =
+      true≢false (sym (ap (same_det d) (ap (λ o. unwrap_or o d) at) ∙ same_itself d) ∙ (missed_first (same_det d e.0) e.1 (lookup (same_det d) es) none).0)
+  lookup_there (e ∷ es) (suc i) d at none = lookup_there es i d at (missed_first (same_det d e.0) e.1 (lookup (same_det d) es) none).1
+
+  -- the entry at a place of the keys
+  pub entry_there : (es : List (Det × V)) (i : ℕ) (d : Det) (e : Det × V) → slice_get (keys_of es) i ≡ Some d → slice_get es i ≡ Some e → e.0 ≡ d
+  entry_there [] i d e at is = absurd (true≢false (sym (ap is_some at)))
+  entry_there (f ∷ es) zero d e at is = ap (λ o. (unwrap_or o f).0) (sym is) ∙ ap (λ o. unwrap_or o d) at
+  entry_there (f ∷ es) (suc i) d e at is = entry_there es i d e at is
+
+  pub lookup_missing : (es : List (Det × V)) (d : Det) → list_any (same_det d) (keys_of es) ≡ false → lookup (same_det d) es ≡ None
+  lookup_missing [] d h = refl
+  lookup_missing (e ∷ es) d h = by (same_det d e.0) refl h (λ rest. lookup_missing es d rest)
+    where
+      by : (b : Bool) → same_det d e.0 ≡ b → (b || list_any (same_det d) (keys_of es)) ≡ false → (list_any (same_det d) (keys_of es) ≡ false → lookup (same_det d) es ≡ None)
+          → cond b (Some e.1) (lookup (same_det d) es) ≡ None
+      by true is h later = absurd (true≢false h)
+      by false is h later = later h
+
+  -- what is read at the place of a determinant is its entry
+  pub read_entry : (es : List (Det × V)) (i : ℕ) (d : Det) (x : Det × V) → slice_get (keys_of es) i ≡ Some d → x ≡ get_or es i x → slice_get es i ≡ Some (d, x.1)
+  read_entry [] i d x at read = absurd (true≢false (sym (ap is_some at)))
+  read_entry (e ∷ es) zero d x at read =
+      let one : e.0 ≡ d = ap (λ o. unwrap_or o d) at in
+      let two : e.1 ≡ x.1 = sym (ap (λ y. y.1) read) in
+      λ i. Some (one i, two i)
+  read_entry (e ∷ es) (suc i) d x at read = read_entry es i d x at read
+
+  -- and its determinant, written back beside another value, leaves the keys
+  pub keys_read : (es : List (Det × V)) (i : ℕ) (x : Det × V) (v : V) → x ≡ get_or es i x → keys_of (set es i (x.0, v)) ≡ keys_of es
+  keys_read [] i x v read = refl
+  keys_read (e ∷ es) zero x v read = ap (λ y. y.0 ∷ keys_of es) read
+  keys_read (e ∷ es) (suc i) x v read = ap (λ ds. e.0 ∷ ds) (keys_read es i x v read)
+
+  pub read_det : (es : List (Det × V)) (i : ℕ) (x : Det × V) (d : Det) (was : V) → slice_get es i ≡ Some (d, was) → x ≡ get_or es i x → x.0 ≡ d
+  read_det [] i x d was at read = absurd (true≢false (sym (ap is_some at)))
+  read_det (e ∷ es) zero x d was at read = ap (λ y. y.0) read ∙ ap (λ o. (unwrap_or o e).0) at
+  read_det (e ∷ es) (suc i) x d was at read = read_det es i x d was at read
+
+pub none_distinct : IsDistinct same_det []
+unfolding IsDistinct
+none_distinct = tt
+
+all_det : (P : Det → Type 0) (ds : List Det) (i : ℕ) (d : Det) → AllByRecursion P ds → slice_get ds i ≡ Some d → P d
+all_det P [] i d all at = absurd (true≢false (sym (ap is_some at)))
+all_det P (e ∷ ds) zero d all at = subst P (ap (λ o. unwrap_or o e) at) all.0
+all_det P (e ∷ ds) (suc i) d all at = all_det P ds i d all.1 at
+
+-- of determinants that differ, none stands before itself
+pub twice : (ds : List Det) (i k : ℕ) (d : Det) → IsDistinct same_det ds → slice_get (take i ds) k ≡ Some d → slice_get ds i ≡ Some d → ⊥
+unfolding IsDistinct
+twice [] i k d distinct earlier at = true≢false (sym (ap is_some at))
+twice (e ∷ ds) zero k d distinct earlier at = true≢false (sym (ap is_some earlier))
+twice (e ∷ ds) (suc i) zero d distinct earlier at =
+    true≢false (sym (ap (λ x. same_det x d) (ap (λ o. unwrap_or o e) earlier) ∙ same_itself d) ∙ all_det (λ y. same_det e y ≡ false) ds i d distinct.0 at)
+twice (e ∷ ds) (suc i) (suc k) d distinct earlier at = twice ds i k d distinct.1 earlier at
+
+module _ {V : Type 0} (es : List (Det × V)) (i : ℕ) (x : Det × V) (low : i < length es) (read : x ≡ get_or es i x) where
+  key : get_or (keys_of es) i x.0 ≡ x.0
+  key = get_or-map (λ e. e.0) es i x x.0 low ∙ ap (λ y. y.0) (sym read)
+
+  within : i < length (keys_of es)
+  within = subst (λ n. i < n) (sym (length-keys_of es)) low
+
+  pub take_key : take (i + 1) (keys_of es) ≡ take i (keys_of es) ++ x.0 ∷ []
+  take_key = take_more (keys_of es) i x.0 within ∙ ap (λ d. take i (keys_of es) ++ d ∷ []) key
+
+  pub key_read : slice_get (keys_of es) i ≡ Some x.0
+  key_read = shown (keys_of es) i x.0 within key
+    where
+      shown : (ds : List Det) (i : ℕ) (d : Det) → i < length ds → get_or ds i d ≡ d → slice_get ds i ≡ Some d
+      shown [] i d low is = absurd (omega (arith, low))
+      shown (e ∷ ds) zero d low is = ap (λ y. Some y) is
+      shown (e ∷ ds) (suc i) d low is = shown ds i d (omega (arith, low)) is
+
+-- a list and more, cut to its length
+pub take_whole : {X : Type 0} (xs ys : List X) (n : ℕ) → length xs ≡ n → take n (xs ++ ys) ≡ xs
+take_whole {X} xs ys n h = subst (λ m. take m (xs ++ ys) ≡ xs) h (first xs)
+  where
+    first : (xs : List X) → take (length xs) (xs ++ ys) ≡ xs
+    first [] = refl
+    first (x ∷ xs) = ap (λ zs. x ∷ zs) (first xs)

@@ -1,0 +1,1 @@
+use Rattle.causal_log.proofs.merging.merged_delivery.Goals as goal

@@ -1,0 +1,95 @@
+//! Where the entries of a log stand: for each number of a slot a head leads to the newest entry, and each entry to the next
+//! older one of its head.
+ghost use Rattle.std.specs.Prelude.{◌≡◌, ◌<◌, ◌≤◌, ◌+◌, ◌^◌, ◌++◌, ◌∷◌, [], false, Some, None, IfSome, IsNone, length, slice_get, vec_len, vec_capacity};
+ghost use Rattle.std.specs.Prelude.{List};
+ghost use Rattle.std.specs.List.{list_any};
+ghost use Rattle.causal_name.specs.declared.Det.{Det};
+ghost use Rattle.causal_name.specs.Names.{same_det, slot_of};
+ghost use Rattle.causal_log.specs.Inside.Indexes.{head_of, newest_of, IsIndex};
+ghost use Rattle.causal_log.specs.Inside.Ranks.{IsLeastOfSlot};
+
+use crate::ranks::is_lesser;
+use causal_name::{Det, Slot};
+
+/// The number of a slot's head. The slots of a receiver have heads beside each other, and those of 256 receivers begin as far
+/// apart as they can.
+#[tactic(auto, unfolding(crate::specs::Inside::Indexes::head_of))]
+fn head_of(heads: usize, slot: Slot) -> usize
+    requires { 0 < heads }
+    ensures head { result ≡ head_of heads slot }
+    ensures within { result < heads }
+{
+    let first = (slot.dest.0 as usize).wrapping_mul(heads / 256);
+    (slot.rsn as usize).wrapping_add(first) % heads
+}
+
+/// The place of the newest entry that a slot's head leads to.
+pub(crate) fn newest(heads: &[Option<u32>], slot: Slot) -> Option<u32>
+    ensures { result ≡ newest_of heads.now slot }
+{
+    if heads.is_empty() {
+        return None;
+    }
+    heads[head_of(heads.len(), slot)]
+}
+
+/// The place of a determinant.
+pub(crate) fn search(
+    dets: &[Det],
+    heads: &[Option<u32>],
+    older: &[Option<u32>],
+    det: Det,
+) -> Option<usize>
+    requires { IsIndex dets.now heads.now older.now }
+    ensures found { IfSome result (λ place. slice_get dets.now place ≡ Some det) }
+    ensures within { IfSome result (λ place. place < length dets.now) }
+    ensures absent { IsNone result → list_any (same_det det) dets.now ≡ false }
+{
+    let mut place = newest(heads, det.slot());
+    while let Some(k) = place {
+        if dets[k as usize] == det {
+            return Some(k as usize);
+        }
+        place = older[k as usize];
+    }
+    None
+}
+
+/// The least determinant of a slot.
+pub(crate) fn least_of_slot(
+    dets: &[Det],
+    heads: &[Option<u32>],
+    older: &[Option<u32>],
+    slot: Slot,
+) -> Option<Det>
+    requires { IsIndex dets.now heads.now older.now }
+    ensures { IsLeastOfSlot slot.dest slot.rsn dets.now result }
+{
+    let mut least = None;
+    let mut place = newest(heads, slot);
+    while let Some(k) = place {
+        let det = dets[k as usize];
+        if is_lesser(&det, slot.dest, slot.rsn, least) {
+            least = Some(det);
+        }
+        place = older[k as usize];
+    }
+    least
+}
+
+/// Adds one more entry, the newest of its head, in room that there is.
+pub(crate) fn link(heads: &mut [Option<u32>], older: &mut Vec<Option<u32>>, slot: Slot)
+    requires some { 0 < length heads.old }
+    requires few { vec_len older.old < 2 ^ 32 }
+    requires room { vec_len older.old < vec_capacity older.old }
+    ensures older { older.new.items ≡ older.old.items ++ newest_of heads.old slot ∷ [] }
+    ensures capacity { vec_capacity older.old ≤ vec_capacity older.new }
+    ensures index { (det : Det) → slot_of det ≡ slot → (dets : List Det) →
+        IsIndex dets heads.old older.old.items → IsIndex (dets ++ det ∷ []) heads.new older.new.items }
+    ensures len { length heads.new ≡ length heads.old }
+{
+    let place = older.len() as u32;
+    let head = head_of(heads.len(), slot);
+    older.push_reserved(heads[head]);
+    heads[head] = Some(place);
+}
