@@ -1,7 +1,7 @@
 -- Ascending items are what messages carry of a log where each is found so, and go on being it as determinants are heard of.
-use Rattle.std.proofs.Common.{ℕ, zero, suc, ◌+◌, drop, slice_get, IfSome, ◌≡◌, ◌∙◌, ◌≤◌, ◌&&◌, ◌||◌, Bool, true, false, cond, not, nat_le, List, [], ◌∷◌, ◌++◌, map, filter, Option, Some, None, is_some, unwrap_or, true≢false, refl, sym, ap, subst, arith}
+use Rattle.std.proofs.Common.{ℕ, zero, suc, ◌+◌, ◌-◌, length, take, drop, slice_get, IfSome, ◌≡◌, ◌∙◌, ◌≤◌, ◌&&◌, ◌||◌, Bool, true, false, cond, not, nat_le, List, [], ◌∷◌, ◌++◌, map, filter, Option, Some, None, is_some, unwrap_or, true≢false, refl, sym, ap, subst, arith}
 use Rattle.std.proofs.lemmas.Bool.Decides.{nat_tests}
-use Rattle.std.proofs.lemmas.List.{append_assoc}
+use Rattle.std.proofs.lemmas.List.{append_assoc, length-drop, take_all}
 use Rattle.std.specs.List.{list_any}
 use Rattle.std.specs.Map.{lookup, keys_of}
 use Rattle.std.specs.Cmp.{nat_cmp_total}
@@ -13,9 +13,11 @@ use Rattle.causal_name.proofs.Lemmas.DetOrder.{dets_total, same_is, same_itself}
 use Rattle.causal_holders.proofs.Lemmas.Sets.{len-is_subset}
 use Rattle.causal_log.specs.declared.known.Known.{Known}
 use Rattle.causal_log.specs.declared.batch.Item.{Item}
-use Rattle.causal_log.specs.Knowledge.{nothing_known, joined, is_carried}
-use Rattle.causal_log.specs.Logs.{LogMap, log_of, known_of, learned, item_of, chosen, dets_of}
-use Rattle.causal_log.specs.Inside.Carried.{known_of_item, with_carried}
+use Rattle.causal_log.specs.Knowledge.{nothing_known, joined, is_carried, told}
+use Rattle.causal_log.specs.Logs.{LogMap, log_of, known_of, learned, absorbed, item_of, chosen, dets_of}
+use Rattle.causal_log.specs.Inside.Carried.{known_of_item, with_carried, HearsNext}
+use Rattle.causal_log.specs.Inside.Merges.{HasMerged}
+use Rattle.causal_name.specs.declared.Pid.{Pid}
 use Rattle.std.specs.Ordering.{is_lt}
 use Rattle.causal_log.proofs.EntryLemmas.{below, get_log, same_log, own_entries}
 use Rattle.causal_log.proofs.PlaceLemmas.{not_itself}
@@ -23,7 +25,7 @@ use Rattle.causal_log.proofs.TableLemmas.{lookup_missing}
 use Rattle.causal_log.proofs.Lemmas.Ascents.{ascending_tail, ascending_skip, before_trans, first_before, filter_ascends}
 use Rattle.causal_log.proofs.Lemmas.ChosenLemmas.{chosen_ascend}
 use Rattle.causal_log.proofs.Lemmas.Learning.{get_learned}
-use Rattle.causal_log.proofs.Lemmas.Searches.{both, find_kept, kept_if, shown, same_turned}
+use Rattle.causal_log.proofs.Lemmas.Searches.{any_map, before_apart, both, find_kept, kept_if, shown, same_turned}
 
 -- two pieces of knowledge together have no fewer holders than either
 or_both : (a b : Bool) → b ≡ true → (a || b) ≡ true
@@ -357,7 +359,7 @@ module _ (f : ℕ) (log : LogMap) (det : Det) (heard : Known) (out rest : List I
           (λ q h. ap (λ b. cond b (Some (record { holders = (joined nothing_known heard).holders; stable = false })) (lookup (same_det q) (entries_of rest))) h)
       by false never = stays (ap (is_carried f) now ∙ never)
 
-drop_got : (xs : List Item) (i : ℕ) (x : Item) → slice_get xs i ≡ Some x → drop i xs ≡ x ∷ drop (i + 1) xs
+pub drop_got : (xs : List Item) (i : ℕ) (x : Item) → slice_get xs i ≡ Some x → drop i xs ≡ x ∷ drop (i + 1) xs
 drop_got [] i x h = absurd (true≢false (sym (ap is_some h)))
 drop_got (y ∷ xs) zero x h = ap (λ o. unwrap_or o y ∷ xs) h
 drop_got (y ∷ xs) (suc i) x h =
@@ -367,13 +369,13 @@ drop_got (y ∷ xs) (suc i) x h =
 -- what comes next is after a determinant that is none of it and before which nothing of it comes
 pub next_after : (kept : List Item) (place : ℕ) (det : Det) → is_ascending (dets_of (drop place kept)) ≡ true → IfSome (slice_get kept place) (λ item. is_before item.det det ≡ false)
     → IfSome (slice_get kept place) (λ item. same_det item.det det ≡ false) → is_ascending (det ∷ dets_of (drop place kept)) ≡ true
-next_after [] place det ascend low apart = ap (λ xs. is_ascending (det ∷ dets_of xs)) (drop_nothing place)
+next_after [] place det up low apart = ap (λ xs. is_ascending (det ∷ dets_of xs)) (drop_nothing place)
   where
     drop_nothing : (n : ℕ) → drop {A = Item} n [] ≡ []
     drop_nothing zero = refl
     drop_nothing (suc n) = refl
-next_after (x ∷ xs) zero det ascend low apart = and_both (is_before det x.det) (is_ascending (x.det ∷ dets_of xs)) (ap is_lt (below det x.det low (same_turned det x.det ∙ apart))) ascend
-next_after (x ∷ xs) (suc n) det ascend low apart = next_after xs n det ascend low apart
+next_after (x ∷ xs) zero det up low apart = and_both (is_before det x.det) (is_ascending (x.det ∷ dets_of xs)) (ap is_lt (below det x.det low (same_turned det x.det ∙ apart))) up
+next_after (x ∷ xs) (suc n) det up low apart = next_after xs n det up low apart
 
 -- what was passed on comes before all that come after the determinant
 pub before_later : (f : ℕ) (det : Det) (known : Known) (out : List Item) → is_ascending (dets_of out ++ det ∷ []) ≡ true → (d : Det) → is_before det d ≡ true → is_ascending (dets_of (with_carried f det known out) ++ d ∷ []) ≡ true
@@ -385,3 +387,51 @@ before_later f det known out before d low = by (is_carried f known) refl
         ∙ ap is_ascending (append_assoc (dets_of out) (det ∷ []) (d ∷ []))
         ∙ glue (dets_of out) det (d ∷ []) before (and_both (is_before det d) true low refl)
     by false is = raise (dets_of out) det d before low
+
+module _ (f : ℕ) (items : List Item) (from me : Pid) (source : LogMap) where
+  pub merged_none : (kept : List Item) → kept ≡ chosen f source → HasMerged f items items from me source [] kept
+  merged_none kept is = record { log = source; carries = is; all = refl; same = λ q there. refl; before = λ x xs e. refl }
+
+  pub merged_all : (out kept : List Item) → HasMerged f items [] from me source out kept → out ++ kept ≡ chosen f (absorbed items from me source)
+  merged_all out kept h = h.carries ∙ ap (chosen f) h.all
+
+  or_later : (a b : Bool) → b ≡ true → (a || b) ≡ true
+  or_later true b h = refl
+  or_later false b h = h
+
+  or_none : (a : Bool) → a ≡ (a || false)
+  or_none true = refl
+  or_none false = refl
+
+  first_named : (x : Item) (rest : List Item) → list_any (λ other. same_det x.det other.det) (x ∷ rest) ≡ true
+  first_named x rest = ap (λ b. b || list_any (λ other. same_det x.det other.det) rest) (same_itself x.det)
+
+  -- one more item is taken in, once what comes before it was passed on
+  pub merged_next : (x : Item) (rest out kept passed next later after : List Item) → is_ascending (dets_of (x ∷ rest)) ≡ true → passed ++ next ≡ out ++ kept
+      → ((log : LogMap) → is_some (fin.get log x.det) ≡ (is_some (fin.get source x.det) || false) → HearsNext f x.det (told from me x).1 log (passed ++ next) (later ++ after))
+      → ((d : Det) → is_before x.det d ≡ true → is_ascending (dets_of later ++ d ∷ []) ≡ true)
+      → HasMerged f items (x ∷ rest) from me source out kept → HasMerged f items rest from me source later after
+  merged_next x rest out kept passed next later after ascend moved hears before h = record {
+    log = learned h.log x.det (told from me x).1;
+    carries = hears h.log (ap is_some (h.same x.det (first_named x rest)) ∙ or_none (is_some (fin.get source x.det))) (moved ∙ h.carries);
+    all = h.all;
+    same = λ q there.
+        get_learned h.log x.det (told from me x).1 q
+        ∙ ap (λ b. cond b (Some (joined (known_of h.log x.det) (told from me x).1)) (fin.get h.log q))
+        (same_turned q x.det ∙ before_apart x.det q (first_before x.det (dets_of rest) q ascend (any_map (λ other. other.det) (same_det q) (λ other. same_det q other.det) (λ other. refl) rest ∙ there)))
+        ∙ h.same q (or_later (same_det q x.det) _ there);
+    before = λ y ys e. before y.det (both (is_before x.det y.det) (is_ascending (y.det ∷ dets_of ys)) (ap (λ xs. is_ascending (dets_of (x ∷ xs))) (sym e) ∙ ascend)).0;
+  }
+
+-- the first of some items
+abbrev pub first_or : List Item → Item → Item
+first_or [] d = d
+first_or (x ∷ xs) d = x
+
+-- the last of what messages carry ascend
+pub rest_ascends : (f : ℕ) (log : LogMap) (out rest : List Item) → out ++ rest ≡ chosen f log → is_ascending (dets_of rest) ≡ true
+rest_ascends f log out rest is = back (dets_of out) (dets_of rest) (sym (ap is_ascending (dets_append out rest)) ∙ ap (λ xs. is_ascending (dets_of xs)) is ∙ chosen_ascend f log)
+
+-- the rest of a list, as it is cut out
+pub cut_rest : (xs : List Item) (n : ℕ) → take (length xs - n) (drop n xs) ≡ drop n xs
+cut_rest xs n = let len = length-drop n xs in take_all (length xs - n) (drop n xs) (omega (arith, len))

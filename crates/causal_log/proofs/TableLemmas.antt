@@ -49,27 +49,9 @@ module _ {V : Type 0} where
       by apart later true is = sym (ap (λ b. cond b (Some v) (Some e.1)) (ap (same_det d) (same_is q e.0 is) ∙ same_turned d e.0 ∙ apart))
       by apart later false is = later
 
-  pub keys_set : (es : List (Det × V)) (i : ℕ) (d : Det) (was v : V) → slice_get es i ≡ Some (d, was) → keys_of (set es i (d, v)) ≡ keys_of es
-  keys_set [] i d was v at = refl
-  keys_set (e ∷ es) zero d was v at = ap (λ x. x ∷ keys_of es) (sym (ap (λ o. (unwrap_or o e).0) at))
-  keys_set (e ∷ es) (suc i) d was v at = ap (λ xs. e.0 ∷ xs) (keys_set es i d was v at)
-
   pub keys_push : (es : List (Det × V)) (d : Det) (v : V) → keys_of (es ++ (d, v) ∷ []) ≡ keys_of es ++ d ∷ []
   keys_push [] d v = refl
   keys_push (e ∷ es) d v = ap (λ xs. e.0 ∷ xs) (keys_push es d v)
-
-  -- a determinant that stands at a place of the keys is found
-  pub lookup_there : (es : List (Det × V)) (i : ℕ) (d : Det) → slice_get (keys_of es) i ≡ Some d → lookup (same_det d) es ≡ None → ⊥
-  lookup_there [] i d at none = true≢false (sym (ap is_some at))
-  lookup_there (e ∷ es) zero d at none =
-      true≢false (sym (ap (same_det d) (ap (λ o. unwrap_or o d) at) ∙ same_itself d) ∙ (missed_first (same_det d e.0) e.1 (lookup (same_det d) es) none).0)
-  lookup_there (e ∷ es) (suc i) d at none = lookup_there es i d at (missed_first (same_det d e.0) e.1 (lookup (same_det d) es) none).1
-
-  -- the entry at a place of the keys
-  pub entry_there : (es : List (Det × V)) (i : ℕ) (d : Det) (e : Det × V) → slice_get (keys_of es) i ≡ Some d → slice_get es i ≡ Some e → e.0 ≡ d
-  entry_there [] i d e at is = absurd (true≢false (sym (ap is_some at)))
-  entry_there (f ∷ es) zero d e at is = ap (λ o. (unwrap_or o f).0) (sym is) ∙ ap (λ o. unwrap_or o d) at
-  entry_there (f ∷ es) (suc i) d e at is = entry_there es i d e at is
 
   pub lookup_missing : (es : List (Det × V)) (d : Det) → list_any (same_det d) (keys_of es) ≡ false → lookup (same_det d) es ≡ None
   lookup_missing [] d h = refl
@@ -104,20 +86,6 @@ pub none_distinct : IsDistinct same_det []
 unfolding IsDistinct
 none_distinct = tt
 
-all_det : (P : Det → Type 0) (ds : List Det) (i : ℕ) (d : Det) → AllByRecursion P ds → slice_get ds i ≡ Some d → P d
-all_det P [] i d all at = absurd (true≢false (sym (ap is_some at)))
-all_det P (e ∷ ds) zero d all at = subst P (ap (λ o. unwrap_or o e) at) all.0
-all_det P (e ∷ ds) (suc i) d all at = all_det P ds i d all.1 at
-
--- of determinants that differ, none stands before itself
-pub twice : (ds : List Det) (i k : ℕ) (d : Det) → IsDistinct same_det ds → slice_get (take i ds) k ≡ Some d → slice_get ds i ≡ Some d → ⊥
-unfolding IsDistinct
-twice [] i k d distinct earlier at = true≢false (sym (ap is_some at))
-twice (e ∷ ds) zero k d distinct earlier at = true≢false (sym (ap is_some earlier))
-twice (e ∷ ds) (suc i) zero d distinct earlier at =
-    true≢false (sym (ap (λ x. same_det x d) (ap (λ o. unwrap_or o e) earlier) ∙ same_itself d) ∙ all_det (λ y. same_det e y ≡ false) ds i d distinct.0 at)
-twice (e ∷ ds) (suc i) (suc k) d distinct earlier at = twice ds i k d distinct.1 earlier at
-
 module _ {V : Type 0} (es : List (Det × V)) (i : ℕ) (x : Det × V) (low : i < length es) (read : x ≡ get_or es i x) where
   key : get_or (keys_of es) i x.0 ≡ x.0
   key = get_or-map (λ e. e.0) es i x x.0 low ∙ ap (λ y. y.0) (sym read)
@@ -127,14 +95,6 @@ module _ {V : Type 0} (es : List (Det × V)) (i : ℕ) (x : Det × V) (low : i <
 
   pub take_key : take (i + 1) (keys_of es) ≡ take i (keys_of es) ++ x.0 ∷ []
   take_key = take_more (keys_of es) i x.0 within ∙ ap (λ d. take i (keys_of es) ++ d ∷ []) key
-
-  pub key_read : slice_get (keys_of es) i ≡ Some x.0
-  key_read = shown (keys_of es) i x.0 within key
-    where
-      shown : (ds : List Det) (i : ℕ) (d : Det) → i < length ds → get_or ds i d ≡ d → slice_get ds i ≡ Some d
-      shown [] i d low is = absurd (omega (arith, low))
-      shown (e ∷ ds) zero d low is = ap (λ y. Some y) is
-      shown (e ∷ ds) (suc i) d low is = shown ds i d (omega (arith, low)) is
 
 -- a list and more, cut to its length
 pub take_whole : {X : Type 0} (xs ys : List X) (n : ℕ) → length xs ≡ n → take n (xs ++ ys) ≡ xs

@@ -27,7 +27,7 @@
 //! Not part of any proof: that the set outlives a crash of the machine, and that `PutFault::NoMemory` comes only where memory
 //! was refused.
 //!
-//! A store that keeps an ascending list, such as a `BTreeSet`, takes `set_of` of the list as its contents; the lemmas of
+//! A store that keeps a list of its members, in whatever order, takes `set_of` of the list as its contents; the lemmas of
 //! `proofs/Lemmas/Storing.antt` prove its answers. One that wraps another store passes on that one's contents, and adds its own
 //! faults. `MemStable` is an example of the first, `FailingStore` of the second.
 #![tactic(auto)]

@@ -1,9 +1,10 @@
 //! The volatile log of a process.
-ghost use Rattle.std.specs.Prelude.{◌≡◌, ◌↔◌, ◌<◌, ◌≤◌, ◌+◌, ◌^◌, IsTrue, IsSome, IfSome, IsOk, IfOk, OnOk, OnErr, length, slice_get};
+ghost use Rattle.std.specs.Prelude.{◌≡◌, ◌↔◌, ◌<◌, ◌≤◌, ◌+◌, ◌^◌, IsTrue, IsSome, IfSome, IsOk, true, IfOk, OnOk, OnErr, length, slice_get};
 ghost use Rattle.std.specs.FinMap as fin;
 ghost use Rattle.std.specs.Arc.{arc_value};
+ghost use Rattle.causal_name.specs.Names.{is_ascending};
 ghost use Rattle.causal_log.specs.Knowledge.{held_by, stable_and_held_by};
-ghost use Rattle.causal_log.specs.Logs.{log_of, learned, absorbed, grown, united, marked, stable_in, unstable_in, unmarked, chosen, named, HaveSame};
+ghost use Rattle.causal_log.specs.Logs.{log_of, learned, dets_of, absorbed, grown, united, marked, stable_in, unstable_in, unmarked, chosen, named, HaveSame};
 ghost use Rattle.causal_log.specs.Slots.{first_of_slot};
 ghost use Rattle.causal_log.specs.declared.known.Known.{Known};
 
@@ -161,24 +162,37 @@ impl Log {
     ) -> Result<Batch, NoMemory>
         ensures { IfOk result (λ batch. batch ≡ chosen f (grown carried.now own from me self.now.map)) }
     {
-        let items = carried.as_slice();
-        let merged = match self.ready(f) {
-            Some(kept) => merged_delivery(alloc, kept, &self.entries, items, own, from, me, f)?,
-            None => {
-                let kept = self.carried(alloc, f)?;
-                merged_delivery(
-                    alloc,
-                    kept.as_slice(),
-                    &self.entries,
-                    items,
-                    own,
-                    from,
-                    me,
-                    f,
-                )?
-            }
-        };
+        let merged = self.merged(alloc, carried.as_slice(), own, from, me, f)?;
         Ok(Batch::new(merged))
+    }
+
+    /// The items of what they would carry.
+    fn merged(
+        &self,
+        alloc: Global,
+        items: &[Item],
+        own: Det,
+        from: Pid,
+        me: Pid,
+        f: u16,
+    ) -> Result<Vec<Item>, NoMemory>
+        requires { is_ascending (dets_of items.now) ≡ true }
+        ensures { IfOk result (λ found. found.items ≡ chosen f (grown items.now own from me self.now.map)) }
+    {
+        if let Some(kept) = self.ready(f) {
+            return merged_delivery(alloc, kept, &self.entries, items, own, from, me, f);
+        }
+        let kept = self.carried(alloc, f)?;
+        merged_delivery(
+            alloc,
+            kept.as_slice(),
+            &self.entries,
+            items,
+            own,
+            from,
+            me,
+            f,
+        )
     }
 
     /// What messages carry, where that stands in a batch as it is.

@@ -10,7 +10,8 @@ returns-in_err-reserve-clause-succeeds c = λ room.
     let len = same_length es c.entries-others.ensures.distinct ∙ sym (fin.len-entries (log_of es)) in
     let view = ap (λ log. fin.len log.map) c.other.view_is in
     let others = ap length c.entries-others.ensures.entries in
-    absurd (omega (arith, room, len, view, others, c.in_err-reserve.ensures.refused.1))
+    let own = ap (λ log. log.spare) c.self.view_is in
+    absurd (omega (arith, room, own, len, view, others, c.in_err-reserve.ensures.refused.1))
 
 pub returns-clause-ok : goal.returns-clause-ok
 returns-clause-ok c =

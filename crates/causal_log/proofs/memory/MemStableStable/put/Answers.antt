@@ -11,7 +11,7 @@ returns-then-is_some-clause-ok c =
     sym (ap (λ s. has s c.args.det) c.self.view_is) ∙ sym (has_there c.self.inside.members.entries c.args.det) ∙ sym (ap is_some c.find.ensures.known)
     ∙ some_of (λ found. found.1) c.find.result ∙ sym c.is_some.ensures ∙ c.if-is_some.true
     in
-    c.self.view_is ∙ sym (with_member c.args.self.now c.args.det member)
+    sym (with_member c.args.self.now c.args.det member)
 
 pub returns-clause-ok : goal.returns-clause-ok
 returns-clause-ok c =
