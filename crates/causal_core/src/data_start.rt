@@ -27,10 +27,13 @@ fn fresh_cells(alloc: Global, n: u16) -> Result<Vec<Option<Cell>>, NoMemory>
 {
     let mut cells = Vec::new(alloc);
     for i in 0..n {
+        let log = Log::new(alloc);
+        let sent = Vec::new(alloc);
+        let received = Vec::new(alloc);
         cells.push(Some(Cell {
-            log: Log::new(alloc),
-            sent: Vec::new(alloc),
-            received: Vec::new(alloc),
+            log,
+            sent,
+            received,
         }))?;
     }
     Ok(cells)
