@@ -1,4 +1,4 @@
--- What messages still carry of a batch, once determinants are marked and once marked ones are taken out.
+-- What messages still carry of a batch once determinants are marked.
 use Rattle.std.proofs.Common.{ℕ, ◌≡◌, ◌∙◌, ◌&&◌, Bool, true, false, cond, not, nat_le, List, [], ◌∷◌, map, filter, Option, Some, None, unwrap_or, true≢false, refl, sym, ap}
 use Rattle.std.proofs.lemmas.Map.Entries.{lookup-filter-keys}
 use Rattle.std.specs.Option.{option_map, option_map_or}
@@ -10,14 +10,14 @@ use Rattle.causal_name.specs.Names.{same_det, is_ascending}
 use Rattle.causal_name.proofs.Lemmas.DetOrder.{same_is}
 use Rattle.causal_log.specs.declared.known.Known.{Known}
 use Rattle.causal_log.specs.declared.batch.Item.{Item}
-use Rattle.causal_log.specs.Knowledge.{nothing_known, as_stable, is_carried}
-use Rattle.causal_log.specs.Logs.{LogMap, known_of, marked, unmarked, chosen, dets_of, item_of}
+use Rattle.causal_log.specs.Knowledge.{as_stable, is_carried}
+use Rattle.causal_log.specs.Logs.{LogMap, marked, chosen, dets_of, item_of}
 use Rattle.std.specs.Arc.{arc_value}
 use Rattle.causal_log.specs.declared.carried.Carried.{Carried}
 use Rattle.causal_log.specs.Inside.Carried.{is_open, open_in, still, IsCarried, as_marked, Carries}
 use Rattle.causal_log.proofs.Lemmas.Ascents.{filter_ascends}
-use Rattle.causal_log.proofs.Lemmas.ChosenLemmas.{dets_of_items, chosen_ascend}
-use Rattle.causal_log.proofs.Lemmas.Marking.{get_marked, get_unmarked}
+use Rattle.causal_log.proofs.Lemmas.ChosenLemmas.{dets_of_items}
+use Rattle.causal_log.proofs.Lemmas.Marking.{get_marked}
 use Rattle.causal_log.proofs.MergeLemmas.{entries_of, entry_of, carried_of, found_chosen, recognized}
 
 -- a filter of determinants leaves ascending items of what messages carry
@@ -75,19 +75,6 @@ chosen_marked f log det = recognized f (marked log det) (open_in (marked log det
     ∙ marked_open f (same_det q det) (fin.get log q)
     ∙ sym (ap (carried_of f) (get_marked log det q)))
 
-unmarked_same : (f : ℕ) (o : Option Known) → carried_of f o ≡ carried_of f (cond (unwrap_or o nothing_known).stable None o)
-unmarked_same f None = refl
-unmarked_same f (Some known) = by known.stable refl
-  where
-    by : (b : Bool) → known.stable ≡ b → carried_of f (Some known) ≡ carried_of f (cond known.stable None (Some known))
-    by true is = ap (λ b. cond (not b && nat_le (set.len known.holders) f) (Some known) None) is ∙ sym (ap (λ b. carried_of f (cond b None (Some known))) is)
-    by false is = sym (ap (λ b. carried_of f (cond b None (Some known))) is)
-
--- messages carry the same once what is marked is taken out
-pub chosen_unmarked : (f : ℕ) (log : LogMap) → chosen f log ≡ chosen f (unmarked log)
-chosen_unmarked f log = recognized f (unmarked log) (chosen f log) (chosen_ascend f log) (λ q.
-    found_chosen f log q ∙ unmarked_same f (fin.get log q) ∙ sym (ap (carried_of f) (get_unmarked log q)))
-
 -- open is what is open in both
 open_twice : (log other : LogMap) (items : List Item) → ((q : Det) → is_open other q ≡ true → is_open log q ≡ true) → open_in other (open_in log items) ≡ open_in other items
 open_twice log other [] h = refl
@@ -112,29 +99,7 @@ carried_marked f items true log det is =
     ∙ ap (open_in (marked log det)) is ∙ chosen_marked f log det
 carried_marked f items false log det is = ap (open_in (marked log det)) is ∙ chosen_marked f log det
 
-open_left : (o : Option Known) → open_of (cond (unwrap_or o nothing_known).stable None o) ≡ open_of o
-open_left None = refl
-open_left (Some known) = by known.stable refl
-  where
-    by : (b : Bool) → known.stable ≡ b → open_of (cond known.stable None (Some known)) ≡ not known.stable
-    by true is = ap (λ b. open_of (cond b None (Some known))) is ∙ sym (ap not is)
-    by false is = ap (λ b. open_of (cond b None (Some known))) is
-
-same_open : (log other : LogMap) (items : List Item) → ((q : Det) → is_open other q ≡ is_open log q) → open_in other items ≡ open_in log items
-same_open log other [] h = refl
-same_open log other (i ∷ items) h = λ j. cond (h i.det j) (i ∷ same_open log other items h j) (same_open log other items h j)
-
--- and once the marked ones are taken out
-pub carried_left : (f : ℕ) (items : List Item) (is_marked : Bool) (log : LogMap) → IsCarried f items is_marked log → IsCarried f items is_marked (unmarked log)
-carried_left f items true log is =
-    same_open log (unmarked log) items (λ q. ap open_of (get_unmarked log q) ∙ open_left (fin.get log q)) ∙ is ∙ chosen_unmarked f log
-carried_left f items false log is = is ∙ chosen_unmarked f log
-
 -- so does what a log keeps
 pub carries_marked : (kept : Option Carried) (log : LogMap) (det : Det) → Carries kept log → Carries (option_map as_marked kept) (marked log det)
 carries_marked None log det is = is
 carries_marked (Some k) log det is = carried_marked k.f (arc_value k.batch) k.is_marked log det is
-
-pub carries_left : (kept : Option Carried) (log : LogMap) → Carries kept log → Carries kept (unmarked log)
-carries_left None log is = is
-carries_left (Some k) log is = carried_left k.f (arc_value k.batch) k.is_marked log is

@@ -2,6 +2,7 @@
 use Rattle.std.proofs.Common.{ℕ, zero, suc, ◌≡◌, ◌∙◌, ◌⊎◌, inl, inr, ◌+◌, ◌-◌, ◌<◌, ◌||◌, Bool, true, false, List, [], ◌∷◌, ◌++◌, Option, Some, None, IfSome, is_some, unwrap_or, slice_get, length, get_or, set, true≢false, refl, sym, ap, subst, arith}
 use Rattle.std.proofs.lemmas.Bool.{cases_eq, cases_lt}
 use Rattle.std.proofs.lemmas.List.{length-set, length_push, get_or-set_same, get_or-set_other, get_or_append_left, get_or-append_right, get_or_past}
+use Rattle.std.proofs.lemmas.Option.{get_or_from_slice_get}
 use Rattle.std.specs.List.{list_any}
 use Rattle.causal_name.specs.declared.Det.{Det}
 use Rattle.causal_name.specs.declared.Pid.{Pid}
@@ -137,11 +138,6 @@ onward : (older : List (Option ℕ)) (i k t : ℕ) → Leads older (Some i) k t 
 onward older i k zero h apart = absurd (apart h)
 onward older i k (suc t) h apart = (t, h)
 
-pub read_at : (ds : List Det) (k : ℕ) (d z : Det) → slice_get ds k ≡ Some d → get_or ds k z ≡ d
-read_at [] k d z h = absurd (true≢false (sym (ap is_some h)))
-read_at (e ∷ ds) zero d z h = ap (λ o. unwrap_or o d) h
-read_at (e ∷ ds) (suc k) d z h = read_at ds k d z h
-
 pub stands : (d : Det) (ds : List Det) → list_any (same_det d) ds ≡ true → (k : ℕ) × (slice_get ds k ≡ Some d)
 stands d [] h = absurd (true≢false (sym h))
 stands d (e ∷ ds) h = by (same_det d e) refl h (stands d ds)
@@ -156,7 +152,7 @@ module _ (ds : List Det) (older : List (Option ℕ)) (d : Det) where
   next_leads i z leads apart k there =
       let way = leads k there in
       onward older i k way.0 way.1 (λ same.
-      true≢false (sym (ap (λ x. same_det x d) (read_at ds i d z (ap (slice_get ds) same ∙ there)) ∙ same_itself d) ∙ apart))
+      true≢false (sym (ap (λ x. same_det x d) (get_or_from_slice_get ds i d z (ap (slice_get ds) same ∙ there)) ∙ same_itself d) ∙ apart))
 
   pub absent : LeadsOn ds older d None → list_any (same_det d) ds ≡ false
   absent leads = by (list_any (same_det d) ds) refl

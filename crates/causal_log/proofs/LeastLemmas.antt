@@ -1,27 +1,35 @@
 -- The least determinant of a slot, along the entries of its head.
-use Rattle.std.proofs.Common.{ℕ, zero, suc, ◌≡◌, ◌∙◌, ◌⊎◌, inl, inr, ◌<◌, ◌&&◌, ◌||◌, ◌==◌, Bool, true, false, List, [], ◌∷◌, ◌++◌, Option, Some, None, slice_get, length, get_or, true≢false, refl, sym, ap, subst, arith}
+use Rattle.std.proofs.Common.{ℕ, zero, suc, ◌≡◌, ◌∙◌, ◌⊎◌, inl, inr, ◌<◌, ◌&&◌, ◌==◌, Bool, true, false, List, Option, Some, None, IfSome, slice_get, length, get_or, true≢false, refl, sym, ap, subst, arith}
+use Rattle.std.proofs.lemmas.Bool.{false_from_ne_true}
 use Rattle.std.proofs.lemmas.Bool.Decides.{nat_tests}
-use Rattle.std.proofs.lemmas.List.Folds.{list_any-append}
+use Rattle.std.proofs.lemmas.List.Folds.{list_any_at}
+use Rattle.std.proofs.lemmas.Option.{get_or_from_slice_get}
 use Rattle.std.specs.List.{list_any}
 use Rattle.std.specs.Option.{option_map_or}
+use Rattle.std.specs.Ordering.{is_lt}
 use Rattle.causal_name.specs.declared.Det.{Det}
 use Rattle.causal_name.specs.declared.Pid.{Pid}
 use Rattle.causal_name.specs.declared.Slot.{Slot}
-use Rattle.causal_name.specs.Names.{same_det, same_pid, slot_of, is_before}
+use Rattle.causal_name.specs.Names.{same_det, same_pid, slot_of, is_before, is_ascending}
 use Rattle.causal_name.proofs.Lemmas.DetOrder.{same_is, same_itself}
-use Rattle.causal_log.specs.Slots.{is_of_slot}
+use Rattle.causal_log.specs.Slots.{is_of_slot, first_of_slot}
 use Rattle.causal_log.specs.Inside.Ranks.{IsAmong, IsLeastOfSlot}
 use Rattle.causal_log.specs.Inside.Indexes.{newest_of, Leads, IsLed, IsIndex}
-use Rattle.causal_log.proofs.IndexLemmas.{stands, read_at}
-use Rattle.causal_log.proofs.Lemmas.Searches.{both, or_right}
-use Rattle.causal_log.proofs.RankLemmas.{less, more, not_both}
+use Rattle.causal_log.proofs.EntryLemmas.{below, not_after}
+use Rattle.causal_log.proofs.IndexLemmas.{stands}
+use Rattle.causal_log.proofs.Lemmas.Ascents.{before_trans}
+use Rattle.causal_log.proofs.Lemmas.Searches.{both}
+use Rattle.causal_log.proofs.Lemmas.Slots.{first_fits, none_fits, first_least}
 
--- of some determinants that were passed this is the least of the slot, and those of it that were not are led to
+-- what was found is a determinant, or comes before it
+abbrev pub Beats : Option Det → Det → Type 0
+Beats None q = ⊥
+Beats (Some d) q = (d ≡ q) ⊎ (is_before d q ≡ true)
+
+-- what was found fills the slot, and those of the slot that it does not beat are led to
 pub record HasPassed (dest : Pid) (rsn : ℕ) (ds : List Det) (older : List (Option ℕ)) (at : Option ℕ) (least : Option Det) : Type 0 where
-  pub passed : List Det
-  pub is_least : IsLeastOfSlot dest rsn passed least
-  pub within : (q : Det) → IsAmong q passed → IsAmong q ds
-  pub rest : (k : ℕ) (q : Det) → slice_get ds k ≡ Some q → is_of_slot dest rsn q ≡ true → IsLed older at k ⊎ IsAmong q passed
+  pub fits : IfSome least (λ d. (is_of_slot dest rsn d ≡ true) × IsAmong d ds)
+  pub rest : (k : ℕ) (q : Det) → slice_get ds k ≡ Some q → is_of_slot dest rsn q ≡ true → IsLed older at k ⊎ Beats least q
 
 number_is : (a b : ℕ) → (a == b) ≡ true → a ≡ b
 number_is a b h = grind (arith, nat_tests)
@@ -35,74 +43,85 @@ slot_is slot q h =
 
 pub none_passed : (ds : List Det) (heads older : List (Option ℕ)) (slot : Slot) → IsIndex ds heads older → HasPassed slot.dest slot.rsn ds older (newest_of heads slot) None
 none_passed ds heads older slot index = record {
-  passed = [];
-  is_least = λ q there. absurd (true≢false (sym there));
-  within = λ q there. absurd (true≢false (sym there));
+  fits = tt;
   rest = λ k q at fits. inl (subst (λ s. IsLed older (newest_of heads s) k) (slot_is slot q fits) (index.found k q at));
 }
 
-there_at : (ds : List Det) (k : ℕ) (q z : Det) → slice_get ds k ≡ Some q → get_or ds k z ≡ q
-there_at ds k q z at = read_at ds k q z at
+-- where two tests do not both pass, the second fails where the first passes
+not_both : (a b : Bool) → (a && b) ≡ false → a ≡ true → b ≡ false
+not_both true b h one = h
+not_both false b h one = absurd (true≢false (sym one))
 
-among_at : (ds : List Det) (k : ℕ) (z : Det) → k < length ds → IsAmong (get_or ds k z) ds
-among_at [] k z low = absurd (omega (arith, low))
-among_at (d ∷ ds) zero z low = ap (λ b. b || list_any (same_det d) ds) (same_itself d)
-among_at (d ∷ ds) (suc k) z low = ap (λ b. same_det (get_or ds k z) d || b) (among_at ds k z (omega (arith, low))) ∙ sym (or_right (same_det (get_or ds k z) d))
+or_before : (x f : Det) → is_before x f ≡ false → (f ≡ x) ⊎ (is_before f x ≡ true)
+or_before x f low = by (same_det f x) refl
+  where
+    by : (b : Bool) → same_det f x ≡ b → (f ≡ x) ⊎ (is_before f x ≡ true)
+    by true same = inl (same_is f x same)
+    by false apart = inr (ap is_lt (below f x low apart))
 
 module _ (dest : Pid) (rsn : ℕ) (ds : List Det) (older : List (Option ℕ)) (i : ℕ) (z : Det) (least : Option Det) (low : i < length ds) (has : HasPassed dest rsn ds older (Some i) least) where
   abbrev x : Det
   x = get_or ds i z
 
-  or_last : (a b : Bool) → (a || (b || false)) ≡ true → (a ≡ true) ⊎ (b ≡ true)
-  or_last true b h = inl refl
-  or_last false true h = inr refl
-  or_last false false h = absurd (true≢false (sym h))
-
-  split : (q : Det) → IsAmong q (has.passed ++ x ∷ []) → IsAmong q has.passed ⊎ (q ≡ x)
-  split q h = elim (or_last (list_any (same_det q) has.passed) (same_det q x) (sym (list_any-append (same_det q) has.passed (x ∷ [])) ∙ h)) [ inl there ↦ inl there | inr same ↦ inr (same_is q x same) ]
-
-  still : (q : Det) → IsAmong q has.passed → IsAmong q (has.passed ++ x ∷ [])
-  still q h = list_any-append (same_det q) has.passed (x ∷ []) ∙ ap (λ b. b || (same_det q x || false)) h
-
-  last : (q : Det) → x ≡ q → IsAmong q (has.passed ++ x ∷ [])
-  last q is =
-      list_any-append (same_det q) has.passed (x ∷ [])
-      ∙ ap (λ y. list_any (same_det q) has.passed || (same_det q y || false)) is
-      ∙ ap (λ b. list_any (same_det q) has.passed || (b || false)) (same_itself q)
-      ∙ sym (or_right (list_any (same_det q) has.passed))
-
-  onward : (k : ℕ) (q : Det) → slice_get ds k ≡ Some q → (t : ℕ) → Leads older (Some i) k t → IsLed older (get_or older i None) k ⊎ IsAmong q (has.passed ++ x ∷ [])
-  onward k q at zero led = inr (last q (ap (λ j. get_or ds j z) led ∙ there_at ds k q z at))
-  onward k q at (suc t) led = inl (t, led)
-
   -- one more is passed
-  pub passed_more : (later : Option Det) → IsLeastOfSlot dest rsn (has.passed ++ x ∷ []) later → HasPassed dest rsn ds older (get_or older i None) later
-  passed_more later is = record {
-    passed = has.passed ++ x ∷ [];
-    is_least = is;
-    within = λ q h. elim (split q h) [ inl there ↦ has.within q there | inr same ↦ subst (λ y. IsAmong y ds) (sym same) (among_at ds i z low) ];
-    rest = λ k q at fits. elim (has.rest k q at fits) [ inl led ↦ onward k q at led.0 led.1 | inr there ↦ inr (still q there) ];
+  more : (later : Option Det) → IfSome later (λ d. (is_of_slot dest rsn d ≡ true) × IsAmong d ds) → (is_of_slot dest rsn x ≡ true → Beats later x)
+      → ((q : Det) → Beats least q → Beats later q) → HasPassed dest rsn ds older (get_or older i None) later
+  more later fits here on = record {
+    fits = fits;
+    rest = λ k q at fit. elim (has.rest k q at fit) [ inl led ↦ by k q at fit led.0 led.1 | inr beaten ↦ inr (on q beaten) ];
   }
+    where
+      by : (k : ℕ) (q : Det) → slice_get ds k ≡ Some q → is_of_slot dest rsn q ≡ true → (t : ℕ) → Leads older (Some i) k t → IsLed older (get_or older i None) k ⊎ Beats later q
+      by k q at fit zero led =
+          let one : x ≡ q = ap (λ j. get_or ds j z) led ∙ get_or_from_slice_get ds k q z at in inr (subst (Beats later) one (here (ap (is_of_slot dest rsn) one ∙ fit)))
+      by k q at fit (suc t) led = inl (t, led)
 
+  -- one that fills the slot and comes before what was found is what is found now
   pub passed_lesser : (is_of_slot dest rsn x && option_map_or (λ f. is_before x f) least true) ≡ true → HasPassed dest rsn ds older (get_or older i None) (Some x)
-  passed_lesser h = let two = both (is_of_slot dest rsn x) (option_map_or (λ f. is_before x f) least true) h in passed_more (Some x) (less dest rsn x has.passed least two.0 two.1 has.is_least)
+  passed_lesser h =
+      let two = both (is_of_slot dest rsn x) (option_map_or (λ f. is_before x f) least true) h in
+      more (Some x) (two.0, list_any_at (same_det x) ds i z low (same_itself x)) (λ fit. inl refl) (λ q beaten. inr (lower least two.1 q beaten))
+    where
+      lower : (found : Option Det) → option_map_or (λ f. is_before x f) found true ≡ true → (q : Det) → Beats found q → is_before x q ≡ true
+      lower None h q beaten = absurd beaten
+      lower (Some f) h q (inl same) = ap (is_before x) (sym same) ∙ h
+      lower (Some f) h q (inr after) = before_trans x f q h after
 
+  -- and any other one leaves it
   pub passed_other : (is_of_slot dest rsn x && option_map_or (λ f. is_before x f) least true) ≡ false → HasPassed dest rsn ds older (get_or older i None) least
-  passed_other h = passed_more least (more dest rsn x has.passed least (not_both (is_of_slot dest rsn x) (option_map_or (λ f. is_before x f) least true) h) has.is_least)
-
-not_true : (b : Bool) → (b ≡ true → ⊥) → b ≡ false
-not_true true h = absurd (h refl)
-not_true false h = refl
+  passed_other h = more least has.fits (λ fit. high least (not_both (is_of_slot dest rsn x) (option_map_or (λ f. is_before x f) least true) h fit)) (λ q beaten. beaten)
+    where
+      high : (found : Option Det) → option_map_or (λ f. is_before x f) found true ≡ false → Beats found x
+      high None h = absurd (true≢false h)
+      high (Some f) h = or_before x f h
 
 -- once all were passed it is the least of all
 pub all_passed : (dest : Pid) (rsn : ℕ) (ds : List Det) (older : List (Option ℕ)) (least : Option Det) → HasPassed dest rsn ds older None least → IsLeastOfSlot dest rsn ds least
-all_passed dest rsn ds older None has = λ q there. not_true (is_of_slot dest rsn q) (λ fits.
+all_passed dest rsn ds older None has = λ q there. false_from_ne_true (is_of_slot dest rsn q) (λ fit.
     let at = stands q ds there in
-    elim (has.rest at.0 q at.1 fits) [ inl led ↦ led.1 | inr passed ↦ true≢false (sym fits ∙ has.is_least q passed) ])
+    elim (has.rest at.0 q at.1 fit) [ inl led ↦ led.1 | inr beaten ↦ beaten ])
 all_passed dest rsn ds older (Some d) has = (
-  has.is_least.0,
-  has.within d has.is_least.1,
-  λ q there fits.
+  has.fits.0,
+  has.fits.1,
+  λ q there fit.
       let at = stands q ds there in
-      elim (has.rest at.0 q at.1 fits) [ inl led ↦ absurd led.1 | inr passed ↦ has.is_least.2 q passed fits ],
+      elim (has.rest at.0 q at.1 fit) [ inl led ↦ absurd led.1 | inr beaten ↦ beaten ],
 )
+
+-- the least of some determinants is the first in an ascending list of them
+pub least_first : (dest : Pid) (rsn : ℕ) (dets ds : List Det) (o : Option Det) → is_ascending ds ≡ true → ((q : Det) → list_any (same_det q) dets ≡ list_any (same_det q) ds)
+    → IsLeastOfSlot dest rsn dets o → o ≡ first_of_slot dest rsn ds
+least_first dest rsn dets ds o ascend same is = by o is (first_of_slot dest rsn ds) refl
+  where
+    by : (o : Option Det) → IsLeastOfSlot dest rsn dets o → (r : Option Det) → first_of_slot dest rsn ds ≡ r → o ≡ r
+    by None is None first = refl
+    by None is (Some d) first =
+        let two = first_fits (is_of_slot dest rsn) ds d first in
+        absurd (true≢false (sym two.0 ∙ is d (same d ∙ two.1)))
+    by (Some f) is None first = absurd (true≢false (sym is.0 ∙ none_fits (is_of_slot dest rsn) ds f first (sym (same f) ∙ is.1)))
+    by (Some f) is (Some d) first =
+        let two = first_fits (is_of_slot dest rsn) ds d first in
+        elim (first_least (is_of_slot dest rsn) ds d f ascend first (sym (same f) ∙ is.1) is.0) [
+          | inl one ↦ ap (λ x. Some x) (sym one)
+          | inr low ↦ elim (is.2 d (same d ∙ two.1) two.0) [ inl one ↦ ap (λ x. Some x) one | inr high ↦ absurd (true≢false (sym high ∙ not_after d f low)) ]
+        ]

@@ -1,7 +1,6 @@
 pub mod Lemmas
 mod EntryLemmas
 mod PlaceLemmas
-mod RankLemmas
 mod SortLemmas
 mod TableLemmas
 mod IndexLemmas
@@ -9,3 +8,4 @@ mod LeastLemmas
 mod MergeLemmas
 mod CarriedLemmas
 mod StoreLemmas
+mod KeptLemmas

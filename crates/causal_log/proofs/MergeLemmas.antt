@@ -1,13 +1,18 @@
 -- Ascending items are what messages carry of a log where each is found so, and go on being it as determinants are heard of.
-use Rattle.std.proofs.Common.{ℕ, zero, suc, ◌+◌, ◌-◌, length, take, drop, slice_get, IfSome, ◌≡◌, ◌∙◌, ◌≤◌, ◌&&◌, ◌||◌, Bool, true, false, cond, not, nat_le, List, [], ◌∷◌, ◌++◌, map, filter, Option, Some, None, is_some, unwrap_or, true≢false, refl, sym, ap, subst, arith}
+use Rattle.std.proofs.Common.{ℕ, zero, suc, ◌+◌, ◌-◌, length, take, drop, slice_get, IfSome, ◌≡◌, ◌∙◌, ◌≤◌, ◌&&◌, ◌||◌, Bool, true, false, cond, not, nat_le, nat_cmp, List, [], ◌∷◌, ◌++◌, map, filter, Option, Some, None, is_some, unwrap_or, true≢false, refl, sym, ap, subst, arith}
+use Rattle.std.proofs.lemmas.Bool.{and_from, or_from, or_left, or_right, false_from_ne_true}
 use Rattle.std.proofs.lemmas.Bool.Decides.{nat_tests}
-use Rattle.std.proofs.lemmas.List.{append_assoc, length-drop, take_all}
+use Rattle.std.proofs.lemmas.List.{append_assoc, length-drop, map-append, take_all}
+use Rattle.std.proofs.lemmas.List.Folds.{list_any-append}
 use Rattle.std.specs.List.{list_any}
+use Rattle.std.specs.Option.{option_or}
 use Rattle.std.specs.Map.{lookup, keys_of}
 use Rattle.std.specs.Cmp.{nat_cmp_total}
 use Rattle.std.specs.FinMap as fin
 use Rattle.std.specs.FinSet as set
+use Rattle.std.specs.Ordering.{is_lt}
 use Rattle.causal_name.specs.declared.Det.{Det}
+use Rattle.causal_name.specs.declared.Pid.{Pid}
 use Rattle.causal_name.specs.Names.{same_det, is_before, is_ascending}
 use Rattle.causal_name.proofs.Lemmas.DetOrder.{dets_total, same_is, same_itself}
 use Rattle.causal_holders.proofs.Lemmas.Sets.{len-is_subset}
@@ -17,64 +22,39 @@ use Rattle.causal_log.specs.Knowledge.{nothing_known, joined, is_carried, told}
 use Rattle.causal_log.specs.Logs.{LogMap, log_of, known_of, learned, absorbed, item_of, chosen, dets_of}
 use Rattle.causal_log.specs.Inside.Carried.{known_of_item, with_carried, HearsNext}
 use Rattle.causal_log.specs.Inside.Merges.{HasMerged}
-use Rattle.causal_name.specs.declared.Pid.{Pid}
-use Rattle.std.specs.Ordering.{is_lt}
-use Rattle.causal_log.proofs.EntryLemmas.{below, get_log, same_log, own_entries}
-use Rattle.causal_log.proofs.PlaceLemmas.{not_itself}
+use Rattle.causal_log.proofs.EntryLemmas.{below, get_log, same_log, own_entries, not_itself}
 use Rattle.causal_log.proofs.TableLemmas.{lookup_missing}
 use Rattle.causal_log.proofs.Lemmas.Ascents.{ascending_tail, ascending_skip, before_trans, first_before, filter_ascends}
 use Rattle.causal_log.proofs.Lemmas.ChosenLemmas.{chosen_ascend}
 use Rattle.causal_log.proofs.Lemmas.Learning.{get_learned}
-use Rattle.causal_log.proofs.Lemmas.Searches.{any_map, before_apart, both, find_kept, kept_if, shown, same_turned}
-
--- two pieces of knowledge together have no fewer holders than either
-or_both : (a b : Bool) → b ≡ true → (a || b) ≡ true
-or_both true b h = refl
-or_both false b h = h
-
-or_first : (a b : Bool) → a ≡ true → (a || b) ≡ true
-or_first true b h = refl
-or_first false b h = absurd (true≢false (sym h))
-
-count_joined : (one other : Known) → set.len other.holders ≤ set.len (joined one other).holders
-count_joined one other =
-    len-is_subset other.holders (set.union one.holders other.holders)
-    (set.contains-is_subset nat_cmp_total other.holders (set.union one.holders other.holders) (λ q h.
-    set.contains-union nat_cmp_total one.holders other.holders q ∙ or_both (set.contains one.holders q) (set.contains other.holders q) h))
-
-count_known : (one other : Known) → set.len one.holders ≤ set.len (joined one other).holders
-count_known one other =
-    len-is_subset one.holders (set.union one.holders other.holders)
-    (set.contains-is_subset nat_cmp_total one.holders (set.union one.holders other.holders) (λ q h.
-    set.contains-union nat_cmp_total one.holders other.holders q ∙ or_first (set.contains one.holders q) (set.contains other.holders q) h))
+use Rattle.causal_log.proofs.Lemmas.Searches.{any_map, before_apart, both, find_kept, kept_if, or_nothing, shown, same_turned}
 
 fewer : (a b f : ℕ) → a ≤ b → nat_le b f ≡ true → nat_le a f ≡ true
 fewer a b f less h = grind (arith, nat_tests)
-
-and_both : (a b : Bool) → a ≡ true → b ≡ true → (a && b) ≡ true
-and_both true b h i = i
-and_both false b h i = h
 
 neither : (a b : Bool) → not (a || b) ≡ true → (not a ≡ true) × (not b ≡ true)
 neither true b h = absurd (true≢false (sym h))
 neither false b h = (refl, h)
 
+more_holders : (one : set.FinSet nat_cmp) (other : set.FinSet nat_cmp) → ((q : ℕ) → set.contains one q ≡ true → set.contains other q ≡ true) → set.len one ≤ set.len other
+more_holders one other h = len-is_subset one other (set.contains-is_subset nat_cmp_total one other h)
+
 -- what is carried once more is known of it was carried before, and what is heard of it would be alone
 both_carried : (f : ℕ) (known heard : Known) → is_carried f (joined known heard) ≡ true → (is_carried f known ≡ true) × (is_carried f heard ≡ true)
 both_carried f known heard h =
-    let two = both (not (joined known heard).stable) (nat_le (set.len (joined known heard).holders) f) h in
+    let all = (joined known heard).holders in
+    let two = both (not (joined known heard).stable) (nat_le (set.len all) f) h in
     let marks = neither known.stable heard.stable two.0 in
-    (and_both (not known.stable) (nat_le (set.len known.holders) f) marks.0 (fewer _ _ f (count_known known heard) two.1), and_both (not heard.stable) (nat_le (set.len heard.holders) f) marks.1 (fewer _ _ f (count_joined known heard) two.1))
+    let union = set.contains-union nat_cmp_total known.holders heard.holders in
+    let one = more_holders known.holders all (λ q there. union q ∙ or_left (set.contains known.holders q) (set.contains heard.holders q) there) in
+    let other = more_holders heard.holders all (λ q there. union q ∙ or_right (set.contains known.holders q) (set.contains heard.holders q) there) in
+    (and_from (not known.stable) (nat_le (set.len known.holders) f) marks.0 (fewer _ _ f one two.1), and_from (not heard.stable) (nat_le (set.len heard.holders) f) marks.1 (fewer _ _ f other two.1))
 
-not_more : (a b : Bool) → (a ≡ true → b ≡ true) → b ≡ false → a ≡ false
-not_more true b h is = absurd (true≢false (sym (h refl) ∙ is))
-not_more false b h is = refl
+joined_out : (f : ℕ) (known heard : Known) → is_carried f known ≡ false → is_carried f (joined known heard) ≡ false
+joined_out f known heard is = false_from_ne_true (is_carried f (joined known heard)) (λ h. true≢false (sym (both_carried f known heard h).0 ∙ is))
 
-pub joined_out : (f : ℕ) (known heard : Known) → is_carried f known ≡ false → is_carried f (joined known heard) ≡ false
-joined_out f known heard = not_more (is_carried f (joined known heard)) (is_carried f known) (λ h. (both_carried f known heard h).0)
-
-pub heard_out : (f : ℕ) (known heard : Known) → is_carried f heard ≡ false → is_carried f (joined known heard) ≡ false
-heard_out f known heard = not_more (is_carried f (joined known heard)) (is_carried f heard) (λ h. (both_carried f known heard h).1)
+heard_out : (f : ℕ) (known heard : Known) → is_carried f heard ≡ false → is_carried f (joined known heard) ≡ false
+heard_out f known heard is = false_from_ne_true (is_carried f (joined known heard)) (λ h. true≢false (sym (both_carried f known heard h).1 ∙ is))
 
 -- items as entries
 abbrev pub entry_of : Item → Det × Known
@@ -85,8 +65,7 @@ entries_of items = map entry_of items
 
 -- what messages carry of what is known of a determinant
 abbrev pub carried_of : ℕ → Option Known → Option Known
-carried_of f None = None
-carried_of f (Some known) = cond (is_carried f known) (Some known) None
+carried_of f o = kept_if (is_carried f) o
 
 pub keys_entries : (items : List Item) → keys_of (entries_of items) ≡ dets_of items
 keys_entries [] = refl
@@ -96,17 +75,8 @@ items_back : (items : List Item) → map item_of (entries_of items) ≡ items
 items_back [] = refl
 items_back (i ∷ items) = ap (λ is. i ∷ is) (items_back items)
 
-pub entries_append : (xs ys : List Item) → entries_of (xs ++ ys) ≡ entries_of xs ++ entries_of ys
-entries_append [] ys = refl
-entries_append (x ∷ xs) ys = ap (λ es. entry_of x ∷ es) (entries_append xs ys)
-
-pub dets_append : (xs ys : List Item) → dets_of (xs ++ ys) ≡ dets_of xs ++ dets_of ys
-dets_append [] ys = refl
-dets_append (x ∷ xs) ys = ap (λ ds. x.det ∷ ds) (dets_append xs ys)
-
-as_kept : (f : ℕ) (o : Option Known) → kept_if (is_carried f) o ≡ carried_of f o
-as_kept f None = refl
-as_kept f (Some known) = refl
+dets_append : (xs ys : List Item) → dets_of (xs ++ ys) ≡ dets_of xs ++ dets_of ys
+dets_append xs ys = map-append (λ item. item.det) xs ys
 
 -- what is carried is not marked
 pub carried_unmarked : (f : ℕ) (known : Known) → is_carried f known ≡ true → record { holders = known.holders; stable = false } ≡ known
@@ -132,7 +102,6 @@ module _ (f : ℕ) where
       ∙ fin.get-from_entries dets_total _ q
       ∙ find_kept (is_carried f) q (fin.entries log) (shown _ (fin.entries_sorted log))
       ∙ ap (kept_if (is_carried f)) (sym (fin.get-entries log q))
-      ∙ as_kept f (fin.get log q)
 
   -- each item of what messages carry is found, and no other
   pub found_chosen : (log : LogMap) (q : Det) → lookup (same_det q) (entries_of (chosen f log)) ≡ carried_of f (fin.get log q)
@@ -150,17 +119,17 @@ module _ (f : ℕ) where
 -- ascending lists end to end
 pub glue : (xs : List Det) (d : Det) (ys : List Det) → is_ascending (xs ++ d ∷ []) ≡ true → is_ascending (d ∷ ys) ≡ true → is_ascending (xs ++ d ∷ ys) ≡ true
 glue [] d ys h k = k
-glue (x ∷ []) d ys h k = and_both (is_before x d) (is_ascending (d ∷ ys)) (both (is_before x d) true h).0 k
+glue (x ∷ []) d ys h k = and_from (is_before x d) (is_ascending (d ∷ ys)) (both (is_before x d) true h).0 k
 glue (x ∷ y ∷ xs) d ys h k =
     let two = both (is_before x y) (is_ascending (y ∷ (xs ++ d ∷ []))) h in
-    and_both (is_before x y) (is_ascending (y ∷ (xs ++ d ∷ ys))) two.0 (glue (y ∷ xs) d ys two.1 k)
+    and_from (is_before x y) (is_ascending (y ∷ (xs ++ d ∷ ys))) two.0 (glue (y ∷ xs) d ys two.1 k)
 
 pub front : (xs : List Det) (d : Det) (ys : List Det) → is_ascending (xs ++ d ∷ ys) ≡ true → is_ascending (xs ++ d ∷ []) ≡ true
 front [] d ys h = refl
-front (x ∷ []) d ys h = and_both (is_before x d) true (both (is_before x d) (is_ascending (d ∷ ys)) h).0 refl
+front (x ∷ []) d ys h = and_from (is_before x d) true (both (is_before x d) (is_ascending (d ∷ ys)) h).0 refl
 front (x ∷ y ∷ xs) d ys h =
     let two = both (is_before x y) (is_ascending (y ∷ (xs ++ d ∷ ys))) h in
-    and_both (is_before x y) (is_ascending (y ∷ (xs ++ d ∷ []))) two.0 (front (y ∷ xs) d ys two.1)
+    and_from (is_before x y) (is_ascending (y ∷ (xs ++ d ∷ []))) two.0 (front (y ∷ xs) d ys two.1)
 
 pub back : (xs ys : List Det) → is_ascending (xs ++ ys) ≡ true → is_ascending ys ≡ true
 back [] ys h = h
@@ -171,46 +140,35 @@ without [] d ys h = ascending_tail d ys h
 without (x ∷ []) d ys h = ascending_skip x d ys h
 without (x ∷ y ∷ xs) d ys h =
     let two = both (is_before x y) (is_ascending (y ∷ (xs ++ d ∷ ys))) h in
-    and_both (is_before x y) (is_ascending (y ∷ (xs ++ ys))) two.0 (without (y ∷ xs) d ys two.1)
+    and_from (is_before x y) (is_ascending (y ∷ (xs ++ ys))) two.0 (without (y ∷ xs) d ys two.1)
 
 pub raise : (xs : List Det) (d e : Det) → is_ascending (xs ++ d ∷ []) ≡ true → is_before d e ≡ true → is_ascending (xs ++ e ∷ []) ≡ true
-raise xs d e h low = without xs d (e ∷ []) (glue xs d (e ∷ []) h (and_both (is_before d e) true low refl))
+raise xs d e h low = without xs d (e ∷ []) (glue xs d (e ∷ []) h (and_from (is_before d e) true low refl))
 
 -- a determinant is none of those that all come before it, nor of those that all come after it
-pub none_front : (xs : List Det) (d : Det) → is_ascending (xs ++ d ∷ []) ≡ true → list_any (same_det d) xs ≡ false
+none_front : (xs : List Det) (d : Det) → is_ascending (xs ++ d ∷ []) ≡ true → list_any (same_det d) xs ≡ false
 none_front [] d h = refl
-none_front (x ∷ xs) d h = by (same_det d x) refl (none_front xs d (ascending_tail x (xs ++ d ∷ []) h))
+none_front (x ∷ xs) d h = or_from (same_det d x) (list_any (same_det d) xs) (false_from_ne_true (same_det d x) first) (none_front xs d (ascending_tail x (xs ++ d ∷ []) h))
   where
-    last : (xs : List Det) → list_any (same_det d) (xs ++ d ∷ []) ≡ true
-    last [] = ap (λ b. b || false) (same_itself d)
-    last (y ∷ ys) = or_both (same_det d y) (list_any (same_det d) (ys ++ d ∷ [])) (last ys)
+    last : list_any (same_det d) (xs ++ d ∷ []) ≡ true
+    last = list_any-append (same_det d) xs (d ∷ []) ∙ or_right (list_any (same_det d) xs) (same_det d d || false) (ap (λ b. b || false) (same_itself d))
 
-    by : (b : Bool) → same_det d x ≡ b → list_any (same_det d) xs ≡ false → (b || list_any (same_det d) xs) ≡ false
-    by true is later = absurd (true≢false (sym (first_before x (xs ++ d ∷ []) d h (last xs)) ∙ ap (is_before x) (same_is d x is) ∙ not_itself x))
-    by false is later = later
+    first : same_det d x ≡ true → ⊥
+    first is = true≢false (sym (first_before x (xs ++ d ∷ []) d h last) ∙ ap (is_before x) (same_is d x is) ∙ not_itself x)
 
-pub none_back : (d : Det) (ys : List Det) → is_ascending (d ∷ ys) ≡ true → list_any (same_det d) ys ≡ false
-none_back d ys h = by (list_any (same_det d) ys) refl
-  where
-    by : (b : Bool) → list_any (same_det d) ys ≡ b → b ≡ false
-    by true there = absurd (true≢false (sym (first_before d ys d h there) ∙ not_itself d))
-    by false none = refl
+none_back : (d : Det) (ys : List Det) → is_ascending (d ∷ ys) ≡ true → list_any (same_det d) ys ≡ false
+none_back d ys h = false_from_ne_true (list_any (same_det d) ys) (λ there. true≢false (sym (first_before d ys d h there) ∙ not_itself d))
 
--- the first of two findings
-abbrev or_else : {X : Type 0} → Option X → Option X → Option X
-or_else None later = later
-or_else (Some x) later = Some x
-
-lookup_append : {X : Type 0} (q : Det) (es fs : List (Det × X)) → lookup (same_det q) (es ++ fs) ≡ or_else (lookup (same_det q) es) (lookup (same_det q) fs)
+lookup_append : {X : Type 0} (q : Det) (es fs : List (Det × X)) → lookup (same_det q) (es ++ fs) ≡ option_or (lookup (same_det q) es) (lookup (same_det q) fs)
 lookup_append q [] fs = refl
 lookup_append q (e ∷ es) fs =
-    elim (same_det q e.0) as (λ b. cond b (Some e.1) (lookup (same_det q) (es ++ fs)) ≡ or_else (cond b (Some e.1) (lookup (same_det q) es)) (lookup (same_det q) fs)) [
+    elim (same_det q e.0) as (λ b. cond b (Some e.1) (lookup (same_det q) (es ++ fs)) ≡ option_or (cond b (Some e.1) (lookup (same_det q) es)) (lookup (same_det q) fs)) [
       | true ↦ refl
       | false ↦ lookup_append q es fs
     ]
 
-found_append : (q : Det) (xs ys : List Item) → lookup (same_det q) (entries_of (xs ++ ys)) ≡ or_else (lookup (same_det q) (entries_of xs)) (lookup (same_det q) (entries_of ys))
-found_append q xs ys = ap (lookup (same_det q)) (entries_append xs ys) ∙ lookup_append q (entries_of xs) (entries_of ys)
+found_append : (q : Det) (xs ys : List Item) → lookup (same_det q) (entries_of (xs ++ ys)) ≡ option_or (lookup (same_det q) (entries_of xs)) (lookup (same_det q) (entries_of ys))
+found_append q xs ys = ap (lookup (same_det q)) (map-append entry_of xs ys) ∙ lookup_append q (entries_of xs) (entries_of ys)
 
 none_found : (q : Det) (xs : List Item) → list_any (same_det q) (dets_of xs) ≡ false → lookup (same_det q) (entries_of xs) ≡ None
 none_found q xs h = lookup_missing (entries_of xs) q (ap (list_any (same_det q)) (keys_entries xs) ∙ h)
@@ -224,12 +182,12 @@ module _ (f : ℕ) (log : LogMap) (det : Det) (heard : Known) (out rest : List I
   not_out : lookup (same_det det) (entries_of out) ≡ None
   not_out = none_found det out (none_front (dets_of out) det before)
 
-  found : (q : Det) → or_else (lookup (same_det q) (entries_of out)) (lookup (same_det q) (entries_of rest)) ≡ carried_of f (fin.get log q)
+  found : (q : Det) → option_or (lookup (same_det q) (entries_of out)) (lookup (same_det q) (entries_of rest)) ≡ carried_of f (fin.get log q)
   found q = sym (found_append q out rest) ∙ ap (λ xs. lookup (same_det q) (entries_of xs)) is ∙ found_chosen f log q
 
   -- what is carried of it is found in the rest
   pub in_rest : lookup (same_det det) (entries_of rest) ≡ carried_of f (fin.get log det)
-  in_rest = sym (ap (λ o. or_else o (lookup (same_det det) (entries_of rest))) not_out) ∙ found det
+  in_rest = sym (ap (λ o. option_or o (lookup (same_det det) (entries_of rest))) not_out) ∙ found det
 
   -- other items with the same look-ups elsewhere, and at the determinant what is carried of it now
   pub heard_now : (later : List Item) → is_ascending (dets_of (out ++ later)) ≡ true
@@ -238,26 +196,49 @@ module _ (f : ℕ) (log : LogMap) (det : Det) (heard : Known) (out rest : List I
       → out ++ later ≡ chosen f (learned log det heard)
   heard_now later ascend here elsewhere = recognized f (learned log det heard) (out ++ later) ascend (λ q. found_append q out later ∙ by q (same_det q det) refl ∙ sym (ap (carried_of f) (get_learned log det heard q)))
     where
-      by : (q : Det) (b : Bool) → same_det q det ≡ b → or_else (lookup (same_det q) (entries_of out)) (lookup (same_det q) (entries_of later)) ≡ carried_of f (cond (same_det q det) (Some now_known) (fin.get log q))
+      by : (q : Det) (b : Bool) → same_det q det ≡ b → option_or (lookup (same_det q) (entries_of out)) (lookup (same_det q) (entries_of later)) ≡ carried_of f (cond (same_det q det) (Some now_known) (fin.get log q))
       by q true same =
-          ap (λ d. or_else (lookup (same_det d) (entries_of out)) (lookup (same_det d) (entries_of later))) (same_is q det same)
-          ∙ ap (λ o. or_else o (lookup (same_det det) (entries_of later))) not_out
+          ap (λ d. option_or (lookup (same_det d) (entries_of out)) (lookup (same_det d) (entries_of later))) (same_is q det same)
+          ∙ ap (λ o. option_or o (lookup (same_det det) (entries_of later))) not_out
           ∙ here
           ∙ sym (ap (λ b. carried_of f (cond b (Some now_known) (fin.get log q))) same)
       by q false apart =
-          ap (or_else (lookup (same_det q) (entries_of out))) (elsewhere q apart)
+          ap (option_or (lookup (same_det q) (entries_of out))) (elsewhere q apart)
           ∙ found q
           ∙ sym (ap (λ b. carried_of f (cond b (Some now_known) (fin.get log q))) apart)
 
-  pub ascending : is_ascending (dets_of out ++ dets_of rest) ≡ true → is_ascending (dets_of (out ++ rest)) ≡ true
-  ascending h = ap is_ascending (dets_append out rest) ∙ h
+  -- with this known of it, and other items after it
+  pub become : (known : Known) (later : List Item) → now_known ≡ known → is_ascending (dets_of out ++ det ∷ dets_of later) ≡ true → lookup (same_det det) (entries_of later) ≡ None
+      → ((q : Det) → same_det q det ≡ false → lookup (same_det q) (entries_of later) ≡ lookup (same_det q) (entries_of rest))
+      → with_carried f det known out ++ later ≡ chosen f (learned log det heard)
+  become known later now ascend none elsewhere = by (is_carried f known) refl
+    where
+      here : Item
+      here = record { det = det; holders = known.holders }
+
+      found_now : Option Known → Bool → Option Known
+      found_now o b = cond b (Some (known_of_item here)) o
+
+      by : (b : Bool) → is_carried f known ≡ b → cond b (out ++ here ∷ []) out ++ later ≡ chosen f (learned log det heard)
+      by true carried =
+          append_assoc out (here ∷ []) later
+          ∙ heard_now (here ∷ later) (ap is_ascending (dets_append out (here ∷ later)) ∙ ascend)
+          (ap (found_now (lookup (same_det det) (entries_of later))) (same_itself det)
+          ∙ ap (λ k. Some k) (carried_unmarked f known carried)
+          ∙ sym (ap (λ b. cond b (Some known) None) carried)
+          ∙ ap (λ k. carried_of f (Some k)) (sym now))
+          (λ q h. ap (found_now (lookup (same_det q) (entries_of later))) h ∙ elsewhere q h)
+      by false never =
+          heard_now later (ap is_ascending (dets_append out later) ∙ without (dets_of out) det (dets_of later) ascend)
+          (none ∙ sym (ap (λ b. cond b (Some known) None) never) ∙ ap (λ k. carried_of f (Some k)) (sym now))
+          elsewhere
 
 -- one more that comes before a determinant is passed on
 pub passed_on : (out : List Item) (x : Item) (rest : List Item) (det : Det) → is_ascending (dets_of (out ++ x ∷ rest)) ≡ true → is_before x.det det ≡ true → is_ascending (dets_of (out ++ x ∷ []) ++ det ∷ []) ≡ true
 passed_on out x rest det ascend low =
     ap (λ ds. is_ascending (ds ++ det ∷ [])) (dets_append out (x ∷ []))
     ∙ ap is_ascending (append_assoc (dets_of out) (x.det ∷ []) (det ∷ []))
-    ∙ glue (dets_of out) x.det (det ∷ []) (front (dets_of out) x.det (dets_of rest) (sym (ap is_ascending (dets_append out (x ∷ rest))) ∙ ascend)) (and_both (is_before x.det det) true low refl)
+    ∙ glue (dets_of out) x.det (det ∷ []) (front (dets_of out) x.det (dets_of rest) (sym (ap is_ascending (dets_append out (x ∷ rest))) ∙ ascend)) (and_from (is_before x.det det) true low refl)
 
 some_carried : (f : ℕ) (o : Option Known) (known : Known) → Some known ≡ carried_of f o → unwrap_or o nothing_known ≡ known
 some_carried f None known h = absurd (true≢false (ap is_some h))
@@ -281,52 +262,26 @@ module _ (f : ℕ) (log : LogMap) (det : Det) (heard : Known) (out : List Item) 
   not_later : lookup (same_det det) (entries_of rest) ≡ None
   not_later = none_found det rest (none_back det (dets_of rest) (back (dets_of out) (det ∷ dets_of rest) (ap (λ d. is_ascending (dets_of out ++ d ∷ dets_of rest)) (sym here) ∙ ascend)))
 
-  abbrev both_known : Known
-  both_known = joined (known_of_item item) heard
-
-  apart : (q : Det) → same_det q det ≡ false → same_det q item.det ≡ false
-  apart q h = ap (same_det q) here ∙ h
-
-  pub met : with_carried f det both_known out ++ rest ≡ chosen f (learned log det heard)
-  met = by (is_carried f both_known) refl
-    where
-      now : joined (known_of log det) heard ≡ both_known
-      now = ap (λ k. joined k heard) known_now
-
-      by : (b : Bool) → is_carried f both_known ≡ b → cond b (out ++ record { det = det; holders = both_known.holders } ∷ []) out ++ rest ≡ chosen f (learned log det heard)
-      by true carried =
-          append_assoc out (record { det = det; holders = both_known.holders } ∷ []) rest
-          ∙ heard_now f log det heard out (item ∷ rest) is before (record { det = det; holders = both_known.holders } ∷ rest)
-          (ap is_ascending (dets_append out (record { det = det; holders = both_known.holders } ∷ rest)) ∙ ap (λ d. is_ascending (dets_of out ++ d ∷ dets_of rest)) (sym here) ∙ ascend)
-          (ap (λ b. cond b (Some (record { holders = both_known.holders; stable = false })) (lookup (same_det det) (entries_of rest))) (same_itself det)
-          ∙ ap (λ k. Some k) (carried_unmarked f both_known carried)
-          ∙ sym (ap (λ b. cond b (Some both_known) None) carried)
-          ∙ ap (λ k. carried_of f (Some k)) (sym now))
-          (λ q h. ap (λ b. cond b (Some (record { holders = both_known.holders; stable = false })) (lookup (same_det q) (entries_of rest))) h ∙ sym (ap (λ b. cond b (Some (known_of_item item)) (lookup (same_det q) (entries_of rest))) (apart q h)))
-      by false out_now =
-          heard_now f log det heard out (item ∷ rest) is before rest
-          (ap is_ascending (dets_append out rest) ∙ without (dets_of out) item.det (dets_of rest) ascend)
-          (not_later ∙ sym (ap (λ b. cond b (Some both_known) None) out_now) ∙ ap (λ k. carried_of f (Some k)) (sym now))
-          (λ q h. sym (ap (λ b. cond b (Some (known_of_item item)) (lookup (same_det q) (entries_of rest))) (apart q h)))
+  pub met : with_carried f det (joined (known_of_item item) heard) out ++ rest ≡ chosen f (learned log det heard)
+  met =
+      become f log det heard out (item ∷ rest) is before (joined (known_of_item item) heard) rest (ap (λ k. joined k heard) known_now)
+      (ap (λ d. is_ascending (dets_of out ++ d ∷ dets_of rest)) (sym here) ∙ ascend) not_later
+      (λ q h. sym (ap (λ b. cond b (Some (known_of_item item)) (lookup (same_det q) (entries_of rest))) (ap (same_det q) here ∙ h)))
 
 -- the determinant is none of what is kept
 module _ (f : ℕ) (log : LogMap) (det : Det) (heard : Known) (out rest : List Item) (is : out ++ rest ≡ chosen f log) (before : is_ascending (dets_of out ++ det ∷ []) ≡ true) (after : is_ascending (det ∷ dets_of rest) ≡ true) where
   none_there : lookup (same_det det) (entries_of rest) ≡ None
   none_there = none_found det rest (none_back det (dets_of rest) after)
 
-  whole : is_ascending (dets_of (out ++ rest)) ≡ true
-  whole = ap is_ascending (dets_append out rest) ∙ without (dets_of out) det (dets_of rest) (glue (dets_of out) det (dets_of rest) before after)
+  becomes : (known : Known) → joined (known_of log det) heard ≡ known → with_carried f det known out ++ rest ≡ chosen f (learned log det heard)
+  becomes known now = become f log det heard out rest is before known rest now (glue (dets_of out) det (dets_of rest) before after) none_there (λ q h. refl)
 
   out_known : (o : Option Known) → None ≡ carried_of f o → is_some o ≡ true → is_carried f (unwrap_or o nothing_known) ≡ false
   out_known None h there = absurd (true≢false (sym there))
-  out_known (Some known) h there = by (is_carried f known) refl
-    where
-      by : (b : Bool) → is_carried f known ≡ b → b ≡ false
-      by true k = absurd (true≢false (sym (ap is_some (h ∙ ap (λ b. cond b (Some known) None) k))))
-      by false k = refl
+  out_known (Some known) h there = false_from_ne_true (is_carried f known) (λ k. true≢false (sym (ap is_some (h ∙ ap (λ b. cond b (Some known) None) k))))
 
   stays : is_carried f (joined (known_of log det) heard) ≡ false → out ++ rest ≡ chosen f (learned log det heard)
-  stays never = heard_now f log det heard out rest is before rest whole (none_there ∙ sym (ap (λ b. cond b (Some (joined (known_of log det) heard)) None) never)) (λ q h. refl)
+  stays never = ap (λ b. cond b (out ++ record { det = det; holders = (joined (known_of log det) heard).holders } ∷ []) out ++ rest) (sym never) ∙ becomes (joined (known_of log det) heard) refl
 
   -- it stays out where what is heard is not carried, and where it is logged
   pub still_out : is_carried f heard ≡ false → out ++ rest ≡ chosen f (learned log det heard)
@@ -338,26 +293,11 @@ module _ (f : ℕ) (log : LogMap) (det : Det) (heard : Known) (out rest : List I
 
   -- and comes in where it is not logged
   pub comes_in : is_some (fin.get log det) ≡ false → with_carried f det (joined nothing_known heard) out ++ rest ≡ chosen f (learned log det heard)
-  comes_in new = by (is_carried f (joined nothing_known heard)) refl
+  comes_in new = becomes (joined nothing_known heard) (ap (λ k. joined k heard) (none (fin.get log det) new))
     where
       none : (o : Option Known) → is_some o ≡ false → unwrap_or o nothing_known ≡ nothing_known
       none None h = refl
       none (Some k) h = absurd (true≢false h)
-
-      now : joined (known_of log det) heard ≡ joined nothing_known heard
-      now = ap (λ k. joined k heard) (none (fin.get log det) new)
-
-      by : (b : Bool) → is_carried f (joined nothing_known heard) ≡ b → cond b (out ++ record { det = det; holders = (joined nothing_known heard).holders } ∷ []) out ++ rest ≡ chosen f (learned log det heard)
-      by true carried =
-          append_assoc out (record { det = det; holders = (joined nothing_known heard).holders } ∷ []) rest
-          ∙ heard_now f log det heard out rest is before (record { det = det; holders = (joined nothing_known heard).holders } ∷ rest)
-          (ap is_ascending (dets_append out (record { det = det; holders = (joined nothing_known heard).holders } ∷ rest)) ∙ glue (dets_of out) det (dets_of rest) before after)
-          (ap (λ b. cond b (Some (record { holders = (joined nothing_known heard).holders; stable = false })) (lookup (same_det det) (entries_of rest))) (same_itself det)
-          ∙ ap (λ k. Some k) (carried_unmarked f (joined nothing_known heard) carried)
-          ∙ sym (ap (λ b. cond b (Some (joined nothing_known heard)) None) carried)
-          ∙ ap (λ k. carried_of f (Some k)) (sym now))
-          (λ q h. ap (λ b. cond b (Some (record { holders = (joined nothing_known heard).holders; stable = false })) (lookup (same_det q) (entries_of rest))) h)
-      by false never = stays (ap (is_carried f) now ∙ never)
 
 pub drop_got : (xs : List Item) (i : ℕ) (x : Item) → slice_get xs i ≡ Some x → drop i xs ≡ x ∷ drop (i + 1) xs
 drop_got [] i x h = absurd (true≢false (sym (ap is_some h)))
@@ -374,7 +314,7 @@ next_after [] place det up low apart = ap (λ xs. is_ascending (det ∷ dets_of 
     drop_nothing : (n : ℕ) → drop {A = Item} n [] ≡ []
     drop_nothing zero = refl
     drop_nothing (suc n) = refl
-next_after (x ∷ xs) zero det up low apart = and_both (is_before det x.det) (is_ascending (x.det ∷ dets_of xs)) (ap is_lt (below det x.det low (same_turned det x.det ∙ apart))) up
+next_after (x ∷ xs) zero det up low apart = and_from (is_before det x.det) (is_ascending (x.det ∷ dets_of xs)) (ap is_lt (below det x.det low (same_turned det x.det ∙ apart))) up
 next_after (x ∷ xs) (suc n) det up low apart = next_after xs n det up low apart
 
 -- what was passed on comes before all that come after the determinant
@@ -385,7 +325,7 @@ before_later f det known out before d low = by (is_carried f known) refl
     by true is =
         ap (λ ds. is_ascending (ds ++ d ∷ [])) (dets_append out (record { det = det; holders = known.holders } ∷ []))
         ∙ ap is_ascending (append_assoc (dets_of out) (det ∷ []) (d ∷ []))
-        ∙ glue (dets_of out) det (d ∷ []) before (and_both (is_before det d) true low refl)
+        ∙ glue (dets_of out) det (d ∷ []) before (and_from (is_before det d) true low refl)
     by false is = raise (dets_of out) det d before low
 
 module _ (f : ℕ) (items : List Item) (from me : Pid) (source : LogMap) where
@@ -394,14 +334,6 @@ module _ (f : ℕ) (items : List Item) (from me : Pid) (source : LogMap) where
 
   pub merged_all : (out kept : List Item) → HasMerged f items [] from me source out kept → out ++ kept ≡ chosen f (absorbed items from me source)
   merged_all out kept h = h.carries ∙ ap (chosen f) h.all
-
-  or_later : (a b : Bool) → b ≡ true → (a || b) ≡ true
-  or_later true b h = refl
-  or_later false b h = h
-
-  or_none : (a : Bool) → a ≡ (a || false)
-  or_none true = refl
-  or_none false = refl
 
   first_named : (x : Item) (rest : List Item) → list_any (λ other. same_det x.det other.det) (x ∷ rest) ≡ true
   first_named x rest = ap (λ b. b || list_any (λ other. same_det x.det other.det) rest) (same_itself x.det)
@@ -413,13 +345,13 @@ module _ (f : ℕ) (items : List Item) (from me : Pid) (source : LogMap) where
       → HasMerged f items (x ∷ rest) from me source out kept → HasMerged f items rest from me source later after
   merged_next x rest out kept passed next later after ascend moved hears before h = record {
     log = learned h.log x.det (told from me x).1;
-    carries = hears h.log (ap is_some (h.same x.det (first_named x rest)) ∙ or_none (is_some (fin.get source x.det))) (moved ∙ h.carries);
+    carries = hears h.log (ap is_some (h.same x.det (first_named x rest)) ∙ or_nothing (is_some (fin.get source x.det))) (moved ∙ h.carries);
     all = h.all;
     same = λ q there.
         get_learned h.log x.det (told from me x).1 q
         ∙ ap (λ b. cond b (Some (joined (known_of h.log x.det) (told from me x).1)) (fin.get h.log q))
         (same_turned q x.det ∙ before_apart x.det q (first_before x.det (dets_of rest) q ascend (any_map (λ other. other.det) (same_det q) (λ other. same_det q other.det) (λ other. refl) rest ∙ there)))
-        ∙ h.same q (or_later (same_det q x.det) _ there);
+        ∙ h.same q (or_right (same_det q x.det) _ there);
     before = λ y ys e. before y.det (both (is_before x.det y.det) (is_ascending (y.det ∷ dets_of ys)) (ap (λ xs. is_ascending (dets_of (x ∷ xs))) (sym e) ∙ ascend)).0;
   }
 

@@ -12,7 +12,7 @@ use Rattle.std.specs.Ordering.{is_lt}
 use Rattle.causal_name.specs.declared.Det.{Det}
 use Rattle.causal_name.specs.Names.{det_cmp, same_det, is_ascending}
 use Rattle.causal_name.proofs.Lemmas.DetOrder.{same_is}
-use Rattle.causal_log.proofs.EntryLemmas.{det_equiv, same_log, ascending_log}
+use Rattle.causal_log.proofs.EntryLemmas.{det_equiv, same_log, sorted_ascend}
 use Rattle.causal_log.proofs.Lemmas.Searches.{same_turned}
 
 module _ {V : Type 0} (es fs : List (Det × V)) (moved : IsPermutation es fs) (distinct : IsDistinct same_det (keys_of es)) where
@@ -35,7 +35,7 @@ module _ {V : Type 0} (es fs : List (Det × V)) (moved : IsPermutation es fs) (d
   moved_log = same_log fs es still_found
 
   pub moved_ascend : IsSortedByKey (λ e. e.0) det_cmp fs → is_ascending (keys_of fs) ≡ true
-  moved_ascend sorted = ascending_log fs (by fs sorted) still_distinct
+  moved_ascend sorted = sorted_ascend (keys_of fs) (by fs sorted) still_distinct
     where
       by : (gs : List (Det × V)) → IsSortedByKey (λ e. e.0) det_cmp gs → IsSorted det_cmp (keys_of gs)
       by [] sorted k d low high = absurd (omega (arith, high))

@@ -1,30 +1,24 @@
 -- What a look-up finds after an entry was added, or the value of one was changed.
-use Rattle.std.proofs.Common.{ℕ, zero, suc, ◌≡◌, ◌∙◌, ◌||◌, ◌+◌, ◌<◌, Bool, true, false, cond, get_or, List, [], ◌∷◌, ◌++◌, take, Option, Some, None, is_some, unwrap_or, slice_get, set, length, true≢false, refl, sym, ap, subst, arith}
-use Rattle.std.proofs.lemmas.List.{get_or-map, take_more}
+use Rattle.std.proofs.Common.{ℕ, zero, suc, ◌≡◌, ◌∙◌, ◌+◌, ◌<◌, Bool, true, false, cond, get_or, List, [], ◌∷◌, ◌++◌, take, Option, Some, None, is_some, unwrap_or, slice_get, set, length, true≢false, refl, sym, ap, subst, arith}
+use Rattle.std.proofs.lemmas.List.{get_or-map, map-append, take_all, take_more, take-append-le}
+use Rattle.std.proofs.lemmas.List.Edits.{insert_end}
+use Rattle.std.proofs.lemmas.Map.{lookup-insert, none_passes_from_lookup}
 use Rattle.std.proofs.lemmas.Map.Entries.{length-keys_of}
+use Rattle.std.proofs.lemmas.Map.Made.{is_some-lookup}
+use Rattle.std.proofs.lemmas.Option.{get_or_from_slice_get}
 use Rattle.std.specs.List.{AllByRecursion, IsDistinct, list_any}
 use Rattle.std.specs.Map.{lookup, keys_of}
 use Rattle.causal_name.specs.declared.Det.{Det}
 use Rattle.causal_name.specs.Names.{same_det}
-use Rattle.causal_name.proofs.Lemmas.DetOrder.{same_is, same_itself}
+use Rattle.causal_name.proofs.Lemmas.DetOrder.{same_is}
+use Rattle.causal_log.proofs.EntryLemmas.{det_equiv}
 use Rattle.causal_log.proofs.Lemmas.Searches.{same_turned}
 
 module _ {V : Type 0} where
-  missed_first : (b : Bool) (v : V) (o : Option V) → cond b (Some v) o ≡ None → (b ≡ false) × (o ≡ None)
-  missed_first true v o h = absurd (true≢false (ap is_some h))
-  missed_first false v o h = (refl, h)
-
   pub lookup_push : (es : List (Det × V)) (d : Det) (v : V) → lookup (same_det d) es ≡ None
       → (q : Det) → lookup (same_det q) (es ++ (d, v) ∷ []) ≡ cond (same_det d q) (Some v) (lookup (same_det q) es)
-  lookup_push [] d v none q = ap (λ b. cond b (Some v) None) (same_turned q d)
-  lookup_push (e ∷ es) d v none q =
-      let two = missed_first (same_det d e.0) e.1 (lookup (same_det d) es) none in
-      by two.0 (lookup_push es d v two.1 q) (same_det q e.0) refl
-    where
-      by : same_det d e.0 ≡ false → lookup (same_det q) (es ++ (d, v) ∷ []) ≡ cond (same_det d q) (Some v) (lookup (same_det q) es) → (b : Bool) → same_det q e.0 ≡ b
-          → cond b (Some e.1) (lookup (same_det q) (es ++ (d, v) ∷ [])) ≡ cond (same_det d q) (Some v) (cond b (Some e.1) (lookup (same_det q) es))
-      by apart later true is = sym (ap (λ b. cond b (Some v) (Some e.1)) (ap (same_det d) (same_is q e.0 is) ∙ apart))
-      by apart later false is = later
+  lookup_push es d v none q =
+      ap (lookup (same_det q)) (sym (insert_end es (d, v))) ∙ lookup-insert det_equiv d v q es (length es) (none_passes_from_lookup (same_det d) es none)
 
   all_at : (P : Det → Type 0) (es : List (Det × V)) (i : ℕ) (d : Det) (v : V) → AllByRecursion P (keys_of es) → slice_get es i ≡ Some (d, v) → P d
   all_at P [] i d v all at = absurd (true≢false (sym (ap is_some at)))
@@ -50,17 +44,14 @@ module _ {V : Type 0} where
       by apart later false is = later
 
   pub keys_push : (es : List (Det × V)) (d : Det) (v : V) → keys_of (es ++ (d, v) ∷ []) ≡ keys_of es ++ d ∷ []
-  keys_push [] d v = refl
-  keys_push (e ∷ es) d v = ap (λ xs. e.0 ∷ xs) (keys_push es d v)
+  keys_push es d v = map-append (λ e. e.0) es ((d, v) ∷ [])
 
   pub lookup_missing : (es : List (Det × V)) (d : Det) → list_any (same_det d) (keys_of es) ≡ false → lookup (same_det d) es ≡ None
-  lookup_missing [] d h = refl
-  lookup_missing (e ∷ es) d h = by (same_det d e.0) refl h (λ rest. lookup_missing es d rest)
+  lookup_missing es d h = none (lookup (same_det d) es) (is_some-lookup (same_det d) es ∙ h)
     where
-      by : (b : Bool) → same_det d e.0 ≡ b → (b || list_any (same_det d) (keys_of es)) ≡ false → (list_any (same_det d) (keys_of es) ≡ false → lookup (same_det d) es ≡ None)
-          → cond b (Some e.1) (lookup (same_det d) es) ≡ None
-      by true is h later = absurd (true≢false h)
-      by false is h later = later h
+      none : (o : Option V) → is_some o ≡ false → o ≡ None
+      none None h = refl
+      none (Some x) h = absurd (true≢false h)
 
   -- what is read at the place of a determinant is its entry
   pub read_entry : (es : List (Det × V)) (i : ℕ) (d : Det) (x : Det × V) → slice_get (keys_of es) i ≡ Some d → x ≡ get_or es i x → slice_get es i ≡ Some (d, x.1)
@@ -78,9 +69,7 @@ module _ {V : Type 0} where
   keys_read (e ∷ es) (suc i) x v read = ap (λ ds. e.0 ∷ ds) (keys_read es i x v read)
 
   pub read_det : (es : List (Det × V)) (i : ℕ) (x : Det × V) (d : Det) (was : V) → slice_get es i ≡ Some (d, was) → x ≡ get_or es i x → x.0 ≡ d
-  read_det [] i x d was at read = absurd (true≢false (sym (ap is_some at)))
-  read_det (e ∷ es) zero x d was at read = ap (λ y. y.0) read ∙ ap (λ o. (unwrap_or o e).0) at
-  read_det (e ∷ es) (suc i) x d was at read = read_det es i x d was at read
+  read_det es i x d was at read = ap (λ y. y.0) (read ∙ get_or_from_slice_get es i (d, was) x at)
 
 pub none_distinct : IsDistinct same_det []
 unfolding IsDistinct
@@ -98,8 +87,4 @@ module _ {V : Type 0} (es : List (Det × V)) (i : ℕ) (x : Det × V) (low : i <
 
 -- a list and more, cut to its length
 pub take_whole : {X : Type 0} (xs ys : List X) (n : ℕ) → length xs ≡ n → take n (xs ++ ys) ≡ xs
-take_whole {X} xs ys n h = subst (λ m. take m (xs ++ ys) ≡ xs) h (first xs)
-  where
-    first : (xs : List X) → take (length xs) (xs ++ ys) ≡ xs
-    first [] = refl
-    first (x ∷ xs) = ap (λ zs. x ∷ zs) (first xs)
+take_whole xs ys n h = take-append-le n xs ys (omega (arith, h)) ∙ take_all n xs (omega (arith, h))

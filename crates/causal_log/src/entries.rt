@@ -8,21 +8,12 @@ ghost use Rattle.causal_name.specs.declared.Det.{Det};
 ghost use Rattle.causal_name.specs.Names.{same_det, is_ascending};
 ghost use Rattle.causal_log.specs.declared.known.Known.{Known};
 ghost use Rattle.causal_log.specs.Knowledge.{is_carried};
-ghost use Rattle.causal_log.specs.Inside.Ranks.{has_rank};
 ghost use Rattle.causal_log.specs.Logs.{log_of, learned, item_of, marked, chosen};
 
 use crate::batch::Item;
 use crate::known::Known;
-use crate::ranks::rank;
 use causal_name::{Det, NoMemory};
 use std::alloc::Global;
-
-/// The entry at a place.
-pub(crate) fn entry_at(entries: &[(Det, Known)], i: u32) -> Option<(Det, Known)>
-    ensures { result ≡ slice_get entries.now i }
-{
-    entries.get(i as usize).copied()
-}
 
 /// The determinants.
 pub(crate) fn dets(alloc: Global, entries: &[(Det, Known)]) -> Result<Vec<Det>, NoMemory>
@@ -45,14 +36,6 @@ pub(crate) fn unstable_dets(alloc: Global, entries: &[(Det, Known)]) -> Result<V
 {
     let unstable = entries.iter().filter(|(_, known)| !known.stable);
     Ok(unstable.map(|(det, _)| *det).collect(alloc)?)
-}
-
-/// How many determinants are known to be stable.
-pub(crate) fn stable_len(entries: &[(Det, Known)]) -> u32
-    requires { length entries.now < 2 ^ 32 }
-    ensures { result ≡ length (filter (λ e. e.1.stable) entries.now) }
-{
-    entries.iter().filter(|(_, known)| known.stable).count() as u32
 }
 
 /// How many determinants are not known to be stable.
@@ -79,18 +62,6 @@ pub(crate) fn carried(
     Ok(items.collect(alloc)?)
 }
 
-/// The entry that so many come before.
-pub(crate) fn ranked(entries: &[(Det, Known)], dets: &[Det], place: u32) -> Option<(Det, Known)>
-    ensures { result ≡ find (λ e. has_rank dets.now place e.0) entries.now }
-{
-    for (det, known) in entries {
-        if rank(dets, det) == place as usize {
-            return Some((*det, *known));
-        }
-    }
-    None
-}
-
 /// The items of what a message carries of some entries, ascending.
 pub(crate) fn chosen(alloc: Global, entries: &[(Det, Known)], f: u16) -> Result<Vec<Item>, NoMemory>
     requires { IsDistinct same_det (keys_of entries.now) }
@@ -106,8 +77,7 @@ pub(crate) fn in_order(
     entries: &[(Det, Known)],
 ) -> Result<Vec<(Det, Known)>, NoMemory>
     requires { IsDistinct same_det (keys_of entries.now) }
-    ensures same { IfOk result (λ copy. log_of copy.items ≡ log_of entries.now) }
-    ensures ascending { IfOk result (λ copy. is_ascending (keys_of copy.items) ≡ true) }
+    ensures { IfOk result (λ copy. copy.items ≡ fin.entries (log_of entries.now)) }
 {
     let mut copy = Vec::from_slice(alloc, entries)?;
     sort(&mut copy)?;

@@ -11,16 +11,16 @@ ghost use Rattle.causal_log.specs.Inside.Ranks.{IsLeastOfSlot};
 use crate::ranks::is_lesser;
 use causal_name::{Det, Slot};
 
-/// The number of a slot's head. The slots of a receiver have heads beside each other, and those of 256 receivers begin as far
-/// apart as they can.
-#[tactic(auto, unfolding(crate::specs::Inside::Indexes::head_of))]
+/// The number of a slot's head, where the number of heads is a power of two. The slots of a receiver have heads beside each
+/// other, and those of 256 receivers begin as far apart as they can.
+#[tactic(auto, using(std::proofs::lemmas::Nat::and_le_r), unfolding(crate::specs::Inside::Indexes::head_of))]
 fn head_of(heads: usize, slot: Slot) -> usize
     requires { 0 < heads }
     ensures head { result ≡ head_of heads slot }
     ensures within { result < heads }
 {
     let first = (slot.dest.0 as usize).wrapping_mul(heads / 256);
-    (slot.rsn as usize).wrapping_add(first) % heads
+    (slot.rsn as usize).wrapping_add(first) & (heads - 1)
 }
 
 /// The place of the newest entry that a slot's head leads to.

@@ -1,6 +1,6 @@
 //! What a process knows of a determinant.
 ghost use Rattle.std.specs.Prelude.{◌≡◌};
-ghost use Rattle.causal_log.specs.Knowledge.{nothing_known, held_by, stable_and_held_by, joined, as_stable, told, is_carried};
+ghost use Rattle.causal_log.specs.Knowledge.{nothing_known, held_by, joined, as_stable, told, is_carried};
 
 use crate::batch::Item;
 use causal_holders::Holders;
@@ -33,18 +33,6 @@ impl Known {
         Known {
             holders,
             stable: false,
-        }
-    }
-
-    /// That a process holds the determinant, and that it is stable.
-    pub(crate) fn stable_and_held(process: Pid) -> Known
-        ensures { result ≡ stable_and_held_by process }
-    {
-        let mut holders = Holders::none();
-        holders.insert(process.0);
-        Known {
-            holders,
-            stable: true,
         }
     }
 

@@ -5,7 +5,7 @@ ghost use Rattle.std.specs.Arc.{arc_value};
 ghost use Rattle.causal_name.specs.Names.{is_ascending};
 ghost use Rattle.causal_log.specs.Knowledge.{held_by, stable_and_held_by};
 ghost use Rattle.causal_log.specs.Logs.{log_of, learned, dets_of, absorbed, grown, united, marked, stable_in, unstable_in, unmarked, chosen, named, HaveSame};
-ghost use Rattle.causal_log.specs.Slots.{first_of_slot};
+ghost use Rattle.causal_log.specs.Inside.Merges.{source_of, taken};
 ghost use Rattle.causal_log.specs.declared.known.Known.{Known};
 
 use crate::batch::{Batch, Item};
@@ -13,7 +13,8 @@ use crate::carried::{Carried, mark};
 use crate::entries;
 use crate::known::Known;
 use crate::learning::{learn, learn_entries, learn_items};
-use crate::merging::merged_delivery;
+use crate::merging::{Delivery, merged_delivery};
+use crate::ranks::ranked;
 use crate::table::Table;
 use causal_name::{Det, MsgName, NoMemory, Pid, Slot};
 use std::alloc::Global;
@@ -36,18 +37,18 @@ pub struct Log {
 }
 
 impl Model for Log {
-    ghost use Rattle.std.specs.FinMap as fin;
     ghost use Rattle.std.specs.Map.{keys_of};
-    ghost use Rattle.causal_log.specs.Logs.{LogState, coded_log};
+    ghost use Rattle.causal_log.specs.Logs.{LogState, coded_log, log_of};
     ghost use Rattle.causal_log.specs.Inside.Kept.{IsKept};
 
     ghost Value = { LogState };
 
     ghost coded = { coded_log };
 
-    ghost view = { λ log. record { map = fin.from_entries log.entries.entries; spare = log.entries.spare } };
+    ghost view = { λ log. record { map = log_of log.entries.entries; spare = log.entries.spare } };
 
-    ghost invariant = { λ log. IsKept (keys_of log.entries.entries) log.sorted log.carried (fin.from_entries log.entries.entries) };
+    ghost invariant = { λ log.
+        IsKept (keys_of log.entries.entries) log.sorted log.carried (log_of log.entries.entries) };
 }
 
 impl Log {
@@ -82,9 +83,10 @@ impl Log {
         ensures { result ≡ slice_get (fin.entries self.now.map) i }
     {
         if self.sorted {
-            return entries::entry_at(self.entries.entries(), i);
+            return self.entries.entries().get(i as usize).copied();
         }
-        entries::ranked(self.entries.entries(), self.entries.dets(), i)
+        let det = ranked(self.entries.dets(), i)?;
+        self.known(det).map(|known| (det, known))
     }
 
     /// The determinants, ascending. Its only error is want of memory.
@@ -160,48 +162,35 @@ impl Log {
         me: Pid,
         f: u16,
     ) -> Result<Batch, NoMemory>
-        ensures { IfOk result (λ batch. batch ≡ chosen f (grown carried.now own from me self.now.map)) }
+        ensures { IfOk result
+            (λ batch. batch ≡ chosen f (grown carried.now own from me self.now.map)) }
     {
-        let merged = self.merged(alloc, carried.as_slice(), own, from, me, f)?;
-        Ok(Batch::new(merged))
-    }
-
-    /// The items of what they would carry.
-    fn merged(
-        &self,
-        alloc: Global,
-        items: &[Item],
-        own: Det,
-        from: Pid,
-        me: Pid,
-        f: u16,
-    ) -> Result<Vec<Item>, NoMemory>
-        requires { is_ascending (dets_of items.now) ≡ true }
-        ensures { IfOk result (λ found. found.items ≡ chosen f (grown items.now own from me self.now.map)) }
-    {
-        if let Some(kept) = self.ready(f) {
-            return merged_delivery(alloc, kept, &self.entries, items, own, from, me, f);
-        }
-        let kept = self.carried(alloc, f)?;
-        merged_delivery(
-            alloc,
-            kept.as_slice(),
-            &self.entries,
-            items,
+        let delivery = Delivery {
+            entries: &self.entries,
+            items: carried.as_slice(),
             own,
             from,
             me,
             f,
-        )
+        };
+        let merged = self.merged(alloc, &delivery)?;
+        Ok(Batch::new(merged))
     }
 
-    /// What messages carry, where that stands in a batch as it is.
-    fn ready(&self, f: u16) -> Option<&[Item]>
-        ensures { IfSome result (λ items. items.now ≡ chosen f self.now.map) }
+    /// The items of what they would carry.
+    fn merged(&self, alloc: Global, delivery: &Delivery<'_>) -> Result<Vec<Item>, NoMemory>
+        requires source { source_of delivery.now ≡ self.now.map }
+        requires ascending { is_ascending (dets_of delivery.now.items.now) ≡ true }
+        ensures { IfOk result (λ found. found.items ≡ chosen delivery.now.f (taken delivery.now)) }
     {
         match &self.carried {
-            Some(carried) if carried.f == f && !carried.is_marked => Some(carried.batch.as_slice()),
-            _ => None,
+            Some(carried) if carried.f == delivery.f && !carried.is_marked => {
+                merged_delivery(alloc, carried.batch.as_slice(), delivery)
+            }
+            _ => {
+                let kept = self.carried(alloc, delivery.f)?;
+                merged_delivery(alloc, kept.as_slice(), delivery)
+            }
         }
     }
 
@@ -222,10 +211,11 @@ impl Log {
     }
 
     /// How many determinants are known to be stable. Takes no memory.
+    #[tactic(auto, using(crate::proofs::Lemmas::Listing::stable_and_unstable))]
     pub fn stable_len(&self) -> u32
         ensures { result ≡ length (stable_in self.now.map) }
     {
-        entries::stable_len(self.entries.entries())
+        self.len() - self.unstable_len()
     }
 
     /// How many determinants are not known to be stable. Takes no memory.
@@ -240,14 +230,8 @@ impl Log {
     pub fn for_slot(&self, dest: Pid, rsn: u32) -> Option<MsgName>
         ensures { result ≡ named dest rsn self.now.map }
     {
-        self.least_of(dest, rsn).map(|det| det.message())
-    }
-
-    /// The least determinant that is logged for a slot.
-    fn least_of(&self, dest: Pid, rsn: u32) -> Option<Det>
-        ensures { result ≡ first_of_slot dest rsn (fin.keys self.now.map) }
-    {
-        self.entries.least_of(Slot { dest, rsn })
+        let least = self.entries.least_of(Slot { dest, rsn });
+        least.map(|det| det.message())
     }
 
     /// Makes the next `more` insertions sure of their memory. Where it is refused nothing changes, and its only error is
@@ -309,13 +293,14 @@ impl Log {
     /// stable become known. The only error is want of memory, which comes for a determinant that is not logged yet and for
     /// which no room was made.
     pub fn add_stable(&mut self, det: Det, me: Pid) -> Result<(), NoMemory>
-        ensures ok { OnOk result (self.new.map ≡ learned self.old.map det (stable_and_held_by me)) }
+        ensures ok { OnOk result
+            (self.new.map ≡ learned self.old.map det (stable_and_held_by me)) }
         ensures err { OnErr result (self.new.map ≡ self.old.map) }
         ensures logged { IsSome (fin.get self.old.map det) → IsOk result }
         ensures succeeds { 1 ≤ self.old.spare → IsOk result }
         ensures spare { self.old.spare ≤ self.new.spare + 1 }
     {
-        self.learn(det, Known::stable_and_held(me))
+        self.learn(det, Known::held(me).marked())
     }
 
     /// Takes in what a message from process `from` carries to process `me`: the known holders of each of its determinants
@@ -387,6 +372,7 @@ impl Log {
         ensures count { result ≡ length (stable_in self.old.map) }
         ensures spare { self.new.spare ≡ self.old.spare }
     {
+        self.carried = None;
         self.entries.drop_stable()
     }
 }

@@ -25,7 +25,7 @@ const MOST_ENTRIES: usize = 0xffff_ffff;
 /// The fewest heads of a table with entries.
 const FEWEST_HEADS: usize = 1024;
 
-/// Entries, with the heads that lead to them. There are at least as many heads as there is room for entries.
+/// Entries, with the heads that lead to them: a power of two of them, and no fewer than there is room for entries.
 #[derive(Debug, Drop)]
 pub(crate) struct Table {
     entries: Vec<(Det, Known)>,
@@ -229,7 +229,7 @@ impl Table {
     }
 }
 
-/// Makes so many heads at least, which lead to some entries as fewer did.
+/// Makes so many heads at least, and a power of two, which lead to some entries as fewer did.
 fn widen(
     entries: &[(Det, Known)],
     dets: &mut Vec<Det>,
@@ -252,7 +252,8 @@ fn widen(
     if least <= heads.len() {
         return Ok(());
     }
-    heads.resize(least.max(FEWEST_HEADS), None)?;
+    let count = least.max(FEWEST_HEADS).checked_next_power_of_two();
+    heads.resize(count.ok_or(NoMemory)?, None)?;
     lead(entries, dets, heads.as_mut_slice(), older);
     Ok(())
 }

@@ -6,18 +6,20 @@ use Rattle.std.specs.Map.{keys_of}
 use Rattle.std.specs.Cmp.{Equal-is}
 use Rattle.std.specs.FinMap as fin
 use Rattle.causal_name.specs.declared.Det.{Det}
-use Rattle.causal_name.specs.Names.{det_cmp, same_det}
+use Rattle.causal_name.specs.Names.{det_cmp, same_det, is_ascending}
 use Rattle.std.proofs.lemmas.List.{length-map}
 use Rattle.causal_log.specs.Stores.{DetSet, set_of, with_det, has, count_in, dets_in}
 use Rattle.causal_name.proofs.Lemmas.DetOrder.{dets_total, exact_dets, det_ties}
 use Rattle.std.proofs.lemmas.List.Sorted.{IsPermutation-map}
 use Rattle.std.proofs.lemmas.List.Folds.{list_any-append}
+use Rattle.std.proofs.lemmas.Map.Keys.{IsDistinct-IsPermutation}
 use Rattle.std.proofs.lemmas.Map.Made.{is_some-lookup}
 use Rattle.std.specs.List.{IsDistinct}
 use Rattle.std.specs.List.Sorted.{IsPermutation, IsSorted}
-use Rattle.causal_log.proofs.EntryLemmas.{get_log, own_entries, ascending_log}
+use Rattle.causal_log.proofs.EntryLemmas.{get_log, own_entries, sorted_ascend}
 use Rattle.causal_log.proofs.PlaceLemmas.{same_length}
-use Rattle.causal_log.proofs.SortLemmas.{moved_log, still_distinct}
+use Rattle.causal_log.proofs.SortLemmas.{moved_log}
+use Rattle.causal_log.proofs.Lemmas.Searches.{same_turned}
 
 abbrev paired : List Det → List (Det × Unit {0})
 paired ds = map (λ d. (d, tt)) ds
@@ -74,11 +76,10 @@ count_list ds distinct = fin.len-entries (set_of ds) ∙ sym (same_length (paire
 -- and once it is sorted it is the set's members
 pub sorted_list : (ds fs : List Det) → IsPermutation ds fs → IsDistinct same_det ds → IsSorted det_cmp fs → fs ≡ dets_in (set_of ds)
 sorted_list ds fs moved distinct sorted =
-    let pairs = IsPermutation-map (λ d. (d, tt)) ds fs moved in
-    let once = still_distinct (paired ds) (paired fs) pairs (each_once ds distinct) in
+    let ups = sorted_ascend fs sorted (IsDistinct-IsPermutation same_det same_turned ds fs moved distinct) in
     sym (keys_paired fs)
-    ∙ ap (λ es. keys_of es) (sym (own_entries (paired fs) (ascending_log (paired fs) (subst (IsSorted det_cmp) (sym (keys_paired fs)) sorted) once)))
-    ∙ ap (λ (s : DetSet). dets_in s) (moved_log (paired ds) (paired fs) pairs (each_once ds distinct))
+    ∙ ap (λ es. keys_of es) (sym (own_entries (paired fs) (ap is_ascending (keys_paired fs) ∙ ups)))
+    ∙ ap (λ (s : DetSet). dets_in s) (moved_log (paired ds) (paired fs) (IsPermutation-map (λ d. (d, tt)) ds fs moved) (each_once ds distinct))
 
 -- sets with the same members are the same
 same_set : (s t : DetSet) → ((q : Det) → has s q ≡ has t q) → s ≡ t
