@@ -15,6 +15,13 @@ use crate::known::Known;
 use causal_name::{Det, NoMemory};
 use std::alloc::Global;
 
+/// The entry at a place.
+pub(crate) fn entry_at(entries: &[(Det, Known)], i: u32) -> Option<(Det, Known)>
+    ensures { result ≡ slice_get entries.now i }
+{
+    entries.get(i as usize).copied()
+}
+
 /// The determinants.
 pub(crate) fn dets(alloc: Global, entries: &[(Det, Known)]) -> Result<Vec<Det>, NoMemory>
     ensures { IfOk result (λ dets. dets.items ≡ keys_of entries.now) }

@@ -83,7 +83,7 @@ impl Log {
         ensures { result ≡ slice_get (fin.entries self.now.map) i }
     {
         if self.sorted {
-            return self.entries.entries().get(i as usize).copied();
+            return entries::entry_at(self.entries.entries(), i);
         }
         let det = ranked(self.entries.dets(), i)?;
         self.known(det).map(|known| (det, known))
@@ -211,7 +211,6 @@ impl Log {
     }
 
     /// How many determinants are known to be stable. Takes no memory.
-    #[tactic(auto, using(crate::proofs::Lemmas::Listing::stable_and_unstable))]
     pub fn stable_len(&self) -> u32
         ensures { result ≡ length (stable_in self.now.map) }
     {

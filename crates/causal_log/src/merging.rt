@@ -5,7 +5,7 @@ ghost use Rattle.std.specs.Prelude.{◌≡◌, ◌≤◌, ◌+◌, ◌++◌, ◌
 ghost use Rattle.std.specs.FinMap as fin;
 ghost use Rattle.causal_name.specs.declared.Det.{Det};
 ghost use Rattle.causal_name.specs.Names.{is_ascending, is_before, same_det};
-ghost use Rattle.causal_log.specs.Logs.{LogMap, log_of, chosen, dets_of};
+ghost use Rattle.causal_log.specs.Logs.{LogMap, log_of, chosen, dets_of, names_det};
 ghost use Rattle.causal_log.specs.Inside.Carried.{with_carried, HearsNext};
 ghost use Rattle.causal_log.specs.Inside.Merges.{EndBefore, IsPassed, is_known, source_of, heard_of, taken};
 
@@ -70,11 +70,18 @@ fn next_of(kept: &[Item], place: usize, det: Det) -> Option<Item>
     if item.det == det { Some(item) } else { None }
 }
 
+/// Whether items name a determinant.
+fn name(items: &[Item], det: Det) -> bool
+    ensures { result ≡ names_det det items.now }
+{
+    items.iter().any(|item| det == item.det)
+}
+
 /// Whether a determinant is logged, or items name it that were taken in.
 fn is_logged(entries: &Table, named: &[Item], det: Det) -> bool
     ensures { result ≡ is_known (log_of entries.now.entries) named.now det }
 {
-    entries.find(det).is_some() || named.iter().any(|item| det == item.det)
+    entries.find(det).is_some() || name(named, det)
 }
 
 /// Passes on a determinant of which this is heard: the next one of what is kept, or one that was not logged. Of another one
@@ -95,7 +102,7 @@ fn meet(
     ensures heard { IfOk result (λ next. (log : LogMap) →
         is_some (fin.get log det) ≡ is_known (source_of delivery.now) named.now det →
         HearsNext delivery.now.f det heard log
-            (out.old.items ++ drop place kept.now) (out.new.items ++ drop next kept.now)) }
+        (out.old.items ++ drop place kept.now) (out.new.items ++ drop next kept.now)) }
     ensures before { OnOk result
         ((d : Det) → is_before det d ≡ true → EndBefore out.new.items d) }
 {

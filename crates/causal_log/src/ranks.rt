@@ -12,10 +12,9 @@ pub(crate) fn is_lesser(det: &Det, dest: Pid, rsn: u32, found: Option<Det>) -> b
     ensures { result ≡ (is_of_slot dest rsn det.now
         && option_map_or (λ f. is_before det.now f) found true) }
 {
-    let fills = det.dest == dest && det.rsn == rsn;
     match found {
-        Some(found) => fills && det.comes_before(&found),
-        None => fills,
+        Some(found) => det.dest == dest && det.rsn == rsn && det.comes_before(&found),
+        None => det.dest == dest && det.rsn == rsn,
     }
 }
 

@@ -253,7 +253,8 @@ fn widen(
         return Ok(());
     }
     let count = least.max(FEWEST_HEADS).checked_next_power_of_two();
-    heads.resize(count.ok_or(NoMemory)?, None)?;
+    let count = count.ok_or(NoMemory)?;
+    heads.resize(count, None)?;
     lead(entries, dets, heads.as_mut_slice(), older);
     Ok(())
 }

@@ -1,36 +1,41 @@
-use Rattle.std.proofs.Common.{◌≡◌, ◌∙◌, None, ap, sym, slice_get, find, option_map, rules}
+use Rattle.std.proofs.Common.{◌≡◌, ◌∙◌, List, Option, ℕ, ap, sym, slice_get, find, option_map, rules}
 use Rattle.std.specs.FinMap as fin
+use Rattle.std.specs.List.{IsDistinct}
+use Rattle.std.specs.Map.{keys_of}
+use Rattle.causal_name.specs.declared.Det.{Det}
+use Rattle.causal_name.specs.Names.{same_det}
+use Rattle.causal_log.specs.declared.known.Known.{Known}
 use Rattle.causal_log.specs.Inside.Ranks.{has_rank}
 use Rattle.causal_log.specs.Logs.{log_of}
 use Rattle.causal_log.proofs.EntryLemmas.{own_entries}
 use Rattle.causal_log.proofs.PlaceLemmas.{ranked_entry, with_known}
 use Rattle.causal_log.proofs.log.Log.at.Goals as goal
-use Rattle.causal_log.proofs.log.Log.at.Goals.{After-ranked-det}
 
 -- what the rank finds, with what is known of it
-shown : (c : After-ranked-det) → with_known (log_of c.self.inside.entries.entries) c.ranked-det.result ≡ slice_get (fin.entries c.args.self.now.map) c.args.i
-shown c =
-    ap (with_known (log_of c.self.inside.entries.entries)) (c.ranked-det.ensures ∙ (λ j. find (λ d. has_rank (c.dets.ensures.dets j) c.args.i d) (c.dets.ensures.dets j)))
-    ∙ ranked_entry c.self.inside.entries.entries c.dets.ensures.distinct c.args.i
-    ∙ ap (λ log. slice_get (fin.entries log.map) c.args.i) c.self.view_is
+shown : (es : List (Det × Known)) → IsDistinct same_det (keys_of es) → (i : ℕ) (ds : List Det) → ds ≡ keys_of es → (o : Option Det) → o ≡ find (λ d. has_rank ds i d) ds
+    → with_known (log_of es) o ≡ slice_get (fin.entries (log_of es)) i
+shown es distinct i ds are o is = ap (with_known (log_of es)) (is ∙ (λ j. find (λ d. has_rank (are j) i d) (are j))) ∙ ranked_entry es distinct i
 
 pub returns : goal.returns
 returns c =
+    let es = c.self.inside.entries.entries in
     let one : c.map.result ≡ option_map (λ known. (c.in_ok-det.det, known)) c.known.result = search rules in
     one
     ∙ ap (option_map (λ known. (c.in_ok-det.det, known))) (c.known.ensures ∙ sym (ap (λ log. fin.get log.map c.in_ok-det.det) c.self.view_is))
-    ∙ sym (ap (with_known (log_of c.self.inside.entries.entries)) c.in_ok-det.was)
-    ∙ shown (goal.at.returns c).After-ranked-det
+    ∙ sym (ap (with_known (log_of es)) c.in_ok-det.was)
+    ∙ shown es c.dets.ensures.distinct c.args.i c.dets.result.now c.dets.ensures.dets c.ranked.result c.ranked.ensures
+    ∙ ap (λ log. slice_get (fin.entries log.map) c.args.i) c.self.view_is
 
 pub returns-in_err-det : goal.returns-in_err-det
 returns-in_err-det c =
+    let es = c.self.inside.entries.entries in
     c.from_residual.ensures
-    ∙ sym (ap (with_known (log_of c.self.inside.entries.entries)) c.in_err-det.was)
-    ∙ shown (goal.at.returns-in_err-det c).After-ranked-det
+    ∙ sym (ap (with_known (log_of es)) c.in_err-det.was)
+    ∙ shown es c.dets.ensures.distinct c.args.i c.dets.result.now c.dets.ensures.dets c.ranked.result c.ranked.ensures
+    ∙ ap (λ log. slice_get (fin.entries log.map) c.args.i) c.self.view_is
 
 pub returns-then-self : goal.returns-then-self
 returns-then-self c =
-    let there : c.copied.result ≡ slice_get c.entries.result.now c.args.i = search rules in
-    there
+    c.entry_at.ensures
     ∙ ap (λ es. slice_get es c.args.i) (c.entries.ensures.entries ∙ sym (own_entries c.self.inside.entries.entries (c.self.invariant.ascending c.if-self.true)))
     ∙ ap (λ log. slice_get (fin.entries log.map) c.args.i) c.self.view_is
