@@ -28,12 +28,9 @@ impl Known {
     pub(crate) fn held(process: Pid) -> Known
         ensures { result ≡ held_by process }
     {
-        let mut holders = Holders::none();
-        holders.insert(process.0);
-        Known {
-            holders,
-            stable: false,
-        }
+        let mut known = Known::nothing();
+        known.holders.insert(process.0);
+        known
     }
 
     /// Both together.
@@ -68,14 +65,8 @@ impl Known {
 pub(crate) fn told(from: Pid, me: Pid, item: &Item) -> (Det, Known)
     ensures { result ≡ told from me item.now }
 {
-    let mut holders = item.holders;
-    holders.insert(from.0);
-    holders.insert(me.0);
-    (
-        item.det,
-        Known {
-            holders,
-            stable: false,
-        },
-    )
+    let mut heard = item.known();
+    heard.holders.insert(from.0);
+    heard.holders.insert(me.0);
+    (item.det, heard)
 }

@@ -163,13 +163,12 @@ impl Table {
         self.entries.reserve(more)?;
         self.dets.reserve(more)?;
         self.older.reserve(more)?;
-        let least = self.entries.capacity();
         widen(
             self.entries.as_slice(),
             &mut self.dets,
             &mut self.heads,
             &mut self.older,
-            least,
+            self.entries.capacity(),
         )?;
         self.room = more;
         Ok(())
