@@ -92,7 +92,8 @@ pub(crate) fn commit_at(
     requires ascending { is_ascending (dets_of (next_batch grown)) ≡ true }
     requires delivered { IsBatchDelivered trace.old.recording.past q grown }
     requires shares { batches_of grown.shares.items ≡ replicate 8 (next_batch grown) }
-    requires next { arc_value grown.next ≡ chosen f (grown_log grown (memory_at (memories_in cells.old.items) q.0).log) }
+    requires next { arc_value grown.next
+        ≡ chosen f (grown_log grown (memory_at (memories_in cells.old.items) q.0).log) }
     requires few { length sends.items ≤ 8 }
     requires spare { 9 ≤ trace.old.spare }
     requires room { 8 ≤ (room_at (rooms_in cells.old.items) q.0).sent }
