@@ -1,14 +1,11 @@
 //! What is asked of all entries of a volatile log.
-ghost use Rattle.std.specs.Prelude.{◌≡◌, ◌↔◌, ◌<◌, ◌≤◌, ◌+◌, ◌^◌, ℕ, cond, true, Some, None, IsTrue, IsSome, IfSome, IfOk, OnOk, OnErr, find, length, slice_get, filter, map, not, vec_len, vec_capacity};
+ghost use Rattle.std.specs.Prelude.{◌≡◌, ◌<◌, ◌^◌, true, IfOk, OnOk, OnErr, length, slice_get, filter, map, not, vec_len, vec_capacity};
 ghost use Rattle.std.specs.List.{IsDistinct};
-ghost use Rattle.std.specs.Map.{lookup, keys_of};
-ghost use Rattle.std.specs.Option.{option_map};
+ghost use Rattle.std.specs.Map.{keys_of};
 ghost use Rattle.std.specs.FinMap as fin;
-ghost use Rattle.causal_name.specs.declared.Det.{Det};
 ghost use Rattle.causal_name.specs.Names.{same_det, is_ascending};
-ghost use Rattle.causal_log.specs.declared.known.Known.{Known};
 ghost use Rattle.causal_log.specs.Knowledge.{is_carried};
-ghost use Rattle.causal_log.specs.Logs.{log_of, learned, item_of, marked, chosen};
+ghost use Rattle.causal_log.specs.Logs.{log_of, item_of, chosen};
 
 use crate::batch::Item;
 use crate::known::Known;

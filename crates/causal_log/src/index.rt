@@ -1,7 +1,6 @@
 //! Where the entries of a log stand: for each number of a slot a head leads to the newest entry, and each entry to the next
 //! older one of its head.
-ghost use Rattle.std.specs.Prelude.{◌≡◌, ◌<◌, ◌≤◌, ◌+◌, ◌^◌, ◌++◌, ◌∷◌, [], false, Some, None, IfSome, IsNone, length, slice_get, vec_len, vec_capacity};
-ghost use Rattle.std.specs.Prelude.{List};
+ghost use Rattle.std.specs.Prelude.{◌≡◌, ◌<◌, ◌≤◌, ◌+◌, ◌^◌, ◌++◌, ◌∷◌, [], false, Some, None, IfSome, IsNone, length, slice_get, vec_len, vec_capacity, List};
 ghost use Rattle.std.specs.List.{list_any};
 ghost use Rattle.causal_name.specs.declared.Det.{Det};
 ghost use Rattle.causal_name.specs.Names.{same_det, slot_of};
@@ -11,16 +10,22 @@ ghost use Rattle.causal_log.specs.Inside.Ranks.{IsLeastOfSlot};
 use crate::ranks::is_lesser;
 use causal_name::{Det, Slot};
 
-/// The number of a slot's head, where the number of heads is a power of two. The slots of a receiver have heads beside each
-/// other, and those of 256 receivers begin as far apart as they can.
+/// How many eights of heads lie between the first ones of two receivers: an odd number, so that these fall on all of them.
+const APART: usize = 40_503;
+
+/// The number of a slot's head, where the number of heads is a power of two. Eight slots of a receiver have heads beside each
+/// other, and the next eight come after a step that no other receiver makes: so those of two receivers meet now and then, and
+/// not one after the other.
 #[tactic(auto, using(std::proofs::lemmas::Nat::and_le_r), unfolding(crate::specs::Inside::Indexes::head_of))]
 fn head_of(heads: usize, slot: Slot) -> usize
     requires { 0 < heads }
     ensures head { result ≡ head_of heads slot }
     ensures within { result < heads }
 {
-    let first = (slot.dest.0 as usize).wrapping_mul(heads / 256);
-    (slot.rsn as usize).wrapping_add(first) & (heads - 1)
+    let dest = usize::from(slot.dest.0);
+    let rsn = slot.rsn as usize;
+    let eight = rsn / 8 * (2 * dest + 1) + dest * APART;
+    (eight * 8 + rsn % 8) & (heads - 1)
 }
 
 /// The place of the newest entry that a slot's head leads to.

@@ -1,12 +1,11 @@
 //! The volatile log of a process.
-ghost use Rattle.std.specs.Prelude.{◌≡◌, ◌↔◌, ◌<◌, ◌≤◌, ◌+◌, ◌^◌, IsTrue, IsSome, IfSome, IsOk, true, IfOk, OnOk, OnErr, length, slice_get};
+ghost use Rattle.std.specs.Prelude.{◌≡◌, ◌↔◌, ◌<◌, ◌≤◌, ◌+◌, ◌^◌, IsTrue, IsSome, IsOk, true, IfOk, OnOk, OnErr, length, slice_get};
 ghost use Rattle.std.specs.FinMap as fin;
 ghost use Rattle.std.specs.Arc.{arc_value};
 ghost use Rattle.causal_name.specs.Names.{is_ascending};
 ghost use Rattle.causal_log.specs.Knowledge.{held_by, stable_and_held_by};
 ghost use Rattle.causal_log.specs.Logs.{log_of, learned, dets_of, absorbed, grown, united, marked, stable_in, unstable_in, unmarked, chosen, named, HaveSame};
 ghost use Rattle.causal_log.specs.Inside.Merges.{source_of, taken};
-ghost use Rattle.causal_log.specs.declared.known.Known.{Known};
 
 use crate::batch::{Batch, Item};
 use crate::carried::{Carried, mark};

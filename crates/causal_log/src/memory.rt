@@ -1,5 +1,5 @@
 //! Stable storage in memory, for programs that need no device.
-ghost use Rattle.std.specs.Prelude.{◌≡◌, IfOk};
+ghost use Rattle.std.specs.Prelude.{◌≡◌};
 ghost use Rattle.std.specs.FinMap as fin;
 
 use crate::known::Known;

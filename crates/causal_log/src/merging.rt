@@ -1,7 +1,7 @@
 //! What messages will carry once a delivery is taken in, worked out beside the log. What they carry now and what the delivery
 //! tells both ascend, and are passed over together: what is passed on, and what is kept from a place on, is at each step what
 //! messages carry of what was taken in so far.
-ghost use Rattle.std.specs.Prelude.{◌≡◌, ◌≤◌, ◌+◌, ◌++◌, ◌∷◌, ◌||◌, [], true, false, Some, is_some, drop, slice_get, length, IfOk, OnOk, IfSome, IsNone};
+ghost use Rattle.std.specs.Prelude.{◌≡◌, ◌≤◌, ◌+◌, ◌++◌, ◌||◌, [], true, false, Some, is_some, drop, slice_get, length, IfOk, OnOk, IfSome, IsNone};
 ghost use Rattle.std.specs.FinMap as fin;
 ghost use Rattle.causal_name.specs.declared.Det.{Det};
 ghost use Rattle.causal_name.specs.Names.{is_ascending, is_before, same_det};

@@ -3,7 +3,7 @@ ghost use Rattle.std.specs.Prelude.{◌≡◌, ◌&&◌, true, filter, find, len
 ghost use Rattle.std.specs.Option.{option_map_or};
 ghost use Rattle.causal_name.specs.Names.{is_before};
 ghost use Rattle.causal_log.specs.Slots.{is_of_slot};
-ghost use Rattle.causal_log.specs.Inside.Ranks.{has_rank, IsLeastOfSlot};
+ghost use Rattle.causal_log.specs.Inside.Ranks.{has_rank};
 
 use causal_name::{Det, Pid};
 

@@ -1,5 +1,5 @@
 //! Entries of determinants in the order in which they came, each found by its slot.
-ghost use Rattle.std.specs.Prelude.{◌≡◌, ◌<◌, ◌≤◌, ◌+◌, ◌^◌, ◌++◌, ◌∷◌, [], ℕ, cond, not, filter, true, Some, None, IfSome, IfOk, OnOk, OnErr, length, slice_get, vec_len, vec_capacity};
+ghost use Rattle.std.specs.Prelude.{◌≡◌, ◌<◌, ◌≤◌, ◌+◌, ◌^◌, ◌++◌, ◌∷◌, [], not, filter, true, Some, None, IfSome, IfOk, OnOk, OnErr, length, slice_get, vec_len, vec_capacity};
 ghost use Rattle.std.specs.List.{IsDistinct};
 ghost use Rattle.std.specs.Map.{keys_of};
 ghost use Rattle.std.specs.FinMap as fin;
@@ -104,10 +104,7 @@ impl Table {
     pub(crate) fn is_open(&self, det: Det) -> bool
         ensures { result ≡ is_open (log_of self.now.entries) det }
     {
-        match self.find(det) {
-            Some((_, known)) => !known.stable,
-            None => false,
-        }
+        self.find(det).is_some_and(|(_, known)| !known.stable)
     }
 
     /// The least determinant that fills a slot.

@@ -1,14 +1,15 @@
 -- Where the entries of a log stand: a head for each number of a slot leads to the newest entry, and each entry to the next
 -- older one of its head.
-use Rattle.std.specs.Prelude.{◌≡◌, ℕ, zero, suc, bit_and, ◌+◌, ◌-◌, ◌*◌, ◌/◌, ◌%◌, ◌^◌, ◌<◌, List, Option, Some, None, length, slice_get, slice_index_or}
+use Rattle.std.specs.Prelude.{◌≡◌, ℕ, zero, suc, bit_and, ◌+◌, ◌-◌, ◌*◌, ◌/◌, ◌%◌, ◌<◌, List, Option, Some, None, length, slice_get, slice_index_or}
 use Rattle.causal_name.specs.declared.Det.{Det}
 use Rattle.causal_name.specs.declared.Slot.{Slot}
 use Rattle.causal_name.specs.Names.{slot_of}
 
--- the head of a slot, of so many heads: those of a receiver's slots stand beside each other, and begin a 256th of all after
--- those of the receiver before
+-- the head of a slot, of so many heads: eight slots of a receiver have heads beside each other, and each receiver has a step of
+-- its own to the next eight
 unfoldable pub head_of : ℕ → Slot → ℕ
-head_of heads slot = bit_and ((slot.rsn + slot.dest.0 * (heads / 256) % 2 ^ 64) % 2 ^ 64) (heads - 1)
+head_of heads slot =
+    bit_and ((slot.rsn / 8 * (2 * slot.dest.0 + 1) + slot.dest.0 * 40503) * 8 + slot.rsn % 8) (heads - 1)
 
 -- the place of the newest entry that the head of a slot leads to
 abbrev pub newest_of : List (Option ℕ) → Slot → Option ℕ
