@@ -1,8 +1,8 @@
 -- What messages still carry of a batch once determinants are marked.
-use Rattle.std.proofs.Common.{ℕ, ◌≡◌, ◌∙◌, ◌&&◌, Bool, true, false, cond, not, nat_le, List, [], ◌∷◌, map, filter, Option, Some, None, unwrap_or, true≢false, refl, sym, ap}
+use Rattle.std.proofs.Common.{ℕ, ◌≡◌, ◌∙◌, ◌&&◌, Bool, true, false, cond, not, nat_le, List, [], ◌∷◌, map, filter, Option, Some, None, true≢false, refl, sym, ap}
 use Rattle.std.proofs.lemmas.Map.Entries.{lookup-filter-keys}
 use Rattle.std.specs.Option.{option_map, option_map_or}
-use Rattle.std.specs.Map.{lookup, keys_of}
+use Rattle.std.specs.Map.{lookup}
 use Rattle.std.specs.FinMap as fin
 use Rattle.std.specs.FinSet as set
 use Rattle.causal_name.specs.declared.Det.{Det}
@@ -14,7 +14,7 @@ use Rattle.causal_log.specs.Knowledge.{as_stable, is_carried}
 use Rattle.causal_log.specs.Logs.{LogMap, marked, chosen, dets_of, item_of}
 use Rattle.std.specs.Arc.{arc_value}
 use Rattle.causal_log.specs.declared.carried.Carried.{Carried}
-use Rattle.causal_log.specs.Inside.Carried.{is_open, open_in, still, IsCarried, as_marked, Carries}
+use Rattle.causal_log.specs.Inside.Carried.{is_open, open_in, IsCarried, as_marked, Carries}
 use Rattle.causal_log.proofs.Lemmas.Ascents.{filter_ascends}
 use Rattle.causal_log.proofs.Lemmas.ChosenLemmas.{dets_of_items}
 use Rattle.causal_log.proofs.Lemmas.Marking.{get_marked}

@@ -5,11 +5,8 @@ use Rattle.std.proofs.lemmas.List.{length-set, length_push, get_or-set_same, get
 use Rattle.std.proofs.lemmas.Option.{get_or_from_slice_get}
 use Rattle.std.specs.List.{list_any}
 use Rattle.causal_name.specs.declared.Det.{Det}
-use Rattle.causal_name.specs.declared.Pid.{Pid}
 use Rattle.causal_name.specs.Names.{same_det, slot_of}
 use Rattle.causal_name.proofs.Lemmas.DetOrder.{same_is, same_itself}
-use Rattle.causal_log.specs.Slots.{is_of_slot}
-use Rattle.causal_log.specs.Inside.Ranks.{IsAmong, IsLeastOfSlot}
 use Rattle.causal_log.specs.Inside.Indexes.{head_of, newest_of, Leads, IsLed, IsIndex}
 
 -- what stands at a place of a list with one more determinant

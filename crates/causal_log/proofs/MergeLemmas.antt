@@ -1,5 +1,5 @@
 -- Ascending items are what messages carry of a log where each is found so, and go on being it as determinants are heard of.
-use Rattle.std.proofs.Common.{ℕ, zero, suc, ◌+◌, ◌-◌, length, take, drop, slice_get, IfSome, ◌≡◌, ◌∙◌, ◌≤◌, ◌&&◌, ◌||◌, Bool, true, false, cond, not, nat_le, nat_cmp, List, [], ◌∷◌, ◌++◌, map, filter, Option, Some, None, is_some, unwrap_or, true≢false, refl, sym, ap, subst, arith}
+use Rattle.std.proofs.Common.{ℕ, zero, suc, ◌+◌, ◌-◌, length, take, drop, slice_get, IfSome, ◌≡◌, ◌∙◌, ◌≤◌, ◌||◌, Bool, true, false, cond, not, nat_le, nat_cmp, List, [], ◌∷◌, ◌++◌, map, filter, Option, Some, None, is_some, unwrap_or, true≢false, refl, sym, ap, arith}
 use Rattle.std.proofs.lemmas.Bool.{and_from, or_from, or_left, or_right, false_from_ne_true}
 use Rattle.std.proofs.lemmas.Bool.Decides.{nat_tests}
 use Rattle.std.proofs.lemmas.List.{append_assoc, length-drop, map-append, take_all}
@@ -19,12 +19,12 @@ use Rattle.causal_holders.proofs.Lemmas.Sets.{len-is_subset}
 use Rattle.causal_log.specs.declared.known.Known.{Known}
 use Rattle.causal_log.specs.declared.batch.Item.{Item}
 use Rattle.causal_log.specs.Knowledge.{nothing_known, joined, is_carried, told}
-use Rattle.causal_log.specs.Logs.{LogMap, log_of, known_of, learned, absorbed, item_of, chosen, dets_of}
+use Rattle.causal_log.specs.Logs.{LogMap, known_of, learned, absorbed, item_of, chosen, dets_of}
 use Rattle.causal_log.specs.Inside.Carried.{known_of_item, with_carried, HearsNext}
 use Rattle.causal_log.specs.Inside.Merges.{HasMerged}
 use Rattle.causal_log.proofs.EntryLemmas.{below, get_log, same_log, own_entries, not_itself}
 use Rattle.causal_log.proofs.TableLemmas.{lookup_missing}
-use Rattle.causal_log.proofs.Lemmas.Ascents.{ascending_tail, ascending_skip, before_trans, first_before, filter_ascends}
+use Rattle.causal_log.proofs.Lemmas.Ascents.{ascending_tail, ascending_skip, first_before, filter_ascends}
 use Rattle.causal_log.proofs.Lemmas.ChosenLemmas.{chosen_ascend}
 use Rattle.causal_log.proofs.Lemmas.Learning.{get_learned}
 use Rattle.causal_log.proofs.Lemmas.Searches.{any_map, before_apart, both, find_kept, kept_if, or_nothing, shown, same_turned}

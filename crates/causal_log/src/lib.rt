@@ -10,7 +10,7 @@
 //!
 //! 1. `Log::choose_grown` gives what the messages of the step will carry, and leaves the log as it is.
 //! 2. `Log::reserve` makes room for the determinants of the message's batch and for the delivery's own.
-//! 3. Once the process has stepped, `Log::grow` takes both in, in that room.
+//! 3. Once the process has stepped, `Log::grow` takes both in, in that room, and `Log::carry` keeps what messages carry then.
 //!
 //! # Writing a store
 //!

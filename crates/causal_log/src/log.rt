@@ -136,8 +136,8 @@ impl Log {
         }
     }
 
-    /// Keeps what messages carry, so that the next `choose` or `choose_grown` for as many failures need not read the log. A
-    /// runtime shares with it the batch of the messages that it sends.
+    /// Keeps what messages carry, which is what `choose` gives, so that the next `choose` or `choose_grown` for as many
+    /// failures need not read the log. A runtime shares with it the batch of the messages that it sends.
     pub fn carry(&mut self, f: u16, batch: Arc<Batch>)
         requires { arc_value batch ≡ chosen f self.old.map }
         ensures map { self.new.map ≡ self.old.map }

@@ -1,5 +1,5 @@
 -- The determinants of a log, the marked ones and the others, as lists.
-use Rattle.std.proofs.Common.{◌≡◌, ◌∙◌, ◌+◌, Bool, true, false, not, ◌&&◌, map, filter, length, Option, Some, None, is_some, unwrap_or, ap, sym, refl}
+use Rattle.std.proofs.Common.{◌≡◌, ◌∙◌, ◌+◌, Bool, true, not, ◌&&◌, map, filter, length, Option, Some, None, is_some, unwrap_or, ap, sym, refl}
 use Rattle.std.proofs.Math.Bool.{and_comm}
 use Rattle.std.specs.List.{list_any}
 use Rattle.std.specs.FinMap as fin

@@ -1,4 +1,4 @@
-use Rattle.std.proofs.Common.{◌≡◌, ◌∙◌, ◌<◌, IfSome, None, get_or, length, sym, subst}
+use Rattle.std.proofs.Common.{◌∙◌, ◌<◌, IfSome, None, get_or, length, sym, subst}
 use Rattle.causal_log.specs.Inside.Indexes.{head_of}
 use Rattle.causal_log.proofs.IndexLemmas.{below_one, older_below, newest_below, ended}
 use Rattle.causal_log.proofs.LeastLemmas.{HasPassed, none_passed, passed_lesser, passed_other, all_passed}

@@ -1,4 +1,4 @@
-use Rattle.std.proofs.Common.{◌≡◌, ◌∙◌, ◌<◌, length, sym, subst}
+use Rattle.std.proofs.Common.{◌∙◌, ◌<◌, length, sym, subst}
 use Rattle.causal_log.proofs.IndexLemmas.{LeadsOn, below_one, older_below, next_leads, absent, ended}
 use Rattle.causal_log.proofs.index.search.Goals as goal
 

@@ -1,4 +1,4 @@
-use Rattle.std.proofs.Common.{◌∙◌, ap, sym, unwrap_or}
+use Rattle.std.proofs.Common.{◌∙◌, ap, unwrap_or}
 use Rattle.std.specs.FinMap as fin
 use Rattle.causal_log.specs.Knowledge.{nothing_known, joined}
 use Rattle.causal_log.specs.Logs.{log_of}

@@ -1,4 +1,4 @@
-use Rattle.std.proofs.Common.{◌≡◌, ◌∙◌, is_some, true, false, true≢false, refl, ap, sym}
+use Rattle.std.proofs.Common.{◌≡◌, ◌∙◌, is_some, true, false, true≢false, ap, sym}
 use Rattle.std.specs.Map.{keys_of}
 use Rattle.causal_log.specs.Stores.{set_of, with_det, has}
 use Rattle.causal_log.proofs.StoreLemmas.{some_of, has_there}

@@ -1,4 +1,4 @@
-use Rattle.std.proofs.Common.{◌∙◌, [], None, get_or, length, ap, sym, subst, refl, arith}
+use Rattle.std.proofs.Common.{◌∙◌, [], None, get_or, length, ap, sym, subst, arith}
 use Rattle.std.specs.List.{IsDistinct}
 use Rattle.std.specs.Map.{keys_of}
 use Rattle.causal_name.specs.Names.{same_det}
