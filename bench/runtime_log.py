@@ -15,12 +15,12 @@ CRATES = ("causal_name", "causal_holders", "causal_log")
 LISTED = """\
 causal_name: thiserror
 causal_holders: causal_name
-causal_log: causal_name causal_holders indexmap thiserror
+causal_log: causal_name causal_holders thiserror
 runtime_log: anyhow causal_name causal_log
 """
 RUNS = 5
 RINGS = ((2, 1), (64, 1), (2, 2), (64, 2), (64, 8))
-KEYS = (1_024, 16_384)
+KEYS = ((1_024, 1_024), (16_384, 16_384))
 
 
 def newest(paths):
@@ -76,10 +76,9 @@ def best(runs):
     return {processes: [min(run[processes][i][0] for run in runs) / 1e6 for i in range(len(runs[0][processes]))] for processes in runs[0]}
 
 
-def least(words, place):
-    """The figures of the fastest of the runs, by the time at this place."""
-    runs = [list(map(int, subprocess.run([PROGRAM, *map(str, words)], capture_output=True, text=True, check=True).stdout.split())) for _ in range(RUNS)]
-    return min(runs, key=lambda run: run[place])
+def figures(words, read):
+    """The figures of each run."""
+    return [list(map(read, subprocess.run([PROGRAM, *map(str, words)], capture_output=True, text=True, check=True).stdout.split())) for _ in range(RUNS)]
 
 
 def lists():
@@ -92,7 +91,7 @@ def lists():
         "|---|---|---|---|---|",
     ]
     for processes, faults in RINGS:
-        _, _, deliveries, listed, took = least(("lists", processes, faults), 4)
+        _, _, deliveries, listed, took = min(figures(("lists", processes, faults), int), key=lambda run: run[4])
         lines.append(f"| {processes} | {faults} | {deliveries:,} | {listed:,} | {took / listed:.0f} |")
     return lines
 
@@ -101,17 +100,21 @@ def keys():
     """Determinants that were chosen to collide, and the targets."""
     lines = [
         "",
-        "Determinants that a log takes in and tells of: *alike* share a group of a hash table whose seed is fixed, *any* are as many "
-        "others.",
+        "Determinants that a log takes in and tells of, in nanoseconds for each. *alike* share a group of a hash table whose seed is fixed, "
+        "and *any* are as many others, in the same order. *meeting* are all of a run in which as many receivers as may be come to one head of "
+        "the log, and *spread* as many of a run of 256 receivers with as many deliveries each. *picked* are those of 32,768 deliveries that "
+        "share as few heads as hold them.",
         "",
-        "| determinants | alike ms | any ms |",
-        "|---|---|---|",
+        "| determinants, heads | alike | any | meeting | spread | picked |",
+        "|---|---|---|---|---|---|",
     ]
     targets = []
-    for count in KEYS:
-        _, alike, others = least(("keys", count), 1)
-        lines.append(f"| {count:,} | {alike / 1e6:.2f} | {others / 1e6:.2f} |")
-        targets.append((f"{count:,} determinants chosen to collide / as many others", alike / others, 1.3))
+    for count, heads in KEYS:
+        alike, others, meeting, spread, picked = (min(times) for times in list(zip(*figures(("keys", count, heads), float)))[1:])
+        lines.append(f"| {count:,} | {alike:.1f} | {others:.1f} | {meeting:.1f} | {spread:.1f} | {picked:.1f} |")
+        targets.append((f"{count:,} determinants chosen to collide in a hash / as many others", alike / others, 1.3))
+        targets.append((f"{count:,} determinants of a run whose receivers meet / as many of another run", meeting / spread, 1.3))
+        targets.append((f"{count:,} determinants picked of a longer run / as many of a run", picked / spread, 1.3))
     return lines, targets
 
 

@@ -133,6 +133,7 @@ made_grown d ms q source ssn m message g mine same up kept is made =
       send = made.send ∙ send;
       listed = made.listed ∙ (λ i. with_own (here i) (dets_of (batch i)));
       carried = made.carried ∙ batch;
+      next = made.next ∙ (λ i. chosen d.run.faults (gained (sym made.carried i) (sym made.own_is i) (log i)));
       shares = made.shares ∙ (λ i. replicate 8 (chosen d.run.faults (gained (sym made.carried i) (sym made.own_is i) (log i))));
     }
 
@@ -143,6 +144,7 @@ grown_same a b q m g run h = record {
   send = h.send ∙ ap (λ r. send_of (memories_of r) m) (sym run);
   listed = h.listed ∙ ap (λ r. listed_for (memories_of r) q m) (sym run);
   carried = h.carried ∙ ap (λ r. batch_of (memories_of r) m) (sym run);
+  next = h.next ∙ ap (λ r. chosen r.faults (gained (carried_by g) g.own (log_at (memories_of r) q.0))) (sym run);
   shares = h.shares ∙ ap (λ r. replicate 8 (chosen r.faults (gained (carried_by g) g.own (log_at (memories_of r) q.0)))) (sym run);
 }
 

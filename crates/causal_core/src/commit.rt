@@ -1,7 +1,8 @@
 //! A delivery and its sends, once the box has stepped.
 ghost use Rattle.std.specs.Prelude.{◌≡◌, ◌<◌, ◌≤◌, ◌+◌, ◌++◌, Some, true, length, replicate, OnOk, is_some};
 ghost use Rattle.causal_name.specs.Names.{message_of, is_ascending};
-ghost use Rattle.causal_log.specs.Logs.{dets_of};
+ghost use Rattle.std.specs.Arc.{arc_value};
+ghost use Rattle.causal_log.specs.Logs.{chosen, dets_of};
 ghost use Rattle.causal_trace.specs.Past.{message_at};
 ghost use Rattle.causal_trace.specs.Rows.{IsWellFormed};
 ghost use Rattle.causal_protocol.specs.Memory.{at};
@@ -28,6 +29,7 @@ pub(crate) fn commit(
     trace: &mut Trace,
     cell: &mut Cell,
     q: Pid,
+    f: u16,
     grown: Grown,
     sends: Vec<Outgoing>,
 ) -> u32
@@ -40,6 +42,7 @@ pub(crate) fn commit(
     requires ascending { is_ascending (dets_of (next_batch grown)) ≡ true }
     requires delivered { IsBatchDelivered trace.old.recording.past q grown }
     requires shares { batches_of grown.shares.items ≡ replicate 8 (next_batch grown) }
+    requires next { arc_value grown.next ≡ chosen f (grown_log grown (memory_of cell.old).log) }
     requires few { length sends.items ≤ 8 }
     requires spare { 9 ≤ trace.old.spare }
     requires room { 8 ≤ (room_of cell.old).sent }
@@ -62,9 +65,10 @@ pub(crate) fn commit(
         send,
         listed,
         carried,
+        next,
         shares,
     } = grown;
-    receive(trace, cell, q, send, own, listed, &*carried);
+    receive(trace, cell, q, send, own, listed, &*carried, f, next);
     append_sends(trace, cell, q, sends, shares)
 }
 
@@ -73,6 +77,7 @@ pub(crate) fn commit_at(
     trace: &mut Trace,
     cells: &mut Vec<Option<Cell>>,
     q: Pid,
+    f: u16,
     grown: Grown,
     sends: Vec<Outgoing>,
 ) -> u32
@@ -87,6 +92,8 @@ pub(crate) fn commit_at(
     requires ascending { is_ascending (dets_of (next_batch grown)) ≡ true }
     requires delivered { IsBatchDelivered trace.old.recording.past q grown }
     requires shares { batches_of grown.shares.items ≡ replicate 8 (next_batch grown) }
+    requires next { arc_value grown.next
+        ≡ chosen f (grown_log grown (memory_at (memories_in cells.old.items) q.0).log) }
     requires few { length sends.items ≤ 8 }
     requires spare { 9 ≤ trace.old.spare }
     requires room { 8 ≤ (room_at (rooms_in cells.old.items) q.0).sent }
@@ -108,7 +115,7 @@ pub(crate) fn commit_at(
     let Some(cell) = &mut cells[usize::from(q.0)] else {
         unreachable!()
     };
-    commit(trace, cell, q, grown, sends)
+    commit(trace, cell, q, f, grown, sends)
 }
 
 /// Room for a delivery that logs so many determinants, and for its sends.

@@ -306,7 +306,8 @@ impl Data {
     {
         let first = self.trace.len();
         let det = grown.own;
-        let sends = commit_at(&mut self.trace, &mut self.cells, q, grown, sends);
+        let f = self.faults;
+        let sends = commit_at(&mut self.trace, &mut self.cells, q, f, grown, sends);
         Delivered { first, det, sends }
     }
 
@@ -349,13 +350,7 @@ impl Data {
             (λ log. log.map ≡ gathered_log (memories_of self.now.run) (stable_of self.now.run) p) }
     {
         let stored = store.all(alloc)?;
-        gather(
-            alloc,
-            self.cells.as_slice(),
-            stored.as_slice(),
-            p,
-            self.faults,
-        )
+        gather(alloc, self.cells.as_slice(), stored.as_slice(), p)
     }
 
     /// What a restart of p would list, where the store has what is stable.

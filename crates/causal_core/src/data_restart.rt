@@ -42,34 +42,40 @@ pub(crate) fn put(cells: &mut Vec<Option<Cell>>, p: usize, cell: Cell)
     cells[p] = Some(cell);
 }
 
-/// Eight shares of what a log chooses for f failures.
-fn chosen_shares(alloc: Global, f: u16, log: &Log) -> Result<Vec<Arc<Batch>>, NoMemory>
-    ensures { IfOk result (λ shares. batches_of shares.items ≡ replicate 8 (chosen f log.now.map)) }
+/// Eight shares of what a log chooses for f failures, which the log keeps.
+fn kept_shares(alloc: Global, f: u16, log: &mut Log) -> Result<Vec<Arc<Batch>>, NoMemory>
+    ensures map { log.new.map ≡ log.old.map }
+    ensures shares { IfOk result
+        (λ shares. batches_of shares.items ≡ replicate 8 (chosen f log.old.map)) }
 {
     let batch = log.choose(alloc, f)?;
-    shares(alloc, batch)
+    let batch = Arc::new(alloc, batch)?;
+    let shares = shares(alloc, &batch)?;
+    log.carry(f, batch);
+    Ok(shares)
 }
 
 /// What a restart entry lists of a log, and eight shares of what the log chooses for f failures.
 fn listed_and_shares(
     alloc: Global,
     f: u16,
-    log: &Log,
+    log: &mut Log,
 ) -> Result<(Vec<Det>, Vec<Arc<Batch>>), NoMemory>
-    ensures listed { IfOk result (λ made. made.0.items ≡ fin.keys log.now.map) }
+    ensures map { log.new.map ≡ log.old.map }
+    ensures listed { IfOk result (λ made. made.0.items ≡ fin.keys log.old.map) }
     ensures shares { IfOk result
-        (λ made. batches_of made.1.items ≡ replicate 8 (chosen f log.now.map)) }
+        (λ made. batches_of made.1.items ≡ replicate 8 (chosen f log.old.map)) }
 {
     let listed = log.dets(alloc)?;
-    let shares = chosen_shares(alloc, f, log)?;
+    let shares = kept_shares(alloc, f, log)?;
     Ok((listed, shares))
 }
 
 /// What a process has that comes up with this log, and what its sends carry.
-pub(crate) fn gathered(alloc: Global, f: u16, log: Log) -> Result<Gathered, NoMemory>
+pub(crate) fn gathered(alloc: Global, f: u16, mut log: Log) -> Result<Gathered, NoMemory>
     ensures { IfOk result (λ g. IsGathered f log.map g) }
 {
-    let (listed, shares) = listed_and_shares(alloc, f, &log)?;
+    let (listed, shares) = listed_and_shares(alloc, f, &mut log)?;
     let cell = fresh_cell(alloc, log)?;
     Ok(Gathered {
         listed,

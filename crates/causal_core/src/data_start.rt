@@ -20,17 +20,20 @@ use causal_trace::trace::Trace;
 use std::alloc::Global;
 
 /// What n processes have before they begin.
-fn fresh_cells(alloc: Global, n: u16, f: u16) -> Result<Vec<Option<Cell>>, NoMemory>
+fn fresh_cells(alloc: Global, n: u16) -> Result<Vec<Option<Cell>>, NoMemory>
     ensures memories { IfOk result
         (λ cells. memories_in cells.items ≡ replicate n (Some (fresh fin.empty))) }
     ensures bodies { IfOk result (λ cells. bodies_in cells.items ≡ replicate n []) }
 {
     let mut cells = Vec::new(alloc);
     for i in 0..n {
+        let log = Log::new(alloc);
+        let sent = Vec::new(alloc);
+        let received = Vec::new(alloc);
         cells.push(Some(Cell {
-            log: Log::carrying(alloc, f),
-            sent: Vec::new(alloc),
-            received: Vec::new(alloc),
+            log,
+            sent,
+            received,
         }))?;
     }
     Ok(cells)
@@ -44,7 +47,7 @@ impl Data {
         ensures run { IfOk result (λ held. held.run ≡ opening n f []) }
         ensures bodies { IfOk result (λ held. held.bodies ≡ replicate n []) }
     {
-        let cells = fresh_cells(alloc, n, f)?;
+        let cells = fresh_cells(alloc, n)?;
         let Ok(trace) = Trace::new(alloc, n) else {
             return Err(NoMemory);
         };
@@ -64,7 +67,7 @@ impl Data {
         ensures room { OnOk result (8 ≤ self.new.spare) }
     {
         self.trace.reserve(8)?;
-        gathered(alloc, self.faults, Log::carrying(alloc, self.faults))
+        gathered(alloc, self.faults, Log::new(alloc))
     }
 
     /// Records what process p sends as it begins.

@@ -66,17 +66,16 @@ fn gather_into(
     store_all(log, stored, p)
 }
 
-/// The log that p has, where at most f may fail, once it has gathered what up processes log and what is stored.
+/// The log that p has once it has gathered what up processes log and what is stored.
 pub(crate) fn gather(
     alloc: Global,
     cells: &[Option<Cell>],
     stored: &[Det],
     p: Pid,
-    f: u16,
 ) -> Result<Log, NoMemory>
     ensures { IfOk result (λ log. log.map ≡ gathered_with (memories_in cells.now) stored.now p) }
 {
-    let mut log = Log::carrying(alloc, f);
+    let mut log = Log::new(alloc);
     // The log goes through `and`, since each way out that drops a log is long to prove.
     gather_into(alloc, &mut log, cells, stored, p).and(Ok(log))
 }

@@ -1,5 +1,6 @@
 //! What a delivery needs memory for, made before the box steps.
 ghost use Rattle.std.specs.Prelude.{◌≡◌, replicate, IfOk};
+ghost use Rattle.std.specs.Arc.{arc_value};
 ghost use Rattle.causal_core.specs.Inside.Grown.{batches_of, IsMade};
 ghost use Rattle.causal_core.specs.Inside.Memories.{memory_of};
 
@@ -11,14 +12,13 @@ use causal_name::{Det, NoMemory};
 use std::alloc::Global;
 use std::sync::Arc;
 
-/// Eight shares of a batch: one for each send of a step.
-pub(crate) fn shares(alloc: Global, batch: Batch) -> Result<Vec<Arc<Batch>>, NoMemory>
-    ensures { IfOk result (λ shares. batches_of shares.items ≡ replicate 8 batch) }
+/// Eight more shares of a batch: one for each send of a step.
+pub(crate) fn shares(alloc: Global, batch: &Arc<Batch>) -> Result<Vec<Arc<Batch>>, NoMemory>
+    ensures { IfOk result (λ shares. batches_of shares.items ≡ replicate 8 (arc_value batch.now)) }
 {
-    let first = Arc::new(alloc, batch)?;
     let mut shares = Vec::new(alloc);
     while shares.len() < 8 {
-        shares.push(Arc::try_clone(&first)?)?;
+        shares.push(Arc::try_clone(batch)?)?;
     }
     Ok(shares)
 }
@@ -38,12 +38,14 @@ pub(crate) fn grow(
     let batch = cell
         .log
         .choose_grown(alloc, &*carried, own, own.source, own.dest, f)?;
-    let shares = shares(alloc, batch)?;
+    let next = Arc::new(alloc, batch)?;
+    let shares = shares(alloc, &next)?;
     Ok(Grown {
         own,
         send: message.send,
         listed,
         carried,
+        next,
         shares,
     })
 }

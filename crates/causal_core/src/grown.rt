@@ -14,6 +14,8 @@ pub struct Grown {
     pub listed: Vec<Det>,
     /// What the message carries, which its sender still keeps.
     pub carried: Arc<Batch>,
-    /// The batch that the next sends carry, with one share for each of them.
+    /// The batch that the next sends carry, which the log keeps.
+    pub next: Arc<Batch>,
+    /// One share of it for each of these sends.
     pub shares: Vec<Arc<Batch>>,
 }

@@ -1,6 +1,8 @@
 //! The delivery entry of a step.
 ghost use Rattle.std.specs.Prelude.{◌≡◌, ◌≤◌, ◌+◌, length, Some};
+ghost use Rattle.std.specs.Arc.{arc_value};
 ghost use Rattle.causal_name.specs.Names.{message_of};
+ghost use Rattle.causal_log.specs.Logs.{chosen};
 ghost use Rattle.causal_trace.specs.declared.entry.Entry.TheVariants as Entries;
 ghost use Rattle.causal_trace.specs.State.{with_entry};
 ghost use Rattle.causal_trace.specs.Past.{message_at};
@@ -14,6 +16,7 @@ use causal_log::Batch;
 use causal_name::{Det, Pid};
 use causal_trace::entry::{Dets, Entry};
 use causal_trace::trace::Trace;
+use std::sync::Arc;
 
 /// Records a delivery to process q, and takes in what it brings.
 pub(crate) fn receive(
@@ -24,6 +27,8 @@ pub(crate) fn receive(
     own: Det,
     listed: Vec<Det>,
     carried: &Batch,
+    f: u16,
+    next: Arc<Batch>,
 )
     requires legal { MayCome trace.old.recording (Entries.Deliver q send own.rsn listed.items) }
     requires sent { message_at trace.old.recording.past send ≡ Some (message_of own) }
@@ -31,6 +36,7 @@ pub(crate) fn receive(
     requires logged { IsLogDelivered trace.old.recording.past
         (Entries.Deliver q send own.rsn listed.items)
         (gained carried.now own (memory_of cell.old).log) }
+    requires next { arc_value next ≡ chosen f (gained carried.now own (memory_of cell.old).log) }
     requires spare { 1 ≤ trace.old.spare }
     requires room { 1 ≤ (room_of cell.old).received }
     requires insertions { length carried.now + 1 ≤ (room_of cell.old).log }
@@ -50,5 +56,6 @@ pub(crate) fn receive(
         listed: Dets::new(listed),
     });
     cell.log.grow(carried, own, own.source, own.dest);
+    cell.log.carry(f, next);
     cell.received.push_reserved(own.message());
 }

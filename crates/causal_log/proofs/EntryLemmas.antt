@@ -1,23 +1,22 @@
 -- What a log's entries say of the map that they make.
-use Rattle.std.proofs.Common.{ℕ, ◌≡◌, ◌∙◌, true, false, cond, List, [], ◌∷◌, Some, is_some, unwrap_or, slice_get, get_or, slice_index_or, true≢false, add-one, zero, suc, refl, sym, ap, subst, arith}
+use Rattle.std.proofs.Common.{◌≡◌, ◌∙◌, ◌+◌, ◌&&◌, true, false, cond, List, [], ◌∷◌, Some, slice_index_or, true≢false, refl, sym, ap, subst, arith}
 use Rattle.std.specs.declared.cmp.Ordering.{Ordering}
 use Rattle.std.specs.declared.cmp.Ordering.TheVariants.{Less, Equal, Greater}
 use Rattle.std.specs.Ordering.{ordering_reverse, is_eq, is_lt, eq_by_cmp}
 use Rattle.std.specs.Cmp.{eq_by_cmp_equiv, IsEquivalence}
+use Rattle.std.proofs.lemmas.Bool.{false_from_ne_true}
 use Rattle.std.proofs.lemmas.List.{nil_from_length}
-use Rattle.std.specs.Map.{lookup}
+use Rattle.std.proofs.lemmas.Map.Keys.{sorted_from_all_adjacent, apart_from_distinct, sorted_head, sorted_tail}
+use Rattle.std.specs.Map.{lookup, keys_of}
 use Rattle.std.specs.FinMap.{from_entries, insert, get, get-from_entries, get-insert, same_map, find, entries, empty, entries-insert, len-entries, len-empty}
 use Rattle.std.specs.FinMap.Entries.{put, by_order}
 use Rattle.std.specs.List.{AllByRecursion, IsDistinct}
 use Rattle.std.specs.List.Sorted.{IsSorted, IsStrictlySortedBy}
-use Rattle.std.proofs.lemmas.List.Elements.{recursion_from_All, All-from_recursion}
-use Rattle.std.proofs.lemmas.List.Sorted.{sorted_far, ranks_by}
-use Rattle.std.specs.Map.{keys_of}
 use Rattle.causal_name.specs.declared.Det.{Det}
 use Rattle.causal_name.specs.Names.{det_cmp, same_det, is_before, is_ascending}
-use Rattle.causal_log.proofs.Lemmas.Searches.{both}
-use Rattle.causal_log.proofs.Lemmas.Ascents.{map_ascends, ascending_skip, ascending_tail, is_less}
-use Rattle.causal_name.proofs.Lemmas.DetOrder.{dets_total, exact_dets, det_ties}
+use Rattle.causal_log.proofs.Lemmas.Searches.{both, before_apart}
+use Rattle.causal_log.proofs.Lemmas.Ascents.{before_trans, ascending_skip, ascending_tail, is_less}
+use Rattle.causal_name.proofs.Lemmas.DetOrder.{dets_total, exact_dets, det_ties, same_itself}
 
 -- to be the same determinant is an equivalence
 pub det_equiv : IsEquivalence same_det
@@ -51,21 +50,27 @@ below x y low apart = by (det_cmp x y) refl where
   by Equal e = absurd (true≢false (sym (ap is_eq e) ∙ (sym (det_ties x y) ∙ apart)))
   by Greater e = absurd (true≢false (sym (ap is_lt (dets_total.antisymm y x ∙ ap ordering_reverse e)) ∙ low))
 
--- the first of some determinants in order is below the others
-head_below : (x : Det) (xs : List Det) → IsSorted det_cmp (x ∷ xs) → AllByRecursion (λ y. same_det x y ≡ false) xs → AllByRecursion (λ y. det_cmp x y ≡ Less) xs
-head_below x xs sorted apart = recursion_from_All _ xs (λ k d h.
-    below x (slice_index_or xs k d)
-    (sorted_far (λ a b. is_lt (det_cmp a b)) (ranks_by dets_total (λ y. y)) (x ∷ xs) sorted 0 (suc k) d (omega arith) (omega arith))
-    (All-from_recursion _ xs apart k d h))
+-- sorted determinants, each there once, ascend
+pub sorted_ascend : (ds : List Det) → IsSorted det_cmp ds → IsDistinct same_det ds → is_ascending ds ≡ true
+sorted_ascend ds sorted distinct =
+    by ds
+    (sorted_from_all_adjacent dets_total ds none (λ k high.
+    below (slice_index_or ds k none) (slice_index_or ds (k + 1) none) (sorted k none (omega arith) high) (apart_from_distinct same_det ds k (k + 1) none distinct (omega arith) high)))
+  where
+    none : Det
+    none = record { source = record { 0 = 0 }; ssn = 0; dest = record { 0 = 0 }; rsn = 0 }
 
-tail_sorted : (x : Det) (xs : List Det) → IsSorted det_cmp (x ∷ xs) → IsSorted det_cmp xs
-tail_sorted x xs sorted k d low high = rw add-one (rw add-one at (sorted (suc k) d (omega arith) (omega arith)))
+    by : (ds : List Det) → IsStrictlySortedBy det_cmp ds → is_ascending ds ≡ true
+    by [] h = refl
+    by (d ∷ []) h = refl
+    by (d ∷ e ∷ ds) h = ap (λ r. is_lt r && is_ascending (e ∷ ds)) (sorted_head det_cmp d (e ∷ ds) h).0 ∙ by (e ∷ ds) (sorted_tail det_cmp d (e ∷ ds) h)
 
--- sorted determinants, each there once, strictly ascend
-strictly : (ds : List Det) → IsSorted det_cmp ds → IsDistinct same_det ds → IsStrictlySortedBy det_cmp ds
-unfolding IsDistinct IsStrictlySortedBy
-strictly [] sorted distinct = tt
-strictly (d ∷ ds) sorted distinct = (head_below d ds sorted distinct.0, strictly ds (tail_sorted d ds sorted) distinct.1)
+-- none comes before itself, nor before one that comes before it
+pub not_itself : (d : Det) → is_before d d ≡ false
+not_itself d = false_from_ne_true (is_before d d) (λ h. true≢false (sym (same_itself d) ∙ before_apart d d h))
+
+pub not_after : (d e : Det) → is_before d e ≡ true → is_before e d ≡ false
+not_after d e h = false_from_ne_true (is_before e d) (λ k. true≢false (sym (before_trans d e d h k) ∙ not_itself d))
 
 -- the first of an ascending list is below the others
 below_each : (d : Det) (ds : List Det) → is_ascending (d ∷ ds) ≡ true → AllByRecursion (λ y. det_cmp d y ≡ Less) ds
@@ -83,31 +88,13 @@ module _ {X : Type 0} where
   put_first e [] h = refl
   put_first e (f ∷ es) h = ap (λ r. by_order r (e ∷ f ∷ es) ((f.0, e.1) ∷ es) (f ∷ put det_cmp e.0 e.1 es)) h.0
 
-  nothing : entries (empty {X = X} {R = det_cmp}) ≡ []
+  pub nothing : entries (empty {X = X} {R = det_cmp}) ≡ []
   nothing = nil_from_length (entries (empty {X = X} {R = det_cmp})) (sym (len-entries (empty {X = X} {R = det_cmp})) ∙ len-empty det_cmp X)
 
-  -- entries whose determinants strictly ascend are those of the map that they make
-  pub entries_strict : (es : List (Det × X)) → IsStrictlySortedBy det_cmp (keys_of es) → entries (from_entries {R = det_cmp} es) ≡ es
-  unfolding IsStrictlySortedBy
-  entries_strict [] ascend = nothing
-  entries_strict (e ∷ es) ascend =
-      entries-insert dets_total (from_entries es) e.0 e.1
-      ∙ ap (put det_cmp e.0 e.1) (entries_strict es ascend.1)
-      ∙ put_first e es ascend.0
-
-  -- so do entries in order, each determinant once
-  entries_log : (es : List (Det × X)) → IsSorted det_cmp (keys_of es) → IsDistinct same_det (keys_of es) → entries (from_entries {R = det_cmp} es) ≡ es
-  entries_log es sorted distinct = entries_strict es (strictly (keys_of es) sorted distinct)
-
-  pub ascending_log : (es : List (Det × X)) → IsSorted det_cmp (keys_of es) → IsDistinct same_det (keys_of es) → is_ascending (keys_of es) ≡ true
-  ascending_log es sorted distinct = ap (λ xs. is_ascending (keys_of xs)) (sym (entries_log es sorted distinct)) ∙ map_ascends (from_entries es)
-
-  -- and entries whose determinants ascend
+  -- entries whose determinants ascend are those of the map that they make
   pub own_entries : (es : List (Det × X)) → is_ascending (keys_of es) ≡ true → entries (from_entries {R = det_cmp} es) ≡ es
-  own_entries es ascend = entries_strict es (strict (keys_of es) ascend)
-
-  -- the determinant at a place
-  pub get_or_keys : (es : List (Det × X)) (i : ℕ) (e : Det × X) (d : Det) → slice_get es i ≡ Some e → get_or (keys_of es) i d ≡ e.0
-  get_or_keys [] i e d h = absurd (true≢false (sym (ap is_some h)))
-  get_or_keys (f ∷ es) zero e d h = ap (λ o. (unwrap_or o f).0) h
-  get_or_keys (f ∷ es) (suc i) e d h = get_or_keys es i e d h
+  own_entries [] h = nothing
+  own_entries (e ∷ es) h =
+      entries-insert dets_total (from_entries es) e.0 e.1
+      ∙ ap (put det_cmp e.0 e.1) (own_entries es (ascending_tail e.0 (keys_of es) h))
+      ∙ put_first e es (below_each e.0 (keys_of es) h)

@@ -1,7 +1,11 @@
 pub mod Lemmas
 mod EntryLemmas
-mod PartLemmas
 mod PlaceLemmas
-mod RankLemmas
-mod HearLemmas
-mod NoteLemmas
+mod SortLemmas
+mod TableLemmas
+mod IndexLemmas
+mod LeastLemmas
+mod MergeLemmas
+mod CarriedLemmas
+mod StoreLemmas
+mod KeptLemmas

@@ -1,13 +1,20 @@
 -- Entries in any order, and the map that they make.
-use Rattle.std.proofs.Common.{ℕ, zero, suc, ◌≡◌, ◌∙◌, ◌==◌, ◌||◌, Bool, true, false, cond, List, [], ◌∷◌, filter, find, Option, Some, None, is_some, unwrap_or, slice_get, length, true≢false, refl, sym, ap, subst, arith}
+use Rattle.std.proofs.Common.{ℕ, zero, suc, ◌≡◌, ◌∙◌, ◌==◌, Bool, true, false, cond, List, [], ◌∷◌, filter, find, count_by, Option, Some, None, is_some, option_map, unwrap_or, slice_get, length, true≢false, refl, sym, ap, subst, arith}
 use Rattle.std.proofs.lemmas.Bool.Decides.{nat_tests}
-use Rattle.std.proofs.lemmas.List.{length-map}
-use Rattle.std.proofs.lemmas.Map.Entries.{option_filter, lookup-filter-values, lookup-filter-keys, lookup_from_place}
-use Rattle.std.proofs.lemmas.Map.Keys.{IsDistinct-from_sorted}
-use Rattle.std.proofs.lemmas.Map.Made.{is_some-lookup, IsDistinct-keys_filter, length-from_same_keys}
+use Rattle.std.proofs.lemmas.List.Sorted.{IsPermutation-refl, IsPermutation-cons, IsPermutation-swap, IsPermutation-trans, IsPermutation-map, length_permutation, sum_by-IsPermutation}
+use Rattle.std.proofs.lemmas.List.Sums.{length-filter}
+use Rattle.std.proofs.lemmas.Map.Entries.{option_filter, lookup-filter-values}
+use Rattle.std.proofs.lemmas.Map.Keys.{IsDistinct-from_sorted, any_passes_from_place}
+use Rattle.std.proofs.lemmas.Map.Made.{is_some-lookup}
+use Rattle.std.proofs.lemmas.Option.{slice_get-map}
 use Rattle.std.specs.List.{AllByRecursion, IsDistinct, list_any}
+use Rattle.std.specs.List.Sorted.{IsPermutation}
 use Rattle.std.specs.Map.{lookup, keys_of}
 use Rattle.std.specs.FinMap as fin
+use Rattle.std.specs.FinMap.Entries.{put, by_order}
+use Rattle.std.specs.Ordering.{is_eq}
+use Rattle.std.specs.declared.cmp.Ordering.{Ordering}
+use Rattle.std.specs.declared.cmp.Ordering.TheVariants.{Less, Equal, Greater}
 use Rattle.causal_name.specs.declared.Det.{Det}
 use Rattle.causal_name.specs.Names.{det_cmp, same_det, is_before, is_ascending}
 use Rattle.causal_name.proofs.Lemmas.DetOrder.{dets_total, exact_dets, det_ties, same_is, same_itself}
@@ -15,14 +22,17 @@ use Rattle.causal_log.specs.declared.known.Known.{Known}
 use Rattle.causal_log.specs.Knowledge.{nothing_known, joined}
 use Rattle.causal_log.specs.Logs.{LogMap, known_of, learned, learned_all}
 use Rattle.causal_log.specs.Inside.Ranks.{has_rank}
-use Rattle.causal_log.proofs.EntryLemmas.{det_equiv, find_lookup, get_log, same_log, strict}
-use Rattle.causal_log.proofs.Lemmas.Ascents.{ascending_tail, ascending_skip, before_trans, first_before, map_ascends}
+use Rattle.causal_log.proofs.EntryLemmas.{det_equiv, find_lookup, get_log, same_log, strict, nothing, not_itself, not_after}
+use Rattle.causal_log.proofs.IndexLemmas.{stands}
+use Rattle.causal_log.proofs.Lemmas.Ascents.{ascending_tail, ascending_skip, first_before, map_ascends}
 use Rattle.causal_log.proofs.Lemmas.Learning.{get_learned}
-use Rattle.causal_log.proofs.Lemmas.Searches.{both, or_right, before_apart, found_shown}
+use Rattle.causal_log.proofs.Lemmas.Places.{place_shown}
+use Rattle.causal_log.proofs.Lemmas.Searches.{both}
+use Rattle.causal_log.proofs.Lemmas.Slots.{first_fits, none_fits}
 
--- determinants that ascend are each there once
-pub distinct_ascending : (ds : List Det) → is_ascending ds ≡ true → IsDistinct same_det ds
-distinct_ascending ds h = subst (λ r. IsDistinct r ds) (sym (λ i x y. det_ties x y i)) (IsDistinct-from_sorted det_cmp ds (strict ds h))
+none_later : {X : Type 0} (d : Det) (es : List (Det × X)) → AllByRecursion (λ y. same_det d y ≡ false) (keys_of es) → lookup (same_det d) es ≡ None
+none_later d [] h = refl
+none_later d (e ∷ es) h = ap (λ b. cond b (Some e.1) (lookup (same_det d) es)) h.0 ∙ none_later d es h.1
 
 module _ {X : Type 0} where
   -- the entries in the order of the map that they make
@@ -30,7 +40,9 @@ module _ {X : Type 0} where
   in_order es = fin.entries (fin.from_entries {R = det_cmp} es)
 
   order_distinct : (es : List (Det × X)) → IsDistinct same_det (keys_of (in_order es))
-  order_distinct es = distinct_ascending (keys_of (in_order es)) (map_ascends (fin.from_entries {R = det_cmp} es))
+  order_distinct es =
+      let ds = keys_of (in_order es) in
+      subst (λ r. IsDistinct r ds) (sym (λ i x y. det_ties x y i)) (IsDistinct-from_sorted det_cmp ds (strict ds (map_ascends (fin.from_entries {R = det_cmp} es))))
 
   -- each is found as before
   pub found_order : (es : List (Det × X)) (q : Det) → lookup (same_det q) (in_order es) ≡ lookup (same_det q) es
@@ -41,66 +53,49 @@ module _ {X : Type 0} where
   same_members es q =
       sym (is_some-lookup (same_det q) es) ∙ ap is_some (sym (found_order es q)) ∙ is_some-lookup (same_det q) (in_order es)
 
-  keys_length : (es : List (Det × X)) → length (keys_of es) ≡ length es
-  keys_length es = length-map es (λ e. e.0)
+  put_moved : (e : Det × X) (es : List (Det × X)) → fin.find det_cmp e.0 es ≡ None → IsPermutation (e ∷ es) (put det_cmp e.0 e.1 es)
+  put_moved e [] none = IsPermutation-refl (e ∷ [])
+  put_moved e (f ∷ es) none = by (det_cmp e.0 f.0) none (put_moved e es)
+    where
+      by : (r : Ordering) → cond (is_eq r) (Some f.1) (fin.find det_cmp e.0 es) ≡ None → (fin.find det_cmp e.0 es ≡ None → IsPermutation (e ∷ es) (put det_cmp e.0 e.1 es))
+          → IsPermutation (e ∷ f ∷ es) (by_order r (e ∷ f ∷ es) ((f.0, e.1) ∷ es) (f ∷ put det_cmp e.0 e.1 es))
+      by Less none later = IsPermutation-refl (e ∷ f ∷ es)
+      by Equal none later = absurd (true≢false (ap is_some none))
+      by Greater none later =
+          IsPermutation-trans (e ∷ f ∷ es) (f ∷ e ∷ es) (f ∷ put det_cmp e.0 e.1 es)
+          (IsPermutation-swap (e ∷ f ∷ es) (f ∷ e ∷ es) 0 1 (omega arith) (omega arith) refl)
+          (IsPermutation-cons f (e ∷ es) (put det_cmp e.0 e.1 es) (later none))
+
+  -- where each is there once, they only changed places
+  moved_order : (es : List (Det × X)) → IsDistinct same_det (keys_of es) → IsPermutation es (in_order es)
+  unfolding IsDistinct
+  moved_order [] distinct = subst (IsPermutation []) (sym nothing) (IsPermutation-refl [])
+  moved_order (e ∷ es) distinct =
+      IsPermutation-trans (e ∷ es) (e ∷ in_order es) (in_order (e ∷ es)) (IsPermutation-cons e es (in_order es) (moved_order es distinct.1))
+      (subst (IsPermutation (e ∷ in_order es)) (sym (fin.entries-insert dets_total (fin.from_entries {R = det_cmp} es) e.0 e.1))
+      (put_moved e (in_order es) (find_lookup (in_order es) e.0 ∙ found_order es e.0 ∙ none_later e.0 es distinct.0)))
 
   module _ (es : List (Det × X)) (distinct : IsDistinct same_det (keys_of es)) where
     pub same_length : length es ≡ length (in_order es)
-    same_length =
-        sym (keys_length es)
-        ∙ length-from_same_keys det_equiv (keys_of es) (keys_of (in_order es)) distinct (order_distinct es) (same_members es)
-        ∙ keys_length (in_order es)
+    same_length = sym (length_permutation es (in_order es) (moved_order es distinct))
 
-    -- a test of what stands at the determinants leaves entries of the same map
-    module _ (P : X → Bool) where
-      kept_found : (q : Det) → lookup (same_det q) (filter (λ e. P e.1) es) ≡ lookup (same_det q) (filter (λ e. P e.1) (in_order es))
-      kept_found q =
-          lookup-filter-values det_equiv P q es distinct
-          ∙ ap (λ o. option_filter P o) (sym (found_order es q))
-          ∙ sym (lookup-filter-values det_equiv P q (in_order es) (order_distinct es))
+    -- as many pass a test of what stands at the determinants, and they make the same map
+    pub same_count : (P : X → Bool) → length (filter (λ e. P e.1) es) ≡ length (filter (λ e. P e.1) (in_order es))
+    same_count P =
+        length-filter (λ e. P e.1) es
+        ∙ sym (sum_by-IsPermutation (λ e. cond (P e.1) 1 0) es (in_order es) (moved_order es distinct))
+        ∙ sym (length-filter (λ e. P e.1) (in_order es))
 
-      pub same_kept : fin.from_entries {R = det_cmp} (filter (λ e. P e.1) es) ≡ fin.from_entries (filter (λ e. P e.1) (in_order es))
-      same_kept = same_log (filter (λ e. P e.1) es) (filter (λ e. P e.1) (in_order es)) kept_found
+    pub same_kept : (P : X → Bool) → fin.from_entries {R = det_cmp} (filter (λ e. P e.1) es) ≡ fin.from_entries (filter (λ e. P e.1) (in_order es))
+    same_kept P = same_log (filter (λ e. P e.1) es) (filter (λ e. P e.1) (in_order es)) (λ q.
+        lookup-filter-values det_equiv P q es distinct
+        ∙ ap (λ o. option_filter P o) (sym (found_order es q))
+        ∙ sym (lookup-filter-values det_equiv P q (in_order es) (order_distinct es)))
 
-      -- and as many
-      pub same_count : length (filter (λ e. P e.1) es) ≡ length (filter (λ e. P e.1) (in_order es))
-      same_count =
-          sym (keys_length (filter (λ e. P e.1) es))
-          ∙ length-from_same_keys det_equiv (keys_of (filter (λ e. P e.1) es)) (keys_of (filter (λ e. P e.1) (in_order es)))
-          (IsDistinct-keys_filter same_det (λ e. P e.1) es distinct) (IsDistinct-keys_filter same_det (λ e. P e.1) (in_order es) (order_distinct es))
-          (λ q.
-          sym (is_some-lookup (same_det q) (filter (λ e. P e.1) es)) ∙ ap is_some (kept_found q) ∙ is_some-lookup (same_det q) (filter (λ e. P e.1) (in_order es)))
-          ∙ keys_length (filter (λ e. P e.1) (in_order es))
-
-    -- so does a test of the determinants
-    module _ (P : Det → Bool) where
-      some_found : (q : Det) → lookup (same_det q) (filter (λ e. P e.0) es) ≡ lookup (same_det q) (filter (λ e. P e.0) (in_order es))
-      some_found q =
-          lookup-filter-keys (same_det q) P (P q) (λ k same. ap P (sym (same_is q k same))) es
-          ∙ ap (λ o. cond (P q) o None) (sym (found_order es q))
-          ∙ sym (lookup-filter-keys (same_det q) P (P q) (λ k same. ap P (sym (same_is q k same))) (in_order es))
-
-      count_keys : (fs : List (Det × X)) → length (filter P (keys_of fs)) ≡ length (filter (λ e. P e.0) fs)
-      count_keys [] = refl
-      count_keys (f ∷ fs) = elim (P f.0) as (λ b. length (cond b (f.0 ∷ filter P (keys_of fs)) (filter P (keys_of fs))) ≡ length (cond b (f ∷ filter (λ e. P e.0) fs) (filter (λ e. P e.0) fs))) [
-        | true ↦ ap suc (count_keys fs)
-        | false ↦ count_keys fs
-      ]
-
-      pub same_counted : length (filter P (keys_of es)) ≡ length (filter P (keys_of (in_order es)))
-      same_counted =
-          count_keys es
-          ∙ sym (keys_length (filter (λ e. P e.0) es))
-          ∙ length-from_same_keys det_equiv (keys_of (filter (λ e. P e.0) es)) (keys_of (filter (λ e. P e.0) (in_order es)))
-          (IsDistinct-keys_filter same_det (λ e. P e.0) es distinct) (IsDistinct-keys_filter same_det (λ e. P e.0) (in_order es) (order_distinct es))
-          (λ q.
-          sym (is_some-lookup (same_det q) (filter (λ e. P e.0) es)) ∙ ap is_some (some_found q) ∙ is_some-lookup (same_det q) (filter (λ e. P e.0) (in_order es)))
-          ∙ keys_length (filter (λ e. P e.0) (in_order es))
-          ∙ sym (count_keys (in_order es))
-
-none_later : {X : Type 0} (d : Det) (es : List (Det × X)) → AllByRecursion (λ y. same_det d y ≡ false) (keys_of es) → lookup (same_det d) es ≡ None
-none_later d [] h = refl
-none_later d (e ∷ es) h = ap (λ b. cond b (Some e.1) (lookup (same_det d) es)) h.0 ∙ none_later d es h.1
+    -- and as many a test of the determinants
+    pub same_counted : (P : Det → Bool) → count_by P (keys_of es) ≡ count_by P (keys_of (in_order es))
+    same_counted P =
+        sym (sum_by-IsPermutation (λ d. cond (P d) 1 0) (keys_of es) (keys_of (in_order es)) (IsPermutation-map (λ e. e.0) es (in_order es) (moved_order es distinct)))
 
 -- what is known of a determinant once this is heard of it
 abbrev heard_at : Option Known → Option Known → Option Known
@@ -126,31 +121,12 @@ same_learned es log distinct =
     fin.same_map dets_total exact_dets _ _ (λ q.
     get_all es log q distinct ∙ ap (λ o. heard_at o (fin.get log q)) (sym (found_order es q)) ∙ sym (get_all (in_order es) log q (order_distinct es)))
 
-not_itself : (d : Det) → is_before d d ≡ false
-not_itself d = by (is_before d d) refl
-  where
-    by : (b : Bool) → is_before d d ≡ b → b ≡ false
-    by true h = absurd (true≢false (sym (same_itself d) ∙ before_apart d d h))
-    by false h = refl
-
-pub not_after : (d e : Det) → is_before d e ≡ true → is_before e d ≡ false
-not_after d e h = by (is_before e d) refl
-  where
-    by : (b : Bool) → is_before e d ≡ b → b ≡ false
-    by true k = absurd (true≢false (sym (before_trans d e d h k) ∙ not_itself d))
-    by false k = refl
-
 none_before : (d : Det) (ds : List Det) → is_ascending (d ∷ ds) ≡ true → length (filter (λ x. is_before x d) ds) ≡ 0
 none_before d [] h = refl
 none_before d (e ∷ ds) h =
     let two = both (is_before d e) (is_ascending (e ∷ ds)) h in
     ap (λ b. length (cond b (e ∷ filter (λ x. is_before x d) ds) (filter (λ x. is_before x d) ds))) (not_after d e two.0)
     ∙ none_before d ds (ascending_skip d e ds h)
-
-among_at : (ds : List Det) (i : ℕ) (d : Det) → slice_get ds i ≡ Some d → list_any (same_det d) ds ≡ true
-among_at [] i d h = absurd (true≢false (sym (ap is_some h)))
-among_at (e ∷ ds) zero d h = ap (λ x. same_det d x || list_any (same_det d) ds) (ap (λ o. unwrap_or o e) h) ∙ ap (λ b. b || list_any (same_det d) ds) (same_itself d)
-among_at (e ∷ ds) (suc i) d h = ap (λ b. same_det d e || b) (among_at ds i d h) ∙ sym (or_right (same_det d e))
 
 -- of an ascending list, as many come before one as its place says
 rank_at : (ds : List Det) (i : ℕ) (d : Det) → is_ascending ds ≡ true → slice_get ds i ≡ Some d → length (filter (λ x. is_before x d) ds) ≡ i
@@ -161,63 +137,50 @@ rank_at (e ∷ ds) zero d h at =
     ∙ ap (λ b. length (cond b (e ∷ filter (λ x. is_before x e) ds) (filter (λ x. is_before x e) ds))) (not_itself e)
     ∙ none_before e ds h
 rank_at (e ∷ ds) (suc i) d h at =
-    ap (λ b. length (cond b (e ∷ filter (λ x. is_before x d) ds) (filter (λ x. is_before x d) ds))) (first_before e ds d h (among_at ds i d at))
+    ap (λ b. length (cond b (e ∷ filter (λ x. is_before x d) ds) (filter (λ x. is_before x d) ds))) (first_before e ds d h (any_passes_from_place (same_det d) ds i d at (same_itself d)))
     ∙ ap suc (rank_at ds i d (ascending_tail e ds h) at)
 
-module _ {X : Type 0} where
-  find_at : (p : X → Bool) (xs : List X) (x : X) → find p xs ≡ Some x → (p x ≡ true) × ((i : ℕ) × (slice_get xs i ≡ Some x))
-  find_at p [] x h = absurd (true≢false (sym (ap is_some h)))
-  find_at p (y ∷ xs) x h = by (p y) refl h (λ at. find_at p xs x at)
+number_is : (a b : ℕ) → (a == b) ≡ true → a ≡ b
+number_is a b h = grind (arith, nat_tests)
+
+same_number : (a b : ℕ) → a ≡ b → (a == b) ≡ true
+same_number a b h = grind (arith, nat_tests)
+
+-- a determinant, where there is one, with what is known of it
+abbrev pub with_known : LogMap → Option Det → Option (Det × Known)
+with_known log None = None
+with_known log (Some d) = option_map (λ known. (d, known)) (fin.get log d)
+
+module _ (es : List (Det × Known)) (distinct : IsDistinct same_det (keys_of es)) where
+  abbrev keys : List Det
+  keys = keys_of (in_order es)
+
+  rank_order : (i : ℕ) (d : Det) → slice_get keys i ≡ Some d → length (filter (λ x. is_before x d) (keys_of es)) ≡ i
+  rank_order i d at =
+      length-filter (λ x. is_before x d) (keys_of es)
+      ∙ same_counted es distinct (λ x. is_before x d)
+      ∙ sym (length-filter (λ x. is_before x d) keys)
+      ∙ rank_at keys i d (map_ascends (fin.from_entries {R = det_cmp} es)) at
+
+  -- the determinant that so many come before is the one at that place of the map
+  ranked_key : (n : ℕ) → find (λ d. has_rank (keys_of es) n d) (keys_of es) ≡ slice_get keys n
+  ranked_key n = by (find (λ d. has_rank (keys_of es) n d) (keys_of es)) refl (slice_get keys n) refl
     where
-      by : (b : Bool) → p y ≡ b → cond b (Some y) (find p xs) ≡ Some x → (find p xs ≡ Some x → (p x ≡ true) × ((i : ℕ) × (slice_get xs i ≡ Some x))) → (p x ≡ true) × ((i : ℕ) × (slice_get (y ∷ xs) i ≡ Some x))
-      by true is at later = (ap p (sym (ap (λ o. unwrap_or o y) at)) ∙ is, (0, at))
-      by false is at later = let rest = later at in (rest.0, (suc rest.1.0, rest.1.1))
-
-  find_none : (p : X → Bool) (xs : List X) (i : ℕ) (x : X) → find p xs ≡ None → slice_get xs i ≡ Some x → p x ≡ false
-  find_none p [] i x h at = absurd (true≢false (sym (ap is_some at)))
-  find_none p (y ∷ xs) i x h at = by i (p y) refl h at (λ j none later. find_none p xs j x none later)
-    where
-      by : (i : ℕ) (b : Bool) → p y ≡ b → cond b (Some y) (find p xs) ≡ None → slice_get (y ∷ xs) i ≡ Some x → ((j : ℕ) → find p xs ≡ None → slice_get xs j ≡ Some x → p x ≡ false) → p x ≡ false
-      by i true is none at later = absurd (true≢false (ap is_some none))
-      by zero false is none at later = ap p (sym (ap (λ o. unwrap_or o y) at)) ∙ is
-      by (suc i) false is none at later = later i none at
-
-keys_at : {X : Type 0} (es : List (Det × X)) (i : ℕ) (e : Det × X) → slice_get es i ≡ Some e → slice_get (keys_of es) i ≡ Some e.0
-keys_at [] i e h = absurd (true≢false (sym (ap is_some h)))
-keys_at (f ∷ es) zero e h = ap (λ o. Some (unwrap_or o f).0) h
-keys_at (f ∷ es) (suc i) e h = keys_at es i e h
-
-module _ {X : Type 0} (es : List (Det × X)) (distinct : IsDistinct same_det (keys_of es)) where
-  rank_order : (i : ℕ) (e : Det × X) → slice_get (in_order es) i ≡ Some e → length (filter (λ d. is_before d e.0) (keys_of es)) ≡ i
-  rank_order i e at =
-      same_counted es distinct (λ d. is_before d e.0)
-      ∙ rank_at (keys_of (in_order es)) i e.0 (map_ascends (fin.from_entries {R = det_cmp} es)) (keys_at (in_order es) i e at)
-
-  same_number : (a b : ℕ) → a ≡ b → (a == b) ≡ true
-  same_number a b h = grind (arith, nat_tests)
-
-  number_is : (a b : ℕ) → (a == b) ≡ true → a ≡ b
-  number_is a b h = grind (arith, nat_tests)
-
-  to_order : (i : ℕ) (e : Det × X) → slice_get es i ≡ Some e → (j : ℕ) × (slice_get (in_order es) j ≡ Some e)
-  to_order i e at =
-      found_shown (in_order es) e.0 e.1 (find_lookup (in_order es) e.0 ∙ found_order es e.0 ∙ lookup_from_place det_equiv es i e.0 e.1 distinct at)
-
-  from_order : (i : ℕ) (e : Det × X) → slice_get (in_order es) i ≡ Some e → (j : ℕ) × (slice_get es j ≡ Some e)
-  from_order i e at =
-      found_shown es e.0 e.1 (find_lookup es e.0 ∙ sym (found_order es e.0) ∙ lookup_from_place det_equiv (in_order es) i e.0 e.1 (order_distinct es) at)
-
-  -- the entry that so many come before is the one at that place of the map
-  pub ranked_order : (n : ℕ) → find (λ e. has_rank (keys_of es) n e.0) es ≡ slice_get (in_order es) n
-  ranked_order n = by (find (λ e. has_rank (keys_of es) n e.0) es) refl (slice_get (in_order es) n) refl
-    where
-      by : (o : Option (Det × X)) → find (λ e. has_rank (keys_of es) n e.0) es ≡ o → (r : Option (Det × X)) → slice_get (in_order es) n ≡ r → o ≡ r
+      by : (o : Option Det) → find (λ d. has_rank (keys_of es) n d) (keys_of es) ≡ o → (r : Option Det) → slice_get keys n ≡ r → o ≡ r
       by None none None at = refl
-      by None none (Some e) at =
-          let there = from_order n e at in
-          absurd (true≢false (sym (same_number (length (filter (λ d. is_before d e.0) (keys_of es))) n (rank_order n e at)) ∙ find_none (λ e. has_rank (keys_of es) n e.0) es there.0 e none there.1))
-      by (Some e) found r at =
-          let two = find_at (λ e. has_rank (keys_of es) n e.0) es e found in
-          let there = to_order two.1.0 e two.1.1 in
-          let place = sym (rank_order there.0 e there.1) ∙ number_is (length (filter (λ d. is_before d e.0) (keys_of es))) n two.0 in
-          sym there.1 ∙ ap (slice_get (in_order es)) place ∙ at
+      by None none (Some d) at =
+          let there = same_members es d ∙ any_passes_from_place (same_det d) keys n d at (same_itself d) in
+          absurd (true≢false (sym (same_number (length (filter (λ x. is_before x d) (keys_of es))) n (rank_order n d at)) ∙ none_fits (λ x. has_rank (keys_of es) n x) (keys_of es) d none there))
+      by (Some d) found r at =
+          let two = first_fits (λ x. has_rank (keys_of es) n x) (keys_of es) d found in
+          let there = stands d keys (sym (same_members es d) ∙ two.1) in
+          let place = sym (rank_order there.0 d there.1) ∙ number_is (length (filter (λ x. is_before x d) (keys_of es))) n two.0 in
+          sym there.1 ∙ ap (slice_get keys) place ∙ at
+
+  -- with what is known of it, it is the entry there
+  pub ranked_entry : (n : ℕ) → with_known (fin.from_entries es) (find (λ d. has_rank (keys_of es) n d) (keys_of es)) ≡ slice_get (in_order es) n
+  ranked_entry n = ap (with_known (fin.from_entries es)) (ranked_key n ∙ slice_get-map (λ e. e.0) (in_order es) n) ∙ by (slice_get (in_order es) n) refl
+    where
+      by : (o : Option (Det × Known)) → slice_get (in_order es) n ≡ o → with_known (fin.from_entries es) (option_map (λ e. e.0) o) ≡ o
+      by None at = refl
+      by (Some e) at = ap (option_map (λ known. (e.0, known))) (place_shown (fin.from_entries es) n e.0 e.1 at)

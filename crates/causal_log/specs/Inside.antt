@@ -1,5 +1,7 @@
 -- What only models and private functions cite.
+pub mod Carried
+pub mod Indexes
 pub mod Kept
-pub mod Noted
-pub mod Parts
+pub mod Merges
 pub mod Ranks
+pub mod Tables

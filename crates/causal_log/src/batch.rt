@@ -2,7 +2,9 @@
 ghost use Rattle.std.specs.Prelude.{◌≡◌, true, IfOk};
 ghost use Rattle.causal_name.specs.Names.{is_ascending};
 ghost use Rattle.causal_log.specs.Logs.{dets_of};
+ghost use Rattle.causal_log.specs.Inside.Carried.{known_of_item};
 
+use crate::known::Known;
 use causal_holders::Holders;
 use causal_name::{Det, NoMemory};
 use std::marker::Model;
@@ -12,6 +14,18 @@ use std::marker::Model;
 pub struct Item {
     pub det: Det,
     pub holders: Holders,
+}
+
+impl Item {
+    /// What its sender knew of the determinant.
+    pub(crate) fn known(&self) -> Known
+        ensures { result ≡ known_of_item self.now }
+    {
+        Known {
+            holders: self.holders,
+            stable: false,
+        }
+    }
 }
 
 /// The piggyback of a message: items whose determinants strictly ascend. `Log::choose` and `Log::choose_grown` make it.

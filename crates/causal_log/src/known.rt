@@ -1,6 +1,6 @@
 //! What a process knows of a determinant.
 ghost use Rattle.std.specs.Prelude.{◌≡◌};
-ghost use Rattle.causal_log.specs.Knowledge.{nothing_known, held_by, stable_and_held_by, joined, as_stable, told, is_carried};
+ghost use Rattle.causal_log.specs.Knowledge.{nothing_known, held_by, joined, as_stable, told, is_carried};
 
 use crate::batch::Item;
 use causal_holders::Holders;
@@ -28,24 +28,9 @@ impl Known {
     pub(crate) fn held(process: Pid) -> Known
         ensures { result ≡ held_by process }
     {
-        let mut holders = Holders::none();
-        holders.insert(process.0);
-        Known {
-            holders,
-            stable: false,
-        }
-    }
-
-    /// That a process holds the determinant, and that it is stable.
-    pub(crate) fn stable_and_held(process: Pid) -> Known
-        ensures { result ≡ stable_and_held_by process }
-    {
-        let mut holders = Holders::none();
-        holders.insert(process.0);
-        Known {
-            holders,
-            stable: true,
-        }
+        let mut known = Known::nothing();
+        known.holders.insert(process.0);
+        known
     }
 
     /// Both together.
@@ -72,14 +57,7 @@ impl Known {
     pub(crate) fn is_carried(&self, f: u16) -> bool
         ensures { result ≡ is_carried f self.now }
     {
-        self.is_within(u32::from(f))
-    }
-
-    /// The same for a number of 32 bits.
-    pub(crate) fn is_within(&self, failures: u32) -> bool
-        ensures { result ≡ is_carried failures self.now }
-    {
-        !self.stable && self.holders.len() <= failures
+        !self.stable && self.holders.len() <= u32::from(f)
     }
 }
 
@@ -87,14 +65,8 @@ impl Known {
 pub(crate) fn told(from: Pid, me: Pid, item: &Item) -> (Det, Known)
     ensures { result ≡ told from me item.now }
 {
-    let mut holders = item.holders;
-    holders.insert(from.0);
-    holders.insert(me.0);
-    (
-        item.det,
-        Known {
-            holders,
-            stable: false,
-        },
-    )
+    let mut heard = item.known();
+    heard.holders.insert(from.0);
+    heard.holders.insert(me.0);
+    (item.det, heard)
 }

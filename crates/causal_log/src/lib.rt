@@ -10,7 +10,7 @@
 //!
 //! 1. `Log::choose_grown` gives what the messages of the step will carry, and leaves the log as it is.
 //! 2. `Log::reserve` makes room for the determinants of the message's batch and for the delivery's own.
-//! 3. Once the process has stepped, `Log::grow` takes both in, in that room.
+//! 3. Once the process has stepped, `Log::grow` takes both in, in that room, and `Log::carry` keeps what messages carry then.
 //!
 //! # Writing a store
 //!
@@ -27,24 +27,25 @@
 //! Not part of any proof: that the set outlives a crash of the machine, and that `PutFault::NoMemory` comes only where memory
 //! was refused.
 //!
-//! A store that keeps an ascending list, such as a `BTreeSet`, takes `set_of` of the list as its contents; the lemmas of
+//! A store that keeps a list of its members, in whatever order, takes `set_of` of the list as its contents; the lemmas of
 //! `proofs/Lemmas/Storing.antt` prove its answers. One that wraps another store passes on that one's contents, and adds its own
 //! faults. `MemStable` is an example of the first, `FailingStore` of the second.
 #![tactic(auto)]
 
 mod batch;
+mod carried;
 mod entries;
 mod failing;
-mod hearing;
+mod index;
 mod known;
 pub mod laws;
 mod learning;
 mod log;
 mod memory;
-mod notes;
+mod merging;
 mod ranks;
-mod slots;
 mod stable;
+mod table;
 
 pub use batch::{Batch, Item};
 pub use failing::FailingStore;

@@ -1,26 +1,24 @@
 //! The volatile log of a process.
-ghost use Rattle.std.specs.Prelude.{◌≡◌, ◌↔◌, ◌<◌, ◌≤◌, ◌+◌, ◌^◌, IsTrue, IsSome, IsOk, IfOk, OnOk, OnErr, length, slice_get};
-ghost use Rattle.std.specs.List.{IsDistinct};
+ghost use Rattle.std.specs.Prelude.{◌≡◌, ◌↔◌, ◌<◌, ◌≤◌, ◌+◌, ◌^◌, IsTrue, IsSome, IsOk, true, IfOk, OnOk, OnErr, length, slice_get};
 ghost use Rattle.std.specs.FinMap as fin;
-ghost use Rattle.indexmap.specs.IndexMap.{keys, spare};
-ghost use Rattle.causal_name.specs.Names.{same_det};
+ghost use Rattle.std.specs.Arc.{arc_value};
+ghost use Rattle.causal_name.specs.Names.{is_ascending};
 ghost use Rattle.causal_log.specs.Knowledge.{held_by, stable_and_held_by};
-ghost use Rattle.causal_log.specs.Logs.{log_of, learned, absorbed, grown, united, marked, stable_in, unstable_in, unmarked, chosen, named, HaveSame};
-ghost use Rattle.causal_log.specs.Slots.{first_of_slot};
-ghost use Rattle.causal_log.specs.Inside.Parts.{CarriesAs};
-ghost use Rattle.causal_log.specs.declared.known.Known.{Known};
+ghost use Rattle.causal_log.specs.Logs.{log_of, learned, dets_of, absorbed, grown, united, marked, stable_in, unstable_in, unmarked, chosen, named, HaveSame};
+ghost use Rattle.causal_log.specs.Inside.Merges.{source_of, taken};
 
 use crate::batch::{Batch, Item};
+use crate::carried::{Carried, mark};
 use crate::entries;
-use crate::hearing::{hear_items, hear_own};
 use crate::known::Known;
 use crate::learning::{learn, learn_entries, learn_items};
-use crate::notes::Notes;
-use crate::ranks::least_of_slot;
+use crate::merging::{Delivery, merged_delivery};
+use crate::ranks::ranked;
+use crate::table::Table;
 use causal_name::{Det, MsgName, NoMemory, Pid, Slot};
-use indexmap::IndexMap;
 use std::alloc::Global;
 use std::marker::Model;
+use std::sync::Arc;
 
 /// The volatile log of a process: what it knows of each determinant that it logs (`Log(e)` of Elnozahy, Alvisi, Wang and
 /// Johnson 2002, from one process's side).
@@ -30,47 +28,37 @@ use std::marker::Model;
 #[derive(Debug, Drop)]
 pub struct Log {
     /// In the order in which they came, unless they were sorted since.
-    entries: IndexMap<Det, Known>,
+    entries: Table,
     /// Whether they ascend.
     sorted: bool,
-    room: u32,
-    notes: Notes,
+    /// What messages carry, where that is known without reading the entries.
+    carried: Option<Carried>,
 }
 
 impl Model for Log {
-    ghost use Rattle.std.specs.FinMap as fin;
-    ghost use Rattle.indexmap.specs.IndexMap.{keys, spare};
-    ghost use Rattle.causal_log.specs.Logs.{LogState, coded_log};
+    ghost use Rattle.std.specs.Map.{keys_of};
+    ghost use Rattle.causal_log.specs.Logs.{LogState, coded_log, log_of};
     ghost use Rattle.causal_log.specs.Inside.Kept.{IsKept};
 
     ghost Value = { LogState };
 
     ghost coded = { coded_log };
 
-    ghost view = { λ log. record { map = fin.from_entries log.entries.entries; spare = log.room } };
+    ghost view = { λ log. record { map = log_of log.entries.entries; spare = log.entries.spare } };
 
-    ghost invariant = { λ log. IsKept (keys log.entries) log.sorted log.room (spare log.entries) log.notes (fin.from_entries log.entries.entries) };
+    ghost invariant = { λ log.
+        IsKept (keys_of log.entries.entries) log.sorted log.carried (log_of log.entries.entries) };
 }
 
 impl Log {
-    /// A log of nothing, for messages of which nothing is said.
+    /// A log of nothing.
     pub fn new(alloc: Global) -> Log
         ensures { result.map ≡ fin.empty }
     {
-        Log::carrying(alloc, u16::MAX)
-    }
-
-    /// A log of nothing, of a process where at most `f` may fail. It knows at all times which of its determinants messages
-    /// carry for `f`: to choose these, or for fewer failures, takes no time for the others. For more failures, `choose`
-    /// reads the whole log.
-    pub fn carrying(alloc: Global, f: u16) -> Log
-        ensures { result.map ≡ fin.empty }
-    {
         Log {
-            entries: IndexMap::new(alloc),
+            entries: Table::new(alloc),
             sorted: true,
-            room: 0,
-            notes: Notes::carrying(alloc, f),
+            carried: None,
         }
     }
 
@@ -78,14 +66,14 @@ impl Log {
     pub fn known(&self, det: Det) -> Option<Known>
         ensures { result ≡ fin.get self.now.map det }
     {
-        self.entries.get(&det).copied()
+        self.entries.find(det).map(|(_, known)| known)
     }
 
     /// The number of determinants.
     pub fn len(&self) -> u32
         ensures { result ≡ fin.len self.now.map }
     {
-        entries::count(&self.entries)
+        self.entries.entries().len() as u32
     }
 
     /// The entry at a place, in ascending order of determinants; none from `len` on. Takes no memory. In a log that is not
@@ -94,17 +82,18 @@ impl Log {
         ensures { result ≡ slice_get (fin.entries self.now.map) i }
     {
         if self.sorted {
-            return entries::entry_at(&self.entries, i);
+            return entries::entry_at(self.entries.entries(), i);
         }
-        entries::ranked(&self.entries, i)
+        let det = ranked(self.entries.dets(), i)?;
+        self.known(det).map(|known| (det, known))
     }
 
     /// The determinants, ascending. Its only error is want of memory.
     pub fn dets(&self, alloc: Global) -> Result<Vec<Det>, NoMemory>
         ensures { IfOk result (λ dets. dets.items ≡ fin.keys self.now.map) }
     {
-        let sorted = entries::in_order(&self.entries)?;
-        entries::dets(alloc, &sorted)
+        let sorted = entries::in_order(alloc, self.entries.entries())?;
+        entries::dets(alloc, sorted.as_slice())
     }
 
     /// The determinants, each once, in no order that is promised. It takes neither memory nor time.
@@ -112,20 +101,18 @@ impl Log {
         ensures counted { HaveSame result.now (fin.keys self.now.map) }
         ensures few { length result.now < 2 ^ 32 }
     {
-        self.entries.keys().as_slice()
+        self.entries.dets()
     }
 
     /// A copy. Its only error is want of memory.
     pub fn try_clone(&self) -> Result<Log, NoMemory>
         ensures { IfOk result (λ copy. copy.map ≡ self.now.map) }
     {
-        let entries = entries::copied(&self.entries)?;
-        let notes = self.notes.try_clone()?;
+        let entries = self.entries.try_clone()?;
         Ok(Log {
             entries,
             sorted: self.sorted,
-            room: 0,
-            notes,
+            carried: None,
         })
     }
 
@@ -143,19 +130,24 @@ impl Log {
     fn carried(&self, alloc: Global, f: u16) -> Result<Vec<Item>, NoMemory>
         ensures { IfOk result (λ items. items.items ≡ chosen f self.now.map) }
     {
-        let part = self.part_carried(f)?;
-        entries::chosen(alloc, part, f)
+        match &self.carried {
+            Some(carried) if carried.f == f => carried.still(alloc, &self.entries),
+            _ => entries::chosen(alloc, self.entries.entries(), f),
+        }
     }
 
-    /// Entries of which messages carry what they carry of the log: those that are noted, where the notes say which these are,
-    /// and else all.
-    fn part_carried(&self, f: u16) -> Result<IndexMap<Det, Known>, NoMemory>
-        ensures { IfOk result (λ part. CarriesAs f self.now.map part.entries) }
+    /// Keeps what messages carry, which is what `choose` gives, so that the next `choose` or `choose_grown` for as many
+    /// failures need not read the log. A runtime shares with it the batch of the messages that it sends.
+    pub fn carry(&mut self, f: u16, batch: Arc<Batch>)
+        requires { arc_value batch ≡ chosen f self.old.map }
+        ensures map { self.new.map ≡ self.old.map }
+        ensures spare { self.new.spare ≡ self.old.spare }
     {
-        if self.notes.serves(f) {
-            return entries::copied(self.notes.few());
-        }
-        entries::copied(&self.entries)
+        self.carried = Some(Carried {
+            f,
+            batch,
+            is_marked: false,
+        });
     }
 
     /// What the messages of a step would carry once `grow` has taken in a delivery. The log is not changed. Its only error
@@ -169,44 +161,66 @@ impl Log {
         me: Pid,
         f: u16,
     ) -> Result<Batch, NoMemory>
-        ensures { IfOk result (λ batch. batch ≡ chosen f (grown carried.now own from me self.now.map)) }
+        ensures { IfOk result
+            (λ batch. batch ≡ chosen f (grown carried.now own from me self.now.map)) }
     {
-        let items = carried.as_slice();
-        let mut part = self.part_carried(f)?;
-        hear_items(&mut part, &self.entries, items, from, me, f)?;
-        hear_own(&mut part, &self.entries, items, own, me, f)?;
-        let items = entries::chosen(alloc, part, f)?;
-        Ok(Batch::new(items))
+        let delivery = Delivery {
+            entries: &self.entries,
+            items: carried.as_slice(),
+            own,
+            from,
+            me,
+            f,
+        };
+        let merged = self.merged(alloc, &delivery)?;
+        Ok(Batch::new(merged))
+    }
+
+    /// The items of what they would carry.
+    fn merged(&self, alloc: Global, delivery: &Delivery<'_>) -> Result<Vec<Item>, NoMemory>
+        requires source { source_of delivery.now ≡ self.now.map }
+        requires ascending { is_ascending (dets_of delivery.now.items.now) ≡ true }
+        ensures { IfOk result (λ found. found.items ≡ chosen delivery.now.f (taken delivery.now)) }
+    {
+        match &self.carried {
+            Some(carried) if carried.f == delivery.f && !carried.is_marked => {
+                merged_delivery(alloc, carried.batch.as_slice(), delivery)
+            }
+            _ => {
+                let kept = self.carried(alloc, delivery.f)?;
+                merged_delivery(alloc, kept.as_slice(), delivery)
+            }
+        }
     }
 
     /// The determinants that are known to be stable, ascending. Its only error is want of memory.
     pub fn stable_dets(&self, alloc: Global) -> Result<Vec<Det>, NoMemory>
         ensures { IfOk result (λ dets. dets.items ≡ stable_in self.now.map) }
     {
-        let sorted = entries::in_order(&self.entries)?;
-        entries::stable_dets(alloc, &sorted)
+        let sorted = entries::in_order(alloc, self.entries.entries())?;
+        entries::stable_dets(alloc, sorted.as_slice())
     }
 
     /// The determinants that are not known to be stable, ascending. Its only error is want of memory.
     pub fn unstable_dets(&self, alloc: Global) -> Result<Vec<Det>, NoMemory>
         ensures { IfOk result (λ dets. dets.items ≡ unstable_in self.now.map) }
     {
-        let sorted = entries::in_order(&self.entries)?;
-        entries::unstable_dets(alloc, &sorted)
+        let sorted = entries::in_order(alloc, self.entries.entries())?;
+        entries::unstable_dets(alloc, sorted.as_slice())
     }
 
     /// How many determinants are known to be stable. Takes no memory.
     pub fn stable_len(&self) -> u32
         ensures { result ≡ length (stable_in self.now.map) }
     {
-        entries::stable_len(&self.entries)
+        self.len() - self.unstable_len()
     }
 
     /// How many determinants are not known to be stable. Takes no memory.
     pub fn unstable_len(&self) -> u32
         ensures { result ≡ length (unstable_in self.now.map) }
     {
-        entries::unstable_len(&self.entries)
+        entries::unstable_len(self.entries.entries())
     }
 
     /// The message that the log names for a slot, the delivery of number `rsn` to `dest`: that of the least determinant
@@ -214,17 +228,8 @@ impl Log {
     pub fn for_slot(&self, dest: Pid, rsn: u32) -> Option<MsgName>
         ensures { result ≡ named dest rsn self.now.map }
     {
-        self.least_of(dest, rsn).map(|det| det.message())
-    }
-
-    /// The least determinant that is logged for a slot.
-    fn least_of(&self, dest: Pid, rsn: u32) -> Option<Det>
-        ensures { result ≡ first_of_slot dest rsn (fin.keys self.now.map) }
-    {
-        if self.notes.are_made() {
-            return self.notes.least_of(Slot { dest, rsn });
-        }
-        least_of_slot(self.entries.keys().as_slice(), dest, rsn)
+        let least = self.entries.least_of(Slot { dest, rsn });
+        least.map(|det| det.message())
     }
 
     /// Makes the next `more` insertions sure of their memory. Where it is refused nothing changes, and its only error is
@@ -235,26 +240,7 @@ impl Log {
         ensures spare { self.old.spare ≤ self.new.spare }
         ensures refused { OnErr result ((self.new ≡ self.old) × (self.old.spare < more)) }
     {
-        self.make_room(more as usize)
-    }
-
-    /// The same for a number that may not fit 32 bits, which is refused as want of memory.
-    fn make_room(&mut self, more: usize) -> Result<(), NoMemory>
-        ensures map { self.new.map ≡ self.old.map }
-        ensures ok { OnOk result (more ≤ self.new.spare) }
-        ensures spare { self.old.spare ≤ self.new.spare }
-        ensures refused { OnErr result ((self.new ≡ self.old) × (self.old.spare < more)) }
-    {
-        if more <= self.room as usize {
-            return Ok(());
-        }
-        if more > entries::MOST_ENTRIES - self.entries.len() {
-            return Err(NoMemory);
-        }
-        self.notes.reserve(more)?;
-        self.entries.reserve(more)?;
-        self.room = more as u32;
-        Ok(())
+        self.entries.reserve(more as usize)
     }
 
     /// Puts the entries in order, so that `at` takes constant time until a determinant comes in. Its only error is want of
@@ -266,7 +252,7 @@ impl Log {
         if self.sorted {
             return Ok(());
         }
-        entries::sort(&mut self.entries)?;
+        self.entries.sort()?;
         self.sorted = true;
         Ok(())
     }
@@ -280,16 +266,12 @@ impl Log {
         ensures succeeds { 1 ≤ self.old.spare → IsOk result }
         ensures spare { self.old.spare ≤ self.new.spare + 1 }
     {
-        if let Some((place, known)) = entries::place_of(&self.entries, det) {
-            let joined = self.notes.join(det, known, heard);
-            entries::put_at(&mut self.entries, place, joined);
-            return Ok(());
+        if self.entries.find(det).is_none() {
+            self.entries.reserve(1)?;
         }
-        self.make_room(1)?;
-        self.notes.learn(det, &heard);
-        entries::add(&mut self.entries, det, heard);
+        learn(&mut self.entries, det, heard);
         self.sorted = false;
-        self.room -= 1;
+        self.carried = None;
         Ok(())
     }
 
@@ -309,13 +291,14 @@ impl Log {
     /// stable become known. The only error is want of memory, which comes for a determinant that is not logged yet and for
     /// which no room was made.
     pub fn add_stable(&mut self, det: Det, me: Pid) -> Result<(), NoMemory>
-        ensures ok { OnOk result (self.new.map ≡ learned self.old.map det (stable_and_held_by me)) }
+        ensures ok { OnOk result
+            (self.new.map ≡ learned self.old.map det (stable_and_held_by me)) }
         ensures err { OnErr result (self.new.map ≡ self.old.map) }
         ensures logged { IsSome (fin.get self.old.map det) → IsOk result }
         ensures succeeds { 1 ≤ self.old.spare → IsOk result }
         ensures spare { self.old.spare ≤ self.new.spare + 1 }
     {
-        self.learn(det, Known::stable_and_held(me))
+        self.learn(det, Known::held(me).marked())
     }
 
     /// Takes in what a message from process `from` carries to process `me`: the known holders of each of its determinants
@@ -327,10 +310,10 @@ impl Log {
         ensures spare { self.old.spare ≤ self.new.spare + length batch.now }
     {
         let items = batch.as_slice();
-        self.make_room(items.len())?;
-        learn_items(&mut self.entries, &mut self.notes, items, from, me);
+        self.entries.reserve(items.len())?;
+        learn_items(&mut self.entries, items, from, me);
         self.sorted = false;
-        self.room -= items.len() as u32;
+        self.carried = None;
         Ok(())
     }
 
@@ -344,10 +327,10 @@ impl Log {
     {
         let items = carried.as_slice();
         let held = Known::held(me);
-        learn_items(&mut self.entries, &mut self.notes, items, from, me);
-        learn(&mut self.entries, &mut self.notes, own, held);
+        learn_items(&mut self.entries, items, from, me);
+        learn(&mut self.entries, own, held);
         self.sorted = false;
-        self.room -= items.len() as u32 + 1;
+        self.carried = None;
     }
 
     /// Takes in all that another log knows: holders are united, and a determinant is known to be stable where either log
@@ -358,10 +341,11 @@ impl Log {
         ensures succeeds { fin.len other.now.map ≤ self.old.spare → IsOk result }
         ensures spare { self.old.spare ≤ self.new.spare + fin.len other.now.map }
     {
-        self.make_room(other.entries.len())?;
-        learn_entries(&mut self.entries, &mut self.notes, &other.entries);
+        let others = other.entries.entries();
+        self.entries.reserve(others.len())?;
+        learn_entries(&mut self.entries, others);
         self.sorted = false;
-        self.room -= other.entries.len() as u32;
+        self.carried = None;
         Ok(())
     }
 
@@ -371,8 +355,12 @@ impl Log {
         ensures marked { self.new.map ≡ marked self.old.map det }
         ensures spare { self.new.spare ≡ self.old.spare }
     {
-        self.notes.omit(det);
-        entries::mark(&mut self.entries, det)
+        let Some((place, known)) = self.entries.find(det) else {
+            return false;
+        };
+        self.entries.set(place, known.marked());
+        mark(&mut self.carried);
+        true
     }
 
     /// Takes out the determinants that are known to be stable, and says how many these were. Takes no memory. It reads the
@@ -382,8 +370,7 @@ impl Log {
         ensures count { result ≡ length (stable_in self.old.map) }
         ensures spare { self.new.spare ≡ self.old.spare }
     {
-        let count = entries::drop_stable(&mut self.entries);
-        self.notes.leave(self.entries.keys().as_slice());
-        count
+        self.carried = None;
+        self.entries.drop_stable()
     }
 }

@@ -1,39 +1,33 @@
 //! Stable storage in memory, for programs that need no device.
-ghost use Rattle.std.specs.Prelude.{◌≡◌, IfOk};
+ghost use Rattle.std.specs.Prelude.{◌≡◌};
 ghost use Rattle.std.specs.FinMap as fin;
 
-use crate::slots::fill_slot;
+use crate::known::Known;
 use crate::stable::{PutFault, Stable};
+use crate::table::Table;
 use causal_name::{Det, NoMemory, Slot};
-use indexmap::IndexMap;
 use std::alloc::Global;
-use std::collections::BTreeSet;
 use std::marker::Model;
 
 /// Stable storage that has no device, and so no faults but want of memory.
 #[derive(Debug, Drop)]
 pub struct MemStable {
-    dets: BTreeSet<Det>,
-    /// The least member that fills each slot.
-    slots: IndexMap<Slot, Det>,
+    /// Of its members nothing else is known.
+    members: Table,
 }
 
 impl Model for MemStable {
     ghost use Rattle.std.specs.FinMap as fin;
-    ghost use Rattle.std.specs.BTreeSet.{IsOrdered};
-    ghost use Rattle.causal_name.specs.Names.{det_cmp};
+    ghost use Rattle.std.specs.Map.{keys_of};
     ghost use base.Stored.{coded_unit};
     ghost use Rattle.causal_log.specs.Knowledge.{coded_det};
     ghost use Rattle.causal_log.specs.Stores.{DetSet, set_of};
-    ghost use Rattle.causal_log.specs.Inside.Ranks.{AreSlots};
 
     ghost Value = { DetSet };
 
     ghost coded = { fin.code coded_det coded_unit };
 
-    ghost view = { λ store. set_of store.dets.keys };
-
-    ghost invariant = { λ store. IsOrdered det_cmp store.dets × AreSlots store.dets.keys store.slots.entries };
+    ghost view = { λ store. set_of (keys_of store.members.entries) };
 }
 
 impl MemStable {
@@ -42,8 +36,7 @@ impl MemStable {
         ensures { result ≡ fin.empty }
     {
         MemStable {
-            dets: BTreeSet::new(alloc),
-            slots: IndexMap::new(alloc),
+            members: Table::new(alloc),
         }
     }
 }
@@ -54,26 +47,28 @@ impl Stable for MemStable {
     ghost faults = { λ store. 0 };
 
     fn put(&mut self, det: Det) -> Result<(), PutFault> {
-        if self.slots.reserve(1).is_err() {
+        if self.members.find(det).is_some() {
+            return Ok(());
+        }
+        if self.members.reserve(1).is_err() {
             return Err(PutFault::NoMemory);
         }
-        let Ok(_added) = self.dets.insert(det) else {
-            return Err(PutFault::NoMemory);
-        };
-        fill_slot(&mut self.slots, det);
+        self.members.add(det, Known::nothing());
         Ok(())
     }
 
     fn contains(&self, det: Det) -> bool {
-        self.dets.contains(&det)
+        self.members.find(det).is_some()
     }
 
     fn len(&self) -> u64 {
-        self.dets.len() as u64
+        self.members.dets().len() as u64
     }
 
     fn all(&self, alloc: Global) -> Result<Vec<Det>, NoMemory> {
-        members(alloc, &self.dets)
+        let mut dets = Vec::from_slice(alloc, self.members.dets())?;
+        dets.sort()?;
+        Ok(dets)
     }
 
     fn failures(&self) -> u64 {
@@ -81,13 +76,6 @@ impl Stable for MemStable {
     }
 
     fn least_of(&self, slot: Slot) -> Option<Det> {
-        self.slots.get(&slot).copied()
+        self.members.least_of(slot)
     }
-}
-
-/// The members.
-fn members(alloc: Global, dets: &BTreeSet<Det>) -> Result<Vec<Det>, NoMemory>
-    ensures { IfOk result (λ members. members.items ≡ dets.now.keys) }
-{
-    Ok(dets.iter().copied().collect(alloc)?)
 }

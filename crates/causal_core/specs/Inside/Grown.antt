@@ -43,6 +43,7 @@ pub record IsGrown (d : DataState) (q : Pid) (name : MsgName) (g : Grown) : Type
   pub send : g.send ≡ send_of (memories_of d.run) name
   pub listed : g.listed.items ≡ listed_for (memories_of d.run) q name
   pub carried : carried_by g ≡ batch_of (memories_of d.run) name
+  pub next : arc_value g.next ≡ chosen d.run.faults (grown_log g (log_at (memories_of d.run) q.0))
   pub shares : batches_of g.shares.items ≡ replicate 8 (chosen d.run.faults (grown_log g (log_at (memories_of d.run) q.0)))
 
 -- what the delivery of a kept message as this determinant puts in place, by the receiver's memory
@@ -51,4 +52,5 @@ pub record IsMade (f : ℕ) (own : Det) (m : Memory) (message : Message) (g : Gr
   pub send : g.send ≡ message.send
   pub listed : g.listed.items ≡ with_own own (dets_of (arc_value message.batch))
   pub carried : carried_by g ≡ arc_value message.batch
+  pub next : arc_value g.next ≡ chosen f (gained (arc_value message.batch) own m.log)
   pub shares : batches_of g.shares.items ≡ replicate 8 (chosen f (gained (arc_value message.batch) own m.log))

@@ -1,5 +1,6 @@
 -- What a message carries of a log.
 use Rattle.std.proofs.Common.{◌≡◌, ◌∙◌, ◌<◌, ◌⊎◌, inl, inr, ap, sym, refl, ℕ, ◌&&◌, not, Bool, true, false, nat_le, Option, Some, None, unwrap_or, arith}
+use Rattle.std.proofs.Math.Bool.{and_comm}
 use Rattle.std.proofs.lemmas.Bool.Decides.{nat_tests}
 use Rattle.std.specs.FinMap as fin
 use Rattle.std.specs.FinSet as set
@@ -10,12 +11,6 @@ use Rattle.causal_log.specs.declared.known.Known.{Known}
 use Rattle.causal_log.specs.Knowledge.{nothing_known, is_carried}
 use Rattle.causal_log.specs.Logs.{LogMap, known_of, item_of, is_chosen, chosen}
 use Rattle.causal_log.proofs.Lemmas.Searches.{any_kept, any_logged, passes}
-
-swap : (a b : Bool) → (a && b) ≡ (b && a)
-swap true true = refl
-swap true false = refl
-swap false true = refl
-swap false false = refl
 
 swap_first : (a b d : Bool) → (a && (b && d)) ≡ (b && (a && d))
 swap_first true true d = refl
@@ -38,7 +33,7 @@ safe f known false is h = inr (grind (arith, nat_tests))
 -- a determinant is carried where what is known of it says so
 pub carried_dets : (f : ℕ) (log : LogMap) (det : Det) → list_any (λ item. same_det det item.det) (chosen f log) ≡ is_chosen f (fin.get log det)
 carried_dets f log det =
-    any_kept item_of (λ e. is_carried f e.1) (λ item. same_det det item.det) (λ e. same_det det e.0 && is_carried f e.1) (λ e. swap (is_carried f e.1) (same_det det e.0)) (fin.entries log)
+    any_kept item_of (λ e. is_carried f e.1) (λ item. same_det det item.det) (λ e. same_det det e.0 && is_carried f e.1) (λ e. and_comm (is_carried f e.1) (same_det det e.0)) (fin.entries log)
     ∙ any_logged (is_carried f) det log
     ∙ carried f (fin.get log det)
 

@@ -1,6 +1,6 @@
 -- What a log that has learned something knows of each determinant.
 use Rattle.std.proofs.Common.{ℕ, ◌≡◌, ◌∙◌, ◌==◌, ◌+◌, Bool, true, false, cond, ◌&&◌, ◌||◌, List, [], ◌∷◌, map, length, Option, Some, None, is_some, is_none, unwrap_or, refl, sym, ap, arith}
-use Rattle.std.proofs.Math.Bool.{or_assoc}
+use Rattle.std.proofs.Math.Bool.{or_assoc, or_comm}
 use Rattle.std.specs.List.{list_any}
 use Rattle.std.specs.Cmp.{nat_cmp_total}
 use Rattle.std.specs.FinMap as fin
@@ -80,14 +80,7 @@ module _ (from me : Pid) (q : Det) where
       never false = refl
 
   turned : (a b h : Bool) → (b || (a || h)) ≡ (h || (a || b))
-  turned true true true = refl
-  turned true true false = refl
-  turned true false true = refl
-  turned true false false = refl
-  turned false true true = refl
-  turned false true false = refl
-  turned false false true = refl
-  turned false false false = refl
+  turned a b h = or_comm b (a || h) ∙ ap (λ x. x || b) (or_comm a h) ∙ or_assoc h a b
 
   -- whom a told item names as holders
   pub told_one : (p : ℕ) (item : Item) → set.contains (told from me item).1.holders p ≡ (set.contains item.holders p || (p == from.0 || p == me.0))

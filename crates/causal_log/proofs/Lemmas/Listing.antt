@@ -1,5 +1,6 @@
 -- The determinants of a log, the marked ones and the others, as lists.
-use Rattle.std.proofs.Common.{◌≡◌, ◌∙◌, ◌+◌, Bool, true, false, not, ◌&&◌, map, filter, length, Option, Some, None, is_some, unwrap_or, ap, sym, refl}
+use Rattle.std.proofs.Common.{◌≡◌, ◌∙◌, ◌+◌, Bool, true, not, ◌&&◌, map, filter, length, Option, Some, None, is_some, unwrap_or, ap, sym, refl}
+use Rattle.std.proofs.Math.Bool.{and_comm}
 use Rattle.std.specs.List.{list_any}
 use Rattle.std.specs.FinMap as fin
 use Rattle.std.specs.Map.{keys_of}
@@ -14,12 +15,6 @@ use Rattle.causal_log.proofs.EntryLemmas.{own_entries}
 use Rattle.causal_log.proofs.Lemmas.Ascents.{filter_ascends}
 use Rattle.causal_log.proofs.Lemmas.Searches.{any_map, any_kept, any_dets, any_logged, passes}
 
-swap : (a b : Bool) → (a && b) ≡ (b && a)
-swap true true = refl
-swap true false = refl
-swap false true = refl
-swap false false = refl
-
 -- a determinant is logged where it is one of the determinants
 pub keys_logged : (log : LogMap) (det : Det) → list_any (same_det det) (fin.keys log) ≡ is_some (fin.get log det)
 keys_logged log det = any_map (λ e. e.0) (same_det det) (λ e. same_det det e.0) (λ e. refl) (fin.entries log) ∙ any_dets det log
@@ -31,7 +26,7 @@ module _ (P : Known → Bool) where
 
   pub passing_logged : (log : LogMap) (det : Det) → list_any (same_det det) (map (λ e. e.0) (filter (λ e. P e.1) (fin.entries log))) ≡ passes P (fin.get log det)
   passing_logged log det =
-      any_kept (λ e. e.0) (λ e. P e.1) (same_det det) (λ e. same_det det e.0 && P e.1) (λ e. swap (P e.1) (same_det det e.0)) (fin.entries log)
+      any_kept (λ e. e.0) (λ e. P e.1) (same_det det) (λ e. same_det det e.0 && P e.1) (λ e. and_comm (P e.1) (same_det det e.0)) (fin.entries log)
       ∙ any_logged P det log
 
 -- the marked ones ascend, and are just those with a mark

@@ -1,17 +1,12 @@
--- What a log keeps of its entries.
-use Rattle.std.specs.Prelude.{◌≡◌, ℕ, Bool, true, List, length, ◌+◌, ◌<◌, ◌≤◌, ◌^◌}
-use Rattle.std.specs.List.{IsDistinct}
+-- What a log keeps beside its entries.
+use Rattle.std.specs.Prelude.{◌≡◌, Bool, true, List, Option}
 use Rattle.causal_name.specs.declared.Det.{Det}
-use Rattle.causal_name.specs.Names.{same_det, is_ascending}
-use Rattle.causal_log.specs.declared.notes.Notes.{Notes}
+use Rattle.causal_name.specs.Names.{is_ascending}
+use Rattle.causal_log.specs.declared.carried.Carried.{Carried}
 use Rattle.causal_log.specs.Logs.{LogMap}
-use Rattle.causal_log.specs.Inside.Noted.{IsNoted}
+use Rattle.causal_log.specs.Inside.Carried.{Carries}
 
--- how the entries are kept: one of each determinant, ascending where the log says so, with those for which there is room few
--- enough for a number of 32 bits, and with notes that are true of them
-pub record IsKept (dets : List Det) (sorted : Bool) (room spare : ℕ) (notes : Notes) (log : LogMap) : Type 0 where
-  pub distinct : IsDistinct same_det dets
+-- how a log is kept: its entries ascend where it says so, and messages carry what is still open of the batch that it keeps
+pub record IsKept (dets : List Det) (sorted : Bool) (carried : Option Carried) (log : LogMap) : Type 0 where
   pub ascending : sorted ≡ true → is_ascending dets ≡ true
-  pub few : length dets + room < 2 ^ 32
-  pub sure : room ≤ spare
-  pub noted : IsNoted notes log
+  pub carries : Carries carried log

@@ -1,11 +1,9 @@
 -- What is asked of determinants in no order.
-use Rattle.std.specs.Prelude.{◌≡◌, ◌⊎◌, ◌==◌, ℕ, Bool, true, false, List, [], ◌∷◌, ◌++◌, Option, Some, None, filter, length}
+use Rattle.std.specs.Prelude.{◌≡◌, ◌⊎◌, ◌==◌, ℕ, Bool, true, false, List, Option, Some, None, filter, length}
 use Rattle.std.specs.List.{list_any}
-use Rattle.std.specs.Map.{lookup}
 use Rattle.causal_name.specs.declared.Det.{Det}
 use Rattle.causal_name.specs.declared.Pid.{Pid}
-use Rattle.causal_name.specs.declared.Slot.{Slot}
-use Rattle.causal_name.specs.Names.{same_det, is_before, same_slot}
+use Rattle.causal_name.specs.Names.{same_det, is_before}
 use Rattle.causal_log.specs.Slots.{is_of_slot}
 
 -- whether a determinant is one of some
@@ -18,14 +16,6 @@ IsLeastOfSlot dest rsn dets None = (q : Det) → IsAmong q dets → is_of_slot d
 IsLeastOfSlot dest rsn dets (Some d) =
     (is_of_slot dest rsn d ≡ true) × IsAmong d dets
     × ((q : Det) → IsAmong q dets → is_of_slot dest rsn q ≡ true → (d ≡ q) ⊎ (is_before d q ≡ true))
-
--- of some determinants these are the least that fill each slot
-abbrev pub AreSlots : List Det → List (Slot × Det) → Type 0
-AreSlots dets es = (slot : Slot) → IsLeastOfSlot slot.dest slot.rsn dets (lookup (same_slot slot) es)
-
--- these are made so by one more determinant
-abbrev pub FillsSlot : Det → List (Slot × Det) → List (Slot × Det) → Type 0
-FillsSlot det before after = (dets : List Det) → AreSlots dets before → AreSlots (dets ++ det ∷ []) after
 
 -- whether so many of some determinants come before one
 abbrev pub has_rank : List Det → ℕ → Det → Bool

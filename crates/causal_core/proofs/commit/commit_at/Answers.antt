@@ -38,6 +38,12 @@ commit-requires-clause-logged c =
     let m = memory_there c.args.cells.now.items c.args.q.0 c.in-Some.cell f in
     rw m at c.requires.logged
 
+pub commit-requires-clause-next : goal.commit-requires-clause-next
+commit-requires-clause-next c =
+    let f = found (goal.at.commit-requires-clause-next c).In-Some in
+    let m = memory_there c.args.cells.now.items c.args.q.0 c.in-Some.cell f in
+    rw m at c.requires.next
+
 pub returns-clause-recording : goal.returns-clause-recording
 returns-clause-recording c =
     let f = found (goal.at.returns-clause-recording c).In-Some in

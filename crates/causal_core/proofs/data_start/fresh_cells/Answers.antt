@@ -17,12 +17,12 @@ loop-i-preserved c =
       memories =
           ap memories_in pushed
           ∙ map-append (option_map memory_of) c.loop-i.cells.items _
-          ∙ (λ j. inv.memories j ++ Some (record { log = c.carrying.ensures j; sent = map kept_of (c.new.ensures.items j); received = c.new-in-loop-i.ensures.items j }) ∷ [])
+          ∙ (λ j. inv.memories j ++ Some (record { log = c.new-log.ensures j; sent = map kept_of (c.new-sent.ensures.items j); received = c.new-received.ensures.items j }) ∷ [])
           ∙ replicate-append-replicate c.loop-i.i 1 (Some (fresh fin.empty));
       bodies =
           ap bodies_in pushed
           ∙ map-append (λ cell. option_map_or bodies_of cell []) c.loop-i.cells.items _
-          ∙ (λ j. inv.bodies j ++ map (λ m. m.body) (c.new.ensures.items j) ∷ [])
+          ∙ (λ j. inv.bodies j ++ map (λ m. m.body) (c.new-sent.ensures.items j) ∷ [])
           ∙ replicate-append-replicate c.loop-i.i 1 [];
     }
 

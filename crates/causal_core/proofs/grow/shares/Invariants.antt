@@ -5,7 +5,7 @@ use Rattle.causal_core.proofs.grow.shares.Given as goal
 
 abbrev pub invariant-loop-shares : goal.invariant-loop-shares
 invariant-loop-shares l = record {
-  same : batches_of l.shares.items ≡ replicate (length l.shares.items) (arc_value l.first);
+  same : batches_of l.shares.items ≡ replicate (length l.shares.items) (arc_value l.batch);
   few : length l.shares.items ≤ 8;
 }
 

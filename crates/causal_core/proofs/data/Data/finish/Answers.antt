@@ -82,6 +82,11 @@ commit_at-sends-requires-clause-delivered c =
     ∙ (λ i. are_delivered (Deliver c.args.q (g.send i) (g.own i).rsn (g.listed i) ∷ c.self.inside.trace.recording.past) (dets_of (chosen c.self.inside.faults (gained (g.carried i) (g.own i) (log_at (memories_of (state at0).run) c.args.q.0)))))
     ∙ chosen_delivered (state at0).run c.args.q c.args.grown.own.source c.args.grown.own.ssn (may at0) count
 
+pub commit_at-sends-requires-clause-next : goal.commit_at-sends-requires-clause-next
+commit_at-sends-requires-clause-next c =
+    let at0 = (goal.at.commit_at-sends-requires-clause-next c).After-len-first in
+    (grown at0).next ∙ ap (λ xs. chosen c.self.inside.faults (gained (carried_by c.args.grown) c.args.grown.own (memory_at xs c.args.q.0).log)) (sym c.self.invariant.same)
+
 pub commit_at-sends-requires-clause-short : goal.commit_at-sends-requires-clause-short
 commit_at-sends-requires-clause-short c = let long = (may (goal.at.commit_at-sends-requires-clause-short c).After-len-first).long in grind (arith, nat_tests, long)
 

@@ -1,17 +1,41 @@
-use Rattle.std.proofs.Common.{◌∙◌, ap, sym, slice_get}
+use Rattle.std.proofs.Common.{◌≡◌, ◌∙◌, List, Option, ℕ, ap, sym, slice_get, find, option_map, rules}
 use Rattle.std.specs.FinMap as fin
+use Rattle.std.specs.List.{IsDistinct}
+use Rattle.std.specs.Map.{keys_of}
+use Rattle.causal_name.specs.declared.Det.{Det}
+use Rattle.causal_name.specs.Names.{same_det}
+use Rattle.causal_log.specs.declared.known.Known.{Known}
+use Rattle.causal_log.specs.Inside.Ranks.{has_rank}
+use Rattle.causal_log.specs.Logs.{log_of}
 use Rattle.causal_log.proofs.EntryLemmas.{own_entries}
-use Rattle.causal_log.proofs.PlaceLemmas.{ranked_order}
+use Rattle.causal_log.proofs.PlaceLemmas.{ranked_entry, with_known}
 use Rattle.causal_log.proofs.log.Log.at.Goals as goal
+
+-- what the rank finds, with what is known of it
+shown : (es : List (Det × Known)) → IsDistinct same_det (keys_of es) → (i : ℕ) (ds : List Det) → ds ≡ keys_of es → (o : Option Det) → o ≡ find (λ d. has_rank ds i d) ds
+    → with_known (log_of es) o ≡ slice_get (fin.entries (log_of es)) i
+shown es distinct i ds are o is = ap (with_known (log_of es)) (is ∙ (λ j. find (λ d. has_rank (are j) i d) (are j))) ∙ ranked_entry es distinct i
 
 pub returns : goal.returns
 returns c =
-    c.ranked.ensures
-    ∙ ranked_order c.self.inside.entries.entries c.self.invariant.distinct c.args.i
+    let es = c.self.inside.entries.entries in
+    let one : c.map.result ≡ option_map (λ known. (c.in_ok-det.det, known)) c.known.result = search rules in
+    one
+    ∙ ap (option_map (λ known. (c.in_ok-det.det, known))) (c.known.ensures ∙ sym (ap (λ log. fin.get log.map c.in_ok-det.det) c.self.view_is))
+    ∙ sym (ap (with_known (log_of es)) c.in_ok-det.was)
+    ∙ shown es c.dets.ensures.distinct c.args.i c.dets.result.now c.dets.ensures.dets c.ranked.result c.ranked.ensures
+    ∙ ap (λ log. slice_get (fin.entries log.map) c.args.i) c.self.view_is
+
+pub returns-in_err-det : goal.returns-in_err-det
+returns-in_err-det c =
+    let es = c.self.inside.entries.entries in
+    c.from_residual.ensures
+    ∙ sym (ap (with_known (log_of es)) c.in_err-det.was)
+    ∙ shown es c.dets.ensures.distinct c.args.i c.dets.result.now c.dets.ensures.dets c.ranked.result c.ranked.ensures
     ∙ ap (λ log. slice_get (fin.entries log.map) c.args.i) c.self.view_is
 
 pub returns-then-self : goal.returns-then-self
 returns-then-self c =
     c.entry_at.ensures
-    ∙ ap (λ es. slice_get es c.args.i) (sym (own_entries c.self.inside.entries.entries (c.self.invariant.ascending c.if-self.true)))
+    ∙ ap (λ es. slice_get es c.args.i) (c.entries.ensures.entries ∙ sym (own_entries c.self.inside.entries.entries (c.self.invariant.ascending c.if-self.true)))
     ∙ ap (λ log. slice_get (fin.entries log.map) c.args.i) c.self.view_is

@@ -1,12 +1,9 @@
-use Rattle.std.proofs.Common.{◌∙◌, ap, sym, length, filter}
-use Rattle.std.proofs.lemmas.List.{length-map}
-use Rattle.causal_log.specs.Logs.{stable_in}
-use Rattle.causal_log.proofs.PlaceLemmas.{in_order, same_count}
+use Rattle.std.proofs.Common.{arith}
+use Rattle.causal_log.proofs.Lemmas.Listing.{stable_and_unstable}
 use Rattle.causal_log.proofs.log.Log.stable_len.Goals as goal
 
+pub overflow_sub-result : goal.overflow_sub-result
+overflow_sub-result c = omega (arith, stable_and_unstable c.args.self.now.map, c.len.ensures, c.unstable_len.ensures)
+
 pub returns : goal.returns
-returns c =
-    c.stable_len.ensures
-    ∙ same_count c.self.inside.entries.entries c.self.invariant.distinct (λ known. known.stable)
-    ∙ sym (length-map (filter (λ e. e.1.stable) (in_order c.self.inside.entries.entries)) (λ e. e.0))
-    ∙ ap (λ log. length (stable_in log.map)) c.self.view_is
+returns c = omega (arith, stable_and_unstable c.args.self.now.map, c.len.ensures, c.unstable_len.ensures)

@@ -1,17 +1,14 @@
 use Rattle.std.proofs.Common.{◌∙◌, ap, sym}
-use Rattle.std.specs.List.{list_any}
-use Rattle.causal_name.specs.Names.{same_det}
-use Rattle.causal_log.specs.Stores.{dets_in}
+use Rattle.std.specs.Map.{keys_of}
+use Rattle.causal_log.specs.Slots.{first_of_slot}
+use Rattle.causal_log.specs.Stores.{set_of, dets_in}
 use Rattle.causal_log.proofs.Lemmas.Ascents.{map_ascends}
-use Rattle.causal_log.proofs.Lemmas.Storing.{dets_set}
-use Rattle.causal_log.proofs.RankLemmas.{least_first}
+use Rattle.causal_log.proofs.Lemmas.Storing.{has_list, listed}
+use Rattle.causal_log.proofs.LeastLemmas.{least_first}
 use Rattle.causal_log.proofs.memory.MemStableStable.least_of.Goals as goal
 
 pub returns : goal.returns
 returns c =
-    let dets = c.self.inside.dets.keys in
-    let members = dets_set dets c.self.invariant.0 in
-    c.copied.ensures
-    ∙ c.get.ensures.value
-    ∙ least_first c.args.slot.dest c.args.slot.rsn dets (dets_in c.args.self.now) _ (map_ascends c.args.self.now)
-    (λ q. ap (list_any (same_det q)) (sym members ∙ ap dets_in c.self.view_is)) (c.self.invariant.1 c.args.slot)
+    let dets = keys_of c.self.inside.members.entries in
+    least_first c.args.slot.dest c.args.slot.rsn dets (dets_in (set_of dets)) c.least_of.result (map_ascends (set_of dets)) (λ q. sym (has_list dets q) ∙ listed (set_of dets) q) c.least_of.ensures
+    ∙ ap (λ s. first_of_slot c.args.slot.dest c.args.slot.rsn (dets_in s)) c.self.view_is

@@ -1,7 +1,8 @@
-use Rattle.std.proofs.Common.{◌∙◌, ap, sym}
+use Rattle.std.proofs.Common.{◌∙◌, length, ap, sym}
+use Rattle.std.specs.Map.{keys_of}
 use Rattle.causal_log.specs.Stores.{count_in}
-use Rattle.causal_log.proofs.Lemmas.Storing.{count_set}
+use Rattle.causal_log.proofs.Lemmas.Storing.{count_list}
 use Rattle.causal_log.proofs.memory.MemStableStable.len.Goals as goal
 
 pub returns : goal.returns
-returns c = c.len.ensures.len ∙ sym (count_set c.self.inside.dets.keys c.self.invariant.0) ∙ ap count_in c.self.view_is
+returns c = ap length c.dets.ensures.dets ∙ sym (count_list (keys_of c.self.inside.members.entries) c.dets.ensures.distinct) ∙ ap count_in c.self.view_is

@@ -1,0 +1,90 @@
+-- What a look-up finds after an entry was added, or the value of one was changed.
+use Rattle.std.proofs.Common.{ℕ, zero, suc, ◌≡◌, ◌∙◌, ◌+◌, ◌<◌, Bool, true, false, cond, get_or, List, [], ◌∷◌, ◌++◌, take, Option, Some, None, is_some, unwrap_or, slice_get, set, length, true≢false, refl, sym, ap, subst, arith}
+use Rattle.std.proofs.lemmas.List.{get_or-map, map-append, take_all, take_more, take-append-le}
+use Rattle.std.proofs.lemmas.List.Edits.{insert_end}
+use Rattle.std.proofs.lemmas.Map.{lookup-insert, none_passes_from_lookup}
+use Rattle.std.proofs.lemmas.Map.Entries.{length-keys_of}
+use Rattle.std.proofs.lemmas.Map.Made.{is_some-lookup}
+use Rattle.std.proofs.lemmas.Option.{get_or_from_slice_get}
+use Rattle.std.specs.List.{AllByRecursion, IsDistinct, list_any}
+use Rattle.std.specs.Map.{lookup, keys_of}
+use Rattle.causal_name.specs.declared.Det.{Det}
+use Rattle.causal_name.specs.Names.{same_det}
+use Rattle.causal_name.proofs.Lemmas.DetOrder.{same_is}
+use Rattle.causal_log.proofs.EntryLemmas.{det_equiv}
+use Rattle.causal_log.proofs.Lemmas.Searches.{same_turned}
+
+module _ {V : Type 0} where
+  pub lookup_push : (es : List (Det × V)) (d : Det) (v : V) → lookup (same_det d) es ≡ None
+      → (q : Det) → lookup (same_det q) (es ++ (d, v) ∷ []) ≡ cond (same_det d q) (Some v) (lookup (same_det q) es)
+  lookup_push es d v none q =
+      ap (lookup (same_det q)) (sym (insert_end es (d, v))) ∙ lookup-insert det_equiv d v q es (length es) (none_passes_from_lookup (same_det d) es none)
+
+  all_at : (P : Det → Type 0) (es : List (Det × V)) (i : ℕ) (d : Det) (v : V) → AllByRecursion P (keys_of es) → slice_get es i ≡ Some (d, v) → P d
+  all_at P [] i d v all at = absurd (true≢false (sym (ap is_some at)))
+  all_at P (e ∷ es) zero d v all at = subst P (ap (λ o. (unwrap_or o e).0) at) all.0
+  all_at P (e ∷ es) (suc i) d v all at = all_at P es i d v all.1 at
+
+  pub lookup_set : (es : List (Det × V)) (i : ℕ) (d : Det) (was v : V) → IsDistinct same_det (keys_of es) → slice_get es i ≡ Some (d, was)
+      → (q : Det) → lookup (same_det q) (set es i (d, v)) ≡ cond (same_det d q) (Some v) (lookup (same_det q) es)
+  unfolding IsDistinct
+  lookup_set [] i d was v distinct at q = absurd (true≢false (sym (ap is_some at)))
+  lookup_set (e ∷ es) zero d was v distinct at q =
+      by (same_det q d) refl ∙ sym (ap (λ x. cond (same_det d q) (Some v) (cond (same_det q x) (Some e.1) (lookup (same_det q) es))) (ap (λ o. (unwrap_or o e).0) at))
+    where
+      by : (b : Bool) → same_det q d ≡ b → cond b (Some v) (lookup (same_det q) es) ≡ cond (same_det d q) (Some v) (cond b (Some e.1) (lookup (same_det q) es))
+      by true is = sym (ap (λ b. cond b (Some v) (Some e.1)) (same_turned d q ∙ is))
+      by false is = sym (ap (λ b. cond b (Some v) (lookup (same_det q) es)) (same_turned d q ∙ is))
+  lookup_set (e ∷ es) (suc i) d was v distinct at q =
+      by (all_at (λ y. same_det e.0 y ≡ false) es i d was distinct.0 at) (lookup_set es i d was v distinct.1 at q) (same_det q e.0) refl
+    where
+      by : same_det e.0 d ≡ false → lookup (same_det q) (set es i (d, v)) ≡ cond (same_det d q) (Some v) (lookup (same_det q) es) → (b : Bool) → same_det q e.0 ≡ b
+          → cond b (Some e.1) (lookup (same_det q) (set es i (d, v))) ≡ cond (same_det d q) (Some v) (cond b (Some e.1) (lookup (same_det q) es))
+      by apart later true is = sym (ap (λ b. cond b (Some v) (Some e.1)) (ap (same_det d) (same_is q e.0 is) ∙ same_turned d e.0 ∙ apart))
+      by apart later false is = later
+
+  pub keys_push : (es : List (Det × V)) (d : Det) (v : V) → keys_of (es ++ (d, v) ∷ []) ≡ keys_of es ++ d ∷ []
+  keys_push es d v = map-append (λ e. e.0) es ((d, v) ∷ [])
+
+  pub lookup_missing : (es : List (Det × V)) (d : Det) → list_any (same_det d) (keys_of es) ≡ false → lookup (same_det d) es ≡ None
+  lookup_missing es d h = none (lookup (same_det d) es) (is_some-lookup (same_det d) es ∙ h)
+    where
+      none : (o : Option V) → is_some o ≡ false → o ≡ None
+      none None h = refl
+      none (Some x) h = absurd (true≢false h)
+
+  -- what is read at the place of a determinant is its entry
+  pub read_entry : (es : List (Det × V)) (i : ℕ) (d : Det) (x : Det × V) → slice_get (keys_of es) i ≡ Some d → x ≡ get_or es i x → slice_get es i ≡ Some (d, x.1)
+  read_entry [] i d x at read = absurd (true≢false (sym (ap is_some at)))
+  read_entry (e ∷ es) zero d x at read =
+      let one : e.0 ≡ d = ap (λ o. unwrap_or o d) at in
+      let two : e.1 ≡ x.1 = sym (ap (λ y. y.1) read) in
+      λ i. Some (one i, two i)
+  read_entry (e ∷ es) (suc i) d x at read = read_entry es i d x at read
+
+  -- and its determinant, written back beside another value, leaves the keys
+  pub keys_read : (es : List (Det × V)) (i : ℕ) (x : Det × V) (v : V) → x ≡ get_or es i x → keys_of (set es i (x.0, v)) ≡ keys_of es
+  keys_read [] i x v read = refl
+  keys_read (e ∷ es) zero x v read = ap (λ y. y.0 ∷ keys_of es) read
+  keys_read (e ∷ es) (suc i) x v read = ap (λ ds. e.0 ∷ ds) (keys_read es i x v read)
+
+  pub read_det : (es : List (Det × V)) (i : ℕ) (x : Det × V) (d : Det) (was : V) → slice_get es i ≡ Some (d, was) → x ≡ get_or es i x → x.0 ≡ d
+  read_det es i x d was at read = ap (λ y. y.0) (read ∙ get_or_from_slice_get es i (d, was) x at)
+
+pub none_distinct : IsDistinct same_det []
+unfolding IsDistinct
+none_distinct = tt
+
+module _ {V : Type 0} (es : List (Det × V)) (i : ℕ) (x : Det × V) (low : i < length es) (read : x ≡ get_or es i x) where
+  key : get_or (keys_of es) i x.0 ≡ x.0
+  key = get_or-map (λ e. e.0) es i x x.0 low ∙ ap (λ y. y.0) (sym read)
+
+  within : i < length (keys_of es)
+  within = subst (λ n. i < n) (sym (length-keys_of es)) low
+
+  pub take_key : take (i + 1) (keys_of es) ≡ take i (keys_of es) ++ x.0 ∷ []
+  take_key = take_more (keys_of es) i x.0 within ∙ ap (λ d. take i (keys_of es) ++ d ∷ []) key
+
+-- a list and more, cut to its length
+pub take_whole : {X : Type 0} (xs ys : List X) (n : ℕ) → length xs ≡ n → take n (xs ++ ys) ≡ xs
+take_whole xs ys n h = take-append-le n xs ys (omega (arith, h)) ∙ take_all n xs (omega (arith, h))

@@ -1,0 +1,35 @@
+use Rattle.std.proofs.Common.{◌∙◌, slice_get, set, ap, subst, sym}
+use Rattle.std.specs.FinMap as fin
+use Rattle.std.specs.List.{IsDistinct}
+use Rattle.std.specs.Map.{lookup, keys_of}
+use Rattle.causal_name.specs.Names.{same_det}
+use Rattle.causal_log.specs.Logs.{log_of}
+use Rattle.causal_log.proofs.EntryLemmas.{inserted}
+use Rattle.causal_log.proofs.TableLemmas.{lookup_set, keys_read, read_det}
+use Rattle.causal_log.proofs.table.Table.set.Goals as goal
+
+pub invariant_of-self : goal.invariant_of-self
+invariant_of-self c = record {
+  keys = c.self.invariant.keys ∙ sym (keys_read c.self.inside.entries.items c.args.place c.index_mut.result.now c.args.known c.index_mut.ensures.value);
+  distinct = c.self.invariant.distinct;
+  index = c.self.invariant.index;
+  few = c.self.invariant.few;
+  dets_fit = c.self.invariant.dets_fit;
+  entries_fit = c.self.invariant.entries_fit;
+  older_fit = c.self.invariant.older_fit;
+  heads_fit = c.self.invariant.heads_fit;
+}
+
+pub returns-clause-put : goal.returns-clause-put
+returns-clause-put c = λ det was at.
+    let es = c.self.inside.entries.items in
+    let there = ap (λ t. slice_get t.entries c.args.place) c.self.view_is ∙ at in
+    inserted es (set es c.args.place (c.index_mut.result.now.0, c.args.known)) det c.args.known
+    (λ q.
+    ap (λ d. lookup (same_det q) (set es c.args.place (d, c.args.known))) (read_det es c.args.place c.index_mut.result.now det was there c.index_mut.ensures.value)
+    ∙ lookup_set es c.args.place det was c.args.known (subst (IsDistinct same_det) c.self.invariant.keys c.self.invariant.distinct) there q)
+    ∙ ap (λ t. fin.insert (log_of t.entries) det c.args.known) c.self.view_is
+
+pub returns-clause-keys : goal.returns-clause-keys
+returns-clause-keys c =
+    keys_read c.self.inside.entries.items c.args.place c.index_mut.result.now c.args.known c.index_mut.ensures.value ∙ ap (λ t. keys_of t.entries) c.self.view_is

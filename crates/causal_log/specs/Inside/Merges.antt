@@ -1,0 +1,42 @@
+-- How far the items of a message were taken in, as what messages carry is worked out.
+use Rattle.std.specs.Prelude.{◌≡◌, ◌||◌, ℕ, Bool, List, ◌∷◌, [], ◌++◌, true, false, is_some, slice_get}
+use Rattle.std.specs.List.{list_any}
+use Rattle.std.specs.Option.{IfSome}
+use Rattle.std.specs.FinMap as fin
+use Rattle.causal_name.specs.declared.Det.{Det}
+use Rattle.causal_name.specs.declared.Pid.{Pid}
+use Rattle.causal_name.specs.Names.{same_det, is_ascending, is_before}
+use Rattle.causal_log.specs.declared.batch.Item.{Item}
+use Rattle.causal_log.specs.declared.merging.Delivery.{Delivery}
+use Rattle.causal_log.specs.Logs.{LogMap, log_of, absorbed, grown, chosen, dets_of, names_det}
+
+-- what is known before a delivery, once its items are taken in, and once it is
+abbrev pub source_of : Delivery → LogMap
+source_of d = log_of d.entries.now.entries
+
+abbrev pub heard_of : Delivery → LogMap
+heard_of d = absorbed d.items.now d.from d.me (source_of d)
+
+abbrev pub taken : Delivery → LogMap
+taken d = grown d.items.now d.own d.from d.me (source_of d)
+
+-- whether a determinant is logged, or these items name it
+abbrev pub is_known : LogMap → List Item → Det → Bool
+is_known log items det = is_some (fin.get log det) || names_det det items
+
+-- items ascend, and come before a determinant
+abbrev pub EndBefore : List Item → Det → Type 0
+EndBefore items det = is_ascending (dets_of items ++ det ∷ []) ≡ true
+
+-- what comes next in items does not come before a determinant
+abbrev pub IsPassed : List Item → ℕ → Det → Type 0
+IsPassed items place det = IfSome (slice_get items place) (λ item. is_before item.det det ≡ false)
+
+-- a log of which messages carry what was passed on and what is kept, from which the rest of the items leads to what all lead
+-- to, and which has as before what the rest names; what was passed on comes before what the rest names
+pub record HasMerged (f : ℕ) (items rest : List Item) (from me : Pid) (source : LogMap) (out kept : List Item) : Type 0 where
+  pub log : LogMap
+  pub carries : out ++ kept ≡ chosen f log
+  pub all : absorbed rest from me log ≡ absorbed items from me source
+  pub same : (q : Det) → list_any (λ item. same_det q item.det) rest ≡ true → fin.get log q ≡ fin.get source q
+  pub before : (x : Item) (xs : List Item) → rest ≡ x ∷ xs → is_ascending (dets_of out ++ x.det ∷ []) ≡ true

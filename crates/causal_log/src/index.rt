@@ -1,0 +1,100 @@
+//! Where the entries of a log stand: for each number of a slot a head leads to the newest entry, and each entry to the next
+//! older one of its head.
+ghost use Rattle.std.specs.Prelude.{◌≡◌, ◌<◌, ◌≤◌, ◌+◌, ◌^◌, ◌++◌, ◌∷◌, [], false, Some, None, IfSome, IsNone, length, slice_get, vec_len, vec_capacity, List};
+ghost use Rattle.std.specs.List.{list_any};
+ghost use Rattle.causal_name.specs.declared.Det.{Det};
+ghost use Rattle.causal_name.specs.Names.{same_det, slot_of};
+ghost use Rattle.causal_log.specs.Inside.Indexes.{head_of, newest_of, IsIndex};
+ghost use Rattle.causal_log.specs.Inside.Ranks.{IsLeastOfSlot};
+
+use crate::ranks::is_lesser;
+use causal_name::{Det, Slot};
+
+/// How many eights of heads lie between the first ones of two receivers: an odd number, so that these fall on all of them.
+const APART: usize = 40_503;
+
+/// The number of a slot's head, where the number of heads is a power of two. Eight slots of a receiver have heads beside each
+/// other, and the next eight come after a step that no other receiver makes: so those of two receivers meet now and then, and
+/// not one after the other.
+#[tactic(auto, using(std::proofs::lemmas::Nat::and_le_r), unfolding(crate::specs::Inside::Indexes::head_of))]
+fn head_of(heads: usize, slot: Slot) -> usize
+    requires { 0 < heads }
+    ensures head { result ≡ head_of heads slot }
+    ensures within { result < heads }
+{
+    let dest = usize::from(slot.dest.0);
+    let rsn = slot.rsn as usize;
+    let eight = rsn / 8 * (2 * dest + 1) + dest * APART;
+    (eight * 8 + rsn % 8) & (heads - 1)
+}
+
+/// The place of the newest entry that a slot's head leads to.
+pub(crate) fn newest(heads: &[Option<u32>], slot: Slot) -> Option<u32>
+    ensures { result ≡ newest_of heads.now slot }
+{
+    if heads.is_empty() {
+        return None;
+    }
+    heads[head_of(heads.len(), slot)]
+}
+
+/// The place of a determinant.
+pub(crate) fn search(
+    dets: &[Det],
+    heads: &[Option<u32>],
+    older: &[Option<u32>],
+    det: Det,
+) -> Option<usize>
+    requires { IsIndex dets.now heads.now older.now }
+    ensures found { IfSome result (λ place. slice_get dets.now place ≡ Some det) }
+    ensures within { IfSome result (λ place. place < length dets.now) }
+    ensures absent { IsNone result → list_any (same_det det) dets.now ≡ false }
+{
+    let mut place = newest(heads, det.slot());
+    while let Some(k) = place {
+        if dets[k as usize] == det {
+            return Some(k as usize);
+        }
+        place = older[k as usize];
+    }
+    None
+}
+
+/// The least determinant of a slot.
+pub(crate) fn least_of_slot(
+    dets: &[Det],
+    heads: &[Option<u32>],
+    older: &[Option<u32>],
+    slot: Slot,
+) -> Option<Det>
+    requires { IsIndex dets.now heads.now older.now }
+    ensures { IsLeastOfSlot slot.dest slot.rsn dets.now result }
+{
+    let mut least = None;
+    let mut place = newest(heads, slot);
+    while let Some(k) = place {
+        let det = dets[k as usize];
+        if is_lesser(&det, slot.dest, slot.rsn, least) {
+            least = Some(det);
+        }
+        place = older[k as usize];
+    }
+    least
+}
+
+/// Adds one more entry, the newest of its head, in room that there is.
+pub(crate) fn link(heads: &mut [Option<u32>], older: &mut Vec<Option<u32>>, slot: Slot)
+    requires some { 0 < length heads.old }
+    requires few { vec_len older.old < 2 ^ 32 }
+    requires room { vec_len older.old < vec_capacity older.old }
+    ensures older { older.new.items ≡ older.old.items ++ newest_of heads.old slot ∷ [] }
+    ensures capacity { vec_capacity older.old ≤ vec_capacity older.new }
+    ensures index { (det : Det) → slot_of det ≡ slot → (dets : List Det) →
+        IsIndex dets heads.old older.old.items → IsIndex (dets ++ det ∷ []) heads.new older.new.items }
+    ensures len { length heads.new ≡ length heads.old }
+{
+    let place = older.len() as u32;
+    let head = head_of(heads.len(), slot);
+    older.push_reserved(heads[head]);
+    heads[head] = Some(place);
+}

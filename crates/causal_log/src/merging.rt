@@ -1,0 +1,164 @@
+//! What messages will carry once a delivery is taken in, worked out beside the log. What they carry now and what the delivery
+//! tells both ascend, and are passed over together: what is passed on, and what is kept from a place on, is at each step what
+//! messages carry of what was taken in so far.
+ghost use Rattle.std.specs.Prelude.{◌≡◌, ◌≤◌, ◌+◌, ◌++◌, ◌||◌, [], true, false, Some, is_some, drop, slice_get, length, IfOk, OnOk, IfSome, IsNone};
+ghost use Rattle.std.specs.FinMap as fin;
+ghost use Rattle.causal_name.specs.declared.Det.{Det};
+ghost use Rattle.causal_name.specs.Names.{is_ascending, is_before, same_det};
+ghost use Rattle.causal_log.specs.Logs.{LogMap, log_of, chosen, dets_of, names_det};
+ghost use Rattle.causal_log.specs.Inside.Carried.{with_carried, HearsNext};
+ghost use Rattle.causal_log.specs.Inside.Merges.{EndBefore, IsPassed, is_known, source_of, heard_of, taken};
+
+use crate::batch::Item;
+use crate::known::{Known, told};
+use crate::table::Table;
+use causal_name::{Det, NoMemory, Pid};
+use std::alloc::Global;
+
+/// A delivery that the entries of a log are to take in: the items that its message from one process carries to another, and its
+/// own determinant; and for how many failures messages carry determinants.
+#[derive(Clone, Copy)]
+pub(crate) struct Delivery<'a> {
+    pub entries: &'a Table,
+    pub items: &'a [Item],
+    pub own: Det,
+    pub from: Pid,
+    pub me: Pid,
+    pub f: u16,
+}
+
+/// Passes on what comes before a determinant, and tells the place of what comes next.
+fn pass(out: &mut Vec<Item>, kept: &[Item], from: usize, det: Det) -> Result<usize, NoMemory>
+    requires within { from ≤ length kept.now }
+    requires ascending { is_ascending (dets_of (out.old.items ++ drop from kept.now)) ≡ true }
+    requires before { EndBefore out.old.items det }
+    ensures within { IfOk result (λ next. next ≤ length kept.now) }
+    ensures same { IfOk result
+        (λ next. out.new.items ++ drop next kept.now ≡ out.old.items ++ drop from kept.now) }
+    ensures before { OnOk result (EndBefore out.new.items det) }
+    ensures next { IfOk result (λ next. IsPassed kept.now next det) }
+{
+    let mut place = from;
+    while place < kept.len() && kept[place].det.comes_before(&det) {
+        out.push(kept[place])?;
+        place += 1;
+    }
+    Ok(place)
+}
+
+/// Passes on a determinant of which this is known, where messages carry it.
+fn carry(out: &mut Vec<Item>, det: Det, known: Known, f: u16) -> Result<(), NoMemory>
+    ensures { OnOk result (out.new.items ≡ with_carried f det known out.old.items) }
+{
+    if known.is_carried(f) {
+        out.push(Item {
+            det,
+            holders: known.holders,
+        })?;
+    }
+    Ok(())
+}
+
+/// What is kept of a determinant, where it is what comes next.
+fn next_of(kept: &[Item], place: usize, det: Det) -> Option<Item>
+    ensures found { IfSome result (λ item. slice_get kept.now place ≡ Some item) }
+    ensures same { IfSome result (λ item. item.det ≡ det) }
+    ensures other { IsNone result →
+        IfSome (slice_get kept.now place) (λ item. same_det item.det det ≡ false) }
+{
+    let item = *kept.get(place)?;
+    if item.det == det { Some(item) } else { None }
+}
+
+/// Whether items name a determinant.
+fn name(items: &[Item], det: Det) -> bool
+    ensures { result ≡ names_det det items.now }
+{
+    items.iter().any(|item| det == item.det)
+}
+
+/// Whether a determinant is logged, or items name it that were taken in.
+fn is_logged(entries: &Table, named: &[Item], det: Det) -> bool
+    ensures { result ≡ is_known (log_of entries.now.entries) named.now det }
+{
+    entries.find(det).is_some() || name(named, det)
+}
+
+/// Passes on a determinant of which this is heard: the next one of what is kept, or one that was not logged. Of another one
+/// messages carry nothing from then on either.
+fn meet(
+    out: &mut Vec<Item>,
+    kept: &[Item],
+    place: usize,
+    delivery: &Delivery<'_>,
+    named: &[Item],
+    det: Det,
+    heard: Known,
+) -> Result<usize, NoMemory>
+    requires within { place ≤ length kept.now }
+    requires before { EndBefore out.old.items det }
+    requires next { IsPassed kept.now place det }
+    ensures within { IfOk result (λ next. next ≤ length kept.now) }
+    ensures heard { IfOk result (λ next. (log : LogMap) →
+        is_some (fin.get log det) ≡ is_known (source_of delivery.now) named.now det →
+        HearsNext delivery.now.f det heard log
+        (out.old.items ++ drop place kept.now) (out.new.items ++ drop next kept.now)) }
+    ensures before { OnOk result
+        ((d : Det) → is_before det d ≡ true → EndBefore out.new.items d) }
+{
+    if let Some(item) = next_of(kept, place, det) {
+        carry(out, det, item.known().joined(heard), delivery.f)?;
+        return Ok(place + 1);
+    }
+    if !heard.is_carried(delivery.f) || is_logged(delivery.entries, named, det) {
+        return Ok(place);
+    }
+    carry(out, det, Known::nothing().joined(heard), delivery.f)?;
+    Ok(place)
+}
+
+/// What messages carry once the items are taken in.
+fn merged(alloc: Global, kept: &[Item], delivery: &Delivery<'_>) -> Result<Vec<Item>, NoMemory>
+    requires kept { kept.now ≡ chosen delivery.now.f (source_of delivery.now) }
+    requires ascending { is_ascending (dets_of delivery.now.items.now) ≡ true }
+    ensures { IfOk result (λ out. out.items ≡ chosen delivery.now.f (heard_of delivery.now)) }
+{
+    let items = delivery.items;
+    let mut out = Vec::with_capacity(alloc, kept.len())?;
+    let mut place = 0;
+    for item in items {
+        let (det, heard) = told(delivery.from, delivery.me, item);
+        place = pass(&mut out, kept, place, det)?;
+        place = meet(&mut out, kept, place, delivery, &[], det, heard)?;
+    }
+    out.extend_from_slice(&kept[place..])?;
+    Ok(out)
+}
+
+/// What messages carry once the own determinant is taken in too.
+fn merged_own(alloc: Global, kept: &[Item], delivery: &Delivery<'_>) -> Result<Vec<Item>, NoMemory>
+    requires { kept.now ≡ chosen delivery.now.f (heard_of delivery.now) }
+    ensures { IfOk result (λ out. out.items ≡ chosen delivery.now.f (taken delivery.now)) }
+{
+    let own = delivery.own;
+    let held = Known::held(delivery.me);
+    let mut out = Vec::with_capacity(alloc, kept.len())?;
+    let next = pass(&mut out, kept, 0, own)?;
+    let place = meet(&mut out, kept, next, delivery, delivery.items, own, held)?;
+    out.extend_from_slice(&kept[place..])?;
+    Ok(out)
+}
+
+/// What messages carry once a delivery is taken in, where they carry this of the log now.
+pub(crate) fn merged_delivery(
+    alloc: Global,
+    kept: &[Item],
+    delivery: &Delivery<'_>,
+) -> Result<Vec<Item>, NoMemory>
+    requires kept { kept.now ≡ chosen delivery.now.f (source_of delivery.now) }
+    requires ascending { is_ascending (dets_of delivery.now.items.now) ≡ true }
+    ensures { IfOk result (λ out. out.items ≡ chosen delivery.now.f (taken delivery.now)) }
+{
+    let heard = merged(alloc, kept, delivery)?;
+    merged_own(alloc, heard.as_slice(), delivery)
+}
