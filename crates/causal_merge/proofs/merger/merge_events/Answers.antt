@@ -26,11 +26,11 @@ returns-in_err-take-clause-err c =
     let was = c.loop-placed.invariant in
     let began = c.into_iter-placed-iterator.ensures.into_iter_gives in
     let all : c.args.events.items ≡ reverse was.so_far.0 ++ c.in-Some.placed ∷ into_iter_items c.next.new.self = sym began.0 ∙ was.so_far.1 ∙ ap (λ xs. reverse was.so_far.0 ++ xs) c.in-Some.ensures.steps.0 in
-    rw (p.1, p.2) (merged-fault c.args.processes _ c.args.events.items was.so_far.0 (into_iter_items c.next.new.self) c.in-Some.placed _ was.processes all (c.in_err-take.ensures.err was.so_far.0 was.so_far.2))
+    rw (p.1, p.2) (merged-fault c.args.limits.entries c.args.processes _ c.args.events.items was.so_far.0 (into_iter_items c.next.new.self) c.in-Some.placed _ was.processes all (c.in_err-take.ensures.err was.so_far.0 was.so_far.2))
 
 pub returns-clause-ok : goal.returns-clause-ok
 returns-clause-ok c =
     let was = c.loop-placed.invariant in
     let began = c.into_iter-placed-iterator.ensures.into_iter_gives in
     let none : into_iter_items c.loop-placed.placed-iterator ≡ [] = nil_from_length _ (sym was.left ∙ c.in-None.ensures.steps.0) in
-    rw c.into_trace.ensures (merged-all c.args.processes _ c.args.events.items was.so_far.0 (into_iter_items c.loop-placed.placed-iterator) _ was.processes (sym began.0 ∙ was.so_far.1) none was.so_far.2.entries)
+    rw c.into_trace.ensures (merged-all c.args.limits.entries c.args.processes _ c.args.events.items was.so_far.0 (into_iter_items c.loop-placed.placed-iterator) _ was.processes (sym began.0 ∙ was.so_far.1) none was.so_far.2.entries)
