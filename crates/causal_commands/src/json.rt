@@ -43,8 +43,8 @@ impl Question {
 }
 
 /// Reads the text of a trace within the limits, and writes the answer to a question as one JSON object on one line; or that of the
-/// text's first fault. Where the reader or the writer fails, or memory or a worker is refused, the answer says so. With one worker there is no
-/// `NoWorker`.
+/// text's first fault. Where the reader or the writer fails, or memory or a worker is refused, the answer says so. With one worker
+/// there is no `NoWorker`.
 ///
 /// The text is read in pieces of 4,096 bytes, up to its end or to the piece with its first fault.
 pub fn answer_as_json<R: Threads + Wait, I: Read, O: Write>(

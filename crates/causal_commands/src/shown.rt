@@ -32,8 +32,8 @@ pub enum View {
 }
 
 /// Reads the text of a trace within the limits, audits it for f by one worker, and writes what the view shows of it; or the line of
-/// the text's first fault, of which there is no picture. Where the reader or the writer fails, or memory is refused, the answer says so.
-/// There is no `NoWorker`.
+/// the text's first fault, of which there is no picture. Where the reader or the writer fails, or memory is refused, the answer says
+/// so. There is no `NoWorker`.
 ///
 /// The text is read in pieces of 4,096 bytes, up to its end or to the piece with its first fault.
 pub fn show_and_tell<R: Threads + Wait, I: Read, O: Write>(

@@ -25,8 +25,8 @@ pub struct Told<F> {
     pub fault: Option<F>,
 }
 
-/// Reads the text of a trace by the usual limits, audits it for f by 1 to 64 workers, and writes one line: the verdict, or the text's
-/// first fault. Where the reader or the writer fails, or memory or a worker is refused, the answer says so. With one worker
+/// Reads the text of a trace by the usual limits, audits it for f by 1 to 64 workers, and writes one line: the verdict, or the
+/// text's first fault. Where the reader or the writer fails, or memory or a worker is refused, the answer says so. With one worker
 /// there is no `NoWorker`.
 ///
 /// The text is read in pieces of 4,096 bytes, up to its end or to the piece with its first fault.
@@ -47,8 +47,8 @@ pub fn audit_stream<R: Threads + Wait, I: Read, O: Write, G: Gate + Sync>(
     audit_and_tell(rt, alloc, input, output, DEFAULT_LIMITS, f, workers, gate).ended
 }
 
-/// The same by these limits, with what is wrong with a text that is no trace beside how the run ended: its first fault, and what more
-/// there is to say of that. It is asked when the answer has been written.
+/// The same by these limits, with what is wrong with a text that is no trace beside how the run ended: its first fault, and what
+/// more there is to say of that. It is asked when the answer has been written.
 pub fn audit_and_tell<R: Threads + Wait, I: Read, O: Write, G: Gate + Sync>(
     rt: &R,
     alloc: Global,
