@@ -11,11 +11,7 @@ use causal_trace::limits::Limits;
 use std::alloc::Global;
 
 /// What the lines of a text say, or the first fault of a line.
-pub(crate) fn read_lines(
-    alloc: Global,
-    limits: Limits,
-    text: &[u8],
-) -> Result<Gathered, MergeFault>
+pub(crate) fn read_lines(alloc: Global, limits: Limits, text: &[u8]) -> Result<Gathered, MergeFault>
     ensures ok { IfOk result
         (λ gathered. HasRead limits.entries gathered (reverse (lines text.now))) }
     ensures err { IfErr result

@@ -39,9 +39,14 @@ pub(crate) enum Asked {
         limits: Limits,
     },
     /// A picture of a trace within limits with its verdict for at most so many processes that are down at once.
-    Draw { faults: u16, limits: Limits },
+    Draw {
+        faults: u16,
+        limits: Limits,
+    },
     /// The trace that recordings make, within limits.
-    Merge { limits: Limits },
+    Merge {
+        limits: Limits,
+    },
     /// The trace of a script's run.
     Run,
 }

@@ -203,7 +203,8 @@ pub extern "C" fn nixu_trace_audit(
     };
     let status = match &*kept {
         Kept::Trace {
-            trace: recorded, ..
+            trace: recorded,
+            ..
         } => tell(alloc, recorded, faults, told),
         Kept::Reader(_) => CLOSED,
     };
@@ -250,7 +251,8 @@ pub extern "C" fn nixu_trace_text(
     };
     let status = match &*kept {
         Kept::Trace {
-            trace: recorded, ..
+            trace: recorded,
+            ..
         } => give_text(alloc, recorded, out, needed),
         Kept::Reader(_) => CLOSED,
     };
