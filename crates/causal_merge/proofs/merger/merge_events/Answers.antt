@@ -1,9 +1,16 @@
-use Rattle.std.proofs.Common.{arith, ap, sym, ◌∙◌, ◌≡◌, ◌∷◌, [], ◌++◌, length, reverse}
+use Rattle.std.proofs.Common.{rules, arith, ap, sym, refl, ◌∙◌, ◌≡◌, ◌∷◌, [], ◌++◌, length, reverse}
 use Rattle.std.proofs.lemmas.List.{nil_from_length}
 use Rattle.std.specs.Vec.Iter.{into_iter_items}
 use Rattle.std.proofs.lemmas.Result.{err_from_is_err_and}
 use Rattle.causal_merge.proofs.Prefixes.{reverse_step, merged-fault, merged-all}
 use Rattle.causal_merge.proofs.merger.merge_events.Goals as goal
+
+pub loop-placed-init : goal.loop-placed-init
+loop-placed-init c = record {
+  left = search rules;
+  so_far = ([], refl, c.in-Ok.ensures.ok.0 c.args.limits.entries);
+  processes = c.in-Ok.ensures.ok.1;
+}
 
 pub loop-placed-preserved : goal.loop-placed-preserved
 loop-placed-preserved c =
