@@ -31,6 +31,7 @@ static void try_no_text(void) {
   expect(told.kind == NIXU_FAULTY && told.line == 1 && told.fault == NIXU_CUT, "that fault is Cut at line 1");
   expect(nixu_line(NULL, 0, 1, NULL, 0, &needed) == NIXU_FAULT, "its line is told");
   expect(needed == strlen("fault line=1 Cut\n"), "the line's length is told without room");
+  expect(nixu_draw(NULL, 0, 1, NULL, 0, &needed) == NIXU_FAULT && needed == 0, "there is no picture of it");
 }
 
 static void try_rooms(bytes text) {

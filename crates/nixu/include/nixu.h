@@ -191,8 +191,8 @@ uint32_t nixu_line(const uint8_t *text, size_t length, uint16_t faults, uint8_t 
    text's first fault. Statuses as for nixu_line. */
 uint32_t nixu_explain(const uint8_t *text, size_t length, uint16_t faults, uint8_t *out, size_t room, size_t *needed);
 
-/* The space-time diagram of the run with its verdict, in SVG, as `causal_tool draw` prints it; or the line of the text's
-   first fault. Statuses as for nixu_line. */
+/* The space-time diagram of the run with its verdict, in SVG, as `causal_tool draw` prints it; of a text with a fault no
+   bytes, and `needed` is 0. Statuses as for nixu_line. */
 uint32_t nixu_draw(const uint8_t *text, size_t length, uint16_t faults, uint8_t *out, size_t room, size_t *needed);
 
 /* ---- faults ---- */

@@ -104,6 +104,9 @@ fn what_the_program_prints_is_given(rt: HostRuntime) {
         OK
     );
     assert!(rt; begins(&out, b"<svg"));
+    assert_eq!(rt; nixu_draw(rt.alloc(), b"", 1, &mut out, &mut needed), FAULT);
+    assert_eq!(rt; needed, 0);
+    assert!(rt; begins(&out, b"<svg"));
 }
 
 #[test]
