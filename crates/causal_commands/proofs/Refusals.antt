@@ -18,31 +18,31 @@ use Rattle.causal_commands.proofs.Known.{IfSome-weaker}
 
 -- what is told of a rejected text is told of what a reader gave
 pub names : (most : ℕ) (known : Option (List ℕ)) (f : ℕ) (rejected : Option Rejected) (told : Option Refusal) → NamesRejected most known rejected
-    → ((text : List ℕ) → IfSome rejected (IsRejectedSo most text) → IfSome told (IsRefusal most text f)) → NamesFirstFault most known f told
-names most known f rejected told h is = IfSome-weaker known _ _ is h
+    → ((k : ℕ) (text : List ℕ) → IfSome rejected (IsRejectedSo k text) → IfSome told (IsRefusal k text f)) → NamesFirstFault most known f told
+names most known f rejected told h is = IfSome-weaker known _ _ (is most) h
 
 -- the line of a fault answers the text that it was told of
 pub answers : (most : ℕ) (known : Option (List ℕ)) (f : ℕ) (stopped : Stopped) (result : Result Answer Ended) → IfSome known (λ text. TellsStop most text stopped)
-    → IfOk result (λ a. a.ended ≡ Faulted) → IfOk result (λ a. (text : List ℕ) → TellsStop most text stopped → IsFaultLine most text a.line.items) → IfOk result (λ a. IsAnswerFor most known f a.ended a.line.items)
+    → IfOk result (λ a. a.ended ≡ Faulted) → IfOk result (λ a. (k : ℕ) (text : List ℕ) → TellsStop k text stopped → IsFaultLine k text a.line.items) → IfOk result (λ a. IsAnswerFor most known f a.ended a.line.items)
 answers most known f stopped (Err e) tells ended line = tt
 answers most known f stopped (Ok a) tells ended line =
-    IfSome-weaker known _ _ (λ text told. subst (λ (e : Ended). IsAnswer most text f e a.line.items) (sym ended) (line text told)) tells
+    IfSome-weaker known _ _ (λ text told. subst (λ (e : Ended). IsAnswer most text f e a.line.items) (sym ended) (line most text told)) tells
 
 -- the same, where a view is shown or the numbers of faults are told
 pub replies : (most : ℕ) (view : View) (known : Option (List ℕ)) (f : ℕ) (stopped : Stopped) (result : Result Answer Ended) → IfSome known (λ text. TellsStop most text stopped)
-    → IfOk result (λ a. a.ended ≡ Faulted) → IfOk result (λ a. (text : List ℕ) → TellsStop most text stopped → IsFaultShown most view text a.line.items) → IfOk result (λ a. IsReplyFor most view known f a.ended a.line.items)
+    → IfOk result (λ a. a.ended ≡ Faulted) → IfOk result (λ a. (k : ℕ) (text : List ℕ) → TellsStop k text stopped → IsFaultShown k view text a.line.items) → IfOk result (λ a. IsReplyFor most view known f a.ended a.line.items)
 replies most view known f stopped (Err e) tells ended line = tt
 replies most view known f stopped (Ok a) tells ended line =
-    IfSome-weaker known _ _ (λ text told. subst (λ (e : Ended). IsReply most view text f e a.line.items) (sym ended) (line text told)) tells
+    IfSome-weaker known _ _ (λ text told. subst (λ (e : Ended). IsReply most view text f e a.line.items) (sym ended) (line most text told)) tells
 
 pub ranges : (most : ℕ) (known : Option (List ℕ)) (stopped : Stopped) (result : Result Answer Ended) → IfSome known (λ text. TellsStop most text stopped)
-    → IfOk result (λ a. a.ended ≡ Faulted) → IfOk result (λ a. (text : List ℕ) → TellsStop most text stopped → IsFaultLine most text a.line.items) → IfOk result (λ a. IsRangeAnswerFor most known a.ended a.line.items)
+    → IfOk result (λ a. a.ended ≡ Faulted) → IfOk result (λ a. (k : ℕ) (text : List ℕ) → TellsStop k text stopped → IsFaultLine k text a.line.items) → IfOk result (λ a. IsRangeAnswerFor most known a.ended a.line.items)
 ranges most known stopped (Err e) tells ended line = tt
 ranges most known stopped (Ok a) tells ended line =
-    IfSome-weaker known _ _ (λ text told. subst (λ (e : Ended). IsRangeAnswer most text e a.line.items) (sym ended) (line text told)) tells
+    IfSome-weaker known _ _ (λ text told. subst (λ (e : Ended). IsRangeAnswer most text e a.line.items) (sym ended) (line most text told)) tells
 
 -- and what was rejected is that text
 pub rejects : (most : ℕ) (known : Option (List ℕ)) (stopped : Stopped) (result : Result Answer Ended) → IfSome known (λ text. TellsStop most text stopped)
-    → IfOk result (λ a. (text : List ℕ) → TellsStop most text stopped → IfSome a.rejected (IsRejectedSo most text)) → IfOk result (λ a. NamesRejected most known a.rejected)
+    → IfOk result (λ a. (k : ℕ) (text : List ℕ) → TellsStop k text stopped → IfSome a.rejected (IsRejectedSo k text)) → IfOk result (λ a. NamesRejected most known a.rejected)
 rejects most known stopped (Err e) tells h = tt
-rejects most known stopped (Ok a) tells h = IfSome-weaker known _ _ (λ text told. h text told) tells
+rejects most known stopped (Ok a) tells h = IfSome-weaker known _ _ (h most) tells
