@@ -31,6 +31,7 @@ static void try_no_text(void) {
   expect(told.kind == NIXU_FAULTY && told.line == 1 && told.fault == NIXU_CUT, "that fault is Cut at line 1");
   expect(nixu_line(NULL, 0, 1, NULL, 0, &needed) == NIXU_FAULT, "its line is told");
   expect(needed == strlen("fault line=1 Cut\n"), "the line's length is told without room");
+  expect(nixu_draw(NULL, 0, 1, NULL, 0, &needed) == NIXU_FAULT && needed == 0, "there is no picture of it");
 }
 
 static void try_rooms(bytes text) {
@@ -104,6 +105,40 @@ static void try_reader(bytes text) {
   try_no_reader(&reader);
 }
 
+/* A header, two sends and the end line, each of which a reader of so many entries takes or not. */
+static uint32_t fed_two_sends(uint32_t entries, nixu_verdict *told) {
+  static const char two[] = "[\"trace\",1,2]\n[\"send\",0,1,0]\n[\"send\",0,1,1]\n[\"end\",2]\n";
+  static const uint16_t faults[] = {1};
+  nixu_reader reader = {0};
+  uint32_t status = nixu_reader_open_within(&reader, entries);
+  if (status == NIXU_OK) status = nixu_reader_feed(&reader, (const uint8_t *)two, strlen(two), told);
+  if (status == NIXU_OK) status = nixu_reader_finish(&reader, faults, 1, told, 1);
+  nixu_reader_close(&reader);
+  return status;
+}
+
+static void try_limits_of_a_reader(void) {
+  nixu_verdict told;
+  expect(fed_two_sends(0, &told) == NIXU_MISUSED, "a trace may have an entry");
+  expect(fed_two_sends(NIXU_MOST_ENTRIES + 1, &told) == NIXU_MISUSED, "there is a greatest number of entries");
+  expect(fed_two_sends(1, &told) == NIXU_FAULT && told.line == 3 && told.fault == NIXU_TOO_LONG, "two are more than one");
+  expect(fed_two_sends(2, &told) == NIXU_OK && told.entries == 2, "two are two");
+  expect(fed_two_sends(NIXU_MOST_ENTRIES, &told) == NIXU_OK && told.entries == 2, "two are fewer than the most");
+}
+
+static void try_limits_of_a_trace(void) {
+  static const nixu_entry crash = {NIXU_CRASH, 0, 0, 0, 0, 0, 0}, restart = {NIXU_RESTART, 0, 0, 0, 0, 0, 0};
+  nixu_trace trace = {0};
+  uint32_t fault = 77;
+  expect(nixu_trace_open_within(&trace, 2, 0) == NIXU_MISUSED, "a trace may have an entry");
+  expect(nixu_trace_open_within(&trace, 2, NIXU_MOST_ENTRIES + 1) == NIXU_MISUSED, "there is a greatest number of entries");
+  expect(nixu_trace_open_within(&trace, 0, 1) == NIXU_MISUSED, "1 to 256 processes");
+  expect(nixu_trace_open_within(&trace, 2, 1) == NIXU_OK, "one entry may be enough");
+  expect(nixu_trace_push(&trace, &crash, NULL, 0, &fault) == NIXU_OK, "the first is taken");
+  expect(nixu_trace_push(&trace, &restart, NULL, 0, &fault) == NIXU_FAULT && fault == NIXU_TOO_LONG, "the second is not");
+  nixu_trace_close(&trace);
+}
+
 static void try_no_trace(nixu_trace *trace) {
   static const nixu_entry crash = {NIXU_CRASH, 0, 0, 0, 0, 0, 0};
   nixu_verdict told;
@@ -159,6 +194,8 @@ int main(int argc, char **argv) {
   try_places(text);
   try_reader(text);
   try_trace();
+  try_limits_of_a_reader();
+  try_limits_of_a_trace();
   if (argc > 2) try_long_text();
   free(text.at);
   printf("%d edges are wrong\n", wrong);

@@ -84,6 +84,8 @@ def answer(word: str, text: bytes, f: int) -> str:
     except nixu.Fault as fault:
         if word == "sentence":
             return fault.kind.sentence
+        if word == "draw":
+            return ""  # there is no picture
         return f"fault line={fault.line} {fault.kind.name}\n" * (len(FAULTS) if word == "each" else 1)
 
 

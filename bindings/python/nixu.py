@@ -17,10 +17,14 @@ from dataclasses import dataclass
 from typing import NamedTuple, Sequence, Union
 
 __all__ = ["Accepted", "Exceeded", "Orphan", "Verdict", "Fault", "FaultKind", "audit", "audit_each", "line", "explain", "draw", "VERSION"]
+__all__ += ["USUAL_ENTRIES", "MOST_ENTRIES"]
 __all__ += ["Reader", "Trace", "Refused", "Entry", "Send", "Deliver", "Stable", "Crash", "Restart", "Forget", "Determinant"]
 
 VERSION = 1
 """The version of the interface for which this module was written."""
+
+USUAL_ENTRIES, MOST_ENTRIES = 65_536, 16_777_216
+"""How many entries a trace may have where no other number is given, and the greatest number that may be."""
 
 _OK, _FAULT, _NO_MEMORY, _MISUSED, _CLOSED = range(5)
 
@@ -208,10 +212,10 @@ def _loaded() -> ctypes.CDLL:
         call.argtypes = [*text, ctypes.c_uint16, *bytes_out]
     library.nixu_fault_text.argtypes = [ctypes.c_uint32, *bytes_out]
     handle, faults = ctypes.POINTER(_Handle), [ctypes.POINTER(ctypes.c_uint16), size]
-    library.nixu_reader_open.argtypes = [handle]
+    library.nixu_reader_open_within.argtypes = [handle, ctypes.c_uint32]
     library.nixu_reader_feed.argtypes = [handle, *text, structs]
     library.nixu_reader_finish.argtypes = [handle, *faults, structs, size]
-    library.nixu_trace_open.argtypes = [handle, ctypes.c_uint16]
+    library.nixu_trace_open_within.argtypes = [handle, ctypes.c_uint16, ctypes.c_uint32]
     listed = [ctypes.POINTER(_Determinant), size]
     library.nixu_trace_push.argtypes = [handle, ctypes.POINTER(_Entry), *listed, ctypes.POINTER(ctypes.c_uint32)]
     library.nixu_trace_audit.argtypes = [handle, ctypes.c_uint16, structs]
@@ -226,7 +230,8 @@ def _loaded() -> ctypes.CDLL:
 
 
 _ANSWERING = ["version", "audit", "audit_each", "line", "explain", "draw", "fault_text"]
-_ANSWERING += ["reader_open", "reader_feed", "reader_finish", "trace_open", "trace_push", "trace_audit", "trace_text"]
+_ANSWERING += ["reader_open_within", "reader_feed", "reader_finish"]
+_ANSWERING += ["trace_open_within", "trace_push", "trace_audit", "trace_text"]
 
 _library = _loaded()
 
@@ -268,11 +273,14 @@ def draw(text: bytes, faults: int) -> str:
 
 
 class Reader:
-    """Reads a text in pieces, for a run that is judged while it is recorded. It stays on its thread."""
+    """Reads a text in pieces, for a run that is judged while it is recorded. It stays on its thread.
 
-    def __init__(self) -> None:
+    The trace may have up to `entries` entries, which list up to 16 determinants for each in all, and the text up to 512 bytes for each.
+    """
+
+    def __init__(self, entries: int = USUAL_ENTRIES) -> None:
         self._handle = _Handle()
-        _check(_library.nixu_reader_open(self._handle))
+        _check(_library.nixu_reader_open_within(self._handle, _entries(entries)))
 
     def feed(self, piece: bytes) -> None:
         """Reads one more piece, of any length.
@@ -314,11 +322,14 @@ class Reader:
 
 
 class Trace:
-    """A trace of 1 to 256 processes that is made entry by entry, without text. It stays on its thread."""
+    """A trace of 1 to 256 processes that is made entry by entry, without text. It stays on its thread.
 
-    def __init__(self, processes: int) -> None:
+    It may have up to `entries` entries, which list up to 16 determinants for each in all.
+    """
+
+    def __init__(self, processes: int, entries: int = USUAL_ENTRIES) -> None:
         self._handle = _Handle()
-        status = _library.nixu_trace_open(self._handle, _fits(processes, 65_535))
+        status = _library.nixu_trace_open_within(self._handle, _fits(processes, 65_535), _entries(entries))
         if status == _MISUSED:
             raise ValueError("a trace has 1 to 256 processes")
         _check(status)
@@ -410,6 +421,12 @@ def _number(faults: int) -> int:
     if not 0 <= faults <= 65_535:
         raise ValueError("a number of faults is from 0 to 65535")
     return faults
+
+
+def _entries(entries: int) -> int:
+    if not 1 <= entries <= MOST_ENTRIES:
+        raise ValueError(f"a trace may have 1 to {MOST_ENTRIES} entries")
+    return entries
 
 
 def _fits(number: int, most: int = 2**32 - 1) -> int:

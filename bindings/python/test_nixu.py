@@ -115,6 +115,26 @@ class Calls(unittest.TestCase):
             self.assertRaises(ValueError, nixu.Trace, processes)
         self.assertEqual(nixu.Trace(256).text(), '["trace",2,256]\n["end",0]\n')
 
+    def test_a_trace_has_as_many_entries_as_it_may(self):
+        two = b'["trace",1,2]\n["send",0,1,0]\n["send",0,1,1]\n["end",2]\n'
+        reader, trace = nixu.Reader(entries=1), nixu.Trace(2, entries=1)
+        with self.assertRaises(nixu.Fault) as raised:
+            reader.feed(two)
+        self.assertEqual((raised.exception.line, raised.exception.kind), (3, nixu.FaultKind.TooLong))
+        trace.push(nixu.Send(0, 1, 0))
+        with self.assertRaises(nixu.Refused) as raised:
+            trace.push(nixu.Send(0, 1, 1))
+        self.assertEqual(raised.exception.kind, nixu.FaultKind.TooLong)
+        for entries in (2, nixu.MOST_ENTRIES):
+            reader = nixu.Reader(entries)
+            reader.feed(two)
+            self.assertEqual(reader.finish(0), nixu.Accepted(2, 0))
+
+    def test_a_trace_has_1_to_16777216_entries(self):
+        for entries in (-1, 0, nixu.MOST_ENTRIES + 1, 2**32 + 1):
+            self.assertRaises(ValueError, nixu.Reader, entries)
+            self.assertRaises(ValueError, nixu.Trace, 2, entries)
+
     def test_threads_may_call_side_by_side(self):
         text, wrong = example("ring.jsonl"), []
         wanted = nixu.explain(text, 2)

@@ -2,16 +2,17 @@
 _causal_tool() {
     local word=${COMP_WORDS[COMP_CWORD]} before=${COMP_WORDS[COMP_CWORD - 1]} offered=
     case $before in
-    --faults | --workers) return ;;
+    --faults | --workers | --entries) return ;;
     esac
     if ((COMP_CWORD == 1)); then
         offered="audit explain draw merge run help --help --version"
     else
         case ${COMP_WORDS[1]} in
-        audit) offered="--faults --workers --json --help" ;;
-        explain) offered="--faults --json --help" ;;
-        draw) offered="--faults --help" ;;
-        merge | run) offered="--help" ;;
+        audit) offered="--faults --workers --entries --json --help" ;;
+        explain) offered="--faults --entries --json --help" ;;
+        draw) offered="--faults --entries --help" ;;
+        merge) offered="--entries --help" ;;
+        run) offered="--help" ;;
         help) ((COMP_CWORD == 2)) && offered="audit explain draw merge run help" ;;
         esac
     fi

@@ -28,6 +28,14 @@ fn or_fault(told: Result<String, Error>) -> Result<String, Error> {
     }
 }
 
+/// Of a text with a fault there is no picture.
+fn drawn(text: &[u8], faults: u16) -> Result<String, Error> {
+    match nixu::draw(text, faults) {
+        Err(Error::Fault(_)) => Ok(String::new()),
+        told => told,
+    }
+}
+
 fn each(text: &[u8]) -> Result<String, Error> {
     let faults = [0, 1, 2, 3];
     match nixu::audit_each(text, &faults) {
@@ -91,7 +99,7 @@ fn answer(word: &str, text: &[u8], faults: u16) -> Result<String, Error> {
     match word {
         "line" => or_fault(nixu::line(text, faults)),
         "explain" => or_fault(nixu::explain(text, faults)),
-        "draw" => or_fault(nixu::draw(text, faults)),
+        "draw" => drawn(text, faults),
         "audit" => or_fault(nixu::audit(text, faults).map(|told| said(&told, faults))),
         "each" => each(text),
         "fed" => or_fault(fed(text, faults).map(|told| said(&told, faults))),

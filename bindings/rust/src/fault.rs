@@ -13,6 +13,8 @@ pub enum Error {
     Refused(FaultKind),
     /// A trace can't have so many processes.
     Processes,
+    /// A trace may not have so many entries.
+    Entries,
     /// An earlier call failed, and the reader is closed since.
     Closed,
     /// Memory was refused.
@@ -38,6 +40,7 @@ impl Display for Error {
             Error::Fault(fault) => fault.fmt(to),
             Error::Refused(kind) => kind.fmt(to),
             Error::Processes => to.write_str("a trace has 1 to 256 processes"),
+            Error::Entries => write!(to, "a trace may have 1 to {} entries", crate::MOST_ENTRIES),
             Error::Closed => to.write_str("an earlier call failed"),
             Error::NoMemory => to.write_str("memory was refused"),
             Error::OtherVersion => to.write_str("the library is of another version"),

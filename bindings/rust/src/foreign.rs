@@ -103,7 +103,7 @@ extern "C" {
     fn nixu_explain(text: *const u8, length: usize, faults: u16, out: *mut u8, room: usize, needed: *mut usize) -> u32;
     fn nixu_draw(text: *const u8, length: usize, faults: u16, out: *mut u8, room: usize, needed: *mut usize) -> u32;
     fn nixu_fault_text(fault: u32, out: *mut u8, room: usize, needed: *mut usize) -> u32;
-    fn nixu_reader_open(reader: *mut Handle) -> u32;
+    fn nixu_reader_open_within(reader: *mut Handle, entries: u32) -> u32;
     fn nixu_reader_feed(reader: *mut Handle, piece: *const u8, length: usize, told: *mut Summary) -> u32;
     fn nixu_reader_finish(
         reader: *mut Handle,
@@ -113,7 +113,7 @@ extern "C" {
         room: usize,
     ) -> u32;
     fn nixu_reader_close(reader: *mut Handle);
-    fn nixu_trace_open(trace: *mut Handle, processes: u16) -> u32;
+    fn nixu_trace_open_within(trace: *mut Handle, processes: u16, entries: u32) -> u32;
     fn nixu_trace_push(
         trace: *mut Handle,
         entry: *const Entry,
@@ -171,9 +171,9 @@ pub fn fault_text(fault: u32, out: &mut [u8]) -> Shown {
     Shown { status, needed }
 }
 
-pub fn reader_open(reader: &mut Handle) -> u32 {
+pub fn reader_open(reader: &mut Handle, entries: u32) -> u32 {
     // SAFETY: the handle is one of a reader, and lent to this call alone.
-    unsafe { nixu_reader_open(reader) }
+    unsafe { nixu_reader_open_within(reader, entries) }
 }
 
 pub fn reader_feed(reader: &mut Handle, piece: &[u8], told: &mut Summary) -> u32 {
@@ -191,9 +191,9 @@ pub fn reader_close(reader: &mut Handle) {
     unsafe { nixu_reader_close(reader) }
 }
 
-pub fn trace_open(trace: &mut Handle, processes: u16) -> u32 {
+pub fn trace_open(trace: &mut Handle, processes: u16, entries: u32) -> u32 {
     // SAFETY: the handle is one of a trace, and lent to this call alone.
-    unsafe { nixu_trace_open(trace, processes) }
+    unsafe { nixu_trace_open_within(trace, processes, entries) }
 }
 
 pub fn trace_push(trace: &mut Handle, entry: &Entry, listed: &[Determinant], fault: &mut u32) -> u32 {

@@ -44,6 +44,12 @@ use foreign::{Shows, Summary};
 /// The version of the interface for which this package was written.
 pub const VERSION: u32 = 1;
 
+/// How many entries a trace may have where no other number is given.
+pub const USUAL_ENTRIES: u32 = 65_536;
+
+/// The greatest number of entries that a trace may have.
+pub const MOST_ENTRIES: u32 = 16_777_216;
+
 /// The version of the library that is linked. It has to be [`VERSION`].
 pub fn version() -> u32 {
     foreign::version()

@@ -2,6 +2,7 @@
 use crate::fault::{Error, Fault};
 use crate::foreign::{self, Handle, Summary};
 use crate::verdict::{self, Audit};
+use crate::{MOST_ENTRIES, USUAL_ENTRIES};
 
 /// Reads a text in pieces, for a run that is judged while it is recorded.
 ///
@@ -17,13 +18,25 @@ use crate::verdict::{self, Audit};
 pub struct Reader(Handle);
 
 impl Reader {
-    /// A reader that has read nothing.
+    /// A reader that has read nothing, of a trace of up to [`USUAL_ENTRIES`] entries.
     ///
     /// # Errors
     /// [`Error::NoMemory`].
     pub fn new() -> Result<Reader, Error> {
+        Reader::within(USUAL_ENTRIES)
+    }
+
+    /// The same of a trace of up to so many entries, 1 to [`MOST_ENTRIES`]: they list up to 16 determinants for each in all, and
+    /// the text has up to 512 bytes for each.
+    ///
+    /// # Errors
+    /// [`Error::Entries`] and [`Error::NoMemory`].
+    pub fn within(entries: u32) -> Result<Reader, Error> {
+        if !(1..=MOST_ENTRIES).contains(&entries) {
+            return Err(Error::Entries);
+        }
         let mut reader = Reader(Handle::closed());
-        match foreign::reader_open(&mut reader.0) {
+        match foreign::reader_open(&mut reader.0, entries) {
             foreign::OK => Ok(reader),
             status => Err(Error::of_status(status)),
         }

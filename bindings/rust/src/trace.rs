@@ -2,6 +2,7 @@
 use crate::fault::{Error, FaultKind};
 use crate::foreign::{self, Handle, Summary};
 use crate::verdict::{self, Audit};
+use crate::{MOST_ENTRIES, USUAL_ENTRIES};
 
 /// The determinant of a delivery.
 #[derive(Clone, Copy, Debug, PartialEq, Eq, PartialOrd, Ord, Hash)]
@@ -79,13 +80,24 @@ impl Entry {
 pub struct Trace(Handle);
 
 impl Trace {
-    /// A trace of so many processes, 1 to 256, that has no entries.
+    /// A trace of so many processes, 1 to 256, that has no entries and may have up to [`USUAL_ENTRIES`].
     ///
     /// # Errors
     /// [`Error::Processes`] and [`Error::NoMemory`].
     pub fn new(processes: u16) -> Result<Trace, Error> {
+        Trace::within(processes, USUAL_ENTRIES)
+    }
+
+    /// The same with up to so many entries, 1 to [`MOST_ENTRIES`], which list up to 16 determinants for each in all.
+    ///
+    /// # Errors
+    /// [`Error::Entries`], [`Error::Processes`] and [`Error::NoMemory`].
+    pub fn within(processes: u16, entries: u32) -> Result<Trace, Error> {
+        if !(1..=MOST_ENTRIES).contains(&entries) {
+            return Err(Error::Entries);
+        }
         let mut trace = Trace(Handle::closed());
-        match foreign::trace_open(&mut trace.0, processes) {
+        match foreign::trace_open(&mut trace.0, processes, entries) {
             foreign::OK => Ok(trace),
             foreign::MISUSED => Err(Error::Processes),
             status => Err(Error::of_status(status)),

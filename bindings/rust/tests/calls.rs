@@ -146,6 +146,29 @@ fn what_stands_against_an_entry_is_told() {
 }
 
 #[test]
+fn a_trace_has_as_many_entries_as_it_may() {
+    let two = b"[\"trace\",1,2]\n[\"send\",0,1,0]\n[\"send\",0,1,1]\n[\"end\",2]\n";
+    let fault = Fault { line: 3, kind: FaultKind::TooLong };
+    assert_eq!(Reader::within(1).unwrap().feed(two), Err(Error::Fault(fault)));
+    for entries in [2, nixu::MOST_ENTRIES] {
+        let mut reader = Reader::within(entries).unwrap();
+        assert_eq!(reader.feed(two), Ok(()));
+        assert_eq!(reader.finish(0).unwrap().entries, 2);
+    }
+    let mut trace = Trace::within(2, 1).unwrap();
+    assert_eq!(trace.push(&Entry::Crash { who: 0 }), Ok(()));
+    assert_eq!(trace.push(&Entry::Crash { who: 1 }), Err(Error::Refused(FaultKind::TooLong)));
+}
+
+#[test]
+fn a_trace_has_1_to_16777216_entries() {
+    for entries in [0, nixu::MOST_ENTRIES + 1] {
+        assert_eq!(Reader::within(entries).err(), Some(Error::Entries));
+        assert_eq!(Trace::within(2, entries).err(), Some(Error::Entries));
+    }
+}
+
+#[test]
 fn a_trace_has_1_to_256_processes() {
     assert_eq!(Trace::new(0).err(), Some(Error::Processes));
     assert_eq!(Trace::new(257).err(), Some(Error::Processes));

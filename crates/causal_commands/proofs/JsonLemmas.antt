@@ -10,48 +10,48 @@ use Rattle.causal_commands.specs.Inside.Answers.{IsObjectFor}
 use Rattle.causal_commands.proofs.Known.{IfSome-weaker}
 
 -- no lines answer where the program ends without an answer
-no_read : (q : Question) (text lines : List ℕ) → AreLines q text ReadFault lines → ⊥
-no_read (Verdict faults workers) text lines p = p
-no_read (Reason faults) text lines p = p
-no_read Range text lines p = p
+no_read : (most : ℕ) (q : Question) (text lines : List ℕ) → AreLines most q text ReadFault lines → ⊥
+no_read most (Verdict faults workers) text lines p = p
+no_read most (Reason faults) text lines p = p
+no_read most Range text lines p = p
 
-no_write : (q : Question) (text lines : List ℕ) → AreLines q text WriteFault lines → ⊥
-no_write (Verdict faults workers) text lines p = p
-no_write (Reason faults) text lines p = p
-no_write Range text lines p = p
+no_write : (most : ℕ) (q : Question) (text lines : List ℕ) → AreLines most q text WriteFault lines → ⊥
+no_write most (Verdict faults workers) text lines p = p
+no_write most (Reason faults) text lines p = p
+no_write most Range text lines p = p
 
-no_memory : (q : Question) (text lines : List ℕ) → AreLines q text NoMemory lines → ⊥
-no_memory (Verdict faults workers) text lines p = p
-no_memory (Reason faults) text lines p = p
-no_memory Range text lines p = p
+no_memory : (most : ℕ) (q : Question) (text lines : List ℕ) → AreLines most q text NoMemory lines → ⊥
+no_memory most (Verdict faults workers) text lines p = p
+no_memory most (Reason faults) text lines p = p
+no_memory most Range text lines p = p
 
-no_worker : (q : Question) (text lines : List ℕ) → AreLines q text NoWorker lines → ⊥
-no_worker (Verdict faults workers) text lines p = p
-no_worker (Reason faults) text lines p = p
-no_worker Range text lines p = p
+no_worker : (most : ℕ) (q : Question) (text lines : List ℕ) → AreLines most q text NoWorker lines → ⊥
+no_worker most (Verdict faults workers) text lines p = p
+no_worker most (Reason faults) text lines p = p
+no_worker most Range text lines p = p
 
-answered : (q : Question) (text : List ℕ) (old new : Option (List ℕ)) (e : Ended) (out : List ℕ) → IsObject q text e out → Appends old new out → WritesObject q text e old new
-answered q text old new Accepted out p a = (out, p, a)
-answered q text old new Breached out p a = (out, p, a)
-answered q text old new Ranged out p a = (out, p, a)
-answered q text old new Merged out p a = (out, p, a)
-answered q text old new Faulted out p a = (out, p, a)
-answered q text old new Ran out p a = (out, p, a)
-answered q text old new Refused out p a = (out, p, a)
-answered q text old new ReadFault out p a = absurd (no_read q text p.0 p.1)
-answered q text old new WriteFault out p a = absurd (no_write q text p.0 p.1)
-answered q text old new NoMemory out p a = absurd (no_memory q text p.0 p.1)
-answered q text old new NoWorker out p a = absurd (no_worker q text p.0 p.1)
-answered q text old new FinishFault out p a = (out, p, a)
+answered : (most : ℕ) (q : Question) (text : List ℕ) (old new : Option (List ℕ)) (e : Ended) (out : List ℕ) → IsObject most q text e out → Appends old new out → WritesObject most q text e old new
+answered most q text old new Accepted out p a = (out, p, a)
+answered most q text old new Breached out p a = (out, p, a)
+answered most q text old new Ranged out p a = (out, p, a)
+answered most q text old new Merged out p a = (out, p, a)
+answered most q text old new Faulted out p a = (out, p, a)
+answered most q text old new Ran out p a = (out, p, a)
+answered most q text old new Refused out p a = (out, p, a)
+answered most q text old new ReadFault out p a = absurd (no_read most q text p.0 p.1)
+answered most q text old new WriteFault out p a = absurd (no_write most q text p.0 p.1)
+answered most q text old new NoMemory out p a = absurd (no_memory most q text p.0 p.1)
+answered most q text old new NoWorker out p a = absurd (no_worker most q text p.0 p.1)
+answered most q text old new FinishFault out p a = (out, p, a)
 
 -- the whole object was written
-pub object_whole : (q : Question) (known old new : Option (List ℕ)) (e : Ended) (out bytes : List ℕ) → bytes ≡ out → IsObjectFor q known e out → Appends old new bytes
-    → WritesObjectFor q known e old new
-object_whole q known old new e out bytes same p a =
-    IfSome-weaker known _ _ (λ text is. answered q text old new e out is (subst (Appends old new) same a)) p
+pub object_whole : (most : ℕ) (q : Question) (known old new : Option (List ℕ)) (e : Ended) (out bytes : List ℕ) → bytes ≡ out → IsObjectFor most q known e out → Appends old new bytes
+    → WritesObjectFor most q known e old new
+object_whole most q known old new e out bytes same p a =
+    IfSome-weaker known _ _ (λ text is. answered most q text old new e out is (subst (Appends old new) same a)) p
 
 -- the first bytes of the object were
-pub object_first : (q : Question) (known old new : Option (List ℕ)) (e : Ended) (out bytes : List ℕ) (n : ℕ) → bytes ≡ out → IsObjectFor q known e out → n < length bytes
-    → Appends old new (take n bytes) → WritesObjectFor q known WriteFault old new
-object_first q known old new e out bytes n same p some a =
+pub object_first : (most : ℕ) (q : Question) (known old new : Option (List ℕ)) (e : Ended) (out bytes : List ℕ) (n : ℕ) → bytes ≡ out → IsObjectFor most q known e out → n < length bytes
+    → Appends old new (take n bytes) → WritesObjectFor most q known WriteFault old new
+object_first most q known old new e out bytes n same p some a =
     IfSome-weaker known _ _ (λ text is. (e, out, n, is, subst (λ b. n < length b) same some, subst (λ b. Appends old new (take n b)) same a)) p

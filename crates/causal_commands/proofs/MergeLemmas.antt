@@ -10,49 +10,49 @@ use Rattle.causal_commands.specs.Merges.{IsAnswerSo, WritesSo, WritesMergeFor, r
 use Rattle.causal_commands.specs.Inside.Merged.{IsMergeFor, IsSilentMerge}
 use Rattle.causal_commands.proofs.Known.{IfSome-weaker}
 
-answered : (text torn : List ℕ) (told : Option MergeFault) (old new : Option (List ℕ)) (e : Ended) (out : List ℕ) → IsAnswerSo e text torn told out → Appends old new out → WritesSo e text torn told old new
-answered text torn told old new Accepted out p a = absurd p
-answered text torn told old new Breached out p a = absurd p
-answered text torn told old new Ranged out p a = absurd p
-answered text torn told old new Merged out p a = (out, p, a)
-answered text torn told old new Faulted out p a = (out, p, a)
-answered text torn told old new Ran out p a = absurd p
-answered text torn told old new Refused out p a = absurd p
-answered text torn told old new ReadFault out p a = absurd p
-answered text torn told old new WriteFault out p a = absurd p
-answered text torn told old new NoMemory out p a = absurd p
-answered text torn told old new NoWorker out p a = absurd p
-answered text torn told old new FinishFault out p a = absurd p
+answered : (most : ℕ) (text torn : List ℕ) (told : Option MergeFault) (old new : Option (List ℕ)) (e : Ended) (out : List ℕ) → IsAnswerSo most e text torn told out → Appends old new out → WritesSo most e text torn told old new
+answered most text torn told old new Accepted out p a = absurd p
+answered most text torn told old new Breached out p a = absurd p
+answered most text torn told old new Ranged out p a = absurd p
+answered most text torn told old new Merged out p a = (out, p, a)
+answered most text torn told old new Faulted out p a = (out, p, a)
+answered most text torn told old new Ran out p a = absurd p
+answered most text torn told old new Refused out p a = absurd p
+answered most text torn told old new ReadFault out p a = absurd p
+answered most text torn told old new WriteFault out p a = absurd p
+answered most text torn told old new NoMemory out p a = absurd p
+answered most text torn told old new NoWorker out p a = absurd p
+answered most text torn told old new FinishFault out p a = absurd p
 
 -- the whole answer was written
-pub merged_whole : (known old new : Option (List ℕ)) (m : Merging) (out bytes : List ℕ) → bytes ≡ out → IsMergeFor known m out → Appends old new bytes → WritesMergeFor known m old new
-merged_whole known old new m out bytes same p a =
-    IfSome-weaker known _ _ (λ text is. answered (read_of text) m.torn.items m.fault old new m.ended out is (subst (Appends old new) same a)) p
+pub merged_whole : (most : ℕ) (known old new : Option (List ℕ)) (m : Merging) (out bytes : List ℕ) → bytes ≡ out → IsMergeFor most known m out → Appends old new bytes → WritesMergeFor most known m old new
+merged_whole most known old new m out bytes same p a =
+    IfSome-weaker known _ _ (λ text is. answered most (read_of most text) m.torn.items m.fault old new m.ended out is (subst (Appends old new) same a)) p
 
 -- the first bytes of the answer were
-pub merged_first : (known old new : Option (List ℕ)) (m : Merging) (out bytes : List ℕ) (n : ℕ) → bytes ≡ out → IsMergeFor known m out → n < length bytes → Appends old new (take n bytes)
-    → WritesMergeFor known (record { ended = WriteFault; torn = m.torn; fault = m.fault }) old new
-merged_first known old new m out bytes n same p some a =
+pub merged_first : (most : ℕ) (known old new : Option (List ℕ)) (m : Merging) (out bytes : List ℕ) (n : ℕ) → bytes ≡ out → IsMergeFor most known m out → n < length bytes → Appends old new (take n bytes)
+    → WritesMergeFor most known (record { ended = WriteFault; torn = m.torn; fault = m.fault }) old new
+merged_first most known old new m out bytes n same p some a =
     IfSome-weaker known _ _ (λ text is. (m.ended, out, n, is, subst (λ b. n < length b) same some, subst (λ b. Appends old new (take n b)) same a)) p
 
-silent : (e : Ended) (text torn : List ℕ) (told : Option MergeFault) (old new : Option (List ℕ)) → IsSilentMerge e → Keeps old new → torn ≡ [] → told ≡ None → WritesSo e text torn told old new
-silent Accepted text torn told old new s k t f = absurd s
-silent Breached text torn told old new s k t f = absurd s
-silent Ranged text torn told old new s k t f = absurd s
-silent Merged text torn told old new s k t f = absurd s
-silent Faulted text torn told old new s k t f = absurd s
-silent Ran text torn told old new s k t f = absurd s
-silent Refused text torn told old new s k t f = absurd s
-silent ReadFault text torn told old new s k t f = (k, t, f)
-silent WriteFault text torn told old new s k t f = absurd s
-silent NoMemory text torn told old new s k t f = (k, t, f)
-silent NoWorker text torn told old new s k t f = absurd s
-silent FinishFault text torn told old new s k t f = absurd s
+silent : (most : ℕ) (e : Ended) (text torn : List ℕ) (told : Option MergeFault) (old new : Option (List ℕ)) → IsSilentMerge e → Keeps old new → torn ≡ [] → told ≡ None → WritesSo most e text torn told old new
+silent most Accepted text torn told old new s k t f = absurd s
+silent most Breached text torn told old new s k t f = absurd s
+silent most Ranged text torn told old new s k t f = absurd s
+silent most Merged text torn told old new s k t f = absurd s
+silent most Faulted text torn told old new s k t f = absurd s
+silent most Ran text torn told old new s k t f = absurd s
+silent most Refused text torn told old new s k t f = absurd s
+silent most ReadFault text torn told old new s k t f = (k, t, f)
+silent most WriteFault text torn told old new s k t f = absurd s
+silent most NoMemory text torn told old new s k t f = (k, t, f)
+silent most NoWorker text torn told old new s k t f = absurd s
+silent most FinishFault text torn told old new s k t f = absurd s
 
 known_all : (known : Option (List ℕ)) (P : List ℕ → Type 0) → ((bytes : List ℕ) → P bytes) → IfSome known P
 known_all None P all = tt
 known_all (Some bytes) P all = all bytes
 
 -- nothing was
-pub merged_nothing : (known old new : Option (List ℕ)) (m : Merging) (e : Ended) → IsSilentMerge e → Keeps old new → m.ended ≡ e → m.torn.items ≡ [] → m.fault ≡ None → WritesMergeFor known m old new
-merged_nothing known old new m e s k is t f = known_all known _ (λ text. silent m.ended (read_of text) m.torn.items m.fault old new (subst IsSilentMerge (sym is) s) k t f)
+pub merged_nothing : (most : ℕ) (known old new : Option (List ℕ)) (m : Merging) (e : Ended) → IsSilentMerge e → Keeps old new → m.ended ≡ e → m.torn.items ≡ [] → m.fault ≡ None → WritesMergeFor most known m old new
+merged_nothing most known old new m e s k is t f = known_all known _ (λ text. silent most m.ended (read_of most text) m.torn.items m.fault old new (subst IsSilentMerge (sym is) s) k t f)

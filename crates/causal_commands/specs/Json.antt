@@ -1,4 +1,4 @@
--- What a run of the program writes as JSON.
+-- What a run of the program writes as JSON. `most` is how many entries the trace may have.
 use Rattle.std.specs.Prelude.{◌≡◌, ℕ, ◌≤◌, ◌<◌, List, length, take, Option, IfSome}
 use Rattle.std.specs.Io.KnownBytes.{Appends, Keeps}
 use Rattle.causal_report.specs.Objects.{verdict_object, ranges_object}
@@ -27,10 +27,10 @@ abbrev pub HasFewWorkers : Question → Type 0
 HasFewWorkers question = (1 ≤ workers_of question) × (workers_of question ≤ 64)
 
 -- the lines that answer the question of a text where the program ends so
-abbrev pub AreLines : Question → List ℕ → Ended → List ℕ → Type 0
-AreLines (Verdict faults workers) text ended lines = IsAnswer text faults ended lines
-AreLines (Reason faults) text ended lines = IsReply view.Reason text faults ended lines
-AreLines Range text ended lines = IsRangeAnswer text ended lines
+abbrev pub AreLines : ℕ → Question → List ℕ → Ended → List ℕ → Type 0
+AreLines most (Verdict faults workers) text ended lines = IsAnswer most text faults ended lines
+AreLines most (Reason faults) text ended lines = IsReply most view.Reason text faults ended lines
+AreLines most Range text ended lines = IsRangeAnswer most text ended lines
 
 -- the object that says what the lines say
 abbrev pub object_of : Ended → List ℕ → List ℕ
@@ -38,19 +38,19 @@ object_of Ranged lines = ranges_object lines
 object_of _ lines = verdict_object lines
 
 -- the answer as JSON: the object of the lines that would answer
-abbrev pub IsObject : Question → List ℕ → Ended → List ℕ → Type 0
-IsObject question text ended out = (lines : List ℕ) × AreLines question text ended lines × (out ≡ object_of ended lines)
+abbrev pub IsObject : ℕ → Question → List ℕ → Ended → List ℕ → Type 0
+IsObject most question text ended out = (lines : List ℕ) × AreLines most question text ended lines × (out ≡ object_of ended lines)
 
 -- what is written to a text where the program ends so, from what the writer held before to what it holds afterwards: the object
 -- alone; after a write fault only its first bytes; else nothing
-abbrev pub WritesObject : Question → List ℕ → Ended → Option (List ℕ) → Option (List ℕ) → Type 0
-WritesObject question text ReadFault old new = Keeps old new
-WritesObject question text NoMemory old new = Keeps old new
-WritesObject question text NoWorker old new = Keeps old new
-WritesObject question text WriteFault old new =
-    (ended : Ended) × (out : List ℕ) × (n : ℕ) × IsObject question text ended out × (n < length out) × Appends old new (take n out)
-WritesObject question text ended old new = (out : List ℕ) × IsObject question text ended out × Appends old new out
+abbrev pub WritesObject : ℕ → Question → List ℕ → Ended → Option (List ℕ) → Option (List ℕ) → Type 0
+WritesObject most question text ReadFault old new = Keeps old new
+WritesObject most question text NoMemory old new = Keeps old new
+WritesObject most question text NoWorker old new = Keeps old new
+WritesObject most question text WriteFault old new =
+    (ended : Ended) × (out : List ℕ) × (n : ℕ) × IsObject most question text ended out × (n < length out) × Appends old new (take n out)
+WritesObject most question text ended old new = (out : List ℕ) × IsObject most question text ended out × Appends old new out
 
 -- the same of what a reader gives, where its bytes are known
-abbrev pub WritesObjectFor : Question → Option (List ℕ) → Ended → Option (List ℕ) → Option (List ℕ) → Type 0
-WritesObjectFor question given ended old new = IfSome given (λ text. WritesObject question text ended old new)
+abbrev pub WritesObjectFor : ℕ → Question → Option (List ℕ) → Ended → Option (List ℕ) → Option (List ℕ) → Type 0
+WritesObjectFor most question given ended old new = IfSome given (λ text. WritesObject most question text ended old new)

@@ -1,8 +1,8 @@
--- What is written of the numbers of faults for which a run is safe.
+-- What is written of the numbers of faults for which a run is safe. `most` is how many entries the trace may have.
 use Rattle.std.specs.Prelude.{◌≡◌, ℕ, ◌-◌, ◌<◌, nat_lt, if◌then◌else◌, List, [], ◌++◌, length, take, Option, Some, None, IfSome, codes, decimal}
 use Rattle.std.specs.Io.KnownBytes.{Appends, Keeps}
 use Rattle.causal_trace.specs.Rows.{Recording}
-use Rattle.causal_text.specs.Spelling.{Spells}
+use Rattle.causal_text.specs.Spelling.{SpellsWithin}
 use Rattle.causal_explain.specs.declared.range.SafeRange.{SafeRange}
 use Rattle.causal_explain.specs.Ranges.{IsSafeRange}
 use Rattle.causal_commands.specs.declared.ended.Ended.{Ended}
@@ -40,20 +40,21 @@ range_text range = exceeded_part range.from ++ rest_of range.from range.below
 
 -- the answer to a text where the program ends so: for which numbers of faults the trace that it spells is safe, or the line of its
 -- first fault
-abbrev pub IsRangeAnswer : List ℕ → Ended → List ℕ → Type 0
-IsRangeAnswer text Ranged out = (recording : Recording) × (range : SafeRange) × Spells text recording × IsSafeRange recording range × (out ≡ range_text range)
-IsRangeAnswer text Faulted out = IsFaultLine text out
-IsRangeAnswer text _ out = ⊥
+abbrev pub IsRangeAnswer : ℕ → List ℕ → Ended → List ℕ → Type 0
+IsRangeAnswer most text Ranged out =
+    (recording : Recording) × (range : SafeRange) × SpellsWithin most text recording × IsSafeRange recording range × (out ≡ range_text range)
+IsRangeAnswer most text Faulted out = IsFaultLine most text out
+IsRangeAnswer most text _ out = ⊥
 
 -- what is written to a text where the program ends so: the answer alone; after a write fault only its first bytes; else nothing
-abbrev pub WritesRange : List ℕ → Ended → Option (List ℕ) → Option (List ℕ) → Type 0
-WritesRange text ReadFault old new = Keeps old new
-WritesRange text NoMemory old new = Keeps old new
-WritesRange text NoWorker old new = Keeps old new
-WritesRange text WriteFault old new =
-    (ended : Ended) × (out : List ℕ) × (n : ℕ) × IsRangeAnswer text ended out × (n < length out) × Appends old new (take n out)
-WritesRange text ended old new = (out : List ℕ) × IsRangeAnswer text ended out × Appends old new out
+abbrev pub WritesRange : ℕ → List ℕ → Ended → Option (List ℕ) → Option (List ℕ) → Type 0
+WritesRange most text ReadFault old new = Keeps old new
+WritesRange most text NoMemory old new = Keeps old new
+WritesRange most text NoWorker old new = Keeps old new
+WritesRange most text WriteFault old new =
+    (ended : Ended) × (out : List ℕ) × (n : ℕ) × IsRangeAnswer most text ended out × (n < length out) × Appends old new (take n out)
+WritesRange most text ended old new = (out : List ℕ) × IsRangeAnswer most text ended out × Appends old new out
 
 -- the same of what a reader gives, where its bytes are known
-abbrev pub WritesRangeFor : Option (List ℕ) → Ended → Option (List ℕ) → Option (List ℕ) → Type 0
-WritesRangeFor given ended old new = IfSome given (λ text. WritesRange text ended old new)
+abbrev pub WritesRangeFor : ℕ → Option (List ℕ) → Ended → Option (List ℕ) → Option (List ℕ) → Type 0
+WritesRangeFor most given ended old new = IfSome given (λ text. WritesRange most text ended old new)

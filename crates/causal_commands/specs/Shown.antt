@@ -1,9 +1,9 @@
--- What a run of the program writes that shows why a verdict is so.
+-- What a run of the program writes that shows why a verdict is so. `most` is how many entries the trace may have.
 use Rattle.std.specs.Prelude.{◌≡◌, ◌≢◌, ℕ, ◌<◌, List, [], ◌++◌, length, take, Option, IfSome}
 use Rattle.std.specs.Io.KnownBytes.{Appends, Keeps}
 use Rattle.causal_trace.specs.Rows.{Recording}
 use Rattle.causal_text.specs.declared.kind.TextFault.{TextFault}
-use Rattle.causal_text.specs.Spelling.{IsFirstFault}
+use Rattle.causal_text.specs.Spelling.{IsFirstFaultWithin}
 use Rattle.causal_audit.specs.declared.verdict.Verdict.TheVariants.{Accept}
 use Rattle.causal_report.specs.Drawings.{IsDrawing}
 use Rattle.causal_report.specs.Reasons.{IsReason}
@@ -13,7 +13,7 @@ use Rattle.causal_commands.specs.declared.shown.View.{View}
 use Rattle.causal_commands.specs.declared.shown.View.TheVariants.{Reason, Picture}
 use Rattle.causal_commands.specs.Streams.{IsFaultLine}
 use Rattle.causal_workers.specs.declared.judged.Judged.{Judged}
-use Rattle.causal_workers.specs.Judgements.{IsJudgement}
+use Rattle.causal_workers.specs.Judgements.{IsJudgementWithin}
 use Rattle.causal_workers.specs.Lines.{verdict_line}
 
 -- what a view shows of a recording that is judged so for f: the line of the verdict, and below it why it is so; or its picture
@@ -22,32 +22,32 @@ IsShowing Reason r f judged out = (reason : List ℕ) × IsReason r f judged.ver
 IsShowing Picture r f judged out = IsDrawing r f judged.verdict out
 
 -- the text spells a trace that is judged so for f, and this is shown of it
-pub record IsShown (view : View) (text : List ℕ) (f : ℕ) (judged : Judged) (out : List ℕ) : Type 0 where
-  pub judgement : IsJudgement text f judged
+pub record IsShown (most : ℕ) (view : View) (text : List ℕ) (f : ℕ) (judged : Judged) (out : List ℕ) : Type 0 where
+  pub judgement : IsJudgementWithin most text f judged
   pub shows : IsShowing view judgement.recording f judged out
 
 -- what is shown of the first fault of a text: its line, and no picture
-abbrev pub IsFaultShown : View → List ℕ → List ℕ → Type 0
-IsFaultShown Reason text out = IsFaultLine text out
-IsFaultShown Picture text out = (fault : TextFault) × IsFirstFault text fault × (out ≡ [])
+abbrev pub IsFaultShown : ℕ → View → List ℕ → List ℕ → Type 0
+IsFaultShown most Reason text out = IsFaultLine most text out
+IsFaultShown most Picture text out = (fault : TextFault) × IsFirstFaultWithin most text fault × (out ≡ [])
 
 -- the reply to a text for f where the program ends so: what is shown of the trace that it spells, or of its first fault
-abbrev pub IsReply : View → List ℕ → ℕ → Ended → List ℕ → Type 0
-IsReply view text f Accepted out = (judged : Judged) × IsShown view text f judged out × (judged.verdict ≡ Accept)
-IsReply view text f Breached out = (judged : Judged) × IsShown view text f judged out × (judged.verdict ≢ Accept)
-IsReply view text f Faulted out = IsFaultShown view text out
-IsReply view text f _ out = ⊥
+abbrev pub IsReply : ℕ → View → List ℕ → ℕ → Ended → List ℕ → Type 0
+IsReply most view text f Accepted out = (judged : Judged) × IsShown most view text f judged out × (judged.verdict ≡ Accept)
+IsReply most view text f Breached out = (judged : Judged) × IsShown most view text f judged out × (judged.verdict ≢ Accept)
+IsReply most view text f Faulted out = IsFaultShown most view text out
+IsReply most view text f _ out = ⊥
 
 -- what is written to a text for f where the program ends so, from what the writer held before to what it holds afterwards:
 -- the reply alone; after a write fault only its first bytes; else nothing
-abbrev pub Shows : View → List ℕ → ℕ → Ended → Option (List ℕ) → Option (List ℕ) → Type 0
-Shows view text f ReadFault old new = Keeps old new
-Shows view text f NoMemory old new = Keeps old new
-Shows view text f NoWorker old new = Keeps old new
-Shows view text f WriteFault old new =
-    (ended : Ended) × (out : List ℕ) × (n : ℕ) × IsReply view text f ended out × (n < length out) × Appends old new (take n out)
-Shows view text f ended old new = (out : List ℕ) × IsReply view text f ended out × Appends old new out
+abbrev pub Shows : ℕ → View → List ℕ → ℕ → Ended → Option (List ℕ) → Option (List ℕ) → Type 0
+Shows most view text f ReadFault old new = Keeps old new
+Shows most view text f NoMemory old new = Keeps old new
+Shows most view text f NoWorker old new = Keeps old new
+Shows most view text f WriteFault old new =
+    (ended : Ended) × (out : List ℕ) × (n : ℕ) × IsReply most view text f ended out × (n < length out) × Appends old new (take n out)
+Shows most view text f ended old new = (out : List ℕ) × IsReply most view text f ended out × Appends old new out
 
 -- the same of what a reader gives, where its bytes are known
-abbrev pub ShowsFor : View → Option (List ℕ) → ℕ → Ended → Option (List ℕ) → Option (List ℕ) → Type 0
-ShowsFor view given f ended old new = IfSome given (λ text. Shows view text f ended old new)
+abbrev pub ShowsFor : ℕ → View → Option (List ℕ) → ℕ → Ended → Option (List ℕ) → Option (List ℕ) → Type 0
+ShowsFor most view given f ended old new = IfSome given (λ text. Shows most view text f ended old new)

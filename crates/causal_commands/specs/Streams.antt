@@ -1,38 +1,43 @@
--- What a run of the program writes.
+-- What a run of the program writes. `most` is how many entries the trace may have.
 use Rattle.std.specs.Prelude.{◌≡◌, ◌≢◌, ℕ, ◌<◌, List, length, take, Option, IfSome}
 use Rattle.std.specs.Io.KnownBytes.{Appends, Keeps}
+use Rattle.causal_trace.specs.Limits.{default_entries}
 use Rattle.causal_text.specs.declared.kind.TextFault.{TextFault}
-use Rattle.causal_text.specs.Spelling.{IsFirstFault}
+use Rattle.causal_text.specs.Spelling.{IsFirstFaultWithin}
 use Rattle.causal_text.specs.FaultLine.{fault_line}
 use Rattle.causal_audit.specs.declared.verdict.Verdict.TheVariants.{Accept}
 use Rattle.causal_commands.specs.declared.ended.Ended.{Ended}
 use Rattle.causal_commands.specs.declared.ended.Ended.TheVariants.{Accepted, Breached, Faulted, ReadFault, WriteFault, NoMemory, NoWorker}
 use Rattle.causal_workers.specs.declared.judged.Judged.{Judged}
-use Rattle.causal_workers.specs.Judgements.{IsJudgement}
+use Rattle.causal_workers.specs.Judgements.{IsJudgementWithin}
 use Rattle.causal_workers.specs.Lines.{verdict_line}
 
 -- the line tells the first fault of a text
-abbrev pub IsFaultLine : List ℕ → List ℕ → Type 0
-IsFaultLine text line = (fault : TextFault) × IsFirstFault text fault × (line ≡ fault_line fault)
+abbrev pub IsFaultLine : ℕ → List ℕ → List ℕ → Type 0
+IsFaultLine most text line = (fault : TextFault) × IsFirstFaultWithin most text fault × (line ≡ fault_line fault)
 
 -- the line that answers a text for f where the program ends so: that of the verdict on the trace that it spells, or that
 -- of its first fault
-abbrev pub IsAnswer : List ℕ → ℕ → Ended → List ℕ → Type 0
-IsAnswer text f Accepted line = (judged : Judged) × IsJudgement text f judged × (judged.verdict ≡ Accept) × (line ≡ verdict_line f judged)
-IsAnswer text f Breached line = (judged : Judged) × IsJudgement text f judged × (judged.verdict ≢ Accept) × (line ≡ verdict_line f judged)
-IsAnswer text f Faulted line = IsFaultLine text line
-IsAnswer text f _ line = ⊥
+abbrev pub IsAnswer : ℕ → List ℕ → ℕ → Ended → List ℕ → Type 0
+IsAnswer most text f Accepted line = (judged : Judged) × IsJudgementWithin most text f judged × (judged.verdict ≡ Accept) × (line ≡ verdict_line f judged)
+IsAnswer most text f Breached line = (judged : Judged) × IsJudgementWithin most text f judged × (judged.verdict ≢ Accept) × (line ≡ verdict_line f judged)
+IsAnswer most text f Faulted line = IsFaultLine most text line
+IsAnswer most text f _ line = ⊥
 
 -- what is written to a text for f where the program ends so, from what the writer held before to what it holds afterwards:
 -- the line of the answer alone; after a write fault only the first bytes of that line; else nothing
-abbrev pub Writes : List ℕ → ℕ → Ended → Option (List ℕ) → Option (List ℕ) → Type 0
-Writes text f ReadFault old new = Keeps old new
-Writes text f NoMemory old new = Keeps old new
-Writes text f NoWorker old new = Keeps old new
-Writes text f WriteFault old new =
-    (ended : Ended) × (line : List ℕ) × (n : ℕ) × IsAnswer text f ended line × (n < length line) × Appends old new (take n line)
-Writes text f ended old new = (line : List ℕ) × IsAnswer text f ended line × Appends old new line
+abbrev pub Writes : ℕ → List ℕ → ℕ → Ended → Option (List ℕ) → Option (List ℕ) → Type 0
+Writes most text f ReadFault old new = Keeps old new
+Writes most text f NoMemory old new = Keeps old new
+Writes most text f NoWorker old new = Keeps old new
+Writes most text f WriteFault old new =
+    (ended : Ended) × (line : List ℕ) × (n : ℕ) × IsAnswer most text f ended line × (n < length line) × Appends old new (take n line)
+Writes most text f ended old new = (line : List ℕ) × IsAnswer most text f ended line × Appends old new line
 
 -- the same of what a reader gives, where its bytes are known
+abbrev pub WritesWithin : ℕ → Option (List ℕ) → ℕ → Ended → Option (List ℕ) → Option (List ℕ) → Type 0
+WritesWithin most given f ended old new = IfSome given (λ text. Writes most text f ended old new)
+
+-- the same by the limits where nobody sets others
 abbrev pub WritesFor : Option (List ℕ) → ℕ → Ended → Option (List ℕ) → Option (List ℕ) → Type 0
-WritesFor given f ended old new = IfSome given (λ text. Writes text f ended old new)
+WritesFor given f ended old new = WritesWithin default_entries given f ended old new

@@ -12,6 +12,7 @@ use crate::stream::{Answer, Told};
 use crate::{range, shown, stream};
 use causal_report::{ranges_object, verdict_object};
 use causal_text::write_whole;
+use causal_trace::limits::Limits;
 use causal_workers::OpenGate;
 use std::alloc::{AllocError, Global};
 use std::io::{Read, Write};
@@ -41,9 +42,9 @@ impl Question {
     }
 }
 
-/// Reads the text of a trace, and writes the answer to a question as one JSON object on one line; or that of the text's first
-/// fault. Where the reader or the writer fails, or memory or a worker is refused, the answer says so. With one worker there is no
-/// `NoWorker`.
+/// Reads the text of a trace within the limits, and writes the answer to a question as one JSON object on one line; or that of the
+/// text's first fault. Where the reader or the writer fails, or memory or a worker is refused, the answer says so. With one worker
+/// there is no `NoWorker`.
 ///
 /// The text is read in pieces of 4,096 bytes, up to its end or to the piece with its first fault.
 pub fn answer_as_json<R: Threads + Wait, I: Read, O: Write>(
@@ -51,19 +52,21 @@ pub fn answer_as_json<R: Threads + Wait, I: Read, O: Write>(
     alloc: Global,
     input: &mut I,
     output: &mut O,
+    limits: Limits,
     question: Question,
 ) -> Told<Refusal>
     requires { told.HasFewWorkers question }
-    ensures writes { told.WritesObjectFor question (I.remaining input.old) result.ended
-        (O.contents output.old) (O.contents output.new) }
-    ensures fault { NamesFirstFault (I.remaining input.old) (told.faults_of question) result.fault }
+    ensures writes { told.WritesObjectFor limits.entries question (I.remaining input.old)
+        result.ended (O.contents output.old) (O.contents output.new) }
+    ensures fault { NamesFirstFault limits.entries (I.remaining input.old)
+        (told.faults_of question) result.fault }
     ensures alone { result.ended ≡ Ended.NoWorker → 2 ≤ told.workers_of question }
 {
     let Answer {
         ended,
         line,
         rejected,
-    } = match object_for(rt, alloc, input, question) {
+    } = match object_for(rt, alloc, input, limits, question) {
         Ok(answer) => answer,
         Err(ended) => return Told { ended, fault: None },
     };
@@ -80,13 +83,14 @@ fn object_for<I: Read, R: Threads + Wait>(
     rt: &R,
     alloc: Global,
     input: &mut I,
+    limits: Limits,
     question: Question,
 ) -> Result<Answer, Ended>
     requires { told.HasFewWorkers question }
-    ensures ok { IfOk result
-        (λ answer. IsObjectFor question (I.remaining input.old) answer.ended answer.line.items) }
+    ensures ok { IfOk result (λ answer. IsObjectFor limits.entries question
+        (I.remaining input.old) answer.ended answer.line.items) }
     ensures rejected { IfOk result
-        (λ answer. NamesRejected (I.remaining input.old) answer.rejected) }
+        (λ answer. NamesRejected limits.entries (I.remaining input.old) answer.rejected) }
     ensures whole { IfOk result (λ answer. answer.ended ≢ Ended.NoWorker) }
     ensures err { IfErr result IsSilent }
     ensures alone { result ≡ Err Ended.NoWorker → 2 ≤ told.workers_of question }
@@ -95,7 +99,7 @@ fn object_for<I: Read, R: Threads + Wait>(
         ended,
         line,
         rejected,
-    } = match lines_for(rt, alloc, input, question) {
+    } = match lines_for(rt, alloc, input, limits, question) {
         Ok(answer) => answer,
         Err(ended) => return Err(ended),
     };
@@ -113,23 +117,26 @@ fn lines_for<I: Read, R: Threads + Wait>(
     rt: &R,
     alloc: Global,
     input: &mut I,
+    limits: Limits,
     question: Question,
 ) -> Result<Answer, Ended>
     requires { told.HasFewWorkers question }
-    ensures ok { IfOk result
-        (λ answer. AreLinesFor question (I.remaining input.old) answer.ended answer.line.items) }
+    ensures ok { IfOk result (λ answer. AreLinesFor limits.entries question
+        (I.remaining input.old) answer.ended answer.line.items) }
     ensures rejected { IfOk result
-        (λ answer. NamesRejected (I.remaining input.old) answer.rejected) }
+        (λ answer. NamesRejected limits.entries (I.remaining input.old) answer.rejected) }
     ensures whole { IfOk result (λ answer. answer.ended ≢ Ended.NoWorker) }
     ensures err { IfErr result IsSilent }
     ensures alone { result ≡ Err Ended.NoWorker → 2 ≤ told.workers_of question }
 {
     match question {
         Question::Verdict { faults, workers } => {
-            stream::answered(rt, alloc, input, faults, workers, &OpenGate)
+            stream::answered(rt, alloc, input, limits, faults, workers, &OpenGate)
         }
-        Question::Reason { faults } => shown::answered(rt, alloc, input, faults, View::Reason),
-        Question::Range => range::answered(alloc, input),
+        Question::Reason { faults } => {
+            shown::answered(rt, alloc, input, limits, faults, View::Reason)
+        }
+        Question::Range => range::answered(alloc, input, limits),
     }
 }
 

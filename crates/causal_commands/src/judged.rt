@@ -1,12 +1,14 @@
 //! From the text of a trace to its verdict.
 ghost use Rattle.std.specs.Prelude.{◌≡◌, ◌≢◌, ◌≤◌, ℕ, List, IfOk, IfErr, IfSome, Err};
-ghost use Rattle.causal_text.specs.Before.{IsRejection, TellsUnread};
-ghost use Rattle.causal_text.specs.Spelling.{Spells};
-ghost use Rattle.causal_workers.specs.Judgements.{IsJudgement};
+ghost use Rattle.causal_trace.specs.Limits.{default_entries};
+ghost use Rattle.causal_text.specs.Before.{IsRejectionWithin, TellsUnreadWithin};
+ghost use Rattle.causal_text.specs.Spelling.{SpellsWithin};
+ghost use Rattle.causal_workers.specs.Judgements.{IsJudgement, IsJudgementWithin};
 ghost use Rattle.causal_commands.specs.Judgements.{TellsFirstFault};
 ghost use Rattle.causal_commands.specs.Inside.Refusals.{TellsStop};
 
-use causal_text::{Rejected, TextFault, TextKind, Unread, read_keeping};
+use causal_text::{Rejected, TextFault, TextKind, Unread, read_within};
+use causal_trace::limits::{DEFAULT_LIMITS, Limits};
 use causal_trace::trace::Trace;
 use causal_workers::{AuditFault, Gate, Judged, judge_trace};
 use std::alloc::Global;
@@ -43,22 +45,27 @@ pub(crate) enum Stopped {
     NoWorker,
 }
 
-/// The trace that the bytes of a reader spell.
-pub(crate) fn trace_from<I: Read>(alloc: Global, input: &mut I) -> Result<Trace, Stopped>
-    ensures ok { IfOk result
-        (λ trace. IfSome (I.remaining input.old) (λ text. Spells text trace.recording)) }
-    ensures err { IfErr result
-        (λ stopped. IfSome (I.remaining input.old) (λ text. TellsStop text stopped)) }
+/// The trace that the bytes of a reader spell, within the limits.
+pub(crate) fn trace_from<I: Read>(
+    alloc: Global,
+    input: &mut I,
+    limits: Limits,
+) -> Result<Trace, Stopped>
+    ensures ok { IfOk result (λ trace. IfSome (I.remaining input.old)
+        (λ text. SpellsWithin limits.entries text trace.recording)) }
+    ensures err { IfErr result (λ stopped. IfSome (I.remaining input.old)
+        (λ text. TellsStop limits.entries text stopped)) }
     ensures alone { result ≢ Err Stopped.NoWorker }
 {
-    match read_keeping(alloc, input) {
+    match read_within(alloc, input, limits) {
         Ok(trace) => Ok(trace),
         Err(unread) => Err(unread_so(unread)),
     }
 }
 
 fn unread_so(unread: Unread) -> Stopped
-    ensures told { (text : List ℕ) → TellsUnread text unread → TellsStop text result }
+    ensures told { (most : ℕ) (text : List ℕ) → TellsUnreadWithin most text unread
+        → TellsStop most text result }
     ensures alone { result ≢ Stopped.NoWorker }
 {
     match unread {
@@ -68,7 +75,8 @@ fn unread_so(unread: Unread) -> Stopped
 }
 
 fn rejected_so(rejected: Rejected) -> Stopped
-    ensures told { (text : List ℕ) → IsRejection text rejected → TellsStop text result }
+    ensures told { (most : ℕ) (text : List ℕ) → IsRejectionWithin most text rejected
+        → TellsStop most text result }
     ensures alone { result ≢ Stopped.NoWorker }
 {
     match rejected.fault.kind {
@@ -98,14 +106,15 @@ pub fn audit_from<I: Read, G: Gate + Sync, R: Threads + Wait>(
         (λ fault. IfSome (I.remaining input.old) (λ text. TellsFirstFault text fault)) }
     ensures alone { result ≡ Err StreamFault.NoWorker → 2 ≤ workers }
 {
-    match judged_from(rt, alloc, input, f, workers, gate) {
+    match judged_from(rt, alloc, input, DEFAULT_LIMITS, f, workers, gate) {
         Ok(judged) => Ok(judged),
         Err(stopped) => Err(fault_of(stopped)),
     }
 }
 
 fn fault_of(stopped: Stopped) -> StreamFault
-    ensures told { (text : List ℕ) → TellsStop text stopped → TellsFirstFault text result }
+    ensures told { (text : List ℕ) → TellsStop default_entries text stopped
+        → TellsFirstFault text result }
     ensures alone { result ≡ StreamFault.NoWorker → stopped ≡ Stopped.NoWorker }
 {
     match stopped {
@@ -116,23 +125,24 @@ fn fault_of(stopped: Stopped) -> StreamFault
     }
 }
 
-/// The same, with what stands before a fault where there is no verdict.
+/// The same within the limits, with what stands before a fault where there is no verdict.
 pub(crate) fn judged_from<I: Read, G: Gate + Sync, R: Threads + Wait>(
     rt: &R,
     alloc: Global,
     input: &mut I,
+    limits: Limits,
     f: u16,
     workers: u32,
     gate: &G,
 ) -> Result<Judged, Stopped>
     requires { (1 ≤ workers) × (workers ≤ 64) }
-    ensures ok { IfOk result
-        (λ judged. IfSome (I.remaining input.old) (λ text. IsJudgement text f judged)) }
-    ensures err { IfErr result
-        (λ stopped. IfSome (I.remaining input.old) (λ text. TellsStop text stopped)) }
+    ensures ok { IfOk result (λ judged. IfSome (I.remaining input.old)
+        (λ text. IsJudgementWithin limits.entries text f judged)) }
+    ensures err { IfErr result (λ stopped. IfSome (I.remaining input.old)
+        (λ text. TellsStop limits.entries text stopped)) }
     ensures alone { result ≡ Err Stopped.NoWorker → 2 ≤ workers }
 {
-    let trace = match trace_from(alloc, input) {
+    let trace = match trace_from(alloc, input, limits) {
         Ok(trace) => trace,
         Err(stopped) => return Err(stopped),
     };

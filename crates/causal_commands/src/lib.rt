@@ -31,7 +31,7 @@ pub use ended::Ended;
 pub use hint::hint_of;
 pub use json::{Question, answer_as_json};
 pub use judged::{StreamFault, audit_from};
-pub use merging::{MOST_MERGED, Merging, merge_and_tell};
+pub use merging::{Merging, merge_and_tell};
 pub use noted::Noted;
 pub use range::{range_and_tell, range_text};
 pub use reading::{MOST_READ, ReadFault, read_script};

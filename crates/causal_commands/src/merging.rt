@@ -5,13 +5,11 @@ ghost use Rattle.causal_commands.specs.Inside.Merged.{AnswersFault, AnswersTrace
 
 use crate::ended::Ended;
 use crate::reading::{ReadFault, read_at_most};
-use causal_merge::{MergeFault, MergeKind, Merged, fault_line, merge_text};
+use causal_merge::{MergeFault, MergeKind, Merged, bytes_within, fault_line, merge_within};
 use causal_text::{TextKind, text_of, write_whole};
+use causal_trace::limits::Limits;
 use std::alloc::Global;
 use std::io::{Read, Write};
-
-/// How many bytes of recordings are read at most: one more than they may have, so that recordings that are too long are told.
-pub const MOST_MERGED: usize = 67_108_865;
 
 /// How a merge ended, and what there is to say of the recordings.
 #[derive(Drop)]
@@ -23,16 +21,22 @@ pub struct Merging {
     pub fault: Option<MergeFault>,
 }
 
-/// Reads the recordings of all processes of one run, their lines in any order, and writes the trace that they make; or the line
-/// of their first fault. Where the reader or the writer fails, or memory is refused, the answer says so.
+/// Reads the recordings of all processes of one run within the limits, their lines in any order, and writes the trace that they
+/// make; or the line of their first fault. Where the reader or the writer fails, or memory is refused, the answer says so.
 ///
-/// At most 67,108,865 bytes are read, in pieces of 4,096, before anything is written.
-pub fn merge_and_tell<I: Read, O: Write>(alloc: Global, input: &mut I, output: &mut O) -> Merging
-    ensures writes { WritesMergeFor (I.remaining input.old) result
+/// One byte more than they may have is read at most, so that recordings that are too long are told: by the usual limits
+/// 67,108,865. They are read in pieces of 4,096 bytes, before anything is written.
+pub fn merge_and_tell<I: Read, O: Write>(
+    alloc: Global,
+    input: &mut I,
+    output: &mut O,
+    limits: Limits,
+) -> Merging
+    ensures writes { WritesMergeFor limits.entries (I.remaining input.old) result
         (O.contents output.old) (O.contents output.new) }
-    ensures most { ReadsNoMore (I.remaining input.old) (I.remaining input.new) }
+    ensures most { ReadsNoMore limits.entries (I.remaining input.old) (I.remaining input.new) }
 {
-    let Answer { merging, text } = match answer_from(alloc, input) {
+    let Answer { merging, text } = match answer_from(alloc, input, limits) {
         Ok(answer) => answer,
         Err(ended) => return silent(alloc, ended),
     };
@@ -64,24 +68,25 @@ struct Answer {
     text: Vec<u8>,
 }
 
-fn answer_from<I: Read>(alloc: Global, input: &mut I) -> Result<Answer, Ended>
-    ensures ok { IfOk result
-        (λ answer. IsMergeFor (I.remaining input.old) answer.merging answer.text.items) }
+fn answer_from<I: Read>(alloc: Global, input: &mut I, limits: Limits) -> Result<Answer, Ended>
+    ensures ok { IfOk result (λ answer. IsMergeFor limits.entries (I.remaining input.old)
+        answer.merging answer.text.items) }
     ensures err { IfErr result IsSilentMerge }
-    ensures most { ReadsNoMore (I.remaining input.old) (I.remaining input.new) }
+    ensures most { ReadsNoMore limits.entries (I.remaining input.old) (I.remaining input.new) }
 {
-    match read_at_most(alloc, input, MOST_MERGED) {
-        Ok(text) => answer_to(alloc, text.as_slice()),
+    match read_at_most(alloc, input, bytes_within(limits) + 1) {
+        Ok(text) => answer_to(alloc, text.as_slice(), limits),
         Err(ReadFault::Read) => Err(Ended::ReadFault),
         Err(ReadFault::NoMemory) => Err(Ended::NoMemory),
     }
 }
 
-fn answer_to(alloc: Global, text: &[u8]) -> Result<Answer, Ended>
-    ensures ok { IfOk result (λ answer. IsMerge text.now answer.merging answer.text.items) }
+fn answer_to(alloc: Global, text: &[u8], limits: Limits) -> Result<Answer, Ended>
+    ensures ok { IfOk result
+        (λ answer. IsMerge limits.entries text.now answer.merging answer.text.items) }
     ensures err { IfErr result IsSilentMerge }
 {
-    match merge_text(alloc, text) {
+    match merge_within(alloc, text, limits) {
         Ok(merged) => printed(alloc, merged),
         Err(fault) => faulted(alloc, fault),
     }

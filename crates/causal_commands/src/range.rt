@@ -12,28 +12,30 @@ use crate::stream::{Answer, Told, faulted};
 use causal_explain::{SafeRange, safe_range};
 use causal_name::NoMemory;
 use causal_text::write_whole;
+use causal_trace::limits::Limits;
 use std::alloc::Global;
 use std::io::{Read, Write};
 
-/// Reads the text of a trace, and writes for which numbers of faults it is safe; or the line of the text's first fault. Where the
-/// reader or the writer fails, or memory is refused, the answer says so.
+/// Reads the text of a trace within the limits, and writes for which numbers of faults it is safe; or the line of the text's first
+/// fault. Where the reader or the writer fails, or memory is refused, the answer says so.
 ///
 /// The text is read in pieces of 4,096 bytes, up to its end or to the piece with its first fault.
 pub fn range_and_tell<I: Read, O: Write>(
     alloc: Global,
     input: &mut I,
     output: &mut O,
+    limits: Limits,
 ) -> Told<Refusal>
-    ensures writes { told.WritesRangeFor (I.remaining input.old) result.ended
+    ensures writes { told.WritesRangeFor limits.entries (I.remaining input.old) result.ended
         (O.contents output.old) (O.contents output.new) }
-    ensures fault { NamesFirstFault (I.remaining input.old) 0 result.fault }
+    ensures fault { NamesFirstFault limits.entries (I.remaining input.old) 0 result.fault }
     ensures alone { result.ended ≢ Ended.NoWorker }
 {
     let Answer {
         ended,
         line,
         rejected,
-    } = match answered(alloc, input) {
+    } = match answered(alloc, input, limits) {
         Ok(answer) => answer,
         Err(ended) => return Told { ended, fault: None },
     };
@@ -45,16 +47,20 @@ pub fn range_and_tell<I: Read, O: Write>(
     Told { ended, fault }
 }
 
-pub(crate) fn answered<I: Read>(alloc: Global, input: &mut I) -> Result<Answer, Ended>
-    ensures ok { IfOk result
-        (λ answer. IsRangeAnswerFor (I.remaining input.old) answer.ended answer.line.items) }
+pub(crate) fn answered<I: Read>(
+    alloc: Global,
+    input: &mut I,
+    limits: Limits,
+) -> Result<Answer, Ended>
+    ensures ok { IfOk result (λ answer. IsRangeAnswerFor limits.entries (I.remaining input.old)
+        answer.ended answer.line.items) }
     ensures rejected { IfOk result
-        (λ answer. NamesRejected (I.remaining input.old) answer.rejected) }
+        (λ answer. NamesRejected limits.entries (I.remaining input.old) answer.rejected) }
     ensures whole { IfOk result (λ answer. answer.ended ≢ Ended.NoWorker) }
     ensures err { IfErr result IsSilent }
     ensures alone { result ≢ Err Ended.NoWorker }
 {
-    let trace = match trace_from(alloc, input) {
+    let trace = match trace_from(alloc, input, limits) {
         Ok(trace) => trace,
         Err(stopped) => return faulted(alloc, stopped),
     };

@@ -1,7 +1,7 @@
 //! What more there is to say of a text that is no trace: what is wrong with the line of its fault, and how the entries before it are
 //! judged. It is asked of what stands before the fault, once the answer is written.
 ghost use Rattle.std.specs.Prelude.{List, ℕ, IfOk, IfSome};
-ghost use Rattle.causal_text.specs.Before.{StandsBefore};
+ghost use Rattle.causal_text.specs.Before.{StandsBeforeWithin};
 ghost use Rattle.causal_commands.specs.Inside.Refusals.{IsRejectedSo};
 ghost use Rattle.causal_commands.specs.Judgements.{IsJudgedSo};
 ghost use Rattle.causal_commands.specs.Remarks.{IsRefusal, IsRemarkOn};
@@ -32,8 +32,8 @@ pub struct Remark {
 
 /// The fault of a text, with what more there is to say of it for f. It audits the entries before the fault on the calling thread.
 pub(crate) fn refusal_of(alloc: Global, f: u16, rejected: Option<Rejected>) -> Option<Refusal>
-    ensures { (text : List ℕ) → IfSome rejected (IsRejectedSo text)
-        → IfSome result (IsRefusal text f) }
+    ensures { (most : ℕ) (text : List ℕ) → IfSome rejected (IsRejectedSo most text)
+        → IfSome result (IsRefusal most text f) }
 {
     let Rejected { fault, before } = rejected?;
     Some(Refusal {
@@ -43,9 +43,9 @@ pub(crate) fn refusal_of(alloc: Global, f: u16, rejected: Option<Rejected>) -> O
 }
 
 fn remark_of(alloc: Global, f: u16, fault: TextFault, before: Option<Before>) -> Option<Remark>
-    ensures { (text : List ℕ)
-        → IfSome before (λ at. StandsBefore text fault.line at.trace.recording at.says)
-        → IfSome result (IsRemarkOn text f fault) }
+    ensures { (most : ℕ) (text : List ℕ)
+        → IfSome before (λ at. StandsBeforeWithin most text fault.line at.trace.recording at.says)
+        → IfSome result (IsRemarkOn most text f fault) }
 {
     let before = before?;
     match remark_on(alloc, &before, f, fault) {
@@ -55,8 +55,9 @@ fn remark_of(alloc: Global, f: u16, fault: TextFault, before: Option<Before>) ->
 }
 
 fn remark_on(alloc: Global, before: &Before, f: u16, fault: TextFault) -> Result<Remark, NoMemory>
-    ensures { IfOk result (λ remark. (text : List ℕ)
-        → StandsBefore text fault.line before.now.trace.recording before.now.says → IsRemarkOn text f fault remark) }
+    ensures { IfOk result (λ remark. (most : ℕ) (text : List ℕ)
+        → StandsBeforeWithin most text fault.line before.now.trace.recording before.now.says
+        → IsRemarkOn most text f fault remark) }
 {
     Ok(Remark {
         wrong: wrong_with(alloc, &before.trace, &before.says, fault.kind)?,

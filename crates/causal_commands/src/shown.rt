@@ -14,6 +14,7 @@ use crate::stream::{Answer, Told, ended_of, faulted};
 use causal_name::NoMemory;
 use causal_report::{drawing_of, reason_text};
 use causal_text::write_whole;
+use causal_trace::limits::Limits;
 use causal_trace::trace::Trace;
 use causal_workers::{Judged, OpenGate, judge_trace, verdict_line};
 use std::alloc::Global;
@@ -30,9 +31,9 @@ pub enum View {
     Picture,
 }
 
-/// Reads the text of a trace, audits it for f by one worker, and writes what the view shows of it; or the line of the text's
-/// first fault, of which there is no picture. Where the reader or the writer fails, or memory is refused, the answer says so.
-/// There is no `NoWorker`.
+/// Reads the text of a trace within the limits, audits it for f by one worker, and writes what the view shows of it; or the line of
+/// the text's first fault, of which there is no picture. Where the reader or the writer fails, or memory is refused, the answer says
+/// so. There is no `NoWorker`.
 ///
 /// The text is read in pieces of 4,096 bytes, up to its end or to the piece with its first fault.
 pub fn show_and_tell<R: Threads + Wait, I: Read, O: Write>(
@@ -40,19 +41,20 @@ pub fn show_and_tell<R: Threads + Wait, I: Read, O: Write>(
     alloc: Global,
     input: &mut I,
     output: &mut O,
+    limits: Limits,
     f: u16,
     view: View,
 ) -> Told<Refusal>
-    ensures writes { ShowsFor view (I.remaining input.old) f result.ended
+    ensures writes { ShowsFor limits.entries view (I.remaining input.old) f result.ended
         (O.contents output.old) (O.contents output.new) }
-    ensures fault { NamesFirstFault (I.remaining input.old) f result.fault }
+    ensures fault { NamesFirstFault limits.entries (I.remaining input.old) f result.fault }
     ensures alone { result.ended ≢ Ended.NoWorker }
 {
     let Answer {
         ended,
         line,
         rejected,
-    } = match answered(rt, alloc, input, f, view) {
+    } = match answered(rt, alloc, input, limits, f, view) {
         Ok(answer) => answer,
         Err(ended) => return Told { ended, fault: None },
     };
@@ -68,18 +70,19 @@ pub(crate) fn answered<I: Read, R: Threads + Wait>(
     rt: &R,
     alloc: Global,
     input: &mut I,
+    limits: Limits,
     f: u16,
     view: View,
 ) -> Result<Answer, Ended>
-    ensures ok { IfOk result
-        (λ answer. IsReplyFor view (I.remaining input.old) f answer.ended answer.line.items) }
+    ensures ok { IfOk result (λ answer. IsReplyFor limits.entries view (I.remaining input.old) f
+        answer.ended answer.line.items) }
     ensures rejected { IfOk result
-        (λ answer. NamesRejected (I.remaining input.old) answer.rejected) }
+        (λ answer. NamesRejected limits.entries (I.remaining input.old) answer.rejected) }
     ensures whole { IfOk result (λ answer. answer.ended ≢ Ended.NoWorker) }
     ensures err { IfErr result IsSilent }
     ensures alone { result ≢ Err Ended.NoWorker }
 {
-    match shown_from(rt, alloc, input, f, view) {
+    match shown_from(rt, alloc, input, limits, f, view) {
         Ok(Shown { judged, text }) => Ok(Answer {
             ended: ended_of(judged.verdict),
             line: text,
@@ -92,10 +95,10 @@ pub(crate) fn answered<I: Read, R: Threads + Wait>(
 /// What the view shows of the fault of a text that got no verdict, or how the program ends that writes none.
 fn fault_shown(alloc: Global, stopped: Stopped, view: View) -> Result<Answer, Ended>
     ensures ended { IfOk result (λ answer. answer.ended ≡ Ended.Faulted) }
-    ensures ok { IfOk result (λ answer. (text : List ℕ) → TellsStop text stopped
-        → IsFaultShown view text answer.line.items) }
-    ensures rejected { IfOk result (λ answer. (text : List ℕ) → TellsStop text stopped
-        → IfSome answer.rejected (IsRejectedSo text)) }
+    ensures ok { IfOk result (λ answer. (most : ℕ) (text : List ℕ) → TellsStop most text stopped
+        → IsFaultShown most view text answer.line.items) }
+    ensures rejected { IfOk result (λ answer. (most : ℕ) (text : List ℕ)
+        → TellsStop most text stopped → IfSome answer.rejected (IsRejectedSo most text)) }
     ensures err { IfErr result IsSilent }
     ensures alone { result ≡ Err Ended.NoWorker → stopped ≡ Stopped.NoWorker }
 {
@@ -124,16 +127,17 @@ fn shown_from<I: Read, R: Threads + Wait>(
     rt: &R,
     alloc: Global,
     input: &mut I,
+    limits: Limits,
     f: u16,
     view: View,
 ) -> Result<Shown, Stopped>
     ensures ok { IfOk result (λ shown. IfSome (I.remaining input.old)
-        (λ text. IsShown view text f shown.judged shown.text.items)) }
-    ensures err { IfErr result
-        (λ stopped. IfSome (I.remaining input.old) (λ text. TellsStop text stopped)) }
+        (λ text. IsShown limits.entries view text f shown.judged shown.text.items)) }
+    ensures err { IfErr result (λ stopped. IfSome (I.remaining input.old)
+        (λ text. TellsStop limits.entries text stopped)) }
     ensures alone { result ≢ Err Stopped.NoWorker }
 {
-    let trace = match trace_from(alloc, input) {
+    let trace = match trace_from(alloc, input, limits) {
         Ok(trace) => trace,
         Err(stopped) => return Err(stopped),
     };

@@ -10,7 +10,7 @@ use Rattle.causal_merge.specs.declared.event.Line.{Line}
 use Rattle.causal_merge.specs.declared.event.Placed.{Placed}
 use Rattle.causal_merge.specs.declared.fault.MergeFault.{MergeFault}
 use Rattle.causal_merge.specs.Said.{run_in}
-use Rattle.causal_merge.specs.Reading.{max_text, next_line, with_line, reading}
+use Rattle.causal_merge.specs.Reading.{most_bytes, next_line, with_line, reading}
 use Rattle.causal_text.specs.Lines.{lines}
 use Rattle.causal_merge.specs.declared.gathered.Gathered.{Gathered}
 use Rattle.causal_merge.specs.Inside.Gathering.{HasRead, HasCome}
@@ -35,29 +35,29 @@ reverse_upto all before rest x e =
     ap reverse e ∙ reverse-append (reverse before) (x ∷ rest) ∙ ap (λ zs. zs ++ reverse (reverse before)) (reverse_cons x rest)
     ∙ append_assoc (reverse rest) (x ∷ []) (reverse (reverse before)) ∙ ap (λ zs. reverse rest ++ x ∷ zs) (reverse-reverse before)
 
-pub reading-after : (newer before : List (List ℕ)) (f : MergeFault) → reading before ≡ Err f → reading (newer ++ before) ≡ Err f
-reading-after [] before f h = h
-reading-after (l ∷ newer) before f h =
-    ap (λ (r : Result (List Line) MergeFault). r >>= λ said. with_line said (next_line (run_in said) (sum_by length (l ∷ newer ++ before)) l)) (reading-after newer before f h)
+pub reading-after : (most : ℕ) (newer before : List (List ℕ)) (f : MergeFault) → reading most before ≡ Err f → reading most (newer ++ before) ≡ Err f
+reading-after most [] before f h = h
+reading-after most (l ∷ newer) before f h =
+    ap (λ (r : Result (List Line) MergeFault). r >>= λ said. with_line said (next_line most (run_in said) (sum_by length (l ∷ newer ++ before)) l)) (reading-after most newer before f h)
 
-pub merged-after : (n : ℕ) (newer before : List Placed) (f : MergeFault) → merged n before ≡ Err f → merged n (newer ++ before) ≡ Err f
-merged-after n [] before f h = h
-merged-after n (e ∷ newer) before f h =
-    ap (λ (r : Result (List Entry) MergeFault). r >>= λ past. with_event past e (event_fault n (newer ++ before) past e.event)) (merged-after n newer before f h)
+pub merged-after : (most n : ℕ) (newer before : List Placed) (f : MergeFault) → merged most n before ≡ Err f → merged most n (newer ++ before) ≡ Err f
+merged-after most n [] before f h = h
+merged-after most n (e ∷ newer) before f h =
+    ap (λ (r : Result (List Entry) MergeFault). r >>= λ past. with_event past e (event_fault most n (newer ++ before) past e.event)) (merged-after most n newer before f h)
 
 -- the fault of a line, with those before it, is that of the text
-pub reading-fault : (all before rest : List (List ℕ)) (line : List ℕ) (f : MergeFault) → all ≡ reverse before ++ line ∷ rest → gathering.IsFaultOf f (line ∷ before) → gathering.IsFaultOf f (reverse all)
-reading-fault all before rest line f split h = λ other. ap reading (reverse_upto all before rest line split) ∙ reading-after (reverse rest) (line ∷ before) f (h other)
+pub reading-fault : (most : ℕ) (all before rest : List (List ℕ)) (line : List ℕ) (f : MergeFault) → all ≡ reverse before ++ line ∷ rest → gathering.IsFaultOf most f (line ∷ before) → gathering.IsFaultOf most f (reverse all)
+reading-fault most all before rest line f split h = λ other. ap (reading most) (reverse_upto all before rest line split) ∙ reading-after most (reverse rest) (line ∷ before) f (h other)
 
 -- the fault of an event, with those before it, is that of all events
-pub merged-fault : (n m : ℕ) (all before rest : List Placed) (e : Placed) (f : MergeFault) → m ≡ n → all ≡ reverse before ++ e ∷ rest → merger.IsFaultOf m f (e ∷ before) → merger.IsFaultOf n f (reverse all)
-merged-fault n m all before rest e f same split h =
-    λ other. ap (merged n) (reverse_upto all before rest e split) ∙ merged-after n (reverse rest) (e ∷ before) f (subst (λ (k : ℕ). merged k (e ∷ before) ≡ Err f) same (h other))
+pub merged-fault : (most n m : ℕ) (all before rest : List Placed) (e : Placed) (f : MergeFault) → m ≡ n → all ≡ reverse before ++ e ∷ rest → merger.IsFaultOf most m f (e ∷ before) → merger.IsFaultOf most n f (reverse all)
+merged-fault most n m all before rest e f same split h =
+    λ other. ap (merged most n) (reverse_upto all before rest e split) ∙ merged-after most n (reverse rest) (e ∷ before) f (subst (λ (k : ℕ). merged most k (e ∷ before) ≡ Err f) same (h other))
 
 -- the entries of the events when none is left
-pub merged-all : (n m : ℕ) (all before rest : List Placed) (past : List Entry) → m ≡ n → all ≡ reverse before ++ rest → rest ≡ [] → merged m before ≡ Ok past → merged n (reverse all) ≡ Ok past
-merged-all n m all before rest past same split none h =
-    ap (merged n) (reverse_whole all before (split ∙ ap (λ es. reverse before ++ es) none)) ∙ subst (λ (k : ℕ). merged k before ≡ Ok past) same h
+pub merged-all : (most n m : ℕ) (all before rest : List Placed) (past : List Entry) → m ≡ n → all ≡ reverse before ++ rest → rest ≡ [] → merged most m before ≡ Ok past → merged most n (reverse all) ≡ Ok past
+merged-all most n m all before rest past same split none h =
+    ap (merged most n) (reverse_whole all before (split ∙ ap (λ es. reverse before ++ es) none)) ∙ subst (λ (k : ℕ). merged most k before ≡ Ok past) same h
 
 -- where a line ends
 pub end_is : (text left line after : List ℕ) (before : List (List ℕ)) (end : ℕ) → sum_by length before + length left ≡ length text → left ≡ line ++ after → end ≡ length text - length after → end ≡ sum_by length (line ∷ before)
@@ -67,9 +67,9 @@ end_is text left line after before end size whole is =
     omega (arith, cons, joined, size, is)
 
 -- one more line
-pub come_on : (text left line after : List ℕ) (g h : Gathered) (end : ℕ) → HasCome text left g → lines left ≡ line ∷ lines after → left ≡ line ++ after → 0 < length line → end ≡ length text - length after
-    → ((before : List (List ℕ)) → HasRead g before → end ≡ sum_by length (line ∷ before) → HasRead h (line ∷ before)) → h.count ≡ g.count + 1 → end ≤ max_text → HasCome text after h
-come_on text left line after g h end come first whole some is read count within =
+pub come_on : (most : ℕ) (text left line after : List ℕ) (g h : Gathered) (end : ℕ) → HasCome most text left g → lines left ≡ line ∷ lines after → left ≡ line ++ after → 0 < length line → end ≡ length text - length after
+    → ((before : List (List ℕ)) → HasRead most g before → end ≡ sum_by length (line ∷ before) → HasRead most h (line ∷ before)) → h.count ≡ g.count + 1 → end ≤ most_bytes → HasCome most text after h
+come_on most text left line after g h end come first whole some is read count within =
     let cons = sum_by-cons length line come.before in
     let joined : length left ≡ length line + length after = ap length whole ∙ length-append line after in
     let size = come.size in
@@ -89,10 +89,10 @@ more_said said s (Ok x) h = (let same : x ∷ s ≡ said = cc in sym (ap length 
 more_said said s (Err k) h = absurd (cc)
 
 -- each line says one thing
-pub reading-length : (before : List (List ℕ)) (said : List Line) → reading before ≡ Ok said → length said ≡ length before
-reading-length [] said h = (let same : [] ≡ said = cc in sym (ap length same))
-reading-length (l ∷ before) said h = step (reading before) refl (λ s is. reading-length before s is) where
-  step : (r : Result (List Line) MergeFault) → reading before ≡ r → ((s : List Line) → reading before ≡ Ok s → length s ≡ length before) → length said ≡ suc (length before)
+pub reading-length : (most : ℕ) (before : List (List ℕ)) (said : List Line) → reading most before ≡ Ok said → length said ≡ length before
+reading-length most [] said h = (let same : [] ≡ said = cc in sym (ap length same))
+reading-length most (l ∷ before) said h = step (reading most before) refl (λ s is. reading-length most before s is) where
+  step : (r : Result (List Line) MergeFault) → reading most before ≡ r → ((s : List Line) → reading most before ≡ Ok s → length s ≡ length before) → length said ≡ suc (length before)
   step (Ok s) is shorter =
-      more_said said s (next_line (run_in s) (sum_by length (l ∷ before)) l) (sym (ap (λ (r : Result (List Line) MergeFault). r >>= λ t. with_line t (next_line (run_in t) (sum_by length (l ∷ before)) l)) is) ∙ h) ∙ ap suc (shorter s is)
-  step (Err f) is shorter = absurd (let no : Err f ≡ Ok said = sym (ap (λ (r : Result (List Line) MergeFault). r >>= λ t. with_line t (next_line (run_in t) (sum_by length (l ∷ before)) l)) is) ∙ h in cc)
+      more_said said s (next_line most (run_in s) (sum_by length (l ∷ before)) l) (sym (ap (λ (r : Result (List Line) MergeFault). r >>= λ t. with_line t (next_line most (run_in t) (sum_by length (l ∷ before)) l)) is) ∙ h) ∙ ap suc (shorter s is)
+  step (Err f) is shorter = absurd (let no : Err f ≡ Ok said = sym (ap (λ (r : Result (List Line) MergeFault). r >>= λ t. with_line t (next_line most (run_in t) (sum_by length (l ∷ before)) l)) is) ∙ h in cc)

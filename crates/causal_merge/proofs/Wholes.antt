@@ -13,7 +13,7 @@ use Rattle.causal_merge.specs.declared.gathered.Gathered.{Gathered}
 use Rattle.causal_merge.specs.Said.{IsWhole, LacksHeader}
 use Rattle.causal_merge.specs.Order.{IsMergedOrder}
 use Rattle.causal_merge.specs.Merged.{merged}
-use Rattle.causal_merge.specs.Merging.{Merges, IsFirstFault}
+use Rattle.causal_merge.specs.Merging.{MergesWithin, IsFirstFaultWithin}
 use Rattle.causal_merge.specs.Inside.Gathering.{Gathers, HasRead}
 use Rattle.causal_merge.proofs.Prefixes.{reading-length}
 
@@ -37,9 +37,9 @@ lacks_one g said run p h is less unset =
 pub lacks_all : (g : Gathered) (said : List Line) → Gathers g said → g.run ≡ None → LacksHeader said
 lacks_all g said h is = inl (sym h.run ∙ is)
 
-pub merges : (text : List ℕ) (g : Gathered) (run : Run) (order : List Placed) (r : Recording) → HasRead g (reverse (lines text)) → ((said : List Line) → Gathers g said → IsWhole said run) → IsMergedOrder g.events.items order
-    → r.processes ≡ run.processes → merged run.processes (reverse order) ≡ Ok r.past → Merges text r g.torn.items
-merges text g run order r read whole ordered processes entries = record {
+pub merges : (most : ℕ) (text : List ℕ) (g : Gathered) (run : Run) (order : List Placed) (r : Recording) → HasRead most g (reverse (lines text)) → ((said : List Line) → Gathers g said → IsWhole said run) → IsMergedOrder g.events.items order
+    → r.processes ≡ run.processes → merged most run.processes (reverse order) ≡ Ok r.past → MergesWithin most text r g.torn.items
+merges most text g run order r read whole ordered processes entries = record {
   said = read.0;
   says = read.1;
   run = run;
@@ -54,16 +54,16 @@ merges text g run order r read whole ordered processes entries = record {
 missing_at : ℕ → MergeFault
 missing_at n = record { line = n + 1; kind = kind.NoHeader }
 
-pub header_fault : (text : List ℕ) (g : Gathered) (f : MergeFault) → HasRead g (reverse (lines text)) → ((said : List Line) → Gathers g said → LacksHeader said × (f ≡ record { line = length said + 1; kind = kind.NoHeader })) → IsFirstFault text f
+pub header_fault : (most : ℕ) (text : List ℕ) (g : Gathered) (f : MergeFault) → HasRead most g (reverse (lines text)) → ((said : List Line) → Gathers g said → LacksHeader said × (f ≡ record { line = length said + 1; kind = kind.NoHeader })) → IsFirstFaultWithin most text f
 unfolding missing_at
-header_fault text g f read lacks =
+header_fault most text g f read lacks =
     let h = lacks read.0 read.2 in
-    let count : length read.0 ≡ length (lines text) = reading-length (reverse (lines text)) read.0 read.1 ∙ length-reverse (lines text) in
+    let count : length read.0 ≡ length (lines text) = reading-length most (reverse (lines text)) read.0 read.1 ∙ length-reverse (lines text) in
     inr (inl (record { said = read.0; says = read.1; lacks = h.0; is = h.1 ∙ ap missing_at count }))
 
-pub event_fault : (text : List ℕ) (g : Gathered) (run : Run) (order : List Placed) (f : MergeFault) → HasRead g (reverse (lines text)) → ((said : List Line) → Gathers g said → IsWhole said run) → IsMergedOrder g.events.items order
-    → merged run.processes (reverse order) ≡ Err f → IsFirstFault text f
-event_fault text g run order f read whole ordered faulty = inr (inr (record {
+pub event_fault : (most : ℕ) (text : List ℕ) (g : Gathered) (run : Run) (order : List Placed) (f : MergeFault) → HasRead most g (reverse (lines text)) → ((said : List Line) → Gathers g said → IsWhole said run) → IsMergedOrder g.events.items order
+    → merged most run.processes (reverse order) ≡ Err f → IsFirstFaultWithin most text f
+event_fault most text g run order f read whole ordered faulty = inr (inr (record {
   said = read.0;
   says = read.1;
   run = run;

@@ -1,12 +1,12 @@
--- The entries that events become, and what stands against an event, in the merged order. Lists have the newest first.
+-- The entries that events become, and what stands against an event, in the merged order. Lists have the newest first, and `most` is
+-- how many entries there may be.
 use Rattle.std.specs.Prelude.{ℕ, ◌==◌, ◌&&◌, not, nat_lt, if◌then◌else◌, Bool, true, false, List, [], ◌∷◌, length, Option, Some, None, option_map, unwrap_or, Result, Ok, Err}
 use Rattle.causal_name.specs.declared.Pid.{Pid}
 use Rattle.causal_name.specs.declared.Det.{Det}
 use Rattle.causal_trace.specs.declared.entry.Entry.{Entry}
 use Rattle.causal_trace.specs.declared.entry.Entry.TheVariants as entry
 use Rattle.causal_trace.specs.Past.{lane}
-use Rattle.causal_trace.specs.Limits.{default_entries}
-use Rattle.causal_trace.specs.Rows.{passes, fault_next}
+use Rattle.causal_trace.specs.Rows.{passes, fault_within}
 use Rattle.causal_text.specs.declared.kind.TextKind.TheVariants.{TooLong, NoProcess}
 use Rattle.causal_text.specs.Reading.{◌>>=◌}
 use Rattle.causal_text.specs.Stages.{kind_of}
@@ -64,10 +64,10 @@ is_twice [] e = false
 is_twice (last ∷ before) e = last.event.clock == e.clock && last.event.process.0 == e.process.0
 
 -- what stands against the next event after these, before it is an entry, in the order in which it is asked
-abbrev pub early_fault : ℕ → List Placed → List Entry → Event → Option MergeKind
-early_fault n before past e =
+abbrev pub early_fault : ℕ → ℕ → List Placed → List Entry → Event → Option MergeKind
+early_fault most n before past e =
     if is_twice before e then Some kind.Twice else
-    if passes default_entries past (length (listed_by e.act)) then Some (kind.Line TooLong) else
+    if passes most past (length (listed_by e.act)) then Some (kind.Line TooLong) else
     if not (has_processes n e) then Some (kind.Line NoProcess) else
     None
 
@@ -77,8 +77,9 @@ or_later (Some k) later = Some k
 or_later None later = later
 
 -- what stands against the next event: that, or what stands against its entry in a trace
-abbrev pub event_fault : ℕ → List Placed → List Entry → Event → Option MergeKind
-event_fault n before past e = or_later (early_fault n before past e) (option_map (λ f. kind.Line (kind_of f)) (fault_next (record { processes = n; past = past }) (entry_of past e.process e.act)))
+abbrev pub event_fault : ℕ → ℕ → List Placed → List Entry → Event → Option MergeKind
+event_fault most n before past e =
+    or_later (early_fault most n before past e) (option_map (λ f. kind.Line (kind_of f)) (fault_within most (record { processes = n; past = past }) (entry_of past e.process e.act)))
 
 -- one more event becomes its entry, where nothing stands against it
 abbrev pub with_event : List Entry → Placed → Option MergeKind → Result (List Entry) MergeFault
@@ -86,6 +87,6 @@ with_event past e None = Ok (entry_of past e.event.process e.event.act ∷ past)
 with_event past e (Some k) = Err (record { line = e.line; kind = k })
 
 -- the entries of these events in a run of n processes; else the fault of the oldest that has one
-abbrev pub merged : ℕ → List Placed → Result (List Entry) MergeFault
-merged n [] = Ok []
-merged n (e ∷ before) = merged n before >>= λ past. with_event past e (event_fault n before past e.event)
+abbrev pub merged : ℕ → ℕ → List Placed → Result (List Entry) MergeFault
+merged most n [] = Ok []
+merged most n (e ∷ before) = merged most n before >>= λ past. with_event past e (event_fault most n before past e.event)

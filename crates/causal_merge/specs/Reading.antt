@@ -1,5 +1,5 @@
--- What the lines of a text say, or the first fault of a line.
-use Rattle.std.specs.Prelude.{ℕ, ◌+◌, ◌==◌, ◌&&◌, nat_lt, if◌then◌else◌, List, [], ◌∷◌, length, sum_by, Option, unwrap_or, Result, Ok, Err, Bool}
+-- What the lines of a text say, or the first fault of a line. `most` is how many entries the trace may have.
+use Rattle.std.specs.Prelude.{ℕ, ◌+◌, ◌*◌, ◌==◌, ◌&&◌, nat_lt, min, if◌then◌else◌, List, [], ◌∷◌, length, sum_by, Option, unwrap_or, Result, Ok, Err, Bool}
 use Rattle.serde_json.specs.Data.{Data}
 use Rattle.causal_text.specs.declared.kind.TextKind.{TextKind}
 use Rattle.causal_text.specs.declared.kind.TextKind.TheVariants.{Big, Header, NoProcess}
@@ -14,9 +14,13 @@ use Rattle.causal_merge.specs.Shapes.{line_of}
 use Rattle.causal_merge.specs.Torn.{is_blank, is_torn}
 use Rattle.causal_merge.specs.Said.{run_in}
 
--- how many bytes the recordings may have in all
-abbrev pub max_text : ℕ
-max_text = 67108864
+-- how many bytes any recordings have at most
+abbrev pub most_bytes : ℕ
+most_bytes = 2147483648
+
+-- how many bytes recordings have at most whose trace is to have so many entries at most
+abbrev pub bytes_within : ℕ → ℕ
+bytes_within most = min (most * 1024) most_bytes
 
 -- what bytes say of which this is the JSON value, or which are none
 abbrev pub value_says : List ℕ → Result Data TextKind → Result Line TextKind
@@ -38,8 +42,8 @@ agreed first (says.Header process run) =
 agreed first said = Ok said
 
 -- what the next line says after a first header, or none, where it goes up to byte number `end` of the text
-abbrev pub next_line : Option Run → ℕ → List ℕ → Result Line TextKind
-next_line first end line = if nat_lt max_text end then Err Big else (bytes_say (content line) >>= agreed first)
+abbrev pub next_line : ℕ → Option Run → ℕ → List ℕ → Result Line TextKind
+next_line most first end line = if nat_lt (bytes_within most) end then Err Big else (bytes_say (content line) >>= agreed first)
 
 -- one more line, where it has no fault
 abbrev pub with_line : List Line → Result Line TextKind → Result (List Line) MergeFault
@@ -47,6 +51,6 @@ with_line said (Ok said_next) = Ok (said_next ∷ said)
 with_line said (Err k) = Err (record { line = length said + 1; kind = kind.Line k })
 
 -- what these lines say, the newest first in both lists; else the fault of the oldest that has one
-abbrev pub reading : List (List ℕ) → Result (List Line) MergeFault
-reading [] = Ok []
-reading (line ∷ before) = reading before >>= λ said. with_line said (next_line (run_in said) (sum_by length (line ∷ before)) line)
+abbrev pub reading : ℕ → List (List ℕ) → Result (List Line) MergeFault
+reading most [] = Ok []
+reading most (line ∷ before) = reading most before >>= λ said. with_line said (next_line most (run_in said) (sum_by length (line ∷ before)) line)

@@ -4,13 +4,14 @@ ghost use Rattle.causal_trace.specs.Limits.{IsProcessCount};
 ghost use Rattle.causal_text.specs.Given.{IsFaultGiven};
 ghost use Rattle.causal_merge.specs.declared.event.Line.{Line};
 ghost use Rattle.causal_merge.specs.Said.{IsWhole, LacksHeader};
-ghost use Rattle.causal_merge.specs.Reading.{max_text, next_line};
+ghost use Rattle.causal_merge.specs.Reading.{most_bytes, next_line};
 ghost use Rattle.causal_merge.specs.Inside.Gathering.{Gathers, HasRead, IsFaultOf, IsSound};
 
 use crate::event::{Line, Placed, Run};
 use crate::fault::{MergeFault, MergeKind};
 use crate::line::next_line;
 use causal_text::kind::TextKind;
+use causal_trace::limits::Limits;
 use std::alloc::Global;
 
 // the first of n that is not set
@@ -41,7 +42,7 @@ pub(crate) struct Gathered {
 impl Gathered {
     /// Before the first line.
     pub(crate) fn new(alloc: Global) -> Gathered
-        ensures read { HasRead result [] }
+        ensures read { (most : ℕ) → HasRead most result [] }
         ensures count { result.count ≡ 0 }
     {
         Gathered {
@@ -55,7 +56,7 @@ impl Gathered {
 
     // keeps what one more line says
     fn note(&mut self, line: Line) -> Result<(), TextKind>
-        requires few { self.old.count ≤ max_text }
+        requires few { self.old.count ≤ most_bytes }
         requires sound { IsSound line }
         ensures ok { OnOk result
             ((said : List Line) → Gathers self.old said → Gathers self.new (line ∷ said)) }
@@ -81,31 +82,46 @@ impl Gathered {
     }
 
     // reads one more line, which goes up to byte number `end` of the text
-    fn read_line(&mut self, alloc: Global, end: usize, line: &[u8]) -> Result<(), TextKind>
-        requires { self.old.count ≤ max_text }
+    fn read_line(
+        &mut self,
+        alloc: Global,
+        limits: Limits,
+        end: usize,
+        line: &[u8],
+    ) -> Result<(), TextKind>
+        requires { self.old.count ≤ most_bytes }
         ensures ok { OnOk result ((said : List Line) → Gathers self.old said → (next : Line)
-            × (next_line self.old.run end line.now ≡ Ok next) × Gathers self.new (next ∷ said)) }
+            × (next_line limits.entries self.old.run end line.now ≡ Ok next)
+            × Gathers self.new (next ∷ said)) }
         ensures err { IfErr result
-            (λ kind. IsFaultGiven kind kind (next_line self.old.run end line.now)) }
-        ensures within { OnOk result (end ≤ max_text) }
+            (λ kind. IsFaultGiven kind kind (next_line limits.entries self.old.run end line.now)) }
+        ensures within { OnOk result (end ≤ most_bytes) }
         ensures count { OnOk result (self.new.count ≡ self.old.count + 1) }
     {
-        let said = next_line(alloc, self.run, end, line)?;
+        let said = next_line(alloc, limits, self.run, end, line)?;
         self.note(said)
     }
 
     /// Takes the next line, which goes up to byte number `end` of the text.
-    pub(crate) fn take(&mut self, alloc: Global, end: usize, line: &[u8]) -> Result<(), MergeFault>
-        requires { self.old.count ≤ max_text }
-        ensures ok { OnOk result ((before : List (List ℕ)) → HasRead self.old before
-            → end ≡ sum_by length (line.now ∷ before) → HasRead self.new (line.now ∷ before)) }
-        ensures err { IfErr result (λ fault. (before : List (List ℕ)) → HasRead self.old before
-            → end ≡ sum_by length (line.now ∷ before) → IsFaultOf fault (line.now ∷ before)) }
+    pub(crate) fn take(
+        &mut self,
+        alloc: Global,
+        limits: Limits,
+        end: usize,
+        line: &[u8],
+    ) -> Result<(), MergeFault>
+        requires { self.old.count ≤ most_bytes }
+        ensures ok { OnOk result ((before : List (List ℕ)) → HasRead limits.entries self.old before
+            → end ≡ sum_by length (line.now ∷ before)
+            → HasRead limits.entries self.new (line.now ∷ before)) }
+        ensures err { IfErr result (λ fault. (before : List (List ℕ))
+            → HasRead limits.entries self.old before → end ≡ sum_by length (line.now ∷ before)
+            → IsFaultOf limits.entries fault (line.now ∷ before)) }
         ensures count { OnOk result (self.new.count ≡ self.old.count + 1) }
-        ensures within { OnOk result (end ≤ max_text) }
+        ensures within { OnOk result (end ≤ most_bytes) }
     {
         let number = self.count + 1;
-        match self.read_line(alloc, end, line) {
+        match self.read_line(alloc, limits, end, line) {
             Ok(()) => Ok(()),
             Err(kind) => Err(MergeFault {
                 line: number,
@@ -116,7 +132,7 @@ impl Gathered {
 
     /// The run, where each of its processes has a header.
     pub(crate) fn whole_run(&self) -> Result<Run, MergeFault>
-        requires few { self.now.count ≤ max_text }
+        requires few { self.now.count ≤ most_bytes }
         requires said { (said : List Line) × Gathers self.now said }
         ensures ok { IfOk result
             (λ run. (said : List Line) → Gathers self.now said → IsWhole said run) }

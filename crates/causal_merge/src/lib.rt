@@ -1,7 +1,8 @@
 //! The recordings of the processes of one run, merged into one trace.
 //!
 //! Begin at [`merge_text`]: it reads the lines of all recordings, in any order, and gives the trace that they make, or the
-//! first fault; [`fault_line`] is the line that it prints as.
+//! first fault; [`fault_line`] is the line that it prints as. [`merge_within`] does so by limits that the caller sets, and
+//! [`bytes_within`] tells how many bytes recordings then have at most.
 #![tactic(auto)]
 
 /// What a line says.
@@ -12,6 +13,8 @@ pub mod fault;
 mod gathered;
 /// What a fault may come from.
 mod hint;
+/// How many bytes recordings may have.
+pub mod limits;
 /// From the bytes of a line to what it says.
 mod line;
 /// From the recordings to the trace.
@@ -32,7 +35,8 @@ mod torn;
 mod value;
 
 pub use fault::{MergeFault, MergeKind};
-pub use merge::{Merged, merge_text};
+pub use limits::bytes_within;
+pub use merge::{Merged, merge_text, merge_within};
 pub use report::fault_line;
 
 #[cfg(test)]

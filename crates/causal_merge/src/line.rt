@@ -3,21 +3,20 @@ ghost use Rattle.std.specs.Prelude.{◌≡◌, ◌≤◌, IfOk, OnOk};
 ghost use Rattle.serde_json.specs.View.{view};
 ghost use Rattle.causal_text.specs.Given.{Gives};
 ghost use Rattle.causal_merge.specs.Shapes.{header_with, header_of, event_with, send_of, deliver_of, stable_of, restart_of, forget_of, heard_of, line_of};
-ghost use Rattle.causal_merge.specs.Reading.{bytes_say, agreed, next_line, same_run, max_text};
+ghost use Rattle.causal_merge.specs.Reading.{bytes_say, agreed, next_line, same_run, most_bytes};
 ghost use Rattle.causal_merge.specs.Inside.Gathering.{IsSound};
 
 use crate::event::{Act, Event, Line, Run};
+use crate::limits::bytes_within;
 use crate::torn::{is_blank, is_torn};
 use crate::value::value_of;
 use causal_name::Pid;
 use causal_text::fields::{begins, det_of, dets_at, pid_at, u32_at, u64_at};
 use causal_text::kind::TextKind;
 use causal_text::line_value::content;
+use causal_trace::limits::Limits;
 use serde_json::Value;
 use std::alloc::Global;
-
-/// How many bytes the recordings may have in all.
-pub(crate) const MAX_TEXT: usize = 67_108_864;
 
 fn header_with(process: Pid, version: u32, processes: u32, number: u64) -> Result<Line, TextKind>
     ensures value { result ≡ header_with process version processes number }
@@ -208,15 +207,16 @@ fn agreed(first: Option<Run>, line: Line) -> Result<Line, TextKind>
 /// What the next line says after a first header, or none, where it goes up to byte number `end` of the text.
 pub(crate) fn next_line(
     alloc: Global,
+    limits: Limits,
     first: Option<Run>,
     end: usize,
     line: &[u8],
 ) -> Result<Line, TextKind>
-    ensures value { Gives result (next_line first end line.now) }
+    ensures value { Gives result (next_line limits.entries first end line.now) }
     ensures sound { IfOk result IsSound }
-    ensures within { OnOk result (end ≤ max_text) }
+    ensures within { OnOk result (end ≤ most_bytes) }
 {
-    if end > MAX_TEXT {
+    if end > bytes_within(limits) {
         return Err(TextKind::Big);
     }
     let said = bytes_say(alloc, content(line))?;

@@ -2,7 +2,7 @@
 ghost use Rattle.std.specs.Prelude.{◌≡◌, ◌≢◌, ◌∷◌, [], ℕ, List, length, Some, None, Ok, IfOk, OnOk, IfErr, reverse, option_map, unwrap_or};
 ghost use Rattle.causal_trace.specs.declared.fault.TraceFault.{TraceFault};
 ghost use Rattle.causal_trace.specs.Limits.{IsProcessCount};
-ghost use Rattle.causal_trace.specs.Rows.{fault_next};
+ghost use Rattle.causal_trace.specs.Rows.{fault_within};
 ghost use Rattle.causal_trace.specs.State.{with_entry};
 ghost use Rattle.causal_text.specs.Stages.{kind_of};
 ghost use Rattle.causal_merge.specs.declared.event.Placed.{Placed};
@@ -16,7 +16,7 @@ use crate::sends::{SendName, Sends};
 use causal_name::Pid;
 use causal_text::kind::TextKind;
 use causal_trace::entry::Entry;
-use causal_trace::limits::DEFAULT_LIMITS;
+use causal_trace::limits::Limits;
 use causal_trace::trace::Trace;
 use std::alloc::Global;
 
@@ -32,7 +32,8 @@ impl Merger {
     /// Of no events.
     pub(crate) fn new(alloc: Global, processes: u16) -> Result<Merger, TextKind>
         requires { IsProcessCount processes }
-        ensures ok { IfOk result (λ m. HasMerged m [] × (m.trace.recording.processes ≡ processes)) }
+        ensures ok { IfOk result (λ m. ((most : ℕ) → HasMerged most m [])
+            × (m.trace.recording.processes ≡ processes)) }
         ensures err { IfErr result (λ kind. kind ≡ TextKind.NoMemory) }
     {
         Ok(Merger {
@@ -66,14 +67,15 @@ impl Merger {
     }
 
     // what stands against the next event, before it is an entry
-    fn early_fault(&self, event: &Event) -> Option<MergeKind>
-        ensures { (before : List Placed) → self.now.last ≡ newest before → result
-            ≡ early_fault self.now.trace.recording.processes before self.now.trace.recording.past event.now }
+    fn early_fault(&self, limits: Limits, event: &Event) -> Option<MergeKind>
+        ensures { (before : List Placed) → self.now.last ≡ newest before
+            → result ≡ early_fault limits.entries self.now.trace.recording.processes before
+            self.now.trace.recording.past event.now }
     {
         if self.is_twice(event) {
             return Some(MergeKind::Twice);
         }
-        if self.trace.passes(DEFAULT_LIMITS, event.act.listed()) {
+        if self.trace.passes(limits, event.act.listed()) {
             return Some(MergeKind::Line(TextKind::TooLong));
         }
         if !self.has_processes(event) {
@@ -127,31 +129,34 @@ impl Merger {
     }
 
     // takes one more entry, where nothing stands against it
-    fn push(&mut self, entry: Entry) -> Result<(), TextKind>
-        ensures legal { OnOk result (fault_next self.old.trace.recording entry ≡ None) }
+    fn push(&mut self, limits: Limits, entry: Entry) -> Result<(), TextKind>
+        ensures legal { OnOk result
+            (fault_within limits.entries self.old.trace.recording entry ≡ None) }
         ensures ok { OnOk result
             (self.new.trace.recording ≡ with_entry self.old.trace.recording entry) }
         ensures sends { OnOk result (IsOf self.old.sends self.old.trace.recording.past
             → IsOf self.new.sends self.new.trace.recording.past) }
-        ensures err { IfErr result (λ kind. kind ≢ TextKind.NoMemory
-            → option_map kind_of (fault_next self.old.trace.recording entry) ≡ Some kind) }
+        ensures err { IfErr result (λ kind. kind ≢ TextKind.NoMemory → option_map kind_of
+            (fault_within limits.entries self.old.trace.recording entry) ≡ Some kind) }
     {
         self.sends.note(&entry, self.trace.len())?;
-        self.trace.push(entry)?;
+        self.trace.push_within(limits, entry)?;
         Ok(())
     }
 
     // takes the next event, where nothing stands against it
-    fn admit(&mut self, event: Event) -> Result<(), MergeKind>
-        ensures ok { OnOk result ((before : List Placed) (line : ℕ) → HasMerged self.old before
-            → HasMerged self.new (record { line = line; event = event } ∷ before)) }
+    fn admit(&mut self, limits: Limits, event: Event) -> Result<(), MergeKind>
+        ensures ok { OnOk result ((before : List Placed) (line : ℕ)
+            → HasMerged limits.entries self.old before
+            → HasMerged limits.entries self.new (record { line = line; event = event } ∷ before)) }
         ensures err { IfErr result (λ kind. kind ≢ MergeKind.Line TextKind.NoMemory
-            → (before : List Placed) → HasMerged self.old before
-            → event_fault self.old.trace.recording.processes before self.old.trace.recording.past event ≡ Some kind) }
+            → (before : List Placed) → HasMerged limits.entries self.old before
+            → event_fault limits.entries self.old.trace.recording.processes before
+            self.old.trace.recording.past event ≡ Some kind) }
         ensures processes { OnOk result
             (self.new.trace.recording.processes ≡ self.old.trace.recording.processes) }
     {
-        if let Some(kind) = self.early_fault(&event) {
+        if let Some(kind) = self.early_fault(limits, &event) {
             return Err(kind);
         }
         let Event {
@@ -160,7 +165,7 @@ impl Merger {
             act,
         } = event;
         let entry = self.entry_of(process, act);
-        if let Err(kind) = self.push(entry) {
+        if let Err(kind) = self.push(limits, entry) {
             return Err(MergeKind::Line(kind));
         }
         self.last = Some((clock, process));
@@ -168,16 +173,17 @@ impl Merger {
     }
 
     /// Takes the next event in the merged order.
-    pub(crate) fn take(&mut self, placed: Placed) -> Result<(), MergeFault>
-        ensures ok { OnOk result ((before : List Placed) → HasMerged self.old before
-            → HasMerged self.new (placed ∷ before)) }
-        ensures err { IfErr result (λ fault. (before : List Placed) → HasMerged self.old before
-            → IsFaultOf self.old.trace.recording.processes fault (placed ∷ before)) }
+    pub(crate) fn take(&mut self, limits: Limits, placed: Placed) -> Result<(), MergeFault>
+        ensures ok { OnOk result ((before : List Placed) → HasMerged limits.entries self.old before
+            → HasMerged limits.entries self.new (placed ∷ before)) }
+        ensures err { IfErr result (λ fault. (before : List Placed)
+            → HasMerged limits.entries self.old before
+            → IsFaultOf limits.entries self.old.trace.recording.processes fault (placed ∷ before)) }
         ensures processes { OnOk result
             (self.new.trace.recording.processes ≡ self.old.trace.recording.processes) }
     {
         let Placed { line, event } = placed;
-        match self.admit(event) {
+        match self.admit(limits, event) {
             Ok(()) => Ok(()),
             Err(kind) => Err(MergeFault { line, kind }),
         }
@@ -194,14 +200,16 @@ impl Merger {
 /// The trace of these events, which stand in the merged order, or the first fault of one of them.
 pub(crate) fn merge_events(
     alloc: Global,
+    limits: Limits,
     processes: u16,
     events: Vec<Placed>,
 ) -> Result<Trace, MergeFault>
     requires { IsProcessCount processes }
-    ensures ok { IfOk result
-        (λ trace. merged processes (reverse events.items) ≡ Ok trace.recording.past) }
+    ensures ok { IfOk result (λ trace. merged limits.entries processes (reverse events.items)
+        ≡ Ok trace.recording.past) }
     ensures processes { IfOk result (λ trace. trace.recording.processes ≡ processes) }
-    ensures err { IfErr result (λ fault. IsFaultOf processes fault (reverse events.items)) }
+    ensures err { IfErr result
+        (λ fault. IsFaultOf limits.entries processes fault (reverse events.items)) }
 {
     let mut merger = match Merger::new(alloc, processes) {
         Ok(merger) => merger,
@@ -213,7 +221,7 @@ pub(crate) fn merge_events(
         }
     };
     for placed in events {
-        merger.take(placed)?;
+        merger.take(limits, placed)?;
     }
     Ok(merger.into_trace())
 }

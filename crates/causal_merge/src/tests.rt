@@ -1,9 +1,11 @@
 //! Rows of recordings, worked out by hand from the rule of merging.
 use crate::fault::{MergeFault, MergeKind};
-use crate::merge::merge_text;
+use crate::limits::bytes_within;
+use crate::merge::{merge_text, merge_within};
 use crate::report::fault_line;
 use causal_text::kind::TextKind;
 use causal_text::writer::text_of;
+use causal_trace::limits::Limits;
 use std::alloc::Global;
 use std::process::Abort;
 use std::test::Fail;
@@ -186,6 +188,53 @@ fn one_byte_too_many(rt: HostRuntime) -> Result<(), Fail> {
     let spaces = vec![in alloc; b' '; 67_108_865]?;
     assert!(rt; tells(alloc, spaces.as_slice(), 1, MergeKind::Line(TextKind::Big)));
     Ok(())
+}
+
+// the first fault of a text, where there may be so many events; None where it makes a trace
+fn fault_within(alloc: Global, text: &[u8], entries: u32) -> Option<MergeFault> {
+    merge_within(alloc, text, Limits { entries }).err()
+}
+
+#[test]
+fn events_run_out_at_the_limit(rt: HostRuntime) -> Result<(), Fail> {
+    let alloc = rt.alloc();
+    let text = format!(in alloc; "{HEADERS}[\"send\",0,1,1,0]\n[\"send\",0,2,1,1]\n")?;
+    let second = MergeFault {
+        line: 4,
+        kind: MergeKind::Line(TextKind::TooLong),
+    };
+    assert!(rt; fault_within(alloc, text.as_bytes(), 1) == Some(second));
+    assert!(rt; fault_within(alloc, text.as_bytes(), 2).is_none());
+    Ok(())
+}
+
+#[test]
+fn bytes_run_out_at_the_limit(rt: HostRuntime) -> Result<(), Fail> {
+    let spaces = vec![in rt.alloc(); b' '; 1_025]?;
+    let big = MergeFault {
+        line: 1,
+        kind: MergeKind::Line(TextKind::Big),
+    };
+    let no_header = MergeFault {
+        line: 2,
+        kind: MergeKind::NoHeader,
+    };
+    assert!(rt; fault_within(rt.alloc(), spaces.as_slice(), 1) == Some(big));
+    assert!(rt; fault_within(rt.alloc(), spaces.as_slice(), 2) == Some(no_header));
+    Ok(())
+}
+
+#[test]
+fn bytes_for_each_entry(rt: HostRuntime) {
+    for (entries, bytes) in [
+        (1, 1_024),
+        (65_536, 67_108_864),
+        (2_097_152, 2_147_483_648),
+        (2_097_153, 2_147_483_648),
+        (16_777_216, 2_147_483_648),
+    ] {
+        assert_eq!(rt; bytes_within(Limits { entries }), bytes);
+    }
 }
 
 // What begins a line, what is repeated in it so often that it is long, what ends it, and the fault that is told. Each

@@ -2,6 +2,7 @@ pub mod Lemmas
 mod BeforeLemmas
 mod Canonicals
 mod Complete
+mod FedLemmas
 mod Feeds
 mod Firsts
 mod ItemCounts

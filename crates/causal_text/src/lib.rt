@@ -5,9 +5,9 @@
 //!
 //! Begin at [`read_trace`] for a text that is there as a whole, or [`read_from`] for one that a reader gives; [`TraceReader`]
 //! reads a piece at a time, and [`FedReader`] the pieces that it is handed. [`read_keeping`] gives with a fault what stands before
-//! its line, and [`read_within`] does so by limits that the caller sets; [`wrong_with`] tells then what is wrong with the line, and
-//! [`sentence`] says so. [`text_of`] and [`write_trace`] give the canonical text, [`write_whole`] writes any bytes. [`laws`] says
-//! that a text has one reading.
+//! its line, and [`read_within`] does so by limits that the caller sets, as [`FedReader::within`] does of pieces. [`wrong_with`]
+//! tells then what is wrong with the line, and [`sentence`] says so. [`text_of`] and [`write_trace`] give the canonical text,
+//! [`write_whole`] writes any bytes. [`laws`] says that a text has one reading.
 #![tactic(auto)]
 
 /// The first fault of a text, and what stands before its line.

@@ -6,5 +6,5 @@ use Rattle.causal_tool.specs.declared.words.Asked.TheVariants.{Trace}
 
 -- as many workers are asked for as judge one trace: 1 to 64
 abbrev pub HasWorkers : Asked → Type 0
-HasWorkers (Trace question form) = HasFewWorkers question
+HasWorkers (Trace question form limits) = HasFewWorkers question
 HasWorkers _ = ⊤

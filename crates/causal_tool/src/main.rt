@@ -24,6 +24,7 @@ use causal_commands::{
     Ended, Noted, Question, Reason, Refusal, Told, View, answer_as_json, audit_and_tell, complaint,
     hint_of, merge_and_tell, range_and_tell, run_and_tell, show_and_tell,
 };
+use causal_trace::limits::Limits;
 use causal_workers::OpenGate;
 use std::io::{self, ErrorKind, IsTerminal, Read, Write};
 use std::process::ExitCode;
@@ -40,7 +41,7 @@ fn name_of(asked: Asked) -> &'static str {
         } => "causal_tool audit",
         Asked::Trace { .. } => "causal_tool explain",
         Asked::Draw { .. } => "causal_tool draw",
-        Asked::Merge => "causal_tool merge",
+        Asked::Merge { .. } => "causal_tool merge",
         Asked::Run => "causal_tool run",
     }
 }
@@ -51,7 +52,7 @@ fn prompt(rt: &HostRuntime, asked: Asked) {
         return;
     }
     let what = match asked {
-        Asked::Merge => "recordings",
+        Asked::Merge { .. } => "recordings",
         Asked::Run => "a script",
         _ => "a trace",
     };
@@ -93,11 +94,12 @@ fn complain_of_script<R: Eprint>(rt: &R, command: &str, told: Told<Reason>) -> E
     told.ended
 }
 
-/// Answers a question of a trace.
+/// Answers a question of a trace within the limits.
 fn answered<R: Threads + Wait + AllocGlobal, I: Read, O: Write>(
     rt: &R,
     input: &mut I,
     output: &mut O,
+    limits: Limits,
     question: Question,
     form: Form,
 ) -> Told<Refusal>
@@ -105,14 +107,14 @@ fn answered<R: Threads + Wait + AllocGlobal, I: Read, O: Write>(
 {
     let alloc = rt.alloc();
     match (form, question) {
-        (Form::Json, _) => answer_as_json(rt, alloc, input, output, question),
+        (Form::Json, _) => answer_as_json(rt, alloc, input, output, limits, question),
         (Form::Lines, Question::Verdict { faults, workers }) => {
-            audit_and_tell(rt, alloc, input, output, faults, workers, &OpenGate)
+            audit_and_tell(rt, alloc, input, output, limits, faults, workers, &OpenGate)
         }
         (Form::Lines, Question::Reason { faults }) => {
-            show_and_tell(rt, alloc, input, output, faults, View::Reason)
+            show_and_tell(rt, alloc, input, output, limits, faults, View::Reason)
         }
-        (Form::Lines, Question::Range) => range_and_tell(alloc, input, output),
+        (Form::Lines, Question::Range) => range_and_tell(alloc, input, output, limits),
     }
 }
 
@@ -127,15 +129,22 @@ fn done<R: Threads + Wait + Eprint + AllocGlobal, I: Read, O: Write>(
 {
     let (alloc, command) = (rt.alloc(), name_of(asked));
     match asked {
-        Asked::Trace { question, form } => {
-            let told = answered(rt, input, output, question, form);
+        Asked::Trace {
+            question,
+            form,
+            limits,
+        } => {
+            let told = answered(rt, input, output, limits, question, form);
             complain(rt, command, question.faults(), told)
         }
-        Asked::Draw { faults } => {
-            let told = show_and_tell(rt, alloc, input, output, faults, View::Picture);
+        Asked::Draw { faults, limits } => {
+            let told = show_and_tell(rt, alloc, input, output, limits, faults, View::Picture);
             complain(rt, command, faults, told)
         }
-        Asked::Merge => complain_of_recordings(rt, command, merge_and_tell(alloc, input, output)),
+        Asked::Merge { limits } => {
+            let told = merge_and_tell(alloc, input, output, limits);
+            complain_of_recordings(rt, command, told)
+        }
         Asked::Run => complain_of_script(rt, command, run_and_tell(rt, alloc, input, output)),
     }
 }

@@ -6,6 +6,7 @@ ghost use Rattle.causal_tool.specs.Words.{HasWorkers};
 
 use crate::helps::{ANSWERS, PICTURES, REASONS, RECORDINGS, SCRIPTS};
 use causal_commands::{Ended, Question};
+use causal_trace::limits::{DEFAULT_ENTRIES, Limits};
 use clap::error::ErrorKind;
 use clap::{Arg, ArgAction, ArgMatches, Command, Error, value_parser};
 use std::alloc::{AllocError, Global};
@@ -31,12 +32,21 @@ pub(crate) enum Form {
 /// What the command line asks for.
 #[derive(Clone, Copy, Debug, PartialEq, Eq)]
 pub(crate) enum Asked {
-    /// The answer to a question of a trace.
-    Trace { question: Question, form: Form },
-    /// A picture of a trace with its verdict for at most so many processes that are down at once.
-    Draw { faults: u16 },
-    /// The trace that recordings make.
-    Merge,
+    /// The answer to a question of a trace within limits.
+    Trace {
+        question: Question,
+        form: Form,
+        limits: Limits,
+    },
+    /// A picture of a trace within limits with its verdict for at most so many processes that are down at once.
+    Draw {
+        faults: u16,
+        limits: Limits,
+    },
+    /// The trace that recordings make, within limits.
+    Merge {
+        limits: Limits,
+    },
     /// The trace of a script's run.
     Run,
 }
@@ -114,7 +124,9 @@ fn parsed<'a, S: AsStr>(alloc: Global, words: &'a [S]) -> Result<Option<Asked>, 
         Some(("audit", given)) => Ok(audit_asked(given)),
         Some(("explain", given)) => Ok(Some(reason_asked(given))),
         Some(("draw", given)) => Ok(drawing_asked(given)),
-        Some(("merge", _)) => Ok(Some(Asked::Merge)),
+        Some(("merge", given)) => Ok(Some(Asked::Merge {
+            limits: limits_asked(given),
+        })),
         Some(("run", _)) => Ok(Some(Asked::Run)),
         _ => Ok(None),
     }
@@ -128,6 +140,7 @@ fn audit_asked(given: &ArgMatches) -> Option<Asked>
         Some(workers @ 1..=64) => Some(Asked::Trace {
             question: Question::Verdict { faults, workers },
             form: form_asked(given),
+            limits: limits_asked(given),
         }),
         _ => None,
     }
@@ -144,6 +157,7 @@ fn reason_asked(given: &ArgMatches) -> Asked
     Asked::Trace {
         question,
         form: form_asked(given),
+        limits: limits_asked(given),
     }
 }
 
@@ -159,7 +173,17 @@ fn drawing_asked(given: &ArgMatches) -> Option<Asked>
     ensures { IfSome result HasWorkers }
 {
     let faults = given.get_one::<u16>("faults")?;
-    Some(Asked::Draw { faults })
+    Some(Asked::Draw {
+        faults,
+        limits: limits_asked(given),
+    })
+}
+
+/// How long the trace may be.
+fn limits_asked(given: &ArgMatches) -> Limits {
+    Limits {
+        entries: given.get_one::<u32>("entries").unwrap_or(DEFAULT_ENTRIES),
+    }
 }
 
 /// The option of how many processes may be down at once.
@@ -184,6 +208,17 @@ fn workers<'a>(alloc: Global) -> Arg<'a> {
         .default_value("1")
 }
 
+/// The option of how many entries the trace may have.
+fn entries<'a>(alloc: Global) -> Arg<'a> {
+    Arg::new(alloc, "entries")
+        .long("entries")
+        .value_name("N")
+        .help("How many entries the trace may have [1 to 16777216]")
+        .allow_negative_numbers(true)
+        .value_parser(value_parser!(u32).range(1..=16_777_216))
+        .default_value("65536")
+}
+
 /// The option that the answer is JSON.
 fn json<'a>(alloc: Global) -> Arg<'a> {
     Arg::new(alloc, "json")
@@ -198,6 +233,7 @@ fn command<'a>(alloc: Global) -> Result<Command<'a>, AllocError> {
         .after_help(ANSWERS)
         .arg(faults(alloc))?
         .arg(workers(alloc))?
+        .arg(entries(alloc))?
         .arg(json(alloc))?;
     let explain = Command::new(alloc, "explain")
         .about(
@@ -205,14 +241,17 @@ fn command<'a>(alloc: Global) -> Result<Command<'a>, AllocError> {
         )
         .after_help(REASONS)
         .arg(faults(alloc).required(false))?
+        .arg(entries(alloc))?
         .arg(json(alloc))?;
     let draw = Command::new(alloc, "draw")
         .about("Audits the trace on standard input, and draws it with the verdict")
         .after_help(PICTURES)
-        .arg(faults(alloc))?;
+        .arg(faults(alloc))?
+        .arg(entries(alloc))?;
     let merge = Command::new(alloc, "merge")
         .about("Merges the recordings on standard input into one trace")
-        .after_help(RECORDINGS);
+        .after_help(RECORDINGS)
+        .arg(entries(alloc))?;
     let run = Command::new(alloc, "run")
         .about("Runs the script on standard input and prints its trace")
         .after_help(SCRIPTS);

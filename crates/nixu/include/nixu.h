@@ -38,6 +38,11 @@ uint32_t nixu_version(void);
 #define NIXU_MISUSED   3 /* the call says itself when */
 #define NIXU_CLOSED    4 /* no reader, or no trace, is open there, and nothing was done */
 
+/* ---- how long a trace may be ---- */
+
+#define NIXU_USUAL_ENTRIES 65536    /* where a call names no other number */
+#define NIXU_MOST_ENTRIES  16777216 /* the greatest number that a call may name */
+
 /* ---- the verdict on a text ---- */
 
 #define NIXU_ACCEPTED 0 /* every instant is safe */
@@ -85,6 +90,12 @@ typedef struct nixu_reader {
 
    NIXU_OK. NIXU_MISUSED: one is open there. NIXU_NO_MEMORY. */
 uint32_t nixu_reader_open(nixu_reader *reader);
+
+/* The same, of a trace of up to `entries` entries, 1 to NIXU_MOST_ENTRIES: they list up to 16 determinants for each in all, and
+   the text has up to 512 bytes for each. nixu_reader_open lets a trace have NIXU_USUAL_ENTRIES.
+
+   NIXU_OK. NIXU_MISUSED: one is open there, or a trace may not have so many. NIXU_NO_MEMORY. */
+uint32_t nixu_reader_open_within(nixu_reader *reader, uint32_t entries);
 
 /* Reads one more piece of the text, of any length; an empty one changes nothing. The first fault is told as soon as a line
    has one, however the text goes on.
@@ -141,6 +152,13 @@ typedef struct nixu_entry {
    NIXU_OK. NIXU_MISUSED: one is open there, or a trace cannot have so many. NIXU_NO_MEMORY. */
 uint32_t nixu_trace_open(nixu_trace *trace, uint16_t processes);
 
+/* The same, of a trace of up to `entries` entries, 1 to NIXU_MOST_ENTRIES, which list up to 16 determinants for each in all.
+   nixu_trace_open lets a trace have NIXU_USUAL_ENTRIES.
+
+   NIXU_OK. NIXU_MISUSED: one is open there, or a trace cannot have so many processes, or may not have so many entries.
+   NIXU_NO_MEMORY. */
+uint32_t nixu_trace_open_within(nixu_trace *trace, uint16_t processes, uint32_t entries);
+
 /* Adds an entry at the end, with the `count` determinants that it lists, in ascending order.
 
    NIXU_OK. NIXU_FAULT: `fault` is written, the number of what first stands against the entry, one of the faults from
@@ -173,8 +191,8 @@ uint32_t nixu_line(const uint8_t *text, size_t length, uint16_t faults, uint8_t 
    text's first fault. Statuses as for nixu_line. */
 uint32_t nixu_explain(const uint8_t *text, size_t length, uint16_t faults, uint8_t *out, size_t room, size_t *needed);
 
-/* The space-time diagram of the run with its verdict, in SVG, as `causal_tool draw` prints it; or the line of the text's
-   first fault. Statuses as for nixu_line. */
+/* The space-time diagram of the run with its verdict, in SVG, as `causal_tool draw` prints it; of a text with a fault no
+   bytes, and `needed` is 0. Statuses as for nixu_line. */
 uint32_t nixu_draw(const uint8_t *text, size_t length, uint16_t faults, uint8_t *out, size_t room, size_t *needed);
 
 /* ---- faults ---- */

@@ -4,7 +4,7 @@ use Rattle.causal_name.specs.declared.Det.{Det}
 use Rattle.causal_trace.specs.declared.entry.Entry.{Entry}
 use Rattle.causal_trace.specs.declared.entry.Entry.TheVariants.{Send, Deliver, Stable, Crash, Restart, Forget}
 use Rattle.causal_trace.specs.declared.fault.TraceFault.{TraceFault}
-use Rattle.causal_trace.specs.Rows.{Recording, fault_next}
+use Rattle.causal_trace.specs.Rows.{Recording, fault_within}
 use Rattle.causal_trace.specs.State.{with_entry}
 use Rattle.causal_text.specs.Stages.{kind_of}
 use Rattle.nixu.specs.declared.kept.Kept.{Kept}
@@ -46,29 +46,35 @@ entry_of s listed = alone_or (plain_entry s) (listing_entry s listed) listed
 
 -- the recording of the trace that is open; None where none is
 abbrev pub recording_in : Option Kept → Option Recording
-recording_in (Some (Trace t)) = Some t.recording
+recording_in (Some (Trace t limits)) = Some t.recording
 recording_in (Some (Reader s)) = None
 recording_in None = None
 
--- the entry may come next, and after it the recording is this
-abbrev pub Takes : Recording → Option Entry → Recording → Type 0
-Takes r entry after = (e : Entry) × (entry ≡ Some e) × (fault_next r e ≡ None) × (after ≡ with_entry r e)
+-- how many entries it may have; 0 where none is open
+abbrev pub most_in : Option Kept → ℕ
+most_in (Some (Trace t limits)) = limits.entries
+most_in (Some (Reader s)) = 0
+most_in None = 0
+
+-- the entry may come next where there may be so many, and after it the recording is this
+abbrev pub Takes : ℕ → Recording → Option Entry → Recording → Type 0
+Takes most r entry after = (e : Entry) × (entry ≡ Some e) × (fault_within most r e ≡ None) × (after ≡ with_entry r e)
 
 -- this is the number of what is first told against the entry
-abbrev pub TellsAgainst : Recording → Option Entry → ℕ → Type 0
-TellsAgainst r entry number = (e : Entry) × (entry ≡ Some e) × ((fault : TraceFault) × (fault_next r e ≡ Some fault) × (number ≡ kind_number (kind_of fault)))
+abbrev pub TellsAgainst : ℕ → Recording → Option Entry → ℕ → Type 0
+TellsAgainst most r entry number = (e : Entry) × (entry ≡ Some e) × ((fault : TraceFault) × (fault_within most r e ≡ Some fault) × (number ≡ kind_number (kind_of fault)))
 
 -- a trace is open, of whose recording this is true
 abbrev pub OfTrace : Option Kept → (Recording → Type 0) → Type 0
-OfTrace (Some (Trace t)) IsTrue = IsTrue t.recording
+OfTrace (Some (Trace t limits)) IsTrue = IsTrue t.recording
 OfTrace (Some (Reader s)) IsTrue = ⊥
 OfTrace None IsTrue = ⊥
 
 -- the same of what recordings there are
-abbrev pub TakesIn : Option Recording → Option Entry → Option Recording → Type 0
-TakesIn (Some r) entry (Some after) = Takes r entry after
-TakesIn before entry after = ⊥
+abbrev pub TakesIn : ℕ → Option Recording → Option Entry → Option Recording → Type 0
+TakesIn most (Some r) entry (Some after) = Takes most r entry after
+TakesIn most before entry after = ⊥
 
-abbrev pub TellsAgainstIn : Option Recording → Option Entry → ℕ → Type 0
-TellsAgainstIn (Some r) entry number = TellsAgainst r entry number
-TellsAgainstIn None entry number = ⊥
+abbrev pub TellsAgainstIn : ℕ → Option Recording → Option Entry → ℕ → Type 0
+TellsAgainstIn most (Some r) entry number = TellsAgainst most r entry number
+TellsAgainstIn most None entry number = ⊥

@@ -3,6 +3,7 @@ pub mod Entries
 pub mod Failures
 pub mod Fed
 pub mod Held
+pub mod Limits
 pub mod Numbers
 pub mod Room
 pub mod Summaries

@@ -3,8 +3,9 @@ use Rattle.std.specs.Prelude.{◌≡◌, ℕ, List, map, if◌then◌else◌}
 use Rattle.std.specs.List.{range_with_len}
 use Rattle.std.specs.Ordering.{nat_cmp}
 use Rattle.std.specs.FinSet.{FinSet, contains, empty}
+use Rattle.causal_trace.specs.Limits.{default_entries}
 use Rattle.causal_text.specs.declared.kind.TextFault.{TextFault}
-use Rattle.causal_text.specs.Spelling.{IsFirstFault}
+use Rattle.causal_text.specs.Spelling.{IsFirstFaultWithin}
 use Rattle.causal_audit.specs.declared.verdict.Verdict.{Verdict}
 use Rattle.causal_audit.specs.declared.verdict.Verdict.TheVariants.{Accept, Exceeded, Orphan}
 use Rattle.causal_workers.specs.declared.judged.Judged.{Judged}
@@ -74,6 +75,10 @@ fault_summary fault = record {
 abbrev pub TellsVerdict : List ℕ → ℕ → Summary → Type 0
 TellsVerdict text f told = (judged : Judged) × IsJudgement text f judged × (told ≡ summary_of judged)
 
--- the text spells no trace, and the struct tells its first fault
+-- the text spells no trace of so many entries at most, and the struct tells its first fault
+abbrev pub TellsFaultWithin : ℕ → List ℕ → Summary → Type 0
+TellsFaultWithin most text told = (fault : TextFault) × IsFirstFaultWithin most text fault × (told ≡ fault_summary fault)
+
+-- the same by the limits where nobody sets others
 abbrev pub TellsFault : List ℕ → Summary → Type 0
-TellsFault text told = (fault : TextFault) × IsFirstFault text fault × (told ≡ fault_summary fault)
+TellsFault text told = TellsFaultWithin default_entries text told

@@ -18,6 +18,8 @@ pub mod held;
 mod judged;
 /// What may be behind a handle.
 pub mod kept;
+/// How long a trace may be.
+mod limits;
 /// A box as its pointer.
 mod parts;
 /// Texts that come in pieces.

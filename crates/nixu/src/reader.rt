@@ -1,24 +1,57 @@
 //! A run that is judged while it is recorded: a reader that a caller holds, and feeds with the pieces of a text.
-ghost use Rattle.std.specs.Prelude.{◌≡◌, ◌≢◌, ◌≤◌, ◌<◌, ◌↔◌, ◌++◌, [], List, ℕ, None, IsSome, length};
-ghost use Rattle.causal_text.specs.Streams.{HasRead};
-ghost use Rattle.nixu.specs.Each.{TellsVerdicts, TellsFaults};
+ghost use Rattle.std.specs.Prelude.{◌≡◌, ◌≢◌, ◌≤◌, ◌<◌, ◌↔◌, ◌⊎◌, ◌++◌, [], List, ℕ, None, IsSome, length};
+ghost use Rattle.causal_trace.specs.Limits.{default_entries};
+ghost use Rattle.causal_text.specs.Fed.{WasFed};
+ghost use Rattle.nixu.specs.Each.{TellsVerdictsWithin, TellsFaultsWithin};
 ghost use Rattle.nixu.specs.Fed.{HasReadIn, IsReader, IsNoReader, TellsFaultOfAll};
+ghost use Rattle.nixu.specs.Limits.{IsEntryCount};
 
 use crate::audit::tell_each;
 use crate::held::Handle;
 use crate::kept::Kept;
+use crate::limits::limits_of;
 use crate::status::{CLOSED, FAULT, MISUSED, NO_MEMORY, OK};
 use crate::summary::{Summary, fault_summary};
 use causal_text::{FedReader, ReaderFault, TextKind};
+use causal_trace::limits::{DEFAULT_LIMITS, Limits};
 use std::alloc::Global;
 
-/// Opens a reader that has read nothing.
+/// Opens a reader by the usual limits that has read nothing.
 ///
 /// It answers [`OK`]; [`MISUSED`] where a reader is open there; or [`NO_MEMORY`]. Where it does not answer `OK`, nothing
 /// changes.
 #[unsafe(no_mangle)]
 pub extern "C" fn nixu_reader_open(alloc: Global, reader: &mut Handle) -> u32
-    ensures ok { result ≡ OK → HasReadIn reader.new.held.value [] }
+    ensures ok { result ≡ OK → HasReadIn default_entries reader.new.held.value [] }
+    ensures misused { (result ≡ MISUSED) ↔ IsSome reader.old.held.value }
+    ensures kept { result ≢ OK → reader.new.held.value ≡ reader.old.held.value }
+    ensures status { (result ≢ FAULT) × (result ≤ MISUSED) }
+{
+    open_by(alloc, reader, DEFAULT_LIMITS)
+}
+
+/// Opens a reader that has read nothing, of a trace of up to so many entries, 1 to 16,777,216: they list up to 16 determinants
+/// for each in all, and the text has up to 512 bytes for each.
+///
+/// It answers as [`nixu_reader_open`] does, and [`MISUSED`] where a trace may not have so many entries.
+#[unsafe(no_mangle)]
+pub extern "C" fn nixu_reader_open_within(alloc: Global, reader: &mut Handle, entries: u32) -> u32
+    ensures ok { result ≡ OK → HasReadIn entries reader.new.held.value [] }
+    ensures count { result ≡ OK → IsEntryCount entries }
+    ensures misused { (result ≡ MISUSED)
+        ↔ (IsSome reader.old.held.value ⊎ (IsEntryCount entries → ⊥)) }
+    ensures kept { result ≢ OK → reader.new.held.value ≡ reader.old.held.value }
+    ensures status { (result ≢ FAULT) × (result ≤ MISUSED) }
+{
+    match limits_of(entries) {
+        Some(limits) => open_by(alloc, reader, limits),
+        None => MISUSED,
+    }
+}
+
+/// Opens a reader by these limits.
+fn open_by(alloc: Global, reader: &mut Handle, limits: Limits) -> u32
+    ensures ok { result ≡ OK → HasReadIn limits.entries reader.new.held.value [] }
     ensures misused { (result ≡ MISUSED) ↔ IsSome reader.old.held.value }
     ensures kept { result ≢ OK → reader.new.held.value ≡ reader.old.held.value }
     ensures status { (result ≢ FAULT) × (result ≤ MISUSED) }
@@ -26,7 +59,7 @@ pub extern "C" fn nixu_reader_open(alloc: Global, reader: &mut Handle) -> u32
     if reader.is_open() {
         return MISUSED;
     }
-    reader.keep(alloc, Kept::Reader(FedReader::new(alloc)))
+    reader.keep(alloc, Kept::Reader(FedReader::within(alloc, limits)))
 }
 
 /// Feeds a reader with one more piece of a text, of any length. A fault is told as soon as a line has one, however the
@@ -41,11 +74,12 @@ pub extern "C" fn nixu_reader_feed(
     piece: &[u8],
     told: &mut Summary,
 ) -> u32
-    ensures ok { result ≡ OK → (b : List ℕ) → HasReadIn reader.old.held.value b
-        → HasReadIn reader.new.held.value (b ++ piece.now) }
-    ensures fault { result ≡ FAULT → (b : List ℕ) → HasReadIn reader.old.held.value b
-        → TellsFaultOfAll (b ++ piece.now) told.new }
-    ensures closed { result ≡ CLOSED → (b : List ℕ) → HasReadIn reader.old.held.value b → ⊥ }
+    ensures ok { result ≡ OK → (most : ℕ) (b : List ℕ) → HasReadIn most reader.old.held.value b
+        → HasReadIn most reader.new.held.value (b ++ piece.now) }
+    ensures fault { result ≡ FAULT → (most : ℕ) (b : List ℕ)
+        → HasReadIn most reader.old.held.value b → TellsFaultOfAll most (b ++ piece.now) told.new }
+    ensures closed { result ≡ CLOSED → (most : ℕ) (b : List ℕ)
+        → HasReadIn most reader.old.held.value b → ⊥ }
     ensures none { IsNoReader reader.old.held.value
         → (result ≡ CLOSED) × (reader.new.held.value ≡ reader.old.held.value) }
     ensures left { IsReader reader.old.held.value → result ≢ OK → reader.new.held.value ≡ None }
@@ -68,10 +102,11 @@ pub extern "C" fn nixu_reader_feed(
 
 /// Feeds a reader with one more piece.
 fn feed(fed: &mut FedReader, piece: &[u8], told: &mut Summary) -> u32
-    ensures ok { result ≡ OK → (b : List ℕ) → HasRead fed.old b → HasRead fed.new (b ++ piece.now) }
-    ensures fault { result ≡ FAULT → (b : List ℕ)
-        → HasRead fed.old b → TellsFaultOfAll (b ++ piece.now) told.new }
-    ensures closed { result ≡ CLOSED → (b : List ℕ) → HasRead fed.old b → ⊥ }
+    ensures ok { result ≡ OK → (most : ℕ) (b : List ℕ) → WasFed most fed.old b
+        → WasFed most fed.new (b ++ piece.now) }
+    ensures fault { result ≡ FAULT → (most : ℕ) (b : List ℕ) → WasFed most fed.old b
+        → TellsFaultOfAll most (b ++ piece.now) told.new }
+    ensures closed { result ≡ CLOSED → (most : ℕ) (b : List ℕ) → WasFed most fed.old b → ⊥ }
     ensures kept { result ≢ FAULT → told.new ≡ told.old }
     ensures status { (result ≢ MISUSED) × (result ≤ CLOSED) }
 {
@@ -100,12 +135,14 @@ pub extern "C" fn nixu_reader_finish(
     faults: &[u16],
     told: &mut [Summary],
 ) -> u32
-    ensures ok { result ≡ OK → (b : List ℕ) → HasReadIn reader.old.held.value b
-        → TellsVerdicts b faults.now told.old told.new }
-    ensures fault { result ≡ FAULT → (b : List ℕ) → HasReadIn reader.old.held.value b
-        → TellsFaults b (length faults.now) told.old told.new }
+    ensures ok { result ≡ OK → (most : ℕ) (b : List ℕ) → HasReadIn most reader.old.held.value b
+        → TellsVerdictsWithin most b faults.now told.old told.new }
+    ensures fault { result ≡ FAULT → (most : ℕ) (b : List ℕ)
+        → HasReadIn most reader.old.held.value b
+        → TellsFaultsWithin most b (length faults.now) told.old told.new }
     ensures misused { (result ≡ MISUSED) ↔ (length told.old < length faults.now) }
-    ensures closed { result ≡ CLOSED → (b : List ℕ) → HasReadIn reader.old.held.value b → ⊥ }
+    ensures closed { result ≡ CLOSED → (most : ℕ) (b : List ℕ)
+        → HasReadIn most reader.old.held.value b → ⊥ }
     ensures none { IsNoReader reader.old.held.value
         → (MISUSED ≤ result) × (reader.new.held.value ≡ reader.old.held.value) }
     ensures left { IsReader reader.old.held.value
@@ -120,24 +157,24 @@ pub extern "C" fn nixu_reader_finish(
     let Some(kept) = reader.take(alloc) else {
         return CLOSED;
     };
-    if matches!(*kept, Kept::Trace(_)) {
+    if matches!(*kept, Kept::Trace { .. }) {
         reader.fill(kept);
         return CLOSED;
     }
     match Box::into_inner(kept) {
         Kept::Reader(fed) => finish(alloc, fed, faults, told),
-        Kept::Trace(_) => unreachable!(),
+        Kept::Trace { .. } => unreachable!(),
     }
 }
 
 /// Ends the text that a reader was fed with.
 fn finish(alloc: Global, fed: FedReader, faults: &[u16], told: &mut [Summary]) -> u32
     requires { length faults.now ≤ length told.old }
-    ensures ok { result ≡ OK → (b : List ℕ) → HasRead fed b
-        → TellsVerdicts b faults.now told.old told.new }
-    ensures fault { result ≡ FAULT → (b : List ℕ) → HasRead fed b
-        → TellsFaults b (length faults.now) told.old told.new }
-    ensures closed { result ≡ CLOSED → (b : List ℕ) → HasRead fed b → ⊥ }
+    ensures ok { result ≡ OK → (most : ℕ) (b : List ℕ) → WasFed most fed b
+        → TellsVerdictsWithin most b faults.now told.old told.new }
+    ensures fault { result ≡ FAULT → (most : ℕ) (b : List ℕ) → WasFed most fed b
+        → TellsFaultsWithin most b (length faults.now) told.old told.new }
+    ensures closed { result ≡ CLOSED → (most : ℕ) (b : List ℕ) → WasFed most fed b → ⊥ }
     ensures kept { NO_MEMORY ≤ result → told.new ≡ told.old }
     ensures status { (result ≢ MISUSED) × (result ≤ CLOSED) }
 {

@@ -1,24 +1,27 @@
 //! A trace that a caller holds, and makes entry by entry: for a recorder in the same process.
 ghost use Rattle.std.specs.Prelude.{◌≡◌, ◌≢◌, ◌≤◌, ◌⊎◌, ◌↔◌, [], None, Some, IsSome};
 ghost use Rattle.causal_text.specs.Canonical.{canonical};
-ghost use Rattle.causal_trace.specs.Limits.{IsProcessCount};
+ghost use Rattle.causal_trace.specs.Limits.{IsProcessCount, default_entries};
 ghost use Rattle.nixu.specs.Each.{TellsJudged};
-ghost use Rattle.nixu.specs.Entries.{entry_of, recording_in, OfTrace, Takes, TakesIn, TellsAgainst, TellsAgainstIn};
+ghost use Rattle.nixu.specs.Entries.{entry_of, most_in, recording_in, OfTrace, Takes, TakesIn, TellsAgainst, TellsAgainstIn};
+ghost use Rattle.nixu.specs.Limits.{IsEntryCount};
 ghost use Rattle.nixu.specs.Room.{IsGiven, IsUntouched};
 
 use crate::audit::summary_for;
 use crate::held::Handle;
 use crate::kept::Kept;
+use crate::limits::limits_of;
 use crate::room::give;
 use crate::status::{CLOSED, FAULT, MISUSED, NO_MEMORY, OK, number_of};
 use crate::step::{Determinant, Step, entry_of};
 use crate::summary::Summary;
 use causal_name::NoMemory;
 use causal_text::{TextKind, text_of};
+use causal_trace::limits::{DEFAULT_LIMITS, Limits};
 use causal_trace::{Entry, Trace, TraceFault};
 use std::alloc::Global;
 
-/// Opens a trace of so many processes, 1 to 256, that has no entries.
+/// Opens a trace by the usual limits, of so many processes, 1 to 256, that has no entries.
 ///
 /// It answers [`OK`]; [`MISUSED`] where something is open there, or a trace cannot have so many processes; or
 /// [`NO_MEMORY`]. Where it does not answer `OK`, nothing changes.
@@ -26,6 +29,49 @@ use std::alloc::Global;
 pub extern "C" fn nixu_trace_open(alloc: Global, trace: &mut Handle, processes: u16) -> u32
     ensures ok { result ≡ OK
         → recording_in trace.new.held.value ≡ Some (record { processes = processes; past = [] }) }
+    ensures most { result ≡ OK → most_in trace.new.held.value ≡ default_entries }
+    ensures count { result ≡ OK → IsProcessCount processes }
+    ensures misused { result ≡ MISUSED
+        → IsSome trace.old.held.value ⊎ (IsProcessCount processes → ⊥) }
+    ensures open { IsSome trace.old.held.value → result ≡ MISUSED }
+    ensures kept { result ≢ OK → trace.new.held.value ≡ trace.old.held.value }
+    ensures status { (result ≢ FAULT) × (result ≤ MISUSED) }
+{
+    open_by(alloc, trace, processes, DEFAULT_LIMITS)
+}
+
+/// Opens a trace of so many processes, 1 to 256, that has no entries and may have up to so many, 1 to 16,777,216, which list up to
+/// 16 determinants for each in all.
+///
+/// It answers as [`nixu_trace_open`] does, and [`MISUSED`] where a trace may not have so many entries.
+#[unsafe(no_mangle)]
+pub extern "C" fn nixu_trace_open_within(
+    alloc: Global,
+    trace: &mut Handle,
+    processes: u16,
+    entries: u32,
+) -> u32
+    ensures ok { result ≡ OK
+        → recording_in trace.new.held.value ≡ Some (record { processes = processes; past = [] }) }
+    ensures most { result ≡ OK → most_in trace.new.held.value ≡ entries }
+    ensures count { result ≡ OK → IsProcessCount processes × IsEntryCount entries }
+    ensures misused { result ≡ MISUSED → IsSome trace.old.held.value
+        ⊎ ((IsProcessCount processes → ⊥) ⊎ (IsEntryCount entries → ⊥)) }
+    ensures open { IsSome trace.old.held.value → result ≡ MISUSED }
+    ensures kept { result ≢ OK → trace.new.held.value ≡ trace.old.held.value }
+    ensures status { (result ≢ FAULT) × (result ≤ MISUSED) }
+{
+    match limits_of(entries) {
+        Some(limits) => open_by(alloc, trace, processes, limits),
+        None => MISUSED,
+    }
+}
+
+/// Opens a trace by these limits.
+fn open_by(alloc: Global, trace: &mut Handle, processes: u16, limits: Limits) -> u32
+    ensures ok { result ≡ OK
+        → recording_in trace.new.held.value ≡ Some (record { processes = processes; past = [] }) }
+    ensures most { result ≡ OK → most_in trace.new.held.value ≡ limits.entries }
     ensures count { result ≡ OK → IsProcessCount processes }
     ensures misused { result ≡ MISUSED
         → IsSome trace.old.held.value ⊎ (IsProcessCount processes → ⊥) }
@@ -37,7 +83,13 @@ pub extern "C" fn nixu_trace_open(alloc: Global, trace: &mut Handle, processes: 
         return MISUSED;
     }
     match Trace::new(alloc, processes) {
-        Ok(made) => trace.keep(alloc, Kept::Trace(made)),
+        Ok(made) => trace.keep(
+            alloc,
+            Kept::Trace {
+                trace: made,
+                limits,
+            },
+        ),
         Err(TraceFault::Processes) => MISUSED,
         Err(_) => NO_MEMORY,
     }
@@ -57,9 +109,12 @@ pub extern "C" fn nixu_trace_push(
     fault: &mut u32,
 ) -> u32
     ensures ok { result ≡ OK
-        → TakesIn (recording_in trace.old.held.value) (entry_of entry.now listed.now) (recording_in trace.new.held.value) }
+        → TakesIn (most_in trace.old.held.value) (recording_in trace.old.held.value)
+        (entry_of entry.now listed.now) (recording_in trace.new.held.value) }
     ensures fault { result ≡ FAULT
-        → TellsAgainstIn (recording_in trace.old.held.value) (entry_of entry.now listed.now) fault.new }
+        → TellsAgainstIn (most_in trace.old.held.value) (recording_in trace.old.held.value)
+        (entry_of entry.now listed.now) fault.new }
+    ensures most { most_in trace.new.held.value ≡ most_in trace.old.held.value }
     ensures misused { result ≡ MISUSED → entry_of entry.now listed.now ≡ None }
     ensures closed { (result ≡ CLOSED) ↔ (recording_in trace.old.held.value ≡ None) }
     ensures kept { result ≢ OK
@@ -71,7 +126,10 @@ pub extern "C" fn nixu_trace_push(
         return CLOSED;
     };
     let status = match &mut *kept {
-        Kept::Trace(recorded) => push(alloc, recorded, entry, listed, fault),
+        Kept::Trace {
+            trace: recorded,
+            limits,
+        } => push(alloc, recorded, *limits, entry, listed, fault),
         Kept::Reader(_) => CLOSED,
     };
     trace.fill(kept);
@@ -82,35 +140,38 @@ pub extern "C" fn nixu_trace_push(
 fn push(
     alloc: Global,
     trace: &mut Trace,
+    limits: Limits,
     entry: &Step,
     listed: &[Determinant],
     fault: &mut u32,
 ) -> u32
-    ensures ok { result ≡ OK
-        → Takes trace.old.recording (entry_of entry.now listed.now) trace.new.recording }
-    ensures fault { result ≡ FAULT
-        → TellsAgainst trace.old.recording (entry_of entry.now listed.now) fault.new }
+    ensures ok { result ≡ OK → Takes limits.entries trace.old.recording
+        (entry_of entry.now listed.now) trace.new.recording }
+    ensures fault { result ≡ FAULT → TellsAgainst limits.entries trace.old.recording
+        (entry_of entry.now listed.now) fault.new }
     ensures misused { result ≡ MISUSED → entry_of entry.now listed.now ≡ None }
     ensures kept { result ≢ OK → trace.new.recording ≡ trace.old.recording }
     ensures unsaid { result ≢ FAULT → fault.new ≡ fault.old }
     ensures status { result ≤ MISUSED }
 {
     match entry_of(alloc, entry, listed) {
-        Ok(Some(entry)) => take(trace, entry, fault),
+        Ok(Some(entry)) => take(trace, limits, entry, fault),
         Ok(None) => MISUSED,
         Err(NoMemory) => NO_MEMORY,
     }
 }
 
 /// Adds an entry at the end of a trace.
-fn take(trace: &mut Trace, entry: Entry, fault: &mut u32) -> u32
-    ensures ok { result ≡ OK → Takes trace.old.recording (Some entry) trace.new.recording }
-    ensures fault { result ≡ FAULT → TellsAgainst trace.old.recording (Some entry) fault.new }
+fn take(trace: &mut Trace, limits: Limits, entry: Entry, fault: &mut u32) -> u32
+    ensures ok { result ≡ OK
+        → Takes limits.entries trace.old.recording (Some entry) trace.new.recording }
+    ensures fault { result ≡ FAULT
+        → TellsAgainst limits.entries trace.old.recording (Some entry) fault.new }
     ensures kept { result ≢ OK → trace.new.recording ≡ trace.old.recording }
     ensures unsaid { result ≢ FAULT → fault.new ≡ fault.old }
     ensures status { result ≤ NO_MEMORY }
 {
-    match trace.push(entry) {
+    match trace.push_within(limits, entry) {
         Ok(()) => OK,
         Err(TraceFault::NoMemory) => NO_MEMORY,
         Err(told) => {
@@ -141,7 +202,10 @@ pub extern "C" fn nixu_trace_audit(
         return CLOSED;
     };
     let status = match &*kept {
-        Kept::Trace(recorded) => tell(alloc, recorded, faults, told),
+        Kept::Trace {
+            trace: recorded,
+            ..
+        } => tell(alloc, recorded, faults, told),
         Kept::Reader(_) => CLOSED,
     };
     trace.fill(kept);
@@ -186,7 +250,10 @@ pub extern "C" fn nixu_trace_text(
         return CLOSED;
     };
     let status = match &*kept {
-        Kept::Trace(recorded) => give_text(alloc, recorded, out, needed),
+        Kept::Trace {
+            trace: recorded,
+            ..
+        } => give_text(alloc, recorded, out, needed),
         Kept::Reader(_) => CLOSED,
     };
     trace.fill(kept);

@@ -2,9 +2,13 @@
 use crate::audit::{nixu_audit, nixu_audit_each, nixu_version};
 use crate::faults::nixu_fault_text;
 use crate::held::Handle;
-use crate::reader::{nixu_reader_close, nixu_reader_feed, nixu_reader_finish, nixu_reader_open};
+use crate::reader::{
+    nixu_reader_close, nixu_reader_feed, nixu_reader_finish, nixu_reader_open,
+    nixu_reader_open_within,
+};
 use crate::recorder::{
-    nixu_trace_audit, nixu_trace_close, nixu_trace_open, nixu_trace_push, nixu_trace_text,
+    nixu_trace_audit, nixu_trace_close, nixu_trace_open, nixu_trace_open_within, nixu_trace_push,
+    nixu_trace_text,
 };
 use crate::status::{CLOSED, FAULT, MISUSED, OK};
 use crate::step::{Determinant, Step};
@@ -100,6 +104,9 @@ fn what_the_program_prints_is_given(rt: HostRuntime) {
         OK
     );
     assert!(rt; begins(&out, b"<svg"));
+    assert_eq!(rt; nixu_draw(rt.alloc(), b"", 1, &mut out, &mut needed), FAULT);
+    assert_eq!(rt; needed, 0);
+    assert!(rt; begins(&out, b"<svg"));
 }
 
 #[test]
@@ -158,6 +165,33 @@ fn a_fault_is_told_before_the_text_has_ended(rt: HostRuntime) {
         nixu_reader_feed(alloc, &mut reader, b"]", &mut told),
         CLOSED
     );
+}
+
+// The text has four entries, the last of them on line 5.
+#[test]
+fn a_reader_keeps_the_limits_that_it_is_opened_with(rt: HostRuntime) {
+    let alloc = rt.alloc();
+    let mut reader = Handle::closed(alloc);
+    let mut told = [unwritten()];
+    for entries in [0, 16_777_217] {
+        assert_eq!(rt;
+            nixu_reader_open_within(alloc, &mut reader, entries),
+            MISUSED
+        );
+    }
+    assert_eq!(rt; nixu_reader_open_within(alloc, &mut reader, 3), OK);
+    assert_eq!(rt;
+        nixu_reader_feed(alloc, &mut reader, ORPHANED, &mut told[0]),
+        FAULT
+    );
+    assert_eq!(rt; (told[0].kind, told[0].line, told[0].fault), (3, 5, 8));
+    assert_eq!(rt; nixu_reader_open_within(alloc, &mut reader, 4), OK);
+    assert_eq!(rt;
+        nixu_reader_feed(alloc, &mut reader, ORPHANED, &mut told[0]),
+        OK
+    );
+    assert_eq!(rt; nixu_reader_finish(alloc, &mut reader, &[1], &mut told), OK);
+    tells_the_orphan(&rt, &told[0]);
 }
 
 fn entry(kind: u32, source: u8, dest: u8) -> Step {
@@ -223,6 +257,28 @@ fn a_trace_is_made_of_entries(rt: HostRuntime) {
         nixu_trace_text(alloc, &mut trace, &mut out, &mut needed),
         CLOSED
     );
+}
+
+#[test]
+fn a_trace_keeps_the_limits_that_it_is_opened_with(rt: HostRuntime) {
+    let alloc = rt.alloc();
+    let mut trace = Handle::closed(alloc);
+    let mut fault = 99;
+    for entries in [0, 16_777_217] {
+        assert_eq!(rt;
+            nixu_trace_open_within(alloc, &mut trace, 2, entries),
+            MISUSED
+        );
+    }
+    assert_eq!(rt; nixu_trace_open_within(alloc, &mut trace, 257, 1), MISUSED);
+    assert_eq!(rt; nixu_trace_open_within(alloc, &mut trace, 2, 1), OK);
+    push(&rt, alloc, &mut trace, &entry(0, 0, 1), &[]);
+    assert_eq!(rt;
+        nixu_trace_push(alloc, &mut trace, &entry(3, 0, 0), &[], &mut fault),
+        FAULT
+    );
+    assert_eq!(rt; fault, 8);
+    nixu_trace_close(alloc, &mut trace);
 }
 
 #[test]

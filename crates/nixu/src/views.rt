@@ -1,10 +1,9 @@
 //! Bytes that the program prints: the line of a verdict, what tells why it is so, and a picture of the run.
 ghost use Rattle.std.specs.Prelude.{◌≡◌, ◌≤◌, IfOk, IfErr};
-ghost use Rattle.causal_text.specs.FaultLine.{fault_line as line_of};
 ghost use Rattle.causal_audit.specs.Verdicts.{IsVerdict};
 ghost use Rattle.nixu.specs.Failures.{IsFailureOf};
-ghost use Rattle.nixu.specs.Room.{Gives, IsGiven, IsUntouched};
-ghost use Rattle.nixu.specs.Views.{IsShowing, IsShown, IsShownOf, IsFaultLine};
+ghost use Rattle.nixu.specs.Room.{IsGiven, IsUntouched};
+ghost use Rattle.nixu.specs.Views.{Answers, IsShowing, IsShown, IsShownOf, fault_shown};
 
 use crate::judged::{Failure, judged_of, trace_of};
 use crate::room::give;
@@ -39,11 +38,7 @@ pub extern "C" fn nixu_line(
     out: &mut [u8],
     needed: &mut usize,
 ) -> u32
-    ensures ok { result ≡ OK
-        → Gives (IsShown View.Line text.now faults) out.old out.new needed.new }
-    ensures fault { result ≡ FAULT → Gives (IsFaultLine text.now) out.old out.new needed.new }
-    ensures kept { result ≡ NO_MEMORY → IsUntouched out.old out.new needed.old needed.new }
-    ensures status { result ≤ NO_MEMORY }
+    ensures { Answers View.Line text.now faults result out.old out.new needed.old needed.new }
 {
     show(alloc, text, faults, View::Line, out, needed)
 }
@@ -58,17 +53,13 @@ pub extern "C" fn nixu_explain(
     out: &mut [u8],
     needed: &mut usize,
 ) -> u32
-    ensures ok { result ≡ OK
-        → Gives (IsShown View.Reason text.now faults) out.old out.new needed.new }
-    ensures fault { result ≡ FAULT → Gives (IsFaultLine text.now) out.old out.new needed.new }
-    ensures kept { result ≡ NO_MEMORY → IsUntouched out.old out.new needed.old needed.new }
-    ensures status { result ≤ NO_MEMORY }
+    ensures { Answers View.Reason text.now faults result out.old out.new needed.old needed.new }
 {
     show(alloc, text, faults, View::Reason, out, needed)
 }
 
-/// Gives the space-time diagram of the run with its verdict, in SVG, or the line of the text's first fault, as
-/// [`nixu_line`] gives its line.
+/// Gives the space-time diagram of the run with its verdict, in SVG, as [`nixu_line`] gives its line; of a text with a fault
+/// it gives no bytes, since a fault's line would be a broken picture.
 #[unsafe(no_mangle)]
 pub extern "C" fn nixu_draw(
     alloc: Global,
@@ -77,11 +68,7 @@ pub extern "C" fn nixu_draw(
     out: &mut [u8],
     needed: &mut usize,
 ) -> u32
-    ensures ok { result ≡ OK
-        → Gives (IsShown View.Picture text.now faults) out.old out.new needed.new }
-    ensures fault { result ≡ FAULT → Gives (IsFaultLine text.now) out.old out.new needed.new }
-    ensures kept { result ≡ NO_MEMORY → IsUntouched out.old out.new needed.old needed.new }
-    ensures status { result ≤ NO_MEMORY }
+    ensures { Answers View.Picture text.now faults result out.old out.new needed.old needed.new }
 {
     show(alloc, text, faults, View::Picture, out, needed)
 }
@@ -94,33 +81,46 @@ fn show(
     out: &mut [u8],
     needed: &mut usize,
 ) -> u32
-    ensures ok { result ≡ OK → Gives (IsShown view text.now faults) out.old out.new needed.new }
-    ensures fault { result ≡ FAULT → Gives (IsFaultLine text.now) out.old out.new needed.new }
-    ensures kept { result ≡ NO_MEMORY → IsUntouched out.old out.new needed.old needed.new }
-    ensures status { result ≤ NO_MEMORY }
+    ensures { Answers view text.now faults result out.old out.new needed.old needed.new }
 {
     match shown(alloc, text, faults, view) {
         Ok(bytes) => {
             give(bytes.as_slice(), out, needed);
             OK
         }
-        Err(Failure::Fault(fault)) => give_fault(alloc, fault, out, needed),
+        Err(Failure::Fault(fault)) => give_fault(alloc, fault, view, out, needed),
         Err(Failure::NoMemory) => NO_MEMORY,
     }
 }
 
-/// Gives the line of a fault.
-fn give_fault(alloc: Global, fault: TextFault, out: &mut [u8], needed: &mut usize) -> u32
-    ensures fault { result ≡ FAULT → IsGiven (line_of fault) out.old out.new needed.new }
+/// Gives what the view shows of a fault.
+fn give_fault(
+    alloc: Global,
+    fault: TextFault,
+    view: View,
+    out: &mut [u8],
+    needed: &mut usize,
+) -> u32
+    ensures fault { result ≡ FAULT → IsGiven (fault_shown view fault) out.old out.new needed.new }
     ensures kept { result ≡ NO_MEMORY → IsUntouched out.old out.new needed.old needed.new }
     ensures status { (FAULT ≤ result) × (result ≤ NO_MEMORY) }
 {
-    match fault_line(alloc, &fault) {
-        Ok(line) => {
-            give(line.as_slice(), out, needed);
+    match shown_fault(alloc, fault, view) {
+        Ok(bytes) => {
+            give(bytes.as_slice(), out, needed);
             FAULT
         }
         Err(NoMemory) => NO_MEMORY,
+    }
+}
+
+/// What the view shows of a fault: its line, and of that there is no picture.
+fn shown_fault(alloc: Global, fault: TextFault, view: View) -> Result<Vec<u8>, NoMemory>
+    ensures { IfOk result (λ bytes. bytes.items ≡ fault_shown view fault) }
+{
+    match view {
+        View::Line | View::Reason => fault_line(alloc, &fault),
+        View::Picture => Ok(Vec::new(alloc)),
     }
 }
 

@@ -10,24 +10,24 @@ use Rattle.causal_commands.specs.Shown.{IsReply}
 use Rattle.causal_commands.specs.Streams.{IsAnswer}
 
 -- the line answers the text that a reader gives, where its bytes are known
-abbrev pub IsAnswerFor : Option (List ℕ) → ℕ → Ended → List ℕ → Type 0
-IsAnswerFor given f ended line = IfSome given (λ text. IsAnswer text f ended line)
+abbrev pub IsAnswerFor : ℕ → Option (List ℕ) → ℕ → Ended → List ℕ → Type 0
+IsAnswerFor most given f ended line = IfSome given (λ text. IsAnswer most text f ended line)
 
 -- this replies to it, and shows why the verdict is so
-abbrev pub IsReplyFor : View → Option (List ℕ) → ℕ → Ended → List ℕ → Type 0
-IsReplyFor view given f ended out = IfSome given (λ text. IsReply view text f ended out)
+abbrev pub IsReplyFor : ℕ → View → Option (List ℕ) → ℕ → Ended → List ℕ → Type 0
+IsReplyFor most view given f ended out = IfSome given (λ text. IsReply most view text f ended out)
 
 -- this tells for which numbers of faults it is safe
-abbrev pub IsRangeAnswerFor : Option (List ℕ) → Ended → List ℕ → Type 0
-IsRangeAnswerFor given ended out = IfSome given (λ text. IsRangeAnswer text ended out)
+abbrev pub IsRangeAnswerFor : ℕ → Option (List ℕ) → Ended → List ℕ → Type 0
+IsRangeAnswerFor most given ended out = IfSome given (λ text. IsRangeAnswer most text ended out)
 
 -- these lines answer the question of it
-abbrev pub AreLinesFor : Question → Option (List ℕ) → Ended → List ℕ → Type 0
-AreLinesFor question given ended lines = IfSome given (λ text. AreLines question text ended lines)
+abbrev pub AreLinesFor : ℕ → Question → Option (List ℕ) → Ended → List ℕ → Type 0
+AreLinesFor most question given ended lines = IfSome given (λ text. AreLines most question text ended lines)
 
 -- this is their object
-abbrev pub IsObjectFor : Question → Option (List ℕ) → Ended → List ℕ → Type 0
-IsObjectFor question given ended out = IfSome given (λ text. IsObject question text ended out)
+abbrev pub IsObjectFor : ℕ → Question → Option (List ℕ) → Ended → List ℕ → Type 0
+IsObjectFor most question given ended out = IfSome given (λ text. IsObject most question text ended out)
 
 -- an ending that writes nothing
 abbrev pub IsSilent : Ended → Type 0

@@ -9,7 +9,7 @@ use Rattle.causal_merge.specs.declared.fault.MergeKind.TheVariants as kind
 use Rattle.causal_merge.specs.declared.fault.MergeFault.{MergeFault}
 use Rattle.causal_merge.specs.declared.gathered.Gathered.{Gathered}
 use Rattle.causal_merge.specs.Said.{run_in, has_header, events_in, torn_in}
-use Rattle.causal_merge.specs.Reading.{max_text, reading}
+use Rattle.causal_merge.specs.Reading.{most_bytes, reading}
 
 -- a header has a number of processes within the limits
 abbrev pub IsSound : Line → Type 0
@@ -26,18 +26,18 @@ pub record Gathers (g : Gathered) (said : List Line) : Type 0 where
   pub few : IfSome g.run (λ run. IsProcessCount run.processes)
 
 -- what is kept is what these lines say, the newest first
-abbrev pub HasRead : Gathered → List (List ℕ) → Type 0
-HasRead g before = (said : List Line) × (reading before ≡ Ok said) × Gathers g said
+abbrev pub HasRead : ℕ → Gathered → List (List ℕ) → Type 0
+HasRead most g before = (said : List Line) × (reading most before ≡ Ok said) × Gathers g said
 
 -- a fault is that of these lines, unless memory was wanting
-abbrev pub IsFaultOf : MergeFault → List (List ℕ) → Type 0
-IsFaultOf fault before = fault.kind ≢ kind.Line NoMemory → reading before ≡ Err fault
+abbrev pub IsFaultOf : ℕ → MergeFault → List (List ℕ) → Type 0
+IsFaultOf most fault before = fault.kind ≢ kind.Line NoMemory → reading most before ≡ Err fault
 
 -- so far has the text come: these lines are read, the newest first, and this is left
-pub record HasCome (text left : List ℕ) (g : Gathered) : Type 0 where
+pub record HasCome (most : ℕ) (text left : List ℕ) (g : Gathered) : Type 0 where
   pub before : List (List ℕ)
   pub split : lines text ≡ reverse before ++ lines left
   pub size : sum_by length before + length left ≡ length text
-  pub read : HasRead g before
+  pub read : HasRead most g before
   pub few : g.count ≤ sum_by length before
-  pub within : sum_by length before ≤ max_text
+  pub within : sum_by length before ≤ most_bytes

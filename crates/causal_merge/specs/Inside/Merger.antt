@@ -21,11 +21,11 @@ is_newest None e = false
 is_newest (Some last) e = last.0 == e.clock && last.1.0 == e.process.0
 
 -- these events, the newest first, became the entries of the trace
-pub record HasMerged (m : Merger) (before : List Placed) : Type 0 where
-  pub entries : merged m.trace.recording.processes before ≡ Ok m.trace.recording.past
+pub record HasMerged (most : ℕ) (m : Merger) (before : List Placed) : Type 0 where
+  pub entries : merged most m.trace.recording.processes before ≡ Ok m.trace.recording.past
   pub sends : IsOf m.sends m.trace.recording.past
   pub last : m.last ≡ newest before
 
 -- a fault is that of these events, unless memory was wanting
-abbrev pub IsFaultOf : ℕ → MergeFault → List Placed → Type 0
-IsFaultOf n fault before = fault.kind ≢ kind.Line NoMemory → merged n before ≡ Err fault
+abbrev pub IsFaultOf : ℕ → ℕ → MergeFault → List Placed → Type 0
+IsFaultOf most n fault before = fault.kind ≢ kind.Line NoMemory → merged most n before ≡ Err fault

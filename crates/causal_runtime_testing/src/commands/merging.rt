@@ -1,6 +1,7 @@
 //! What the program writes to recordings, and how it ends, where readers and writers give and take little, or fail.
 use super::{Drip, Narrow};
 use causal_commands::{Ended, Merging, merge_and_tell};
+use causal_trace::limits::DEFAULT_LIMITS;
 use std::alloc::Global;
 use std::io::Read;
 
@@ -22,7 +23,7 @@ const MERGED: &str = r#"["trace",1,2]
 // what is written to recordings, and how the merge ends
 fn merged<I: Read>(alloc: Global, input: &mut I) -> (Merging, Vec<u8>) {
     let mut output = Vec::new(alloc);
-    let merging = merge_and_tell(alloc, input, &mut output);
+    let merging = merge_and_tell(alloc, input, &mut output, DEFAULT_LIMITS);
     (merging, output)
 }
 
@@ -51,7 +52,7 @@ fn reader_fails_at_each_call(rt: HostRuntime) {
 fn tells_of_the_writer(alloc: Global, fails_at: usize, with_error: bool) -> bool {
     let mut input = MESSAGE.as_bytes();
     let mut output = Narrow::new(alloc, fails_at, with_error);
-    let ended = merge_and_tell(alloc, &mut input, &mut output).ended;
+    let ended = merge_and_tell(alloc, &mut input, &mut output, DEFAULT_LIMITS).ended;
     output.is_told(ended, Ended::Merged, MERGED)
 }
 

@@ -1,6 +1,6 @@
 //! Texts that are read by limits which the caller sets.
 use causal_name::Pid;
-use causal_text::{TextFault, TextKind, Unread, read_within};
+use causal_text::{FedReader, ReaderFault, TextFault, TextKind, Unread, read_within};
 use causal_trace::entry::Entry;
 use causal_trace::fault::TraceFault;
 use causal_trace::limits::Limits;
@@ -46,6 +46,19 @@ fn fault_read(alloc: Global, text: &[u8], entries: u32) -> Option<TextFault> {
     }
 }
 
+/// What is told of a text within limits that is fed in two pieces, the first of so many bytes; None where it spells a trace.
+fn fault_fed(alloc: Global, text: &[u8], cut: usize, entries: u32) -> Option<ReaderFault> {
+    let mut reader = FedReader::within(alloc, Limits { entries });
+    let (first, second) = text.split_at(cut.min(text.len()));
+    if let Err(fault) = reader.feed(first) {
+        return Some(fault);
+    }
+    if let Err(fault) = reader.feed(second) {
+        return Some(fault);
+    }
+    reader.finish().err()
+}
+
 /// Whether so many sends are read within a limit of as many, and the last of one more is one too many.
 fn are_most(alloc: Global, count: u32) -> Result<bool, Fail> {
     let next = count.saturating_add(1);
@@ -60,7 +73,9 @@ fn are_most(alloc: Global, count: u32) -> Result<bool, Fail> {
     Ok(
         entries_read(alloc, text.as_bytes(), count) == Some(count)
             && entries_read(alloc, more.as_bytes(), next) == Some(next)
-            && fault_read(alloc, more.as_bytes(), count) == Some(one_more),
+            && fault_read(alloc, more.as_bytes(), count) == Some(one_more)
+            && fault_fed(alloc, more.as_bytes(), 20, next).is_none()
+            && fault_fed(alloc, more.as_bytes(), 20, count) == Some(ReaderFault::Text(one_more)),
     )
 }
 

@@ -9,6 +9,6 @@ returns-clause-writes g c =
     let new = g.O.Write.contents c.write_whole.new.writer in
     let answer = c.in-Ok.answer in
     elim c.match-write_whole.branch [
-      | in-Ok-write_whole w ↦ rw w.ended-is (object_whole c.args.question known old new answer.ended answer.line.items _ c.as_slice.ensures.value c.in-Ok.ensures.ok w.in-Ok-write_whole.ensures.ok)
-      | in-Err-write_whole w ↦ rw w.ended-is (object_first c.args.question known old new answer.ended answer.line.items _ _ c.as_slice.ensures.value c.in-Ok.ensures.ok w.in-Err-write_whole.ensures.err.0 w.in-Err-write_whole.ensures.err.1)
+      | in-Ok-write_whole w ↦ rw w.ended-is (object_whole c.args.limits.entries c.args.question known old new answer.ended answer.line.items _ c.as_slice.ensures.value c.in-Ok.ensures.ok w.in-Ok-write_whole.ensures.ok)
+      | in-Err-write_whole w ↦ rw w.ended-is (object_first c.args.limits.entries c.args.question known old new answer.ended answer.line.items _ _ c.as_slice.ensures.value c.in-Ok.ensures.ok w.in-Err-write_whole.ensures.err.0 w.in-Err-write_whole.ensures.err.1)
     ]

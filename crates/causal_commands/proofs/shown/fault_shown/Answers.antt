@@ -4,10 +4,10 @@ use Rattle.causal_commands.specs.Shown.{IsFaultShown}
 use Rattle.causal_commands.proofs.shown.fault_shown.Goals as goal
 
 pub returns-in-Reason-clause-ok : goal.returns-in-Reason-clause-ok
-returns-in-Reason-clause-ok c = λ text told.
-    subst (λ (view : View). IsFaultShown view text c.in-Ok.answer.line.items) (sym c.in-Reason.is) (c.in-Ok.ensures.ok text told)
+returns-in-Reason-clause-ok c = λ most text told.
+    subst (λ (view : View). IsFaultShown most view text c.in-Ok.answer.line.items) (sym c.in-Reason.is) (c.in-Ok.ensures.ok most text told)
 
 pub returns-in-Picture-clause-ok : goal.returns-in-Picture-clause-ok
-returns-in-Picture-clause-ok c = λ text told.
-    let first = c.in-Ok.ensures.ok text told in
-    subst (λ (view : View). IsFaultShown view text c.new.result.items) (sym c.in-Picture.is) (first.0, first.1, c.new.ensures.items)
+returns-in-Picture-clause-ok c = λ most text told.
+    let first = c.in-Ok.ensures.ok most text told in
+    subst (λ (view : View). IsFaultShown most view text c.new.result.items) (sym c.in-Picture.is) (first.0, first.1, c.new.ensures.items)

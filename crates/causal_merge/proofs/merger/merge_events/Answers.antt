@@ -1,9 +1,16 @@
-use Rattle.std.proofs.Common.{arith, ap, sym, ◌∙◌, ◌≡◌, ◌∷◌, [], ◌++◌, length, reverse}
+use Rattle.std.proofs.Common.{rules, arith, ap, sym, refl, ◌∙◌, ◌≡◌, ◌∷◌, [], ◌++◌, length, reverse}
 use Rattle.std.proofs.lemmas.List.{nil_from_length}
 use Rattle.std.specs.Vec.Iter.{into_iter_items}
 use Rattle.std.proofs.lemmas.Result.{err_from_is_err_and}
 use Rattle.causal_merge.proofs.Prefixes.{reverse_step, merged-fault, merged-all}
 use Rattle.causal_merge.proofs.merger.merge_events.Goals as goal
+
+pub loop-placed-init : goal.loop-placed-init
+loop-placed-init c = record {
+  left = search rules;
+  so_far = ([], refl, c.in-Ok.ensures.ok.0 c.args.limits.entries);
+  processes = c.in-Ok.ensures.ok.1;
+}
 
 pub loop-placed-preserved : goal.loop-placed-preserved
 loop-placed-preserved c =
@@ -26,11 +33,11 @@ returns-in_err-take-clause-err c =
     let was = c.loop-placed.invariant in
     let began = c.into_iter-placed-iterator.ensures.into_iter_gives in
     let all : c.args.events.items ≡ reverse was.so_far.0 ++ c.in-Some.placed ∷ into_iter_items c.next.new.self = sym began.0 ∙ was.so_far.1 ∙ ap (λ xs. reverse was.so_far.0 ++ xs) c.in-Some.ensures.steps.0 in
-    rw (p.1, p.2) (merged-fault c.args.processes _ c.args.events.items was.so_far.0 (into_iter_items c.next.new.self) c.in-Some.placed _ was.processes all (c.in_err-take.ensures.err was.so_far.0 was.so_far.2))
+    rw (p.1, p.2) (merged-fault c.args.limits.entries c.args.processes _ c.args.events.items was.so_far.0 (into_iter_items c.next.new.self) c.in-Some.placed _ was.processes all (c.in_err-take.ensures.err was.so_far.0 was.so_far.2))
 
 pub returns-clause-ok : goal.returns-clause-ok
 returns-clause-ok c =
     let was = c.loop-placed.invariant in
     let began = c.into_iter-placed-iterator.ensures.into_iter_gives in
     let none : into_iter_items c.loop-placed.placed-iterator ≡ [] = nil_from_length _ (sym was.left ∙ c.in-None.ensures.steps.0) in
-    rw c.into_trace.ensures (merged-all c.args.processes _ c.args.events.items was.so_far.0 (into_iter_items c.loop-placed.placed-iterator) _ was.processes (sym began.0 ∙ was.so_far.1) none was.so_far.2.entries)
+    rw c.into_trace.ensures (merged-all c.args.limits.entries c.args.processes _ c.args.events.items was.so_far.0 (into_iter_items c.loop-placed.placed-iterator) _ was.processes (sym began.0 ∙ was.so_far.1) none was.so_far.2.entries)

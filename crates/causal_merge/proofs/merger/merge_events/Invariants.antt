@@ -8,6 +8,6 @@ use Rattle.causal_merge.proofs.merger.merge_events.Given as goal
 abbrev pub invariant-loop-placed : goal.invariant-loop-placed
 invariant-loop-placed l = record {
   left : into_iter_len l.placed-iterator ≡ length (into_iter_items l.placed-iterator);
-  so_far : (before : List Placed) × (into_iter_items l.initial.placed-iterator ≡ reverse before ++ into_iter_items l.placed-iterator) × HasMerged l.merger before;
+  so_far : (before : List Placed) × (into_iter_items l.initial.placed-iterator ≡ reverse before ++ into_iter_items l.placed-iterator) × HasMerged l.limits.entries l.merger before;
   processes : l.merger.trace.recording.processes ≡ l.processes;
 }

@@ -10,7 +10,7 @@ loop-line-init c = record {
   before = [];
   split = refl;
   size = omega arith;
-  read = c.new-gathered.ensures.read;
+  read = c.new-gathered.ensures.read c.args.limits.entries;
   few = omega (arith, c.new-gathered.ensures.count);
   within = omega arith;
 }
@@ -22,21 +22,21 @@ pub loop-line-preserved : goal.loop-line-preserved
 loop-line-preserved c =
     let s = c.in-Some.ensures in
     let take = c.in_ok-take.ensures in
-    come_on c.args.text.now c.loop-line.left.now c.in-Some.line.now c.in-Some.after.now _ _ (length c.args.text.now - length c.in-Some.after.now) c.loop-line.invariant s.line s.whole s.some refl take.ok take.count take.within
+    come_on c.args.limits.entries c.args.text.now c.loop-line.left.now c.in-Some.line.now c.in-Some.after.now _ _ (length c.args.text.now - length c.in-Some.after.now) c.loop-line.invariant s.line s.whole s.some refl take.ok take.count take.within
 
 pub returns-in_err-take-clause-err : goal.returns-in_err-take-clause-err
 returns-in_err-take-clause-err c =
     let p = err_from_is_err_and c.from_residual.result c.from_residual.ensures.1 in
     let come = c.loop-line.invariant in
     let s = c.in-Some.ensures in
-    rw (p.1, p.2) (reading-fault (lines c.args.text.now) come.before (lines c.in-Some.after.now) c.in-Some.line.now _ (come.split ∙ ap (λ ls. reverse come.before ++ ls) s.line)
+    rw (p.1, p.2) (reading-fault c.args.limits.entries (lines c.args.text.now) come.before (lines c.in-Some.after.now) c.in-Some.line.now _ (come.split ∙ ap (λ ls. reverse come.before ++ ls) s.line)
     (c.in_err-take.ensures.err come.before come.read (end_is c.args.text.now c.loop-line.left.now c.in-Some.line.now c.in-Some.after.now come.before _ come.size s.whole refl)))
 
 pub returns-clause-ok : goal.returns-clause-ok
 returns-clause-ok c =
     let come = c.loop-line.invariant in
     let none : c.loop-line.left.now ≡ [] = grind arith in
-    subst (λ (before : List (List ℕ)). HasRead c.loop-line.gathered before) (sym (reverse_whole (lines c.args.text.now) come.before (come.split ∙ ap (λ xs. reverse come.before ++ lines xs) none))) come.read
+    subst (λ (before : List (List ℕ)). HasRead c.args.limits.entries c.loop-line.gathered before) (sym (reverse_whole (lines c.args.text.now) come.before (come.split ∙ ap (λ xs. reverse come.before ++ lines xs) none))) come.read
 
 pub returns-clause-few : goal.returns-clause-few
 returns-clause-few c = let come = c.loop-line.invariant in let few = come.few in let within = come.within in omega (arith, few, within)

@@ -3,7 +3,7 @@ use Rattle.std.proofs.lemmas.List.{get_or-replicate}
 use Rattle.causal_merge.proofs.gathered.Gathered.new.Goals as goal
 
 pub returns-clause-read : goal.returns-clause-read
-returns-clause-read c = (
+returns-clause-read c = λ most. (
   [],
   refl,
   record {

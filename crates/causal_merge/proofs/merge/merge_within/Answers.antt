@@ -1,7 +1,7 @@
 use Rattle.std.proofs.Common.{inl}
 use Rattle.std.proofs.lemmas.Result.{err_from_is_err_and}
 use Rattle.causal_merge.proofs.Wholes.{merges, header_fault, event_fault}
-use Rattle.causal_merge.proofs.merge.merge_text.Goals as goal
+use Rattle.causal_merge.proofs.merge.merge_within.Goals as goal
 
 pub whole_run-requires-clause-said : goal.whole_run-requires-clause-said
 whole_run-requires-clause-said c = let r = c.in_ok-gathered.ensures.ok in (r.0, r.2)
@@ -10,7 +10,7 @@ pub merge_events-requires : goal.merge_events-requires
 merge_events-requires c = let r = c.in_ok-gathered.ensures.ok in c.in_ok-run.ensures.few r.0 r.2
 
 pub returns-clause-ok : goal.returns-clause-ok
-returns-clause-ok c = merges c.args.text.now c.in_ok-gathered.gathered c.in_ok-run.run' _ _ c.in_ok-gathered.ensures.ok c.in_ok-run.ensures.ok c.put_in_order.ensures c.in_ok-trace.ensures.processes c.in_ok-trace.ensures.ok
+returns-clause-ok c = merges c.args.limits.entries c.args.text.now c.in_ok-gathered.gathered c.in_ok-run.run' _ _ c.in_ok-gathered.ensures.ok c.in_ok-run.ensures.ok c.put_in_order.ensures c.in_ok-trace.ensures.processes c.in_ok-trace.ensures.ok
 
 pub returns-in_err-gathered-clause-err : goal.returns-in_err-gathered-clause-err
 returns-in_err-gathered-clause-err c =
@@ -20,9 +20,9 @@ returns-in_err-gathered-clause-err c =
 pub returns-in_err-run-clause-err : goal.returns-in_err-run-clause-err
 returns-in_err-run-clause-err c =
     let p = err_from_is_err_and c.from_residual-in_err-run.result c.from_residual-in_err-run.ensures.1 in
-    rw (p.1, p.2) (λ other. header_fault c.args.text.now c.in_ok-gathered.gathered _ c.in_ok-gathered.ensures.ok c.in_err-run.ensures.err)
+    rw (p.1, p.2) (λ other. header_fault c.args.limits.entries c.args.text.now c.in_ok-gathered.gathered _ c.in_ok-gathered.ensures.ok c.in_err-run.ensures.err)
 
 pub returns-in_err-trace-clause-err : goal.returns-in_err-trace-clause-err
 returns-in_err-trace-clause-err c =
     let p = err_from_is_err_and c.from_residual-in_err-trace.result c.from_residual-in_err-trace.ensures.1 in
-    rw (p.1, p.2) (λ other. event_fault c.args.text.now c.in_ok-gathered.gathered c.in_ok-run.run' _ _ c.in_ok-gathered.ensures.ok c.in_ok-run.ensures.ok c.put_in_order.ensures (c.in_err-trace.ensures.err other))
+    rw (p.1, p.2) (λ other. event_fault c.args.limits.entries c.args.text.now c.in_ok-gathered.gathered c.in_ok-run.run' _ _ c.in_ok-gathered.ensures.ok c.in_ok-run.ensures.ok c.put_in_order.ensures (c.in_err-trace.ensures.err other))

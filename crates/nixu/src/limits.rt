@@ -1,0 +1,16 @@
+//! How long a trace may be.
+ghost use Rattle.std.specs.Prelude.{◌≡◌, IfSome, None};
+ghost use Rattle.nixu.specs.Limits.{IsEntryCount};
+
+use causal_trace::limits::{Limits, MAX_ENTRIES};
+
+/// The limits of a trace of up to so many entries; None where no trace may have so many, or none.
+pub(crate) fn limits_of(entries: u32) -> Option<Limits>
+    ensures some { IfSome result (λ limits. (limits.entries ≡ entries) × IsEntryCount entries) }
+    ensures none { result ≡ None → IsEntryCount entries → ⊥ }
+{
+    if entries == 0 || entries as usize > MAX_ENTRIES {
+        return None;
+    }
+    Some(Limits { entries })
+}
