@@ -15,3 +15,4 @@ mod replies;
 mod same;
 pub mod seat;
 pub mod shared;
+mod task;
