@@ -10,7 +10,7 @@ use Rattle.std.proofs.lemmas.List.Sorted.{IsPartitionedBy-leb, IsNonDecreasingBy
 use Rattle.std.proofs.lemmas.List.{get_or-drop, length-drop, take_all}
 use Rattle.causal_clock.specs.declared.Rise.{Rise}
 use Rattle.causal_clock.specs.Rises.{rise_at, count_at, RisesStrictly}
-use Rattle.causal_clock.specs.Inside.Columns.{IsColumn, TellsAlike, raised}
+use Rattle.causal_clock.specs.Inside.Columns.{IsParted, IsColumn, TellsAlike, raised}
 use Rattle.causal_clock.proofs.Lemmas.Counted.{IsCountOf, rise_counts, count_risen}
 
 -- ---- the count at a place
@@ -56,12 +56,6 @@ settled (r ∷ rises) p q h =
     λ k. max (if same k then r.count else 0) (rest k)
 
 -- ---- where a search stops
-
--- just the first n rises stand up to the place
-pub record IsParted (rises : List Rise) (place n : ℕ) : Type 0 where
-  pub inside : n ≤ length rises
-  pub before : (i : ℕ) → i < n → (rise_at rises i).place ≤ place
-  pub after : (i : ℕ) → n ≤ i → i < length rises → place < (rise_at rises i).place
 
 -- rises before one that stands up to the place stand there too
 pub up_to : (rises : List Rise) (place n i : ℕ) → RisesStrictly rises → n < length rises → (rise_at rises n).place ≤ place → i ≤ n → (rise_at rises i).place ≤ place

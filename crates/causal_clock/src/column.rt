@@ -1,6 +1,7 @@
 //! Columns: for a lane and a source lane, where in the lane the count of the source's events rose.
 ghost use Rattle.std.specs.Prelude.{◌≡◌, ℕ, ◌-◌, ◌<◌, ◌≤◌, length, OnOk, vec_len, vec_capacity};
 ghost use Rattle.causal_clock.specs.Rises.{rise_at, count_at, RisesStrictly};
+ghost use Rattle.causal_clock.specs.Inside.Columns.{IsParted};
 
 use crate::Rise;
 use std::alloc::AllocError;
@@ -19,18 +20,24 @@ fn search_start(column: &[Rise], place: u32) -> usize
     column.len().saturating_sub(back)
 }
 
+// How many rises stand up to the place. It costs the logarithm of how many stand after it.
+fn count_up_to(column: &[Rise], place: u32) -> usize
+    requires strictly { RisesStrictly column.now }
+    ensures { IsParted column.now place result }
+{
+    let start = search_start(column, place);
+    start + column[start..].partition_point(|rise| rise.place <= place)
+}
+
 /// How many events of the source lane are reached from that place of the lane: what the last rise up to there tells. It
 /// costs the logarithm of how many rises stand after that one.
 pub fn count_at(column: &[Rise], place: u32) -> u32
     requires strictly { RisesStrictly column.now }
     ensures { result ≡ count_at column.now place }
 {
-    let start = search_start(column, place);
-    let passed = start + column[start..].partition_point(|rise| rise.place <= place);
-    if passed == 0 {
-        0
-    } else {
-        column[passed - 1].count
+    match count_up_to(column, place) {
+        0 => 0,
+        passed => column[passed - 1].count,
     }
 }
 

@@ -138,7 +138,7 @@ unspelled limit word never = by_cases (number_of limit word) refl where
   by_cases None e = refl
   by_cases (Some n) e = absurd (never n e)
 
-pub parsed : {E : Type 0} (limit : ℕ) (word : List ℕ) (r : Result ℕ E) → limit < 2 ^ 32 → 0 < length word → get_or word 0 0 ≢ 43 → (get_or word 0 0 ≡ 48 → length word ≤ 1)
+parsed : {E : Type 0} (limit : ℕ) (word : List ℕ) (r : Result ℕ E) → limit < 2 ^ 32 → 0 < length word → get_or word 0 0 ≢ 43 → (get_or word 0 0 ≡ 48 → length word ≤ 1)
     → ParsesUnsigned 32 10 word r → number_of limit word ≡ within limit r
 unfolding number_of
 parsed {E} limit word r small some sign lone parses = by_cases r (parse_plain own 32 word r parses sign) where
@@ -167,10 +167,17 @@ no_text limit word small none = unspelled limit word (λ n e.
 
 -- ---- how a word begins
 
-pub first_is : (word : List ℕ) (first : ℕ) → Some first ≡ slice_get word 0 → (get_or word 0 0 ≡ first) × (0 < length word)
+first_is : (word : List ℕ) (first : ℕ) → Some first ≡ slice_get word 0 → (get_or word 0 0 ≡ first) × (0 < length word)
 first_is [] first e = absurd (none-some first (sym e))
 first_is (x ∷ xs) first e = (let same : first ≡ x = same_Some _ _ e in sym same, omega arith)
 
-pub lone_from : (x n : ℕ) → ((x ≡ 48) × (n ≤ 1)) ⊎ (x ≢ 48) → x ≡ 48 → n ≤ 1
+lone_from : (x n : ℕ) → ((x ≡ 48) × (n ≤ 1)) ⊎ (x ≢ 48) → x ≡ 48 → n ≤ 1
 lone_from x n (inl h) e = h.1
 lone_from x n (inr other) e = absurd (other e)
+
+-- a word with no plus sign, and no zero before others, spells what `parse` answers
+pub parsed_word : {E : Type 0} (limit first : ℕ) (word text : List ℕ) (r : Result ℕ E) → limit < 2 ^ 32 → Some first ≡ slice_get word 0 → first ≢ 43 → ((first ≡ 48) × (length word ≤ 1)) ⊎ (first ≢ 48)
+    → text ≡ word → ParsesUnsigned 32 10 text r → number_of limit word ≡ within limit r
+parsed_word limit first word text r small begins sign lone same parses =
+    let at = first_is word first begins in
+    parsed limit word r small at.1 (λ e. sign (sym at.0 ∙ e)) (λ e. lone_from first (length word) lone (sym at.0 ∙ e)) (subst (λ (w : List ℕ). ParsesUnsigned 32 10 w r) same parses)

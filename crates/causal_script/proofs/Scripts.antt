@@ -6,7 +6,7 @@ use Rattle.causal_script.specs.declared.script.ScriptFaultKind.TheVariants.{Scri
 use Rattle.causal_script.specs.declared.start.Start.{Start}
 use Rattle.causal_script.specs.Lines.{lines}
 use Rattle.causal_script.specs.Spelling.{max_script, IsStart, Spells, start_line, command_line}
-use Rattle.causal_script.specs.Faults.{IsFirstFault, IsReadUpTo}
+use Rattle.causal_script.specs.Faults.{IsFirstFault}
 use Rattle.causal_script.specs.Inside.Place.{AreCommands, AreOnLines}
 use Rattle.causal_script.proofs.Texts.{sound_none, length_lines, whole_within}
 

@@ -98,11 +98,20 @@ seats_snoc (s ∷ seats) seat f (suc k) len each is zero lt = each 0 (omega arit
 seats_snoc (s ∷ seats) seat f (suc k) len each is (suc n) lt = seats_snoc seats seat (λ n. f (suc n)) k (omega (arith, len)) (λ n lt. each (suc n) (omega (arith, lt))) is n (omega (arith, lt))
 
 -- what the seat hears of an answer is what the item tells of it
-pub heard_told : {A : Type 0} (answer : A → Reply) (a : Result A LockedFault) → heard answer (shared_of a) ≡ told answer a
+heard_told : {A : Type 0} (answer : A → Reply) (a : Result A LockedFault) → heard answer (shared_of a) ≡ told answer a
 heard_told answer (Ok x) = refl
 heard_told answer (Err (Refusal.Core fault)) = refl
 heard_told answer (Err (Refusal.Flush fault)) = refl
 heard_told answer (Err Refusal.NoRecord) = refl
+
+-- once it is told, the call of the locked value and what the seat hears of it are one section
+pub section_heard : {A : Type 0} (answer : A → Reply) (old new : Held) (before : Sitting) (seat seat' : SeatState) (request asked : Request) (a : Result A LockedFault) (result : Result A SharedFault) (reply : Option Reply) (number count first : ℕ)
+    → ((old : Held) → MayCall old seat first → ItemCall old new seat.sitting.number (length seat.sitting.items) asked reply → ItemSection old new seat.sitting seat'.sitting asked reply)
+    → MayCall old seat first → ItemCall old new number count request (told answer a) → number ≡ seat.sitting.number → count ≡ length seat.sitting.items → asked ≡ request → reply ≡ told answer a → result ≡ shared_of a → seat.sitting ≡ before
+    → ItemSection old new before seat'.sitting request (heard answer result)
+section_heard answer old new before seat seat' request asked a result reply number count first hears may made at counted asks tells shared same =
+    let item : ItemCall old new seat.sitting.number (length seat.sitting.items) asked reply = rw (asks, tells) (rw (at, counted) at made) in
+    rw (shared, heard_told answer a) (rw (asks, tells, same) at (hears old may item))
 
 -- no answer of the locked value says that the seat is wrong, or that the history is full
 never_wrong : {A : Type 0} (a : Result A LockedFault) → shared_of a ≡ Err Fault.WrongSeat → ⊥

@@ -5,3 +5,4 @@ pub mod Noting
 pub mod Sections
 pub mod Seated
 pub mod Settled
+pub mod Tasks

@@ -40,15 +40,17 @@ told_fault NoRecord = None
 told_fault (Core fault) = Some (Refused fault)
 told_fault (Flush fault) = Some (FlushRefused fault)
 
--- what an item tells of an answer
-abbrev pub told : {A : Type 0} → (A → Reply) → Result A LockedFault → Option Reply
-told answer (Ok a) = Some (answer a)
-told answer (Err fault) = told_fault fault
+-- what an item tells of an answer, by what it tells of a refusal
+abbrev pub told_by : {A E : Type 0} → (E → Option Reply) → (A → Reply) → Result A E → Option Reply
+told_by refusal answer (Ok a) = Some (answer a)
+told_by refusal answer (Err e) = refusal e
 
--- what an item tells of the answer of a restart, which hands more back than its fault
+abbrev pub told : {A : Type 0} → (A → Reply) → Result A LockedFault → Option Reply
+told answer result = told_by told_fault answer result
+
+-- the same of a restart, which hands more back than its fault
 abbrev pub told_restart : {B : Type 0} → Result Restarted (LockedRefused B) → Option Reply
-told_restart (Ok restarted) = Some (Again restarted)
-told_restart (Err refused) = told_fault refused.fault
+told_restart result = told_by (λ refused. told_fault refused.fault) Again result
 
 -- to whatever it is given, the one box answers as the other
 abbrev pub AnswersAs : {B : Type 0} → (B → List Input → List (List Outgoing)) → B → B → Type 0

@@ -1,6 +1,6 @@
 -- A seat as callers see it.
 use Rattle.std.specs.Prelude.{◌≡◌, ℕ, ◌+◌, ◌≤◌, ◌<◌, List, [], ◌∷◌, ◌++◌, length, map, slice_get}
-use Rattle.std.specs.Prelude.{Option, Some, None, Result, Ok, Err}
+use Rattle.std.specs.Prelude.{Option, Some, None, Result, Err}
 use Rattle.causal_trace.specs.declared.entry.Entry.{Entry}
 use Rattle.causal_protocol.specs.declared.request.Request.{Request}
 use Rattle.causal_protocol.specs.declared.request.Reply.{Reply}
@@ -14,6 +14,7 @@ use Rattle.causal_shared.specs.declared.fault.LockedFault.{LockedFault}
 use Rattle.causal_shared.specs.declared.fault.LockedFault.TheVariants as Refusal
 use Rattle.causal_shared.specs.History.{item_of, last_of, Shows}
 use Rattle.causal_protocol.specs.Telling.{told_entries}
+use Rattle.causal_shared.specs.Locked.{told_by}
 
 -- a seat's number, its runtime's tag, its own list, and how many entries it has seen
 pub record Sitting : Type 0 where
@@ -61,13 +62,11 @@ heard_fault _ = None
 
 -- what an item tells of an answer, if an item was made
 abbrev pub heard : {A : Type 0} → (A → Reply) → Result A SharedFault → Option Reply
-heard answer (Ok a) = Some (answer a)
-heard answer (Err fault) = heard_fault fault
+heard answer result = told_by heard_fault answer result
 
--- what an item tells of the answer of a restart, if an item was made
+-- the same of a restart
 abbrev pub heard_restart : {B : Type 0} → Result Restarted (SharedRefused B) → Option Reply
-heard_restart (Ok restarted) = Some (Again restarted)
-heard_restart (Err refused) = heard_fault refused.fault
+heard_restart result = told_by (λ refused. heard_fault refused.fault) Again result
 
 -- what one item call does to its seat
 abbrev pub SeatCall : Sitting → Sitting → Request → Option Reply → Type 0

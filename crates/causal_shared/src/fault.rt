@@ -1,4 +1,8 @@
 //! Why calls are refused.
+ghost use Rattle.std.specs.Prelude.{◌≡◌};
+ghost use Rattle.causal_shared.specs.Seat.{fault_of};
+ghost use Rattle.causal_shared.specs.declared.fault.LockedFault.TheVariants as told;
+
 use causal_protocol::request::{CoreFault, FlushFault};
 use thiserror::Error;
 
@@ -51,9 +55,6 @@ pub enum FinishFault {
 }
 
 impl From<CoreFault> for LockedFault {
-    ghost use Rattle.causal_shared.specs.declared.fault.LockedFault.TheVariants as told;
-    ghost use Rattle.std.specs.Prelude.{◌≡◌};
-
     ghost from_gives = { λ fault gives. gives ≡ told.Core fault };
 
     fn from(fault: CoreFault) -> LockedFault {
@@ -62,9 +63,6 @@ impl From<CoreFault> for LockedFault {
 }
 
 impl From<FlushFault> for LockedFault {
-    ghost use Rattle.causal_shared.specs.declared.fault.LockedFault.TheVariants as told;
-    ghost use Rattle.std.specs.Prelude.{◌≡◌};
-
     ghost from_gives = { λ fault gives. gives ≡ told.Flush fault };
 
     fn from(fault: FlushFault) -> LockedFault {
@@ -73,9 +71,6 @@ impl From<FlushFault> for LockedFault {
 }
 
 impl From<LockedFault> for SharedFault {
-    ghost use Rattle.causal_shared.specs.Seat.{fault_of};
-    ghost use Rattle.std.specs.Prelude.{◌≡◌};
-
     ghost from_gives = { λ fault gives. gives ≡ fault_of fault };
 
     fn from(fault: LockedFault) -> SharedFault {

@@ -15,5 +15,6 @@ mod replies;
 mod same;
 pub mod seat;
 pub mod shared;
+mod task;
 #[cfg(test)]
 mod tests;

@@ -2,10 +2,12 @@
 ghost use Rattle.std.specs.Prelude.{◌≡◌};
 ghost use Rattle.causal_shared.specs.Locked.{told, told_fault, told_restart};
 ghost use Rattle.causal_shared.specs.Inside.Seated.{shared_of};
+ghost use Rattle.causal_shared.specs.Inside.Tasks.{reply_of};
 ghost use Rattle.causal_protocol.specs.declared.request.Reply.TheVariants as Told;
 
 use crate::fault::{LockedFault, SharedFault};
 use crate::refused::LockedRefused;
+use crate::task::Task;
 use causal_protocol::request::{Delivered, Reply, Restarted};
 
 /// What an item tells of a refusal; no item is made where the call could not be recorded.
@@ -28,11 +30,11 @@ pub(crate) fn delivery_told(answer: Result<Delivered, LockedFault>) -> Option<Re
     }
 }
 
-pub(crate) fn crash_told(answer: Result<u32, LockedFault>) -> Option<Reply>
-    ensures { result ≡ told Told.Crashed answer }
+pub(crate) fn task_told(task: Task, answer: Result<u32, LockedFault>) -> Option<Reply>
+    ensures { result ≡ told (reply_of task) answer }
 {
     match answer {
-        Ok(first) => Some(Reply::Crashed { first }),
+        Ok(number) => Some(task.reply(number)),
         Err(fault) => fault_told(fault),
     }
 }
@@ -43,24 +45,6 @@ pub(crate) fn restart_told(answer: &Result<Restarted, LockedRefused>) -> Option<
     match answer {
         Ok(restarted) => Some(Reply::Restarted(*restarted)),
         Err(refused) => fault_told(refused.fault),
-    }
-}
-
-pub(crate) fn flush_told(answer: Result<u32, LockedFault>) -> Option<Reply>
-    ensures { result ≡ told Told.Flushed answer }
-{
-    match answer {
-        Ok(count) => Some(Reply::Flushed { count }),
-        Err(fault) => fault_told(fault),
-    }
-}
-
-pub(crate) fn forget_told(answer: Result<u32, LockedFault>) -> Option<Reply>
-    ensures { result ≡ told Told.Forgotten answer }
-{
-    match answer {
-        Ok(count) => Some(Reply::Forgotten { count }),
-        Err(fault) => fault_told(fault),
     }
 }
 

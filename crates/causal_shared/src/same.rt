@@ -2,27 +2,10 @@
 ghost use Rattle.std.specs.Prelude.{◌≡◌, ◌↔◌, IsTrue};
 
 use crate::item::Item;
-use causal_name::{Det, MsgName, Pid};
+use causal_name::Det;
+use causal_name::order::{are_same_determinants, are_same_processes};
 use causal_protocol::request::{CoreFault, Delivered, FlushFault, Reply, Request, Restarted};
 use causal_trace::entry::Entry;
-
-fn same_pid(a: Pid, b: Pid) -> bool
-    ensures { IsTrue result ↔ (a ≡ b) }
-{
-    a == b
-}
-
-fn same_name(a: MsgName, b: MsgName) -> bool
-    ensures { IsTrue result ↔ (a ≡ b) }
-{
-    a == b
-}
-
-fn same_det(a: Det, b: Det) -> bool
-    ensures { IsTrue result ↔ (a ≡ b) }
-{
-    a == b
-}
 
 fn same_fault(a: CoreFault, b: CoreFault) -> bool
     ensures { IsTrue result ↔ (a ≡ b) }
@@ -33,7 +16,7 @@ fn same_fault(a: CoreFault, b: CoreFault) -> bool
 fn same_delivered(a: Delivered, b: Delivered) -> bool
     ensures { IsTrue result ↔ (a ≡ b) }
 {
-    a.first == b.first && same_det(a.det, b.det) && a.sends == b.sends
+    a.first == b.first && are_same_determinants(a.det, b.det) && a.sends == b.sends
 }
 
 fn same_restarted(a: Restarted, b: Restarted) -> bool
@@ -86,7 +69,7 @@ fn same_dets(a: &[Det], b: &[Det]) -> bool
     let mut rest = b;
     for det in a {
         match rest {
-            [first, others @ ..] if same_det(*first, *det) => rest = others,
+            [first, others @ ..] if are_same_determinants(*first, *det) => rest = others,
             _ => return false,
         }
     }
@@ -105,7 +88,7 @@ pub(crate) fn same_entry(a: &Entry, b: &Entry) -> bool
                 to: t,
                 ssn: s,
             },
-        ) => { same_pid(*from, *f) && same_pid(*to, *t) && *ssn == *s }
+        ) => { are_same_processes(*from, *f) && are_same_processes(*to, *t) && *ssn == *s }
         (
             Entry::Deliver {
                 to,
@@ -120,18 +103,18 @@ pub(crate) fn same_entry(a: &Entry, b: &Entry) -> bool
                 listed: l,
             },
         ) => {
-            same_pid(*to, *t)
+            are_same_processes(*to, *t)
                 && *send == *s
                 && *rsn == *r
                 && same_dets(listed.as_slice(), l.as_slice())
         }
-        (Entry::Stable { det }, Entry::Stable { det: d }) => same_det(*det, *d),
-        (Entry::Crash { who }, Entry::Crash { who: w }) => same_pid(*who, *w),
+        (Entry::Stable { det }, Entry::Stable { det: d }) => are_same_determinants(*det, *d),
+        (Entry::Crash { who }, Entry::Crash { who: w }) => are_same_processes(*who, *w),
         (Entry::Restart { who, listed }, Entry::Restart { who: w, listed: l }) => {
-            same_pid(*who, *w) && same_dets(listed.as_slice(), l.as_slice())
+            are_same_processes(*who, *w) && same_dets(listed.as_slice(), l.as_slice())
         }
         (Entry::Forget { who, listed }, Entry::Forget { who: w, listed: l }) => {
-            same_pid(*who, *w) && same_dets(listed.as_slice(), l.as_slice())
+            are_same_processes(*who, *w) && same_dets(listed.as_slice(), l.as_slice())
         }
         _ => false,
     }

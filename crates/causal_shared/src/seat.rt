@@ -15,6 +15,7 @@ ghost use Rattle.causal_shared.specs.Locked.{held_of, AnswersAs, IsSnapshot, IsS
 ghost use Rattle.causal_shared.specs.Pending.{AreAscending, IsPendingFault, IsSnapshotFault};
 ghost use Rattle.causal_shared.specs.Seat.{heard, heard_fault, heard_restart, with_item};
 ghost use Rattle.causal_shared.specs.Inside.Seated.{refusal_of};
+ghost use Rattle.causal_shared.specs.Inside.Tasks.{reply_of, request_of};
 ghost use Rattle.causal_shared.specs.Seat.{SeesEntries};
 ghost use Rattle.causal_shared.specs.Inside.Seated.{IsSeated, MayCall, TellsFull, TellsWrongSeat};
 
@@ -22,9 +23,8 @@ use crate::fault::SharedFault;
 use crate::item::{Item, Snapshot};
 use crate::locked::Locked;
 use crate::refused::SharedRefused;
-use crate::replies::{
-    crash_told, delivery_told, flush_told, forget_told, restart_told, shared_answer,
-};
+use crate::replies::{delivery_told, restart_told, shared_answer, task_told};
+use crate::task::Task;
 use causal_log::Stable;
 use causal_name::{MsgName, NoMemory, Pid};
 use causal_process::Process;
@@ -215,25 +215,26 @@ pub(crate) fn deliver_under<S: Stable>(
     shared_answer(answer)
 }
 
-/// The lock's part of a crash.
-pub(crate) fn crash_under<S: Stable>(
+/// The lock's part of a crash, a flush or a forgetting.
+pub(crate) fn task_under<S: Stable>(
     locked: &mut Locked<S>,
     tag: u64,
     seat: &mut Seat,
+    task: Task,
     p: Pid,
 ) -> Result<u32, SharedFault>
-    ensures section { Sections locked.old locked.new seat.old seat.new (Ask.Crash p)
-        (heard Told.Crashed result) }
+    ensures section { Sections locked.old locked.new seat.old seat.new (request_of task p)
+        (heard (reply_of task) result) }
     ensures wrong { TellsWrongSeat tag (held_of locked.old) seat.old.sitting result }
     ensures full { TellsFull (held_of locked.old) result }
 {
     let first = begin(locked, tag, seat)?;
-    let answer = locked.crash(seat.number(), seat.count(), p);
+    let answer = task.perform(locked, seat.number(), seat.count(), p);
     hear(
         locked,
         seat,
-        Request::Crash { p },
-        crash_told(answer),
+        task.request(p),
+        task_told(task, answer),
         first,
     );
     shared_answer(answer)
@@ -263,44 +264,6 @@ pub(crate) fn restart_under<S: Stable>(
     let request = Request::Restart { p };
     hear(locked, seat, request, restart_told(&answer), first);
     Ok(answer?)
-}
-
-/// The lock's part of a flush.
-pub(crate) fn flush_under<S: Stable>(
-    locked: &mut Locked<S>,
-    tag: u64,
-    seat: &mut Seat,
-    p: Pid,
-) -> Result<u32, SharedFault>
-    ensures section { Sections locked.old locked.new seat.old seat.new (Ask.Flush p)
-        (heard Told.Flushed result) }
-    ensures wrong { TellsWrongSeat tag (held_of locked.old) seat.old.sitting result }
-    ensures full { TellsFull (held_of locked.old) result }
-{
-    let first = begin(locked, tag, seat)?;
-    let answer = locked.flush(seat.number(), seat.count(), p);
-    let request = Request::Flush { p };
-    hear(locked, seat, request, flush_told(answer), first);
-    shared_answer(answer)
-}
-
-/// The lock's part of a forgetting.
-pub(crate) fn forget_under<S: Stable>(
-    locked: &mut Locked<S>,
-    tag: u64,
-    seat: &mut Seat,
-    p: Pid,
-) -> Result<u32, SharedFault>
-    ensures section { Sections locked.old locked.new seat.old seat.new (Ask.Forget p)
-        (heard Told.Forgotten result) }
-    ensures wrong { TellsWrongSeat tag (held_of locked.old) seat.old.sitting result }
-    ensures full { TellsFull (held_of locked.old) result }
-{
-    let first = begin(locked, tag, seat)?;
-    let answer = locked.forget(seat.number(), seat.count(), p);
-    let request = Request::Forget { p };
-    hear(locked, seat, request, forget_told(answer), first);
-    shared_answer(answer)
 }
 
 /// The lock's part of a snapshot.

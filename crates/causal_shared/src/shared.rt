@@ -21,10 +21,8 @@ use crate::fault::{FinishFault, SharedFault};
 use crate::item::{Items, Snapshot};
 use crate::locked::Locked;
 use crate::refused::SharedRefused;
-use crate::seat::{
-    Seat, crash_under, deliver_under, flush_under, forget_under, pending_under, restart_under,
-    snapshot_under,
-};
+use crate::seat::{Seat, deliver_under, pending_under, restart_under, snapshot_under, task_under};
+use crate::task::Task;
 use causal_core::runtime::Core;
 use causal_log::Stable;
 use causal_name::{MsgName, NoMemory, Pid};
@@ -108,7 +106,7 @@ impl<S: Stable + Send> Shared<S> {
         ensures item { SeatAnswers seat.old seat.new (Ask.Crash p) Told.Crashed result }
         ensures stranger { TellsStranger (tag_of self.now) seat.old.sitting result }
     {
-        crash_under(&mut self.locked.lock(rt), self.tag, seat, p)
+        task_under(&mut self.locked.lock(rt), self.tag, seat, Task::Crash, p)
     }
 
     /// Brings process p up again as the spare, which begins.
@@ -141,7 +139,7 @@ impl<S: Stable + Send> Shared<S> {
         ensures item { SeatAnswers seat.old seat.new (Ask.Flush p) Told.Flushed result }
         ensures stranger { TellsStranger (tag_of self.now) seat.old.sitting result }
     {
-        flush_under(&mut self.locked.lock(rt), self.tag, seat, p)
+        task_under(&mut self.locked.lock(rt), self.tag, seat, Task::Flush, p)
     }
 
     /// Takes what process p knows to be stable out of its log.
@@ -153,7 +151,7 @@ impl<S: Stable + Send> Shared<S> {
         ensures item { SeatAnswers seat.old seat.new (Ask.Forget p) Told.Forgotten result }
         ensures stranger { TellsStranger (tag_of self.now) seat.old.sitting result }
     {
-        forget_under(&mut self.locked.lock(rt), self.tag, seat, p)
+        task_under(&mut self.locked.lock(rt), self.tag, seat, Task::Forget, p)
     }
 
     /// The messages that up processes keep for q and that q's present lane has not received, by sender and number.

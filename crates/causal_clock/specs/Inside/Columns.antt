@@ -15,6 +15,12 @@ pub record IsColumn (rises : List Rise) (events from_events : ℕ) : Type 0 wher
 abbrev pub raised : List Rise → ℕ → ℕ → List Rise
 raised rises place count = if ltb (count_at rises place) count then rises ++ record { place = place; count = count } ∷ [] else rises
 
+-- just the first n rises stand up to the place
+pub record IsParted (rises : List Rise) (place n : ℕ) : Type 0 where
+  pub inside : n ≤ length rises
+  pub before : (i : ℕ) → i < n → (rise_at rises i).place ≤ place
+  pub after : (i : ℕ) → n ≤ i → i < length rises → place < (rise_at rises i).place
+
 -- both counts are the same, or neither is news to one who knows of so many
 abbrev pub TellsAlike : ℕ → ℕ → ℕ → Type 0
 TellsAlike known count other = max known count ≡ max known other

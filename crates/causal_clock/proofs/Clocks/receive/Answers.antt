@@ -1,13 +1,11 @@
-use Rattle.std.proofs.Common.{◌≡◌, ◌≢◌, ℕ, ◌+◌, ◌<◌, [], ◌∷◌, ◌++◌, Some, List, ◌==◌, length, get_or, ap, sym, ◌∙◌, subst, arith}
+use Rattle.std.proofs.Common.{◌≡◌, ◌≢◌, ℕ, ◌+◌, ◌<◌, [], ◌∷◌, ◌++◌, Some, List, length, get_or, ap, sym, ◌∙◌, subst, arith}
 use Rattle.std.proofs.Math.ListN.{length-set}
-use Rattle.std.proofs.lemmas.List.Sums.{count_by-le-length}
 use Rattle.causal_clock.specs.Rises.{RisesStrictly}
-use Rattle.causal_clock.specs.Timeline.{lane_of, place_of}
 use Rattle.causal_clock.specs.Inside.Columns.{column_in, raised, TellsAlike}
 use Rattle.causal_clock.specs.Inside.Lanes.{rises_in}
 use Rattle.causal_clock.specs.Inside.Fields.{events_of, places_of, counts_in, count_told}
 use Rattle.causal_clock.proofs.Columns.{raised_alike}
-use Rattle.causal_clock.proofs.Fields.{lane_of_entry, place_of_entry, as_many_events}
+use Rattle.causal_clock.proofs.Entries.{tells_event}
 use Rattle.causal_clock.proofs.Lanes.{as_many, column_was, told_was}
 use Rattle.causal_clock.proofs.Moves.{lengths_in, columns_in, small_lane, keeps_unchanged, told_in, told_of, told_of-own, told_of-other, alike, keeps_more}
 use Rattle.causal_clock.proofs.Steps.{same_some}
@@ -15,28 +13,17 @@ use Rattle.causal_clock.proofs.Clocks.receive.Goals as goal
 
 pub index-from-requires : goal.index-from-requires
 index-from-requires c =
-    let k = c.self.invariant.keeps in
-    let inside : c.args.send_event < length (events_of c.self.inside) = rw (← c.self.view_is) at c.requires.sent in
-    let within : c.args.send_event < length c.self.inside.entries.items = omega (arith, inside, as_many_events c.self.inside.entries.items) in
-    let lane : lane_of (events_of c.self.inside) c.args.send_event ≡ c.index-sent.result.now.event.lane = lane_of_entry c.self.inside.entries.items c.args.send_event c.index-sent.result.now c.index-sent.ensures within in
-    let in_lanes : c.index-sent.result.now.event.lane < length c.self.inside.lanes.items = omega (arith, lane, k.keeps.lanes c.args.send_event inside, as_many (λ x. x.events) c.self.inside.lanes.items) in
-    omega (arith, in_lanes, c.self.inside.lanes.ok.0)
+    let sent = tells_event c.self.inside c.args.send_event _ c.self.invariant (rw (← c.self.view_is) at c.requires.sent) c.index-sent.ensures in
+    omega (arith, sent.there, c.self.inside.lanes.ok.0)
 
 pub counts_for-requires : goal.counts_for-requires
 counts_for-requires c =
-    let k = c.self.invariant.keeps in
-    let es = events_of c.self.inside in
-    let send = c.args.send_event in
+    let sent = tells_event c.self.inside c.args.send_event _ c.self.invariant (rw (← c.self.view_is) at c.requires.sent) c.index-sent.ensures in
     let room : length (events_of c.self.inside) < 16777216 = rw (← c.self.view_is) at c.requires.room in
-    let inside : c.args.send_event < length (events_of c.self.inside) = rw (← c.self.view_is) at c.requires.sent in
-    let within : c.args.send_event < length c.self.inside.entries.items = omega (arith, inside, as_many_events c.self.inside.entries.items) in
-    let sent = c.index-sent.result.now in
-    let lane : lane_of (events_of c.self.inside) c.args.send_event ≡ c.index-sent.result.now.event.lane = lane_of_entry c.self.inside.entries.items c.args.send_event c.index-sent.result.now c.index-sent.ensures within in
-    let place : place_of (events_of c.self.inside) c.args.send_event ≡ c.index-sent.result.now.place = sym (k.places c.args.send_event inside) ∙ place_of_entry c.self.inside.entries.items c.args.send_event c.index-sent.result.now c.index-sent.ensures within in
-    let in_lanes : c.index-sent.result.now.event.lane < length c.self.inside.lanes.items = omega (arith, lane, k.keeps.lanes c.args.send_event inside, as_many (λ x. x.events) c.self.inside.lanes.items) in
+    let lane = c.index-sent.result.now.event.lane in
     record {
-      place = omega (arith, room, place, k.keeps.own send inside, (k.keeps.reach send inside (lane_of es send)).no_more, count_by-le-length (λ e. e.lane == lane_of es send) es);
-      strictly = λ source. subst RisesStrictly (column_was c.self.inside.lanes.items sent.event.lane c.index-from.result.now c.index-from.result.now in_lanes c.index-from.ensures source) (k.columns sent.event.lane source).strictly;
+      place = omega (arith, room, sent.few);
+      strictly = λ source. subst RisesStrictly (column_was c.self.inside.lanes.items lane c.index-from.result.now c.index-from.result.now sent.there c.index-from.ensures source) (c.self.invariant.keeps.columns lane source).strictly;
     }
 
 pub invariant_of-self-in_err-make_room : goal.invariant_of-self-in_err-make_room
@@ -78,27 +65,23 @@ invariant_of-self-2 c =
     let counts = c.in_ok-counts.counts.items in
     let counted = c.append.ensures.counted in
     let told = told_of es (columns_in lanes) send own in
-    let sent : c.args.send_event < length (events_of c.self.inside) = rw (← c.self.view_is) at c.requires.sent in
-    let within : c.args.send_event < length c.self.inside.entries.items = omega (arith, sent, as_many_events c.self.inside.entries.items) in
-    let lane : lane_of (events_of c.self.inside) c.args.send_event ≡ c.index-sent.result.now.event.lane = lane_of_entry c.self.inside.entries.items c.args.send_event c.index-sent.result.now c.index-sent.ensures within in
-    let place : place_of (events_of c.self.inside) c.args.send_event ≡ c.index-sent.result.now.place = sym (k.places c.args.send_event sent) ∙ place_of_entry c.self.inside.entries.items c.args.send_event c.index-sent.result.now c.index-sent.ensures within in
-    let in_lanes : c.index-sent.result.now.event.lane < length c.self.inside.lanes.items = omega (arith, lane, k.keeps.lanes c.args.send_event sent, as_many (λ x. x.events) c.self.inside.lanes.items) in
+    let sent = tells_event c.self.inside c.args.send_event _ c.self.invariant (rw (← c.self.view_is) at c.requires.sent) c.index-sent.ensures in
     let many : length c.in_ok-counts.counts.items ≡ length c.self.inside.lanes.items = rw (← c.self.view_is) at (c.in_ok-counts.ensures.count ∙ c.lanes-count.ensures.counted) in
     let lengths = as_many (λ x. x.events) c.self.inside.lanes.items in
     let row : c.index-to.result.now.row.items ≡ c.index_mut-own.result.now.row.items =
     sym (told_was (λ x. x.row.items) lanes own c.index-to.result.now x [] lt c.index-to.ensures) ∙ told_was (λ x. x.row.items) lanes own x x [] lt c.index_mut-own.ensures.value in
     let each : (source : ℕ) → source < length (lengths_in c.self.inside.lanes.items) → source ≢ c.args.lane → TellsAlike (get_or c.index_mut-own.result.now.row.items source 0) (get_or c.in_ok-counts.counts.items source 0) (counts_in (events_of c.self.inside) (columns_in c.self.inside.lanes.items) c.args.send_event source) =
     (λ source below other. subst (λ (n : ℕ). TellsAlike (get_or x.row.items source 0) (get_or counts source 0) n)
-    (told_in es (columns_in lanes) send source entry (rises_in from) lane place (column_was lanes entry.event.lane from from in_lanes c.index-from.ensures source))
+    (told_in es (columns_in lanes) send source entry (rises_in from) sent.lane sent.place (column_was lanes entry.event.lane from from sent.there c.index-from.ensures source))
     (subst (λ (l : List ℕ). TellsAlike (get_or l source 0) (get_or counts source 0) (count_told (rises_in from) entry source)) row
     (c.in_ok-counts.ensures.each source (omega (arith, below, lengths, many, c.in_ok-counts.ensures.count)) other))) in
-    let both = alike es (places_of c.self.inside) (lengths_in lanes) (columns_in lanes) k send own sent x.row.items counts (omega (arith, many, lengths)) c.in_ok-counts.ensures.own each in
+    let both = alike es (places_of c.self.inside) (lengths_in lanes) (columns_in lanes) k send own sent.inside x.row.items counts (omega (arith, many, lengths)) c.in_ok-counts.ensures.own each in
     let kept = x.kept in
     let events_are : c.raise.new.self.events ≡ c.index_mut-own.result.now.events = c.raise.ensures.events ∙ c.make_room.ensures.events in
     let appended : c.append.new.entries.items ≡ c.self.inside.entries.items ++ record { event = record { lane = c.args.lane; send = Some c.args.send_event }; place = c.index_mut-own.result.now.events } ∷ [] =
     c.append.ensures.appended ∙ (λ i. c.reserve.ensures.items i ++ record { event = record { lane = c.args.lane; send = Some c.args.send_event }; place = events_are i } ∷ []) in
     record {
-      keeps = rw appended (keeps_more c.self.inside.entries.items c.self.inside.lanes.items k (record { lane = c.args.lane; send = Some c.args.send_event }) lt x z c.index_mut-own.ensures.value (λ s is. subst (λ (n : ℕ). n < length (events_of c.self.inside)) (same_some is) sent) room
+      keeps = rw appended (keeps_more c.self.inside.entries.items c.self.inside.lanes.items k (record { lane = c.args.lane; send = Some c.args.send_event }) lt x z c.index_mut-own.ensures.value (λ s is. subst (λ (n : ℕ). n < length (events_of c.self.inside)) (same_some is) sent.inside) room
           told (told_of-own es (columns_in lanes) send own) (told_of-other es (columns_in lanes) send own)
           (counted ∙ ap (λ n. n + 1) events_are)
           (λ source. ap (λ l. column_in l source) c.append.ensures.same ∙ c.raise.ensures.raised source

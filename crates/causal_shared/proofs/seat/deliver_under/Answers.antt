@@ -1,34 +1,24 @@
-use Rattle.std.proofs.Common.{◌∙◌, ap, sym, length}
+use Rattle.std.proofs.Common.{◌∙◌, ap, sym, refl}
 use Rattle.causal_protocol.specs.declared.request.Request.TheVariants as Ask
 use Rattle.causal_protocol.specs.declared.request.Reply.TheVariants as Told
 use Rattle.causal_shared.specs.History.{count_at}
-use Rattle.causal_shared.specs.Locked.{held_of, ItemCall}
+use Rattle.causal_shared.specs.Locked.{held_of}
 use Rattle.causal_shared.specs.Inside.Seated.{IsSeated}
-use Rattle.causal_shared.proofs.Seats.{heard_told, never_full, not_wrong}
+use Rattle.causal_shared.proofs.Seats.{never_full, not_wrong, section_heard}
 use Rattle.causal_shared.proofs.seat.deliver_under.Goals as goal
 
-pub deliver-answer-requires-clause-seat : goal.deliver-answer-requires-clause-seat
-deliver-answer-requires-clause-seat g c = rw c.number.ensures c.in_ok-first.ensures.ok.inside
+pub deliver-answer-requires : goal.deliver-answer-requires
+deliver-answer-requires g c =
+    let may = c.in_ok-first.ensures.ok in
+    record { seat = rw c.number.ensures may.inside; call = c.count.ensures ∙ may.counted ∙ ap (count_at c.args.locked.now.seats.items) (sym c.number.ensures); room = may.room }
 
-pub deliver-answer-requires-clause-call : goal.deliver-answer-requires-clause-call
-deliver-answer-requires-clause-call g c = c.count.ensures ∙ c.in_ok-first.ensures.ok.counted ∙ ap (count_at c.args.locked.now.seats.items) (sym c.number.ensures)
-
-pub deliver-answer-requires-clause-room : goal.deliver-answer-requires-clause-room
-deliver-answer-requires-clause-room g c = c.in_ok-first.ensures.ok.room
-
-pub hear-requires-clause-few : goal.hear-requires-clause-few
-hear-requires-clause-few g c = c.in_ok-first.ensures.ok.few
-
-pub hear-requires-clause-spare : goal.hear-requires-clause-spare
-hear-requires-clause-spare g c = c.in_ok-first.ensures.ok.spare
+pub hear-requires : goal.hear-requires
+hear-requires g c = record { few = c.in_ok-first.ensures.ok.few; spare = c.in_ok-first.ensures.ok.spare }
 
 pub returns-clause-section : goal.returns-clause-section
 returns-clause-section g c =
-    let seat = c.begin.new.seat.sitting in
-    let item : ItemCall (held_of c.args.locked.now) (held_of c.deliver-answer.new.self) seat.number (length seat.items) (Ask.Deliver c.args.q c.args.source c.args.ssn) c.delivery_told.result =
-    rw c.delivery_told.ensures (rw (c.number.ensures, c.count.ensures) at c.deliver-answer.ensures.item) in
-    rw (c.shared_answer.ensures, heard_told Told.Delivered c.deliver-answer.result)
-    (rw (c.delivery_told.ensures, c.begin.ensures.sitting) at (c.hear.ensures (held_of c.args.locked.now) c.in_ok-first.ensures.ok item))
+    section_heard Told.Delivered (held_of c.args.locked.now) (held_of c.deliver-answer.new.self) c.args.seat.now.sitting c.begin.new.seat c.hear.new.seat (Ask.Deliver c.args.q c.args.source c.args.ssn) _ c.deliver-answer.result c.shared_answer.result c.delivery_told.result c.number.result c.count.result c.in_ok-first.first
+    c.hear.ensures c.in_ok-first.ensures.ok c.deliver-answer.ensures.item c.number.ensures c.count.ensures refl c.delivery_told.ensures c.shared_answer.ensures c.begin.ensures.sitting
 
 pub returns-clause-wrong : goal.returns-clause-wrong
 returns-clause-wrong g c =

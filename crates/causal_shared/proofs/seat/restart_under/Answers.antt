@@ -4,20 +4,13 @@ use Rattle.causal_shared.specs.History.{count_at}
 use Rattle.causal_shared.specs.Locked.{held_of, ItemCall}
 use Rattle.causal_shared.proofs.seat.restart_under.Goals as goal
 
-pub restart-answer-requires-clause-seat : goal.restart-answer-requires-clause-seat
-restart-answer-requires-clause-seat g c = rw c.number.ensures c.in-Ok.ensures.ok.inside
+pub restart-answer-requires : goal.restart-answer-requires
+restart-answer-requires g c =
+    let may = c.in-Ok.ensures.ok in
+    record { seat = rw c.number.ensures may.inside; call = c.count.ensures ∙ may.counted ∙ ap (count_at c.args.locked.now.seats.items) (sym c.number.ensures); room = may.room }
 
-pub restart-answer-requires-clause-call : goal.restart-answer-requires-clause-call
-restart-answer-requires-clause-call g c = c.count.ensures ∙ c.in-Ok.ensures.ok.counted ∙ ap (count_at c.args.locked.now.seats.items) (sym c.number.ensures)
-
-pub restart-answer-requires-clause-room : goal.restart-answer-requires-clause-room
-restart-answer-requires-clause-room g c = c.in-Ok.ensures.ok.room
-
-pub hear-requires-clause-few : goal.hear-requires-clause-few
-hear-requires-clause-few g c = c.in-Ok.ensures.ok.few
-
-pub hear-requires-clause-spare : goal.hear-requires-clause-spare
-hear-requires-clause-spare g c = c.in-Ok.ensures.ok.spare
+pub hear-requires : goal.hear-requires
+hear-requires g c = record { few = c.in-Ok.ensures.ok.few; spare = c.in-Ok.ensures.ok.spare }
 
 pub returns-clause-section : goal.returns-clause-section
 returns-clause-section g c =

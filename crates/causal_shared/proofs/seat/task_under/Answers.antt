@@ -1,0 +1,27 @@
+use Rattle.std.proofs.Common.{◌∙◌, ap, sym}
+use Rattle.causal_shared.specs.History.{count_at}
+use Rattle.causal_shared.specs.Locked.{held_of}
+use Rattle.causal_shared.specs.Inside.Seated.{IsSeated}
+use Rattle.causal_shared.specs.Inside.Tasks.{reply_of, request_of}
+use Rattle.causal_shared.proofs.Seats.{never_full, not_wrong, section_heard}
+use Rattle.causal_shared.proofs.seat.task_under.Goals as goal
+
+pub perform-answer-requires : goal.perform-answer-requires
+perform-answer-requires g c =
+    let may = c.in_ok-first.ensures.ok in
+    record { seat = rw c.number.ensures may.inside; call = c.count.ensures ∙ may.counted ∙ ap (count_at c.args.locked.now.seats.items) (sym c.number.ensures); room = may.room }
+
+pub hear-requires : goal.hear-requires
+hear-requires g c = record { few = c.in_ok-first.ensures.ok.few; spare = c.in_ok-first.ensures.ok.spare }
+
+pub returns-clause-section : goal.returns-clause-section
+returns-clause-section g c =
+    section_heard (reply_of c.args.task) (held_of c.args.locked.now) (held_of c.perform-answer.new.locked) c.args.seat.now.sitting c.begin.new.seat c.hear.new.seat (request_of c.args.task c.args.p) c.request.result c.perform-answer.result c.shared_answer.result c.task_told.result c.number.result c.count.result c.in_ok-first.first
+    c.hear.ensures c.in_ok-first.ensures.ok c.perform-answer.ensures c.number.ensures c.count.ensures c.request.ensures c.task_told.ensures c.shared_answer.ensures c.begin.ensures.sitting
+
+pub returns-clause-wrong : goal.returns-clause-wrong
+returns-clause-wrong g c =
+    not_wrong c.perform-answer.result c.shared_answer.result c.begin.result c.in_ok-first.first (IsSeated c.args.tag (held_of c.args.locked.now) c.args.seat.now.sitting) c.shared_answer.ensures c.in_ok-first.was c.begin.ensures.wrong
+
+pub returns-clause-full : goal.returns-clause-full
+returns-clause-full g c = λ e. absurd (never_full c.perform-answer.result (sym c.shared_answer.ensures ∙ e))
