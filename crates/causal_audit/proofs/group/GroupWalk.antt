@@ -1,5 +1,5 @@
 -- A walk over the entries for the deliveries of a group.
-use Rattle.causal_audit.proofs.Common.{ℕ, ◌≡◌, ◌+◌, ◌++◌, ◌<◌, inl, inr, Bool, true, false, List, [], ◌∷◌, length, Option, Some, None, refl, sym, ap, subst, ◌∙◌, arith, ◌-◌, ◌≤◌, min, take, ◌⊎◌, Contains, ◌&&◌, ◌==◌, not, ◌↔◌, vec_capacity, ◌||◌, nat_cmp, FinSet, contains, remove, empty, union, difference, contains-empty, contains-union, contains-difference, insert, or_cases, or_left, or_right, false≢true, false_from_ne_true, eqb-true, eq-eqb, and_from, cases_Bool, Contains-push, Contains-push_cases, Contains-append_left, Contains-get_or, length-map, length-set, get_or-map, get_or-set_same, get_or-set_other, take_min, Det, Entry, instant, det_at, has, logs, is_down, is_stable, entry_at, Recording, AreAccepted, IsWellFormed, actor, Reaches, Depends, HasOrphan, accepted_then, det_then, det_within, instant_length, nat_cmp_total, eqb_tells, nat_tests, Pid, Deliver, Crash, Restart, Forget, Send, Stable, max_entries, set, take-length}
+use Rattle.causal_audit.proofs.Common.{ℕ, All, cases_lt, ◌≡◌, ◌+◌, ◌++◌, ◌<◌, inl, inr, Bool, true, false, List, [], ◌∷◌, length, Option, Some, None, refl, sym, ap, subst, ◌∙◌, arith, ◌-◌, ◌≤◌, min, take, ◌⊎◌, Contains, ◌&&◌, ◌==◌, not, ◌↔◌, vec_capacity, ◌||◌, nat_cmp, FinSet, contains, remove, empty, union, difference, contains-empty, contains-union, contains-difference, insert, or_cases, or_left, or_right, false≢true, false_from_ne_true, eqb-true, eq-eqb, and_from, cases_Bool, Contains-push, Contains-push_cases, Contains-append_left, Contains-get_or, length-map, length-set, get_or-map, get_or-set_same, get_or-set_other, take_min, Det, Entry, instant, det_at, has, logs, is_down, is_stable, entry_at, Recording, AreAccepted, IsWellFormed, actor, Reaches, Depends, HasOrphan, accepted_then, det_then, det_within, instant_length, nat_cmp_total, eqb_tells, nat_tests, Pid, Deliver, Crash, Restart, Forget, Send, Stable, max_entries, set, take-length}
 use Rattle.causal_audit.specs.declared.breach.Breach.{Breach}
 use Rattle.causal_audit.specs.declared.group.copies.Copies.{Copies}
 use Rattle.causal_audit.specs.declared.group.suspects.Step.{Step}
@@ -10,8 +10,8 @@ use Rattle.causal_audit.specs.Sweep.{MayNewlyFail}
 use Rattle.causal_audit.specs.Quiet.{is_turn, mentioned_by}
 use Rattle.causal_audit.specs.Inside.Among.{FirstBreachBy, HasNoOrphanBy, LeastAmongBy}
 use Rattle.causal_audit.specs.Inside.Sights.{BreachAt, Shows, IsSight}
-use Rattle.causal_audit.specs.Inside.Group.Walk.{AreCopied, AreCopies, AreCopiesAfter, copies_at, no_copies, AreHeldBefore, IsLacked, IsSuspected, TellsBreachOf, IsLeastIn, IsStep, position_at, HasRoom, HaveNone, IsFollowed, ArePlaces, HaveMarked, IsNewly, row, HasRowRoom, IsReach, SeesReach, IsPut, IsHeldSo, IsDeliveredTo, IsHeldBy}
-use Rattle.causal_audit.specs.Inside.Group.Scans.{positions_of, IsDeliveryAt}
+use Rattle.causal_audit.specs.Inside.Group.Walk.{AreCopied, AreCopies, AreCopiesAfter, copies_at, no_copies, AreHeldBefore, IsLacked, IsSuspected, TellsBreachOf, IsLeastIn, IsStep, position_at, HasRoom, AreAsked, HaveNone, IsFollowed, ArePlaces, HaveMarked, IsNewly, row, HasRowRoom, IsReach, SeesReach, IsPut, window_at, IsHeldSo, IsDeliveredTo, IsHeldBy}
+use Rattle.causal_audit.specs.Inside.Group.Scans.{positions_of, IsDeliveryAt, IsWindow}
 use Rattle.causal_audit.proofs.AmongLemmas.{among_push, among_wider, among_none}
 use Rattle.causal_audit.proofs.Between.{depends_before, logs_stay, stable_stays}
 use Rattle.causal_audit.proofs.Lemmas.Judged.{exposed, gone_orphan}
@@ -369,6 +369,20 @@ room_within many few room low is = record {
 -- where none is the least there is none
 pub none_of_all : (r : Recording) (f end : ℕ) (windows : List Window) → LeastAmongBy r f end (positions_of windows) None → HaveNone r f windows end
 none_of_all r f end windows none j low u within has = none (position_at windows j) u (among_windows windows j low) within has
+
+-- those that are asked, without one whose window is over
+pub asked_next : (r : Recording) (f end t : ℕ) (windows : List Window) (old new : FinSet nat_cmp) → AreAsked r f end windows old → HaveNone r f windows t → All (IsWindow r f end) windows
+    → ((j : ℕ) → contains new j ≡ true → contains old j ≡ true) → ((j : ℕ) → contains old j ≡ true → contains new j ≡ false → (window_at windows j).until ≤ t + 1) → AreAsked r f end windows new
+asked_next r f end t windows old new was none later left over = record {
+  places = λ j h. was.places j (left j h);
+  others = λ j low out. elim (in_or_out old j) [
+    | inl still ↦ λ u within has. elim (cases_lt t u) [
+      | inl late ↦ later j (record { position = 0; until = 0 }) low u (omega (arith, late, over j still out)) within has
+      | inr early ↦ none j low u early has
+    ]
+    | inr gone ↦ was.others j low gone
+  ];
+}
 
 -- the places of one window more
 pub places_more : (places : FinSet nat_cmp) (place : ℕ) → ((j : ℕ) → (contains places j ≡ true) ↔ (j < place)) → (j : ℕ) → (contains (insert places place) j ≡ true) ↔ (j < place + 1)

@@ -3,7 +3,7 @@ ghost use Rattle.std.specs.Prelude.{◌≡◌, ◌<◌, ◌≤◌, ◌+◌, ◌&
 ghost use Rattle.std.specs.FinSet as set;
 ghost use Rattle.causal_audit.specs.Inside.Among.{LeastAmongBy};
 ghost use Rattle.causal_audit.specs.Inside.Group.Scans.{positions_of};
-ghost use Rattle.causal_audit.specs.Inside.Group.Walk.{ArePlaces, HaveNone, IsFollowed, IsStep, TellsBreachOf, row};
+ghost use Rattle.causal_audit.specs.Inside.Group.Walk.{AreAsked, HaveNone, IsFollowed, IsStep, TellsBreachOf, row};
 
 use crate::breach::{Breach, earlier};
 use crate::group::room::Room;
@@ -59,17 +59,17 @@ fn judge_one(room: &Room, f: u16, k: u32, place: u8, t: u32) -> Option<Breach>
     breach_at(&sight, f, k, t)
 }
 
-/// How a delivery of a group first has an orphan after the entry of a step, if one has: that of the least position. Only those
-/// that may newly have one are asked.
+/// How a delivery of a group first has an orphan after the entry of a step, if one has: that of the least position. Of those that
+/// are still asked only those are that may newly have one.
 pub fn judge(
     room: &Room,
     trace: &Trace,
     f: u16,
     windows: &[Window],
     step: &Step<'_>,
-    all: Holders,
+    asked: Holders,
 ) -> Option<Breach>
-    requires all { ArePlaces windows.now all }
+    requires asked { AreAsked trace.now.recording f (step.now.t + 1) windows.now asked }
     requires copies { length room.now.copies.items ≡ 256 }
     requires present { length room.now.reach.present.items ≡ 256 }
     requires step { IsStep trace.now.recording windows.now step.now }
@@ -80,7 +80,7 @@ pub fn judge(
 {
     let places = suspected(step, &room.reach.present, &room.held, trace.processes());
     let mut least = None;
-    let mut rest = both(all, places);
+    let mut rest = both(asked, places);
     while let Some(place) = rest.least() {
         rest.remove(place);
         let position = windows[usize::from(place)].position;

@@ -1,6 +1,6 @@
-use Rattle.causal_audit.proofs.Common.{◌≡◌, ◌∙◌, sym, ap, subst, ℕ, false, contains, contains-empty, nat_cmp, ◌+◌, and_parts, and_from, instant, HasOrphan, false≢true}
+use Rattle.causal_audit.proofs.Common.{◌≡◌, ◌∙◌, inl, inr, sym, ap, subst, ℕ, false, contains, contains-empty, nat_cmp, ◌+◌, and_parts, and_from, instant, HasOrphan, false≢true}
 use Rattle.causal_audit.specs.Inside.Group.Walk.{position_at, IsLeastIn, IsSuspected, TellsBreachOf}
-use Rattle.causal_audit.proofs.group.GroupWalk.{among_windows, found_next, judged_none, judged_more, least_in_all, suspect}
+use Rattle.causal_audit.proofs.group.GroupWalk.{among_windows, found_next, in_or_out, judged_none, judged_more, least_in_all, suspect}
 use Rattle.causal_audit.proofs.Steps.{up_to_next}
 use Rattle.causal_audit.proofs.group.Reaching.{fewer}
 use Rattle.causal_audit.proofs.group.judged.judge.Goals as goal
@@ -17,7 +17,7 @@ loop-least-preserved c =
     let windows = c.args.windows.now in
     let i = c.loop-least.invariant in
     let p = c.in-Some.place in
-    let low = (c.requires.all p).0 (and_parts (contains c.args.all p) (contains c.suspected-places.result p) (sym (c.both-rest.ensures p) ∙ i.left p c.in-Some.ensures.0)).0 in
+    let low = c.requires.asked.places p (and_parts (contains c.args.asked p) (contains c.suspected-places.result p) (sym (c.both-rest.ensures p) ∙ i.left p c.in-Some.ensures.0)).0 in
     rw (c.remove.ensures, c.earlier-least.ensures)
     (judged_more r c.args.f windows c.args.step.now.t c.both-rest.result c.loop-least.rest c.loop-least.least c.judge_one-found.result p c.in-Some.ensures.0 i (among_windows windows p low)
     (found_next r windows c.args.room.now.reach.start c.args.room.now c.args.step.now c.requires.step c.requires.followed p c.args.f low c.judge_one-found.result (c.requires.none p low)
@@ -35,10 +35,10 @@ returns-clause-found c =
     let s = c.args.step.now in
     let i = c.loop-least.invariant in
     let least : IsLeastIn r f (s.t + 1) windows c.both-rest.result c.loop-least.least = record { positions = i.done; inside = i.inside; each = λ j h. i.each j h (whole c j); least = i.found } in
-    least_in_all r f (s.t + 1) windows c.both-rest.result c.loop-least.least least (λ j low out.
+    least_in_all r f (s.t + 1) windows c.both-rest.result c.loop-least.least least (λ j low out. elim (in_or_out c.args.asked j) [ inr over ↦ c.requires.asked.others j low over | inl still ↦
     up_to_next (λ u. HasOrphan r.processes f (instant r.past u) (position_at windows j) → ⊥) s.t (c.requires.none j low) (λ has.
-    false≢true (sym out ∙ c.both-rest.ensures j ∙ and_from (contains c.args.all j) (contains c.suspected-places.result j) ((c.requires.all j).1 low) (c.suspected-places.ensures j
+    false≢true (sym out ∙ c.both-rest.ensures j ∙ and_from (contains c.args.asked j) (contains c.suspected-places.result j) still (c.suspected-places.ensures j
     (subst (λ n. IsSuspected s.entry.now s.newly s.mentioned c.deref.result.now c.deref-2.result.now n j) (sym c.processes.ensures.value)
     (subst (λ held. IsSuspected s.entry.now s.newly s.mentioned c.deref.result.now held r.processes j) (sym c.deref-2.ensures.value)
     (subst (λ present. IsSuspected s.entry.now s.newly s.mentioned present room.held.items r.processes j) (sym c.deref.ensures.value)
-    (suspect r f windows room.reach.start room s c.requires.step c.requires.followed j low (c.requires.none j low) has))))))))
+    (suspect r f windows room.reach.start room s c.requires.step c.requires.followed j low (c.requires.none j low) has))))))) ])

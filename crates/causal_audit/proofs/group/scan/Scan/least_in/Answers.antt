@@ -2,7 +2,7 @@ use Rattle.causal_audit.proofs.Common.{◌≤◌, length, sym, subst, arith, All
 use Rattle.causal_audit.specs.declared.group.scan.Window.{Window}
 use Rattle.causal_audit.specs.Inside.Among.{LeastAmongBy}
 use Rattle.causal_audit.specs.Inside.Group.Walk.{HaveNone, position_at}
-use Rattle.causal_audit.specs.Inside.Group.Scans.{IsDeliveryAt, Scanned, positions_of}
+use Rattle.causal_audit.specs.Inside.Group.Scans.{IsDeliveryAt, IsWindow, Scanned, positions_of}
 use Rattle.causal_audit.proofs.AmongLemmas.{among_later}
 use Rattle.causal_audit.proofs.group.GroupWalk.{place_of, room_within}
 use Rattle.causal_audit.proofs.Orphaned.{not_yet}
@@ -23,6 +23,11 @@ follow-requires-clause-none c =
 
 pub follow-requires-clause-deliveries : goal.follow-requires-clause-deliveries
 follow-requires-clause-deliveries c = subst (λ (s : Scanned). All (λ (window : Window). IsDeliveryAt s.run.past window.position) c.args.windows.now) (sym c.self.view_is) c.requires.deliveries
+
+pub follow-requires-clause-windows : goal.follow-requires-clause-windows
+follow-requires-clause-windows c =
+    subst (λ (s : Scanned). All (IsWindow s.run c.args.f c.last_of-last.result) c.args.windows.now) (sym c.self.view_is)
+    (λ k window below u from before. c.requires.windows k window below u from (omega (arith, before, c.last_of-last.ensures.bound)))
 
 pub begin-requires-clause-room : goal.begin-requires-clause-room
 begin-requires-clause-room c = room_within c.args.end c.last_of-last.result c.args.room.now c.last_of-last.ensures.bound c.requires.room
