@@ -227,43 +227,58 @@ fn json<'a>(alloc: Global) -> Arg<'a> {
         .action(ArgAction::SetTrue)
 }
 
-fn command<'a>(alloc: Global) -> Result<Command<'a>, AllocError> {
-    let audit = Command::new(alloc, "audit")
+fn audit_words<'a>(alloc: Global) -> Result<Command<'a>, AllocError> {
+    Command::new(alloc, "audit")
         .about("Audits the trace on standard input")
         .after_help(ANSWERS)
         .arg(faults(alloc))?
         .arg(workers(alloc))?
         .arg(entries(alloc))?
-        .arg(json(alloc))?;
-    let explain = Command::new(alloc, "explain")
+        .arg(json(alloc))
+}
+
+fn explain_words<'a>(alloc: Global) -> Result<Command<'a>, AllocError> {
+    Command::new(alloc, "explain")
         .about(
             "Audits the trace on standard input, and tells why the verdict is so; or for which F it is safe",
         )
         .after_help(REASONS)
         .arg(faults(alloc).required(false))?
         .arg(entries(alloc))?
-        .arg(json(alloc))?;
-    let draw = Command::new(alloc, "draw")
+        .arg(json(alloc))
+}
+
+fn draw_words<'a>(alloc: Global) -> Result<Command<'a>, AllocError> {
+    Command::new(alloc, "draw")
         .about("Audits the trace on standard input, and draws it with the verdict")
         .after_help(PICTURES)
         .arg(faults(alloc))?
-        .arg(entries(alloc))?;
-    let merge = Command::new(alloc, "merge")
+        .arg(entries(alloc))
+}
+
+fn merge_words<'a>(alloc: Global) -> Result<Command<'a>, AllocError> {
+    Command::new(alloc, "merge")
         .about("Merges the recordings on standard input into one trace")
         .after_help(RECORDINGS)
-        .arg(entries(alloc))?;
-    let run = Command::new(alloc, "run")
+        .arg(entries(alloc))
+}
+
+fn run_words<'a>(alloc: Global) -> Command<'a> {
+    Command::new(alloc, "run")
         .about("Runs the script on standard input and prints its trace")
-        .after_help(SCRIPTS);
+        .after_help(SCRIPTS)
+}
+
+fn command<'a>(alloc: Global) -> Result<Command<'a>, AllocError> {
     Command::new(alloc, "causal_tool")
         .about(
             "Audits recorded runs of processes that log their messages causally, and records such runs",
         )
         .version("1.0.0")
         .subcommand_required(true)
-        .subcommand(audit)?
-        .subcommand(explain)?
-        .subcommand(draw)?
-        .subcommand(merge)?
-        .subcommand(run)
+        .subcommand(audit_words(alloc)?)?
+        .subcommand(explain_words(alloc)?)?
+        .subcommand(draw_words(alloc)?)?
+        .subcommand(merge_words(alloc)?)?
+        .subcommand(run_words(alloc))
 }
