@@ -15,6 +15,8 @@ import pty
 import re
 import subprocess
 import sys
+import tempfile
+import time
 import xml.etree.ElementTree
 
 HERE = os.path.dirname(os.path.abspath(__file__))
@@ -267,6 +269,36 @@ def wrong_streams(program):
     for stream in (closed, full, folder, typing, terminal):
         os.close(stream)
     return len(tries), wrong
+
+
+# What is said of 1,200,000 blank lines, the second half of which comes after more than a second: at a terminal how far the reading is,
+# and what is wrong with them.
+FAR = r"(causal_tool merge: \d+ lines, [12] MB, \d MB/s so far\n)+causal_tool merge: 1200000 lines, 2 MB, \d MB/s in all\n"
+BLANK = r"causal_tool merge: line 1200001: some process has no header\ncausal_tool merge: a recording may be missing\n"
+
+
+def wrong_progress(program):
+    """Tells where a person at a terminal is not told how far the reading of a long text is, or where a file is; and gives how many there
+    are and how many are wrong."""
+    half, wrong = b" \n" * 600_000, 0
+    watching, terminal = pty.openpty()
+    with tempfile.TemporaryFile() as file:
+        running = [subprocess.Popen([program, "merge"], stdin=subprocess.PIPE, stdout=subprocess.PIPE, stderr=to) for to in (terminal, file)]
+        for one in running:
+            one.stdin.write(half)
+            one.stdin.flush()
+        time.sleep(1.2)
+        for one in running:
+            one.communicate(half)
+        file.seek(0)
+        told = os.read(watching, 65_536).replace(b"\r\n", b"\n"), file.read()
+    for said, wanted in zip(told, (FAR + BLANK, BLANK)):
+        if not re.fullmatch(wanted, said.decode()):
+            wrong += 1
+            print(f"of a long text: wanted {wanted!r}, the program says {said!r}")
+    for stream in (watching, terminal):
+        os.close(stream)
+    return len(told), wrong
 
 
 # What command lines give: the words behind the program's name, the standard output, what standard error begins with, and the status.
@@ -610,6 +642,7 @@ def main():
     asked = [wrong_in_the_format(), wrong_reasons(), wrong_ranges(program), commands.wrong_by_models()]
     if program:
         asked += [wrong_complaints(program), wrong_streams(program), wrong_words(program), wrong_objects(program)]
+        asked.append(wrong_progress(program))
         asked += [wrong_pages(program), commands.wrong_rows(program)]
     for answers, mistaken in asked:
         count, wrong = count + answers, wrong + mistaken

@@ -15,9 +15,11 @@ ghost use Rattle.causal_tool.specs.Words.{HasWorkers};
 
 mod helps;
 mod merging;
+mod watched;
 mod words;
 
 use crate::merging::complain_of_recordings;
+use crate::watched::Watched;
 use crate::words::{Asked, Form, Refused, read_words};
 pub use causal_commands::audit_stream;
 use causal_commands::{
@@ -182,7 +184,9 @@ fn main(rt: HostRuntime) -> ExitCode {
         }
     };
     prompt(&rt, asked);
-    let mut input = Noted::new(rt.reader());
+    let is_watched = rt.stderr().is_terminal();
+    let reader = Watched::new(rt, name_of(asked), rt.reader(), is_watched);
+    let mut input = Noted::new(reader);
     let mut output = Noted::new(io::writer(&rt));
     let ended = done(&rt, asked, &mut input, &mut output);
     let reason = match ended {
