@@ -6,13 +6,10 @@ ghost use Rattle.causal_trace.specs.declared.entry.Entry.{Entry};
 ghost use Rattle.causal_audit.specs.Inside.Group.Walk.{AreOwnRows, HasRowOf, HasRowRoom, HasRows, IsPut, IsReach, SeesReach, TellsReached, row, window_at};
 
 use crate::group::scan::Window;
-use causal_holders::Holders;
+use causal_holders::{Holders, PROCESSES};
 use causal_name::NoMemory;
 use causal_trace::entry::Entry;
 use std::alloc::Global;
-
-/// As many as there may be processes.
-const PROCESSES: usize = 256;
 
 /// Of at most 256 deliveries, by their places: for each entry of a walk, from the one at `start` on, which of them
 /// reach it if it was read, and which of them it is if it is still to be read; and for each process on which of them
@@ -96,7 +93,7 @@ impl Reach {
         Ok(Reach {
             start: 0,
             reached: Vec::with_capacity(alloc, entries as usize)?,
-            present: vec![in alloc; Holders::none(); PROCESSES]?,
+            present: vec![in alloc; Holders::none(); PROCESSES as usize]?,
         })
     }
 
