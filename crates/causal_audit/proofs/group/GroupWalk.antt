@@ -1,5 +1,5 @@
 -- A walk over the entries for the deliveries of a group.
-use Rattle.causal_audit.proofs.Common.{ℕ, All, cases_lt, ◌≡◌, ◌+◌, ◌++◌, ◌<◌, inl, inr, Bool, true, false, List, [], ◌∷◌, length, Option, Some, None, refl, sym, ap, subst, ◌∙◌, arith, ◌-◌, ◌≤◌, min, take, ◌⊎◌, Contains, ◌&&◌, ◌==◌, not, ◌↔◌, vec_capacity, ◌||◌, nat_cmp, FinSet, contains, remove, empty, union, difference, contains-empty, contains-union, contains-difference, insert, or_cases, or_left, or_right, false≢true, false_from_ne_true, eqb-true, eq-eqb, and_from, cases_Bool, Contains-push, Contains-push_cases, Contains-append_left, Contains-get_or, length-map, length-set, get_or-map, get_or-set_same, get_or-set_other, take_min, Det, Entry, instant, det_at, has, logs, is_down, is_stable, entry_at, Recording, AreAccepted, IsWellFormed, actor, Reaches, Depends, HasOrphan, accepted_then, det_then, det_within, instant_length, nat_cmp_total, eqb_tells, nat_tests, Pid, Deliver, Crash, Restart, Forget, Send, Stable, max_entries, set, take-length}
+use Rattle.causal_audit.proofs.Common.{ℕ, All, cases_lt, ◌≡◌, ◌+◌, ◌++◌, ◌<◌, inl, inr, Bool, true, false, List, [], ◌∷◌, length, Option, Some, None, refl, sym, ap, subst, ◌∙◌, arith, ◌-◌, ◌≤◌, min, take, ◌⊎◌, Contains, ◌&&◌, ◌==◌, not, ◌↔◌, vec_capacity, ◌||◌, nat_cmp, FinSet, contains, remove, empty, union, difference, contains-empty, contains-union, contains-difference, insert, or_cases, or_left, or_right, false≢true, false_from_ne_true, eqb-true, eq-eqb, and_from, cases_Bool, Contains-push, Contains-push_cases, Contains-append_left, Contains-get_or, length-map, length-set, get_or-map, get_or-set_same, get_or-set_other, take_min, Det, Entry, instant, det_at, has, logs, entry_at, Recording, AreAccepted, IsWellFormed, Depends, HasOrphan, accepted_then, det_then, det_within, instant_length, nat_cmp_total, eqb_tells, nat_tests, Pid, Deliver, Crash, Restart, Forget, Send, Stable, max_entries, set, take-length}
 use Rattle.causal_audit.specs.declared.breach.Breach.{Breach}
 use Rattle.causal_audit.specs.declared.group.copies.Copies.{Copies}
 use Rattle.causal_audit.specs.declared.group.suspects.Step.{Step}
@@ -9,7 +9,7 @@ use Rattle.causal_audit.specs.Laws.{gone, IsExposed}
 use Rattle.causal_audit.specs.Sweep.{MayNewlyFail}
 use Rattle.causal_audit.specs.Quiet.{is_turn, mentioned_by}
 use Rattle.causal_audit.specs.Inside.Among.{FirstBreachBy, HasNoOrphanBy, LeastAmongBy}
-use Rattle.causal_audit.specs.Inside.Sights.{BreachAt, Shows, IsSight}
+use Rattle.causal_audit.specs.Inside.Sights.{BreachAt}
 use Rattle.causal_audit.specs.Inside.Group.Walk.{AreCopied, AreCopies, AreCopiesAfter, copies_at, no_copies, AreHeldBefore, IsLacked, IsSuspected, TellsBreachOf, IsStep, position_at, HasRoom, AreAsked, HaveNone, IsFollowed, ArePlaces, HaveMarked, IsNewly, row, HasRowRoom, IsReach, SeesReach, IsPut, window_at, IsHeldSo, IsDeliveredTo, IsHeldBy}
 use Rattle.causal_audit.specs.Inside.Group.Scans.{positions_of, IsDeliveryAt, IsWindow}
 use Rattle.causal_audit.proofs.AmongLemmas.{among_push, among_wider, among_none}

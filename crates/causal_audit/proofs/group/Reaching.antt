@@ -2,7 +2,7 @@
 use Rattle.causal_audit.proofs.Common.{ℕ, ◌≡◌, ◌≢◌, ◌+◌, ◌-◌, ◌<◌, ◌≤◌, inl, inr, Bool, true, false, cond, List, ◌∷◌, length, Some, None, refl, sym, ap, subst, ◌∙◌, arith, ◌↔◌, ◌⊎◌, ◌||◌, ◌&&◌, ◌==◌, not, set, nat_cmp, nat_cmp_total, FinSet, contains, empty, len, len-insert, remove, same_set, nat_cmp-IsAntisymmetric, union, difference, insert, contains-empty, contains-union, contains-difference, false≢true, and_parts, eqb-true, eq-eqb, ne_eqb, eqb_tells, nat_tests, get_or-set_same, get_or-set_other, length-set, Pid, Det, Entry, Send, Deliver, Stable, Crash, Restart, Forget, det_at, is_down, lane, AreAccepted, actor, IsEventOf, Reaches, Depends, accepted_forward, delivers_sent, delivers_up, event_below, reaches_begins, reaches_old, depends_restarted}
 use Rattle.causal_audit.specs.declared.group.reach.Reach.{Reach}
 use Rattle.causal_audit.specs.declared.group.scan.Window.{Window}
-use Rattle.causal_audit.specs.Inside.Group.Walk.{AreOwnRows, IsNewly, IsPut, IsReach, SeesReach, TellRows, TellsReached, row, window_at}
+use Rattle.causal_audit.specs.Inside.Group.Walk.{AreOwnRows, IsNewly, IsPut, TellRows, TellsReached, row, window_at}
 use Rattle.causal_audit.specs.Inside.Sights.{TellsNextReach}
 use Rattle.causal_audit.proofs.Between.{IsNoTurn, reaches_more, depends_more, depends_before}
 use Rattle.causal_audit.proofs.Legal.{sent_event}

@@ -4,8 +4,8 @@ use Rattle.causal_audit.specs.Inside.Common.{nat_cmp, FinSet, contains, empty, D
 use Rattle.causal_audit.specs.declared.group.reach.Reach.{Reach}
 use Rattle.causal_audit.specs.declared.group.scan.Window.{Window}
 use Rattle.causal_audit.specs.Quiet.{mentioned_by}
-use Rattle.causal_audit.specs.Inside.Among.{HasNoOrphanBy, LeastAmongBy}
-use Rattle.causal_audit.specs.Inside.Group.Scans.{IsDeliveryAt, positions_of}
+use Rattle.causal_audit.specs.Inside.Among.{HasNoOrphanBy}
+use Rattle.causal_audit.specs.Inside.Group.Scans.{IsDeliveryAt}
 use Rattle.causal_audit.specs.Inside.Sights.{BreachAt, Shows}
 use Rattle.causal_audit.specs.Inside.Look.Staying.{MentionsNone}
 use Rattle.causal_audit.specs.declared.breach.Breach.{Breach}

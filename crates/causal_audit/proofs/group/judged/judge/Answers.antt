@@ -33,10 +33,13 @@ returns-clause-found c =
     let windows = c.args.windows.now in
     let room = c.args.room.now in
     let s = c.args.step.now in
-    least_in_all r f windows s.t c.both-rest.result c.loop-least.rest c.loop-least.least c.loop-least.invariant (whole c) (λ j low out. elim (in_or_out c.args.asked j) [ inr over ↦ c.requires.asked.others j low over | inl still ↦
-    up_to_next (λ u. HasOrphan r.processes f (instant r.past u) (position_at windows j) → ⊥) s.t (c.requires.none j low) (λ has.
-    false≢true (sym out ∙ c.both-rest.ensures j ∙ and_from (contains c.args.asked j) (contains c.suspected-places.result j) still (c.suspected-places.ensures j
-    (subst (λ n. IsSuspected s.entry.now s.newly s.mentioned c.deref.result.now c.deref-2.result.now n j) (sym c.processes.ensures.value)
-    (subst (λ held. IsSuspected s.entry.now s.newly s.mentioned c.deref.result.now held r.processes j) (sym c.deref-2.ensures.value)
-    (subst (λ present. IsSuspected s.entry.now s.newly s.mentioned present room.held.items r.processes j) (sym c.deref.ensures.value)
-    (suspect r f windows room.reach.start room s c.requires.step c.requires.followed j low (c.requires.none j low) has))))))) ])
+    least_in_all r f windows s.t c.both-rest.result c.loop-least.rest c.loop-least.least c.loop-least.invariant (whole c) (λ j low out. elim (in_or_out c.args.asked j) [
+      | inr over ↦ c.requires.asked.others j low over
+      | inl still ↦
+          up_to_next (λ u. HasOrphan r.processes f (instant r.past u) (position_at windows j) → ⊥) s.t (c.requires.none j low) (λ has.
+          false≢true (sym out ∙ c.both-rest.ensures j ∙ and_from (contains c.args.asked j) (contains c.suspected-places.result j) still (c.suspected-places.ensures j
+          (subst (λ n. IsSuspected s.entry.now s.newly s.mentioned c.deref.result.now c.deref-2.result.now n j) (sym c.processes.ensures.value)
+          (subst (λ held. IsSuspected s.entry.now s.newly s.mentioned c.deref.result.now held r.processes j) (sym c.deref-2.ensures.value)
+          (subst (λ present. IsSuspected s.entry.now s.newly s.mentioned present room.held.items r.processes j) (sym c.deref.ensures.value)
+          (suspect r f windows room.reach.start room s c.requires.step c.requires.followed j low (c.requires.none j low) has)))))))
+    ])
