@@ -28,6 +28,7 @@ pub fn no_copies() -> Copies
 }
 
 /// Makes each of these nowhere.
+#[tactic(auto, using(crate::proofs::Begins::read_same))]
 pub fn forget_all(copies: &mut Vec<Copies>)
     ensures count { length copies.new.items ≡ length copies.old.items }
     ensures none { (j : ℕ) → j < length copies.old.items → copies_at copies.new.items j ≡ no_copies }

@@ -48,6 +48,7 @@ pub fn put(rows: &mut Vec<Holders>, start: u32, place: u8, position: u32)
 
 /// Puts the place of each of these deliveries into the row of its own entry, where that has one. The first row is of
 /// the entry at `start`.
+#[tactic(auto, using(crate::proofs::group::Reaching::own_more))]
 fn mark_own(rows: &mut Vec<Holders>, start: u32, windows: &[Window])
     requires few { length windows.now ≤ 256 }
     requires from { All (λ window. start ≤ window.position) windows.now }
@@ -62,6 +63,7 @@ fn mark_own(rows: &mut Vec<Holders>, start: u32, windows: &[Window])
 }
 
 /// Empties each of these rows.
+#[tactic(auto, using(crate::proofs::Begins::read_same))]
 pub fn clear(rows: &mut Vec<Holders>)
     ensures count { length rows.new.items ≡ length rows.old.items }
     ensures none { (i : ℕ) → row rows.new.items i ≡ set.empty }

@@ -46,6 +46,7 @@ impl Room {
 }
 
 /// The places of a group.
+#[tactic(auto, using(crate::proofs::group::GroupWalk::places_more, crate::proofs::group::Reaching::none_in))]
 pub fn places_of(windows: &[Window]) -> Holders
     requires { length windows.now ≤ 256 }
     ensures { ArePlaces windows.now result }
