@@ -10,6 +10,5 @@ mod Legal
 mod Numbered
 mod Orphaned
 mod Shown
-mod Sifted
 mod Steps
 mod VerdictLemmas

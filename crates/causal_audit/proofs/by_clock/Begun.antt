@@ -1,6 +1,5 @@
 -- What is known where the walk of a delivery begins.
-use Rattle.causal_audit.proofs.Common.{ℕ, zero, suc, ◌≡◌, ◌+◌, ◌-◌, ◌<◌, ◌≤◌, Bool, true, false, List, ◌∷◌, length, Some, refl, sym, ap, subst, ◌∙◌, arith, and_right, nat_tests, ◌||◌, ◌&&◌, ◌==◌, not, Det, Entry, Send, Deliver, Stable, Crash, Restart, Forget, instant, entry_at, is_down, is_stable, logs, has, reaches_begins, instant_length}
-use Rattle.causal_audit.specs.Inside.ByClock.Changes.{HasNoneUntil, HasMentions}
+use Rattle.causal_audit.proofs.Common.{ℕ, zero, suc, ◌≡◌, ◌+◌, ◌-◌, ◌<◌, ◌≤◌, Bool, false, List, ◌∷◌, length, Some, refl, sym, ap, subst, ◌∙◌, arith, and_right, nat_tests, ◌||◌, ◌&&◌, ◌==◌, not, Det, Entry, Send, Deliver, Stable, Crash, Restart, Forget, instant, entry_at, is_down, is_stable, logs, has, reaches_begins, instant_length}
 use Rattle.causal_audit.specs.Quiet.{is_turn, mentioned_by}
 use Rattle.causal_audit.specs.Inside.Sights.{IsUnheard}
 use Rattle.causal_audit.specs.Inside.Look.Staying.{MentionsNone}

@@ -1,5 +1,5 @@
 -- A walk over the entries for the deliveries of a group.
-use Rattle.causal_audit.proofs.Common.{ℕ, All, cases_lt, ◌≡◌, ◌+◌, ◌++◌, ◌<◌, inl, inr, Bool, true, false, List, [], ◌∷◌, length, Option, Some, None, refl, sym, ap, subst, ◌∙◌, arith, ◌-◌, ◌≤◌, min, take, ◌⊎◌, Contains, ◌&&◌, ◌==◌, not, ◌↔◌, vec_capacity, ◌||◌, nat_cmp, FinSet, contains, remove, empty, union, difference, contains-empty, contains-union, contains-difference, insert, or_cases, or_left, or_right, false≢true, false_from_ne_true, eqb-true, eq-eqb, and_from, cases_Bool, Contains-push, Contains-push_cases, Contains-append_left, Contains-get_or, length-map, length-set, get_or-map, get_or-set_same, get_or-set_other, take_min, Det, Entry, instant, det_at, has, logs, is_down, is_stable, entry_at, Recording, AreAccepted, IsWellFormed, actor, Reaches, Depends, HasOrphan, accepted_then, det_then, det_within, instant_length, nat_cmp_total, eqb_tells, nat_tests, Pid, Deliver, Crash, Restart, Forget, Send, Stable, max_entries, set, take-length}
+use Rattle.causal_audit.proofs.Common.{ℕ, All, cases_lt, ◌≡◌, ◌+◌, ◌++◌, ◌<◌, inl, inr, Bool, true, false, List, [], ◌∷◌, length, Option, Some, None, refl, sym, ap, subst, ◌∙◌, arith, ◌-◌, ◌≤◌, min, take, ◌⊎◌, Contains, ◌&&◌, ◌==◌, not, ◌↔◌, vec_capacity, ◌||◌, nat_cmp, FinSet, contains, remove, empty, union, difference, contains-empty, contains-union, contains-difference, insert, or_cases, or_left, or_right, false≢true, false_from_ne_true, eqb-true, eq-eqb, and_from, cases_Bool, Contains-push, Contains-push_cases, Contains-append_left, Contains-get_or, length-map, length-set, get_or-map, get_or-set_same, get_or-set_other, take_min, Det, Entry, instant, det_at, has, logs, entry_at, Recording, AreAccepted, IsWellFormed, Depends, HasOrphan, accepted_then, det_then, det_within, instant_length, nat_cmp_total, eqb_tells, nat_tests, Pid, Deliver, Crash, Restart, Forget, Send, Stable, max_entries, set, take-length}
 use Rattle.causal_audit.specs.declared.breach.Breach.{Breach}
 use Rattle.causal_audit.specs.declared.group.copies.Copies.{Copies}
 use Rattle.causal_audit.specs.declared.group.suspects.Step.{Step}
@@ -9,8 +9,8 @@ use Rattle.causal_audit.specs.Laws.{gone, IsExposed}
 use Rattle.causal_audit.specs.Sweep.{MayNewlyFail}
 use Rattle.causal_audit.specs.Quiet.{is_turn, mentioned_by}
 use Rattle.causal_audit.specs.Inside.Among.{FirstBreachBy, HasNoOrphanBy, LeastAmongBy}
-use Rattle.causal_audit.specs.Inside.Sights.{BreachAt, Shows, IsSight}
-use Rattle.causal_audit.specs.Inside.Group.Walk.{AreCopied, AreCopies, AreCopiesAfter, copies_at, no_copies, AreHeldBefore, IsLacked, IsSuspected, TellsBreachOf, IsLeastIn, IsStep, position_at, HasRoom, AreAsked, HaveNone, IsFollowed, ArePlaces, HaveMarked, IsNewly, row, HasRowRoom, IsReach, SeesReach, IsPut, window_at, IsHeldSo, IsDeliveredTo, IsHeldBy}
+use Rattle.causal_audit.specs.Inside.Sights.{BreachAt}
+use Rattle.causal_audit.specs.Inside.Group.Walk.{AreCopied, AreCopies, AreCopiesAfter, copies_at, no_copies, AreHeldBefore, IsLacked, IsSuspected, TellsBreachOf, IsStep, position_at, HasRoom, AreAsked, HaveNone, IsFollowed, ArePlaces, HaveMarked, IsNewly, row, HasRowRoom, IsReach, SeesReach, IsPut, window_at, IsHeldSo, IsDeliveredTo, IsHeldBy}
 use Rattle.causal_audit.specs.Inside.Group.Scans.{positions_of, IsDeliveryAt, IsWindow}
 use Rattle.causal_audit.proofs.AmongLemmas.{among_push, among_wider, among_none}
 use Rattle.causal_audit.proofs.Between.{depends_before, logs_stay, stable_stays}
@@ -236,16 +236,16 @@ place_of windows k listed =
     let low : listed.0 < length windows = omega (arith, listed.1, length-map windows position) in
     (listed.0, low, sym (get_or-map position windows listed.0 zero k low) ∙ listed.2)
 
--- the least of some is that of all where the others have none
-pub least_in_all : (r : Recording) (f end : ℕ) (windows : List Window) (places : FinSet nat_cmp) (found : Option Breach) → IsLeastIn r f end windows places found
-    → ((j : ℕ) → j < length windows → contains places j ≡ false → HasNoOrphanBy r f (position_at windows j) end) → LeastAmongBy r f end (positions_of windows) found
-least_in_all r f end windows places found least none =
-    among_wider r f end least.positions (positions_of windows) found least.inside (λ k listed.
+-- where all places have been judged, and the others have none, it is the least of all
+pub least_in_all : (r : Recording) (f : ℕ) (windows : List Window) (t : ℕ) (places rest : FinSet nat_cmp) (least : Option Breach) → HaveJudged r f windows t places rest least → ((j : ℕ) → contains rest j ≡ false)
+    → ((j : ℕ) → j < length windows → contains places j ≡ false → HasNoOrphanBy r f (position_at windows j) (t + 1)) → LeastAmongBy r f (t + 1) (positions_of windows) least
+least_in_all r f windows t places rest least judged whole none =
+    among_wider r f (t + 1) judged.done (positions_of windows) least judged.inside (λ k listed.
     let at = place_of windows k listed in
     elim (in_or_out places at.0) [
-      | inl seen ↦ inl (subst (Contains least.positions) at.2 (least.each at.0 seen))
-      | inr out ↦ inr (subst (λ x. HasNoOrphanBy r f x end) at.2 (none at.0 at.1 out))
-    ]) least.least
+      | inl seen ↦ inl (subst (Contains judged.done) at.2 (judged.each at.0 seen (whole at.0)))
+      | inr out ↦ inr (subst (λ x. HasNoOrphanBy r f x (t + 1)) at.2 (none at.0 at.1 out))
+    ]) judged.found
 
 -- ==== what one more entry makes of what each process is known to hold
 

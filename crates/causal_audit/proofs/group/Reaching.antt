@@ -2,7 +2,7 @@
 use Rattle.causal_audit.proofs.Common.{ℕ, ◌≡◌, ◌≢◌, ◌+◌, ◌-◌, ◌<◌, ◌≤◌, inl, inr, Bool, true, false, cond, List, ◌∷◌, length, Some, None, refl, sym, ap, subst, ◌∙◌, arith, ◌↔◌, ◌⊎◌, ◌||◌, ◌&&◌, ◌==◌, not, set, nat_cmp, nat_cmp_total, FinSet, contains, empty, len, len-insert, remove, same_set, nat_cmp-IsAntisymmetric, union, difference, insert, contains-empty, contains-union, contains-difference, false≢true, and_parts, eqb-true, eq-eqb, ne_eqb, eqb_tells, nat_tests, get_or-set_same, get_or-set_other, length-set, Pid, Det, Entry, Send, Deliver, Stable, Crash, Restart, Forget, det_at, is_down, lane, AreAccepted, actor, IsEventOf, Reaches, Depends, accepted_forward, delivers_sent, delivers_up, event_below, reaches_begins, reaches_old, depends_restarted}
 use Rattle.causal_audit.specs.declared.group.reach.Reach.{Reach}
 use Rattle.causal_audit.specs.declared.group.scan.Window.{Window}
-use Rattle.causal_audit.specs.Inside.Group.Walk.{AreOwnRows, IsNewly, IsPut, IsReach, SeesReach, TellsReached, row, window_at}
+use Rattle.causal_audit.specs.Inside.Group.Walk.{AreOwnRows, IsNewly, IsPut, TellRows, TellsReached, row, window_at}
 use Rattle.causal_audit.specs.Inside.Sights.{TellsNextReach}
 use Rattle.causal_audit.proofs.Between.{IsNoTurn, reaches_more, depends_more, depends_before}
 use Rattle.causal_audit.proofs.Legal.{sent_event}
@@ -13,22 +13,11 @@ use Rattle.causal_audit.proofs.Shown.{inserted, removed, crash_inside, restart_i
 abbrev Sets : Type 0
 Sets = List (FinSet nat_cmp)
 
--- what the rows from the entry at `start` on tell of the delivery at k, whose place is j
-pub record Told (past : List Entry) (start k j : ℕ) (reached present : Sets) : Type 0 where
-  pub early : start ≤ k
-  pub behind : (i p l : ℕ) → IsEventOf past (start + i) p l → (contains (row reached i) j ≡ true) ↔ Reaches past k (start + i)
-  pub ahead : (i : ℕ) → i < length reached → length past ≤ start + i → (contains (row reached i) j ≡ true) ↔ (start + i ≡ k)
-  pub depends : (p : ℕ) → (contains (row present p) j ≡ true) ↔ Depends past k p
-
--- what the rows of a reach tell
-pub is_told : (past : List Entry) (k j : ℕ) (reach : Reach) → Told past reach.start k j reach.reached.items reach.present.items → IsReach past k j reach
-is_told past k j reach told = record { early = told.early; behind = told.behind; ahead = told.ahead; depends = told.depends }
-
 -- nothing is in the empty set
 pub none_in : (j : ℕ) → contains {R = nat_cmp} empty j ≡ true → ⊥
 none_in j h = false≢true (sym (contains-empty nat_cmp j) ∙ h)
 
-module _ (n : ℕ) (past : List Entry) (start k j : ℕ) (reached present : Sets) (told : Told past start k j reached present) where
+module _ (n : ℕ) (past : List Entry) (start k j : ℕ) (reached present : Sets) (told : TellRows past start k j reached present) where
   -- ---- the rows of the entries
 
   module _ (e : Entry) (formed : AreAccepted n (e ∷ past)) where
@@ -105,7 +94,7 @@ module _ (n : ℕ) (past : List Entry) (start k j : ℕ) (reached present : Sets
 
   -- a send
   pub sent : (d : Det) (from to : Pid) (ssn here : ℕ) → AreAccepted n (Send from to ssn ∷ past) → start + here ≡ length past → here < length reached → (k ≡ length past → det_at (Send from to ssn ∷ past) k ≡ Some d)
-      → Told (Send from to ssn ∷ past) start k j (set reached here (row present from.0)) present × IsNewly past (Send from to ssn) k j empty
+      → TellRows (Send from to ssn ∷ past) start k j (set reached here (row present from.0)) present × IsNewly past (Send from to ssn) k j empty
   sent d from to ssn here formed long inside at =
       let e = Send from to ssn in
       let tells : TellsNextReach past e k (contains (row present from.0) j) = send_tells n past k (λ p. contains (row present p) j) told.depends d from to ssn formed at in
@@ -123,22 +112,22 @@ module _ (n : ℕ) (past : List Entry) (start k j : ℕ) (reached present : Sets
       )
 
   -- an entry that is no event
-  idle : (e : Entry) → AreAccepted n (e ∷ past) → actor e ≡ None → (rows : Sets) → ((p : ℕ) → (contains (row rows p) j ≡ true) ↔ Depends (e ∷ past) k p) → Told (e ∷ past) start k j reached rows × IsNewly past e k j empty
+  idle : (e : Entry) → AreAccepted n (e ∷ past) → actor e ≡ None → (rows : Sets) → ((p : ℕ) → (contains (row rows p) j ≡ true) ↔ Depends (e ∷ past) k p) → TellRows (e ∷ past) start k j reached rows × IsNewly past e k j empty
   idle e formed none rows depends = (
     record { early = told.early; behind = behind_same e formed none; ahead = ahead_same e formed; depends = depends },
     record { sound = λ h. absurd (none_in j h); complete = λ p of. absurd (let x : None ≡ Some p = sym none ∙ of in cc) },
   )
 
   -- an entry of stable storage
-  pub stored : (det : Det) → AreAccepted n (Stable det ∷ past) → Told (Stable det ∷ past) start k j reached present × IsNewly past (Stable det) k j empty
+  pub stored : (det : Det) → AreAccepted n (Stable det ∷ past) → TellRows (Stable det ∷ past) start k j reached present × IsNewly past (Stable det) k j empty
   stored det formed = idle (Stable det) formed refl present (depends_same (Stable det) formed (λ p. (refl, refl)) (λ p of. absurd (let x : None ≡ Some p = of in cc)))
 
   -- a forgetting
-  pub forgotten : (who : Pid) (listed : List Det) → AreAccepted n (Forget who listed ∷ past) → Told (Forget who listed ∷ past) start k j reached present × IsNewly past (Forget who listed) k j empty
+  pub forgotten : (who : Pid) (listed : List Det) → AreAccepted n (Forget who listed ∷ past) → TellRows (Forget who listed ∷ past) start k j reached present × IsNewly past (Forget who listed) k j empty
   forgotten who listed formed = idle (Forget who listed) formed refl present (depends_same (Forget who listed) formed (λ p. (refl, refl)) (λ p of. absurd (let x : None ≡ Some p = of in cc)))
 
   -- a crash
-  pub crashed : (who : Pid) → n ≤ length present → AreAccepted n (Crash who ∷ past) → Told (Crash who ∷ past) start k j reached (set present who.0 empty) × IsNewly past (Crash who) k j empty
+  pub crashed : (who : Pid) → n ≤ length present → AreAccepted n (Crash who ∷ past) → TellRows (Crash who ∷ past) start k j reached (set present who.0 empty) × IsNewly past (Crash who) k j empty
   crashed who few formed =
       idle (Crash who) formed refl (set present who.0 empty)
       (depends_removed (Crash who) formed who.0 (omega (arith, few, crash_inside n past who formed.1)) refl
@@ -146,7 +135,7 @@ module _ (n : ℕ) (past : List Entry) (start k j : ℕ) (reached present : Sets
       (λ d. false≢true (sym d.up ∙ ap (λ b. b || is_down past who.0) (eq-eqb who.0 who.0 refl))))
 
   -- a restart
-  pub restarted : (who : Pid) (listed : List Det) → n ≤ length present → AreAccepted n (Restart who listed ∷ past) → Told (Restart who listed ∷ past) start k j reached (set present who.0 empty) × IsNewly past (Restart who listed) k j empty
+  pub restarted : (who : Pid) (listed : List Det) → n ≤ length present → AreAccepted n (Restart who listed ∷ past) → TellRows (Restart who listed ∷ past) start k j reached (set present who.0 empty) × IsNewly past (Restart who listed) k j empty
   restarted who listed few formed =
       idle (Restart who listed) formed refl (set present who.0 empty)
       (depends_removed (Restart who listed) formed who.0 (omega (arith, few, restart_inside n past who listed formed.1)) refl
@@ -204,7 +193,7 @@ module _ (n : ℕ) (past : List Entry) (start k j : ℕ) (reached present : Sets
     newly = difference hit (row present to.0)
 
     -- a delivery
-    pub delivered : to.0 < length present → Told (e ∷ past) start k j (set reached r hit) (set present to.0 hit) × IsNewly past e k j newly
+    pub delivered : to.0 < length present → TellRows (e ∷ past) start k j (set reached r hit) (set present to.0 hit) × IsNewly past e k j newly
     delivered room = (
       record { early = told.early; behind = behind_set e formed r at inside hit tells; ahead = ahead_set e formed r at hit; depends = depends_set room },
       record {
@@ -225,16 +214,14 @@ module _ (n : ℕ) (past : List Entry) (start k j : ℕ) (reached present : Sets
         either_new a b h = grind (arith, nat_tests)
 
 -- what is told of an entry that is known by an equation is what a reach sees
-pub seen : (x y : Entry) (t : ℕ) (old new : Reach) (newly : FinSet nat_cmp) → x ≡ y
+pub seen : (x y : Entry) (t start : ℕ) (reached present after now : Sets) (newly : FinSet nat_cmp) → x ≡ y
     → ((n : ℕ) (past : List Entry) (k j : ℕ) (d : Det) → n ≤ 256 → AreAccepted n (y ∷ past) → length past ≡ t → (k ≡ t → det_at (y ∷ past) k ≡ Some d)
-    → Told past old.start k j old.reached.items old.present.items → Told (y ∷ past) new.start k j new.reached.items new.present.items × IsNewly past y k j newly)
-    → SeesReach x t old new newly
-seen x y t old new newly same sees n past k j d few formed long at is =
-    subst (λ z. AreAccepted n (z ∷ past) → (k ≡ t → det_at (z ∷ past) k ≡ Some d) → IsReach (z ∷ past) k j new × IsNewly past z k j newly) (sym same)
-    (λ legal made.
-    let after = sees n past k j d few legal long made (record { early = is.early; behind = is.behind; ahead = is.ahead; depends = is.depends }) in
-    (is_told (y ∷ past) k j new after.0, after.1))
-    formed at
+    → TellRows past start k j reached present → TellRows (y ∷ past) start k j after now × IsNewly past y k j newly)
+    → (n : ℕ) (past : List Entry) (k j : ℕ) (d : Det) → n ≤ 256 → AreAccepted n (x ∷ past) → length past ≡ t → (k ≡ t → det_at (x ∷ past) k ≡ Some d)
+    → TellRows past start k j reached present → TellRows (x ∷ past) start k j after now × IsNewly past x k j newly
+seen x y t start reached present after now newly same sees n past k j d few formed long at is =
+    subst (λ z. AreAccepted n (z ∷ past) → (k ≡ t → det_at (z ∷ past) k ≡ Some d) → TellRows (z ∷ past) start k j after now × IsNewly past z k j newly) (sym same)
+    (λ legal made. sees n past k j d few legal long made is) formed at
 
 -- none reaches an event before the walk
 pub told_before : (reach : Reach) (v : ℕ) → v < reach.start → TellsReached reach v empty
@@ -274,7 +261,7 @@ own_more windows start place old new same own is i j within =
 
 -- before the walk
 pub begun : (past : List Entry) (windows : List Window) (start j : ℕ) (reached present : Sets) → length past ≡ start → j < length windows → start ≤ (window_at windows j).position
-    → AreOwnRows windows start (length windows) reached → ((p : ℕ) → row present p ≡ empty) → Told past start (window_at windows j).position j reached present
+    → AreOwnRows windows start (length windows) reached → ((p : ℕ) → row present p ≡ empty) → TellRows past start (window_at windows j).position j reached present
 begun past windows start j reached present long low early own none = record {
   early = early;
   behind = λ i p l at. absurd (omega (arith, long, event_below past (start + i) p l at));

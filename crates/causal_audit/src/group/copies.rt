@@ -28,13 +28,12 @@ pub fn no_copies() -> Copies
 }
 
 /// Makes each of these nowhere.
+#[tactic(auto, using(crate::proofs::Begins::read_same))]
 pub fn forget_all(copies: &mut Vec<Copies>)
     ensures count { length copies.new.items ≡ length copies.old.items }
     ensures none { (j : ℕ) → j < length copies.old.items → copies_at copies.new.items j ≡ no_copies }
 {
-    for i in 0..copies.len() {
-        copies[i] = no_copies();
-    }
+    copies.fill(no_copies());
 }
 
 /// Where they are after one more entry, which mentions the determinant or not.

@@ -1,5 +1,5 @@
 //! Which delivery of a group has an orphan at one instant.
-ghost use Rattle.std.specs.Prelude.{◌≡◌, ◌<◌, ◌≤◌, ◌+◌, ◌&&◌, ◌||◌, ◌==◌, ℕ, length};
+ghost use Rattle.std.specs.Prelude.{◌≡◌, ◌<◌, ◌≤◌, ◌+◌, ℕ, length};
 ghost use Rattle.std.specs.FinSet as set;
 ghost use Rattle.causal_audit.specs.Inside.Among.{LeastAmongBy};
 ghost use Rattle.causal_audit.specs.Inside.Group.Scans.{positions_of};
@@ -9,29 +9,21 @@ use crate::breach::{Breach, earlier};
 use crate::group::room::Room;
 use crate::group::scan::Window;
 use crate::group::suspects::{Step, both, suspected};
-use crate::sight::{Sight, breach_at, with};
+use crate::sight::{Sight, breach_at};
 use causal_holders::Holders;
 use causal_trace::trace::Trace;
 
-/// The processes with one more, where that depends on a delivery.
-fn with_dependent(dependents: Holders, p: u8, depends: bool) -> Holders
-    ensures { (q : ℕ) → set.contains result q ≡ ((depends && (p == q)) || set.contains dependents q) }
-{
-    if depends {
-        with(dependents, p)
-    } else {
-        dependents
-    }
-}
-
 /// Which processes depend on the delivery of a place.
+#[tactic(auto, using(crate::proofs::Shown::inserted))]
 fn dependents_of(present: &[Holders], place: u8) -> Holders
     requires { length present.now ≤ 256 }
     ensures { (p : ℕ) → set.contains result p ≡ set.contains (row present.now p) place }
 {
     let mut dependents = Holders::none();
     for (p, places) in present.iter().enumerate() {
-        dependents = with_dependent(dependents, p as u8, places.contains(place));
+        if places.contains(place) {
+            dependents.insert(p as u8);
+        }
     }
     dependents
 }

@@ -76,6 +76,7 @@ impl Scan<'_> {
     }
 
     /// Puts the place of each delivery of a group into the rows of the entries that mention its determinant.
+    #[tactic(auto, using(crate::proofs::group::Reaching::none_in))]
     pub fn mark_all(&self, rows: &mut Vec<Holders>, start: u32, windows: &[Window])
         requires few { length windows.now ≤ 256 }
         requires within { start + length rows.old.items ≤ self.now.end }

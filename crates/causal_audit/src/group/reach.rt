@@ -6,13 +6,10 @@ ghost use Rattle.causal_trace.specs.declared.entry.Entry.{Entry};
 ghost use Rattle.causal_audit.specs.Inside.Group.Walk.{AreOwnRows, HasRowOf, HasRowRoom, HasRows, IsPut, IsReach, SeesReach, TellsReached, row, window_at};
 
 use crate::group::scan::Window;
-use causal_holders::Holders;
+use causal_holders::{Holders, PROCESSES};
 use causal_name::NoMemory;
 use causal_trace::entry::Entry;
 use std::alloc::Global;
-
-/// As many as there may be processes.
-const PROCESSES: usize = 256;
 
 /// Of at most 256 deliveries, by their places: for each entry of a walk, from the one at `start` on, which of them
 /// reach it if it was read, and which of them it is if it is still to be read; and for each process on which of them
@@ -51,6 +48,7 @@ pub fn put(rows: &mut Vec<Holders>, start: u32, place: u8, position: u32)
 
 /// Puts the place of each of these deliveries into the row of its own entry, where that has one. The first row is of
 /// the entry at `start`.
+#[tactic(auto, using(crate::proofs::group::Reaching::own_more))]
 fn mark_own(rows: &mut Vec<Holders>, start: u32, windows: &[Window])
     requires few { length windows.now ≤ 256 }
     requires from { All (λ window. start ≤ window.position) windows.now }
@@ -65,6 +63,7 @@ fn mark_own(rows: &mut Vec<Holders>, start: u32, windows: &[Window])
 }
 
 /// Empties each of these rows.
+#[tactic(auto, using(crate::proofs::Begins::read_same))]
 pub fn clear(rows: &mut Vec<Holders>)
     ensures count { length rows.new.items ≡ length rows.old.items }
     ensures none { (i : ℕ) → row rows.new.items i ≡ set.empty }
@@ -96,7 +95,7 @@ impl Reach {
         Ok(Reach {
             start: 0,
             reached: Vec::with_capacity(alloc, entries as usize)?,
-            present: vec![in alloc; Holders::none(); PROCESSES]?,
+            present: vec![in alloc; Holders::none(); PROCESSES as usize]?,
         })
     }
 

@@ -6,15 +6,10 @@ ghost use Rattle.causal_audit.specs.Inside.Group.Walk.{ArePlaces, HasRoom, HasRo
 use crate::group::copies::{Copies, forget_all, no_copies};
 use crate::group::reach::{Reach, clear, make_empty};
 use crate::group::scan::{Scan, Window};
-use causal_holders::Holders;
+use crate::group::walk::GROUP;
+use causal_holders::{Holders, PROCESSES};
 use causal_name::NoMemory;
 use std::alloc::Global;
-
-/// As many as there are places in a group.
-const PLACES: usize = 256;
-
-/// As many as there may be processes.
-const PROCESSES: usize = 256;
 
 /// What a walk keeps of the deliveries of a group, by their places: which of them reach the entries and on which the processes
 /// depend, of which the entries mention the determinant, whose determinants each process is known to hold, and where their copies
@@ -38,8 +33,8 @@ impl Room {
     {
         let reach = Reach::new(alloc, entries)?;
         let mentioned = Vec::with_capacity(alloc, entries as usize)?;
-        let held = vec![in alloc; Holders::none(); PROCESSES]?;
-        let copies = vec![in alloc; no_copies(); PLACES]?;
+        let held = vec![in alloc; Holders::none(); PROCESSES as usize]?;
+        let copies = vec![in alloc; no_copies(); GROUP]?;
         Ok(Room {
             reach,
             mentioned,
@@ -51,6 +46,7 @@ impl Room {
 }
 
 /// The places of a group.
+#[tactic(auto, using(crate::proofs::group::GroupWalk::places_more, crate::proofs::group::Reaching::none_in))]
 pub fn places_of(windows: &[Window]) -> Holders
     requires { length windows.now ≤ 256 }
     ensures { ArePlaces windows.now result }

@@ -23,6 +23,7 @@ pub const GROUP: usize = 256;
 
 /// The places that are asked from the instant t on: without the least of them, if its window is over. As the windows stand by their
 /// ends, it is the first to be over.
+#[tactic(auto, using(crate::proofs::group::Reaching::left_in, crate::proofs::group::Reaching::left_out))]
 fn without_over(asked: Holders, windows: &[Window], t: u32) -> Holders
     requires { (j : ℕ) → set.contains asked j ≡ true → j < length windows.now }
     ensures left { (j : ℕ) → set.contains result j ≡ true → set.contains asked j ≡ true }

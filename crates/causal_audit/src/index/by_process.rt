@@ -8,13 +8,10 @@ ghost use Rattle.causal_audit.specs.Inside.Index.Filed.{AreTurnsOf, IsProcessOf,
 
 use crate::index::cursor::Cursor;
 use crate::index::lists::{add_to, empty_lists};
-use causal_holders::Holders;
+use causal_holders::{Holders, PROCESSES};
 use causal_name::NoMemory;
 use causal_trace::entry::Entry;
 use std::alloc::Global;
-
-/// As many as there may be processes.
-const PROCESSES: u32 = 256;
 
 /// For each process the positions of its crashes in order, or of its restarts. A run has at most 192 restarts.
 #[derive(Drop)]
@@ -58,7 +55,7 @@ impl ByProcess {
         requires { length entries.now ≤ max_entries }
         ensures { IfOk result (λ turns. AreTurnsOf restarts (past_of entries.now) (lists_in turns.lists.items)) }
     {
-        let mut lists = empty_lists(alloc, PROCESSES)?;
+        let mut lists = empty_lists(alloc, PROCESSES as u32)?;
         for (i, entry) in entries.iter().enumerate() {
             note(&mut lists, restarts, entry, i as u32)?;
         }

@@ -4,12 +4,10 @@ ghost use Rattle.causal_name.specs.declared.Det.{Det};
 ghost use Rattle.causal_audit.specs.Inside.Index.Filed.{lists_in, number_of};
 ghost use Rattle.causal_audit.specs.Inside.Index.Chains.{HasHead, IsBelow, LeadDown, LeadsTo, head_of, sought};
 
+use causal_holders::PROCESSES;
 use causal_name::{Det, NoMemory};
 use std::alloc::Global;
 use std::marker::Model;
-
-/// How many senders there can be.
-const SENDERS: usize = 256;
 
 /// A determinant, and the place of the next older one of the same message.
 #[derive(Clone, Copy, Debug)]
@@ -88,7 +86,7 @@ fn empty_heads(alloc: Global) -> Result<Vec<Vec<Option<usize>>>, NoMemory>
     ensures { IfOk result (λ heads. lists_in heads.items ≡ replicate 256 []) }
 {
     let mut heads = Vec::new(alloc);
-    for _ in 0..SENDERS {
+    for _ in 0..PROCESSES {
         heads.push(Vec::new(alloc))?;
     }
     Ok(heads)

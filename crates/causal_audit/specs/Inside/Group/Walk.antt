@@ -4,8 +4,8 @@ use Rattle.causal_audit.specs.Inside.Common.{nat_cmp, FinSet, contains, empty, D
 use Rattle.causal_audit.specs.declared.group.reach.Reach.{Reach}
 use Rattle.causal_audit.specs.declared.group.scan.Window.{Window}
 use Rattle.causal_audit.specs.Quiet.{mentioned_by}
-use Rattle.causal_audit.specs.Inside.Among.{HasNoOrphanBy, LeastAmongBy}
-use Rattle.causal_audit.specs.Inside.Group.Scans.{IsDeliveryAt, positions_of}
+use Rattle.causal_audit.specs.Inside.Among.{HasNoOrphanBy}
+use Rattle.causal_audit.specs.Inside.Group.Scans.{IsDeliveryAt}
 use Rattle.causal_audit.specs.Inside.Sights.{BreachAt, Shows}
 use Rattle.causal_audit.specs.Inside.Look.Staying.{MentionsNone}
 use Rattle.causal_audit.specs.declared.breach.Breach.{Breach}
@@ -21,16 +21,17 @@ row rows i = slice_index_or rows i empty
 abbrev pub window_at : List Window → ℕ → Window
 window_at windows j = slice_index_or windows j (record { position = 0; until = 0 })
 
--- the walk begins no later than at the delivery at k, whose place is j, and row i is of the i-th entry from there: the
+-- the walk begins at `start`, no later than at the delivery at k, whose place is j, and row i is of the i-th entry from there: the
 -- rows of the entries so far tell which of them it reaches, those ahead where it stands, and those of the processes whose
 -- present lane depends on it
-pub record IsReach (past : List Entry) (k j : ℕ) (reach : Reach) : Type 0 where
-  pub early : reach.start ≤ k
-  pub behind : (i p l : ℕ) → IsEventOf past (reach.start + i) p l
-      → (contains (row reach.reached.items i) j ≡ true) ↔ Reaches past k (reach.start + i)
-  pub ahead : (i : ℕ) → i < length reach.reached.items → length past ≤ reach.start + i
-      → (contains (row reach.reached.items i) j ≡ true) ↔ (reach.start + i ≡ k)
-  pub depends : (p : ℕ) → (contains (row reach.present.items p) j ≡ true) ↔ Depends past k p
+pub record TellRows (past : List Entry) (start k j : ℕ) (reached present : List (FinSet nat_cmp)) : Type 0 where
+  pub early : start ≤ k
+  pub behind : (i p l : ℕ) → IsEventOf past (start + i) p l → (contains (row reached i) j ≡ true) ↔ Reaches past k (start + i)
+  pub ahead : (i : ℕ) → i < length reached → length past ≤ start + i → (contains (row reached i) j ≡ true) ↔ (start + i ≡ k)
+  pub depends : (p : ℕ) → (contains (row present p) j ≡ true) ↔ Depends past k p
+
+abbrev pub IsReach : List Entry → ℕ → ℕ → Reach → Type 0
+IsReach past k j reach = TellRows past reach.start k j reach.reached.items reach.present.items
 
 -- in the row of the entry at a position, if there is one, the place is in now; the rows begin with that of the entry at `start`
 abbrev pub IsPut : ℕ → ℕ → ℕ → List (FinSet nat_cmp) → List (FinSet nat_cmp) → Type 0
@@ -181,13 +182,6 @@ abbrev pub AreHeldBefore : Recording → List Window → Step → FinSet nat_cmp
 AreHeldBefore r windows s places =
     (j : ℕ) (d : Det) → j < length windows → det_at r.past (position_at windows j) ≡ Some d → contains places j ≡ true
     → IsDeliveredTo s.entry.now (instant r.past s.t) d
-
--- the least breach of the deliveries at these places, if it comes by the instant `end`
-pub record IsLeastIn (r : Recording) (f end : ℕ) (windows : List Window) (places : FinSet nat_cmp) (found : Option Breach) : Type 0 where
-  pub positions : List ℕ
-  pub inside : (k : ℕ) → Contains positions k → Contains (positions_of windows) k
-  pub each : (j : ℕ) → contains places j ≡ true → Contains positions (position_at windows j)
-  pub least : LeastAmongBy r f end positions found
 
 -- none of the deliveries has an orphan up to an instant
 abbrev pub HaveNone : Recording → ℕ → List Window → ℕ → Type 0

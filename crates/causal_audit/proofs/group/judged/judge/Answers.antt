@@ -1,5 +1,5 @@
 use Rattle.causal_audit.proofs.Common.{◌≡◌, ◌∙◌, inl, inr, sym, ap, subst, ℕ, false, contains, contains-empty, nat_cmp, ◌+◌, and_parts, and_from, instant, HasOrphan, false≢true}
-use Rattle.causal_audit.specs.Inside.Group.Walk.{position_at, IsLeastIn, IsSuspected, TellsBreachOf}
+use Rattle.causal_audit.specs.Inside.Group.Walk.{position_at, IsSuspected, TellsBreachOf}
 use Rattle.causal_audit.proofs.group.GroupWalk.{among_windows, found_next, in_or_out, judged_none, judged_more, least_in_all, suspect}
 use Rattle.causal_audit.proofs.Steps.{up_to_next}
 use Rattle.causal_audit.proofs.group.Reaching.{fewer}
@@ -33,12 +33,13 @@ returns-clause-found c =
     let windows = c.args.windows.now in
     let room = c.args.room.now in
     let s = c.args.step.now in
-    let i = c.loop-least.invariant in
-    let least : IsLeastIn r f (s.t + 1) windows c.both-rest.result c.loop-least.least = record { positions = i.done; inside = i.inside; each = λ j h. i.each j h (whole c j); least = i.found } in
-    least_in_all r f (s.t + 1) windows c.both-rest.result c.loop-least.least least (λ j low out. elim (in_or_out c.args.asked j) [ inr over ↦ c.requires.asked.others j low over | inl still ↦
-    up_to_next (λ u. HasOrphan r.processes f (instant r.past u) (position_at windows j) → ⊥) s.t (c.requires.none j low) (λ has.
-    false≢true (sym out ∙ c.both-rest.ensures j ∙ and_from (contains c.args.asked j) (contains c.suspected-places.result j) still (c.suspected-places.ensures j
-    (subst (λ n. IsSuspected s.entry.now s.newly s.mentioned c.deref.result.now c.deref-2.result.now n j) (sym c.processes.ensures.value)
-    (subst (λ held. IsSuspected s.entry.now s.newly s.mentioned c.deref.result.now held r.processes j) (sym c.deref-2.ensures.value)
-    (subst (λ present. IsSuspected s.entry.now s.newly s.mentioned present room.held.items r.processes j) (sym c.deref.ensures.value)
-    (suspect r f windows room.reach.start room s c.requires.step c.requires.followed j low (c.requires.none j low) has))))))) ])
+    least_in_all r f windows s.t c.both-rest.result c.loop-least.rest c.loop-least.least c.loop-least.invariant (whole c) (λ j low out. elim (in_or_out c.args.asked j) [
+      | inr over ↦ c.requires.asked.others j low over
+      | inl still ↦
+          up_to_next (λ u. HasOrphan r.processes f (instant r.past u) (position_at windows j) → ⊥) s.t (c.requires.none j low) (λ has.
+          false≢true (sym out ∙ c.both-rest.ensures j ∙ and_from (contains c.args.asked j) (contains c.suspected-places.result j) still (c.suspected-places.ensures j
+          (subst (λ n. IsSuspected s.entry.now s.newly s.mentioned c.deref.result.now c.deref-2.result.now n j) (sym c.processes.ensures.value)
+          (subst (λ held. IsSuspected s.entry.now s.newly s.mentioned c.deref.result.now held r.processes j) (sym c.deref-2.ensures.value)
+          (subst (λ present. IsSuspected s.entry.now s.newly s.mentioned present room.held.items r.processes j) (sym c.deref.ensures.value)
+          (suspect r f windows room.reach.start room s c.requires.step c.requires.followed j low (c.requires.none j low) has)))))))
+    ])

@@ -1,4 +1,4 @@
-use Rattle.causal_audit.proofs.Common.{◌≡◌, ◌∙◌, inl, inr, ◌||◌, ◌&&◌, not, sym, ap, arith, nat_cmp_total, contains, union, difference, contains-union, contains-difference, cases_lt, or_left, or_right, and_from}
+use Rattle.causal_audit.proofs.Common.{◌≡◌, ◌∙◌, inl, inr, ◌||◌, ◌&&◌, not, ap, arith, nat_cmp_total, contains, union, difference, contains-union, contains-difference, cases_lt, or_left, or_right, and_from}
 use Rattle.std.proofs.lemmas.Bool.{not_from_false}
 use Rattle.causal_audit.specs.Inside.Group.Walk.{row}
 use Rattle.causal_audit.proofs.group.suspects.lacked.Goals as goal

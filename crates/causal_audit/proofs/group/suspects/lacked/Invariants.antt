@@ -1,4 +1,4 @@
-use Rattle.causal_audit.proofs.Common.{ℕ, ◌≡◌, ◌<◌, true, false, contains}
+use Rattle.causal_audit.proofs.Common.{ℕ, ◌≡◌, true, contains}
 use Rattle.causal_audit.specs.Inside.Group.Walk.{IsLacked}
 use Rattle.causal_audit.proofs.group.suspects.lacked.Given as goal
 

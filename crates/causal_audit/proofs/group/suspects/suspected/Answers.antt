@@ -1,4 +1,4 @@
-use Rattle.causal_audit.proofs.Common.{◌≡◌, ◌∙◌, not, ap, subst, nat_cmp_total, contains, difference, contains-difference, and_from}
+use Rattle.causal_audit.proofs.Common.{◌∙◌, not, ap, subst, nat_cmp_total, contains, contains-difference, and_from}
 use Rattle.std.proofs.lemmas.Bool.{not_from_false}
 use Rattle.causal_audit.specs.Inside.Group.Walk.{IsSuspected, row}
 use Rattle.causal_audit.proofs.group.suspects.suspected.Goals as goal

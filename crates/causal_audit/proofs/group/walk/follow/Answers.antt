@@ -4,7 +4,7 @@ use Rattle.causal_audit.specs.Inside.Group.Scans.{positions_of}
 use Rattle.causal_audit.specs.Inside.Group.Walk.{row, IsFollowed, IsHeldBy, IsHeldSo}
 use Rattle.causal_audit.specs.Inside.Sights.{Shows}
 use Rattle.causal_audit.specs.declared.group.room.Room.{Room}
-use Rattle.causal_audit.proofs.group.GroupWalk.{copied_next, place_of, held_then, mentions_here, is_step, asked_next, told_after, room_stays, none_of_all}
+use Rattle.causal_audit.proofs.group.GroupWalk.{copied_next, place_of, held_then, is_step, asked_next, told_after, room_stays, none_of_all}
 use Rattle.causal_audit.proofs.Steps.{next_state, entry_read}
 use Rattle.causal_audit.proofs.group.walk.follow.Goals as goal
 

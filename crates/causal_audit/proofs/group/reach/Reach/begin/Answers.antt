@@ -3,5 +3,4 @@ use Rattle.causal_audit.proofs.group.reach.Reach.begin.Goals as goal
 
 pub returns-clause-begins : goal.returns-clause-begins
 returns-clause-begins c past j long low =
-    let told = begun past c.args.windows.now c.args.start j c.mark_own.new.rows.items c.clear.new.rows.items long low (c.requires.from j (record { position = 0; until = 0 }) low) c.mark_own.ensures.own c.clear.ensures.none in
-    record { early = told.early; behind = told.behind; ahead = told.ahead; depends = told.depends }
+    begun past c.args.windows.now c.args.start j c.mark_own.new.rows.items c.clear.new.rows.items long low (c.requires.from j (record { position = 0; until = 0 }) low) c.mark_own.ensures.own c.clear.ensures.none

@@ -1,5 +1,5 @@
 use Rattle.causal_audit.proofs.Common.{◌≡◌, ◌≤◌, true, length, sym, subst, arith, contains, instant, is_down, logs, instant_length}
-use Rattle.causal_audit.specs.declared.group.scan.Window.{Window}
+use Rattle.causal_audit.proofs.group.Windowed.{zero}
 use Rattle.causal_audit.specs.Inside.Group.Walk.{AreCopies, position_at}
 use Rattle.causal_audit.specs.Inside.Group.Scans.{Scanned}
 use Rattle.causal_audit.specs.Inside.Sights.{Shows}
@@ -8,9 +8,6 @@ use Rattle.causal_audit.proofs.group.Reaching.{none_in}
 use Rattle.causal_audit.proofs.by_clock.Begun.{unheard_before}
 use Rattle.causal_audit.proofs.index.Turned.{passed_down}
 use Rattle.causal_audit.proofs.group.scan.Scan.begin.Goals as goal
-
-abbrev zero : Window
-zero = record { position = 0; until = 0 }
 
 pub returns-clause-begun : goal.returns-clause-begun
 returns-clause-begun c =

@@ -1,5 +1,5 @@
 use Rattle.causal_audit.proofs.Common.{◌≤◌, length, sym, subst, arith, All, instant, HasOrphan, instant_length}
-use Rattle.causal_audit.specs.declared.group.scan.Window.{Window}
+use Rattle.causal_audit.proofs.group.Windowed.{zero}
 use Rattle.causal_audit.specs.Inside.Among.{LeastAmongBy}
 use Rattle.causal_audit.specs.Inside.Group.Walk.{HaveNone, position_at}
 use Rattle.causal_audit.specs.Inside.Group.Scans.{IsDeliveryAt, IsWindow, Scanned, positions_of}
@@ -7,9 +7,6 @@ use Rattle.causal_audit.proofs.AmongLemmas.{among_later}
 use Rattle.causal_audit.proofs.group.GroupWalk.{place_of, room_within}
 use Rattle.causal_audit.proofs.Orphaned.{not_yet}
 use Rattle.causal_audit.proofs.group.scan.Scan.least_in.Goals as goal
-
-abbrev zero : Window
-zero = record { position = 0; until = 0 }
 
 pub follow-requires-clause-none : goal.follow-requires-clause-none
 follow-requires-clause-none c =
@@ -22,7 +19,7 @@ follow-requires-clause-none c =
     not_yet r.processes c.args.f (instant r.past u) (position_at windows j) (omega (arith, below, (c.start_of-start.ensures.first j zero low).made, instant_length r.past u inside)) has)
 
 pub follow-requires-clause-deliveries : goal.follow-requires-clause-deliveries
-follow-requires-clause-deliveries c = subst (λ (s : Scanned). All (λ (window : Window). IsDeliveryAt s.run.past window.position) c.args.windows.now) (sym c.self.view_is) c.requires.deliveries
+follow-requires-clause-deliveries c = subst (λ (s : Scanned). All (λ window. IsDeliveryAt s.run.past window.position) c.args.windows.now) (sym c.self.view_is) c.requires.deliveries
 
 pub follow-requires-clause-windows : goal.follow-requires-clause-windows
 follow-requires-clause-windows c =

@@ -2,12 +2,11 @@ use Rattle.causal_audit.proofs.Common.{◌≡◌, ◌++◌, [], List, sym, ap, s
 use Rattle.std.specs.Slice.Iter.{chunks_rest, chunks_size}
 use Rattle.causal_audit.proofs.AmongLemmas.{among_joined, among_none, horizon_within}
 use Rattle.causal_audit.proofs.group.GroupWalk.{room_within}
-use Rattle.causal_audit.proofs.Sifted.{all_left, all_right}
-use Rattle.causal_audit.specs.Inside.Among.{LeastAmongBy, horizon}
+use Rattle.causal_audit.specs.Inside.Among.{LeastAmongBy}
 use Rattle.causal_audit.specs.Earlier.{earlier}
 use Rattle.causal_audit.specs.Inside.Group.Scans.{IsDeliveryAt, IsWindow, positions_of}
 use Rattle.causal_audit.specs.declared.group.scan.Window.{Window}
-use Rattle.causal_audit.proofs.group.Windowed.{position}
+use Rattle.causal_audit.proofs.group.Windowed.{all_left, all_right, position}
 use Rattle.causal_audit.proofs.group.scan.Scan.least_within.Goals as goal
 
 pub loop-group-init : goal.loop-group-init
