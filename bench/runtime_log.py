@@ -76,9 +76,9 @@ def best(runs):
     return {processes: [min(run[processes][i][0] for run in runs) / 1e6 for i in range(len(runs[0][processes]))] for processes in runs[0]}
 
 
-def figures(words, read):
+def figures(words):
     """The figures of each run."""
-    return [list(map(read, subprocess.run([PROGRAM, *map(str, words)], capture_output=True, text=True, check=True).stdout.split())) for _ in range(RUNS)]
+    return [list(map(int, subprocess.run([PROGRAM, *map(str, words)], capture_output=True, text=True, check=True).stdout.split())) for _ in range(RUNS)]
 
 
 def lists():
@@ -91,7 +91,7 @@ def lists():
         "|---|---|---|---|---|",
     ]
     for processes, faults in RINGS:
-        _, _, deliveries, listed, took = min(figures(("lists", processes, faults), int), key=lambda run: run[4])
+        _, _, deliveries, listed, took = min(figures(("lists", processes, faults)), key=lambda run: run[4])
         lines.append(f"| {processes} | {faults} | {deliveries:,} | {listed:,} | {took / listed:.0f} |")
     return lines
 
@@ -100,21 +100,22 @@ def keys():
     """Determinants that were chosen to collide, and the targets."""
     lines = [
         "",
-        "Determinants that a log takes in and tells of, in nanoseconds for each. *alike* share a group of a hash table whose seed is fixed, "
-        "and *any* are as many others, in the same order. *meeting* are all of a run in which as many receivers as may be come to one head of "
-        "the log, and *spread* as many of a run of 256 receivers with as many deliveries each. *picked* are those of 32,768 deliveries that "
-        "share as few heads as hold them.",
+        "Determinants that a log takes in and tells of, in nanoseconds for each. *spread* are all of a run in which 256 receivers have as many "
+        "deliveries each, and *alike* as many of messages that put them into one group of a hash table whose seed is fixed. *meeting* are all "
+        "of a run in which as many receivers as may be come to one head of the log. *picked* are those of 32,768 deliveries that share as few "
+        "heads as hold them.",
         "",
-        "| determinants, heads | alike | any | meeting | spread | picked |",
-        "|---|---|---|---|---|---|",
+        "| heads | spread | alike | meeting | picked |",
+        "|---|---|---|---|---|",
     ]
     targets = []
     for count, heads in KEYS:
-        alike, others, meeting, spread, picked = (min(times) for times in list(zip(*figures(("keys", count, heads), float)))[1:])
-        lines.append(f"| {count:,} | {alike:.1f} | {others:.1f} | {meeting:.1f} | {spread:.1f} | {picked:.1f} |")
-        targets.append((f"{count:,} determinants chosen to collide in a hash / as many others", alike / others, 1.3))
-        targets.append((f"{count:,} determinants of a run whose receivers meet / as many of another run", meeting / spread, 1.3))
-        targets.append((f"{count:,} determinants picked of a longer run / as many of a run", picked / spread, 1.3))
+        columns = list(zip(*figures(("keys", count, heads))))
+        alike, meeting, spread, picked = (min(took) / many[0] for many, took in zip(columns[::2], columns[1::2]))
+        lines.append(f"| {heads:,} | {spread:.1f} | {alike:.1f} | {meeting:.1f} | {picked:.1f} |")
+        targets.append((f"{heads:,} heads: determinants chosen to collide in a hash / as many of a run", alike / spread, 1.3))
+        targets.append((f"{heads:,} heads: those of a run whose receivers meet / as many of another run", meeting / spread, 1.3))
+        targets.append((f"{heads:,} heads: those picked of a longer run / as many of a run", picked / spread, 1.3))
     return lines, targets
 
 
