@@ -1,13 +1,16 @@
 -- What is kept of a process, with one more entry.
-use Rattle.std.proofs.Common.{ℕ, ◌≡◌, ◌<◌, inl, inr, Bool, true, false, List, [], ◌∷◌, length, take, replicate, get_or, refl, sym, ap, subst, ◌∙◌, arith}
+use Rattle.std.proofs.Common.{ℕ, ◌≡◌, ◌+◌, ◌<◌, inl, inr, Bool, true, false, List, [], ◌∷◌, length, take, replicate, get_or, refl, sym, ap, subst, ◌∙◌, arith}
 use Rattle.std.specs.Prelude.{◌&&◌, not, slice_set}
 use Rattle.std.proofs.lemmas.Bool.{and_from, or_from, or_left, or_right}
 use Rattle.std.proofs.lemmas.Bool.Decides.{eqb_tells}
 use Rattle.std.proofs.lemmas.List.{length-set, length-take, length-replicate, get_or-set_other, get_or-set_same, get_or-take, get_or-replicate}
 use Rattle.causal_trace.specs.declared.entry.Entry.{Entry}
+use Rattle.causal_trace.specs.State.{past_at}
+use Rattle.causal_trace.proofs.Lemmas.Instants.{past_more, past_length}
+use Rattle.causal_explain.specs.declared.standing.Change.{Change}
 use Rattle.causal_explain.specs.declared.standing.Standing.{Standing}
 use Rattle.causal_explain.specs.declared.standing.Standing.TheVariants.{Never, Holds, Ended}
-use Rattle.causal_explain.specs.Inside.Standings.{AreStandings, IsOverSince, IsStanding}
+use Rattle.causal_explain.specs.Inside.Standings.{AreStandings, IsOverSince, IsStanding, TellsChange}
 use Rattle.causal_explain.specs.Since.{ever}
 use Rattle.causal_explain.proofs.SinceLemmas.{fails_now, holds_now, since_newest, since_more}
 
@@ -88,3 +91,10 @@ stand_changed e past test standings q standing within same new h = λ p below.
           subst (IsStanding (e ∷ past) (test p)) (sym (get_or-set_other standings q p standing Never apart.1))
           (still_stands e past (test p) (get_or standings p Never) (same p apart.1) (h p (omega (arith, below, length-set standings q standing))))
     ]
+
+-- so the entry at a position is taken in, when those before it have been
+pub stand_next : (entries : List Entry) (i : ℕ) (e : Entry) (change : Change) (test : ℕ → List Entry → Bool) (old new : List Standing) → i < length entries → e ≡ get_or entries i e
+    → ((test : ℕ → List Entry → Bool) (e : Entry) (past : List Entry) → length past ≡ i → TellsChange test e change → AreStandings past test old → AreStandings (e ∷ past) test new)
+    → TellsChange test e change → AreStandings (past_at entries i) test old → AreStandings (past_at entries (i + 1)) test new
+stand_next entries i e change test old new below is noted tells stand =
+    subst (λ past. AreStandings past test new) (sym (past_more entries i e below is)) (noted test e (past_at entries i) (past_length entries i (omega (arith, below))) tells stand)

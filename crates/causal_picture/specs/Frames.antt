@@ -5,15 +5,11 @@ use Rattle.causal_picture.specs.Layout.{width_of, height_of, columns_of, right_o
 use Rattle.causal_picture.specs.Titles.{line_of}
 use Rattle.causal_picture.specs.Shapes.{level_text, upright_text}
 
--- the root's tag
+-- the root's tag, and what the picture is, in words
 unfoldable pub root_text : ℕ → ℕ → List ℕ
 root_text width height =
     codes "<svg xmlns='http://www.w3.org/2000/svg' version='1.1' role='img' width='" ++ (decimal width ++ (codes "' height='" ++ (decimal height
-    ++ (codes "' viewBox='0 0 " ++ (decimal width ++ (codes " " ++ (decimal height ++ codes "' font-family='sans-serif' font-size='12'>\n")))))))
-
--- what the picture is, in words
-unfoldable pub heading_text : List ℕ
-heading_text = codes "<title>Space-time diagram of a recorded run</title>\n"
+    ++ (codes "' viewBox='0 0 " ++ (decimal width ++ (codes " " ++ (decimal height ++ codes "' font-family='sans-serif' font-size='12'>\n<title>Space-time diagram of a recorded run</title>\n")))))))
 
 -- what the picture shows, in words
 unfoldable pub description_text : ℕ → ℕ → ℕ → ℕ → List ℕ
@@ -30,7 +26,7 @@ ground_text =
 unfoldable pub head_text : Grid → ℕ → List ℕ
 head_text g entries =
     root_text (width_of g) (height_of g.processes)
-    ++ (heading_text ++ (description_text g.processes (columns_of g) entries (line_of g.early.first) ++ ground_text))
+    ++ (description_text g.processes (columns_of g) entries (line_of g.early.first) ++ ground_text)
 
 -- a shade that fills so much of a row
 unfoldable pub shade_line : ℕ → ℕ → ℕ → List ℕ
@@ -53,15 +49,13 @@ process_name p y =
 unfoldable pub dotted_text : ℕ → ℕ → List ℕ
 dotted_text right y = level_text 80 right y (codes "stroke='#999' stroke-dasharray='1 5'")
 
--- the name of a process above its line
-unfoldable pub name_above : ℕ → ℕ → ℕ → List ℕ
-name_above p x y =
-    codes "<text x='" ++ (decimal x ++ (codes "' y='" ++ (decimal y ++ (codes "' dy='-5' text-anchor='middle' font-size='10' fill='#777'>process " ++ (decimal p
-    ++ codes "</text>\n")))))
-
--- the same, where the line reaches so far
+-- the name of a process above its line, where the line reaches so far
 abbrev pub name_again : Grid → ℕ → ℕ → List ℕ
-name_again g p x = if nat_lt x (right_of g) then name_above p x (y_of g p) else []
+name_again g p x =
+    if nat_lt x (right_of g)
+    then codes "<text x='" ++ (decimal x ++ (codes "' y='" ++ (decimal (y_of g p)
+    ++ (codes "' dy='-5' text-anchor='middle' font-size='10' fill='#777'>process " ++ (decimal p ++ codes "</text>\n")))))
+    else []
 
 -- the name of a process at the left end of its line, and again where that is far
 unfoldable pub names_text : Grid → ℕ → List ℕ

@@ -12,23 +12,17 @@ use crate::stretch::Grid;
 use crate::titles::line_of;
 use std::alloc::AllocError;
 
-/// The root's tag. Only numbers are put among the words of this file, so nothing needs escaping.
+/// The root's tag, and what the picture is, in words. Only numbers are put among the words of this file, so nothing needs
+/// escaping.
 #[tactic(auto, unfolding(crate::specs::Frames::root_text))]
 fn push_root(out: &mut String, width: u64, height: u32) -> Result<(), AllocError>
     ensures { Appends result out.old out.new (frames.root_text width height) }
 {
     write!(
         out,
-        "<svg xmlns='http://www.w3.org/2000/svg' version='1.1' role='img' width='{width}' height='{height}' viewBox='0 0 {width} {height}' font-family='sans-serif' font-size='12'>\n"
+        "<svg xmlns='http://www.w3.org/2000/svg' version='1.1' role='img' width='{width}' height='{height}' viewBox='0 0 {width} {height}' font-family='sans-serif' font-size='12'>\n\
+         <title>Space-time diagram of a recorded run</title>\n"
     )
-}
-
-/// What the picture is, in words.
-#[tactic(auto, unfolding(crate::specs::Frames::heading_text))]
-fn push_heading(out: &mut String) -> Result<(), AllocError>
-    ensures { Appends result out.old out.new frames.heading_text }
-{
-    out.push_str("<title>Space-time diagram of a recorded run</title>\n")
 }
 
 /// What the picture shows, in words.
@@ -66,7 +60,6 @@ pub fn push_head(out: &mut String, grid: Grid, entries: u32) -> Result<(), Alloc
     ensures { Appends result out.old out.new (frames.head_text grid entries) }
 {
     push_root(out, width_of(grid), height_of(grid.processes))?;
-    push_heading(out)?;
     push_description(
         out,
         grid.processes,
@@ -122,17 +115,10 @@ fn push_process_name(out: &mut String, process: u16, y: u32) -> Result<(), Alloc
 fn push_name_again(out: &mut String, grid: Grid, process: u16, x: u64) -> Result<(), AllocError>
     ensures { Appends result out.old out.new (frames.name_again grid process x) }
 {
-    if x < right_of(grid) {
-        push_name_above(out, process, x, y_of(grid, process))
-    } else {
-        Ok(())
+    if x >= right_of(grid) {
+        return Ok(());
     }
-}
-
-#[tactic(auto, unfolding(crate::specs::Frames::name_above))]
-fn push_name_above(out: &mut String, process: u16, x: u64, y: u32) -> Result<(), AllocError>
-    ensures { Appends result out.old out.new (frames.name_above process x y) }
-{
+    let y = y_of(grid, process);
     write!(
         out,
         "<text x='{x}' y='{y}' dy='-5' text-anchor='middle' font-size='10' fill='#777'>process {process}</text>\n"

@@ -27,21 +27,26 @@ unfoldable pub no_delivery_line : ℕ → List ℕ
 no_delivery_line line = codes "unlisted line=" ++ (decimal line ++ codes ": no delivery\n")
 
 -- a delivery after which its receiver's log lacks its own determinant
-unfoldable pub unlogged_line : ℕ → Event → List ℕ
-unlogged_line position (Delivery to send) =
-    codes "unlisted line=" ++ (decimal (line_at position) ++ (codes " send=" ++ (decimal (line_at send)
-    ++ (codes " process=" ++ (decimal to ++ (codes ": process " ++ (decimal to
-    ++ (codes " delivers what line " ++ (decimal (line_at send)
+unfoldable pub unlogged_line : ℕ → ℕ → ℕ → List ℕ
+unlogged_line line send to =
+    codes "unlisted line=" ++ (decimal line ++ (codes " send=" ++ (decimal send ++ (codes " process=" ++ (decimal to
+    ++ (codes ": process " ++ (decimal to ++ (codes " delivers what line " ++ (decimal send
     ++ codes " sends, and does not log the determinant\n")))))))))
-unlogged_line position _ = no_delivery_line (line_at position)
 
 -- a delivery whose message did not bring the determinant along
-unfoldable pub unlisted_line : ℕ → Event → List ℕ
-unlisted_line position (Delivery to send) =
-    codes "unlisted line=" ++ (decimal (line_at position) ++ (codes " send=" ++ (decimal (line_at send)
-    ++ (codes " process=" ++ (decimal to ++ (codes ": the message that line " ++ (decimal (line_at send)
-    ++ (codes " sends comes to process " ++ (decimal to ++ codes " without the determinant\n")))))))))
-unlisted_line position _ = no_delivery_line (line_at position)
+unfoldable pub unlisted_line : ℕ → ℕ → ℕ → List ℕ
+unlisted_line line send to =
+    codes "unlisted line=" ++ (decimal line ++ (codes " send=" ++ (decimal send ++ (codes " process=" ++ (decimal to
+    ++ (codes ": the message that line " ++ (decimal send ++ (codes " sends comes to process " ++ (decimal to
+    ++ codes " without the determinant\n")))))))))
+
+-- the event at a position, where the log of its receiver lacks the determinant of the delivery at another, or of its own
+abbrev pub lacking_line : ℕ → ℕ → Event → List ℕ
+lacking_line delivery position (Delivery to send) =
+    if position == delivery
+    then unlogged_line (line_at position) (line_at send) to
+    else unlisted_line (line_at position) (line_at send) to
+lacking_line delivery position _ = no_delivery_line (line_at position)
 
 -- that no delivery lacks it
 unfoldable pub listed_line : List ℕ
@@ -51,6 +56,4 @@ listed_line = codes "listed: after each delivery of the chain its receiver has t
 -- each it has it
 abbrev pub unlisted_text : Recording → ℕ → Option ℕ → List ℕ
 unlisted_text r delivery None = listed_line
-unlisted_text r delivery (Some position) =
-    if position == delivery then unlogged_line position (event_at r position)
-    else unlisted_line position (event_at r position)
+unlisted_text r delivery (Some position) = lacking_line delivery position (event_at r position)

@@ -51,11 +51,14 @@ pub(crate) fn push_unlisted(
     let Some(position) = unlisted else {
         return push_listed(out);
     };
-    let event = event_at(trace, position);
-    if position == delivery {
-        push_unlogged(out, position, event)
-    } else {
-        push_unlisted_at(out, position, event)
+    match event_at(trace, position) {
+        Event::Delivery { to, send } if position == delivery => {
+            push_unlogged(out, line_at(position), line_at(send), to)
+        }
+        Event::Delivery { to, send } => {
+            push_unlisted_at(out, line_at(position), line_at(send), to)
+        }
+        _ => push_no_delivery(out, line_at(position)),
     }
 }
 
@@ -69,41 +72,30 @@ fn push_listed(out: &mut String) -> Result<(), AllocError>
 }
 
 /// Adds the line of a delivery after which its receiver's log lacks its own determinant.
-fn push_unlogged(out: &mut String, position: u32, event: Event) -> Result<(), AllocError>
-    ensures { OnOk result (Adds out.old out.new (chains.unlogged_line position event)) }
+#[tactic(auto, unfolding(crate::specs::Chains::unlogged_line))]
+fn push_unlogged(out: &mut String, line: u64, send: u64, to: u8) -> Result<(), AllocError>
+    ensures { OnOk result (Adds out.old out.new (chains.unlogged_line line send to)) }
 {
-    let line = line_at(position);
-    match event {
-        Event::Delivery { to, send } => {
-            let send = line_at(send);
-            write!(
-                out,
-                "unlisted line={line} send={send} process={to}: \
-                 process {to} delivers what line {send} sends, and does not log the determinant\n"
-            )
-        }
-        _ => push_no_delivery(out, line),
-    }
+    write!(
+        out,
+        "unlisted line={line} send={send} process={to}: \
+         process {to} delivers what line {send} sends, and does not log the determinant\n"
+    )
 }
 
 /// Adds the line of a delivery after which its receiver's log lacks the determinant of another one.
-fn push_unlisted_at(out: &mut String, position: u32, event: Event) -> Result<(), AllocError>
-    ensures { OnOk result (Adds out.old out.new (chains.unlisted_line position event)) }
+#[tactic(auto, unfolding(crate::specs::Chains::unlisted_line))]
+fn push_unlisted_at(out: &mut String, line: u64, send: u64, to: u8) -> Result<(), AllocError>
+    ensures { OnOk result (Adds out.old out.new (chains.unlisted_line line send to)) }
 {
-    let line = line_at(position);
-    match event {
-        Event::Delivery { to, send } => {
-            let send = line_at(send);
-            write!(
-                out,
-                "unlisted line={line} send={send} process={to}: \
-                 the message that line {send} sends comes to process {to} without the determinant\n"
-            )
-        }
-        _ => push_no_delivery(out, line),
-    }
+    write!(
+        out,
+        "unlisted line={line} send={send} process={to}: \
+         the message that line {send} sends comes to process {to} without the determinant\n"
+    )
 }
 
+#[tactic(auto, unfolding(crate::specs::Chains::no_delivery_line))]
 fn push_no_delivery(out: &mut String, line: u64) -> Result<(), AllocError>
     ensures { OnOk result (Adds out.old out.new (chains.no_delivery_line line)) }
 {

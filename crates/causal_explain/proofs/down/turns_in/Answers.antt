@@ -1,25 +1,14 @@
-use Rattle.std.proofs.Common.{◌≡◌, ◌+◌, ◌<◌, ◌∷◌, List, length, refl, subst, sym, arith}
+use Rattle.std.proofs.Common.{List, refl, arith}
 use Rattle.causal_trace.specs.declared.entry.Entry.{Entry}
 use Rattle.causal_trace.specs.Past.{is_down}
-use Rattle.causal_trace.specs.State.{past_at}
-use Rattle.causal_trace.proofs.Lemmas.Instants.{past_more, past_length}
-use Rattle.causal_explain.specs.Inside.Standings.{AreStandings}
-use Rattle.causal_explain.proofs.StandingLemmas.{stand_none}
+use Rattle.causal_explain.proofs.StandingLemmas.{stand_next, stand_none}
 use Rattle.causal_explain.proofs.down.turns_in.Goals as goal
 
 pub loop-i-init : goal.loop-i-init
 loop-i-init c = record { count = refl; stand = stand_none (λ p (past : List Entry). is_down past p) 256 (λ p. refl) }
 
 pub loop-i-preserved : goal.loop-i-preserved
-loop-i-preserved c =
-    let entries = c.args.entries.now in
-    let i = c.loop-i.i in
-    let e = c.index-entries-i.result in
-    let before = past_at entries i in
-    let below : i < length entries = c.loop-i-test.true in
-    let next : past_at entries (i + 1) ≡ e ∷ before = past_more entries i e below c.index-entries-i.is in
-    record {
-      count = omega (arith, c.loop-i.invariant.count, c.note.auto.standings);
-      stand = subst (λ past. AreStandings past (λ p state. is_down state p) c.note.new.standings) (sym next)
-          (c.note.ensures (λ p state. is_down state p) e before (past_length entries i (omega (arith, below))) c.turn.ensures c.loop-i.invariant.stand);
-    }
+loop-i-preserved c = record {
+  count = omega (arith, c.loop-i.invariant.count, c.note.auto.standings);
+  stand = stand_next c.args.entries.now c.loop-i.i _ c.turn.result (λ p state. is_down state p) c.loop-i.standings c.note.new.standings c.loop-i-test.true c.index-entries-i.is c.note.ensures c.turn.ensures c.loop-i.invariant.stand;
+}

@@ -1,5 +1,6 @@
-use Rattle.std.proofs.Common.{◌≡◌, length, reverse, take, subst, arith}
+use Rattle.std.proofs.Common.{◌≡◌, ℕ, Bool, List, length, reverse, take, subst, arith}
 use Rattle.std.proofs.lemmas.List.{length-take}
+use Rattle.causal_trace.specs.declared.entry.Entry.{Entry}
 use Rattle.causal_trace.specs.Past.{instant, logs}
 use Rattle.causal_explain.specs.Inside.Standings.{AreStandings}
 use Rattle.causal_explain.specs.Since.{AreHoldings, AreLosses}
@@ -7,25 +8,19 @@ use Rattle.causal_explain.proofs.StandingLemmas.{stand_first}
 use Rattle.causal_explain.proofs.Told.{first_entries}
 use Rattle.causal_explain.proofs.holdings.held_at.Goals as goal
 
-pub returns-clause-holders : goal.returns-clause-holders
-returns-clause-holders c =
+pub returns : goal.returns
+returns c =
     let r = c.args.trace.now.recording in
     let past = instant r.past c.args.end in
+    let test : ℕ → List Entry → Bool = λ p state. logs state p c.args.det in
     let n = c.processes.result in
     let standings = c.transfers_in-transfers.result in
-    let stand : AreStandings past (λ p state. logs state p c.args.det) standings =
-    subst (λ x. AreStandings x (λ p state. logs state p c.args.det) standings) (first_entries r c.entries.result.now c.args.end c.entries.ensures.value c.requires) c.transfers_in-transfers.ensures in
+    let here = first_entries r c.entries.result.now c.args.end c.entries.ensures.value c.requires in
+    let stand : AreStandings past test standings = subst (λ x. AreStandings x test standings) here c.transfers_in-transfers.ensures in
     let count : length (take n standings) ≡ r.processes = omega (arith, length-take n standings, c.transfers_in-transfers.type_inv, c.processes.ensures.value, c.processes.ensures.formed.count) in
-    subst (λ m. AreHoldings m past c.args.det c.in_ok-holders.holders.items) count (c.in_ok-holders.ensures past c.args.det (stand_first past (λ p state. logs state p c.args.det) standings n stand))
-
-pub returns-clause-losses : goal.returns-clause-losses
-returns-clause-losses c =
-    let r = c.args.trace.now.recording in
-    let past = instant r.past c.args.end in
-    let n = c.processes.result in
-    let standings = c.transfers_in-transfers.result in
-    let count : length (take n standings) ≡ r.processes = omega (arith, length-take n standings, c.transfers_in-transfers.type_inv, c.processes.ensures.value, c.processes.ensures.formed.count) in
-    let told : AreLosses (length (take n standings)) (reverse (take c.args.end c.entries.result.now)) c.args.det c.in_ok-losses.losses.items =
-    c.in_ok-losses.ensures c.args.det (stand_first (reverse (take c.args.end c.entries.result.now)) (λ p state. logs state p c.args.det) standings n c.transfers_in-transfers.ensures) in
-    subst (λ m. AreLosses m past c.args.det c.in_ok-losses.losses.items) count
-    (subst (λ x. AreLosses (length (take n standings)) x c.args.det c.in_ok-losses.losses.items) (first_entries r c.entries.result.now c.args.end c.entries.ensures.value c.requires) told)
+    let lost : AreLosses (length (take n standings)) (reverse (take c.args.end c.entries.result.now)) c.args.det c.in_ok-losses.losses.items =
+    c.in_ok-losses.ensures c.args.det (stand_first (reverse (take c.args.end c.entries.result.now)) test standings n c.transfers_in-transfers.ensures) in
+    record {
+      holders = subst (λ m. AreHoldings m past c.args.det c.in_ok-holders.holders.items) count (c.in_ok-holders.ensures past c.args.det (stand_first past test standings n stand));
+      losses = subst (λ m. AreLosses m past c.args.det c.in_ok-losses.losses.items) count (subst (λ x. AreLosses (length (take n standings)) x c.args.det c.in_ok-losses.losses.items) here lost);
+    }
