@@ -5,6 +5,8 @@ from .texts import A, B, C, LOGGED, RING, SENT, crash, deliver, forget, lines, r
 
 # how long a text may be, how many entries a trace may have, and how many times processes may restart
 BYTES, ENTRIES, RESTARTS = 33_554_432, 65_536, 192
+# so many determinants, listed as many times, are as many as entries may list
+LISTED = 1_024
 
 TWO = spelled("trace", 1, 2)
 
@@ -152,6 +154,16 @@ def limits():
     yield "one entry too many", lines(spelled("trace", 1, 1), sends), f"{ENTRIES + 2} TooLong"
 
 
+def listing_rows():
+    """Each of many deliveries lists its determinant, and another process forgets all of them, which it does not hold, again and again
+    until no entry may list one more."""
+    dets = [[0, k, 0, k] for k in range(LISTED)]
+    delivered = [line for k, det in enumerate(dets) for line in (send(0, 0, k), deliver(0, 2 * k, k, det))]
+    full = [*delivered, *[forget(1, *dets)] * (LISTED - 1)]
+    yield faulty("one determinant too many", lines(spelled("trace", 2, 2), full, forget(1, dets[0])), f"{len(full) + 2} TooLong")
+    yield accepted("as many determinants as may be", trace(2, 2, full, forget(1)), "accept f=0 entries=3072 deliveries=1024")
+
+
 def faulty(name, text, fault, **more):
     return given(name, "audit --faults 0", text, 2, f"fault line={fault}\n", **more)
 
@@ -195,6 +207,7 @@ def rows():
     for begin, unit, end, fault in LONG:
         yield faulty(f"a long line {begin}{unit}..{end}", long_line(begin, unit, end), fault)
     yield accepted("a long line of spaces", long_line('["end"', " ", ",1]"), "accept f=0 entries=1 deliveries=0")
+    yield from listing_rows()
     for name, text, fault in limits():
         yield faulty(name, text, fault) if fault else accepted(name, text, "accept f=0 entries=0 deliveries=0")
     # the piece that has one byte too many is read, and no further one

@@ -23,6 +23,8 @@ ANSWER = [0, 0, 1, 0], [1, 1, 0, 0]
 # a script, the trace that it records, and what the audit says of it
 RECORDED = [
     ("one process", "start ring 1 0 0", trace(1, 1, send(0, 0, 0)), "accept f=0 entries=1 deliveries=0"),
+    ("as many processes as the first version has", "start ring 64 0 0", trace(1, 64, SENT), "accept f=0 entries=1 deliveries=0"),
+    ("one process more", "start ring 65 0 0", trace(2, 65, SENT), "accept f=0 entries=1 deliveries=0"),
     ("a replay in a ring", REPLAY, texts.REPLAYED_TEXT, "accept f=1 entries=10 deliveries=4"),
     (
         "a replay of a tally",
@@ -54,8 +56,12 @@ RECORDED = [
     ),
 ]
 
+# The last of as many processes as there may be is asked for each call; it has been sent nothing.
+GREATEST = "start echo 256 65535 255\ncrash 255\nrestart 255\nflush 255\nforget 255\ndeliver 255 255 4294967295\n"
+
 # a script, and the line that refuses it
 REFUSED = [
+    ("the greatest numbers", GREATEST, "6 NotAvailable"),
     ("another order than before the crash", TALLY + "crash 0\nrestart 0\ndeliver 0 1 0\n", "6 MustReplay 2 0"),
     ("a message that was sent in a lane that is down", ROUND_FOR_TWO + "crash 0\ncrash 1\nrestart 1\ndeliver 1 0 0\n", "8 NotAvailable"),
     ("one process more than may be down", ROUND + "crash 0\ncrash 1\nrestart 1\ndeliver 1 0 0\n", "6 OverFaults"),

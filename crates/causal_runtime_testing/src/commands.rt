@@ -100,27 +100,47 @@ impl Write for Narrow {
     }
 }
 
-#[test]
-fn reads_byte_by_byte(rt: HostRuntime) {
-    let mut input = Drip::new(RING, 1, usize::MAX);
-    let mut output = Vec::new(rt.alloc());
-    assert_eq!(rt;
-        audit_stream(&rt, rt.alloc(), &mut input, &mut output, 0, 1, &OpenGate),
-        Ended::Accepted
-    );
-    assert!(rt; output.as_slice() == RING_LINE.as_bytes());
-    assert_eq!(rt; input.calls, RING.len() + 1);
+/// How the audit of a text for no failure ends, where the answer goes into a writer.
+fn audited<R, I, O>(rt: &R, alloc: Global, input: &mut I, output: &mut O) -> Ended
+where
+    R: Abort + Threads + Wait,
+    I: Read,
+    O: Write,
+{
+    audit_stream(rt, alloc, input, output, 0, 1, &OpenGate)
+}
+
+/// Whether a text that comes in steps is answered so, with just these bytes, after so many calls of its reader.
+fn answers<R: Abort + Threads + Wait>(
+    rt: &R,
+    alloc: Global,
+    input: &mut Drip<'_>,
+    (whole, answer): (Ended, &str),
+    calls: usize,
+) -> bool {
+    let mut output = Vec::new(alloc);
+    audited(rt, alloc, input, &mut output) == whole
+        && output.as_slice() == answer.as_bytes()
+        && input.calls == calls
 }
 
 // One call for each byte, and one more that tells the end.
 #[test]
+fn reads_byte_by_byte(rt: HostRuntime) {
+    let mut input = Drip::new(RING, 1, usize::MAX);
+    let whole = (Ended::Accepted, RING_LINE);
+    assert!(rt; answers(&rt, rt.alloc(), &mut input, whole, RING.len() + 1));
+}
+
+#[test]
 fn reader_fails_at_each_call(rt: HostRuntime) {
     for fails_at in 0..=RING.len() {
         let mut input = Drip::new(RING, 1, fails_at);
-        let mut output = Vec::new(rt.alloc());
-        let ended = audit_stream(&rt, rt.alloc(), &mut input, &mut output, 0, 1, &OpenGate);
-        assert_eq!(rt; ended, Ended::ReadFault, "call {fails_at}");
-        assert!(rt; output.is_empty(), "call {fails_at}");
+        let failed = (Ended::ReadFault, "");
+        assert!(rt;
+            answers(&rt, rt.alloc(), &mut input, failed, fails_at + 1),
+            "call {fails_at}"
+        );
     }
 }
 
@@ -128,35 +148,30 @@ fn reader_fails_at_each_call(rt: HostRuntime) {
 #[test]
 fn fault_before_the_reader_fails(rt: HostRuntime) {
     let mut input = Drip::new("[\"trace\",1,2]\n[\"send\",0,1,1]\n", 4096, 1);
-    let mut output = Vec::new(rt.alloc());
-    assert_eq!(rt;
-        audit_stream(&rt, rt.alloc(), &mut input, &mut output, 0, 1, &OpenGate),
-        Ended::Faulted
-    );
-    assert!(rt; output.as_slice() == b"fault line=2 WrongSsn\n".as_slice());
-    assert_eq!(rt; input.calls, 1);
+    let faulted = (Ended::Faulted, "fault line=2 WrongSsn\n");
+    assert!(rt; answers(&rt, rt.alloc(), &mut input, faulted, 1));
 }
 
 /// Whether the audit of a ring tells that its writer fails at this call.
-fn tells_of_the_writer<R: AllocGlobal + Abort + Threads + Wait>(
+fn tells_of_the_writer<R: Abort + Threads + Wait>(
     rt: &R,
+    alloc: Global,
     fails_at: usize,
     with_error: bool,
 ) -> bool {
     let mut input = RING.as_bytes();
-    let mut output = Narrow::new(rt.alloc(), fails_at, with_error);
-    let ended = audit_stream(rt, rt.alloc(), &mut input, &mut output, 0, 1, &OpenGate);
+    let mut output = Narrow::new(alloc, fails_at, with_error);
+    let ended = audited(rt, alloc, &mut input, &mut output);
     output.is_told(ended, Ended::Accepted, RING_LINE)
 }
 
 #[test]
 fn writer_fails_at_each_call(rt: HostRuntime) {
     for fails_at in 0..=RING_LINE.len() {
-        for with_error in [true, false] {
-            assert!(rt;
-                tells_of_the_writer(&rt, fails_at, with_error),
-                "call {fails_at}"
-            );
-        }
+        assert!(rt;
+            tells_of_the_writer(&rt, rt.alloc(), fails_at, true)
+                && tells_of_the_writer(&rt, rt.alloc(), fails_at, false),
+            "call {fails_at}"
+        );
     }
 }

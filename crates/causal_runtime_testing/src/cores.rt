@@ -2,8 +2,8 @@
 //! kinds of process that come with the runtime.
 use crate::runtime::*;
 use causal_core::{Core, CoreFault, Delivered, FlushFault, Reply, Restarted, StartFault};
-use causal_log::Stable;
-use causal_name::{MsgName, NoMemory, Pid};
+use causal_log::{FailingStore, MemStable};
+use causal_name::{NoMemory, Pid};
 use causal_process::Ring;
 use causal_testing::{Fields, det};
 use std::alloc::Global;
@@ -13,75 +13,200 @@ mod faults;
 mod limits;
 mod recovery;
 
-fn named<S: Stable>(core: &Core<S>, q: u8) -> Result<Option<MsgName>, CoreFault> {
-    core.named(Pid(q))
-}
+/// Cores here have a store that may fail, also where it never does, so that one function owns all of them.
+type Runtime = Core<FailingStore>;
 
-fn replayed<S: Stable>(core: &mut Core<S>, p: u8, limit: u32) -> Result<u32, CoreFault> {
-    core.replay(Pid(p), limit)
-}
-
-fn are_pending<S: Stable>(core: &Core<S>, q: u8, names: &[MsgName]) -> Result<bool, CoreFault> {
-    match core.pending(Pid(q)) {
-        Ok(pending) => Ok(pending.as_slice() == names),
-        Err(fault) => Err(fault),
+/// A store that never fails, and that has failed so often.
+fn steady(alloc: Global, failures: u64) -> FailingStore {
+    FailingStore {
+        store: MemStable::new(alloc),
+        before_fault: None,
+        failures,
     }
 }
 
-fn are_gathered<S: Stable>(core: &Core<S>, p: u8, fields: &[Fields]) -> Result<bool, CoreFault> {
-    match core.gathered(Pid(p)) {
-        Ok(dets) => Ok(are(dets.as_slice(), fields)),
-        Err(fault) => Err(fault),
+/// A ring of three with another process 1.
+fn ring_with(alloc: Global, second: Result<Boxed, NoMemory>) -> Result<Vec<Boxed>, NoMemory> {
+    let mut boxes = processes(alloc, Kind::Ring(2), 3)?;
+    if let Some(other) = boxes.get_mut(1) {
+        *other = second?;
+    }
+    Ok(boxes)
+}
+
+/// What happens on a core.
+#[derive(Clone, Copy)]
+enum Scene {
+    ReplayOfFive,
+    ReplayThatStops,
+    ReplayThatWaits,
+    SpareThatComesBack,
+    DeliveryMadeAgain,
+    FlushMadeAgain,
+    FlushOfAWearyStore,
+    Flood,
+}
+
+impl Scene {
+    /// How many may fail.
+    fn faults(self) -> u16 {
+        match self {
+            Scene::ReplayThatStops | Scene::ReplayThatWaits => 2,
+            Scene::Flood => 0,
+            _ => 1,
+        }
+    }
+
+    fn processes(self, alloc: Global) -> Result<Vec<Boxed>, NoMemory> {
+        match self {
+            Scene::ReplayOfFive => processes(alloc, Kind::Ring(9), 1),
+            Scene::ReplayThatWaits => processes(alloc, Kind::Ring(9), 3),
+            Scene::ReplayThatStops | Scene::SpareThatComesBack => {
+                processes(alloc, Kind::Ring(2), 3)
+            }
+            Scene::DeliveryMadeAgain => faults::refusing_ring(alloc, 1),
+            Scene::FlushMadeAgain | Scene::FlushOfAWearyStore => processes(alloc, Kind::Tally, 3),
+            Scene::Flood => limits::flooded(alloc),
+        }
+    }
+
+    fn store(self, alloc: Global) -> FailingStore {
+        match self {
+            Scene::FlushMadeAgain => FailingStore::new(alloc, 1),
+            Scene::FlushOfAWearyStore => steady(alloc, u64::MAX),
+            _ => steady(alloc, 0),
+        }
+    }
+
+    fn is_right_on(self, alloc: Global, core: &mut Runtime) -> bool {
+        match self {
+            Scene::ReplayOfFive => recovery::makes_five(alloc, core),
+            Scene::ReplayThatStops => recovery::stops(alloc, core),
+            Scene::ReplayThatWaits => recovery::waits_for_the_sender(alloc, core),
+            Scene::SpareThatComesBack => faults::spare_comes_back(alloc, core),
+            Scene::DeliveryMadeAgain => faults::delivers_again(alloc, core),
+            Scene::FlushMadeAgain => faults::flushes_again(alloc, core),
+            Scene::FlushOfAWearyStore => faults::is_not_written_to(alloc, core),
+            Scene::Flood => limits::fills(core),
+        }
+    }
+
+    fn begun(self, alloc: Global) -> Result<Runtime, StartFault> {
+        match self.processes(alloc) {
+            Ok(boxes) => Core::start(alloc, self.faults(), boxes, self.store(alloc)),
+            Err(NoMemory) => Err(StartFault::NoMemory),
+        }
+    }
+
+    /// Whether all is answered, shown and recorded as it has to be.
+    fn is_right(self, alloc: Global) -> bool {
+        match self.begun(alloc) {
+            Ok(mut core) => self.is_right_on(alloc, &mut core),
+            Err(_) => false,
+        }
     }
 }
 
-/// Asks for a restart of p, and where that is refused, with the spare that came back, for one of `then`: both answers.
-fn restarted_after<S: Stable>(
-    core: &mut Core<S>,
-    p: u8,
-    then: u8,
-    spare: Boxed,
-) -> (Reply, Option<Reply>) {
+/// A call of a core, with its numbers in their order; a restart is by a process of a ring of three, or of one, with so many hops.
+#[derive(Clone, Copy)]
+enum Call {
+    Deliver(u8, u8, u32),
+    Crash(u8),
+    Restart(u8, u8),
+    Flush(u8),
+}
+
+fn restarted(core: &mut Runtime, p: u8, spare: Boxed) -> Reply {
     match core.restart(Pid(p), spare) {
-        Ok(restarted) => (Reply::Restarted(restarted), None),
-        Err(refused) => {
-            let second = restarted(core, then, refused.spare);
-            (Reply::Refused(refused.fault), Some(second))
+        Ok(restarted) => Reply::Restarted(restarted),
+        Err(refused) => Reply::Refused(refused.fault),
+    }
+}
+
+/// A restart by a new process of a ring.
+fn restarted_by(alloc: Global, core: &mut Runtime, p: u8, hops: u8) -> Option<Reply> {
+    match process(alloc, Kind::Ring(hops), core.trace().processes(), p) {
+        Ok(spare) => Some(restarted(core, p, spare)),
+        Err(NoMemory) => None,
+    }
+}
+
+/// Makes one call, and tells the answer.
+fn asked(alloc: Global, core: &mut Runtime, call: Call) -> Option<Reply> {
+    match call {
+        Call::Deliver(q, source, ssn) => {
+            let answer = core.deliver(Pid(q), Pid(source), ssn);
+            Some(Reply::of_delivery(answer))
+        }
+        Call::Crash(p) => Some(Reply::of_crash(core.crash(Pid(p)))),
+        Call::Restart(p, hops) => restarted_by(alloc, core, p, hops),
+        Call::Flush(p) => Some(Reply::of_flush(core.flush(Pid(p)))),
+    }
+}
+
+/// What a call answers, with its numbers in their order; `Stopped` is a flush that wrote so many determinants.
+#[derive(Clone, Copy)]
+enum Answer {
+    Delivered(u32, Fields, u32),
+    Crashed(u32),
+    Restarted(u32, u32, u32),
+    Flushed(u32),
+    Refused(CoreFault),
+    Stopped(CoreFault, u32),
+}
+
+impl Answer {
+    fn reply(self) -> Reply {
+        match self {
+            Answer::Delivered(first, fields, sends) => Reply::Delivered(Delivered {
+                first,
+                det: det(fields),
+                sends,
+            }),
+            Answer::Crashed(first) => Reply::Crashed { first },
+            Answer::Restarted(first, listed, sends) => Reply::Restarted(Restarted {
+                first,
+                listed,
+                sends,
+            }),
+            Answer::Flushed(count) => Reply::Flushed { count },
+            Answer::Refused(fault) => Reply::Refused(fault),
+            Answer::Stopped(fault, done) => Reply::FlushRefused(FlushFault { fault, done }),
         }
     }
 }
 
 /// Whether calls that are made one after the other are answered so.
-fn are_answered<S: Stable>(
-    alloc: Global,
-    core: &mut Core<S>,
-    kind: Kind,
-    calls: &[(Call, Reply)],
-) -> Result<bool, NoMemory> {
-    for (call, reply) in calls {
-        if asked(alloc, core, kind, *call)? != *reply {
-            return Ok(false);
+fn are_answered(alloc: Global, core: &mut Runtime, calls: &[(Call, Answer)]) -> bool {
+    for (call, answer) in calls {
+        if asked(alloc, core, *call) != Some(answer.reply()) {
+            return false;
         }
     }
-    Ok(true)
+    true
 }
 
-fn delivered(first: u32, fields: Fields, sends: u32) -> Reply {
-    Reply::Delivered(Delivered {
-        first,
-        det: det(fields),
-        sends,
-    })
+/// Whether a restart of p is refused for that fault, and one of `then`, by the spare that came back, is answered so.
+fn gives_back(
+    core: &mut Runtime,
+    (p, fault): (u8, CoreFault),
+    (then, answer): (u8, Answer),
+    spare: Boxed,
+) -> bool {
+    match core.restart(Pid(p), spare) {
+        Ok(_) => false,
+        Err(refused) => {
+            refused.fault == fault && restarted(core, then, refused.spare) == answer.reply()
+        }
+    }
 }
 
-fn restarted_at(first: u32, listed: u32, sends: u32) -> Reply {
-    Reply::Restarted(Restarted {
-        first,
-        listed,
-        sends,
-    })
-}
-
-fn flush_stopped(fault: CoreFault, done: u32) -> Reply {
-    Reply::FlushRefused(FlushFault { fault, done })
+/// Whether so many deliveries to process 0 of its own messages are made, in their order.
+fn are_delivered(core: &mut Runtime, count: u32) -> bool {
+    for ssn in 0..count {
+        if core.deliver(Pid(0), Pid(0), ssn).is_err() {
+            return false;
+        }
+    }
+    true
 }

@@ -11,8 +11,4 @@ mod logs;
 #[cfg(test)]
 mod runtime;
 #[cfg(test)]
-mod scripts;
-#[cfg(test)]
 mod seats;
-#[cfg(test)]
-mod verdicts;

@@ -1,9 +1,10 @@
 //! Seats on threads of their own, calls that were worked out by hand, random calls, and a history that is full.
-use crate::runtime;
-use crate::runtime::{Boxed, Kind, process};
+use crate::runtime::{Boxed, Kind, process, processes};
+use causal_audit::Verdict;
+use causal_commands::audited;
 use causal_core::{Core, CoreFault, Reply};
 use causal_log::MemStable;
-use causal_name::{MsgName, Pid};
+use causal_name::{MsgName, NoMemory, Pid};
 use causal_process::Ring;
 use causal_shared::fault::{FinishFault, SharedFault};
 use causal_shared::seat::Seat;
@@ -15,12 +16,19 @@ mod calls;
 mod doubles;
 mod full;
 mod random;
-mod recovery;
 mod threads;
+
+/// A core of these processes, for f failures.
+fn started(alloc: Global, boxes: Vec<Boxed>, f: u16) -> Option<Core<MemStable>> {
+    Core::start(alloc, f, boxes, MemStable::new(alloc)).ok()
+}
 
 /// A core of n processes of a kind, for f failures.
 fn begun(alloc: Global, kind: Kind, n: u8, f: u16) -> Option<Core<MemStable>> {
-    runtime::begun(alloc, kind, n, f, MemStable::new(alloc)).ok()
+    match processes(alloc, kind, n) {
+        Ok(boxes) => started(alloc, boxes, f),
+        Err(NoMemory) => None,
+    }
 }
 
 /// That core behind a lock, with one to 64 seats.
@@ -39,9 +47,12 @@ fn alone(alloc: Global, core: Core<MemStable>, tag: u64) -> Option<(Shared<MemSt
     Some((shared, seats.pop()?))
 }
 
-/// A new core of n processes of a kind, for f failures, behind a lock with one seat.
-fn begun_alone(alloc: Global, kind: Kind, n: u8, f: u16) -> Option<(Shared<MemStable>, Seat)> {
-    alone(alloc, begun(alloc, kind, n, f)?, 7)
+/// Two processes that echo a count of three, with a seat for each.
+fn two_echoes(alloc: Global) -> Option<(Shared<MemStable>, Vec<Seat>)> {
+    match begun(alloc, Kind::Echo(3), 2, 1) {
+        Some(core) => opened(alloc, core, 2, 7),
+        None => None,
+    }
 }
 
 /// The message that is first pending at q.
@@ -51,8 +62,10 @@ fn first_pending<R: Wait>(
     seat: &mut Seat,
     q: Pid,
 ) -> Option<MsgName> {
-    let names = shared.pending(rt, seat, q).ok()?;
-    names.first().copied()
+    match shared.pending(rt, seat, q) {
+        Ok(names) => names.first().copied(),
+        Err(_) => None,
+    }
 }
 
 /// Delivers the first message that is pending at q; tells whether there was one and it was delivered.
@@ -73,23 +86,98 @@ fn crash<R: Wait>(
     shared.crash(rt, seat, Pid(p)).err()
 }
 
+/// How many items a runtime's history and how many entries its trace has, which is accepted.
+fn extent(end: &Finished<MemStable>, alloc: Global) -> Option<(usize, u32)> {
+    match audited(alloc, &end.core) {
+        Ok(Verdict::Accept) => Some((end.history.as_slice().len(), end.core.trace().len())),
+        _ => None,
+    }
+}
+
+/// Ends a runtime with these seats: its extent, or why it does not end.
+fn ended(
+    alloc: Global,
+    shared: Shared<MemStable>,
+    seats: Vec<Seat>,
+) -> Result<Option<(usize, u32)>, FinishFault> {
+    match finish(shared, seats) {
+        Ok(end) => Ok(extent(&end, alloc)),
+        Err(fault) => Err(fault),
+    }
+}
+
 /// Ends a runtime of one seat.
-fn finished(
+fn left(
     alloc: Global,
     shared: Shared<MemStable>,
     seat: Seat,
-) -> Option<Result<Finished<MemStable>, FinishFault>> {
+) -> Option<Result<Option<(usize, u32)>, FinishFault>> {
     let mut seats = Vec::new(alloc);
     seats.push(seat).ok()?;
-    Some(finish(shared, seats))
+    Some(ended(alloc, shared, seats))
 }
 
-fn ended(alloc: Global, shared: Shared<MemStable>, seat: Seat) -> Option<Finished<MemStable>> {
-    finished(alloc, shared, seat)?.ok()
+/// What happens on a runtime of one seat.
+#[derive(Clone, Copy)]
+enum Scene {
+    Refusal,
+    Strangers,
+    AllPending,
+    FullHistory,
+    StepMadeAgain,
 }
 
-/// How many items its history then has, and how many entries its trace.
-fn extent(alloc: Global, shared: Shared<MemStable>, seat: Seat) -> Option<(usize, u32)> {
-    let end = ended(alloc, shared, seat)?;
-    Some((end.history.as_slice().len(), end.core.trace().len()))
+impl Scene {
+    fn begun(self, alloc: Global) -> Option<Core<MemStable>> {
+        match self {
+            Scene::Refusal | Scene::FullHistory => begun(alloc, Kind::Ring(0), 1, 0),
+            Scene::Strangers => begun(alloc, Kind::Echo(3), 2, 1),
+            Scene::AllPending => begun(alloc, Kind::Tally, 3, 1),
+            Scene::StepMadeAgain => doubles::begun_scarce(alloc),
+        }
+    }
+
+    fn is_right_on<R: Wait>(
+        self,
+        rt: &R,
+        alloc: Global,
+        shared: &Shared<MemStable>,
+        seat: &mut Seat,
+    ) -> bool {
+        match self {
+            Scene::Refusal => calls::is_refused(rt, shared, seat),
+            Scene::Strangers => calls::is_wrong(rt, alloc, shared) && seat.count() == 0,
+            Scene::AllPending => calls::are_all_pending(rt, shared, seat),
+            Scene::FullHistory => full::fills_up(rt, shared, seat),
+            Scene::StepMadeAgain => doubles::is_made_again(rt, shared, seat),
+        }
+    }
+
+    /// How many items and how many entries there are in the end.
+    fn extent(self) -> (usize, u32) {
+        match self {
+            Scene::Refusal => (1, 1),
+            Scene::Strangers | Scene::AllPending => (0, 2),
+            Scene::FullHistory => (1_048_576, 1),
+            Scene::StepMadeAgain => (2, 3),
+        }
+    }
+
+    fn opened(self, alloc: Global) -> Option<(Shared<MemStable>, Seat)> {
+        match self.begun(alloc) {
+            Some(core) => alone(alloc, core, 7),
+            None => None,
+        }
+    }
+
+    /// Whether all is answered as it has to be, and the runtime then ends with what was made.
+    fn is_right<R: Wait>(self, rt: &R, alloc: Global) -> bool {
+        match self.opened(alloc) {
+            Some((shared, mut seat)) => {
+                self.is_right_on(rt, alloc, &shared, &mut seat)
+                    && left(alloc, shared, seat) == Some(Ok(Some(self.extent())))
+            }
+            None => false,
+        }
+    }
 }

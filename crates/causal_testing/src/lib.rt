@@ -13,15 +13,7 @@ pub use crate::entries::{Fields, Line, RING, det, push, push_all, traced};
 pub use crate::numbers::Numbers;
 
 #[cfg(test)]
-mod audits;
-#[cfg(test)]
 mod clocks;
-#[cfg(test)]
-mod explanations;
-#[cfg(test)]
-mod holders;
-#[cfg(test)]
-mod pictures;
 #[cfg(test)]
 mod text;
 #[cfg(test)]

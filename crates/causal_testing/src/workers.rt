@@ -2,41 +2,92 @@
 //! (`examples/commands/`).
 ghost use Rattle.std.specs.Prelude.{⊤};
 
-use crate::texts::{DELIVERED, DOUBLED, RING};
-use crate::{Line, push};
+use crate::{Line, RING, push_all, traced};
 use causal_audit::Verdict;
 use causal_holders::Holders;
-use causal_text::{TextFault, TextKind, read_trace};
 use causal_trace::fault::TraceFault;
 use causal_trace::trace::Trace;
-use causal_workers::{AuditTextFault, Gate, Judged, OpenGate, audit, audit_text};
+use causal_workers::{Gate, Judged, OpenGate, audit, audit_text};
 use std::alloc::Global;
 use std::sync::Wait;
 use std::sync::atomic::{AtomicU64, Ordering};
-use std::test::Fail;
 use std::thread;
 use std::thread::Threads;
 
 #[test]
-fn a_text_with_a_fault_gets_no_verdict(rt: HostRuntime) {
-    for (text, line, kind) in [
-        (DELIVERED, 4, TextKind::Cut),
-        (DOUBLED, 4, TextKind::Doubled),
-    ] {
-        let found = audit_text(&rt, rt.alloc(), text.as_bytes(), 0, 2, &OpenGate);
-        assert_eq!(rt; found, Err(AuditTextFault::Text(TextFault { line, kind })));
-    }
-}
-
-#[test]
 fn a_judgement_has_its_counts(rt: HostRuntime) {
-    let found = audit_text(&rt, rt.alloc(), RING.as_bytes(), 1, 2, &OpenGate);
     let accepted = Judged {
         verdict: Verdict::Accept,
         entries: 6,
         deliveries: 3,
     };
-    assert_eq!(rt; found, Ok(accepted));
+    let found = audit_text(
+        &rt,
+        rt.alloc(),
+        crate::texts::RING.as_bytes(),
+        1,
+        2,
+        &OpenGate,
+    );
+    assert!(rt; found == Ok(accepted));
+}
+
+/// Two recorded runs, which are audited for one failure.
+#[derive(Clone, Copy)]
+enum Run {
+    Ring,
+    /// Process 0 sends many messages to process 1, which lists each as it delivers it; then 1 sends to 2, which lists nothing of them.
+    PassedOnBare,
+}
+
+/// More than two groups of deliveries, all of which are followed for one: with 1 down, 2 depends on the first, which nobody has.
+const MANY: u32 = 600;
+
+/// What process 1 sends, once it has delivered all.
+const LAST: [Line<'static>; 2] = [
+    Line::Send(1, 2, 0),
+    Line::Deliver(2, 1_200, 0, &[(1, 0, 2, 0)]),
+];
+
+/// Sends and delivers many messages.
+fn pass_on(alloc: Global, trace: &mut Trace) -> Result<(), TraceFault> {
+    for number in 0..MANY {
+        let lines = [
+            Line::Send(0, 1, number),
+            Line::Deliver(1, trace.len(), number, &[(0, number, 1, number)]),
+        ];
+        push_all(alloc, trace, &lines)?;
+    }
+    push_all(alloc, trace, &LAST)
+}
+
+fn passed_on_bare(alloc: Global) -> Result<Trace, TraceFault> {
+    let mut trace = Trace::new(alloc, 3)?;
+    pass_on(alloc, &mut trace)?;
+    Ok(trace)
+}
+
+impl Run {
+    fn recorded(self, alloc: Global) -> Result<Trace, TraceFault> {
+        match self {
+            Run::Ring => traced(alloc, 3, &RING),
+            Run::PassedOnBare => passed_on_bare(alloc),
+        }
+    }
+
+    fn verdict(self) -> Verdict {
+        let Run::PassedOnBare = self else {
+            return Verdict::Accept;
+        };
+        let mut crash = Holders::none();
+        crash.insert(1);
+        Verdict::Orphan {
+            instant: 1_202,
+            delivery: 1,
+            crash,
+            orphan: 2,
+        }
+    }
 }
 
 /// How often a worker looks whether the other has come.
@@ -60,6 +111,14 @@ impl Meeting {
             missed: AtomicU64::new(0),
         }
     }
+
+    /// Whether the two have met, and nobody else has come.
+    fn is_over(&self) -> bool {
+        self.missed.load(Ordering::SeqCst) == 0
+            && self.first.load(Ordering::SeqCst) == 1
+            && self.second.load(Ordering::SeqCst) == 1
+            && self.strangers.load(Ordering::SeqCst) == 0
+    }
 }
 
 impl Gate for Meeting {
@@ -82,73 +141,38 @@ impl Gate for Meeting {
     }
 }
 
-/// Whether two workers meet, each enters once, and their audit gives this verdict.
-fn have_met<R: Threads + Wait>(
+/// Whether an audit of so many workers for one failure gives this verdict.
+fn gives<R: Threads + Wait, G: Gate + Sync>(
     rt: &R,
     alloc: Global,
     trace: &Trace,
-    f: u16,
+    workers: u32,
+    gate: &G,
     verdict: Verdict,
-) -> Result<bool, Fail> {
+) -> bool {
+    match audit(rt, alloc, trace, 1, workers.clamp(1, 64), gate) {
+        Ok(found) => found == verdict,
+        Err(_) => false,
+    }
+}
+
+/// Whether two workers meet that audit a run, each enters once, and their verdict is right.
+fn have_met<R: Threads + Wait>(rt: &R, alloc: Global, run: Run) -> bool {
     let gate = Meeting::new();
-    let found = audit(rt, alloc, trace, f, 2, &gate)?;
-    Ok(
-        gate.missed.load(Ordering::SeqCst) == 0
-            && gate.first.load(Ordering::SeqCst) == 1
-            && gate.second.load(Ordering::SeqCst) == 1
-            && gate.strangers.load(Ordering::SeqCst) == 0
-            && found == verdict,
-    )
-}
-
-#[test]
-fn audit_workers_overlap(rt: HostRuntime) -> Result<(), Fail> {
-    let trace = read_trace(rt.alloc(), RING.as_bytes()).map_err(|_| "no trace")?;
-    assert!(rt; have_met(&rt, rt.alloc(), &trace, 1, Verdict::Accept)?);
-    Ok(())
-}
-
-/// Process 0 sends so many messages to process 1, which lists each as it delivers it; then 1 sends to 2, which lists nothing of them.
-fn passed_on_bare(alloc: Global, count: u32) -> Result<Trace, TraceFault> {
-    let mut trace = Trace::new(alloc, 3)?;
-    for number in 0..count {
-        let send = trace.len();
-        push(alloc, &mut trace, Line::Send(0, 1, number))?;
-        push(
-            alloc,
-            &mut trace,
-            Line::Deliver(1, send, number, &[(0, number, 1, number)]),
-        )?;
-    }
-    let send = trace.len();
-    push(alloc, &mut trace, Line::Send(1, 2, 0))?;
-    push(
-        alloc,
-        &mut trace,
-        Line::Deliver(2, send, 0, &[(1, 0, 2, 0)]),
-    )?;
-    Ok(trace)
-}
-
-/// More than two groups of deliveries, all of which are followed for one: with 1 down, 2 depends on the first, which nobody has.
-const MANY: u32 = 600;
-
-fn lost() -> Verdict {
-    let mut crash = Holders::none();
-    crash.insert(1);
-    Verdict::Orphan {
-        instant: 1_202,
-        delivery: 1,
-        crash,
-        orphan: 2,
+    match run.recorded(alloc) {
+        Ok(trace) => gives(rt, alloc, &trace, 2, &gate, run.verdict()) && gate.is_over(),
+        Err(_) => false,
     }
 }
 
 #[test]
-fn workers_overlap_that_have_deliveries_to_follow(rt: HostRuntime) -> Result<(), Fail> {
-    let trace = passed_on_bare(rt.alloc(), MANY)?;
-    assert!(rt; have_met(&rt, rt.alloc(), &trace, 1, lost())?);
-    Ok(())
+fn audit_workers_overlap(rt: HostRuntime) {
+    assert!(rt; have_met(&rt, rt.alloc(), Run::Ring));
+}
+
+#[test]
+fn workers_overlap_that_have_deliveries_to_follow(rt: HostRuntime) {
+    assert!(rt; have_met(&rt, rt.alloc(), Run::PassedOnBare));
 }
 
 /// Counts who enters: each number below 64, and how often one enters again or is no worker's.
@@ -157,6 +181,23 @@ struct Counting {
     entered: AtomicU64,
     again: AtomicU64,
     strangers: AtomicU64,
+}
+
+impl Counting {
+    fn new() -> Counting {
+        Counting {
+            entered: AtomicU64::new(0),
+            again: AtomicU64::new(0),
+            strangers: AtomicU64::new(0),
+        }
+    }
+
+    /// Whether just the workers of these bits have entered, each once.
+    fn is_of(&self, all: u64) -> bool {
+        self.entered.load(Ordering::SeqCst) == all
+            && self.again.load(Ordering::SeqCst) == 0
+            && self.strangers.load(Ordering::SeqCst) == 0
+    }
 }
 
 impl Gate for Counting {
@@ -174,51 +215,32 @@ impl Gate for Counting {
     }
 }
 
-/// The numbers of workers, and the bits of all of each.
-const ENTERED: [(u32, u64); 3] = [(1, 1), (5, 31), (64, u64::MAX)];
-
-/// Whether each of so many workers enters once, and nobody else, and their audit gives this verdict.
-fn have_entered<R: Threads + Wait>(
-    rt: &R,
-    alloc: Global,
-    trace: &Trace,
-    f: u16,
-    entered: (u32, u64),
-    verdict: Verdict,
-) -> Result<bool, Fail> {
-    let gate = Counting {
-        entered: AtomicU64::new(0),
-        again: AtomicU64::new(0),
-        strangers: AtomicU64::new(0),
-    };
-    let (workers, all) = entered;
-    let found = audit(rt, alloc, trace, f, workers.clamp(1, 64), &gate)?;
-    Ok(
-        gate.entered.load(Ordering::SeqCst) == all
-            && gate.again.load(Ordering::SeqCst) == 0
-            && gate.strangers.load(Ordering::SeqCst) == 0
-            && found == verdict,
-    )
+/// Whether each of so many workers, whose bits these are, enters once, and nobody else, and their verdict is right.
+fn enter_once<R: Threads + Wait>(rt: &R, alloc: Global, run: Run, workers: u32, all: u64) -> bool {
+    let gate = Counting::new();
+    match run.recorded(alloc) {
+        Ok(trace) => gives(rt, alloc, &trace, workers, &gate, run.verdict()) && gate.is_of(all),
+        Err(_) => false,
+    }
 }
 
-#[test]
-fn each_worker_enters_once_also_without_work(rt: HostRuntime) -> Result<(), Fail> {
-    let trace = read_trace(rt.alloc(), RING.as_bytes()).map_err(|_| "no trace")?;
-    for entered in ENTERED {
-        let met = have_entered(&rt, rt.alloc(), &trace, 1, entered, Verdict::Accept)?;
-        let (workers, _) = entered;
-        assert!(rt; met, "{workers} workers");
-    }
-    Ok(())
-}
+/// Runs, the numbers of workers, and the bits of all of each.
+const ENTERED: [(Run, u32, u64); 6] = [
+    (Run::Ring, 1, 1),
+    (Run::Ring, 5, 31),
+    (Run::Ring, 64, u64::MAX),
+    (Run::PassedOnBare, 1, 1),
+    (Run::PassedOnBare, 5, 31),
+    (Run::PassedOnBare, 64, u64::MAX),
+];
 
+// also where there are more workers than deliveries
 #[test]
-fn each_worker_enters_once_that_has_deliveries_to_follow(rt: HostRuntime) -> Result<(), Fail> {
-    let trace = passed_on_bare(rt.alloc(), MANY)?;
-    for entered in ENTERED {
-        let met = have_entered(&rt, rt.alloc(), &trace, 1, entered, lost())?;
-        let (workers, _) = entered;
-        assert!(rt; met, "{workers} workers");
+fn each_worker_enters_once(rt: HostRuntime) {
+    for (run, workers, all) in &ENTERED {
+        assert!(rt;
+            enter_once(&rt, rt.alloc(), *run, *workers, *all),
+            "{workers} workers"
+        );
     }
-    Ok(())
 }

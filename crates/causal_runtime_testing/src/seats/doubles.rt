@@ -1,23 +1,22 @@
 //! A process that is refused memory once.
 use super::*;
 use crate::cores::doubles::Refusing;
-use std::test::Fail;
 
 /// A process that goes round with itself, whose first delivery is refused memory.
-fn scarce(alloc: Global) -> Option<Boxed> {
+fn scarce(alloc: Global) -> Result<Boxed, NoMemory> {
     let process = Refusing {
         inner: Ring::new(1, 0, 1),
         before_refusal: Some(1),
     };
-    let boxed: Boxed = Box::new(alloc, process).ok()?;
-    Some(boxed)
+    let boxed: Boxed = Box::new(alloc, process)?;
+    Ok(boxed)
 }
 
 /// A ring of that process alone.
-fn begun_scarce(alloc: Global) -> Option<Core<MemStable>> {
+pub(super) fn begun_scarce(alloc: Global) -> Option<Core<MemStable>> {
     let mut boxes = Vec::new(alloc);
-    boxes.push(scarce(alloc)?).ok()?;
-    Core::start(alloc, 0, boxes, MemStable::new(alloc)).ok()
+    boxes.push(scarce(alloc).ok()?).ok()?;
+    started(alloc, boxes, 0)
 }
 
 /// Asks for the delivery of the message that the process sends itself at its beginning, the only one that there is: the fault
@@ -30,30 +29,23 @@ fn deliver_own<R: Wait>(
     shared.deliver(rt, seat, Pid(0), Pid(0), 0).err()
 }
 
-/// Whether that delivery is refused memory, and the refusal is an item and changes nothing else.
-fn is_refused<R: Wait>(rt: &R, shared: &Shared<MemStable>, seat: &mut Seat) -> bool {
-    let fault = deliver_own(rt, shared, seat);
-    fault == Some(SharedFault::Core(CoreFault::NoMemory))
-        && (seat.count(), seat.seen()) == (1, 1)
-        && snapshot_extent(rt, shared, seat) == Some((1, 1))
+/// Whether a snapshot has one entry, and one call was made before it.
+fn is_as_begun<R: Wait>(rt: &R, shared: &Shared<MemStable>, seat: &mut Seat) -> bool {
+    match shared.snapshot(rt, seat) {
+        Ok(shown) => shown.trace.len() == 1 && shown.calls == 1,
+        Err(_) => false,
+    }
 }
 
-/// How many entries a snapshot has, and how many calls were made before it.
-fn snapshot_extent<R: Wait>(
-    rt: &R,
-    shared: &Shared<MemStable>,
-    seat: &mut Seat,
-) -> Option<(u32, u32)> {
-    let shown = shared.snapshot(rt, seat).ok()?;
-    Some((shown.trace.len(), shown.calls))
+/// Whether that delivery is refused memory, the refusal is an item and changes nothing else, and the delivery is then made.
+pub(super) fn is_made_again<R: Wait>(rt: &R, shared: &Shared<MemStable>, seat: &mut Seat) -> bool {
+    deliver_own(rt, shared, seat) == Some(SharedFault::Core(CoreFault::NoMemory))
+        && (seat.count(), seat.seen()) == (1, 1)
+        && is_as_begun(rt, shared, seat)
+        && deliver_own(rt, shared, seat).is_none()
 }
 
 #[test]
-fn a_step_is_refused_and_then_made(rt: HostRuntime) -> Result<(), Fail> {
-    let core = begun_scarce(rt.alloc()).ok_or("not begun")?;
-    let (shared, mut seat) = alone(rt.alloc(), core, 7).ok_or("not opened")?;
-    assert!(rt; is_refused(&rt, &shared, &mut seat));
-    assert_eq!(rt; deliver_own(&rt, &shared, &mut seat), None);
-    assert_eq!(rt; extent(rt.alloc(), shared, seat), Some((2, 3)));
-    Ok(())
+fn a_step_is_refused_and_then_made(rt: HostRuntime) {
+    assert!(rt; Scene::StepMadeAgain.is_right(&rt, rt.alloc()));
 }

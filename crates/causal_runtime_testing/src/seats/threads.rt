@@ -1,11 +1,8 @@
 //! Two seats on two threads, neither of which gets on without the other.
 use super::*;
-use crate::verdicts::is_accepted;
-use causal_audit::{Tables, Verdict, judge};
-use causal_name::NoMemory;
+use causal_audit::{Tables, judge};
 use causal_shared::item::{Item, Snapshot};
 use causal_trace::trace::Trace;
-use std::test::Fail;
 use std::thread;
 use std::thread::Threads;
 
@@ -15,26 +12,50 @@ const TURNS: u32 = 10_000_000;
 /// How many messages each of two processes gets that echo a count of three.
 const EACH: u32 = 4;
 
+/// A seat's first delivery, what it saw after that, and what the auditor says of this.
+#[derive(Drop)]
+struct Seen {
+    first: Item,
+    snapshot: Snapshot,
+    verdict: Option<Verdict>,
+}
+
 /// What a thread has done with its seat.
 #[derive(Drop)]
 struct Done {
     seat: Seat,
     delivered: u32,
-    /// Its first delivery, what it saw after that, and what the auditor says of this.
-    first: Option<Item>,
-    snapshot: Option<Snapshot>,
-    verdict: Option<Verdict>,
+    seen: Option<Seen>,
 }
 
 /// What the auditor says of a snapshot, for as many failures as its runtime runs for.
-fn verdict_on(alloc: Global, shown: &Snapshot) -> Result<Verdict, NoMemory> {
-    let tables = Tables::of(alloc, &shown.trace)?;
-    Ok(judge(&tables, shown.faults))
+fn verdict_on(alloc: Global, shown: &Snapshot) -> Option<Verdict> {
+    match Tables::of(alloc, &shown.trace) {
+        Ok(tables) => Some(judge(&tables, shown.faults)),
+        Err(NoMemory) => None,
+    }
+}
+
+/// Takes a snapshot after a delivery, and audits it while the other seats go on.
+fn look<R: Wait>(
+    rt: &R,
+    alloc: Global,
+    shared: &Shared<MemStable>,
+    seat: &mut Seat,
+) -> Option<Seen> {
+    let first = *seat.last()?;
+    match shared.snapshot(rt, seat) {
+        Ok(snapshot) => Some(Seen {
+            first,
+            verdict: verdict_on(alloc, &snapshot),
+            snapshot,
+        }),
+        Err(_) => None,
+    }
 }
 
 impl Done {
-    /// Makes one delivery to the process of the seat's number, if there is a message, and after the first takes a
-    /// snapshot, which it audits while the other seats go on.
+    /// Makes one delivery to the process of the seat's number, if there is a message, and looks after the first.
     fn turn<R: Wait>(&mut self, rt: &R, alloc: Global, shared: &Shared<MemStable>) {
         let q = Pid(self.seat.number().min(255) as u8);
         if !deliver_first(rt, shared, &mut self.seat, q) {
@@ -42,34 +63,9 @@ impl Done {
             return;
         }
         self.delivered = self.delivered.saturating_add(1);
-        if self.snapshot.is_none() {
-            self.first = self.seat.last().copied();
-            self.snapshot = shared.snapshot(rt, &mut self.seat).ok();
-            self.audit(alloc);
+        if self.seen.is_none() {
+            self.seen = look(rt, alloc, shared, &mut self.seat);
         }
-    }
-
-    /// Audits the snapshot.
-    fn audit(&mut self, alloc: Global) {
-        if let Some(shown) = &self.snapshot {
-            self.verdict = verdict_on(alloc, shown).ok();
-        }
-    }
-
-    /// Whether the snapshot has the first delivery that the seat made.
-    fn is_shown(&self) -> bool {
-        match (&self.first, &self.snapshot) {
-            (Some(item), Some(snapshot)) => shows(&snapshot.trace, item),
-            _ => false,
-        }
-    }
-}
-
-/// Whether the trace has the delivery that the item tells at the item's place.
-fn shows(trace: &Trace, item: &Item) -> bool {
-    match item.reply {
-        Reply::Delivered(delivered) => trace.det_at(item.first) == Some(delivered.det),
-        _ => false,
     }
 }
 
@@ -78,9 +74,7 @@ fn delivers_all<R: Wait>(rt: &R, alloc: Global, shared: &Shared<MemStable>, seat
     let mut done = Done {
         seat,
         delivered: 0,
-        first: None,
-        snapshot: None,
-        verdict: None,
+        seen: None,
     };
     for _ in 0..TURNS {
         if done.delivered == EACH {
@@ -91,138 +85,139 @@ fn delivers_all<R: Wait>(rt: &R, alloc: Global, shared: &Shared<MemStable>, seat
     done
 }
 
-/// Two processes that echo a count of three, with a thread for each.
-fn overlapped<R: Threads + Wait + Sync>(
+/// What two threads have done, each with a seat of its own.
+fn delivered<R: Threads + Wait + Sync>(
     rt: &R,
     alloc: Global,
-) -> Option<(Shared<MemStable>, Vec<Done>)> {
-    let core = begun(alloc, Kind::Echo(3), 2, 1)?;
-    let (shared, seats) = opened(alloc, core, 2, 7)?;
-    let done = {
-        let one = &shared;
-        thread::map_vec(rt, seats, &|seat| delivers_all(rt, alloc, one, seat)).ok()?
-    };
-    Some((shared, done))
+    shared: &Shared<MemStable>,
+    seats: Vec<Seat>,
+) -> Option<Vec<Done>> {
+    thread::map_vec(rt, seats, &|seat| delivers_all(rt, alloc, shared, seat)).ok()
 }
 
-/// Ends a runtime with the seats of all threads.
-fn ended_with(
-    alloc: Global,
-    shared: Shared<MemStable>,
-    done: Vec<Done>,
-) -> Option<Finished<MemStable>> {
-    let mut seats = Vec::new(alloc);
-    for one in done {
-        seats.push(one.seat).ok()?;
+/// Whether the trace has the delivery that the item tells at the item's place.
+fn shows(trace: &Trace, item: &Item) -> bool {
+    match item.reply {
+        Reply::Delivered(delivered) => trace.det_at(item.first) == Some(delivered.det),
+        _ => false,
     }
-    finish(shared, seats).ok()
 }
 
-/// Whether all seats have made their deliveries, and each of these is an item.
+/// Whether a seat has made its deliveries, each of which is an item, and saw the first of them.
+fn has_met(done: &Done) -> bool {
+    match &done.seen {
+        Some(seen) => {
+            done.delivered == 4
+                && done.seat.count() == 4
+                && shows(&seen.snapshot.trace, &seen.first)
+        }
+        None => false,
+    }
+}
+
+/// Whether a seat's snapshot was accepted, beside a seat that went on, and has a part of the trace, from its beginning.
+fn has_seen(done: &Done, trace: &Trace) -> bool {
+    match &done.seen {
+        Some(seen) => {
+            seen.verdict == Some(Verdict::Accept)
+                && seen.snapshot.faults == 1
+                && seen.snapshot.trace.len() < trace.len()
+                && trace.entries().starts_with(seen.snapshot.trace.entries())
+        }
+        None => false,
+    }
+}
+
 fn have_met(done: &[Done]) -> bool {
     for one in done {
-        if one.delivered != 4 || one.seat.count() != 4 || !one.is_shown() {
+        if !has_met(one) {
             return false;
         }
     }
     true
 }
 
-/// The last item of each seat.
-fn last_items(alloc: Global, done: &[Done]) -> Option<Vec<Item>> {
-    let mut last = Vec::new(alloc);
+fn have_seen(done: &[Done], trace: &Trace) -> bool {
     for one in done {
-        last.push(*one.seat.last()?).ok()?;
-    }
-    Some(last)
-}
-
-fn contain_all(items: &[Item], last: &[Item]) -> bool {
-    for item in last {
-        if !items.contains(item) {
+        if !has_seen(one, trace) {
             return false;
         }
     }
     true
 }
 
-/// Whether the history and the trace of both have all, these items too.
-fn has_all(end: &Finished<MemStable>, last: &[Item]) -> bool {
-    let items = end.history.as_slice();
-    let trace = end.core.trace();
-    (items.len(), trace.len(), trace.deliveries()) == (8, 16, 8) && contain_all(items, last)
+/// The seats of threads that are done.
+fn seats_of(alloc: Global, all: Vec<Done>) -> Option<Vec<Seat>> {
+    let mut seats = Vec::new(alloc);
+    for done in all {
+        seats.push(done.seat).ok()?;
+    }
+    Some(seats)
 }
 
-/// What is left of a runtime whose seats have met, and the last item of each.
-fn ended_and_last<R: Threads + Wait + Sync>(
-    rt: &R,
-    alloc: Global,
-) -> Result<(Finished<MemStable>, Vec<Item>), &'static str> {
-    let (shared, done) = overlapped(rt, alloc).ok_or("not opened")?;
-    if !have_met(done.as_slice()) {
-        return Err("the seats did not meet");
+/// Whether the runtime then ends with all eight items, and 16 entries.
+fn ends_whole(alloc: Global, shared: Shared<MemStable>, done: Vec<Done>) -> bool {
+    match seats_of(alloc, done) {
+        Some(seats) => ended(alloc, shared, seats) == Ok(Some((8, 16))),
+        None => false,
     }
-    let last = last_items(alloc, done.as_slice()).ok_or("no item")?;
-    let end = ended_with(alloc, shared, done).ok_or("not finished")?;
-    Ok((end, last))
+}
+
+/// What is recorded once all threads are done.
+fn recorded<R: Wait>(rt: &R, shared: &Shared<MemStable>, done: &mut [Done]) -> Option<Snapshot> {
+    let one = done.first_mut()?;
+    shared.snapshot(rt, &mut one.seat).ok()
+}
+
+/// What is asked of seats that overlap.
+#[derive(Clone, Copy)]
+enum Asked {
+    Met,
+    Seen,
+}
+
+impl Asked {
+    fn is_right<R: Wait>(self, rt: &R, shared: &Shared<MemStable>, done: &mut [Done]) -> bool {
+        match self {
+            Asked::Met => have_met(done),
+            Asked::Seen => match recorded(rt, shared, done) {
+                Some(whole) => have_seen(done, &whole.trace),
+                None => false,
+            },
+        }
+    }
+
+    /// Whether that is right, of two processes that echo a count of three, with a thread for each.
+    fn is_right_of<R: Threads + Wait + Sync>(
+        self,
+        rt: &R,
+        alloc: Global,
+        shared: Shared<MemStable>,
+        seats: Vec<Seat>,
+    ) -> bool {
+        match delivered(rt, alloc, &shared, seats) {
+            Some(mut done) => {
+                self.is_right(rt, &shared, done.as_mut_slice()) && ends_whole(alloc, shared, done)
+            }
+            None => false,
+        }
+    }
 }
 
 #[test]
-fn seats_overlap(rt: HostRuntime) -> Result<(), Fail> {
-    let (end, last) = ended_and_last(&rt, rt.alloc())?;
-    assert!(rt; has_all(&end, last.as_slice()));
-    assert!(rt; is_accepted(rt.alloc(), &end.core)?);
-    Ok(())
-}
-
-/// Takes the snapshot of each seat.
-fn snapshots_of(alloc: Global, done: &mut [Done]) -> Option<Vec<Snapshot>> {
-    let mut snapshots = Vec::new(alloc);
-    for one in done {
-        snapshots.push(one.snapshot.take()?).ok()?;
-    }
-    Some(snapshots)
-}
-
-/// Whether the auditor accepted each snapshot, beside a seat that went on.
-fn have_accepted(done: &[Done]) -> bool {
-    for one in done {
-        if one.verdict != Some(Verdict::Accept) {
-            return false;
-        }
-    }
-    true
-}
-
-/// Whether these snapshots each have a part of a trace, from its beginning.
-fn are_parts(snapshots: &[Snapshot], trace: &Trace) -> bool {
-    let entries = trace.entries();
-    for snapshot in snapshots {
-        let part = snapshot.trace.entries();
-        if snapshot.faults != 1 || part.len() >= entries.len() || !entries.starts_with(part) {
-            return false;
-        }
-    }
-    true
-}
-
-/// What is left of a runtime whose seats each had a snapshot accepted, and these snapshots.
-fn ended_and_seen<R: Threads + Wait + Sync>(
-    rt: &R,
-    alloc: Global,
-) -> Result<(Finished<MemStable>, Vec<Snapshot>), &'static str> {
-    let (shared, mut done) = overlapped(rt, alloc).ok_or("not opened")?;
-    if !have_accepted(done.as_slice()) {
-        return Err("a snapshot is not accepted");
-    }
-    let seen = snapshots_of(alloc, done.as_mut_slice()).ok_or("no snapshot")?;
-    let end = ended_with(alloc, shared, done).ok_or("not finished")?;
-    Ok((end, seen))
+fn seats_overlap(rt: HostRuntime) {
+    let right = match two_echoes(rt.alloc()) {
+        Some((shared, seats)) => Asked::Met.is_right_of(&rt, rt.alloc(), shared, seats),
+        None => false,
+    };
+    assert!(rt; right);
 }
 
 #[test]
-fn snapshot_beside(rt: HostRuntime) -> Result<(), Fail> {
-    let (end, seen) = ended_and_seen(&rt, rt.alloc())?;
-    assert!(rt; are_parts(seen.as_slice(), end.core.trace()));
-    Ok(())
+fn snapshot_beside(rt: HostRuntime) {
+    let right = match two_echoes(rt.alloc()) {
+        Some((shared, seats)) => Asked::Seen.is_right_of(&rt, rt.alloc(), shared, seats),
+        None => false,
+    };
+    assert!(rt; right);
 }
