@@ -13,6 +13,8 @@ pub use crate::entries::{Fields, Line, RING, det, push, push_all, traced};
 pub use crate::numbers::Numbers;
 
 #[cfg(test)]
+mod audits;
+#[cfg(test)]
 mod clocks;
 #[cfg(test)]
 mod text;
