@@ -19,7 +19,7 @@ use Rattle.causal_audit.proofs.Swept.{sweep_law, one_new_orphan}
 use Rattle.causal_audit.proofs.Orphaned.{accepted_next, first_breach_is}
 use Rattle.causal_audit.proofs.group.Reaching.{left_in, left_out, none_in}
 use Rattle.causal_audit.proofs.Steps.{up_to_next}
-use Rattle.causal_audit.proofs.group.Windowed.{position}
+use Rattle.causal_audit.proofs.group.Windowed.{position, zero}
 use Rattle.causal_audit.specs.declared.group.room.Room.{Room}
 use Rattle.causal_audit.specs.declared.group.reach.Reach.{Reach}
 use Rattle.causal_audit.proofs.Shown.{inserted}
@@ -370,19 +370,28 @@ room_within many few room low is = record {
 pub none_of_all : (r : Recording) (f end : ℕ) (windows : List Window) → LeastAmongBy r f end (positions_of windows) None → HaveNone r f windows end
 none_of_all r f end windows none j low u within has = none (position_at windows j) u (among_windows windows j low) within has
 
--- those that are asked, without one whose window is over
-pub asked_next : (r : Recording) (f end t : ℕ) (windows : List Window) (old new : FinSet nat_cmp) → AreAsked r f end windows old → HaveNone r f windows t → All (IsWindow r f end) windows
-    → ((j : ℕ) → contains new j ≡ true → contains old j ≡ true) → ((j : ℕ) → contains old j ≡ true → contains new j ≡ false → (window_at windows j).until ≤ t + 1) → AreAsked r f end windows new
-asked_next r f end t windows old new was none later left over = record {
-  places = λ j h. was.places j (left j h);
-  others = λ j low out. elim (in_or_out old j) [
-    | inl still ↦ λ u within has. elim (cases_lt t u) [
-      | inl late ↦ later j (record { position = 0; until = 0 }) low u (omega (arith, late, over j still out)) within has
-      | inr early ↦ none j low u early has
-    ]
-    | inr gone ↦ was.others j low gone
-  ];
+-- ---- which of them are still asked
+
+-- one whose window is over has no orphan
+pub none_over : (r : Recording) (f t : ℕ) (windows : List Window) (j : ℕ) → j < length windows → All (IsWindow r f (t + 1)) windows → HaveNone r f windows t → (window_at windows j).until ≤ t + 1
+    → HasNoOrphanBy r f (position_at windows j) (t + 1)
+none_over r f t windows j low later none over u within has = elim (cases_lt t u) [
+  | inl late ↦ later j zero low u (omega (arith, late, over)) within has
+  | inr early ↦ none j low u early has
+]
+
+-- it is not asked any more
+pub asked_less : (windows : List Window) (t place : ℕ) (asked : FinSet nat_cmp) → AreAsked windows t asked → (window_at windows place).until ≤ t → AreAsked windows t (remove asked place)
+asked_less windows t place asked are over = record {
+  places = λ j h. are.places j (left_in asked place j h).0;
+  over = λ j low out. elim (left_out asked place j out) [ inl is ↦ subst (λ i. (window_at windows i).until ≤ t) (sym is) over | inr gone ↦ are.over j low gone ];
 }
+
+-- and nothing changes
+pub judged_over : (r : Recording) (f : ℕ) (windows : List Window) (t : ℕ) (places rest : FinSet nat_cmp) (least : Option Breach) (p : ℕ) → contains rest p ≡ true → HaveJudged r f windows t places rest least
+    → Contains (positions_of windows) (position_at windows p) → HasNoOrphanBy r f (position_at windows p) (t + 1) → HaveJudged r f windows t places (remove rest p) least
+judged_over r f windows t places rest None p within so_far among none = judged_more r f windows t places rest None None p within so_far among none
+judged_over r f windows t places rest (Some b) p within so_far among none = judged_more r f windows t places rest (Some b) None p within so_far among none
 
 -- the places of one window more
 pub places_more : (places : FinSet nat_cmp) (place : ℕ) → ((j : ℕ) → (contains places j ≡ true) ↔ (j < place)) → (j : ℕ) → (contains (insert places place) j ≡ true) ↔ (j < place + 1)

@@ -1,8 +1,9 @@
 //! Which delivery of a group has an orphan at one instant.
 ghost use Rattle.std.specs.Prelude.{◌≡◌, ◌<◌, ◌≤◌, ◌+◌, ℕ, length};
 ghost use Rattle.std.specs.FinSet as set;
+ghost use Rattle.std.specs.List.{All};
 ghost use Rattle.causal_audit.specs.Inside.Among.{LeastAmongBy};
-ghost use Rattle.causal_audit.specs.Inside.Group.Scans.{positions_of};
+ghost use Rattle.causal_audit.specs.Inside.Group.Scans.{IsWindow, positions_of};
 ghost use Rattle.causal_audit.specs.Inside.Group.Walk.{AreAsked, HaveNone, IsFollowed, IsStep, TellsBreachOf, row};
 
 use crate::breach::{Breach, earlier};
@@ -52,32 +53,38 @@ fn judge_one(room: &Room, f: u16, k: u32, place: u8, t: u32) -> Option<Breach>
 }
 
 /// How a delivery of a group first has an orphan after the entry of a step, if one has: that of the least position. Of those that
-/// are still asked only those are that may newly have one.
+/// are still asked only those are that may newly have one. One whose window turns out to be over is asked no more.
 pub fn judge(
     room: &Room,
     trace: &Trace,
     f: u16,
     windows: &[Window],
     step: &Step<'_>,
-    asked: Holders,
+    asked: &mut Holders,
 ) -> Option<Breach>
-    requires asked { AreAsked trace.now.recording f (step.now.t + 1) windows.now asked }
+    requires windows { All (IsWindow trace.now.recording f (step.now.t + 1)) windows.now }
+    requires asked { AreAsked windows.now step.now.t asked.old }
     requires copies { length room.now.copies.items ≡ 256 }
     requires present { length room.now.reach.present.items ≡ 256 }
     requires step { IsStep trace.now.recording windows.now step.now }
     requires followed { IsFollowed trace.now.recording windows.now room.now.reach.start (step.now.t + 1) room.now }
     requires none { HaveNone trace.now.recording f windows.now step.now.t }
+    ensures asked { AreAsked windows.now (step.now.t + 1) asked.new }
     ensures followed { IsFollowed trace.now.recording windows.now room.now.reach.start (step.now.t + 1) room.now }
     ensures found { LeastAmongBy trace.now.recording f (step.now.t + 1) (positions_of windows.now) result }
 {
     let places = suspected(step, &room.reach.present, &room.held, trace.processes());
     let mut least = None;
-    let mut rest = both(asked, places);
+    let mut rest = both(*asked, places);
     while let Some(place) = rest.least() {
         rest.remove(place);
-        let position = windows[usize::from(place)].position;
-        let found = judge_one(room, f, position, place, step.t + 1);
-        least = earlier(least, found);
+        let window = windows[usize::from(place)];
+        if window.until <= step.t + 1 {
+            asked.remove(place);
+        } else {
+            let found = judge_one(room, f, window.position, place, step.t + 1);
+            least = earlier(least, found);
+        }
     }
     least
 }

@@ -1,9 +1,8 @@
 //! The least breach of the deliveries of a group, by one walk over the entries.
-ghost use Rattle.std.specs.Prelude.{◌≡◌, ◌<◌, ◌≤◌, ℕ, true, false, length};
-ghost use Rattle.std.specs.FinSet as set;
+ghost use Rattle.std.specs.Prelude.{◌≤◌, ℕ, length};
 ghost use Rattle.std.specs.List.{All};
 ghost use Rattle.causal_audit.specs.Inside.Among.{LeastAmongBy};
-ghost use Rattle.causal_audit.specs.Inside.Group.Walk.{HasRoom, HasRowsFor, HaveNone, IsFollowed, window_at};
+ghost use Rattle.causal_audit.specs.Inside.Group.Walk.{HasRoom, HasRowsFor, HaveNone, IsFollowed};
 ghost use Rattle.causal_audit.specs.Inside.Group.Scans.{IsDeliveryAt, IsWindow, positions_of};
 
 use crate::breach::{Breach, earlier, horizon};
@@ -14,27 +13,11 @@ use crate::group::reach::set_at;
 use crate::group::room::{Room, places_of};
 use crate::group::scan::{Scan, Window, last_of};
 use crate::group::suspects::Step;
-use crate::sight::{down_after, without};
-use causal_holders::Holders;
+use crate::sight::down_after;
 use causal_trace::trace::Trace;
 
 /// How many deliveries are followed by one walk.
 pub const GROUP: usize = 256;
-
-/// The places that are asked from the instant t on: without the least of them, if its window is over. As the windows stand by their
-/// ends, it is the first to be over.
-#[tactic(auto, using(crate::proofs::group::Reaching::left_in, crate::proofs::group::Reaching::left_out))]
-fn without_over(asked: Holders, windows: &[Window], t: u32) -> Holders
-    requires { (j : ℕ) → set.contains asked j ≡ true → j < length windows.now }
-    ensures left { (j : ℕ) → set.contains result j ≡ true → set.contains asked j ≡ true }
-    ensures over { (j : ℕ) → set.contains asked j ≡ true → set.contains result j ≡ false →
-        (window_at windows.now j).until ≤ t }
-{
-    match asked.least() {
-        Some(place) if windows[usize::from(place)].until <= t => without(asked, place),
-        _ => asked,
-    }
-}
 
 /// The least breach of the deliveries of a group, if it comes by the instant `end`, by a walk over the entries from `start` up
 /// to it. The room is ready for that.
@@ -75,8 +58,7 @@ fn follow(
         renew(&mut room.copies, entry, mentioned, places);
         hold(&mut room.held, entry, mentioned);
         room.down = down_after(room.down, entry);
-        asked = without_over(asked, windows, t + 1);
-        if let Some(found) = judge(&*room, trace, f, windows, &step, asked) {
+        if let Some(found) = judge(&*room, trace, f, windows, &step, &mut asked) {
             return Some(found);
         }
     }

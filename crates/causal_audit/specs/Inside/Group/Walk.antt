@@ -187,10 +187,10 @@ AreHeldBefore r windows s places =
 abbrev pub HaveNone : Recording → ℕ → List Window → ℕ → Type 0
 HaveNone r f windows t = (j : ℕ) → j < length windows → HasNoOrphanBy r f (position_at windows j) t
 
--- the places are of windows, and of the other windows no delivery has an orphan up to the instant t
-pub record AreAsked (r : Recording) (f t : ℕ) (windows : List Window) (asked : FinSet nat_cmp) : Type 0 where
+-- the places are of windows, and the other windows are over at the instant t
+pub record AreAsked (windows : List Window) (t : ℕ) (asked : FinSet nat_cmp) : Type 0 where
   pub places : (j : ℕ) → contains asked j ≡ true → j < length windows
-  pub others : (j : ℕ) → j < length windows → contains asked j ≡ false → HasNoOrphanBy r f (position_at windows j) t
+  pub over : (j : ℕ) → j < length windows → contains asked j ≡ false → (window_at windows j).until ≤ t
 
 -- the places of a group
 abbrev pub ArePlaces : List Window → FinSet nat_cmp → Type 0

@@ -4,7 +4,7 @@ use Rattle.causal_audit.specs.Inside.Group.Scans.{positions_of}
 use Rattle.causal_audit.specs.Inside.Group.Walk.{row, IsFollowed, IsHeldBy, IsHeldSo}
 use Rattle.causal_audit.specs.Inside.Sights.{Shows}
 use Rattle.causal_audit.specs.declared.group.room.Room.{Room}
-use Rattle.causal_audit.proofs.group.GroupWalk.{copied_next, place_of, held_then, is_step, asked_next, told_after, room_stays, none_of_all}
+use Rattle.causal_audit.proofs.group.GroupWalk.{copied_next, place_of, held_then, is_step, told_after, room_stays, none_of_all}
 use Rattle.causal_audit.proofs.Steps.{next_state, entry_read}
 use Rattle.causal_audit.proofs.group.walk.follow.Goals as goal
 
@@ -25,13 +25,11 @@ loop-t-init c = record {
   rows = c.requires.rows;
   followed = c.requires.begun;
   none = c.requires.none;
-  asked = record { places = λ j h. (c.places_of-all.ensures j).0 h; others = λ j low out. absurd (false≢true (sym out ∙ (c.places_of-all.ensures j).1 low)) };
+  asked = record { places = λ j h. (c.places_of-all.ensures j).0 h; over = λ j low out. absurd (false≢true (sym out ∙ (c.places_of-all.ensures j).1 low)) };
 }
 
-pub judge-requires-clause-asked : goal.judge-requires-clause-asked
-judge-requires-clause-asked c =
-    let left = asked_next c.args.trace.now.recording c.args.f c.args.end c.loop-t.t c.args.windows.now c.loop-t.asked c.without_over-asked.result c.loop-t.invariant.asked c.loop-t.invariant.none c.requires.windows c.without_over-asked.ensures.left c.without_over-asked.ensures.over in
-    record { places = left.places; others = λ j low out u within. left.others j low out u (omega (arith, within, c.loop-t-test.true)) }
+pub judge-requires-clause-windows : goal.judge-requires-clause-windows
+judge-requires-clause-windows c k window low u from within = c.requires.windows k window low u from (omega (arith, within, c.loop-t-test.true))
 
 pub judge-requires-clause-present : goal.judge-requires-clause-present
 judge-requires-clause-present c = (c.see-newly.ensures.rows c.args.start c.args.end c.loop-t.invariant.rows.reach).present
@@ -90,7 +88,7 @@ loop-t-preserved c =
       room = λ entries has. room_stays c.loop-t.room _ c.see-newly.ensures.room refl c.renew.ensures.count entries (i.room entries has);
       rows = record { reach = rows; mentioned = i.rows.mentioned; copies = c.renew.ensures.count ∙ i.rows.copies };
       followed = subst (λ start. IsFollowed r windows start (t + 1) room) rows.start c.judge.ensures.followed;
-      asked = asked_next r c.args.f c.args.end t windows c.loop-t.asked c.without_over-asked.result i.asked i.none c.requires.windows c.without_over-asked.ensures.left c.without_over-asked.ensures.over;
+      asked = c.judge.ensures.asked;
       none = none_of_all r c.args.f (t + 1) windows (subst (LeastAmongBy r c.args.f (t + 1) (positions_of windows)) c.in_default.is c.judge.ensures.found);
     }
 

@@ -9,5 +9,5 @@ invariant-loop-t l = record {
   rows : HasRowsFor l.start l.end l.room;
   followed : IsFollowed l.trace.recording l.windows l.start l.t l.room;
   none : HaveNone l.trace.recording l.f l.windows l.t;
-  asked : AreAsked l.trace.recording l.f l.end l.windows l.asked;
+  asked : AreAsked l.windows l.t l.asked;
 }
