@@ -10,7 +10,7 @@ import sys
 
 import run_scripts
 from generate import MAX_ENTRIES
-from timed import HERE, INPUTS, LIMIT, Measured, once, target_line
+from timed import HERE, INPUTS, LIMIT, Measured, measure, once, target_line
 
 PROGRAM = os.path.join(HERE, "out", "runtime_bench")
 KINDS = ("ring", "echo", "tally")
@@ -188,12 +188,21 @@ def run_beside_core(program, path):
     return run, core
 
 
+def audit_of(program, script, trace, faults):
+    """The audit of the trace that was printed, some times."""
+    path = os.path.join(INPUTS, "trace-of-" + script.replace(" ", "_"))
+    with open(path, "w") as file:
+        file.write(trace + "\n")
+    return measure([program, "audit", "--faults", str(faults)], path)
+
+
 def measure_scripts(given):
     part = Part(
-        "The command `run`, on scripts whose traces are as long as their kind of process can make them, beside a core alone "
-        "that is called as the script says (*core*), and the making of the trace's text (*text*).",
-        ["script", "n", "commands", "entries", "MB of trace", "answer", "wall s", "user s", "peak MB", "core s", "text s",
-         "wall / (core + text)"],
+        "The command `run`, on scripts whose traces are as long as their kind of process can make them, beside the reading of the "
+        "script (*read*), a core alone that is called as the script says (*core*), the making of the trace's text (*text*), and the "
+        "audit of the trace that it prints (*audit*).",
+        ["script", "n", "commands", "entries", "MB of trace", "answer", "wall s", "user s", "peak MB", "read s", "core s", "text s",
+         "audit s", "wall / (core + text)", "wall / (read + text)", "wall / audit"],
         1,
         "wall s",
     )
@@ -204,13 +213,17 @@ def measure_scripts(given):
             part.wrong.append(f"{script}: over {LIMIT:.0f} s" if run.over else f"{script}: the core alone refused")
             continue
         check_run(part, given.program, about, run)
-        calls, text = (min(told[place] for told in core) / 1e9 for place in (4, 5))
-        ratio = run.best() / (calls + text)
+        read, calls, text = (min(told[place] for told in core) / 1e9 for place in (3, 4, 5))
+        audit = audit_of(given.program, script, run.line, about["f"]).best()
+        ratios = [run.best() / (calls + text), run.best() / (read + text), run.best() / audit]
         part.row(script, about["processes"], f"{about['commands']:,}", f"{about['entries']:,}", f"{core[0][2] / 1e6:.1f}",
                  "trace" if run.status == 0 else "WRONG", run.told(), f"{min(run.users):.3f}", f"{run.peak / 1e3:.1f}",
-                 f"{calls:.3f}", f"{text:.3f}", f"{ratio:.2f}")
-        name = f"`run` of `{script}`, {about['entries']:,} entries / the core's calls and the making of the text"
-        part.targets.append(target_line(name, ratio, 3.0))
+                 f"{read:.3f}", f"{calls:.3f}", f"{text:.3f}", f"{audit:.3f}", *(f"{ratio:.2f}" for ratio in ratios))
+        name = f"`run` of `{script}`, {about['entries']:,} entries"
+        part.targets.append(target_line(f"{name} / the core's calls and the making of the text", ratios[0], 3.0))
+        part.targets.append(target_line(f"{name} / the reading of the script and the making of the text", ratios[1], 2.0))
+        if about["restarts"]:
+            part.targets.append(target_line(f"{name}, with replays / the audit of its trace", ratios[2], 2.5))
     return part
 
 
@@ -247,7 +260,7 @@ def measure_runtime(given, before):
     if not os.path.exists(PROGRAM):
         return "The program over the runtime was not built; see bench/out/runtime_bench.log.", ["no program"]
     os.makedirs(INPUTS, exist_ok=True)
-    parts = [measure(given) for measure in PARTS]
+    parts = [tell(given) for tell in PARTS]
     wrong = [line for part in parts for line in part.wrong]
     lines = ["| Target | At most | Measured | Met |", "|---|---|---|---|"]
     lines += [line for part in parts for line in part.targets]

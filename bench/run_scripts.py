@@ -161,7 +161,7 @@ def make(script, part=1):
     made = run(script, part)
     text = "\n".join(made.lines) + "\n"
     return text, {"script": script, "processes": made.n, "f": RUNS[script][2], "commands": len(made.lines) - 1, "entries": made.entries,
-                  "deliveries": made.deliveries, "bytes": len(text), "answer": f'["end",{made.entries}]', "status": 0}
+                  "deliveries": made.deliveries, "restarts": made.restarts, "bytes": len(text), "answer": f'["end",{made.entries}]', "status": 0}
 
 
 def main():
