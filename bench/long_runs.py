@@ -1,0 +1,171 @@
+#!/usr/bin/env python3
+"""Makes runs of millions of entries, written as they are simulated, and measures what their audit takes for each entry.
+
+    long_runs.py [--program PATH] [--entries 65536,1048576,4194304] [--faults 1,2] [--shapes ring,gossip] [--workers 1]
+
+It prints a row for each run. It ends with status 1 where an answer is not the one that the run was made for.
+"""
+import argparse
+import collections
+import io
+import os
+import random
+import sys
+
+import generate
+import timed
+from reader import answered
+from timed import HERE, INPUTS
+
+PROGRAM = os.path.join(HERE, "..", "crates", "causal_tool", "out", "causal_tool")
+SHAPES = ("ring", "gossip", "star", "chain", "restarts", "pairs")
+LISTED = 16  # determinants of a message at most
+SHORT = 512  # entries of a run that the plain reader judges
+
+
+class Lines:
+    """The entries of a run, of which only the last is kept: each is written at once."""
+
+    def __init__(self, file):
+        self.file = file
+        self.count = self.listed = self.deliveries = 0
+        self.last = None
+
+    def __len__(self):
+        return self.count
+
+    def append(self, entry):
+        self.file.write(generate.line_of(entry) + "\n")
+        self.count += 1
+        self.deliveries += entry[0] == "deliver"
+        self.listed += {"deliver": lambda: len(entry[4]), "restart": lambda: len(entry[2])}.get(entry[0], lambda: 0)()
+        self.last = entry
+
+
+class LongRun(generate.Run):
+    """A simulated run that forgets the holders of a determinant once it is secure, and remembers a process's past and log only where
+    processes restart."""
+
+    def __init__(self, n, f, limit, lines, restarts):
+        super().__init__(n, f, limit, LISTED, False)
+        self.entries = lines
+        self.remembers = restarts > 0
+
+    def is_secure(self, det):
+        return det not in self.holders
+
+    def hold(self, p, det):
+        super().hold(p, det)
+        if self.holders[det].bit_count() >= self.enough:
+            del self.holders[det]
+        if not self.remembers:
+            self.logs[p].clear()
+
+    def write(self, det):
+        super().write(det)
+        del self.holders[det]
+        if not self.remembers:
+            self.stable.clear()
+
+    def send(self, p, q):
+        message = super().send(p, q)
+        if not self.remembers:
+            self.past[p].clear()
+        return message
+
+    def crash_and_restart(self, p):
+        held = self.holders
+        self.holders = collections.defaultdict(int, held)  # others hold what is secure
+        super().crash_and_restart(p)
+        self.holders = held
+
+
+def run_pairs(run):
+    """Partners send to and fro, and both hold each delivery: where both may crash it stays open to the end, and nobody else depends
+    on it. The last two messages are of the first pair, as `finish` has them."""
+    half = run.n // 2
+    turn = 0
+    while run.room() > 4:
+        pair = turn % half
+        a, b = 2 * pair + turn // half % 2, 2 * pair + 1 - turn // half % 2
+        run.deliver(run.send(a, b))
+        turn += 1
+    return lambda: (0, 1)
+
+
+def simulate(shape, f, entries, file):
+    """Writes a run of so many entries that is safe for f, and gives what is known of it."""
+    n = generate.processes_of(shape)
+    restarts = min(generate.MAX_RESTARTS, entries // 341) if shape == "restarts" else 0
+    lines = Lines(file)
+    file.write('["trace",%d,%d]\n' % (2 if n > 64 else 1, n))
+    run = LongRun(n, 1 if shape == "pairs" else f, entries, lines, restarts)
+    rng = random.Random(f"{shape} {f} {entries}")
+    if shape == "restarts":
+        draw = generate.run_restarts(run, rng, restarts)
+    elif shape == "pairs":
+        draw = run_pairs(run)
+    else:
+        draw = getattr(generate, "run_" + shape)(run, rng)
+    run.finish(draw, False)
+    file.write('["end",%d]\n' % len(lines))
+    return lines
+
+
+def answer_of(f, lines):
+    return f"accept f={f} entries={len(lines)} deliveries={lines.deliveries}"
+
+
+def check(shape, f):
+    """A short run of the same make is judged by the plain reader."""
+    file = io.StringIO()
+    lines = simulate(shape, f, SHORT, file)
+    said = answered(file.getvalue(), f)[1]
+    if said != answer_of(f, lines):
+        sys.exit(f"{shape} f={f}: the plain reader says {said}")
+
+
+def measured(program, workers, shape, f, entries):
+    path = os.path.join(INPUTS, "long.jsonl")
+    with open(path, "w", buffering=1 << 20) as file:
+        lines = simulate(shape, f, entries, file)
+    command = [program, "audit", "--faults", str(f), "--workers", str(workers), "--entries", str(entries)]
+    found = timed.measure(command, path)
+    if found.line != answer_of(f, lines):
+        sys.exit(f"{shape} f={f} entries={entries}: the program says {found.line}")
+    return found, lines
+
+
+def rows(program, workers, shape, f, sizes):
+    """Beside the time for each entry stands how many times it is that of the first size; of the memory, what each entry takes."""
+    first = None
+    for entries in sizes:
+        found, lines = measured(program, workers, shape, f, entries)
+        each = found.least_processor() / entries * 1e6
+        first = first or each
+        print(
+            f"| {shape} | {f} | {entries:,} | {lines.listed / entries:.2f} | {min(found.walls):.2f} | {each:.2f} | {each / first:.2f} "
+            f"| {found.peak * 1024 / entries:.0f} |",
+            flush=True,
+        )
+
+
+def main():
+    words = argparse.ArgumentParser(description=__doc__.split("\n")[0])
+    words.add_argument("--program", default=PROGRAM)
+    words.add_argument("--entries", default="65536,1048576,4194304")
+    words.add_argument("--faults", default="1,2")
+    words.add_argument("--shapes", default=",".join(SHAPES))
+    words.add_argument("--workers", type=int, default=1)
+    given = words.parse_args()
+    timed.LIMIT = 3600.0
+    os.makedirs(INPUTS, exist_ok=True)
+    print("| run | f | entries | listed | s | us an entry | times | bytes an entry |\n|---|---|---|---|---|---|---|---|")
+    for shape in given.shapes.split(","):
+        for f in map(int, given.faults.split(",")):
+            check(shape, f)
+            rows(given.program, given.workers, shape, f, list(map(int, given.entries.split(","))))
+
+
+if __name__ == "__main__":
+    main()
