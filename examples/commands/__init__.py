@@ -2,6 +2,7 @@
 import concurrent.futures
 import os
 
+import merge_model
 import scripts as runtime
 import traces as auditor
 
@@ -32,6 +33,15 @@ def wrong_rows(program):
     return len(rows), wrong
 
 
+def merged(text):
+    """What the plain model of `merge` answers."""
+    try:
+        n, _, entries, _ = merge_model.merged(text)
+    except merge_model.Fault as fault:
+        return 2, f"fault line={fault.line} {fault.kind}\n"
+    return 0, merge_model.spell(n, entries)
+
+
 def modelled(row):
     """What a plain model answers to a row, where there is one."""
     if len(row.text) > SHORT or row.seen is not bytes.decode:
@@ -41,11 +51,13 @@ def modelled(row):
         return status, line + "\n"
     if row.words[0] == "run":
         return runtime.ran(row.text)[::-1]
+    if row.words == ("merge",):
+        return merged(row.text)
     return None
 
 
 def wrong_by_models():
-    """The same of the plain models of the auditor and of the runtime."""
+    """The same of the plain models of the auditor, of the runtime and of `merge`."""
     asked = [(name, row, modelled(row)) for name, row in all_rows()]
     wrong = [(name, row, got) for name, row, got in asked if got not in (None, (row.status, row.out))]
     for name, row, got in wrong:

@@ -1,31 +1,113 @@
 """Recordings, and what `merge` makes of them."""
 from .row import given
-from .texts import LOGGED, trace
+from .texts import LOGGED, lines, trace
 
 # how long the recordings may be together
 BYTES = 67_108_864
 
+A, B = '["recording",0,1,2,7]', '["recording",1,1,2,7]'
+SEND, DELIVER = '["send",0,1,1,0]', '["deliver",1,2,0,0,0,0,[[0,0,1,0]]]'
 # one message of two processes, the later line first, with one that a kill has cut
-MESSAGE = """["recording",1,1,2,7]
-["deliver",1,2,0,0,0,0,[[0,0,1,0]]]
-["send",1
-
-["recording",0,1,2,7]
-["send",0,1,1,0]
-"""
+MESSAGE = lines(B, DELIVER, '["send",1', "", A, SEND)
+# the same with a heard line, a blank one, a header that stands twice and two lines that a kill has cut
+SHUFFLED = lines(DELIVER, B, " \t\r", SEND, "[", A, '["heard",0,9,1,2]', A) + '["send",0,1'
+MERGED = trace(1, 2, LOGGED)
+# two processes go down and come up at the same clocks, and one sends in its second incarnation
+SAME_CLOCKS = lines(
+    '["forget",1,7,[]]', '["deliver",1,6,0,1,0,0,[[0,0,1,0]]]', '["send",0,5,1,0]', '["restart",1,4,[]]', '["restart",0,4,[]]',
+    '["crash",1,3]', '["crash",0,3]', '["send",0,2,1,0]', B, A,
+)
+IN_ORDER = lines(
+    '["trace",2,2]', '["send",0,1,0]', '["crash",0]', '["crash",1]', '["restart",0,[]]', '["restart",1,[]]', '["send",0,1,0]',
+    '["deliver",1,5,0,[[0,0,1,0]]]', '["forget",1,[]]', '["end",8]',
+)
 NO_HEADER = """causal_tool merge: line 3: some process has no header
 causal_tool merge: a recording may be missing
 """
 TOO_LONG = "causal_tool merge: line 2: the trace would be too long\n"
 
+# The lines of recordings and the line of their first fault with its kind; where there are two, the first in the rule's order.
+FAULTS = [
+    ([], 1, "NoHeader"),
+    ([A], 2, "NoHeader"),
+    ([A, '["restart",0,1,[]]'], 3, "NoHeader"),
+    (['["recording",0,2,2,7]'], 1, "Version"),
+    ([A, B, '["recording",0,2,257,8]'], 3, "Version"),
+    (['["recording",0,1,257,7]'], 1, "Processes"),
+    ([A, B, '["recording",0,1,0,8]'], 3, "Processes"),
+    ([A, B, '["recording",2,1,2,8]'], 3, "Header"),
+    ([A, B, '["recording",2,1,2,7]'], 3, "NoProcess"),
+    ([A, B, SEND, DELIVER, SEND], 5, "Twice"),
+    (['["recording",0,1,1,7]', '["crash",0,1]', '["send",0,1,9,9]'], 3, "Twice"),
+    ([A, B, '["sent",0,1,1,0]'], 3, "Form"),
+    ([A, B, '["send",0,1,256,0]'], 3, "Form"),
+    ([A, B, '["heard",0,1,1]'], 3, "Form"),
+    ([A, B, '["crash",-0,1]'], 3, "Form"),
+    ([A, B, '["crash",1e999,1]'], 3, "Syntax"),
+    ([A, B, SEND + '["send"'], 3, "Syntax"),
+    ([A, B, '["send",0]]'], 3, "Syntax"),
+    ([A, B, '["Send"'], 3, "Syntax"),
+    ([A, B, "[1"], 3, "Syntax"),
+    ([A, B, '["restart",0,1,[]]', "{"], 4, "Syntax"),
+    ([A, B, '["send",2,1,1,0]'], 3, "NoProcess"),
+    ([A, B, '["crash",0,1]', '["send",0,2,2,9]'], 4, "NoProcess"),
+    ([A, B, '["crash",0,1]', '["send",0,2,1,9]'], 4, "NotUp"),
+    ([A, B, '["restart",0,1,[]]'], 3, "NotDown"),
+    ([A, B, '["crash",1,5]', '["restart",0,5,[]]'], 4, "NotDown"),
+    ([A, B, '["send",0,1,1,1]'], 3, "WrongSsn"),
+    ([A, B, '["stable",0,2,[0,0,1,0]]', '["send",0,1,1,1]'], 4, "WrongSsn"),
+    ([A, B, '["send",0,3,1,0]', '["deliver",1,2,0,0,0,0,[]]'], 4, "NoSend"),
+    ([A, B, SEND, '["deliver",1,2,0,1,0,9,[]]'], 4, "NoSend"),
+    ([A, B, SEND, '["deliver",0,2,0,0,0,0,[]]'], 4, "NoSend"),
+    ([A, B, SEND, '["deliver",1,2,0,0,0,1,[]]'], 4, "WrongRsn"),
+    ([A, B, SEND, DELIVER, '["deliver",1,3,0,0,0,0,[]]'], 5, "WrongRsn"),
+    ([A, B, SEND, DELIVER, '["deliver",1,3,0,0,0,1,[[9,9,9,9],[0,0,1,0]]]'], 5, "Doubled"),
+    ([A, B, SEND, '["deliver",1,2,0,0,0,0,[[9,9,9,9],[0,0,1,0]]]'], 4, "Unsorted"),
+    ([A, B, SEND, '["deliver",1,2,0,0,0,0,[[0,0,1,0],[0,0,1,0]]]'], 4, "Unsorted"),
+    ([A, B, SEND, '["deliver",1,2,0,0,0,0,[[0,0,1,1]]]'], 4, "NoDelivery"),
+    ([A, B, '["stable",0,1,[0,0,1,0]]'], 3, "NoDelivery"),
+]
+
+# What begins a line, what is repeated in it so often that it is long, what ends it, and the kind of the fault.
+LONG = [
+    ('["restart",0,1,[[0,0,0,0]', ",[0,0,0,0]", "]]", "NotDown"),
+    ('["restart",0,1,[[0]', ",[0]", "]]", "Form"),
+    ('["crash",0,1', ",[]", "]", "Form"),
+    ('["crash",0,{"":[]', ',"":[]', "}]", "Form"),
+    ('["crash",0,{"":[]', ',"":[]', "}", "Syntax"),
+    ('["crash",0', " ", ",1,1]", "Form"),
+]
+# the same of lines that a kill has cut
+TORN = [('["restart",0,1,[[0,0,0,0]', ",[0,0,0,0]"), ('["restart",0,1,[', "[")]
+REPEATED = 270_000  # bytes of the repeated parts
+
+
+def long_line(begin, unit, end):
+    return lines(A, B) + begin + unit * (REPEATED // len(unit) + 1) + end
+
+
+def torn(*numbers):
+    return "".join(f"causal_tool merge: torn line={number}: passed over\n" for number in numbers)
+
 
 def rows():
-    yield given("a torn line", "merge", MESSAGE, 0, trace(1, 2, LOGGED), said="causal_tool merge: torn line=3: passed over\n")
-    yield given("no header", "merge", '["recording",0,1,2,7]\n["send"', 2, "fault line=3 NoHeader\n", said=NO_HEADER)
+    yield given("a torn line", "merge", MESSAGE, 0, MERGED, said=torn(3))
+    yield given("lines in another order", "merge", SHUFFLED, 0, MERGED, said=torn(5, 9))
+    yield given("of one clock the lower process comes first", "merge", SAME_CLOCKS, 0, IN_ORDER, said="")
+    for texts, line, kind in FAULTS:
+        yield given(kind, "merge", lines(texts), 2, f"fault line={line} {kind}\n")
+    for begin, unit, end, kind in LONG:
+        yield given(f"a long line, {begin}", "merge", long_line(begin, unit, end), 2, f"fault line=3 {kind}\n")
+    for begin, unit in TORN:
+        yield given(f"a long line that is cut, {begin}", "merge", long_line(begin, unit, ""), 0, trace(1, 2), said=torn(3))
+    yield given("no header", "merge", lines(A) + '["send"', 2, "fault line=3 NoHeader\n", said=NO_HEADER)
     # one byte too many is read, and no further one
     yield given("much too long", "merge", " " * (BYTES + 1 + 5_000), 2, "fault line=1 Big\n", left=5_000)
-    yield given("as many events as asked for", "merge --entries 2", MESSAGE, 0, trace(1, 2, LOGGED))
+    yield given("as many events as asked for", "merge --entries 2", MESSAGE, 0, MERGED)
     yield given("one event too many", "merge --entries 1", MESSAGE, 2, "fault line=2 TooLong\n", said=TOO_LONG)
+    second = lines(A, B, SEND, '["send",0,2,1,1]')
+    yield given("a second event of one", "merge --entries 1", second, 2, "fault line=4 TooLong\n")
+    yield given("a second event of two", "merge --entries 2", second, 0, trace(1, 2, LOGGED[0], '["send",0,1,1]'))
     # 1,024 bytes for each
     yield given("much too long for one event", "merge --entries 1", " " * (1_024 + 1 + 5_000), 2, "fault line=1 Big\n", left=5_000)
     yield given("not too long for two", "merge --entries 2", " " * 2_048, 2, "fault line=2 NoHeader\n")

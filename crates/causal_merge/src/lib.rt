@@ -38,6 +38,3 @@ pub use fault::{MergeFault, MergeKind};
 pub use limits::bytes_within;
 pub use merge::{Merged, merge_text, merge_within};
 pub use report::fault_line;
-
-#[cfg(test)]
-mod tests;

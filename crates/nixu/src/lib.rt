@@ -34,7 +34,5 @@ pub mod status;
 pub mod step;
 /// What is told of a text.
 pub mod summary;
-#[cfg(test)]
-mod tests;
 /// Bytes that the program prints.
 pub mod views;
