@@ -29,6 +29,10 @@ abbrev pub IsWrongSsn : Recording → Shape → Pid → ℕ → ℕ → Type 0
 IsWrongSsn r says process given next =
     (to : Pid) × (says ≡ shape.Entry (entry.Send process to given)) × (next ≡ sends r.past process.0) × (given ≢ next)
 
+-- a line says a delivery by this process of what is sent at this position, with this number
+abbrev pub IsDeliveryLine : Shape → Pid → ℕ → ℕ → Type 0
+IsDeliveryLine says process send rsn = (listed : List Det) × (says ≡ shape.Entry (entry.Deliver process send rsn listed))
+
 -- a delivery that names no earlier send to its receiver
 abbrev pub NamesNoSend : Recording → Shape → ℕ → Pid → Type 0
 NamesNoSend r says position process =

@@ -1,6 +1,6 @@
 //! What is wrong with a line, in numbers.
 ghost use Rattle.std.specs.Prelude.{◌≡◌, IfOk, IfSome};
-ghost use Rattle.causal_text.specs.Wrongs.{IsWrong, kind_told};
+ghost use Rattle.causal_text.specs.Wrongs.{IsDeliveryLine, IsWrong, kind_told};
 
 use crate::counts::{deliveries, delivery_of, sends};
 use crate::delivered::undelivered;
@@ -95,22 +95,26 @@ fn wrong_ssn(trace: &Trace, says: &Shape) -> Option<Wrong>
     })
 }
 
+/// The receiver, the position of the send and the number of the delivery that a line says, if it says one.
+fn delivery_in(says: &Shape) -> Option<(Pid, u32, u32)>
+    ensures { IfSome result (λ told. IsDeliveryLine says.now told.0 told.1 told.2) }
+{
+    match says {
+        Shape::Entry {
+            entry: Entry::Deliver { to, send, rsn, .. },
+        } => Some((*to, *send, *rsn)),
+        _ => None,
+    }
+}
+
 fn no_send(trace: &Trace, says: &Shape) -> Option<Wrong>
     ensures wrong { IfSome result (IsWrong trace.now.recording says.now) }
     ensures kind { IfSome result (λ wrong. kind_told wrong ≡ TextKind.NoSend) }
 {
-    let Shape::Entry {
-        entry: Entry::Deliver { to, send, .. },
-    } = says
-    else {
-        return None;
-    };
-    match trace.entry(*send) {
-        Some(Entry::Send { to: receiver, .. }) if receiver.0 == to.0 => None,
-        _ => Some(Wrong::Send {
-            position: *send,
-            process: *to,
-        }),
+    let (process, position, _) = delivery_in(says)?;
+    match trace.entry(position) {
+        Some(Entry::Send { to, .. }) if to.0 == process.0 => None,
+        _ => Some(Wrong::Send { position, process }),
     }
 }
 
@@ -118,19 +122,14 @@ fn wrong_rsn(trace: &Trace, says: &Shape) -> Option<Wrong>
     ensures wrong { IfSome result (IsWrong trace.now.recording says.now) }
     ensures kind { IfSome result (λ wrong. kind_told wrong ≡ TextKind.WrongRsn) }
 {
-    let Shape::Entry {
-        entry: Entry::Deliver { to, rsn, .. },
-    } = says
-    else {
-        return None;
-    };
-    let next = deliveries(trace, *to);
-    if *rsn == next {
+    let (process, _, given) = delivery_in(says)?;
+    let next = deliveries(trace, process);
+    if given == next {
         return None;
     }
     Some(Wrong::Rsn {
-        process: *to,
-        given: *rsn,
+        process,
+        given,
         next,
     })
 }
@@ -139,22 +138,17 @@ fn doubled(trace: &Trace, says: &Shape) -> Option<Wrong>
     ensures wrong { IfSome result (IsWrong trace.now.recording says.now) }
     ensures kind { IfSome result (λ wrong. kind_told wrong ≡ TextKind.Doubled) }
 {
-    let Shape::Entry {
-        entry: Entry::Deliver { to, send, .. },
-    } = says
-    else {
-        return None;
-    };
-    let Some(Entry::Send { from, ssn, .. }) = trace.entry(*send) else {
+    let (process, send, _) = delivery_in(says)?;
+    let Some(Entry::Send { from, ssn, .. }) = trace.entry(send) else {
         return None;
     };
     let message = MsgName {
         source: *from,
         ssn: *ssn,
     };
-    let position = delivery_of(trace, *to, message)?;
+    let position = delivery_of(trace, process, message)?;
     Some(Wrong::Again {
-        process: *to,
+        process,
         message,
         position,
     })
