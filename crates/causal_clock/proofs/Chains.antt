@@ -132,7 +132,7 @@ one_at_other a b h = grind (arith, nat_tests)
 
 -- ---- an older event is reached from the same events as before
 
--- as many of a lane's first events reach an older event as before
+-- an older event is still reached by as many of a lane's first events
 pub first_old : (es : List Event) (e : Event) (j lane n : ℕ) → j < length es → FirstReach es j lane n → FirstReach (es ++ e ∷ []) j lane n
 first_old es e j lane n below f = record {
   no_more = omega (arith, f.no_more, lane_length-more es e lane);
@@ -158,11 +158,11 @@ pub record FirstReachSome (es : List Event) (event : Option ℕ) (lane n : ℕ) 
   -- what reaches it is one of the first n
   pub forth : (i j : ℕ) → i < length es → lane_of es i ≡ lane → event ≡ Some j → Reaches es i j → place_of es i < n
 
--- an event of its lane directly precedes the newest
+-- an event of the newest event's lane directly precedes that
 pub by_lane : (es : List Event) (e : Event) (p : ℕ) → p < length es → lane_of es p ≡ e.lane → DirectlyPrecedes (es ++ e ∷ []) p (length es)
 by_lane es e p lt same = record { earlier = lt; within = omega (arith, length-more es e); because = inl (lane_of-old es e p lt ∙ same ∙ sym (lane_of-new es e)) }
 
--- the event that sent to it directly precedes the newest
+-- the event that sent to the newest one directly precedes that
 pub by_send : (es : List Event) (e : Event) (s : ℕ) → s < length es → e.send ≡ Some s → DirectlyPrecedes (es ++ e ∷ []) s (length es)
 by_send es e s lt sent = record { earlier = lt; within = omega (arith, length-more es e); because = inr (send_of-new es e ∙ sent) }
 

@@ -225,7 +225,7 @@ module _ (rises : List Rise) (own from_events from_events' count : ℕ) (is : Is
   below_next : (i : ℕ) → i < length rises → (rise_at rises i).count < count
   below_next i lt = omega (arith, more, rise_counts rises own i lt (omega (arith, is.places i lt)))
 
-  -- with a greater count at the lane's next place it is still a column
+  -- a column with a rise to a greater count at the lane's next place is a column
   pub appended : IsColumn (rises ++ next ∷ []) (own + 1) from_events'
   appended = record {
     strictly = record {

@@ -61,7 +61,7 @@ told_of es column send own source = if own == source then 0 else counts_in es co
 pub told_of-own : (es : List Event) (column : ℕ → ℕ → List Rise) (send own : ℕ) → told_of es column send own own ≡ 0
 told_of-own es column send own = ap (λ b. if b then 0 else counts_in es column send own) (eq-eqb own own refl)
 
--- of another lane it is told what its send's event counts
+-- of another lane a receive is told what its send's event counts
 pub told_of-other : (es : List Event) (column : ℕ → ℕ → List Rise) (send own source : ℕ) → source ≢ own → told_of es column send own source ≡ counts_in es column send source
 told_of-other es column send own source other = ap (λ b. if b then 0 else counts_in es column send source) (ne_eqb own source (λ is. other (sym is)))
 

@@ -19,7 +19,7 @@ use Rattle.causal_clock.proofs.Steps.{keeps_event, small_count}
 pub counts_own : (es : List Event) (column : ℕ → ℕ → List Rise) (j lane : ℕ) → lane_of es j ≡ lane → counts_in es column j lane ≡ place_of es j + 1
 counts_own es column j lane same = ap (λ b. if b then place_of es j + 1 else count_at (column (lane_of es j) lane) (place_of es j)) (eq-eqb (lane_of es j) lane same)
 
--- its count of another lane is what the column tells at its place
+-- an event's count of another lane is what the column tells at its place
 pub counts_other : (es : List Event) (column : ℕ → ℕ → List Rise) (j lane source : ℕ) → lane_of es j ≡ lane → source ≢ lane → counts_in es column j source ≡ count_at (column lane source) (place_of es j)
 counts_other es column j lane source same other =
     ap (λ b. if b then place_of es j + 1 else count_at (column (lane_of es j) source) (place_of es j)) (ne_eqb (lane_of es j) source (λ is. other (sym is ∙ same)))

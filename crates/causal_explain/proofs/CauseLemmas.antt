@@ -179,7 +179,7 @@ module _ (r : Recording) (f t : ℕ) where
       let old = previous r.past t e past v.0.within is in
       subst (λ x. count_below r.processes (is_down x) ≤ f) old.1 (v.0.before (length past) old.0).few_down)
 
-  -- so it does where the verdict names an orphan
+  -- where the verdict names an orphan, the newest entry of that instant tells the cause
   pub orphan_told : (k : ℕ) (crash : _) (p : ℕ) → AreAccepted r.processes r.past → SweepLaw → OneNewOrphan → IsVerdict r f (Orphan t k crash p) → TellsCause r f (Orphan t k crash p) (newest_act (instant r.past t))
   orphan_told k crash p formed sweep only v =
       let s = instant r.past t in

@@ -90,7 +90,7 @@ removed_bit ws p q a h =
       ]
     ]
 
--- to clear the bit of p takes p out of it
+-- to clear the bit of p takes p out of the set that the words show
 pub removed : (ws : List ℕ) (p : ℕ) → AreWords ws → p < 256 → shown (set ws (p / 64) (cleared ws p)) ≡ remove (shown ws) p
 removed ws p a h =
     shown_is _ _ (λ q. removed_bit ws p q a h
@@ -155,7 +155,7 @@ without_at ws vs q a =
       | inr g ↦ rw g.0 refl
     ]
 
--- the bits of one that are not set in the other show the difference
+-- the bits of one list of words that are not set in the other show the difference
 pub without : (ws vs : List ℕ) → AreWords vs → shown (without_words ws vs) ≡ difference (shown ws) (shown vs)
 without ws vs a =
     shown_is _ _ (λ q. without_at ws vs q a

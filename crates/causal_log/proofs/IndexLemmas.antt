@@ -45,7 +45,7 @@ module _ (ds : List Det) (heads older : List (Option ℕ)) (index : IsIndex ds h
       more : (a b c : ℕ) → a < b → b < c → a < c
       more a b c h i = omega (arith, h, i)
 
-  -- and so does each head
+  -- a head leads to an entry that is there, or nowhere
   pub newest_below : (h : ℕ) → IfSome (get_or heads h None) (λ k. k < length ds)
   newest_below h = below_all (get_or heads h None) (length ds) (λ k is. index.within h k is)
 
@@ -123,7 +123,7 @@ module _ (ds : List Det) (heads older : List (Option ℕ)) (index : IsIndex ds h
           last : (k ≡ n) × (d ≡ e) → IsLed more_older (newest_of more_heads (slot_of e)) k
           last new = (zero, subst (λ o. Leads more_older o k zero) (sym (to_new (ap (λ x. head_of (length heads) (slot_of x)) (sym new.1)))) (sym new.0))
 
-      -- it is still an index
+      -- an index with one more entry, the newest of its head, is an index of them all
       pub one_more : IsIndex (ds ++ d ∷ []) more_heads more_older
       one_more = record {
         count = length_push older (get_or heads h None) ∙ ap (λ m. m + 1) index.count ∙ sym (length_push ds d);
@@ -158,7 +158,7 @@ module _ (ds : List Det) (older : List (Option ℕ)) (d : Det) where
       onward older i k way.0 way.1 (λ same.
       true≢false (sym (ap (λ x. same_det x d) (get_or_from_slice_get ds i d z (ap (slice_get ds) same ∙ there)) ∙ same_itself d) ∙ apart))
 
-  -- where nowhere leads on to d, d is not there
+  -- a determinant to which nothing leads on is not among the entries
   pub absent : LeadsOn ds older d None → list_any (same_det d) ds ≡ false
   absent leads = by (list_any (same_det d) ds) refl
     where

@@ -7,7 +7,7 @@ use Rattle.causal_log.specs.declared.known.Known.{Known}
 use Rattle.causal_log.specs.Logs.{LogMap, log_of}
 use Rattle.causal_log.specs.Inside.Kept.{IsKept}
 
--- the same entries are kept as before
+-- a log of the same entries is kept as before
 pub kept_same : (es fs : List (Det × Known)) (sorted : Bool) (carried : Option Carried) → fs ≡ es → IsKept (keys_of es) sorted carried (log_of es) → IsKept (keys_of fs) sorted carried (log_of fs)
 kept_same es fs sorted carried same kept = subst (λ gs. IsKept (keys_of gs) sorted carried (log_of gs)) (sym same) kept
 

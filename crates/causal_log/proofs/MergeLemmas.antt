@@ -263,7 +263,7 @@ module _ (f : ℕ) (log : LogMap) (det : Det) (heard : Known) (out : List Item) 
   not_later : lookup (same_det det) (entries_of rest) ≡ None
   not_later = none_found det rest (none_back det (dets_of rest) (back (dets_of out) (det ∷ dets_of rest) (ap (λ d. is_ascending (dets_of out ++ d ∷ dets_of rest)) (sym here) ∙ ascend)))
 
-  -- with what is known together in its place, the items are what messages carry
+  -- what is now known of an item's determinant stands in its place, if it is still carried
   pub met : with_carried f det (joined (known_of_item item) heard) out ++ rest ≡ chosen f (learned log det heard)
   met =
       become f log det heard out (item ∷ rest) is before (joined (known_of_item item) heard) rest (ap (λ k. joined k heard) known_now)

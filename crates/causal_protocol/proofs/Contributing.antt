@@ -324,7 +324,7 @@ mark_facts p d = record {
   left = λ listed log. Choices.without_stable listed log d;
 }
 
--- and just that to be stable of which its present lane was told so
+-- an up process knows just that to be stable of which its lane was told so
 pub marks_are_contributed : MarksAreContributed
 marks_are_contributed r p d up = (
   λ h. known_contributed p d (tells_stable d) (GivesMark p d) (mark_facts p d) r.recording.processes r.faults r.writers r.recording.past up h,

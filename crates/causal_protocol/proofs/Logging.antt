@@ -95,7 +95,7 @@ module _ (batch : List Item) (own : Det) (log : LogMap) (d : Det) where
   or_lone false false true = refl
   or_lone false false false = refl
 
-  -- the log then has the delivery's own determinant and what the message carries, too
+  -- after a delivery the log has its own determinant and what the message carries, too
   pub gained_entry : has_entry d (gained batch own log) ≡ (has_entry d log || (same_det d own || has_item d batch))
   gained_entry =
       one_entry absorbs own (held_by own.dest) d
@@ -170,7 +170,7 @@ module _ (batch : List Item) (own : Det) (log : LogMap) (d : Det) where
   pub gained_old : (q : ℕ) → tells_holder d q log ≡ true → tells_holder d q (gained batch own log) ≡ true
   gained_old q h = gained_known q ∙ or_left _ _ (or_left _ _ h)
 
-  -- the receiver is known to hold these
+  -- the receiver is known to hold what a delivery brings
   pub gained_new : (same_det d own || has_item d batch) ≡ true → tells_holder d own.dest.0 (gained batch own log) ≡ true
   gained_new h =
       gained_known own.dest.0
@@ -196,7 +196,7 @@ module _ (batch : List Item) (own : Det) (log : LogMap) (d : Det) where
       one_stable absorbs own (held_by own.dest) d
       ∙ or_left _ _ (known_all (λ k. k.stable) stable_either (map (told own.source own.dest) batch) log d ∙ or_left _ _ h)
 
-  -- nothing new is known to be stable
+  -- by a delivery nothing new is known to be stable
   pub gained_stable : tells_stable d (gained batch own log) ≡ true → tells_stable d log ≡ true
   gained_stable h =
       elim (or_cases (tells_stable d absorbs) ((same_det d own && false) || false) (sym (one_stable absorbs own (held_by own.dest) d) ∙ h)) [
@@ -357,7 +357,7 @@ module _ (ms : Memories) (stored : DetSet) (p : Pid) (d : Det) where
   pub gathered_logged : (r : ℕ) → has_logged ms r d ≡ true → has_entry d gathered ≡ true
   gathered_logged r h = all_entry ∙ or_left _ _ (held_entry ∙ or_left _ _ (united_each (has_entry d) (entry_either d) (none_entry d) ms fin.empty r h))
 
-  -- a known holder is p itself, or a process that is up knew of it
+  -- of what is gathered a known holder is p itself, or a process that is up knew of it
   pub gathered_holder : (q : ℕ) → tells_holder d q gathered ≡ true → (q ≡ p.0) ⊎ ((r : ℕ) × (r < length ms) × (knows ms r d q ≡ true))
   gathered_holder q h =
       elim (or_cases (tells_holder d q held) (list_any (λ x. same_det d x && set.contains (stable_and_held_by p).holders q) (dets_in stored)) (sym (all_known (λ k. set.contains k.holders q) (holds_either q)) ∙ h)) [
@@ -368,19 +368,19 @@ module _ (ms : Memories) (stored : DetSet) (p : Pid) (d : Det) where
         | inr mine ↦ inl (alone_holds p.0 q (any_of d (λ x. set.contains (stable_and_held_by p).holders q) (dets_in stored) mine).1)
       ]
 
-  -- holders of which a process that is up knew are known
+  -- holders of which a process that is up knew are known in what is gathered
   pub gathered_known : (r q : ℕ) → knows ms r d q ≡ true → tells_holder d q gathered ≡ true
   gathered_known r q h =
       all_known (λ k. set.contains k.holders q) (holds_either q)
       ∙ or_left _ _ (held_known (λ k. set.contains k.holders q) (holds_either q) ∙ or_left _ _ (united_each (tells_holder d q) (holder_either d q) (none_holds d q) ms fin.empty r h))
 
-  -- what a process that is up knew to be stable is known to be
+  -- what a process that is up knew to be stable is known so in what is gathered
   pub gathered_marks : (r : ℕ) → marks ms r d ≡ true → tells_stable d gathered ≡ true
   gathered_marks r h =
       all_known (λ k. k.stable) stable_either
       ∙ or_left _ _ (held_known (λ k. k.stable) stable_either ∙ or_left _ _ (united_each (tells_stable d) (mark_either d) (none_stable d) ms fin.empty r h))
 
-  -- what is stored is known to be stable
+  -- what is stored is known to be stable in what is gathered
   pub stored_marks : store.has stored d ≡ true → tells_stable d gathered ≡ true
   stored_marks h = all_known (λ k. k.stable) stable_either ∙ or_right _ _ (any_for d (λ x. true) (dets_in stored) (stored_have stored d ∙ h) refl)
 
@@ -396,7 +396,7 @@ module _ (ms : Memories) (stored : DetSet) (p : Pid) (d : Det) where
         | inr member ↦ or_right _ _ (any_for d (λ x. set.contains (stable_and_held_by p).holders p.0) (dets_in stored) member (itself_holds p.0))
       ]
 
-  -- what is known to be stable is stored, or a process that is up knew it to be
+  -- what is gathered as stable is stored, or a process that is up knew it so
   pub gathered_mark : tells_stable d gathered ≡ true → (store.has stored d ≡ true) ⊎ ((r : ℕ) × (r < length ms) × (marks ms r d ≡ true))
   gathered_mark h =
       elim (or_cases (tells_stable d held) (list_any (λ x. same_det d x && true) (dets_in stored)) (sym (all_known (λ k. k.stable) stable_either) ∙ h)) [

@@ -92,7 +92,7 @@ opens_kept n f (suc p) past within h =
 pub openings_are_runs : OpeningsAreRuns
 openings_are_runs r h none = subst (λ ws. IsKept r.recording.processes r.faults ws r.recording.past) (sym none) (opens_kept r.recording.processes r.faults r.recording.processes r.recording.past (omega arith) h).0
 
--- so does each run that the runtime makes
+-- each run that the runtime makes keeps what a run keeps
 pub made_runs : (r : Run) → IsMade r → IsRun r
 made_runs r (opened _ h none) = openings_are_runs r h none
 made_runs new (stepped old _ request reply made step) = steps_keep_runs old new request reply step (made_runs old made)

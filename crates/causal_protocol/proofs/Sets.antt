@@ -53,7 +53,7 @@ pub record Stays (n : ℕ) (past next : List Entry) (d : Det) : Type 0 where
   -- if not, whoever was down or held it is down or holds it still
   pub within : is_stable past d ≡ false → IsWithin n (gone past d) (gone next d)
 
--- if it was spread, it is so still
+-- a determinant that is spread, and stays, is still spread
 pub spread_stays : (n f : ℕ) (past next : List Entry) (d : Det) → Stays n past next d → IsSpread n f past d → IsSpread n f next d
 spread_stays n f past next d s (inl stable) = inl (s.stable stable)
 spread_stays n f past next d s (inr many) =
@@ -62,7 +62,7 @@ spread_stays n f past next d s (inr many) =
       | inr unstable ↦ inr (omega (arith, many, count_below-within n (gone past d) (gone next d) (s.within unstable)))
     ]
 
--- what was said truly of a holder is true still
+-- where a determinant stays, it is still no lie that q holds it
 pub true_stays : (n : ℕ) (past next : List Entry) (d : Det) (q : ℕ) → q < n → Stays n past next d → IsTrueOf past d q → IsTrueOf next d q
 true_stays n past next d q below s (inl stable) = inl (s.stable stable)
 true_stays n past next d q below s (inr out) =

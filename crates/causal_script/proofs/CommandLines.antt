@@ -134,7 +134,7 @@ request_back (Forget p) h = process_back Forget p h
 pub commanded : (line : List ℕ) (r : Request) → request_of line ≡ Some r → IsCommandLine line
 commanded line r e = let says = says_request line r e in (r, says.0, says.1)
 
--- a line of which none is read has none
+-- a line of which no request is read has no command
 pub not_commanded : (line : List ℕ) → request_of line ≡ None → IsCommandLine line → ⊥
 not_commanded line e h =
     let back : request_of line ≡ Some h.0 = ap request_of h.2 ∙ request_back h.0 h.1 in

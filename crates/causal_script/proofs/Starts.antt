@@ -157,7 +157,7 @@ start_back s h = at s.kind refl where
 pub started : (line : List ℕ) (s : Start) → start_of line ≡ Some s → IsStartLine line
 started line s e = let says = says_start line s e in (s, says.0, says.1)
 
--- a line of which none is read starts none
+-- a line of which no start is read starts no script
 pub not_started : (line : List ℕ) → start_of line ≡ None → IsStartLine line → ⊥
 not_started line e h =
     let back : start_of line ≡ Some h.0 = ap start_of h.2 ∙ start_back h.0 h.1 in

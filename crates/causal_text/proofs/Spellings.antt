@@ -47,7 +47,7 @@ LeadsTo-line most before s line t r h =
       within = rw (sum_by_push length before line) a.within;
     }
 
--- one more line without a fault leads to the place after it too
+-- who stands after some lines stands after the next one, if that has no fault
 pub IsPlaceAfter-next : (most : ℕ) (before : List (List ℕ)) (p q : Place) (line : List ℕ) → IsPlaceAfter most before p → next most p line ≡ Ok q → IsPlaceAfter most (before ++ line ∷ []) q
 IsPlaceAfter-next most before p q line st h =
     let step = bind_ok (after_line most p.stage (p.size + length line) line at (p.count + 1)) _ q h in
@@ -59,7 +59,7 @@ IsPlaceAfter-next most before p q line st h =
       size = rw (st.size, sum_by_push length before line) refl;
     })
 
--- and so do several lines
+-- who stands after some lines stands after all further ones that have no fault
 pub IsPlaceAfter-lines : (most : ℕ) (before ls : List (List ℕ)) (p q : Place) → IsPlaceAfter most before p → after_lines most p ls ≡ Ok q → IsPlaceAfter most (before ++ ls) q
 IsPlaceAfter-lines most before [] p q st h =
     let same : p ≡ q = cc in rw append-nil (subst (λ (u : Place). IsPlaceAfter most before u) same st)

@@ -30,7 +30,7 @@ instants_prefixes entries t within =
 pub instants_stay : InstantsStay
 instants_stay e past t within = at.instants_stay e past t within
 
--- and makes one more, which is the state with it
+-- one more entry makes one more instant, which is the state with it
 pub one_more_instant : OneMoreInstant
 one_more_instant e past = at.one_more_instant e past
 

@@ -173,7 +173,7 @@ head_lengths heads m q at h =
       | inr other ↦ ap (λ b. length (cond b list (heads_of heads q))) other.0
     ]
 
--- and when a head is made to lead elsewhere
+-- a message that has a head still has one when any head is made to lead elsewhere
 pub head_keeps : (heads : Heads) (m q : MsgName) (at : Option ℕ) → m.source.0 < length heads → HasHead heads q → HasHead (with_head heads m at) q
 head_keeps heads m q at h has = record {
   source = omega (arith, has.source, length-set heads m.source.0 (set (heads_of heads m.source.0) m.ssn at));

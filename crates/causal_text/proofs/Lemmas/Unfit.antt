@@ -16,7 +16,7 @@ IsPlainly r = (e : TextKind) → r ≡ Err e → e ≡ Form
 
 -- ---- of two that do not both hold
 
--- where not both hold, what follows of the first or what follows of the second does
+-- where not both hold, what follows from the one that fails does
 pub or_else : {P Q : Type 0} (a b : Bool) → (a && b) ≡ false → (a ≡ false → P) → (b ≡ false → Q) → P ⊎ Q
 or_else true b h p q = inr (q h)
 or_else false b h p q = inl (p refl)
@@ -87,7 +87,7 @@ IsPlainly-cond : {A : Type 0} (b : Bool) (r : Result A TextKind) → IsPlainly r
 IsPlainly-cond true r p = p
 IsPlainly-cond false r p = IsPlainly-form
 
--- nor is a determinant
+-- a determinant is refused for no other kind than `Form`
 pub IsPlainly-det : (d : Data) → IsPlainly (det_of d)
 unfolding det_of
 IsPlainly-det d = IsPlainly-cond (size d == 4) _ (IsPlainly-after (pid_at 0 d) _ (IsPlainly-pid 0 d) (λ a. IsPlainly-after (u32_at 1 d) _ (IsPlainly-or_form _) (λ b. IsPlainly-after (pid_at 2 d) _ (IsPlainly-pid 2 d) (λ c. IsPlainly-after (u32_at 3 d) _ (IsPlainly-or_form _) (λ e. IsPlainly-ok _)))))
@@ -96,7 +96,7 @@ IsPlainly-list : (ds : Items) → IsPlainly (dets_of ds)
 IsPlainly-list no_items = IsPlainly-ok []
 IsPlainly-list (item d ds) = IsPlainly-after (det_of d) _ (IsPlainly-det d) (λ det. IsPlainly-after (dets_of ds) _ (IsPlainly-list ds) (λ dets. IsPlainly-ok _))
 
--- nor is a list of determinants
+-- a list of determinants is refused for no other kind than `Form`
 pub IsPlainly-dets : (i : ℕ) (d : Data) → IsPlainly (dets_at i d)
 unfolding dets_at
 IsPlainly-dets i d = IsPlainly-after (or_form (option_and_then as_array (at i d))) _ (IsPlainly-or_form _) (λ ds. IsPlainly-list ds)
