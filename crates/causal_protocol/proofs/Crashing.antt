@@ -47,7 +47,7 @@ pub record IsCrashed (n f : ℕ) (past : List Entry) (who : ℕ) (ms next : Memo
   pub few : count_below n (is_down past) < f
   -- each other process still logs what it did
   pub has_as : (p : ℕ) (d : Det) → has_logged next p d ≡ (not (who == p) && has_logged ms p d)
-  -- and knows the holders that it knew
+  -- each other process still knows the holders that it knew
   pub holds_as : (p : ℕ) (d : Det) (q : ℕ) → knows next p d q ≡ (not (who == p) && knows ms p d q)
   -- what is known to be stable was known so before
   pub marked : (p : ℕ) (d : Det) → marks next p d ≡ true → marks ms p d ≡ true

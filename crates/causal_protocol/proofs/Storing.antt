@@ -26,7 +26,7 @@ pub record IsWritten (n : ℕ) (past : List Entry) (det : Det) (ms next : Memori
   pub logged : has_logged ms process det ≡ true
   -- no log gains or loses a determinant
   pub has_as : (p : ℕ) (d : Det) → has_logged next p d ≡ has_logged ms p d
-  -- or a known holder
+  -- no process gains or loses a known holder
   pub holds_as : (p : ℕ) (d : Det) (q : ℕ) → knows next p d q ≡ knows ms p d q
   -- what is known to be stable was known so, or is what was written
   pub marked : (p : ℕ) (d : Det) → marks next p d ≡ true → (same_det d det ≡ true) ⊎ (marks ms p d ≡ true)

@@ -144,7 +144,7 @@ no_lines (x ∷ xs) e = absurd (let some : feeds (take 0 (x ∷ xs)) < length (l
 
 -- ---- what stands against a line
 
--- a line without a fault is not too far on, and says something
+-- a line without a fault is not past the limit, and says something
 pub judged_ok : {A : Type 0} (big : Option ℕ) (line : ℕ) (said : Option A) (x : A) → judged big line said ≡ Ok x → (is_line line big ≡ false) × (said ≡ Some x)
 judged_ok {A} big line said x e = by_test (is_line line big) said refl e where
   by_test : (b : Bool) (o : Option A) → is_line line big ≡ b → cond {A = Result A ScriptFault} b (Err (record { line = line; kind = Big })) (ok_or o (record { line = line; kind = Script })) ≡ Ok x → (is_line line big ≡ false) × (o ≡ Some x)
@@ -180,7 +180,7 @@ not_big text (Some line) before h t bad =
 pub sound_none : (text : List ℕ) → AreSound text 0
 sound_none text before kind below bad = omega arith
 
--- lines without a fault, and one that is in place and not too big, have no fault
+-- with one more line, in place and not too big, the lines still have no fault
 pub sound_more : (text : List ℕ) (count next : ℕ) → next ≡ count + 1 → AreSound text count → (IsFaultAfter text count Big → ⊥) → IsInPlace count (slice_get (lines text) count) → AreSound text next
 sound_more text count next is sound small place before kind below bad = by_place (cases_lt before count) where
   here : (k : ScriptFaultKind) → IsFaultAfter text count k → ⊥

@@ -171,7 +171,7 @@ fault_of_piece most h0 h done line after f c complete e b s =
     let all = IsFaultOfAll-more most ((b ++ done) ++ line) after f here in
     subst (λ (xs : List ℕ). IsFaultOfAll most xs f) (append_assoc (b ++ done) line after ∙ append_assoc b done (line ++ after)) all
 
--- bytes without a line feed are held too
+-- with bytes that have no line feed, what is held stands for those too
 pub Comes-hold : (most : ℕ) (h0 h : Held) (done part : List ℕ) → Comes most h0 done h → no_feed part ≡ true → Comes most h0 (done ++ part) (record { place = h.place; rest = h.rest ++ part })
 Comes-hold most h0 h done part c none b s = regrouped most (record { place = h.place; rest = h.rest ++ part }) b done part (StandsFor-hold most h (b ++ done) part (c b s) none)
 
