@@ -16,6 +16,7 @@ use Rattle.causal_clock.specs.Inside.Kept.{LastOf}
 old_event : (es : List Event) (e : Event) (i : ℕ) (d : Event) → i < length es → get_or (es ++ e ∷ []) i d ≡ get_or es i d
 old_event es e i d h = get_or-append es (e ∷ []) d i h
 
+-- an event before the newest keeps its lane
 pub lane_of-old : (es : List Event) (e : Event) (i : ℕ) → i < length es → lane_of (es ++ e ∷ []) i ≡ lane_of es i
 lane_of-old es e i h = ap (λ (x : Event). x.lane) (old_event es e i _ h)
 
@@ -28,15 +29,18 @@ lane_of-new es e = ap (λ (x : Event). x.lane) (get_or-append_seam es e [] _)
 pub send_of-new : (es : List Event) (e : Event) → send_of (es ++ e ∷ []) (length es) ≡ e.send
 send_of-new es e = ap (λ (x : Event). x.send) (get_or-append_seam es e [] _)
 
+-- one more event makes the list longer by one
 pub length-more : (es : List Event) (e : Event) → length (es ++ e ∷ []) ≡ length es + 1
 length-more es e = length-append es (e ∷ [])
 
 -- ---- chains
 
+-- an event reaches no event before it, and only one that is there
 pub reaches_forward : {es : List Event} {i j : ℕ} → Reaches es i j → (i ≤ j) × (j < length es)
 reaches_forward (itself h) = (omega arith, h)
 reaches_forward (onward c d) = let before = reaches_forward c in (omega (arith, d.earlier), d.within)
 
+-- what reaches an event reaches all that this one reaches
 pub reaches_through : {es : List Event} {i j k : ℕ} → Reaches es i j → Reaches es j k → Reaches es i k
 reaches_through c (itself h) = c
 reaches_through c (onward b d) = onward (reaches_through c b) d
@@ -65,10 +69,12 @@ precedes_back es e i j h d =
       ];
     }
 
+-- one more event leaves what reaches what
 pub reaches_old : {es : List Event} (e : Event) {i j : ℕ} → Reaches es i j → Reaches (es ++ e ∷ []) i j
 reaches_old {es} e (itself h) = itself (omega (arith, length-more es e))
 reaches_old {es} e (onward {j = j} {k = k} c d) = onward (reaches_old e c) (precedes_old es e j k d)
 
+-- what reaches an older event did so before the newest came
 pub reaches_back : (es : List Event) (e : Event) {i j : ℕ} → j < length es → Reaches (es ++ e ∷ []) i j → Reaches es i j
 reaches_back es e below (itself h) = itself below
 reaches_back es e below (onward {j = j} {k = k} c d) =
@@ -90,20 +96,25 @@ reaches_new es e is (onward {j = j} {k = k} c d) =
 
 -- ---- places
 
+-- one more event makes its own lane longer by one, and no other
 pub lane_length-more : (es : List Event) (e : Event) (lane : ℕ) → lane_length (es ++ e ∷ []) lane ≡ lane_length es lane + (if e.lane == lane then 1 else 0)
 lane_length-more es e lane = sum_by-append _ es (e ∷ []) ∙ omega arith
 
+-- an event before the newest keeps its place in its lane
 pub place_of-old : (es : List Event) (e : Event) (i : ℕ) → i < length es → place_of (es ++ e ∷ []) i ≡ place_of es i
 place_of-old es e i h =
     let front : take i (es ++ e ∷ []) ≡ take i es = take-append-le i es (e ∷ []) (omega arith) in
     λ k. lane_length (front k) (lane_of-old es e i h k)
 
+-- the newest event's place is how many events its lane had
 pub place_of-new : (es : List Event) (e : Event) (i : ℕ) → i ≡ length es → place_of (es ++ e ∷ []) i ≡ lane_length es e.lane
 place_of-new es e i is = ap (place_of (es ++ e ∷ [])) is ∙ (λ k. lane_length (take-append_seam es (e ∷ []) k) (lane_of-new es e k))
 
+-- at the newest position stands the newest event's lane
 pub lane_of-at_new : (es : List Event) (e : Event) (i : ℕ) → i ≡ length es → lane_of (es ++ e ∷ []) i ≡ e.lane
 lane_of-at_new es e i is = ap (lane_of (es ++ e ∷ [])) is ∙ lane_of-new es e
 
+-- each event is one of those before, or the newest
 pub old_or_new : (es : List Event) (e : Event) (i : ℕ) → i < length (es ++ e ∷ []) → (i < length es) ⊎ (i ≡ length es)
 old_or_new es e i h =
     elim (leb_tells (suc i) (length es)) [
@@ -111,14 +122,17 @@ old_or_new es e i h =
       | inr t ↦ inr (omega (arith, t.1, length-more es e))
     ]
 
+-- equal numbers count as one
 pub one_at_same : (a b : ℕ) → a ≡ b → ◌≡◌ {A = ℕ} (if a == b then 1 else 0) 1
 one_at_same a b h = grind (arith, nat_tests)
 
+-- different numbers count as none
 pub one_at_other : (a b : ℕ) → a ≢ b → ◌≡◌ {A = ℕ} (if a == b then 1 else 0) 0
 one_at_other a b h = grind (arith, nat_tests)
 
 -- ---- an older event is reached from the same events as before
 
+-- an older event is still reached by as many of a lane's first events
 pub first_old : (es : List Event) (e : Event) (j lane n : ℕ) → j < length es → FirstReach es j lane n → FirstReach (es ++ e ∷ []) j lane n
 first_old es e j lane n below f = record {
   no_more = omega (arith, f.no_more, lane_length-more es e lane);
@@ -137,13 +151,18 @@ first_old es e j lane n below f = record {
 
 -- of the lane's events, just the first n reach the event, if there is one
 pub record FirstReachSome (es : List Event) (event : Option ℕ) (lane n : ℕ) : Type 0 where
+  -- the lane has so many events
   pub no_more : n ≤ lane_length es lane
+  -- there is an event, and the first n reach it
   pub back : (i : ℕ) → i < length es → lane_of es i ≡ lane → place_of es i < n → (j : ℕ) × (event ≡ Some j) × Reaches es i j
+  -- what reaches it is one of the first n
   pub forth : (i j : ℕ) → i < length es → lane_of es i ≡ lane → event ≡ Some j → Reaches es i j → place_of es i < n
 
+-- an event of the newest event's lane directly precedes that
 pub by_lane : (es : List Event) (e : Event) (p : ℕ) → p < length es → lane_of es p ≡ e.lane → DirectlyPrecedes (es ++ e ∷ []) p (length es)
 by_lane es e p lt same = record { earlier = lt; within = omega (arith, length-more es e); because = inl (lane_of-old es e p lt ∙ same ∙ sym (lane_of-new es e)) }
 
+-- the event that sent to the newest one directly precedes that
 pub by_send : (es : List Event) (e : Event) (s : ℕ) → s < length es → e.send ≡ Some s → DirectlyPrecedes (es ++ e ∷ []) s (length es)
 by_send es e s lt sent = record { earlier = lt; within = omega (arith, length-more es e); because = inr (send_of-new es e ∙ sent) }
 

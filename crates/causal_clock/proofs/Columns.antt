@@ -102,9 +102,11 @@ parted rises place start n inside passed point bound = record { inside = omega (
 pub tail_is : (rises : List Rise) (start : ℕ) → take (length rises - start) (drop start rises) ≡ drop start rises
 tail_is rises start = take_all (length rises - start) (drop start rises) (omega (arith, length-drop start rises))
 
+-- rises from start on have those up to a place first, and those beyond it after
 pub tail_partitioned : (rises : List Rise) (place start : ℕ) → RisesStrictly rises → IsPartitionedBy (λ y. leb y.place place) (take (length rises - start) (drop start rises))
 tail_partitioned rises place start strictly = subst (IsPartitionedBy (λ y. leb y.place place)) (sym (tail_is rises start)) (partitioned rises place start strictly)
 
+-- where the tail parts after n rises, the column parts n after start
 pub tail_parted : (rises : List Rise) (place start n : ℕ) → start ≤ length rises → ((i : ℕ) → i < start → (rise_at rises i).place ≤ place) → IsPartitionPoint (λ y. leb y.place place ≡ true) (λ y. leb y.place place ≡ false) (take (length rises - start) (drop start rises)) n → n ≤ length (take (length rises - start) (drop start rises)) → IsParted rises place (start + n)
 tail_parted rises place start n inside passed point bound =
     parted rises place start n inside passed
@@ -179,6 +181,7 @@ raised_there rises place count =
 
 -- ---- columns
 
+-- a column stays one when its lanes get more events
 pub column_more : (rises : List Rise) (events from_events events' from_events' : ℕ) → events ≤ events' → from_events ≤ from_events' → IsColumn rises events from_events → IsColumn rises events' from_events'
 column_more rises events from_events events' from_events' le le' is = record {
   strictly = is.strictly;
@@ -222,6 +225,7 @@ module _ (rises : List Rise) (own from_events from_events' count : ℕ) (is : Is
   below_next : (i : ℕ) → i < length rises → (rise_at rises i).count < count
   below_next i lt = omega (arith, more, rise_counts rises own i lt (omega (arith, is.places i lt)))
 
+  -- a column with a rise to a greater count at the lane's next place is a column
   pub appended : IsColumn (rises ++ next ∷ []) (own + 1) from_events'
   appended = record {
     strictly = record {

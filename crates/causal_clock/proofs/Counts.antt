@@ -56,6 +56,7 @@ module _ (es : List Event) (j lane n : ℕ) (test : ℕ → Bool) (f : FirstReac
       ]
       ∙ ap (min n) (sym next)
 
+  -- where a lane's first n events reach j, that many of them pass a test of what reaches j
   pub reach_counted : count_in_lane es lane test ≡ n
   reach_counted =
       let whole : lane_length (take (length es) es) lane ≡ lane_length es lane = ap (λ xs. lane_length xs lane) (take-length es) in

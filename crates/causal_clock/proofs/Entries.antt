@@ -11,12 +11,18 @@ use Rattle.causal_clock.proofs.Lanes.{as_many}
 
 -- an event, its lane, which there is, and its place, as its entry has them
 pub record TellsEvent (a : Inside) (event : ℕ) (entry : Entry) : Type 0 where
+  -- the event is there
   pub inside : event < length (events_of a)
+  -- its lane is the entry's
   pub lane : lane_of (events_of a) event ≡ entry.event.lane
+  -- its place in the lane is the entry's
   pub place : place_of (events_of a) event ≡ entry.place
+  -- the clock has that lane
   pub there : entry.event.lane < length a.lanes.items
+  -- the place is smaller than the number of events
   pub few : entry.place < length (events_of a)
 
+-- in a clock each entry tells its event
 pub tells_event : (a : Inside) (event : ℕ) (entry : Entry) → IsClock a → event < length (events_of a) → entry ≡ get_or a.entries.items event entry → TellsEvent a event entry
 tells_event a event entry clock inside is =
     let k = clock.keeps in

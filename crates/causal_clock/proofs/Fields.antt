@@ -19,15 +19,19 @@ events_in entries = map (λ x. x.event) entries
 abbrev pub places_in : List Entry → List ℕ
 places_in entries = map (λ x. x.place) entries
 
+-- the lane of an event is what its entry has
 pub lane_of_entry : (entries : List Entry) (j : ℕ) (x : Entry) → x ≡ get_or entries j x → j < length entries → lane_of (events_in entries) j ≡ x.event.lane
 lane_of_entry entries j x is h = ap (λ (e : Event). e.lane) (get_or-map (λ y. y.event) entries j x _ h) ∙ ap (λ (y : Entry). y.event.lane) (sym is)
 
+-- the place of an event is what its entry has
 pub place_of_entry : (entries : List Entry) (j : ℕ) (x : Entry) → x ≡ get_or entries j x → j < length entries → slice_index (places_in entries) j ≡ x.place
 place_of_entry entries j x is h = get_or-map (λ y. y.place) entries j x 0 h ∙ ap (λ (y : Entry). y.place) (sym is)
 
+-- each entry stands for one event
 pub as_many_events : (entries : List Entry) → length (events_in entries) ≡ length entries
 as_many_events entries = simp length-map
 
+-- each entry has one place
 pub as_many_places : (entries : List Entry) → length (places_in entries) ≡ length entries
 as_many_places entries = simp length-map
 

@@ -26,8 +26,10 @@ newest es e i = (λ c. reaches_new es e refl c, λ r. back r)
 pub in_order : (es : List Event) (i j : ℕ) → Reaches es i j → i ≤ j
 in_order es i j c = (reaches_forward c).0
 
+-- what reaches an event reaches all that this one reaches
 pub through : (es : List Event) (i j k : ℕ) → Reaches es i j → Reaches es j k → Reaches es i k
 through es i j k c d = reaches_through c d
 
+-- each event reaches itself
 pub from_itself : (es : List Event) (i : ℕ) → i < length es → Reaches es i i
 from_itself es i h = itself h

@@ -9,6 +9,7 @@ use Rattle.causal_clock.specs.Inside.Columns.{column_in, column_of}
 use Rattle.causal_clock.specs.Inside.Lanes.{rises_in, SameColumns}
 use Rattle.std.proofs.lemmas.List.{map-append, map-set, set-get_or, get_or-map, length-map}
 
+-- a list of what elements tell is as long as theirs
 pub as_many : {V B : Type 0} (f : V → B) (xs : List V) → length (map f xs) ≡ length xs
 as_many f xs = simp length-map
 
@@ -17,9 +18,11 @@ module _ {V B : Type 0} (f : V → B) (xs : List V) (i : ℕ) (x y : V) where
   pub told_here : (d : B) → i < length (map f xs) → get_or (map f (set xs i y)) i d ≡ f y
   told_here d lt = ap (λ ys. get_or ys i d) (map-set f xs i y) ∙ get_or-set_same (map f xs) i (f y) d lt
 
+  -- to replace an element leaves what the others tell
   pub told_elsewhere : (d : B) (k : ℕ) → k ≢ i → get_or (map f (set xs i y)) k d ≡ get_or (map f xs) k d
   told_elsewhere d k other = ap (λ ys. get_or ys k d) (map-set f xs i y) ∙ get_or-set_other (map f xs) i k (f y) d other
 
+  -- at a position stands what the element there tells
   pub told_was : (d : B) → i < length xs → x ≡ get_or xs i x → get_or (map f xs) i d ≡ f x
   told_was d lt is = get_or-map f xs i x d lt ∙ ap f (sym is)
 
@@ -38,12 +41,15 @@ told_default (y ∷ ys) b d is (suc k) = told_default ys b d is k
 -- ---- the columns of a clock's lanes, when a lane is written back
 
 module _ (xs : List Lane) (l : ℕ) (x y : Lane) (lt : l < length xs) where
+  -- a lane that was written back has its new columns
   pub column_here : (source : ℕ) → column_of (map rises_in (set xs l y)) l source ≡ column_in (rises_in y) source
   column_here source = ap (λ columns. column_in columns source) (told_here rises_in xs l x y [] (omega (arith, lt, as_many rises_in xs)))
 
+  -- to write a lane back leaves the columns of the others
   pub column_elsewhere : (lane source : ℕ) → lane ≢ l → column_of (map rises_in (set xs l y)) lane source ≡ column_of (map rises_in xs) lane source
   column_elsewhere lane source other = ap (λ columns. column_in columns source) (told_elsewhere rises_in xs l x y [] lane other)
 
+  -- a lane that was taken out has the columns that stood there
   pub column_was : x ≡ get_or xs l x → (source : ℕ) → column_of (map rises_in xs) l source ≡ column_in (rises_in x) source
   column_was is source = ap (λ columns. column_in columns source) (told_was rises_in xs l x y [] lt is)
 
@@ -55,6 +61,7 @@ module _ (xs : List Lane) (l : ℕ) (x y : Lane) (lt : l < length xs) where
         | inr s ↦ column_elsewhere lane source s.1
       ]
 
+-- one more lane without rises leaves all columns
 pub column_more : (xs : List Lane) (x : Lane) → rises_in x ≡ [] → (lane source : ℕ) → column_of (map rises_in (xs ++ x ∷ [])) lane source ≡ column_of (map rises_in xs) lane source
 column_more xs x is lane source = ap (λ columns. column_in (get_or columns lane []) source) (map-append rises_in xs (x ∷ [])) ∙ ap (λ columns. column_in columns source) (told_default (map rises_in xs) (rises_in x) [] is lane)
 

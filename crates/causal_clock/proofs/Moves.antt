@@ -57,9 +57,11 @@ told_in es column send source entry columns lane place is =
 abbrev pub told_of : List Event → (ℕ → ℕ → List Rise) → ℕ → ℕ → ℕ → ℕ
 told_of es column send own source = if own == source then 0 else counts_in es column send source
 
+-- a receive is told nothing of its own lane
 pub told_of-own : (es : List Event) (column : ℕ → ℕ → List Rise) (send own : ℕ) → told_of es column send own own ≡ 0
 told_of-own es column send own = ap (λ b. if b then 0 else counts_in es column send own) (eq-eqb own own refl)
 
+-- of another lane a receive is told what its send's event counts
 pub told_of-other : (es : List Event) (column : ℕ → ℕ → List Rise) (send own source : ℕ) → source ≢ own → told_of es column send own source ≡ counts_in es column send source
 told_of-other es column send own source other = ap (λ b. if b then 0 else counts_in es column send source) (ne_eqb own source (λ is. other (sym is)))
 
@@ -94,6 +96,7 @@ module _ (entries : List Entry) (xs : List Lane) (k : KeepsColumns (events_in en
   all_risen : (source : ℕ) → columns_in (set xs e.lane z) e.lane source ≡ raised (columns_in xs e.lane source) (lane_length (events_in entries) e.lane) (counts source)
   all_risen source = column_here xs e.lane x z lt source ∙ risen source ∙ (λ i. raised (sym (column_was xs e.lane x z lt is source) i) (length_is i) (counts source))
 
+  -- with one more event the fields still have all counts, places and columns
   pub keeps_more : KeepsColumns (events_in (entries ++ record { event = e; place = x.events } ∷ [])) (places_in (entries ++ record { event = e; place = x.events } ∷ [])) (lengths_in (set xs e.lane z)) (columns_in (set xs e.lane z))
   keeps_more =
       let places : places_in (entries ++ record { event = e; place = x.events } ∷ []) ≡ places_in entries ++ lane_length (events_in entries) e.lane ∷ [] = map-append (λ (y : Entry). y.place) entries (record { event = e; place = x.events } ∷ []) ∙ ap (λ (n : ℕ). places_in entries ++ n ∷ []) length_is in

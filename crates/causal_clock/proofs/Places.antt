@@ -16,8 +16,11 @@ place_of-suc e es i = lane_length-first e (take i es) (lane_of es i)
 
 -- the n-th event of a lane is event i
 pub record IsAtPlace (es : List Event) (lane n i : ℕ) : Type 0 where
+  -- the event is there
   pub within : i < length es
+  -- it is of the lane
   pub of_lane : lane_of es i ≡ lane
+  -- n events of the lane stand before it
   pub place : place_of es i ≡ n
 
 first_or_later : (e : Event) (es : List Event) (lane n : ℕ) → e.lane ≡ lane → n < lane_length (e ∷ es) lane → ((m : ℕ) → m < lane_length es lane → (i : ℕ) × IsAtPlace es lane m i) → (i : ℕ) × IsAtPlace (e ∷ es) lane n i
@@ -33,6 +36,7 @@ first_or_later e es lane (suc n) same h rest =
       },
     )
 
+-- a lane has an event at each place below its length
 pub event_at_place : (es : List Event) (lane n : ℕ) → n < lane_length es lane → (i : ℕ) × IsAtPlace es lane n i
 event_at_place [] lane n h = absurd (omega arith)
 event_at_place (e ∷ es) lane n h =

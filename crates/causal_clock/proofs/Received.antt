@@ -67,6 +67,7 @@ module _ (es : List Event) (counts : ℕ → ℕ → ℕ) (many : ℕ) (k : Keep
           record { within = at.within; of_lane = at.of_lane; placed = at.place; receives = by_a_send reach from.of_lane from.place at.of_lane at.place },
         )
 
+  -- a column that tells what reaches a lane from a source has just the rises by it
   pub rises_are : (lane source : ℕ) → source ≢ lane → (rises : List Rise) → IsColumn rises (lane_length es lane) (lane_length es source) → ((j : ℕ) → j < length es → lane_of es j ≡ lane → FirstReach es j source (count_at rises (place_of es j))) → AreRises es lane source rises
   rises_are lane source apart rises column told = record {
     strictly = column.strictly;

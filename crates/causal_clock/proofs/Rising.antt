@@ -15,9 +15,11 @@ use Rattle.causal_clock.proofs.Chains.{lane_of-old, lane_of-at_new, lane_length-
 use Rattle.causal_clock.proofs.Columns.{count_of_none, settled, raised_before, raised_there, raised_column, column_more}
 use Rattle.causal_clock.proofs.Steps.{keeps_event, small_count}
 
+-- an event's count of its own lane is its place and one more
 pub counts_own : (es : List Event) (column : ℕ → ℕ → List Rise) (j lane : ℕ) → lane_of es j ≡ lane → counts_in es column j lane ≡ place_of es j + 1
 counts_own es column j lane same = ap (λ b. if b then place_of es j + 1 else count_at (column (lane_of es j) lane) (place_of es j)) (eq-eqb (lane_of es j) lane same)
 
+-- an event's count of another lane is what the column tells at its place
 pub counts_other : (es : List Event) (column : ℕ → ℕ → List Rise) (j lane source : ℕ) → lane_of es j ≡ lane → source ≢ lane → counts_in es column j source ≡ count_at (column lane source) (place_of es j)
 counts_other es column j lane source same other =
     ap (λ b. if b then place_of es j + 1 else count_at (column (lane_of es j) source) (place_of es j)) (ne_eqb (lane_of es j) source (λ is. other (sym is ∙ same)))
@@ -115,6 +117,7 @@ module _ (es : List Event) (places lengths : List ℕ) (column : ℕ → ℕ →
               omega (arith, is, k.lengths lane (omega (arith, lt, length-set lengths e.lane (lane_length es e.lane + 1))), lane_length-more es e lane, one_at_other e.lane lane (λ is'. s.1 (sym is')))
         ]
 
+    -- with one more event the raised columns tell all counts
     pub keeps_next : length places ≡ length es → KeepsColumns (es ++ e ∷ []) (places ++ lane_length es e.lane ∷ []) (set lengths e.lane (lane_length es e.lane + 1)) column'
     keeps_next long = record {
       keeps = rw (length-set lengths e.lane (lane_length es e.lane + 1)) (keeps_event es (counts_in es column) (length lengths) k.keeps e inside sent room (counts_in (es ++ e ∷ []) column') old_count own_count new_count);

@@ -102,6 +102,7 @@ module _ (es : List Event) (counts : ℕ → ℕ → ℕ) (lanes : ℕ) (k : Kee
     empty = λ is. omega (arith, l.empty is, lane_length-more es e lane, one_at_other e.lane lane other);
   }
 
+  -- counts hold with a new event whose own are the greater of its lane's last and its send's
   pub keeps_event : Keeps (es ++ e ∷ []) after lanes
   keeps_event = record {
     few = omega (arith, length-more es e);

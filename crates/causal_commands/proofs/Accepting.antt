@@ -3,6 +3,7 @@ use Rattle.std.proofs.Common.{refl}
 use Rattle.causal_audit.specs.declared.verdict.Verdict.TheVariants.{Accept, Exceeded, Orphan}
 use Rattle.causal_commands.specs.Accepted.{SafeIsAccepted}
 
+-- a safe recording is accepted
 pub safe_accepted : SafeIsAccepted
 safe_accepted r f Accept safe is = refl
 safe_accepted r f (Exceeded t down) safe is = absurd (is.0.unsafe (safe t is.0.within))

@@ -35,6 +35,7 @@ replies most view known f stopped (Err e) tells ended line = tt
 replies most view known f stopped (Ok a) tells ended line =
     IfSome-weaker known _ _ (λ text told. subst (λ (e : Ended). IsReply most view text f e a.line.items) (sym ended) (line most text told)) tells
 
+-- the line of a fault answers for which numbers of faults the text is safe
 pub ranges : (most : ℕ) (known : Option (List ℕ)) (stopped : Stopped) (result : Result Answer Ended) → IfSome known (λ text. TellsStop most text stopped)
     → IfOk result (λ a. a.ended ≡ Faulted) → IfOk result (λ a. (k : ℕ) (text : List ℕ) → TellsStop k text stopped → IsFaultLine k text a.line.items) → IfOk result (λ a. IsRangeAnswerFor most known a.ended a.line.items)
 ranges most known stopped (Err e) tells ended line = tt

@@ -173,11 +173,13 @@ more_told None P Q more h = h
 more_told (Some x) P Q more h = more x h
 
 module _ (r : Recording) (f t : ℕ) where
+  -- where the verdict names too many down, the newest entry of that instant tells the cause
   pub excess_told : (down : _) → IsVerdict r f (Exceeded t down) → TellsCause r f (Exceeded t down) (newest_act (instant r.past t))
   excess_told down v = makes_excess r.processes f (instant r.past t) v.1.many (λ e past is.
       let old = previous r.past t e past v.0.within is in
       subst (λ x. count_below r.processes (is_down x) ≤ f) old.1 (v.0.before (length past) old.0).few_down)
 
+  -- where the verdict names an orphan, the newest entry of that instant tells the cause
   pub orphan_told : (k : ℕ) (crash : _) (p : ℕ) → AreAccepted r.processes r.past → SweepLaw → OneNewOrphan → IsVerdict r f (Orphan t k crash p) → TellsCause r f (Orphan t k crash p) (newest_act (instant r.past t))
   orphan_told k crash p formed sweep only v =
       let s = instant r.past t in

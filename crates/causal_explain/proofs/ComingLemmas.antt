@@ -91,6 +91,7 @@ precedes_newest e past i j k m n forward here c (by_message (inr h)) is =
     let below : j < length past = omega (arith, forward k j (inr h), here) in
     through j m (inr h.1) (comes_old e past i j m forward below c) is
 
+-- the newest event is reached by no step, or by one more than what directly precedes it
 pub comes_newest : (e : Entry) (past : List Entry) (i k n : ℕ) → AreForward (e ∷ past) → k ≡ length past → Comes (e ∷ past) i k n → ComesNewest e past i n
 comes_newest e past i k n forward here (at_once p l at is none) = begins_newest e past i p l n (sym is ∙ here) none at
 comes_newest e past i k n forward here (onward j m c d is) = precedes_newest e past i j k m n forward here c d is

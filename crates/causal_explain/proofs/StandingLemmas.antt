@@ -32,6 +32,7 @@ module _ (e : Entry) (past : List Entry) (test : List Entry → Bool) where
   pub begins_never : test (e ∷ past) ≡ true → IsStanding past test Never → IsStanding (e ∷ past) test (Holds (length past))
   begins_never holds h = since_newest e past test (fails_now past test h) holds
 
+  -- what had ended, and holds with one more entry, holds since that
   pub begins_again : (since : ℕ) → test (e ∷ past) ≡ true → IsStanding past test (Ended since) → IsStanding (e ∷ past) test (Holds (length past))
   begins_again since holds h = since_newest e past test (not_true (test past) (holds_now past (λ state. not (test state)) since h.0)) holds
 

@@ -12,14 +12,17 @@ pub record IsWalkedBack (past : List Entry) (i last total gone position : ℕ) (
   pub rest : List ℕ
   pub reversed : reverse chain ≡ position ∷ rest
   pub path : IsPath past position rest last
+  -- so many steps were gone back
   pub steps : length rest ≡ gone
   pub left : ℕ
   pub in_all : left + gone ≡ total
+  -- the position is reached from i by as many steps as are left, and by no fewer
   pub fewest : IsLeast past i position left
 
 pub walk_begun : (past : List Entry) (i last total : ℕ) → IsLeast past i last total → IsWalkedBack past i last total 0 last (last ∷ [])
 walk_begun past i last total h = record { rest = []; reversed = refl; path = refl; steps = refl; left = total; in_all = omega arith; fewest = h }
 
+-- one more step is gone back to an event from which one step less is left
 pub walk_more : (past : List Entry) (i last total gone position : ℕ) (chain : List ℕ) (next : ℕ) → gone < total → IsWalkedBack past i last total gone position chain
     → ((n : ℕ) → IsLeast past i position (n + 1) → DirectlyPrecedes past next position × IsLeast past i next n) → IsWalkedBack past i last total (gone + 1) next (chain ++ next ∷ [])
 walk_more past i last total gone position chain next below h back =
@@ -36,6 +39,7 @@ walk_more past i last total gone position chain next below h back =
       fewest = before.1;
     }
 
+-- once all steps were gone back, the chain in the order of the run is the walk
 pub walk_over : (past : List Entry) (i last total gone position : ℕ) (chain : List ℕ) → gone ≡ total → IsWalkedBack past i last total gone position chain → IsWalk past i last total (reverse chain)
 walk_over past i last total gone position chain over h =
     let here : position ≡ i = comes_nowhere past i position h.left (omega (arith, h.in_all, over)) h.fewest.comes in

@@ -46,6 +46,7 @@ first_passing start (suc n) first f g from below here gone before same =
           rw (f_not, g_not) (first_passing (start + 1) n first f g (omega arith) (omega arith) here gone before same)
     ]
 
+-- the empty set has no members in any order
 pub ascending-empty : ascending empty ≡ []
 ascending-empty = none_passing 0 256 (contains empty) (contains-empty nat_cmp)
 

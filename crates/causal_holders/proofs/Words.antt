@@ -59,6 +59,7 @@ inserted_bit ws p q a h =
       ]
     ]
 
+-- to set the bit of p adds p to the set that the words show
 pub inserted : (ws : List ℕ) (p : ℕ) → AreWords ws → p < 256 → shown (set ws (p / 64) (bit_or (slice_index ws (p / 64)) (1 * 2 ^ (p % 64) % 2 ^ 64))) ≡ insert (shown ws) p
 inserted ws p a h =
     shown_is _ _ (λ q. inserted_bit ws p q a h
@@ -89,6 +90,7 @@ removed_bit ws p q a h =
       ]
     ]
 
+-- to clear the bit of p takes p out of the set that the words show
 pub removed : (ws : List ℕ) (p : ℕ) → AreWords ws → p < 256 → shown (set ws (p / 64) (cleared ws p)) ≡ remove (shown ws) p
 removed ws p a h =
     shown_is _ _ (λ q. removed_bit ws p q a h
@@ -136,6 +138,7 @@ united_at ws vs q =
       | inr g ↦ rw g.0 refl
     ]
 
+-- the bits that are set in either of two lists of words show the union
 pub united : (ws vs : List ℕ) → shown (or_words ws vs) ≡ union (shown ws) (shown vs)
 united ws vs =
     shown_is _ _ (λ q. united_at ws vs q
@@ -152,6 +155,7 @@ without_at ws vs q a =
       | inr g ↦ rw g.0 refl
     ]
 
+-- the bits of one list of words that are not set in the other show the difference
 pub without : (ws vs : List ℕ) → AreWords vs → shown (without_words ws vs) ≡ difference (shown ws) (shown vs)
 without ws vs a =
     shown_is _ _ (λ q. without_at ws vs q a
@@ -200,6 +204,7 @@ none_below_zero : (p : ℕ → Bool) → len (numbers_below 0 p) ≡ 0
 unfolding numbers_below
 none_below_zero p = len-empty nat_cmp
 
+-- the words have as many ones as the set has members
 pub len-shown : (ws : List ℕ) → AreWords ws → ones (slice_index ws 0) + ones (slice_index ws 1) + ones (slice_index ws 2) + ones (slice_index ws 3) ≡ len (shown ws)
 len-shown ws a = omega (arith, none_below_zero (has_member ws), len-word ws 0 a, len-word ws 1 a, len-word ws 2 a, len-word ws 3 a)
 
@@ -216,11 +221,13 @@ never : (b : Bool) → (b && false) ≡ false
 never true = refl
 never false = refl
 
+-- words of zeros show the empty set
 pub shown_none : shown (0 ∷ 0 ∷ 0 ∷ 0 ∷ []) ≡ empty
 shown_none =
     shown_is (0 ∷ 0 ∷ 0 ∷ 0 ∷ []) _ (λ q. ap (λ (w : ℕ). nat_lt q 256 && has_bit w (q % 64)) (zero_word (q / 64))
     ∙ ap (λ n. nat_lt q 256 && nat_lt 0 n) (bit_at-zero (q % 64)) ∙ never (nat_lt q 256) ∙ sym (contains-empty nat_cmp q))
 
+-- words united with words are words
 pub or_are_words : (ws vs : List ℕ) → AreWords ws → AreWords vs → AreWords (or_words ws vs)
 unfolding or_words
 or_are_words ws vs a b = record { count = refl; small = small }
@@ -232,6 +239,7 @@ or_are_words ws vs a b = record { count = refl; small = small }
     small (suc (suc (suc zero))) = or_lt 64 _ _ (a.small 3) (b.small 3)
     small (suc (suc (suc (suc i)))) = omega arith
 
+-- words of which one is replaced by a word are words
 pub set_are_words : (ws : List ℕ) (p w : ℕ) → AreWords ws → p < 4 → w < 2 ^ 64 → AreWords (set ws p w)
 set_are_words ws p w a there h = record {
   count = length-set ws p w ∙ a.count;
@@ -247,11 +255,13 @@ one_is_set x h = grind (arith, nat_tests)
 when_inside : (q n : ℕ) (b : Bool) → q < n → (nat_lt q n && b) ≡ b
 when_inside q n b h = grind (arith, nat_tests)
 
+-- the bit of p is set just where p is a member
 pub bit_is : (ws : List ℕ) (p : ℕ) → p < 256 → nat_eq (bit_and (slice_index ws (p / 64) / 2 ^ (p % 64)) 1) 1 ≡ contains (shown ws) p
 bit_is ws p h =
     ap (λ n. nat_eq n 1) (shr_and_one (slice_index ws (p / 64)) (p % 64)) ∙ one_is_set (bit_at (slice_index ws (p / 64)) (p % 64)) (bit_at-lt (slice_index ws (p / 64)) (p % 64))
     ∙ sym (contains-shown ws p ∙ when_inside p 256 (has_member ws p) h)
 
+-- a word of 64 bits with one more bit set still has 64 bits
 pub one_bit_fits : (b p : ℕ) → b < 2 ^ 64 → bit_or b (1 * 2 ^ p % 2 ^ 64) < 2 ^ 64
 one_bit_fits b p h = or_lt 64 b _ h (mod-lt (1 * 2 ^ p) (omega arith))
 
@@ -259,6 +269,7 @@ one_bit_fits b p h = or_lt 64 b _ h (mod-lt (1 * 2 ^ p) (omega arith))
 is_below : (q n : ℕ) (b : Bool) → (nat_lt q n && b) ≡ true → (q < n) × (b ≡ true)
 is_below q n b h = (grind (arith, nat_tests), grind (arith, nat_tests))
 
+-- each member is below 256
 pub shown_below : (ws : List ℕ) (q : ℕ) → contains (shown ws) q ≡ true → q < 256
 shown_below ws q h = (is_below q 256 (has_member ws q) (sym (contains-shown ws q) ∙ h)).0
 

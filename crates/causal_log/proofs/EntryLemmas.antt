@@ -23,6 +23,7 @@ pub det_equiv : IsEquivalence same_det
 det_equiv = subst IsEquivalence (sym (λ i x y. det_ties x y i)) (eq_by_cmp_equiv dets_total)
 
 module _ {X : Type 0} where
+  -- a determinant is found by order where it is found by equality, with the same value
   pub find_lookup : (es : List (Det × X)) (q : Det) → find det_cmp q es ≡ lookup (same_det q) es
   find_lookup [] q = refl
   find_lookup (e ∷ es) q = ap (λ b. cond b (Some e.1) (find det_cmp q es)) (sym (det_ties q e.0)) ∙ ap (cond (same_det q e.0) (Some e.1)) (find_lookup es q)
@@ -69,6 +70,7 @@ sorted_ascend ds sorted distinct =
 pub not_itself : (d : Det) → is_before d d ≡ false
 not_itself d = false_from_ne_true (is_before d d) (λ h. true≢false (sym (same_itself d) ∙ before_apart d d h))
 
+-- of two determinants only one comes before the other
 pub not_after : (d e : Det) → is_before d e ≡ true → is_before e d ≡ false
 not_after d e h = false_from_ne_true (is_before e d) (λ k. true≢false (sym (before_trans d e d h k) ∙ not_itself d))
 
@@ -88,6 +90,7 @@ module _ {X : Type 0} where
   put_first e [] h = refl
   put_first e (f ∷ es) h = ap (λ r. by_order r (e ∷ f ∷ es) ((f.0, e.1) ∷ es) (f ∷ put det_cmp e.0 e.1 es)) h.0
 
+  -- an empty map has no entries
   pub nothing : entries (empty {X = X} {R = det_cmp}) ≡ []
   nothing = nil_from_length (entries (empty {X = X} {R = det_cmp})) (sym (len-entries (empty {X = X} {R = det_cmp})) ∙ len-empty det_cmp X)
 

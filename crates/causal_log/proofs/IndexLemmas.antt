@@ -20,6 +20,7 @@ below_all : (o : Option ℕ) (n : ℕ) → ((k : ℕ) → o ≡ Some k → k < n
 below_all None n h = tt
 below_all (Some k) n h = h k refl
 
+-- where an optional place below a bound is there, it is below that bound
 pub below_one : (o : Option ℕ) (n : ℕ) (k : ℕ) → IfSome o (λ k. k < n) → o ≡ Some k → k < n
 below_one None n k h is = absurd (true≢false (sym (ap is_some is)))
 below_one (Some j) n k h is = subst (λ i. i < n) (ap (λ o. unwrap_or o j) is) h
@@ -30,18 +31,21 @@ none_some o x none some = absurd (true≢false (sym (ap is_some some) ∙ ap is_
 none_left : (n : ℕ) → n - n ≡ 0
 none_left n = omega arith
 
+-- where no place is led to, the way has ended
 pub ended : (o : Option ℕ) → ((k : ℕ) → o ≡ Some k → ⊥) → o ≡ None
 ended None h = refl
 ended (Some k) h = absurd (h k refl)
 
 -- where the next older entry stands, from an entry that is there
 module _ (ds : List Det) (heads older : List (Option ℕ)) (index : IsIndex ds heads older) where
+  -- an entry leads to one that is there, or nowhere
   pub older_below : (i : ℕ) → i < length ds → IfSome (get_or older i None) (λ k. k < length ds)
   older_below i low = below_all (get_or older i None) (length ds) (λ k is. more k i (length ds) (index.down i k is) low)
     where
       more : (a b c : ℕ) → a < b → b < c → a < c
       more a b c h i = omega (arith, h, i)
 
+  -- a head leads to an entry that is there, or nowhere
   pub newest_below : (h : ℕ) → IfSome (get_or heads h None) (λ k. k < length ds)
   newest_below h = below_all (get_or heads h None) (length ds) (λ k is. index.within h k is)
 
@@ -119,6 +123,7 @@ module _ (ds : List Det) (heads older : List (Option ℕ)) (index : IsIndex ds h
           last : (k ≡ n) × (d ≡ e) → IsLed more_older (newest_of more_heads (slot_of e)) k
           last new = (zero, subst (λ o. Leads more_older o k zero) (sym (to_new (ap (λ x. head_of (length heads) (slot_of x)) (sym new.1)))) (sym new.0))
 
+      -- an index with one more entry, the newest of its head, is an index of them all
       pub one_more : IsIndex (ds ++ d ∷ []) more_heads more_older
       one_more = record {
         count = length_push older (get_or heads h None) ∙ ap (λ m. m + 1) index.count ∙ sym (length_push ds d);
@@ -135,6 +140,7 @@ onward : (older : List (Option ℕ)) (i k t : ℕ) → Leads older (Some i) k t 
 onward older i k zero h apart = absurd (apart h)
 onward older i k (suc t) h apart = (t, h)
 
+-- a determinant that is in a list stands at some place of it
 pub stands : (d : Det) (ds : List Det) → list_any (same_det d) ds ≡ true → (k : ℕ) × (slice_get ds k ≡ Some d)
 stands d [] h = absurd (true≢false (sym h))
 stands d (e ∷ ds) h = by (same_det d e) refl h (stands d ds)
@@ -145,12 +151,14 @@ stands d (e ∷ ds) h = by (same_det d e) refl h (stands d ds)
     by false apart h later = let there = later h in (suc there.0, there.1)
 
 module _ (ds : List Det) (older : List (Option ℕ)) (d : Det) where
+  -- where d is not at a place that leads on to it, the next older place leads on to it
   pub next_leads : (i : ℕ) (z : Det) → LeadsOn ds older d (Some i) → same_det (get_or ds i z) d ≡ false → LeadsOn ds older d (get_or older i None)
   next_leads i z leads apart k there =
       let way = leads k there in
       onward older i k way.0 way.1 (λ same.
       true≢false (sym (ap (λ x. same_det x d) (get_or_from_slice_get ds i d z (ap (slice_get ds) same ∙ there)) ∙ same_itself d) ∙ apart))
 
+  -- a determinant to which nothing leads on is not among the entries
   pub absent : LeadsOn ds older d None → list_any (same_det d) ds ≡ false
   absent leads = by (list_any (same_det d) ds) refl
     where

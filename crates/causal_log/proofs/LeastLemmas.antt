@@ -41,6 +41,7 @@ slot_is slot q h =
     let rsn = number_is q.rsn slot.rsn two.1 in
     λ i. record { dest = record { 0 = dest i }; rsn = rsn i }
 
+-- before the first entry is asked, the head leads to all that fill the slot
 pub none_passed : (ds : List Det) (heads older : List (Option ℕ)) (slot : Slot) → IsIndex ds heads older → HasPassed slot.dest slot.rsn ds older (newest_of heads slot) None
 none_passed ds heads older slot index = record {
   fits = tt;

@@ -142,6 +142,7 @@ without (x ∷ y ∷ xs) d ys h =
     let two = both (is_before x y) (is_ascending (y ∷ (xs ++ d ∷ ys))) h in
     and_from (is_before x y) (is_ascending (y ∷ (xs ++ ys))) two.0 (without (y ∷ xs) d ys two.1)
 
+-- an ascending list may end in a later determinant instead
 pub raise : (xs : List Det) (d e : Det) → is_ascending (xs ++ d ∷ []) ≡ true → is_before d e ≡ true → is_ascending (xs ++ e ∷ []) ≡ true
 raise xs d e h low = without xs d (e ∷ []) (glue xs d (e ∷ []) h (and_from (is_before d e) true low refl))
 
@@ -262,6 +263,7 @@ module _ (f : ℕ) (log : LogMap) (det : Det) (heard : Known) (out : List Item) 
   not_later : lookup (same_det det) (entries_of rest) ≡ None
   not_later = none_found det rest (none_back det (dets_of rest) (back (dets_of out) (det ∷ dets_of rest) (ap (λ d. is_ascending (dets_of out ++ d ∷ dets_of rest)) (sym here) ∙ ascend)))
 
+  -- what is now known of an item's determinant stands in its place, if it is still carried
   pub met : with_carried f det (joined (known_of_item item) heard) out ++ rest ≡ chosen f (learned log det heard)
   met =
       become f log det heard out (item ∷ rest) is before (joined (known_of_item item) heard) rest (ap (λ k. joined k heard) known_now)
@@ -287,6 +289,7 @@ module _ (f : ℕ) (log : LogMap) (det : Det) (heard : Known) (out rest : List I
   pub still_out : is_carried f heard ≡ false → out ++ rest ≡ chosen f (learned log det heard)
   still_out never = stays (heard_out f (known_of log det) heard never)
 
+  -- a logged determinant that messages do not carry stays out, whatever is heard of it
   pub logged_out : is_some (fin.get log det) ≡ true → out ++ rest ≡ chosen f (learned log det heard)
   logged_out there =
       stays (joined_out f (known_of log det) heard (out_known (fin.get log det) (sym none_there ∙ in_rest f log det heard out rest is before) there))
@@ -299,6 +302,7 @@ module _ (f : ℕ) (log : LogMap) (det : Det) (heard : Known) (out rest : List I
       none None h = refl
       none (Some k) h = absurd (true≢false h)
 
+-- the items from a place on begin with the one that stands there
 pub drop_got : (xs : List Item) (i : ℕ) (x : Item) → slice_get xs i ≡ Some x → drop i xs ≡ x ∷ drop (i + 1) xs
 drop_got [] i x h = absurd (true≢false (sym (ap is_some h)))
 drop_got (y ∷ xs) zero x h = ap (λ o. unwrap_or o y ∷ xs) h
@@ -329,9 +333,11 @@ before_later f det known out before d low = by (is_carried f known) refl
     by false is = raise (dets_of out) det d before low
 
 module _ (f : ℕ) (items : List Item) (from me : Pid) (source : LogMap) where
+  -- before the first item, what is kept is what messages carry of the log
   pub merged_none : (kept : List Item) → kept ≡ chosen f source → HasMerged f items items from me source [] kept
   merged_none kept is = record { log = source; carries = is; all = refl; same = λ q there. refl; before = λ x xs e. refl }
 
+  -- after the last item, what was passed on and what is kept is what messages carry
   pub merged_all : (out kept : List Item) → HasMerged f items [] from me source out kept → out ++ kept ≡ chosen f (absorbed items from me source)
   merged_all out kept h = h.carries ∙ ap (chosen f) h.all
 

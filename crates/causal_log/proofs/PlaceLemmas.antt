@@ -76,6 +76,7 @@ module _ {X : Type 0} where
       (put_moved e (in_order es) (find_lookup (in_order es) e.0 ∙ found_order es e.0 ∙ none_later e.0 es distinct.0)))
 
   module _ (es : List (Det × X)) (distinct : IsDistinct same_det (keys_of es)) where
+    -- in the order of the map that they make there are as many entries
     pub same_length : length es ≡ length (in_order es)
     same_length = sym (length_permutation es (in_order es) (moved_order es distinct))
 
@@ -86,6 +87,7 @@ module _ {X : Type 0} where
         ∙ sym (sum_by-IsPermutation (λ e. cond (P e.1) 1 0) es (in_order es) (moved_order es distinct))
         ∙ sym (length-filter (λ e. P e.1) (in_order es))
 
+    -- those entries that pass a test make the same map in either order
     pub same_kept : (P : X → Bool) → fin.from_entries {R = det_cmp} (filter (λ e. P e.1) es) ≡ fin.from_entries (filter (λ e. P e.1) (in_order es))
     same_kept P = same_log (filter (λ e. P e.1) es) (filter (λ e. P e.1) (in_order es)) (λ q.
         lookup-filter-values det_equiv P q es distinct

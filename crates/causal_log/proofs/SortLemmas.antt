@@ -16,6 +16,7 @@ use Rattle.causal_log.proofs.EntryLemmas.{det_equiv, same_log, sorted_ascend}
 use Rattle.causal_log.proofs.Lemmas.Searches.{same_turned}
 
 module _ {V : Type 0} (es fs : List (Det × V)) (moved : IsPermutation es fs) (distinct : IsDistinct same_det (keys_of es)) where
+  -- entries that changed places still have each determinant once
   pub still_distinct : IsDistinct same_det (keys_of fs)
   still_distinct = IsDistinct-IsPermutation same_det same_turned (keys_of es) (keys_of fs) (IsPermutation-map (λ e. e.0) es fs moved) distinct
 
@@ -31,9 +32,11 @@ module _ {V : Type 0} (es fs : List (Det × V)) (moved : IsPermutation es fs) (d
           (sym (lookup-from_Contains det_equiv q w es distinct (Contains-permutation fs es (q, w) (IsPermutation-sym es fs moved) (Contains-from_lookup same_is q w fs is)))
           ∙ none)))
 
+  -- entries that changed places make the same map
   pub moved_log : fin.from_entries {R = det_cmp} fs ≡ fin.from_entries es
   moved_log = same_log fs es still_found
 
+  -- entries that are sorted have ascending determinants
   pub moved_ascend : IsSortedByKey (λ e. e.0) det_cmp fs → is_ascending (keys_of fs) ≡ true
   moved_ascend sorted = sorted_ascend (keys_of fs) (by fs sorted) still_distinct
     where

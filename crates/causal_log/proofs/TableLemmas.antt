@@ -15,6 +15,7 @@ use Rattle.causal_log.proofs.EntryLemmas.{det_equiv}
 use Rattle.causal_log.proofs.Lemmas.Searches.{same_turned}
 
 module _ {V : Type 0} where
+  -- with an entry of a new determinant, that is found, and all others as before
   pub lookup_push : (es : List (Det × V)) (d : Det) (v : V) → lookup (same_det d) es ≡ None
       → (q : Det) → lookup (same_det q) (es ++ (d, v) ∷ []) ≡ cond (same_det d q) (Some v) (lookup (same_det q) es)
   lookup_push es d v none q =
@@ -25,6 +26,7 @@ module _ {V : Type 0} where
   all_at P (e ∷ es) zero d v all at = subst P (ap (λ o. (unwrap_or o e).0) at) all.0
   all_at P (e ∷ es) (suc i) d v all at = all_at P es i d v all.1 at
 
+  -- with another value at the place of a determinant, that is found, and all others as before
   pub lookup_set : (es : List (Det × V)) (i : ℕ) (d : Det) (was v : V) → IsDistinct same_det (keys_of es) → slice_get es i ≡ Some (d, was)
       → (q : Det) → lookup (same_det q) (set es i (d, v)) ≡ cond (same_det d q) (Some v) (lookup (same_det q) es)
   unfolding IsDistinct
@@ -43,9 +45,11 @@ module _ {V : Type 0} where
       by apart later true is = sym (ap (λ b. cond b (Some v) (Some e.1)) (ap (same_det d) (same_is q e.0 is) ∙ same_turned d e.0 ∙ apart))
       by apart later false is = later
 
+  -- one more entry is one more determinant
   pub keys_push : (es : List (Det × V)) (d : Det) (v : V) → keys_of (es ++ (d, v) ∷ []) ≡ keys_of es ++ d ∷ []
   keys_push es d v = map-append (λ e. e.0) es ((d, v) ∷ [])
 
+  -- nothing is found for a determinant that no entry has
   pub lookup_missing : (es : List (Det × V)) (d : Det) → list_any (same_det d) (keys_of es) ≡ false → lookup (same_det d) es ≡ None
   lookup_missing es d h = none (lookup (same_det d) es) (is_some-lookup (same_det d) es ∙ h)
     where
@@ -68,9 +72,11 @@ module _ {V : Type 0} where
   keys_read (e ∷ es) zero x v read = ap (λ y. y.0 ∷ keys_of es) read
   keys_read (e ∷ es) (suc i) x v read = ap (λ ds. e.0 ∷ ds) (keys_read es i x v read)
 
+  -- the entry that is read at a place has the determinant that stands there
   pub read_det : (es : List (Det × V)) (i : ℕ) (x : Det × V) (d : Det) (was : V) → slice_get es i ≡ Some (d, was) → x ≡ get_or es i x → x.0 ≡ d
   read_det es i x d was at read = ap (λ y. y.0) (read ∙ get_or_from_slice_get es i (d, was) x at)
 
+-- no determinant stands twice in no entries
 pub none_distinct : IsDistinct same_det []
 unfolding IsDistinct
 none_distinct = tt
@@ -82,6 +88,7 @@ module _ {V : Type 0} (es : List (Det × V)) (i : ℕ) (x : Det × V) (low : i <
   within : i < length (keys_of es)
   within = subst (λ n. i < n) (sym (length-keys_of es)) low
 
+  -- the first i + 1 determinants are the first i and that of the entry at i
   pub take_key : take (i + 1) (keys_of es) ≡ take i (keys_of es) ++ x.0 ∷ []
   take_key = take_more (keys_of es) i x.0 within ∙ ap (λ d. take i (keys_of es) ++ d ∷ []) key
 

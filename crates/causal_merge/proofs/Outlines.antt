@@ -117,6 +117,7 @@ deliver_bad a b c e x y z w h = by (split (fits 2 b) (fits 2 c) (fits 2 e && (fi
 
 -- ---- no shape
 
+-- a value that does not fit the outline of a line is refused for its form
 pub no_line : (d : Data) → fits levels d ≡ false → line_of d ≡ Err Form
 unfolding line_of
 no_line Data.null h = refl

@@ -37,6 +37,7 @@ lacks_one g said run p h is less unset =
 pub lacks_all : (g : Gathered) (said : List Line) → Gathers g said → g.run ≡ None → LacksHeader said
 lacks_all g said h is = inl (sym h.run ∙ is)
 
+-- recordings with all headers, whose ordered events make a past, merge into that trace
 pub merges : (most : ℕ) (text : List ℕ) (g : Gathered) (run : Run) (order : List Placed) (r : Recording) → HasRead most g (reverse (lines text)) → ((said : List Line) → Gathers g said → IsWhole said run) → IsMergedOrder g.events.items order
     → r.processes ≡ run.processes → merged most run.processes (reverse order) ≡ Ok r.past → MergesWithin most text r g.torn.items
 merges most text g run order r read whole ordered processes entries = record {
@@ -54,6 +55,7 @@ merges most text g run order r read whole ordered processes entries = record {
 missing_at : ℕ → MergeFault
 missing_at n = record { line = n + 1; kind = kind.NoHeader }
 
+-- where a header is missing, that is the first fault
 pub header_fault : (most : ℕ) (text : List ℕ) (g : Gathered) (f : MergeFault) → HasRead most g (reverse (lines text)) → ((said : List Line) → Gathers g said → LacksHeader said × (f ≡ record { line = length said + 1; kind = kind.NoHeader })) → IsFirstFaultWithin most text f
 unfolding missing_at
 header_fault most text g f read lacks =
@@ -61,6 +63,7 @@ header_fault most text g f read lacks =
     let count : length read.0 ≡ length (lines text) = reading-length most (reverse (lines text)) read.0 read.1 ∙ length-reverse (lines text) in
     inr (inl (record { said = read.0; says = read.1; lacks = h.0; is = h.1 ∙ ap missing_at count }))
 
+-- the fault of the ordered events is the first one, where all headers are there
 pub event_fault : (most : ℕ) (text : List ℕ) (g : Gathered) (run : Run) (order : List Placed) (f : MergeFault) → HasRead most g (reverse (lines text)) → ((said : List Line) → Gathers g said → IsWhole said run) → IsMergedOrder g.events.items order
     → merged most run.processes (reverse order) ≡ Err f → IsFirstFaultWithin most text f
 event_fault most text g run order f read whole ordered faulty = inr (inr (record {

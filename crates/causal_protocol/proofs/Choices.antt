@@ -55,6 +55,7 @@ module _ (f : ℕ) (log : LogMap) (d : Det) where
       any_kept item_of (λ e. is_carried f e.1) (λ item. same_det d item.det && set.contains item.holders q) (λ e. same_det d e.0 && (is_carried f e.1 && set.contains e.1.holders q)) (λ e. swap_first (is_carried f e.1) (same_det d e.0) (set.contains e.1.holders q)) (fin.entries log)
       ∙ any_logged (λ k. is_carried f k && set.contains k.holders q) d log
 
+  -- a message carries only what its sender's log has
   pub chosen_logged : has_item d (chosen f log) ≡ true → has_entry d log ≡ true
   chosen_logged h = by (fin.get log d) (sym chosen_item ∙ h)
     where
@@ -62,6 +63,7 @@ module _ (f : ℕ) (log : LogMap) (d : Det) where
       by None h = absurd (false≢true h)
       by (Some k) h = refl
 
+  -- whom a message names as a holder its sender's log knows as one
   pub chosen_known : (q : ℕ) → item_holder d q (chosen f log) ≡ true → tells_holder d q log ≡ true
   chosen_known q h = by (fin.get log d) (sym (chosen_holder q) ∙ h)
     where
@@ -69,6 +71,7 @@ module _ (f : ℕ) (log : LogMap) (d : Det) where
       by None h = absurd (false≢true h)
       by (Some k) h = (and_parts (is_carried f k) (set.contains k.holders q) h).1
 
+  -- what a log has is carried, or is known to be stable, or to have more than f holders
   pub chosen_left : has_entry d log ≡ true → (has_item d (chosen f log) ≡ true) ⊎ ((tells_stable d log ≡ true) ⊎ (f < set.len (known_of log d).holders))
   chosen_left h = by (fin.get log d) refl h
     where
@@ -96,6 +99,7 @@ stable_have log d =
     ∙ any_logged (λ k. k.stable) d log
     ∙ passes_stable (fin.get log d)
 
+-- a flush writes only what the log has
 pub unstable_logged : (log : LogMap) (d : Det) → has (unstable_in log) d ≡ true → has_entry d log ≡ true
 unstable_logged log d h =
     by (fin.get log d) (sym (any_kept (λ e. e.0) (λ e. not e.1.stable) (same_det d) (λ e. same_det d e.0 && not e.1.stable) (λ e. swap (not e.1.stable) (same_det d e.0)) (fin.entries log) ∙ any_logged (λ k. not k.stable) d log) ∙ h)
@@ -122,6 +126,7 @@ module _ (log : LogMap) (det d : Det) where
   marked_get : fin.get (marked log det) d ≡ cond (same_det d det) (option_map as_stable (fin.get log d)) (fin.get log d)
   marked_get = get_mark log det d (fin.get log det) refl (same_det d det) refl
 
+  -- to mark a determinant leaves what the log has
   pub marked_entry : has_entry d (marked log det) ≡ has_entry d log
   marked_entry = ap is_some marked_get ∙ by (same_det d det) (fin.get log d)
     where
@@ -130,6 +135,7 @@ module _ (log : LogMap) (det d : Det) where
       by true (Some k) = refl
       by false o = refl
 
+  -- to mark a determinant leaves whom the log knows as holders
   pub marked_holder : (q : ℕ) → tells_holder d q (marked log det) ≡ tells_holder d q log
   marked_holder q = ap (λ o. set.contains (unwrap_or o nothing_known).holders q) marked_get ∙ by (same_det d det) (fin.get log d)
     where
@@ -138,6 +144,7 @@ module _ (log : LogMap) (det d : Det) where
       by true (Some k) = refl
       by false o = refl
 
+  -- what is known to be stable after a mark was marked, or was known so before
   pub marked_mark : tells_stable d (marked log det) ≡ true → (same_det d det ≡ true) ⊎ (tells_stable d log ≡ true)
   marked_mark h = by (same_det d det) refl (fin.get log d) (sym (ap (λ o. (unwrap_or o nothing_known).stable) marked_get) ∙ h)
     where
@@ -145,6 +152,7 @@ module _ (log : LogMap) (det d : Det) where
       by true is o h = inl is
       by false is o h = inr h
 
+  -- a logged determinant that was marked is known to be stable
   pub marked_new : same_det d det ≡ true → has_entry d log ≡ true → tells_stable d (marked log det) ≡ true
   marked_new same there = ap (λ o. (unwrap_or o nothing_known).stable) marked_get ∙ by (same_det d det) same (fin.get log d) there
     where
@@ -153,6 +161,7 @@ module _ (log : LogMap) (det d : Det) where
       by true e None h = absurd (false≢true h)
       by true e (Some k) h = refl
 
+  -- what was known to be stable is so after a mark
   pub marked_old : tells_stable d log ≡ true → tells_stable d (marked log det) ≡ true
   marked_old h = ap (λ o. (unwrap_or o nothing_known).stable) marked_get ∙ by (same_det d det) (fin.get log d) h
     where
@@ -166,6 +175,7 @@ module _ (listed : List Det) (log : LogMap) (d : Det) where
   without_get : fin.get (without listed log) d ≡ cond (not (has listed d)) (fin.get log d) None
   without_get = fin.get-retain_keys log (λ x. not (has listed x)) d (λ x ties. ap (λ y. not (has listed y)) (sym (exact_dets d x ties)))
 
+  -- a log without some determinants still has the others
   pub without_entry : has_entry d (without listed log) ≡ (not (has listed d) && has_entry d log)
   without_entry = ap is_some without_get ∙ by (not (has listed d)) (fin.get log d)
     where
@@ -173,6 +183,7 @@ module _ (listed : List Det) (log : LogMap) (d : Det) where
       by true o = refl
       by false o = refl
 
+  -- a log without some determinants still knows the holders of the others
   pub without_holder : (q : ℕ) → tells_holder d q (without listed log) ≡ (not (has listed d) && tells_holder d q log)
   without_holder q = ap (λ o. set.contains (unwrap_or o nothing_known).holders q) without_get ∙ by (not (has listed d)) (fin.get log d)
     where
@@ -180,6 +191,7 @@ module _ (listed : List Det) (log : LogMap) (d : Det) where
       by true o = refl
       by false o = set.contains-empty nat_cmp q
 
+  -- a log without some determinants still knows which of the others are stable
   pub without_stable : tells_stable d (without listed log) ≡ (not (has listed d) && tells_stable d log)
   without_stable = ap (λ o. (unwrap_or o nothing_known).stable) without_get ∙ by (not (has listed d)) (fin.get log d)
     where
@@ -187,6 +199,7 @@ module _ (listed : List Det) (log : LogMap) (d : Det) where
       by true o = refl
       by false o = refl
 
+  -- a log without some determinants knows only that to be stable which it knew so
   pub without_mark : tells_stable d (without listed log) ≡ true → tells_stable d log ≡ true
   without_mark h = by (not (has listed d)) (fin.get log d) (sym (ap (λ o. (unwrap_or o nothing_known).stable) without_get) ∙ h)
     where
@@ -246,6 +259,7 @@ first_passes p (x ∷ ds) d h = by (p x) refl h (λ at. first_passes p ds d at)
         (ap p (sym one) ∙ is, or_left _ _ (ap (same_det d) one ∙ same_itself d))
     by false is at later = let rest = later at in (rest.0, or_right _ _ rest.1)
 
+-- where a member of a list passes, a first one is found
 pub first_there : (p : Det → Bool) (ds : List Det) (d : Det) → has ds d ≡ true → p d ≡ true → is_some (find p ds) ≡ true
 first_there p [] d h fit = absurd (false≢true h)
 first_there p (x ∷ ds) d h fit = by (p x) refl (or_cases (same_det d x) (has ds d) h) (λ rest. first_there p ds d rest fit)

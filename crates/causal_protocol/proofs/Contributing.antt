@@ -275,6 +275,7 @@ holder_facts p d q = record {
   left = λ listed log. Choices.without_holder listed log d q;
 }
 
+-- an up process knows just the holders that its present lane was told of
 pub holders_are_contributed : HoldersAreContributed
 holders_are_contributed r p d q up = (
   λ h. known_contributed p d (tells_holder d q) (GivesHolder p d q) (holder_facts p d q) r.recording.processes r.faults r.writers r.recording.past up h,
@@ -323,6 +324,7 @@ mark_facts p d = record {
   left = λ listed log. Choices.without_stable listed log d;
 }
 
+-- an up process knows just that to be stable of which its lane was told so
 pub marks_are_contributed : MarksAreContributed
 marks_are_contributed r p d up = (
   λ h. known_contributed p d (tells_stable d) (GivesMark p d) (mark_facts p d) r.recording.processes r.faults r.writers r.recording.past up h,

@@ -43,10 +43,15 @@ count_one (suc n) a w =
 
 -- one more process goes down, and all that it has in volatile memory is lost
 pub record IsCrashed (n f : ℕ) (past : List Entry) (who : ℕ) (ms next : Memories) : Type 0 where
+  -- fewer than f processes were down
   pub few : count_below n (is_down past) < f
+  -- each other process still logs what it did
   pub has_as : (p : ℕ) (d : Det) → has_logged next p d ≡ (not (who == p) && has_logged ms p d)
+  -- each other process still knows the holders that it knew
   pub holds_as : (p : ℕ) (d : Det) (q : ℕ) → knows next p d q ≡ (not (who == p) && knows ms p d q)
+  -- what is known to be stable was known so before
   pub marked : (p : ℕ) (d : Det) → marks next p d ≡ true → marks ms p d ≡ true
+  -- a message that is kept was kept before, by another process
   pub kept : (p : ℕ) (x : Kept) → Keeps next p x → ((who == p) ≡ false) × Keeps ms p x
 
 module _ (n f : ℕ) (past : List Entry) (ms next : Memories) (who : Pid) (s : IsCrashed n f past who.0 ms next) (forward : AreForward (Crash who ∷ past)) (k : Keeping n f past ms) where
@@ -76,6 +81,7 @@ module _ (n f : ℕ) (past : List Entry) (ms next : Memories) (who : Pid) (s : I
   known : (p : ℕ) (d : Det) (q : ℕ) → knows next p d q ≡ true → knows ms p d q ≡ true
   known p d q h = (and_parts (not (who.0 == p)) (knows ms p d q) (sym (s.holds_as p d q) ∙ h)).1
 
+  -- all that the protocol keeps stands after a crash
   pub keeps_crash : Keeping n f (Crash who ∷ past) next
   keeps_crash = record {
     few_down = omega (arith, count_one n (is_down past) who.0, s.few);

@@ -20,6 +20,7 @@ use Rattle.causal_protocol.specs.Kept.{finds, survives, IsSpread, IsTrueOf, Slot
 use Rattle.causal_protocol.proofs.Sets.{survives_found, survives_log, survives_stable, finds_survive, finds_more, Stays, spread_stays, true_stays}
 use Rattle.causal_protocol.proofs.Sending.{at_newest, det_older}
 
+-- a message was sent at a position within the past
 pub message_below : (past : List Entry) (m : ℕ) (x : MsgName) → message_at past m ≡ Some x → m < length past
 message_below [] m x h = absurd (let none : None ≡ Some x = h in cc)
 message_below (e ∷ past) m x h =
@@ -31,22 +32,38 @@ message_below (e ∷ past) m x h =
 -- an up process delivers a message that an up process keeps, which is the one that its log and stable storage name for this
 -- delivery, if they name any; it then has in its log what the message carries and the delivery's determinant
 pub record IsDelivered (n : ℕ) (past : List Entry) (to : Pid) (send rsn : ℕ) (listed : List Det) (ms next : Memories) : Type 0 where
+  -- the receiver is a process
   pub process : to.0 < n
+  -- it is up
   pub up : is_down past to.0 ≡ false
+  -- the message that it delivers
   pub message : MsgName
+  -- the entry at the named position sends it
   pub sent : message_at past send ≡ Some message
+  -- its sender is a process
   pub sender : message.source.0 < n
+  -- the message as it is kept, with what it carries
   pub delivered : Kept
+  -- its sender keeps it so
   pub keeps : Keeps ms message.source.0 delivered
+  -- it was sent at the named position
   pub place : delivered.send ≡ send
+  -- what the receiver finds for the slot of this delivery is of the same message
   pub only : (d : Det) → finds past to.0 d ≡ true → d.dest ≡ to → d.rsn ≡ rsn → message_of d ≡ message
+  -- the delivery lists its own determinant and what the message carries
   pub lists : (d : Det) → has listed d ≡ (same_det d (det_from to rsn message) || has_item d delivered.batch)
+  -- the receiver logs what is listed too, and no other log changes
   pub has_as : (p : ℕ) (d : Det) → has_logged next p d ≡ ((to.0 == p && has listed d) || has_logged ms p d)
+  -- a known holder was known, or is named, or is the receiver, or the sender of what is carried
   pub heard : (p : ℕ) (d : Det) (q : ℕ) → knows next p d q ≡ true
       → (knows ms p d q ≡ true) ⊎ ((item_holder d q delivered.batch ≡ true) ⊎ (((has_item d delivered.batch ≡ true) × ((q ≡ message.source.0) ⊎ (q ≡ to.0))) ⊎ ((d ≡ det_from to rsn message) × (q ≡ to.0))))
+  -- the receiver knows that it holds what is listed
   pub own : (d : Det) → has listed d ≡ true → knows next to.0 d to.0 ≡ true
+  -- holders that were known still are
   pub before : (p : ℕ) (d : Det) (q : ℕ) → knows ms p d q ≡ true → knows next p d q ≡ true
+  -- nothing new is known to be stable
   pub marked : (p : ℕ) (d : Det) → marks next p d ≡ true → marks ms p d ≡ true
+  -- no new message is kept
   pub kept : (p : ℕ) (x : Kept) → Keeps next p x → Keeps ms p x
 
 module _ (n f : ℕ) (past : List Entry) (ms next : Memories) (to : Pid) (send rsn : ℕ) (listed : List Det) (s : IsDelivered n past to send rsn listed ms next) (forward : AreForward (Deliver to send rsn listed ∷ past)) (k : Keeping n f past ms) where
@@ -59,6 +76,7 @@ module _ (n f : ℕ) (past : List Entry) (ms next : Memories) (to : Pid) (send r
   abbrev source : ℕ
   source = s.message.source.0
 
+  -- the determinant of the delivery is that of its message
   pub own_det : det_of past e ≡ Some own
   own_det = ap (λ x. option_map (det_from to rsn) x) s.sent
 
@@ -177,6 +195,7 @@ module _ (n f : ℕ) (past : List Entry) (ms next : Memories) (to : Pid) (send r
         | inr old ↦ finds_more past (e ∷ past) d.dest.0 d (λ held. or_right _ _ held) (λ stable. stable) (k.receivers_find d below up old)
       ]
 
+  -- all that the protocol keeps stands after a delivery
   pub keeps_delivery : Keeping n f (Deliver to send rsn listed ∷ past) next
   keeps_delivery = record {
     few_down = k.few_down;

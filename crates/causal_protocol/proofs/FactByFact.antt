@@ -7,5 +7,6 @@ use Rattle.causal_protocol.specs.Run.{Run}
 use Rattle.causal_protocol.specs.Runs.{Of, IsRun, After}
 use Rattle.causal_protocol.proofs.Stepping.{steps_keep_runs}
 
+-- a fact of all runs holds after each legal step
 pub after : (IsAsked : Request → Type 0) (Fact : ℕ → ℕ → List Entry → Memories → Type 0) → ((r : Run) → IsRun r → Of Fact r) → After IsAsked Fact
 after IsAsked Fact from old new request reply asked step s = from new (steps_keep_runs old new request reply step s)

@@ -17,11 +17,17 @@ use Rattle.causal_trace.specs.Dependence.{AreForward}
 
 -- a process takes these out of its log, all of which it knew to be stable
 pub record IsForgotten (n : ℕ) (past : List Entry) (who : ℕ) (listed : List Det) (ms next : Memories) : Type 0 where
+  -- it is one of the processes
   pub process : who < n
+  -- it knew all of these to be stable
   pub known : (d : Det) → has listed d ≡ true → marks ms who d ≡ true
+  -- its log loses these, and no log loses anything else
   pub has_as : (p : ℕ) (d : Det) → has_logged next p d ≡ (not (who == p && has listed d) && has_logged ms p d)
+  -- it knows no holders of these, and nothing else of holders is lost
   pub holds_as : (p : ℕ) (d : Det) (q : ℕ) → knows next p d q ≡ (not (who == p && has listed d) && knows ms p d q)
+  -- nothing new is known to be stable
   pub marked : (p : ℕ) (d : Det) → marks next p d ≡ true → marks ms p d ≡ true
+  -- no new message is kept
   pub kept : (p : ℕ) (x : Kept) → Keeps next p x → Keeps ms p x
 
 module _ (n f : ℕ) (past : List Entry) (ms next : Memories) (who : Pid) (listed : List Det) (s : IsForgotten n past who.0 listed ms next) (forward : AreForward (Forget who listed ∷ past)) (k : Keeping n f past ms) where
@@ -67,6 +73,7 @@ module _ (n f : ℕ) (past : List Entry) (ms next : Memories) (who : Pid) (liste
   known : (p : ℕ) (d : Det) (q : ℕ) → knows next p d q ≡ true → knows ms p d q ≡ true
   known p d q h = (and_parts (not (who.0 == p && has listed d)) (knows ms p d q) (sym (s.holds_as p d q) ∙ h)).1
 
+  -- all that the protocol keeps stands after a forgetting
   pub keeps_forget : Keeping n f (Forget who listed ∷ past) next
   keeps_forget = record {
     few_down = k.few_down;

@@ -29,9 +29,11 @@ use Rattle.causal_protocol.specs.Sight.{log_at, has_entry, tells_holder, tells_s
 pub none_holds : (d : Det) (q : ℕ) → tells_holder d q fin.empty ≡ false
 none_holds d q = ap (λ o. set.contains (unwrap_or o nothing_known).holders q) (fin.get-empty det_cmp d) ∙ set.contains-empty nat_cmp q
 
+-- an empty log knows nothing to be stable
 pub none_stable : (d : Det) → tells_stable d fin.empty ≡ false
 none_stable d = ap (λ o. (unwrap_or o nothing_known).stable) (fin.get-empty det_cmp d)
 
+-- an empty log has no determinant
 pub none_entry : (d : Det) → has_entry d fin.empty ≡ false
 none_entry d = ap is_some (fin.get-empty det_cmp d)
 
@@ -93,6 +95,7 @@ module _ (batch : List Item) (own : Det) (log : LogMap) (d : Det) where
   or_lone false false true = refl
   or_lone false false false = refl
 
+  -- after a delivery the log has its own determinant and what the message carries, too
   pub gained_entry : has_entry d (gained batch own log) ≡ (has_entry d log || (same_det d own || has_item d batch))
   gained_entry =
       one_entry absorbs own (held_by own.dest) d
@@ -167,6 +170,7 @@ module _ (batch : List Item) (own : Det) (log : LogMap) (d : Det) where
   pub gained_old : (q : ℕ) → tells_holder d q log ≡ true → tells_holder d q (gained batch own log) ≡ true
   gained_old q h = gained_known q ∙ or_left _ _ (or_left _ _ h)
 
+  -- the receiver is known to hold what a delivery brings
   pub gained_new : (same_det d own || has_item d batch) ≡ true → tells_holder d own.dest.0 (gained batch own log) ≡ true
   gained_new h =
       gained_known own.dest.0
@@ -192,6 +196,7 @@ module _ (batch : List Item) (own : Det) (log : LogMap) (d : Det) where
       one_stable absorbs own (held_by own.dest) d
       ∙ or_left _ _ (known_all (λ k. k.stable) stable_either (map (told own.source own.dest) batch) log d ∙ or_left _ _ h)
 
+  -- by a delivery nothing new is known to be stable
   pub gained_stable : tells_stable d (gained batch own log) ≡ true → tells_stable d log ≡ true
   gained_stable h =
       elim (or_cases (tells_stable d absorbs) ((same_det d own && false) || false) (sym (one_stable absorbs own (held_by own.dest) d) ∙ h)) [
@@ -287,6 +292,7 @@ any_for d g (x ∷ ds) h k =
 pub keys_have : (m : LogMap) (d : Det) → has (fin.keys m) d ≡ has_entry d m
 keys_have m d = any_map (λ e. e.0) (same_det d) (λ e. same_det d e.0) (λ x. refl) (fin.entries m) ∙ any_dets d m
 
+-- a set and the list of its members have the same determinants
 pub stored_have : (s : DetSet) (d : Det) → has (dets_in s) d ≡ store.has s d
 stored_have s d = ties d (dets_in s) ∙ sym (fin.contains_key-keys s d)
   where
@@ -332,6 +338,7 @@ module _ (ms : Memories) (stored : DetSet) (p : Pid) (d : Det) where
   together_entry : has_entry d together ≡ true → (r : ℕ) × (r < length ms) × (has_logged ms r d ≡ true)
   together_entry h = elim (united_found (has_entry d) (entry_either d) (none_entry d) ms fin.empty h) [ inl none ↦ absurd (both_ways _ (none_entry d) none) | inr some ↦ some ]
 
+  -- what is gathered is stored, or a process that is up logs it
   pub gathered_found : has_entry d gathered ≡ true → (store.has stored d ≡ true) ⊎ ((r : ℕ) × (r < length ms) × (has_logged ms r d ≡ true))
   gathered_found h =
       elim (or_cases (has_entry d held) (has (dets_in stored) d) (sym all_entry ∙ h)) [
@@ -342,12 +349,15 @@ module _ (ms : Memories) (stored : DetSet) (p : Pid) (d : Det) where
         | inr member ↦ inl (sym (stored_have stored d) ∙ member)
       ]
 
+  -- what is stored is gathered
   pub gathered_stored : store.has stored d ≡ true → has_entry d gathered ≡ true
   gathered_stored h = all_entry ∙ or_right _ _ (stored_have stored d ∙ h)
 
+  -- what a process that is up logs is gathered
   pub gathered_logged : (r : ℕ) → has_logged ms r d ≡ true → has_entry d gathered ≡ true
   gathered_logged r h = all_entry ∙ or_left _ _ (held_entry ∙ or_left _ _ (united_each (has_entry d) (entry_either d) (none_entry d) ms fin.empty r h))
 
+  -- of what is gathered a known holder is p itself, or a process that is up knew of it
   pub gathered_holder : (q : ℕ) → tells_holder d q gathered ≡ true → (q ≡ p.0) ⊎ ((r : ℕ) × (r < length ms) × (knows ms r d q ≡ true))
   gathered_holder q h =
       elim (or_cases (tells_holder d q held) (list_any (λ x. same_det d x && set.contains (stable_and_held_by p).holders q) (dets_in stored)) (sym (all_known (λ k. set.contains k.holders q) (holds_either q)) ∙ h)) [
@@ -358,19 +368,23 @@ module _ (ms : Memories) (stored : DetSet) (p : Pid) (d : Det) where
         | inr mine ↦ inl (alone_holds p.0 q (any_of d (λ x. set.contains (stable_and_held_by p).holders q) (dets_in stored) mine).1)
       ]
 
+  -- holders of which a process that is up knew are known in what is gathered
   pub gathered_known : (r q : ℕ) → knows ms r d q ≡ true → tells_holder d q gathered ≡ true
   gathered_known r q h =
       all_known (λ k. set.contains k.holders q) (holds_either q)
       ∙ or_left _ _ (held_known (λ k. set.contains k.holders q) (holds_either q) ∙ or_left _ _ (united_each (tells_holder d q) (holder_either d q) (none_holds d q) ms fin.empty r h))
 
+  -- what a process that is up knew to be stable is known so in what is gathered
   pub gathered_marks : (r : ℕ) → marks ms r d ≡ true → tells_stable d gathered ≡ true
   gathered_marks r h =
       all_known (λ k. k.stable) stable_either
       ∙ or_left _ _ (held_known (λ k. k.stable) stable_either ∙ or_left _ _ (united_each (tells_stable d) (mark_either d) (none_stable d) ms fin.empty r h))
 
+  -- what is stored is known to be stable in what is gathered
   pub stored_marks : store.has stored d ≡ true → tells_stable d gathered ≡ true
   stored_marks h = all_known (λ k. k.stable) stable_either ∙ or_right _ _ (any_for d (λ x. true) (dets_in stored) (stored_have stored d ∙ h) refl)
 
+  -- p is known to hold all that is gathered
   pub gathered_itself : has_entry d gathered ≡ true → tells_holder d p.0 gathered ≡ true
   gathered_itself h =
       all_known (λ k. set.contains k.holders p.0) (holds_either p.0)
@@ -382,6 +396,7 @@ module _ (ms : Memories) (stored : DetSet) (p : Pid) (d : Det) where
         | inr member ↦ or_right _ _ (any_for d (λ x. set.contains (stable_and_held_by p).holders p.0) (dets_in stored) member (itself_holds p.0))
       ]
 
+  -- what is gathered as stable is stored, or a process that is up knew it so
   pub gathered_mark : tells_stable d gathered ≡ true → (store.has stored d ≡ true) ⊎ ((r : ℕ) × (r < length ms) × (marks ms r d ≡ true))
   gathered_mark h =
       elim (or_cases (tells_stable d held) (list_any (λ x. same_det d x && true) (dets_in stored)) (sym (all_known (λ k. k.stable) stable_either) ∙ h)) [

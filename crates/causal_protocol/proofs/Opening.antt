@@ -88,9 +88,11 @@ opens_kept n f (suc p) past within h =
     subst (λ x. IsKept n f [] x × ((q : ℕ) → suc p ≤ q → q < n → at (memories n f [] x) q ≡ Some (fresh fin.empty))) (sym h.5)
     (sent.0, λ q above low. sent.1 q (λ e. omega (arith, above, (let same : p ≡ q = e in same))) ∙ before.1 q (omega (arith, above)) low)
 
+-- a beginning keeps what a run keeps
 pub openings_are_runs : OpeningsAreRuns
 openings_are_runs r h none = subst (λ ws. IsKept r.recording.processes r.faults ws r.recording.past) (sym none) (opens_kept r.recording.processes r.faults r.recording.processes r.recording.past (omega arith) h).0
 
+-- each run that the runtime makes keeps what a run keeps
 pub made_runs : (r : Run) → IsMade r → IsRun r
 made_runs r (opened _ h none) = openings_are_runs r h none
 made_runs new (stepped old _ request reply made step) = steps_keep_runs old new request reply step (made_runs old made)

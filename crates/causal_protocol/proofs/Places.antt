@@ -14,6 +14,7 @@ set_same [] w x low = absurd (omega (arith, low))
 set_same (y ∷ ys) zero x low = refl
 set_same (y ∷ ys) (suc w) x low = set_same ys w x (omega (arith, low))
 
+-- to set one place leaves the others
 pub set_other : {X : Type 0} (xs : List X) (w : ℕ) (x : X) (p : ℕ) → (w ≡ p → ⊥) → slice_get (slice_set xs w x) p ≡ slice_get xs p
 set_other [] w x p other = refl
 set_other (y ∷ ys) zero x zero other = absurd (other refl)
@@ -32,9 +33,11 @@ joined_if : {X : Type 0} (b : Bool) (x : Option X) (y : Option (Option X)) → o
 joined_if true x y = refl
 joined_if false x y = refl
 
+-- after one place is set, that has what it was set to, and each other what it had
 pub at_set : {X : Type 0} (xs : List (Option X)) (w : ℕ) (x : Option X) (p : ℕ) → w < length xs → at (slice_set xs w x) p ≡ cond (w == p) x (at xs p)
 at_set xs w x p low = ap (option_and_then (λ z. z)) (get_set xs w x p low) ∙ joined_if (w == p) x (slice_get xs p)
 
+-- where something is at a place, the list is longer
 pub at_within : {X : Type 0} (xs : List (Option X)) (p : ℕ) (x : X) → at xs p ≡ Some x → p < length xs
 at_within [] p x h = absurd (let e : None ≡ Some x = h in cc)
 at_within (y ∷ ys) zero x h = omega arith
@@ -59,16 +62,19 @@ pub messages_set : (ms : Memories) (w : ℕ) (x : Option Memory) (p : ℕ) → w
 unfolding messages
 messages_set ms w x p low = ap sent_in (at_set ms w x p low) ∙ map_if sent_in (w == p) x (at ms p)
 
+-- where one memory is changed, its process has the new log, and each other its own
 pub log_changed : (g : Memory → Memory) (ms : Memories) (w : ℕ) (m : Memory) → at ms w ≡ Some m → (p : ℕ) → log_at (changed g ms w) p ≡ cond (w == p) ((g m).log) (log_at ms p)
 log_changed g ms w m here p = log_set ms w (option_map g (at ms w)) p (at_within ms w m here) ∙ ap (λ o. cond (w == p) (log_in (option_map g o)) (log_at ms p)) here
 
 pub messages_changed : (g : Memory → Memory) (ms : Memories) (w : ℕ) (m : Memory) → at ms w ≡ Some m → (p : ℕ) → messages (changed g ms w) p ≡ cond (w == p) ((g m).sent) (messages ms p)
 messages_changed g ms w m here p = messages_set ms w (option_map g (at ms w)) p (at_within ms w m here) ∙ ap (λ o. cond (w == p) (sent_in (option_map g o)) (messages ms p)) here
 
+-- the log of a process that is up is that of its memory
 pub log_here : (ms : Memories) (p : ℕ) (m : Memory) → at ms p ≡ Some m → log_at ms p ≡ m.log
 unfolding log_at
 log_here ms p m here = ap (λ o. option_map_or (λ m. m.log) o fin.empty) here
 
+-- the log of a process that is down is empty
 pub log_none : (ms : Memories) (p : ℕ) → at ms p ≡ None → log_at ms p ≡ fin.empty
 unfolding log_at
 log_none ms p none = ap (λ o. option_map_or (λ m. m.log) o fin.empty) none
@@ -91,6 +97,7 @@ grown ms w p tells new more is =
     swapped false true = refl
     swapped false false = refl
 
+-- where w's log is replaced by one that tells less, all others tell what they did
 pub shrunk : (ms : Memories) (w p : ℕ) (tells : LogMap → Bool) (new : LogMap) (less : Bool) → tells new ≡ (not less && tells (log_at ms w)) → tells (cond (w == p) new (log_at ms p)) ≡ (not (w == p && less) && tells (log_at ms p))
 shrunk ms w p tells new less is =
     elim (eqb_tells w p) [
@@ -105,6 +112,7 @@ kept_more [] x k (suc i) h = absurd (let e : None ≡ Some k = h in cc)
 kept_more (y ∷ ys) x k zero h = inl h
 kept_more (y ∷ ys) x k (suc i) h = elim (kept_more ys x k i h) [ inl old ↦ inl old | inr new ↦ inr (omega (arith, new.0), new.1) ]
 
+-- to set a place leaves the length of a list
 pub length_set : {X : Type 0} (xs : List X) (w : ℕ) (x : X) → length (slice_set xs w x) ≡ length xs
 length_set [] w x = refl
 length_set (y ∷ ys) zero x = refl
@@ -120,6 +128,7 @@ set_cases ms w x p low =
       | inr other ↦ inr (other.0, log_set ms w x p low ∙ cond-false (w == p) _ _ other.0, messages_set ms w x p low ∙ cond-false (w == p) _ _ other.0)
     ]
 
+-- where one memory is changed, its process has the new log and messages, and each other its own
 pub changed_cases : (g : Memory → Memory) (ms : Memories) (w : ℕ) (m : Memory) → at ms w ≡ Some m → (p : ℕ)
     → (((w == p) ≡ true) × (w ≡ p) × (log_at (changed g ms w) p ≡ (g m).log) × (messages (changed g ms w) p ≡ (g m).sent) × (log_at ms p ≡ m.log) × (messages ms p ≡ m.sent))
     ⊎ (((w == p) ≡ false) × (log_at (changed g ms w) p ≡ log_at ms p) × (messages (changed g ms w) p ≡ messages ms p))
@@ -138,5 +147,6 @@ changed_state g ms w m here p =
       | inr other ↦ ap is_none (cond-false (w == p) (option_map g (at ms w)) (at ms p) other.0)
     ]
 
+-- where one memory is set, its process is up or down by that, and each other as before
 pub set_state : (ms : Memories) (w : ℕ) (x : Option Memory) (p : ℕ) → w < length ms → is_none (at (slice_set ms w x) p) ≡ cond (w == p) (is_none x) (is_none (at ms p))
 set_state ms w x p low = ap is_none (at_set ms w x p low) ∙ map_if is_none (w == p) x (at ms p)

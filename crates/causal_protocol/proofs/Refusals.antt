@@ -29,22 +29,27 @@ use Rattle.causal_protocol.proofs.Logging.{keys_have, stored_have}
 use Rattle.causal_protocol.proofs.Choices.{first_passes, first_there, stable_has}
 use Rattle.causal_protocol.proofs.Sets.{finds_survive}
 
+-- where no row tells anything, neither does the first nor one of the rest
 pub first_none : (x : Option CoreFault) (rest : List (Option CoreFault)) → first_of (x ∷ rest) ≡ None → (x ≡ None) × (first_of rest ≡ None)
 first_none None rest h = (refl, h)
 first_none (Some fault) rest h = absurd (let e : Some fault ≡ None = h in cc)
 
+-- a row that tells nothing does not hold
 pub when_none : (b : Bool) (fault : CoreFault) → when b fault ≡ None → b ≡ false
 when_none true fault h = absurd (let e : Some fault ≡ None = h in cc)
 when_none false fault h = refl
 
+-- what does not fail holds
 pub not_not : (b : Bool) → not b ≡ false → b ≡ true
 not_not true h = refl
 not_not false h = absurd (false≢true (sym h))
 
+-- what is not missing is there
 pub is_there : {X : Type 0} (o : Option X) → is_none o ≡ false → (x : X) × (o ≡ Some x)
 is_there None h = absurd (false≢true (sym h))
 is_there (Some x) h = (x, refl)
 
+-- what is not there is missing
 pub is_missing : {X : Type 0} (o : Option X) → is_some o ≡ false → o ≡ None
 is_missing None h = refl
 is_missing (Some x) h = absurd (false≢true (sym h))
@@ -73,6 +78,7 @@ kept_for-is ms q asked k h = by (kept_by ms asked) h
         to true h = h
         to false h = absurd (let e : None ≡ Some k = h in cc)
 
+-- a message that its sender keeps stands there under its number
 pub kept_message : (ms : Memories) (asked : MsgName) (k : Kept) → kept_by ms asked ≡ Some k → slice_get (messages ms asked.source.0) asked.ssn ≡ Some k
 unfolding messages
 kept_message ms asked k h = by (at ms asked.source.0) h
@@ -159,5 +165,6 @@ count_list (x ∷ xs) =
     ∙ ap (λ c. cond (is_none x) 1 0 + c) (count_list xs)
     ∙ sym (count_front (length xs) (λ p. is_none (at (x ∷ xs) p)))
 
+-- where just those that are down have no memory, as many have none as are down
 pub down_counted : (n : ℕ) (past : List Entry) (ms : Memories) → length ms ≡ n → ((p : ℕ) → p < n → is_none (at ms p) ≡ is_down past p) → count_by is_none ms ≡ count_below n (is_down past)
 down_counted n past ms count state = count_list ms ∙ ap (λ l. count_below l (λ p. is_none (at ms p))) count ∙ count_below-same n (λ p. is_none (at ms p)) (is_down past) state

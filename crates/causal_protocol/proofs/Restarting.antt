@@ -20,13 +20,21 @@ use Rattle.causal_protocol.proofs.Sending.{det_earlier, no_actor}
 
 -- a process that was down is up again with all that survives, and knows of it what up processes and stable storage know
 pub record IsRestarted (n : ℕ) (past : List Entry) (who : ℕ) (listed : List Det) (ms next : Memories) : Type 0 where
+  -- it is one of the processes
   pub process : who < n
+  -- the restart lists what survives
   pub lists : (d : Det) → has listed d ≡ survives n past d
+  -- it logs what is listed, and no other log changes
   pub has_as : (p : ℕ) (d : Det) → has_logged next p d ≡ ((who == p && has listed d) || has_logged ms p d)
+  -- it knows itself as a holder and whom some process knew, and the others know no more
   pub heard : (p : ℕ) (d : Det) (q : ℕ) → knows next p d q ≡ true → (knows ms p d q ≡ true) ⊎ ((who ≡ p) × ((q ≡ who) ⊎ ((r : ℕ) × (r < n) × (knows ms r d q ≡ true))))
+  -- it knows that it holds what is listed
   pub own : (d : Det) → has listed d ≡ true → knows next who d who ≡ true
+  -- the others still know the holders that they knew
   pub before : (p : ℕ) (d : Det) (q : ℕ) → (who == p) ≡ false → knows ms p d q ≡ true → knows next p d q ≡ true
+  -- what is known to be stable is so, or some process knew it before
   pub marked : (p : ℕ) (d : Det) → marks next p d ≡ true → (marks ms p d ≡ true) ⊎ ((is_stable past d ≡ true) ⊎ ((r : ℕ) × (r < n) × (marks ms r d ≡ true)))
+  -- no new message is kept
   pub kept : (p : ℕ) (x : Kept) → Keeps next p x → Keeps ms p x
 
 module _ (n f : ℕ) (past : List Entry) (ms next : Memories) (who : Pid) (listed : List Det) (s : IsRestarted n past who.0 listed ms next) (forward : AreForward (Restart who listed ∷ past)) (k : Keeping n f past ms) where
@@ -49,6 +57,7 @@ module _ (n f : ℕ) (past : List Entry) (ms next : Memories) (who : Pid) (liste
   spreads : (d : Det) → IsSpread n f past d → IsSpread n f (Restart who listed ∷ past) d
   spreads d spread = spread_stays n f past (Restart who listed ∷ past) d (stays d (spread_survives n f past d k.few_down spread)) spread
 
+  -- what survives after the restart survived before
   pub left : (d : Det) → survives n (Restart who listed ∷ past) d ≡ true → survives n past d ≡ true
   left d h =
       elim (survives_found n (Restart who listed ∷ past) d h) [
@@ -110,6 +119,7 @@ module _ (n f : ℕ) (past : List Entry) (ms next : Memories) (who : Pid) (liste
             ]
       ]
 
+  -- all that the protocol keeps stands after a restart
   pub keeps_restart : Keeping n f (Restart who listed ∷ past) next
   keeps_restart = record {
     few_down = omega (arith, k.few_down, count_below-within n (is_down (Restart who listed ∷ past)) (is_down past) (λ p below h. (and_parts (not (who.0 == p)) (is_down past p) h).1));

@@ -64,5 +64,6 @@ next_sound n f e past ms next s forward facts fit = record {
   ];
 }
 
+-- what is kept makes a run safe in which nothing has happened
 pub first_safe : (n f : ℕ) (ms : Memories) → Keeping n f [] ms → IsSafeTrace (record { processes = n; past = [] }) f
 first_safe n f ms k t within = subst (λ x. IsSafe n f x) (sym (last_instant [] t (omega (arith, within)))) (kept_safe n f [] ms k)

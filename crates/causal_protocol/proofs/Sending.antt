@@ -20,6 +20,7 @@ use Rattle.causal_holders.proofs.Lemmas.Counting.{count_below-within}
 pub at_newest : {A : Type 0} (m l : ℕ) (x y : A) → m ≡ l → cond (m == l) x y ≡ x
 at_newest m l x y is = cond-true (m == l) x y (eq-eqb m l is)
 
+-- what is asked before the newest position is asked of the older entries
 pub at_older : {A : Type 0} (m l : ℕ) (x y : A) → m < l → cond (m == l) x y ≡ y
 at_older m l x y below = cond-false (m == l) x y (ne_eqb m l (λ e. omega (arith, below, e)))
 
@@ -31,9 +32,11 @@ det_past e past k d h =
       | inr older ↦ inr (sym (cond-false (k == length past) (det_of past e) (det_at past k) older.0) ∙ h)
     ]
 
+-- an entry without a determinant leaves those of the deliveries so far
 pub det_earlier : (e : Entry) (past : List Entry) (k : ℕ) (d : Det) → det_of past e ≡ None → det_at (e ∷ past) k ≡ Some d → det_at past k ≡ Some d
 det_earlier e past k d none h = elim (det_past e past k d h) [ inl is ↦ absurd (let x : None ≡ Some d = sym none ∙ is.1 in cc) | inr at ↦ at ]
 
+-- the determinant at an older position stays
 pub det_older : (e : Entry) (past : List Entry) (k : ℕ) (d : Det) → k < length past → det_at (e ∷ past) k ≡ Some d → det_at past k ≡ Some d
 det_older e past k d below h = sym (at_older k (length past) (det_of past e) (det_at past k) below) ∙ h
 
@@ -41,19 +44,28 @@ pub det_below : (past : List Entry) (k : ℕ) (d : Det) → det_at past k ≡ So
 det_below [] k d h = absurd (let x : None ≡ Some d = h in cc)
 det_below (e ∷ past) k d h = elim (det_past e past k d h) [ inl is ↦ omega (arith, is.0) | inr at ↦ omega (arith, det_below past k d at) ]
 
+-- an entry that is no event has no process
 pub no_actor : (p : ℕ) → None ≡ Some p → ⊥
 no_actor p h = cc
 
 -- from's memory keeps one more message; what it logs goes with the message, unless it knows it to be stable or more than f
 -- to hold it
 pub record IsSent (n f : ℕ) (past : List Entry) (from : ℕ) (ms next : Memories) (new : Kept) : Type 0 where
+  -- the sender is a process
   pub process : from < n
+  -- it is up
   pub up : is_down past from ≡ false
+  -- no log changes
   pub same : (p : ℕ) → log_at next p ≡ log_at ms p
+  -- a message that is kept was kept before, or is the sender's new one
   pub kept : (p : ℕ) (k : Kept) → Keeps next p k → Keeps ms p k ⊎ ((from ≡ p) × (k ≡ new))
+  -- the new one is sent by the newest entry
   pub place : new.send ≡ length past
+  -- what it carries its sender logs
   pub carried : (d : Det) → has_item d new.batch ≡ true → has_logged ms from d ≡ true
+  -- whom it names as a holder its sender knows as one
   pub named : (d : Det) (q : ℕ) → item_holder d q new.batch ≡ true → knows ms from d q ≡ true
+  -- it carries what its sender logs, if not known to be stable or held by more than f
   pub left_out : (d : Det) → has_logged ms from d ≡ true → (has_item d new.batch ≡ true) ⊎ ((marks ms from d ≡ true) ⊎ (f < count_below n (knows ms from d)))
 
 module _ (n f : ℕ) (past : List Entry) (ms next : Memories) (from to : Pid) (ssn : ℕ) (new : Kept) (s : IsSent n f past from.0 ms next new) (forward : AreForward (Send from to ssn ∷ past)) (k : Keeping n f past ms) where
@@ -81,6 +93,7 @@ module _ (n f : ℕ) (past : List Entry) (ms next : Memories) (from to : Pid) (s
   sent_depends i p d small at up (in_lane j event r) = k.dependents_hold i p d small at (record { up = up; event = j; present = event; reached = r })
   sent_depends i p d small at up (through_message j is r) = absurd (false≢true is)
 
+  -- all that the protocol keeps stands after a send
   pub keeps_send : Keeping n f (Send from to ssn ∷ past) next
   keeps_send = record {
     few_down = k.few_down;

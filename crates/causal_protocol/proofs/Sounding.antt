@@ -102,6 +102,7 @@ module _ (n f : ℕ) (past : List Entry) (ms : Memories) (from to : Pid) (m : Me
     ];
   }
 
+  -- the state after a send is sound
   pub send_sound : IsSound n f (Send from to (length m.sent) ∷ past) (changed (with_sent f to (length past)) ms from.0)
   send_sound =
       let forward = no_delivery sent_entry past (λ i. refl) s.forward in
@@ -124,6 +125,7 @@ module _ (n f : ℕ) (past : List Entry) (ms : Memories) (to : Pid) (rsn : ℕ) 
   abbrev delivery : Entry
   delivery = Deliver to k.send rsn listed
 
+  -- the message was sent at the position that its sender keeps
   pub was_sent : message_at past k.send ≡ Some asked
   was_sent = s.fit.placed asked.source.0 asked.ssn k found
 
@@ -181,6 +183,7 @@ module _ (n f : ℕ) (past : List Entry) (ms : Memories) (to : Pid) (rsn : ℕ) 
     placed = λ p ssn x h. message_older delivery past x.send (name (record { 0 = p }) ssn) (s.fit.placed p ssn x (received_kept p ssn x h));
   }
 
+  -- the state after a delivery is sound
   pub delivery_sound : IsSound n f (Deliver to k.send rsn listed ∷ past) (changed (with_received k.batch (det_from to rsn asked)) ms to.0)
   delivery_sound = next_sound n f delivery past ms received_memories s received_forward (keeps_delivery n f past ms received_memories to k.send rsn listed is_delivered received_forward s.facts) received_fits
 
@@ -228,6 +231,7 @@ module _ (n f : ℕ) (past : List Entry) (ms : Memories) (p : Pid) (m : Memory) 
     kept = λ x k keeps. (keeps.0, log_kept n past ms p.0 m marking here s.fit x keeps.0 k keeps.1);
   }
 
+  -- the state after a stable entry is sound
   pub stable_sound : IsSound n f (Stable det ∷ past) (changed (with_log (λ log. marked log det)) ms p.0)
   stable_sound =
       let forward = no_delivery (Stable det) past (λ i. refl) s.forward in
@@ -253,6 +257,7 @@ module _ (n f : ℕ) (past : List Entry) (ms : Memories) (p : Pid) (m : Memory) 
     kept = λ x k keeps. (keeps.0, log_kept n past ms p.0 m (without listed) here s.fit x keeps.0 k keeps.1);
   }
 
+  -- the state after a forgetting is sound
   pub forget_sound : IsSound n f (Forget p listed ∷ past) (changed (with_log (without listed)) ms p.0)
   forget_sound =
       let forward = no_delivery (Forget p listed) past (λ i. refl) s.forward in
@@ -300,6 +305,7 @@ module _ (n f : ℕ) (past : List Entry) (ms : Memories) (who : Pid) (low : who.
       either true b = refl
       either false b = refl
 
+  -- the state after a crash is sound
   pub crash_sound : IsSound n f (Crash who ∷ past) (slice_set ms who.0 None)
   crash_sound =
       let forward = no_delivery (Crash who) past (λ i. refl) s.forward in
@@ -310,6 +316,7 @@ module _ (n f : ℕ) (past : List Entry) (ms : Memories) (who : Pid) (s : IsSoun
   under : (r : ℕ) → r < length ms → r < n
   under r h = omega (arith, h, s.fit.count)
 
+  -- a restart gathers just what survives
   pub gathered_survivors : (d : Det) → has_entry d (gathered_log ms (stable_set past) who) ≡ survives n past d
   gathered_survivors d = same_answer _ _ forth back
     where
@@ -402,6 +409,7 @@ module _ (n f : ℕ) (past : List Entry) (ms : Memories) (who : Pid) (listed : L
       cleared true b = refl
       cleared false b = refl
 
+  -- the state after a restart is sound
   pub restart_sound : IsSound n f (Restart who listed ∷ past) (slice_set ms who.0 (Some (fresh (gathered_log ms (stable_set past) who))))
   restart_sound =
       let forward = no_delivery (Restart who listed) past (λ i. refl) s.forward in

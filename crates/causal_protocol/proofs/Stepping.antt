@@ -234,9 +234,11 @@ legal_kept r (Ask.Forget p) (Told.Forgotten count) appended h s = forgets r s p 
 legal_kept r (Ask.Forget p) (Told.Refused fault) appended h s = nothing_appended r s (Ask.Forget p) appended h.1
 legal_kept r request reply appended h s = absurd h
 
+-- each legal step keeps what a run keeps
 pub steps_keep_runs : StepsKeepRuns
 steps_keep_runs old new request reply step s = subst IsRun (sym step.grown) (legal_kept old request reply step.appended step.legal s)
 
+-- a refusal, but a flush that stopped part way, leaves the run as it was
 pub refusals_change_nothing : RefusalsChangeNothing
 unfolding LegalStep
 refusals_change_nothing old new request fault step = step.grown ∙ ap (extended old request) (nothing old request fault step.appended step.legal) ∙ same request

@@ -18,12 +18,19 @@ use Rattle.causal_trace.specs.Dependence.{AreForward}
 
 -- what one process logs is written to stable storage, and that process may know it then
 pub record IsWritten (n : ℕ) (past : List Entry) (det : Det) (ms next : Memories) : Type 0 where
+  -- the process that wrote it
   pub process : ℕ
+  -- it is one of the processes
   pub below : process < n
+  -- it logs what is written
   pub logged : has_logged ms process det ≡ true
+  -- no log gains or loses a determinant
   pub has_as : (p : ℕ) (d : Det) → has_logged next p d ≡ has_logged ms p d
+  -- no process gains or loses a known holder
   pub holds_as : (p : ℕ) (d : Det) (q : ℕ) → knows next p d q ≡ knows ms p d q
+  -- what is known to be stable was known so, or is what was written
   pub marked : (p : ℕ) (d : Det) → marks next p d ≡ true → (same_det d det ≡ true) ⊎ (marks ms p d ≡ true)
+  -- no new message is kept
   pub kept : (p : ℕ) (x : Kept) → Keeps next p x → Keeps ms p x
 
 module _ (n f : ℕ) (past : List Entry) (ms next : Memories) (det : Det) (s : IsWritten n past det ms next) (forward : AreForward (Stable det ∷ past)) (k : Keeping n f past ms) where
@@ -40,6 +47,7 @@ module _ (n f : ℕ) (past : List Entry) (ms next : Memories) (det : Det) (s : I
         | inr held ↦ survives_log n past held.0 d held.1 held.2
       ]
 
+  -- all that the protocol keeps stands after a stable entry
   pub keeps_stable : Keeping n f (Stable det ∷ past) next
   keeps_stable = record {
     few_down = k.few_down;

@@ -65,6 +65,7 @@ module _ {B : Type 0} (answers : B → List Input → List (List Outgoing)) wher
     faults = faults-cut r _ ∙ (ap (λ (o : Opening). o.faults) opens ∙ ap (λ (run : Run). run.faults) starts.run);
   }
 
+  -- a legal history from a start, in which all commands were done, is a run of them
   pub run-of : (f : ℕ) (boxes : List B) (commands : List Command) (core : CoreState B) (r : Run) (items : List Item) (recording : Recording) → Starts answers f boxes core
       → before_items r items ≡ opening_from core.run.recording core.run.faults → AllLegal r items → AreDone commands items → recording ≡ r.recording
       → IsRunFrom (IsStarted answers f boxes) commands recording
@@ -94,6 +95,7 @@ module _ {B : Type 0} (answers : B → List Input → List (List Outgoing)) wher
         refused = stands (cut r stopped.last.first) (cut r (instant r)) stopped.last stopped.command fault both.1 stopped.request stopped.refused stopped.known;
       }
 
+  -- where a legal history from a start stopped, its fault is true of the commands
   pub refused-as : (f : ℕ) (boxes : List B) (commands : List Command) (core : CoreState B) (r : Run) (items : List Item) (fault : RunFault) → Starts answers f boxes core
       → before_items r items ≡ opening_from core.run.recording core.run.faults → AllLegal r items → IsStopped commands items fault
       → Tells (IsStarted answers f boxes) commands fault
@@ -132,6 +134,7 @@ one-seat history seats s is agree seated =
     let all : AllSeated (s ∷ []) history = subst (λ (ss : List SeatState). AllSeated ss history) is seated in
     sym (agrees 0 s (omega arith)) ∙ all-of s.sitting.number history (λ k d lt. let h = (all.each k d lt).seat in seat-of s h.1 (get_or history k d) h.0 h.2 h.3 h.4)
 
+-- to set the only element of a list leaves just what it was set to
 pub set-one : {X : Type 0} (xs : List X) (x : X) → length xs ≡ 1 → slice_set xs 0 x ≡ x ∷ []
 set-one [] x is = absurd (omega (arith, is))
 set-one (y ∷ []) x is = refl

@@ -68,6 +68,7 @@ told_stands r request (Told.Refused f) es fault legal told known =
 told_stands r request (Told.FlushRefused f) es fault legal told known =
     let same : f.fault ≡ fault = cc in subst (Stands r request) same (stopped_stands r request f es legal (λ e. known (sym same ∙ e)))
 
+-- the fault that an item tells stands against its command, unless memory was wanted
 pub stands : (r new : Run) (item : Item) (command : Command) (fault : CoreFault) → IsStep r item.request item.reply new → item.request ≡ command.request → fault_told item.reply ≡ Some fault → fault ≢ Why.NoMemory → Stands r command.request fault
 stands r new item command fault step asked told known =
     subst (λ (request : Request). Stands r request fault) asked (told_stands r item.request item.reply (since (instant r) new) fault step.legal told known)

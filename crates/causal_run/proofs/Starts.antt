@@ -46,6 +46,7 @@ module _ {B C : Type 0} (answers : B → List Input → List (List Outgoing)) (o
   began-as (b ∷ boxes) [] slots began = absurd began
   began-as (b ∷ boxes) (sent ∷ sends) [] began = absurd began
 
+  -- boxes start the runs that others start which answer as they do
   pub started-as : (f : ℕ) (boxes : List B) (r : Run) → IsStarted answers f boxes r → IsStarted others f (map of boxes) r
   started-as f boxes r is = record {
     core = record { run = is.core.run; bodies = is.core.bodies; slots = map (slot_of of) is.core.slots };

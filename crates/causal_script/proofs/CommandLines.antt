@@ -11,10 +11,12 @@ use Rattle.causal_script.specs.Inside.Reading.{◌>>=◌, cut, number_of, proces
 use Rattle.causal_script.proofs.Cuts.{IsCut, cut_whole, cut_front}
 use Rattle.causal_script.proofs.Numbers.{number_of-decimal, decimal-number_of, process_of-decimal, decimal-process_of, decimal_lacks}
 
+-- where two steps of reading give something, both do
 pub bind_some : {A B : Type 0} (r : Option A) (f : A → Option B) (y : B) → (r >>= f) ≡ Some y → (x : A) × (r ≡ Some x) × (f x ≡ Some y)
 bind_some None f y e = absurd (none-some y e)
 bind_some (Some x) f y e = (x, refl, e)
 
+-- what a choice by a name gives is given for that name, or by the other choices
 pub chosen : {A : Type 0} (name word : List ℕ) (x y : Option A) (z : A) {P : Type 0} → (name ≡ word → x ≡ Some z → P) → (y ≡ Some z → P) → cond (bytes_eq name word) x y ≡ Some z → P
 chosen name word x y z {P} this other e = by_test (bytes_eq name word) refl e where
   by_test : (b : Bool) → bytes_eq name word ≡ b → cond b x y ≡ Some z → P
@@ -94,6 +96,7 @@ says_named name words line r whole e =
           let number = decimal-process_of p.0 words p.1 in
           says_of_process name words line p.0 r whole number.0 number.1 p.2
 
+-- a request that is read of a line is spelled by that line
 pub says_request : (line : List ℕ) (r : Request) → request_of line ≡ Some r → Says line r
 unfolding request_of
 says_request line r e =
@@ -116,6 +119,7 @@ delivery_back q source ssn a b s =
 process_back : (make : Pid → Request) (p : Pid) → p.0 < 2 ^ 8 → (process_of (decimal p.0) >>= λ q. Some (make q)) ≡ Some (make p)
 process_back make p small = rw (process_of-decimal p small) refl
 
+-- the line of a command is read as its request
 pub request_back : (r : Request) → IsRequest r → request_of (command_line r) ≡ Some r
 unfolding request_of named_request of_process
 request_back (Deliver q source ssn) h = delivery_back q source ssn h.0 h.1 h.2
@@ -126,9 +130,11 @@ request_back (Forget p) h = process_back Forget p h
 
 -- ---- in place
 
+-- a line of which a request is read has a command
 pub commanded : (line : List ℕ) (r : Request) → request_of line ≡ Some r → IsCommandLine line
 commanded line r e = let says = says_request line r e in (r, says.0, says.1)
 
+-- a line of which no request is read has no command
 pub not_commanded : (line : List ℕ) → request_of line ≡ None → IsCommandLine line → ⊥
 not_commanded line e h =
     let back : request_of line ≡ Some h.0 = ap request_of h.2 ∙ request_back h.0 h.1 in

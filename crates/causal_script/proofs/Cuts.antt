@@ -11,15 +11,18 @@ abbrev pub Lacks : ℕ → List ℕ → Type 0
 Lacks byte [] = Unit {0}
 Lacks byte (x ∷ xs) = (eqb x byte ≡ false) × Lacks byte xs
 
+-- a text is cut at a byte that its front lacks
 pub cut_front : (byte : ℕ) (xs ys : List ℕ) → Lacks byte xs → cut byte (xs ++ byte ∷ ys) ≡ Some (xs, ys)
 cut_front byte [] ys h = let same : eqb byte byte ≡ true = eq-eqb byte byte refl in rw same refl
 cut_front byte (x ∷ xs) ys h = rw (h.0, cut_front byte xs ys h.1) refl
 
 -- the front, the byte and the rest are the text
 pub record IsCut (byte : ℕ) (text : List ℕ) (parts : List ℕ × List ℕ) : Type 0 where
+  -- together they are the text
   pub whole : text ≡ parts.0 ++ byte ∷ parts.1
   pub lacks : Lacks byte parts.0
 
+-- what a cut gives is the front, which lacks the byte, and the rest
 pub cut_whole : (byte : ℕ) (xs : List ℕ) (parts : List ℕ × List ℕ) → cut byte xs ≡ Some parts → IsCut byte xs parts
 cut_whole byte [] parts e = absurd (none-some parts e)
 cut_whole byte (x ∷ xs) parts e = by_test (eqb x byte) refl (cut_whole byte xs) e where
@@ -69,9 +72,11 @@ cut_position byte (x ∷ xs) = by_test (eqb x byte) refl (cut_position byte xs) 
   by_test false t ih =
       rw (t, ih) (shifted (position_or_len (λ b. eqb b byte) xs) (1 + position_or_len (λ b. eqb b byte) xs) (length (x ∷ xs)) (omega arith) (omega arith))
 
+-- a text is cut at the first place of the byte
 pub cut_at : (byte : ℕ) (xs : List ℕ) (r : Option ℕ) (at : ℕ) → r ≡ place_of byte xs → r ≡ Some at → cut byte xs ≡ Some (take at xs, drop (suc at) xs)
 cut_at byte xs r at found is = cut_position byte xs ∙ ap (parts_at xs) (sym found ∙ is)
 
+-- a text without the byte is not cut
 pub cut_nowhere : (byte : ℕ) (xs : List ℕ) (r : Option ℕ) → r ≡ place_of byte xs → r ≡ None → cut byte xs ≡ None
 cut_nowhere byte xs r found is = cut_position byte xs ∙ ap (parts_at xs) (sym found ∙ is)
 
@@ -91,6 +96,7 @@ cut_slices byte xs front back at f b e =
     let rest : take (length back - 1) (drop 1 back) ≡ drop (suc at) xs = tail_whole back ∙ ap (drop 1) b ∙ drop_more xs at in
     rw (f, rest) (sym e)
 
+-- what stands after the byte is shorter than the text
 pub cut_shorter : (byte : ℕ) (xs : List ℕ) (parts : List ℕ × List ℕ) → cut byte xs ≡ Some parts → length parts.1 < length xs
 cut_shorter byte xs parts e =
     let c = cut_whole byte xs parts e in

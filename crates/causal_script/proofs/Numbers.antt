@@ -15,6 +15,7 @@ use Rattle.causal_name.specs.declared.Pid.{Pid}
 use Rattle.causal_script.specs.Inside.Reading.{is_plain, number_of, process_of, count_of, ◌>>=◌}
 use Rattle.causal_script.proofs.Cuts.{Lacks}
 
+-- digits spell the number that is their value
 pub own : IsNumeralModel (λ ds. all_ascii_digits ds ≡ true) (digits_value 10)
 own = numerals_by_value (λ ds. all_ascii_digits ds ≡ true) tells_all_ascii_digits
 
@@ -25,6 +26,7 @@ both false b h = absurd (let no : false ≡ true = h in cc)
 -- digits, and no zero before others
 pub record IsPlain (word : List ℕ) : Type 0 where
   pub digits : all_ascii_digits word ≡ true
+  -- there is a digit
   pub some : 0 < length word
   pub lone : get_or word 0 0 ≡ 48 → length word ≡ 1
 
@@ -78,6 +80,7 @@ decimal-number_of limit n word small e = by_test (is_plain word && leb (digits_v
       (sym back ∙ ap decimal value, omega arith)
   by_test false t e = absurd (none-some n e)
 
+-- a number in decimal has no space
 pub decimal_lacks : (n : ℕ) → n < 2 ^ 64 → Lacks 32 (decimal n)
 decimal_lacks n small = from (decimal n) (digits_decimal own n small) where
   digit : (x : ℕ) → is_ascii_digit x ≡ true → eqb x 32 ≡ false
@@ -89,10 +92,12 @@ decimal_lacks n small = from (decimal n) (digits_decimal own n small) where
 
 -- ---- a process, and how many there are
 
+-- the number of a process, in decimal, is read as that process
 pub process_of-decimal : (p : Pid) → p.0 < 2 ^ 8 → process_of (decimal p.0) ≡ Some p
 unfolding process_of
 process_of-decimal p small = rw (number_of-decimal 255 p.0 (omega arith) (omega arith)) refl
 
+-- a word that is read as a process is its number in decimal
 pub decimal-process_of : (p : Pid) (word : List ℕ) → process_of word ≡ Some p → (word ≡ decimal p.0) × (p.0 < 2 ^ 8)
 unfolding process_of
 decimal-process_of p word e = by_cases (number_of 255 word) refl e where
@@ -104,12 +109,14 @@ decimal-process_of p word e = by_cases (number_of 255 word) refl e where
       let read = decimal-number_of 255 n word (omega arith) s in
       (read.0 ∙ ap decimal number, omega (arith, read.1))
 
+-- a count up to 256, in decimal, is read as that count
 pub count_of-decimal : (n : ℕ) → 1 ≤ n → n ≤ 256 → count_of (decimal n) ≡ Some n
 unfolding count_of
 count_of-decimal n some few =
     let test : ltb 0 n ≡ true = grind (arith, nat_tests) in
     rw (number_of-decimal 256 n few (omega arith)) (rw test refl)
 
+-- a word that is read as a count is that count in decimal
 pub decimal-count_of : (n : ℕ) (word : List ℕ) → count_of word ≡ Some n → (word ≡ decimal n) × (1 ≤ n) × (n ≤ 256)
 unfolding count_of
 decimal-count_of n word e = by_cases (number_of 256 word) refl e where

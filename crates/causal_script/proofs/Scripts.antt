@@ -10,10 +10,12 @@ use Rattle.causal_script.specs.Faults.{IsFirstFault}
 use Rattle.causal_script.specs.Inside.Place.{AreCommands, AreOnLines}
 use Rattle.causal_script.proofs.Texts.{sound_none, length_lines, whole_within}
 
+-- what elements are turned into are as many
 pub length_map : {X Y : Type 0} (f : X → Y) (xs : List X) → length (map f xs) ≡ length xs
 length_map f [] = refl
 length_map f (x ∷ xs) = ap suc (length_map f xs)
 
+-- a text that has been read to its end spells the start and the commands that were read
 pub spelled : (text first rest : List ℕ) (s : Start) (commands : List Command) (line : ℕ) → lines text ≡ first ∷ lines rest → IsStart s → first ≡ start_line s
     → AreCommands rest commands [] → AreOnLines text commands line [] → Spells text (record { start = s; commands = commands })
 spelled text first rest s commands line split start is read r =
@@ -27,6 +29,7 @@ spelled text first rest s commands line split start is read r =
       within = within;
     }
 
+-- the first fault of an empty text is that its first line is no start
 pub empty_fault : (text : List ℕ) → text ≡ [] → IsFirstFault text (record { line = 1; kind = Script })
 empty_fault text is = subst (λ (t : List ℕ). IsFirstFault t (record { line = 1; kind = Script })) (sym is)
     (record { before = 0; number = refl; sound = sound_none []; faulty = λ place. place; big_first = λ same big. let over : max_script < 0 = big.0 in omega arith })

@@ -110,6 +110,7 @@ says_named_start name words line s whole e =
           let parts : IsCut 32 words a.0 = cut_whole 32 words a.0 a.1 in
           says_kind a.0.0 a.0.1 line s (whole ∙ ap (λ xs. xs ++ 32 ∷ words) named ∙ ap (λ xs. codes "start " ++ xs) parts.whole) a.2
 
+-- a start that is read of a line is spelled by that line
 pub says_start : (line : List ℕ) (s : Start) → start_of line ≡ Some s → SaysStart line s
 unfolding start_of
 says_start line s e =
@@ -138,6 +139,7 @@ tally_back n f some few faults =
     let b = number_of-decimal 65535 f (omega arith) (omega arith) in
     rw first (rw a (rw b refl))
 
+-- the line of a start is read as that start
 pub start_back : (s : Start) → IsStart s → start_of (start_line s) ≡ Some s
 unfolding start_of named_start start_of_kind
 start_back s h = at s.kind refl where
@@ -151,9 +153,11 @@ start_back s h = at s.kind refl where
 
 -- ---- in place
 
+-- a line of which a start is read starts a script
 pub started : (line : List ℕ) (s : Start) → start_of line ≡ Some s → IsStartLine line
 started line s e = let says = says_start line s e in (s, says.0, says.1)
 
+-- a line of which no start is read starts no script
 pub not_started : (line : List ℕ) → start_of line ≡ None → IsStartLine line → ⊥
 not_started line e h =
     let back : start_of line ≡ Some h.0 = ap start_of h.2 ∙ start_back h.0 h.1 in

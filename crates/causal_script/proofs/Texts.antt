@@ -19,12 +19,14 @@ use Rattle.causal_script.specs.Inside.Place.{IsBigLine, is_line, judged, IsAfter
 
 -- ---- the first line and the rest
 
+-- no lines are left after all of them
 pub drop_all : {X : Type 0} (count : ℕ) (ls : List X) → length ls ≤ count → drop count ls ≡ []
 drop_all zero [] h = refl
 drop_all (suc count) [] h = refl
 drop_all zero (k ∷ ls) h = absurd (omega arith)
 drop_all (suc count) (k ∷ ls) h = drop_all count ls (omega arith)
 
+-- what stands before the first line feed is the first line, and the rest has the others
 pub lines_cut : (xs : List ℕ) (parts : List ℕ × List ℕ) → cut 10 xs ≡ Some parts → lines xs ≡ parts.0 ∷ lines parts.1
 lines_cut [] parts e = absurd (none-some parts e)
 lines_cut (x ∷ xs) parts e = by_test (eqb x 10) refl (lines_cut xs) e where
@@ -121,12 +123,14 @@ length_lines (x ∷ xs) = by_test (eqb x 10) refl (length_lines xs) where
 
 -- ---- the next line
 
+-- the first of the lines that are left stands after those that were read
 pub line_here : {X : Type 0} (count : ℕ) (ls : List X) (l : X) (rest : List X) → drop count ls ≡ l ∷ rest → (slice_get ls count ≡ Some l) × (drop (suc count) ls ≡ rest)
 line_here zero [] l rest e = absurd (let no : [] ≡ l ∷ rest = e in cc)
 line_here (suc count) [] l rest e = absurd (let no : [] ≡ l ∷ rest = e in cc)
 line_here zero (k ∷ ls) l rest e = let all : k ∷ ls ≡ l ∷ rest = e in (cc, cc)
 line_here (suc count) (k ∷ ls) l rest e = line_here count ls l rest e
 
+-- where none are left, there are no more lines than were read
 pub line_past : {X : Type 0} (count : ℕ) (ls : List X) → drop count ls ≡ [] → length ls ≤ count
 line_past zero [] e = omega arith
 line_past (suc count) [] e = omega arith
@@ -140,6 +144,7 @@ no_lines (x ∷ xs) e = absurd (let some : feeds (take 0 (x ∷ xs)) < length (l
 
 -- ---- what stands against a line
 
+-- a line without a fault is not past the limit, and says something
 pub judged_ok : {A : Type 0} (big : Option ℕ) (line : ℕ) (said : Option A) (x : A) → judged big line said ≡ Ok x → (is_line line big ≡ false) × (said ≡ Some x)
 judged_ok {A} big line said x e = by_test (is_line line big) said refl e where
   by_test : (b : Bool) (o : Option A) → is_line line big ≡ b → cond {A = Result A ScriptFault} b (Err (record { line = line; kind = Big })) (ok_or o (record { line = line; kind = Script })) ≡ Ok x → (is_line line big ≡ false) × (o ≡ Some x)
@@ -163,6 +168,7 @@ pub is_big : (text : List ℕ) (big : Option ℕ) (before : ℕ) → IsBigLine t
 is_big text None before h t = absurd (let no : false ≡ true = t in cc)
 is_big text (Some line) before h t = let same : line ≡ before + 1 = eqb-true line (before + 1) t in (h.0, omega (arith, h.1))
 
+-- where the line with the first byte past the limit is another one, this one is not too big
 pub not_big : (text : List ℕ) (big : Option ℕ) (before : ℕ) → IsBigLine text big → is_line (before + 1) big ≡ false → IsFaultAfter text before Big → ⊥
 not_big text None before h t bad = let over : max_script < length text = bad.0 in omega (arith, h)
 not_big text (Some line) before h t bad =
@@ -170,9 +176,11 @@ not_big text (Some line) before h t bad =
     let no : eqb line (before + 1) ≡ true = eq-eqb line (before + 1) same in
     let clash : false ≡ true = sym t ∙ no in cc
 
+-- none of no lines has a fault
 pub sound_none : (text : List ℕ) → AreSound text 0
 sound_none text before kind below bad = omega arith
 
+-- with one more line, in place and not too big, the lines still have no fault
 pub sound_more : (text : List ℕ) (count next : ℕ) → next ≡ count + 1 → AreSound text count → (IsFaultAfter text count Big → ⊥) → IsInPlace count (slice_get (lines text) count) → AreSound text next
 sound_more text count next is sound small place before kind below bad = by_place (cases_lt before count) where
   here : (k : ScriptFaultKind) → IsFaultAfter text count k → ⊥
@@ -198,9 +206,11 @@ first_fault text l before big said f bigs sound here misplaced e = by_cases (jud
 
 -- ---- how far the text has been read
 
+-- before anything is read, the whole text is left
 pub after_none : (text : List ℕ) → IsAfter text 0 text
 after_none text = record { rest = refl; within = omega arith; sound = sound_none text }
 
+-- after one more line that has no fault, what stands behind it is left
 pub after_more : {A : Type 0} (text left l after : List ℕ) (count next : ℕ) (big : Option ℕ) (said : Option A) (x : A) → next ≡ count + 1
     → IsAfter text count left → lines left ≡ l ∷ lines after → IsBigLine text big → judged big (count + 1) said ≡ Ok x → (said ≡ Some x → IsInPlace count (Some l)) → IsAfter text next after
 after_more text left l after count next big said x is a split bigs e place =
@@ -246,6 +256,7 @@ range_more : (a n next : ℕ) → next ≡ a + n → range_with_len a (suc n) �
 range_more a zero next is = let same : next ≡ a = omega arith in ap (λ x. x ∷ []) (sym same)
 range_more a (suc n) next is = ap (λ xs. a ∷ xs) (range_more (a + 1) n next (omega arith))
 
+-- one more line with a command adds that command
 pub commands_more : (rest left l after : List ℕ) (commands : List Command) (c : Command) → AreCommands rest commands left → lines left ≡ l ∷ lines after
     → l ≡ command_line c.request → IsRequest c.request → AreCommands rest (commands ++ c ∷ []) after
 commands_more rest left l after commands c h split is fits =
@@ -260,6 +271,7 @@ length_push : {X : Type 0} (xs : List X) (x : X) → length (xs ++ x ∷ []) ≡
 length_push [] x = refl
 length_push (y ∷ xs) x = ap suc (length_push xs x)
 
+-- the commands are on the lines up to the one that was read last
 pub reaches_more : {A : Type 0} (text left l after : List ℕ) (commands : List Command) (line next : ℕ) (big : Option ℕ) (said : Option A) (x : A) (c : Command)
     → next ≡ line + 1 → c.line ≡ next → AreOnLines text commands line left → lines left ≡ l ∷ lines after → IsBigLine text big → judged big next said ≡ Ok x → (said ≡ Some x → IsCommandLine l)
     → AreOnLines text (commands ++ c ∷ []) next after
@@ -282,9 +294,11 @@ command_fault text left l after commands line next big said f is r split bigs e 
     let here = line_here line (lines text) l (lines after) (r.after.rest ∙ split) in
     first_fault text l line big said f bigs r.after.sound here.0 (λ no place. none no (misplaced place)) (subst (λ (n : ℕ). judged big n said ≡ Err f) is e)
 
+-- no line before the next one has a fault
 pub read_up_to : (text left : List ℕ) (line next : ℕ) → next ≡ line + 1 → IsAfter text line left → IsReadUpTo text next
 read_up_to text left line next is a = record { before = line; number = is; sound = a.sound }
 
+-- the fault of a line tells its number
 pub judged_line : {A : Type 0} (big : Option ℕ) (line : ℕ) (said : Option A) (f : ScriptFault) → judged big line said ≡ Err f → f.line ≡ line
 judged_line big line said f e = by_cases (judged_err big line said f e) where
   by_cases : ((is_line line big ≡ true) × (f ≡ Fault line Big)) ⊎ ((is_line line big ≡ false) × (said ≡ None) × (f ≡ Fault line Script)) → f.line ≡ line
@@ -293,6 +307,7 @@ judged_line big line said f e = by_cases (judged_err big line said f e) where
 
 -- ---- what a call left
 
+-- a push that was not refused left what it adds
 pub pushed : {T E X : Type 0} (r : Result T E) (new more old : X) → is_err r ≡ false → new ≡ cond (is_ok r) more old → new ≡ more
 pushed (Ok t) new more old told e = e
 pushed (Err t) new more old told e = absurd (let clash : true ≡ false = told in cc)

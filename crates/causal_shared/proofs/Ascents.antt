@@ -57,5 +57,6 @@ from_ascends : (p : ℕ) (ms : Memories) → AllPairs Precedes (names_from p ms)
 from_ascends p [] = λ i j d lt within. absurd (omega (arith, within))
 from_ascends p (m ∷ ms) = before p 0 (option_map_or (λ m. length m.sent) m 0) (names_from (p + 1) ms) (later p (p + 1) ms (omega arith)) (from_ascends (p + 1) ms)
 
+-- the messages that are pending for a process ascend
 pub pending_ascends : (ms : Memories) (q : Pid) → AreAscending (pending_in ms q)
 pending_ascends ms q = AllPairs-filter Precedes (is_pending ms q) (names_from 0 ms) (from_ascends 0 ms)

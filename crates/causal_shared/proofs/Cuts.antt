@@ -51,7 +51,9 @@ cut-whole r n is = let none : instant r - n ≡ 0 = omega (arith, is) in ap (λ 
 
 -- the run has gone on: it is no shorter, and it is the same up to where it was
 pub record Longer (old new : Run) : Type 0 where
+  -- it has no fewer entries
   pub later : instant old ≤ instant new
+  -- up to where it was, it is cut to the same
   pub same : (n : ℕ) → n ≤ instant old → cut new n ≡ cut old n
 
 Longer-extended : (r : Run) (request : Request) (es : List Entry) → count_by is_written es ≡ length (writers_of request es) → Longer r (extended r request es)
@@ -61,6 +63,7 @@ Longer-extended r request es written = record {
   same = λ n le. shortened-extended r request es (instant r - n) (instant (extended r request es) - n) (let long = length-pushed es r.recording.past in omega (arith, long, le)) written;
 }
 
+-- by a legal step the run has gone on
 pub Longer-step : (old new : Run) (request : Request) (reply : Reply) → Steps old request reply new → Longer old new
 Longer-step old new request reply step = rw step.grown (Longer-extended old request step.appended (written-step old request reply step.appended step.legal))
 
@@ -77,5 +80,6 @@ IsStep-extended r request reply es legal = record {
   legal = rw (since-extended r request es) legal;
 }
 
+-- a legal step is told by the entries since it
 pub IsStep-step : (old new : Run) (request : Request) (reply : Reply) → Steps old request reply new → IsStep old request reply new
 IsStep-step old new request reply step = rw step.grown (IsStep-extended old request reply step.appended step.legal)

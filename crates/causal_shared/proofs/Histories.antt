@@ -200,6 +200,7 @@ AllKept-seen run items seats at k seen inside is few kept seat k' found = elim (
         let k_is : record k { seen = seen } ≡ k' = cc in
         subst P same (subst Q k_is record { count = was.count; seen = few; placed = was.placed; last = was.last })
 
+-- what the lock keeps still fits where a seat has seen all entries
 pub Keeps-seen : (r : Run) (items : List Item) (seats : List KeptSeat) (at : ℕ) (k : KeptSeat) (seen : ℕ) → at < length seats → slice_get seats at ≡ Some k → seen ≡ instant r → Keeps r items seats → Keeps r items (slice_set seats at (record k { seen = seen }))
 Keeps-seen r items seats at k seen inside is sees keeps = record {
   legal = keeps.legal;
@@ -207,6 +208,7 @@ Keeps-seen r items seats at k seen inside is sees keeps = record {
   shown = keeps.shown;
 }
 
+-- only what one seat has seen changes where nothing else of it is replaced
 pub Sees-is : (old new : Held) (seat : ℕ) (k : KeptSeat) (seen : ℕ) → slice_get old.seats seat ≡ Some k → seen ≡ instant old.run → new.run ≡ old.run → new.history ≡ old.history → new.seats ≡ slice_set old.seats seat (record k { seen = seen }) → Sees old new seat
 Sees-is old new seat k seen is sees run history seats = record {
   run = run;

@@ -48,8 +48,10 @@ before_items-is r history o faults legal processes same_faults entries =
     let count : b.processes ≡ o.processes = cut-processes r (next_first r history) ∙ processes in
     ap (λ (n : ℕ). opening_from (recording_with n b.past) r.faults) count ∙ (ap (λ (past : List Entry). opening_from (recording_with o.processes past) r.faults) past ∙ ap (opening_from o) same_faults)
 
+-- the entries before the first item are those that were recorded at the opening
 pub before_items-entries : (r : Run) (history : List Item) (o : Recording) (faults : ℕ) → AllLegal r history → before_items r history ≡ opening_from o faults → entries_before (reverse r.recording.past) history ≡ reverse o.past
 before_items-entries r history o faults legal same = entries_before-is r history legal ∙ ap (λ (o : Opening). reverse o.recording.past) same
 
+-- a run that began with an opening has its processes
 pub before_items-processes : (r : Run) (history : List Item) (o : Recording) (faults : ℕ) → before_items r history ≡ opening_from o faults → r.recording.processes ≡ o.processes
 before_items-processes r history o faults same = sym (cut-processes r (next_first r history)) ∙ ap (λ (o : Opening). o.recording.processes) same

@@ -120,6 +120,7 @@ never_wrong (Err (Refusal.Core fault)) e = cc e
 never_wrong (Err (Refusal.Flush fault)) e = cc e
 never_wrong (Err Refusal.NoRecord) e = cc e
 
+-- no answer of the locked value says that the history is full
 pub never_full : {A : Type 0} (a : Result A LockedFault) → shared_of a ≡ Err Fault.HistoryFull → ⊥
 never_full (Ok x) e = cc e
 never_full (Err (Refusal.Core fault)) e = cc e

@@ -98,6 +98,7 @@ fits_by r false h few = record { few = few; entries = lines_of_second r.past }
 canonical_fits : (r : Recording) → r.processes ≤ 256 → FitsVersion (canonical_version r) r
 canonical_fits r few = fits_by r (nat_le r.processes 64 && list_all (has_line One) (reverse r.past)) refl few
 
+-- a well-formed recording within limits is spelled by its canonical text
 pub canonical-spells : NumbersAreSmall → LimitsAreKept → CanonicalSpells
 canonical-spells numbers limits most r some w kept =
     let version = canonical_version r in

@@ -26,6 +26,7 @@ use Rattle.causal_text.proofs.Joined.{sum_by-lines}
 use Rattle.causal_text.proofs.Steps.{said_entries}
 use Rattle.causal_text.proofs.Spellings.{IsPlaceAfter-lines, IsPlaceAfter-start}
 
+-- what ends within the limit of a text is not refused for its length
 pub in_limit : (most : ℕ) (end : ℕ) (r : Result Stage TextKind) → end ≤ text_within most → within_limit most end r ≡ r
 in_limit most end r h = rw (lt-leb (suc (text_within most)) end (omega arith)) refl
 
@@ -36,6 +37,7 @@ first_step : (most : ℕ) (ls ks : List (List ℕ)) (q : Place) (r : Result Plac
 first_step most ls ks q (Ok o) rest g = rest o g
 first_step most ls ks q (Err e) rest g = absurd (let no : Err e ≡ Ok q = g in cc)
 
+-- after lines without a fault, more lines lead on from where those led
 pub after_lines-append : (most : ℕ) (p q : Place) (ls ks : List (List ℕ)) → after_lines most p ls ≡ Ok q → after_lines most p (ls ++ ks) ≡ after_lines most q ks
 after_lines-append most p q [] ks h = let same : p ≡ q = cc in rw same refl
 after_lines-append most p q (l ∷ ls) ks h = first_step most ls ks q (next most p l) (λ o. after_lines-append most o q ls ks) h
@@ -119,6 +121,7 @@ Leads-within most version n (e ∷ past) ls some few lined ok kept h size =
     (λ front is small. Leads-within most version n past front some few lined.0 ok.0 (within_before most r e kept) is small)
     (λ end l small is. in_limit most end _ small ∙ rw (is, lined.1, next_within most r e kept ok.1) refl)
 
+-- lines that say just what a sound stage says are read up to that stage
 pub Leads-reached : (most : ℕ) (ls : List (List ℕ)) (s : Stage) → LeadsTo most ls s → Leads most ls s
 Leads-reached most ls Opening r = Leads-opening most ls r.said
 Leads-reached most ls (Within version q) r = Leads-within most version q.processes q.past ls r.sound.0.count.0 r.sound.1.few r.sound.1.entries r.sound.0.accepted r.sound.2 r.said r.within
@@ -140,6 +143,7 @@ after_lines-place most ls p is =
 ended_at : (p : Place) (s : Stage) (version : Version) (r : Recording) → s ≡ Ended version r → ended p s ≡ Ok r
 ended_at p s version r is = rw is refl
 
+-- a recording that a text spells is what reading gives
 pub reading-spelled : (most : ℕ) (text : List ℕ) (r : Recording) → SpellsWithin most text r → reading most text ≡ Ok r
 reading-spelled most text r s =
     let reached : LeadsTo most (lines text) (Ended s.version r) = record { said = s.said; sound = (s.well_formed, s.fits, s.kept); within = rw (sum_by-lines text) s.within } in

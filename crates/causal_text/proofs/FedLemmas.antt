@@ -23,6 +23,7 @@ pub fed_fault : (n most : ℕ) (h : Held) (b bytes more : List ℕ) (f : TextFau
 fed_fault n most h b bytes more f same faulty =
     subst (λ (m : ℕ). HasReadWithin m (state.Reading h) b → IsFirstFaultWithin m (bytes ++ more) f) same (λ s. IsFirstFault-reading n (bytes ++ more) f (faulty s.0 more))
 
+-- a line before which a reader has found no fault is one before which the bytes have none
 pub fed_line : (n most : ℕ) (h : Held) (b bytes : List ℕ) (line : ℕ) → n ≡ most → (StandsFor n h b → IsReadAt n bytes line)
     → HasReadWithin most (state.Reading h) b → IsReadAt most bytes line
 fed_line n most h b bytes line same at =
@@ -33,6 +34,7 @@ pub fed_spells : (n most : ℕ) (h : Held) (b : List ℕ) (r : Recording) → n 
 fed_spells n most h b r same ends =
     subst (λ (m : ℕ). HasReadWithin m (state.Reading h) b → SpellsWithin m b r) same (λ s. Spells-reading n b r (reading-ending n h b s.0 ∙ ends))
 
+-- the fault of an ending is the first fault of the bytes that were read
 pub fed_ends : (n most : ℕ) (h : Held) (b : List ℕ) (f : TextFault) → n ≡ most → ending n h ≡ Err f → HasReadWithin most (state.Reading h) b → IsFirstFaultWithin most b f
 fed_ends n most h b f same ends =
     subst (λ (m : ℕ). HasReadWithin m (state.Reading h) b → IsFirstFaultWithin m b f) same (λ s. IsFirstFault-reading n b f (reading-ending n h b s.0 ∙ ends))

@@ -17,6 +17,7 @@ not_true : (b : Bool) → (b ≡ true → ⊥) → b ≡ false
 not_true true h = absurd (h refl)
 not_true false h = refl
 
+-- bytes among which no line feed is found have none
 pub no_feed-nowhere : (xs : List ℕ) (n : ℕ) → n ≤ length xs → Nowhere (Passes (is_byte 10) xs) 0 n → no_feed (take n xs) ≡ true
 no_feed-nowhere xs zero h none = refl
 no_feed-nowhere [] (suc n) h none = refl
@@ -24,6 +25,7 @@ no_feed-nowhere (x ∷ xs) (suc n) h none =
     let other : (x == 10) ≡ false = not_true _ (none 0 (omega arith) (omega arith)) in
     rw other (no_feed-nowhere xs n (omega arith) (λ k low high. none (suc k) (omega arith) (omega arith)))
 
+-- what ends with the first line feed is a complete line
 pub complete_at : (xs : List ℕ) (i : ℕ) → i < length xs → Passes (is_byte 10) xs i → Nowhere (Passes (is_byte 10) xs) 0 i → IsComplete (take (suc i) xs)
 complete_at xs i h at none = (take i xs, no_feed-nowhere xs i (omega arith) none, cut xs i h at) where
   cut : (ys : List ℕ) (j : ℕ) → j < length ys → Passes (is_byte 10) ys j → take (suc j) ys ≡ take j ys ++ 10 ∷ []
@@ -48,9 +50,11 @@ lines_line : (xs rest : List ℕ) → no_feed xs ≡ true → lines (xs ++ 10 �
 lines_line [] rest h = refl
 lines_line (x ∷ xs) rest h = let p = first_other (x == 10) (no_feed xs) h in rw (p.0, lines_line xs rest p.1) refl
 
+-- a complete line in front is the first line
 pub lines_complete : (l rest : List ℕ) → IsComplete l → lines (l ++ rest) ≡ l ∷ lines rest
 lines_complete l rest h = rw h.2 (ap lines (append_assoc h.0 (10 ∷ []) rest) ∙ lines_line h.0 rest h.1)
 
+-- complete lines in front are the first lines
 pub lines_joined : (ls : List (List ℕ)) (rest : List ℕ) → AreComplete ls → lines (joined ls ++ rest) ≡ ls ++ lines rest
 lines_joined [] rest h = refl
 lines_joined (l ∷ ls) rest h =
@@ -81,6 +85,7 @@ AreComplete-append (k ∷ ls) l h c = (h.0, AreComplete-append ls l h.1 c)
 
 -- ---- what is held stands for the bytes so far
 
+-- the unfinished part of a line and the rest of it are a complete line
 pub IsComplete-append : (xs l : List ℕ) → no_feed xs ≡ true → IsComplete l → IsComplete (xs ++ l)
 IsComplete-append xs l h c = (xs ++ c.0, no_feed-append xs c.0 h c.1, ap (λ ys. xs ++ ys) c.2 ∙ sym (append_assoc xs c.0 (10 ∷ [])))
 
@@ -150,6 +155,7 @@ with_line_err most h line f e = parts (next most h.place (h.rest ++ line)) e whe
   parts (Ok p) e = let k : Held = record { place = p; rest = [] } in absurd (let no : Ok k ≡ Err f = e in cc)
   parts (Err g) e = let same : g ≡ f = cc in ap Err same
 
+-- once the rest of a line has come without a fault, what is held stands for those bytes too
 pub Comes-line : (most : ℕ) (h0 h h1 : Held) (done line : List ℕ) → Comes most h0 done h → IsComplete line → with_line most h line ≡ Ok h1 → Comes most h0 (done ++ line) h1
 Comes-line most h0 h h1 done line c complete e b s =
     let p = with_line_ok most h h1 line e in
@@ -158,21 +164,25 @@ Comes-line most h0 h h1 done line c complete e b s =
 IsFaultOfAll-more : (most : ℕ) (b more : List ℕ) (f : TextFault) → IsFaultOfAll most b f → IsFaultOfAll most (b ++ more) f
 IsFaultOfAll-more most b more f h rest = ap (reading most) (append_assoc b more rest) ∙ h (more ++ rest)
 
+-- the fault of a line that was completed is that of the text, however it goes on
 pub fault_of_piece : (most : ℕ) (h0 h : Held) (done line after : List ℕ) (f : TextFault) → Comes most h0 done h → IsComplete line → with_line most h line ≡ Err f → (b : List ℕ) → StandsFor most h0 b → IsFaultOfAll most (b ++ (done ++ (line ++ after))) f
 fault_of_piece most h0 h done line after f c complete e b s =
     let here = fault_of_complete most h (b ++ done) line f (c b s) complete (with_line_err most h line f e) in
     let all = IsFaultOfAll-more most ((b ++ done) ++ line) after f here in
     subst (λ (xs : List ℕ). IsFaultOfAll most xs f) (append_assoc (b ++ done) line after ∙ append_assoc b done (line ++ after)) all
 
+-- with bytes that have no line feed, what is held stands for those too
 pub Comes-hold : (most : ℕ) (h0 h : Held) (done part : List ℕ) → Comes most h0 done h → no_feed part ≡ true → Comes most h0 (done ++ part) (record { place = h.place; rest = h.rest ++ part })
 Comes-hold most h0 h done part c none b s = regrouped most (record { place = h.place; rest = h.rest ++ part }) b done part (StandsFor-hold most h (b ++ done) part (c b s) none)
 
+-- a fault of an unfinished line that no further byte changes is that of the text
 pub fault_of_hold : (most : ℕ) (h0 h : Held) (done part : List ℕ) (f : TextFault) → Comes most h0 done h → no_feed part ≡ true → 0 < length (h.rest ++ part) → IsPast most (record { place = h.place; rest = h.rest ++ part }) f
     → (b : List ℕ) → StandsFor most h0 b → IsFaultOfAll most (b ++ (done ++ part)) f
 fault_of_hold most h0 h done part f c none some past b s = fault_of_grown most (record { place = h.place; rest = h.rest ++ part }) (b ++ (done ++ part)) f (Comes-hold most h0 h done part c none b s) some past
 
 -- ---- the end of the text
 
+-- bytes without a line feed are one line, where there are any
 pub lines_rest : (rest : List ℕ) → no_feed rest ≡ true → 0 < length rest → lines rest ≡ rest ∷ []
 lines_rest [] h some = absurd (omega arith)
 lines_rest (x ∷ []) h some = let p = first_other (x == 10) true h in rw p.0 refl
@@ -187,6 +197,7 @@ last_lines most p (x ∷ xs) h = ap (after_lines most p) (lines_rest (x ∷ xs) 
   one (Ok q) = refl
   one (Err f) = refl
 
+-- reading the bytes gives what ending with what is held gives
 pub reading-ending : (most : ℕ) (h : Held) (b : List ℕ) → StandsFor most h b → reading most b ≡ ending most h
 reading-ending most h b s =
     let all = reading_from most h b [] s in
@@ -196,6 +207,7 @@ reading-ending most h b s =
 
 -- ---- the line that is being read
 
+-- no line before the one that is unfinished has a fault
 pub IsReadAt-stands : (most : ℕ) (h : Held) (b : List ℕ) (line : ℕ) → StandsFor most h b → line ≡ h.place.count + 1 → IsReadAt most b line
 IsReadAt-stands most h b line s is more = record {
   before = s.complete;
@@ -206,6 +218,7 @@ IsReadAt-stands most h b line s is more = record {
   number = is ∙ ap (λ n. n + 1) s.place_is.count;
 }
 
+-- more bytes leave the lines before one without a fault
 pub IsReadAt-more : (most : ℕ) (b piece : List ℕ) (line : ℕ) → IsReadAt most b line → IsReadAt most (b ++ piece) line
 IsReadAt-more most b piece line h more = subst (λ (text : List ℕ). IsReadUpTo most text line) (sym (append_assoc b piece more)) (h (piece ++ more))
 

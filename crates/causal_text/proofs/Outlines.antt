@@ -84,6 +84,7 @@ deliver_bad a b c e x h =
 
 -- ---- no shape
 
+-- a value that does not fit the outline of a line is refused for its form
 pub no_shape : (d : Data) → fits levels d ≡ false → shape_of d ≡ Err Form
 unfolding shape_of
 no_shape Data.null h = refl

@@ -34,10 +34,12 @@ twice : {A B : Type 0} (g : A → B) (r : List Token) (x : Option A) → option_
 twice g r None = refl
 twice g r (Some a) = refl
 
+-- an array that was read is converted by its items
 pub converted-array : (o : Option (json.Items × List Token)) → converted of_json (parse_map json.array o) ≡ parse_map array (converted of_items o)
 converted-array None = refl
 converted-array (Some p) = twice array p.1 (of_items p.0)
 
+-- an object that was read is converted by its members
 pub converted-object : (o : Option (json.Members × List Token)) → converted of_json (parse_map json.object o) ≡ parse_map object (converted (λ ms. of_members ms no_members) o)
 converted-object None = refl
 converted-object (Some p) = twice object p.1 (of_members p.0 no_members)
@@ -70,15 +72,18 @@ module _ (p : Parse json.Json) where
   no_item more None e = refl
   no_item more (Some q) e = without_item q.0 (refused q.1 (of_json q.0) e) (more q.1)
 
+  -- where an item is refused, so are the items
   pub item_refused : (n : ℕ) (ts : List Token) → after_end_array ts ≡ None → converted of_json (p ts) ≡ None → converted of_items (items p n ts) ≡ None
   unfolding items
   item_refused zero ts going e = refl
   item_refused (suc n) ts going e = ap (λ o. converted of_items (items_step p (items p n) ts o)) going ∙ no_item (items p n) (p ts) e
 
+  -- after the last item no more items are read
   pub items_over : (n : ℕ) (ts r : List Token) → length ts ≤ n → after_end_array ts ≡ Some r → converted of_items (items p n ts) ≡ Some (no_items, r)
   items_over n ts r enough e = ap (converted of_items) (items_end p n ts r enough e)
 
   module _ (old : Members) where
+    -- a member that was read is put to those before it, and the rest is read on
     pub member_read : (n : ℕ) (k : List ℕ) (ts s r : List Token) (d : Data) → 0 < n → read_key ts ≡ Some (Some k, s) → converted of_json (p s) ≡ Some (d, r)
         → converted (λ ms. of_members ms old) (members p n ts) ≡ converted (λ ms. of_members ms (put k d old)) (members p (n - 1) r)
     member_read n k ts s r d some key e =
@@ -90,14 +95,17 @@ module _ (p : Parse json.Json) where
     no_member k more None e = refl
     no_member k more (Some q) e = without_member k q.0 old (refused q.1 (of_json q.0) e) (more q.1)
 
+    -- where the value of a member is refused, so are the members
     pub member_refused : (n : ℕ) (k : List ℕ) (ts s : List Token) → read_key ts ≡ Some (Some k, s) → converted of_json (p s) ≡ None → converted (λ ms. of_members ms old) (members p n ts) ≡ None
     unfolding members
     member_refused zero k ts s key e = refl
     member_refused (suc n) k ts s key e = rw key (no_member k (members p n) (p s) e)
 
+    -- where the key of a member is refused, so are the members
     pub key_refused : (n : ℕ) (ts : List Token) → read_key ts ≡ None → converted (λ ms. of_members ms old) (members p n ts) ≡ None
     key_refused n ts e = ap (converted (λ ms. of_members ms old)) (members_no_key p n ts e)
 
+    -- after the last member no more members are read
     pub members_over : (n : ℕ) (ts r : List Token) → length ts ≤ n → read_key ts ≡ Some (None, r) → converted (λ ms. of_members ms old) (members p n ts) ≡ Some (old, r)
     members_over n ts r enough e = ap (converted (λ ms. of_members ms old)) (members_end p n ts r enough e)
 
@@ -115,6 +123,7 @@ next_item : (left n : ℕ) (fit : Bool) (d : Data) (o : Option (Items × List To
 next_item left n fit d None = refl
 next_item left n fit d (Some q) = ap (λ b. Some (b, q.1)) (grouped fit (fits (left - 1) d) (items_fit left (one_more n) q.0))
 
+-- items fit where those before do, the next one does, and then the rest do
 pub turn : (p : Parse json.Json) (n : ℕ) (ts r : List Token) (left count : ℕ) (fit : Bool) (d : Data) → 0 < n → after_end_array ts ≡ None → converted of_json (p ts) ≡ Some (d, r)
     → parse_map (AllFit left fit count) (converted of_items (items p n ts)) ≡ parse_map (AllFit left (fit && fits (left - 1) d) (one_more count)) (converted of_items (items p (n - 1) r))
 turn p n ts r left count fit d some going e = ap (parse_map (AllFit left fit count)) (item_read p n ts r d some going e) ∙ next_item left count fit d _
@@ -124,6 +133,7 @@ pub mapped : {A B : Type 0} (f : A → B) (o : Option (A × List Token)) (b : B)
 mapped f None b r e = absurd (cc)
 mapped f (Some p) b r e = let same = ap (pick (f p.0, p.1)) e in (p.0, ap (λ s. Some (p.0, s)) (ap (λ q. q.1) same), ap (λ q. q.0) same)
 
+-- where what is made of what was read is missing, nothing was read
 pub unmapped : {A B : Type 0} (f : A → B) (o : Option (A × List Token)) → parse_map f o ≡ None → o ≡ None
 unmapped f None e = refl
 unmapped f (Some p) e = absurd (cc)
@@ -143,6 +153,7 @@ number_refused (Some x) e = absurd (cc)
 
 -- ---- values by themselves
 
+-- a token that is a value by itself is read as one that fits at any level
 pub plain_read : (depth left : ℕ) (t : Token) (r : List Token) → is_plain t ≡ true → (d : Data) × (converted of_json (value depth (t ∷ r)) ≡ Some (d, r)) × (fits left d ≡ true)
 plain_read depth left Token.begin_object r h = absurd (cc)
 plain_read depth left Token.end_object r h = absurd (cc)
@@ -170,14 +181,17 @@ no_value depth read.Bad r a o h = ap (converted of_json) (value_is depth _)
 
 -- ---- results
 
+-- what holds anyway holds where there is a fault
 pub on_err : {A E : Type 0} {P : Type 0} (r : Result A E) → P → OnErr r P
 on_err (Ok x) p = tt
 on_err (Err e) p = p
 
+-- what follows of what holds where there is a fault holds there too
 pub on_err_weaker : {A E : Type 0} {P Q : Type 0} (r : Result A E) → (P → Q) → OnErr r P → OnErr r Q
 on_err_weaker (Ok x) f h = tt
 on_err_weaker (Err e) f h = f h
 
+-- nothing is made of what was not read
 pub none_mapped : {A B : Type 0} (f : A → B) (o : Option (A × List Token)) → o ≡ None → parse_map f o ≡ None
 none_mapped f o e = ap (parse_map f) e
 

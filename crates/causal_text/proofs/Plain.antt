@@ -64,6 +64,7 @@ plain_entry (Crash who) h = then_more who.0 _ (omega arith) refl
 plain_entry (Restart who listed) h = then_more who.0 _ (omega arith) (plain_then (dets_text listed) (codes "]") (plain_dets listed h.1) refl)
 plain_entry (Forget who listed) h = then_more who.0 _ (omega arith) (plain_then (dets_text listed) (codes "]") (plain_dets listed h.1) refl)
 
+-- the canonical text of a shape is plain
 pub plain_shape : (s : Shape) → ShapeFits s → plain (shape_text s) ≡ true
 plain_shape (shape.Header version n) h = then_more version _ (omega arith) (then_more n _ (omega arith) refl)
 plain_shape (shape.Entry e) h = plain_entry e h
@@ -78,8 +79,10 @@ plain_ascii : (xs : List ℕ) → plain xs ≡ true → are_ascii xs ≡ true
 plain_ascii [] h = refl
 plain_ascii (x ∷ xs) h = let p = ascii_of (nat_lt x 128) (x == 10) (plain xs) h in rw (p.0, plain_ascii xs p.2) refl
 
+-- a plain text is UTF-8
 pub plain_utf8 : (xs : List ℕ) → plain xs ≡ true → IsUtf8 xs
 plain_utf8 xs h = IsUtf8-are_ascii xs (plain_ascii xs h)
 
+-- the first byte of a plain text is no line feed, and the rest is plain
 pub plain_first : (x : ℕ) (xs : List ℕ) → plain (x ∷ xs) ≡ true → ((x == 10) ≡ false) × (plain xs ≡ true)
 plain_first x xs h = let p = ascii_of (nat_lt x 128) (x == 10) (plain xs) h in (p.1, p.2)

@@ -35,6 +35,7 @@ entry_data (Crash who) = named (codes "crash") (item (num who.0) no_items)
 entry_data (Restart who listed) = named (codes "restart") (item (num who.0) (item (array (dets_items listed)) no_items))
 entry_data (Forget who listed) = named (codes "forget") (item (num who.0) (item (array (dets_items listed)) no_items))
 
+-- the value of a shape
 pub data_of : Shape → Data
 data_of (shape.Header version n) = named (codes "trace") (item (num version) (item (num n) no_items))
 data_of (shape.Entry e) = entry_data e
@@ -57,6 +58,7 @@ entry_compact (Crash who) = refl
 entry_compact (Restart who listed) = ap (λ s. codes "[\"restart\"," ++ (decimal who.0 ++ (codes "," ++ (s ++ codes "]")))) (dets_compact listed)
 entry_compact (Forget who listed) = ap (λ s. codes "[\"forget\"," ++ (decimal who.0 ++ (codes "," ++ (s ++ codes "]")))) (dets_compact listed)
 
+-- the compact text of a shape's value is the shape's canonical text
 pub shape_compact : (s : Shape) → compact_text (data_of s) ≡ shape_text s
 unfolding serde_json_on_literals data_of
 shape_compact (shape.Header version n) = refl
@@ -91,6 +93,7 @@ entry_back (Crash who) h = rw (below who.0 (2 ^ 8) h) refl
 entry_back (Restart who listed) h = rw (below who.0 (2 ^ 8) h.0, dets_back listed h.1) refl
 entry_back (Forget who listed) h = rw (below who.0 (2 ^ 8) h.0, dets_back listed h.1) refl
 
+-- the value of a shape has that shape
 pub shape_back : (s : Shape) → ShapeFits s → shape_of (data_of s) ≡ Ok s
 unfolding shape_of data_of header_of end_of
 shape_back (shape.Header version n) h = rw (below version (2 ^ 32) h.0, below n (2 ^ 32) h.1) refl
@@ -118,6 +121,7 @@ entry_simple (Crash who) h = (tt, (omega arith, tt))
 entry_simple (Restart who listed) h = (tt, (omega arith, (AreSimple-dets listed h.1, tt)))
 entry_simple (Forget who listed) h = (tt, (omega arith, (AreSimple-dets listed h.1, tt)))
 
+-- the value of a shape is simple
 pub shape_simple : (s : Shape) → ShapeFits s → IsSimple (data_of s)
 unfolding data_of
 shape_simple (shape.Header version n) h = (tt, (omega arith, (omega arith, tt)))
@@ -132,6 +136,7 @@ entry_shallow (Crash who) = omega arith
 entry_shallow (Restart who listed) = omega (arith, depth-dets listed)
 entry_shallow (Forget who listed) = omega (arith, depth-dets listed)
 
+-- the value of a shape is not too deep to be read
 pub shape_shallow : (s : Shape) → depth (data_of s) ≤ 127
 unfolding data_of
 shape_shallow (shape.Header version n) = omega arith

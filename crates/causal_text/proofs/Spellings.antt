@@ -34,6 +34,7 @@ at_err (Err k) line e h =
     let same : record { line = line; kind = k } ≡ e = cc in
     (ap (λ (f : TextFault). Err f.kind) same, sym (ap (λ (f : TextFault). f.line) same))
 
+-- before the first line a reader stands at the start
 pub IsPlaceAfter-start : (most : ℕ) → IsPlaceAfter most [] start
 IsPlaceAfter-start most = record { reaches = record { said = refl; sound = tt; within = omega arith }; count = refl; size = refl }
 
@@ -46,6 +47,7 @@ LeadsTo-line most before s line t r h =
       within = rw (sum_by_push length before line) a.within;
     }
 
+-- who stands after some lines stands after the next one, if that has no fault
 pub IsPlaceAfter-next : (most : ℕ) (before : List (List ℕ)) (p q : Place) (line : List ℕ) → IsPlaceAfter most before p → next most p line ≡ Ok q → IsPlaceAfter most (before ++ line ∷ []) q
 IsPlaceAfter-next most before p q line st h =
     let step = bind_ok (after_line most p.stage (p.size + length line) line at (p.count + 1)) _ q h in
@@ -57,6 +59,7 @@ IsPlaceAfter-next most before p q line st h =
       size = rw (st.size, sum_by_push length before line) refl;
     })
 
+-- who stands after some lines stands after all further ones that have no fault
 pub IsPlaceAfter-lines : (most : ℕ) (before ls : List (List ℕ)) (p q : Place) → IsPlaceAfter most before p → after_lines most p ls ≡ Ok q → IsPlaceAfter most (before ++ ls) q
 IsPlaceAfter-lines most before [] p q st h =
     let same : p ≡ q = cc in rw append-nil (subst (λ (u : Place). IsPlaceAfter most before u) same st)
@@ -66,13 +69,21 @@ IsPlaceAfter-lines most before (l ∷ ls) p q st h =
 
 -- the first line that has a fault
 pub record Breaks (most : ℕ) (before ls : List (List ℕ)) (fault : TextFault) : Type 0 where
+  -- the lines before it
   pub front : List (List ℕ)
+  -- the line itself
   pub line : List ℕ
+  -- the lines behind it
   pub after : List (List ℕ)
+  -- what the lines before it have said
   pub stage : Stage
+  -- these are all lines, in order
   pub split : before ++ ls ≡ front ++ line ∷ after
+  -- the lines before it have no fault
   pub reaches : LeadsTo most front stage
+  -- this one has the fault
   pub faulty : after_line most stage (sum_by length front + length line) line ≡ Err fault.kind
+  -- the fault has its number
   pub number : fault.line ≡ length front + 1
 
 Breaks-here : (most : ℕ) (before ls : List (List ℕ)) (p : Place) (line : List ℕ) (e : TextFault) → IsPlaceAfter most before p → next most p line ≡ Err e → Breaks most before (line ∷ ls) e
@@ -125,6 +136,7 @@ Spells-reached most text version r reached = record {
   within = rw sum_by-lines at reached.within;
 }
 
+-- what reading gives is spelled by the text
 pub Spells-reading : (most : ℕ) (text : List ℕ) (r : Recording) → reading most text ≡ Ok r → SpellsWithin most text r
 Spells-reading most text r h =
     let step = bind_ok (after_lines most start (lines text)) _ r h in
@@ -139,6 +151,7 @@ cut_parts p Opening e h = let same : record { line = p.count + 1; kind = kind.Cu
 cut_parts p (Within version q) e h = let same : record { line = p.count + 1; kind = kind.Cut } ≡ e = cc in (tt, sym (ap (λ (f : TextFault). f.line) same), sym (ap (λ (f : TextFault). f.kind) same))
 cut_parts p (Ended version q) e h = absurd (let no : Ok q ≡ Err e = h in cc)
 
+-- the fault that reading gives is the first one of the text
 pub IsFirstFault-reading : (most : ℕ) (text : List ℕ) (e : TextFault) → reading most text ≡ Err e → IsFirstFaultWithin most text e
 IsFirstFault-reading most text e h =
     elim (bind_err (after_lines most start (lines text)) _ e h) [

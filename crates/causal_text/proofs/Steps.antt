@@ -47,7 +47,9 @@ and_right false b h = absurd (let no : false ≡ true = h in cc)
 
 -- the shape comes last in what is said, and the stage is sound again
 pub record Adds (most : ℕ) (s : Stage) (x : Shape) (t : Stage) : Type 0 where
+  -- what has been read with it is a recording that may be
   pub sound : IsSound most t
+  -- the shape is said last
   pub more : said t ≡ said s ++ x ∷ []
 
 -- the newest entry is said last
@@ -105,9 +107,13 @@ Adds-follow most (Ended version r) x t w h = absurd (let no : Err kind.After ≡
 
 -- an accepted line has a shape that follows, and lies within the limit
 pub record Accepted (most : ℕ) (s : Stage) (end : ℕ) (line : List ℕ) (t : Stage) : Type 0 where
+  -- what the line says
   pub spoken : Shape
+  -- it says that
   pub reads : line_shape line ≡ Ok spoken
+  -- this follows what was said before it
   pub adds : Adds most s spoken t
+  -- it ends within the limit of a text
   pub within : end ≤ text_within most
 
 Accepted-limit : (most : ℕ) (s : Stage) (end : ℕ) (line : List ℕ) (t : Stage) → IsSound most s → within_limit most end (line_shape line >>= follow most s) ≡ Ok t → Accepted most s end line t
@@ -116,6 +122,7 @@ Accepted-limit most s end line t w h =
     let read = bind_ok (line_shape line) (follow most s) t limit.1 in
     record { spoken = read.0; reads = read.1; adds = Adds-follow most s read.0 t w read.2; within = omega (arith, leb-false (suc (text_within most)) end limit.0) }
 
+-- a line that leads on from a sound stage is accepted there
 pub Accepted-line : (most : ℕ) (s : Stage) (end : ℕ) (line : List ℕ) (t : Stage) → IsSound most s → after_line most s end line ≡ Ok t → Accepted most s end line t
 Accepted-line most Opening end line t w h = Accepted-limit most Opening end line t w h
 Accepted-line most (Within version r) end line t w h = Accepted-limit most (Within version r) end line t w h
@@ -160,6 +167,7 @@ Counts-limit most s end line t few h =
     let read = bind_ok (line_shape line) (follow most s) t limit.1 in
     Counts-follow most s read.0 t few read.2
 
+-- a line that leads on is one line more, and keeps within the limit of entries
 pub Counts-line : (most : ℕ) (s : Stage) (end : ℕ) (line : List ℕ) (t : Stage) → entries_in s ≤ max_entries → after_line most s end line ≡ Ok t → Counts s t
 Counts-line most Opening end line t few h = Counts-limit most Opening end line t few h
 Counts-line most (Within version r) end line t few h = Counts-limit most (Within version r) end line t few h

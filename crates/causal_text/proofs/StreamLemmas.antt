@@ -17,12 +17,14 @@ use Rattle.causal_text.specs.Pieces.{joined, Held, StandsFor}
 use Rattle.causal_text.specs.Inside.Unfinished.{HasRoom}
 use Rattle.causal_text.specs.Streams.{HasReadWithin, IsReading, Follows, PieceEndsAt, TellsFault, TellsOf, TellsLine, TellsLineOf, IsFaultAfter}
 
+-- to take one part of a source and then another is to take both
 pub Consumes-then : (a m n : Option (List ℕ)) (xs ys : List ℕ) → Consumes a m xs → Consumes m n ys → Consumes a n (xs ++ ys)
 Consumes-then None m n xs ys p q = tt
 Consumes-then (Some a) None n xs ys p q = absurd p
 Consumes-then (Some a) (Some m) None xs ys p q = absurd q
 Consumes-then (Some a) (Some m) (Some n) xs ys p q = p ∙ ap (λ z. xs ++ z) q ∙ sym (append_assoc xs ys n)
 
+-- where more may come, the text goes on
 pub IsReading-more : (s : State) → Follows progress.More s → IsReading s
 IsReading-more (state.Reading h) f = f
 IsReading-more (state.Ended r) f = absurd f
@@ -38,11 +40,13 @@ length-held most h bytes st =
     let all = length-joined st.complete in
     ap length st.whole ∙ length-append (joined st.complete) h.rest ∙ omega (arith, st.place_is.size)
 
+-- a reader that holds what stands for some bytes, within the limit of a text, has read these
 pub read_more : (most : ℕ) (k : Held) (bytes : List ℕ) → StandsFor most k bytes → HasRoom most k → HasReadWithin most (state.Reading k) bytes
 read_more most k bytes st room =
     let few : k.place.size ≤ text_within most = omega (arith, st.place_is.size, st.place_is.reaches.within) in
     (st, omega (arith, length-held most k bytes st, room few))
 
+-- what was read is within the limit of a text
 pub length-read : (most : ℕ) (s : State) (read : List ℕ) → HasReadWithin most s read → length read ≤ text_within most
 length-read most (state.Reading h) read st = st.1
 length-read most (state.Ended r) read st = st.within
@@ -59,15 +63,18 @@ pub all_read : (bytes xs : List ℕ) (left : Option (List ℕ)) → Consumes (So
 all_read bytes xs None p e = absurd p
 all_read bytes xs (Some ys) p e = p ∙ ap (λ z. xs ++ z) e ∙ append-nil xs
 
+-- where nothing is left of a source, all of its bytes spell what those that were read spell
 pub spelled_at_end : (most : ℕ) (known left : Option (List ℕ)) (xs : List ℕ) (t : Recording) → Consumes known left xs → IsAtEnd left → SpellsWithin most xs t → IfSome known (λ bytes. SpellsWithin most bytes t)
 spelled_at_end most None left xs t p e h = tt
 spelled_at_end most (Some bytes) left xs t p e h = subst (λ text. SpellsWithin most text t) (sym (all_read bytes xs left p e)) h
 
+-- the first fault of what was read, however it goes on, is that of the source
 pub first_of_source : (most : ℕ) (bytes read piece : List ℕ) (left : Option (List ℕ)) (f : TextFault) → Consumes (Some bytes) left (read ++ piece) → PieceEndsAt piece left → IsFaultAfter most piece (read ++ piece) f → IsFirstFaultWithin most bytes f
 first_of_source most bytes read [] left f p e h = subst (λ text. IsFirstFaultWithin most text f) (sym (all_read bytes (read ++ []) left p e)) h
 first_of_source most bytes read (x ∷ xs) None f p e h = absurd p
 first_of_source most bytes read (x ∷ xs) (Some rest) f p e h = subst (λ text. IsFirstFaultWithin most text f) (sym p) (h rest)
 
+-- what the fault of a call tells of what was read it tells of all bytes of the source
 pub TellsOf-faults : (known mid left : Option (List ℕ)) (stood : List ℕ → Type 0) (read : List ℕ) (f : ReaderFault) → Consumes known mid read → stood read → TellsFault mid left stood f → IfSome known (λ bytes. TellsOf bytes f)
 TellsOf-faults None mid left stood read f p s h = tt
 TellsOf-faults (Some bytes) mid left stood read fault.Read p s h = tt
@@ -77,10 +84,12 @@ TellsOf-faults (Some bytes) mid left stood read (fault.Text f) p s h = λ other.
 TellsOf-faults (Some bytes) mid left stood read fault.Failed p s h = absurd (h read s)
 TellsOf-faults (Some bytes) mid left stood read fault.Unfinished p s h = absurd h
 
+-- a line before which what was read has no fault is such a line of the source
 pub line_of_source : (most : ℕ) (bytes read piece : List ℕ) (left : Option (List ℕ)) (line : ℕ) → Consumes (Some bytes) left (read ++ piece) → IsReadAt most (read ++ piece) line → IsReadUpTo most bytes line
 line_of_source most bytes read piece None line p h = absurd p
 line_of_source most bytes read piece (Some rest) line p h = subst (λ text. IsReadUpTo most text line) (sym p) (h rest)
 
+-- the line that a fault tells by what was read it tells of the source
 pub TellsLineOf-faults : (known mid left : Option (List ℕ)) (stood : List ℕ → Type 0) (read : List ℕ) (f : ReaderFault) → Consumes known mid read → stood read → TellsLine mid left stood f → IfSome known (λ bytes. TellsLineOf bytes f)
 TellsLineOf-faults None mid left stood read f p s h = tt
 TellsLineOf-faults (Some bytes) mid left stood read fault.Read p s h = tt

@@ -14,6 +14,7 @@ entries_text_lines [] = refl
 entries_text_lines (e ∷ es) =
     flat_map-cons line_text (shape.Entry e) (map shape.Entry es) ∙ ap (λ xs. (entry_text e ++ codes "\n") ++ xs) (entries_text_lines es) ∙ sym (flat_map-cons (λ x. entry_text x ++ codes "\n") e es)
 
+-- the canonical text is the header, the lines of the entries and the end line
 pub canonical_parts : (r : Recording) → canonical r ≡ line_text (shape.Header (number_of (canonical_version r)) r.processes) ++ (entries_text (entries_of r) ++ line_text (shape.End (length r.past)))
 canonical_parts r =
     let first = shape.Header (number_of (canonical_version r)) r.processes in

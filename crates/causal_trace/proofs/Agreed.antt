@@ -19,18 +19,22 @@ use Rattle.causal_trace.proofs.Lemmas.Accepted.{delivers_up, restarts_down}
 
 -- instants
 
+-- the instant t of a run is what its first t entries make
 pub instants_prefixes : InstantsArePrefixes
 instants_prefixes entries t within =
     let split : reverse entries ≡ reverse (drop t entries) ++ reverse (take t entries) = ap reverse (sym (take-append-drop t entries)) ∙ reverse-append (take t entries) (drop t entries) in
     ap (λ x. drop (length (reverse entries) - t) x) split
     ∙ drop_at (reverse (drop t entries)) (reverse (take t entries)) (length (reverse entries) - t) (length-reverse (drop t entries) ∙ length-drop t entries ∙ ap (λ n. n - t) (sym (length-reverse entries)))
 
+-- one more entry leaves the instants that there were
 pub instants_stay : InstantsStay
 instants_stay e past t within = at.instants_stay e past t within
 
+-- one more entry makes one more instant, which is the state with it
 pub one_more_instant : OneMoreInstant
 one_more_instant e past = at.one_more_instant e past
 
+-- at an instant, the entry at each position is the run's
 pub instants_keep_places : InstantsKeepPlaces
 instants_keep_places entries t k within below =
     let any : Entry = Crash (record { 0 = 0 }) in
@@ -38,6 +42,7 @@ instants_keep_places entries t k within below =
 
 -- who is down
 
+-- a process is down where its last crash or restart is a crash
 pub down_last : DownIsLastTurn
 down_last [] p = refl
 down_last (Send from to ssn ∷ past) p = down_last past p
@@ -61,6 +66,7 @@ along : (past : List Entry) (i k : ℕ) (over : List ℕ) (j : ℕ) → Reaches 
 along past i k [] j r h = subst (λ x. Reaches past i x) h r
 along past i k (m ∷ over) j r h = along past i m over j (onward r h.0) h.1
 
+-- i reaches j where a list of events leads there, each of which directly precedes the next
 pub reaches_path : ReachesByPath
 reaches_path past i j = (by_path past i j, λ h. along past i i h.1.0 j (itself h.0.0 h.0.1 h.0.2) h.1.1)
 
@@ -80,6 +86,7 @@ fresh who listed past p d before down at =
     let gone : logs past p d ≡ false = before ∙ ap (λ b. not b && option_map_or (λ e. not (is_forgetting e)) (find (lists p d) (present past p)) false) (subst (λ x. is_down past x ≡ true) (eqb-true who.0 p at) down) in
     rw (gone, at) (elim (has listed d) as (λ b. (b || false) ≡ option_map_or (λ e. not (is_forgetting e)) (cond b (Some (Restart who listed)) None) false) [ true ↦ refl | false ↦ refl ])
 
+-- a process that is up logs d where the last entry of its lane that lists d is no forgetting
 pub log_last : LogIsLastListing
 log_last n [] p d t = refl
 log_last n (Send from to ssn ∷ past) p d t = log_last n past p d t.0

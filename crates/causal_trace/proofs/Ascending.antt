@@ -6,6 +6,7 @@ use Rattle.std.proofs.lemmas.Bool.{cases_lt}
 use Rattle.causal_name.specs.declared.Det.{Det}
 use Rattle.causal_name.specs.Names.{is_before, is_ascending}
 
+-- a list ascends from j on where j's determinant comes before the next, and it ascends from there
 pub ascending_more : (ds : List Det) (j : ℕ) (d : Det) → j + 1 < length ds → is_ascending (drop j ds) ≡ (is_before (get_or ds j d) (get_or ds (j + 1) d) && is_ascending (drop (j + 1) ds))
 ascending_more ds j d h =
     let here : drop j ds ≡ get_or ds j d ∷ drop (j + 1) ds = drop_more ds j d (omega arith) in

@@ -28,7 +28,9 @@ chain_begins node older = cond-true (length older == length older) _ _ (eq-eqb (
 
 -- where a node leads
 pub record Leads (nodes : List Node) (node : Node) (k : ℕ) : Type 0 where
+  -- the receipts from k on are the node's own, and those from where it leads
   pub onward : chain nodes (Some k) ≡ node.receipt ∷ chain nodes node.next
+  -- it leads to a place below its own, or nowhere
   pub down : IsBelow node.next k
 
 -- the newest node stands at the end
@@ -121,6 +123,7 @@ message_longer heads m q h =
       | inr other ↦ subst (λ b. length (heads_of heads q) ≤ length (cond b (opened (heads_of heads m.source.0) m.ssn) (heads_of heads q))) (sym other.0) (omega arith)
     ])
 
+-- a message that has a head still has one when another gets its own
 pub message_keeps : (heads : Heads) (m q : MsgName) → m.source.0 < length heads → HasHead heads q → HasHead (with_message heads m) q
 message_keeps heads m q h has = record {
   source = omega (arith, has.source, length-set heads m.source.0 (opened (heads_of heads m.source.0) m.ssn));
@@ -170,6 +173,7 @@ head_lengths heads m q at h =
       | inr other ↦ ap (λ b. length (cond b list (heads_of heads q))) other.0
     ]
 
+-- a message that has a head still has one when any head is made to lead elsewhere
 pub head_keeps : (heads : Heads) (m q : MsgName) (at : Option ℕ) → m.source.0 < length heads → HasHead heads q → HasHead (with_head heads m at) q
 head_keeps heads m q at h has = record {
   source = omega (arith, has.source, length-set heads m.source.0 (set (heads_of heads m.source.0) m.ssn at));
@@ -220,6 +224,7 @@ pub walk_falls : (next : Option ℕ) (k : ℕ) → IsBelow next k → option_map
 walk_falls None k h = omega arith
 walk_falls (Some i) k h = omega (arith, h)
 
+-- a chain that begins nowhere has no receipts
 pub chain_ends : (nodes : List Node) (at : Option ℕ) → ((k : ℕ) → at ≡ Some k → ⊥) → chain nodes at ≡ []
 chain_ends nodes None h = chain_none nodes
 chain_ends nodes (Some k) h = absurd (h k refl)

@@ -34,6 +34,7 @@ restarted_push (Stable det) past n h = omega (arith, h)
 restarted_push (Crash who) past n h = omega (arith, h)
 restarted_push (Forget who listed) past n h = omega (arith, h)
 
+-- a run has no more restarts than entries
 pub restarts_few : (past : List Entry) → restarts past ≤ length past
 restarts_few [] = omega arith
 restarts_few (Restart who listed ∷ past) = omega (arith, restarts_few past)
@@ -43,6 +44,7 @@ restarts_few (Stable det ∷ past) = omega (arith, restarts_few past)
 restarts_few (Crash who ∷ past) = omega (arith, restarts_few past)
 restarts_few (Forget who listed ∷ past) = omega (arith, restarts_few past)
 
+-- a run has no more deliveries than entries
 pub deliveries_in_few : (past : List Entry) → deliveries_in past ≤ length past
 deliveries_in_few [] = omega arith
 deliveries_in_few (Deliver to send rsn listed ∷ past) = omega (arith, deliveries_in_few past)

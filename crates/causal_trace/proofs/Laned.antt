@@ -43,6 +43,7 @@ lanes_at (Some q) n e past lanes are p d h =
           ∙ ap (λ b. cond b (lane_after e (lane_of past p)) (lane_of past p)) (sym k.0)
     ]
 
+-- an entry leaves as many lanes as there were
 pub lanes_length : (subj : Option Pid) (e : Entry) (lanes : List Lane) → length (lanes_after_of subj e lanes) ≡ length lanes
 lanes_length None e lanes = refl
 lanes_length (Some q) e lanes = length-set lanes q.0 _
@@ -71,6 +72,7 @@ lane_has_room past p h = record {
   deliveries = omega (arith, h, deliveries_few past p);
 }
 
+-- while a run is below the limit of entries, each lane's counts have room for one more
 pub lanes_have_room : (n : ℕ) (past : List Entry) (lanes : List Lane) → ArePresentLanes n past lanes → length past < 16777216 → All HasRoom lanes
 lanes_have_room n past lanes are short k d below = subst HasRoom (sym (are.each k d (omega (arith, are.count, below)))) (lane_has_room past k short)
 
@@ -90,5 +92,6 @@ subject_there n past (Crash who) h = below_count who.0 n (row_fails (rows n past
 subject_there n past (Restart who listed) h = below_count who.0 n (row_fails (rows n past (Restart who listed)) h 1 (not (nat_lt who.0 n), NoProcess) refl)
 subject_there n past (Forget who listed) h = below_count who.0 n (row_fails (rows n past (Forget who listed)) h 1 (not (nat_lt who.0 n), NoProcess) refl)
 
+-- before any entry the present lane of each process is a fresh one
 pub no_lanes : (n : ℕ) → ArePresentLanes n [] (replicate n fresh)
 no_lanes n = record { count = length-replicate n fresh; each = λ p d h. get_or-replicate n p fresh d h }

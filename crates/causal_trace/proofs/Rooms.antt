@@ -16,6 +16,7 @@ least_at [] other p d h = absurd (omega (arith, h))
 least_at (list ∷ lists) other zero d h = min-le_left (room list) (least_room lists other)
 least_at (list ∷ lists) other (suc p) d h = omega (arith, min-le_right (room list) (least_room lists other), least_at lists other p d (omega (arith, h)))
 
+-- the least room of all is no more than that of the array of nodes
 pub least_other : (lists : List (Vec (Option ℕ) Global)) (other : ℕ) → least_room lists other ≤ other
 least_other [] other = omega arith
 least_other (list ∷ lists) other = omega (arith, min-le_right (room list) (least_room lists other), least_other lists other)

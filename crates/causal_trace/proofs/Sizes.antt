@@ -160,8 +160,10 @@ pub small_reverse : (limit : ℕ) (es : List Entry) → EntriesAreSmall limit es
 small_reverse limit [] h = tt
 small_reverse limit (e ∷ es) h = subst (EntriesAreSmall limit) (sym (reverse-append (e ∷ []) es)) (small_append limit (reverse es) (e ∷ []) (small_reverse limit es h.1) (h.0, tt))
 
+-- a well-formed recording of few processes has only small numbers
 pub numbers_small : NumbersAreSmall
 numbers_small r limit formed few = small_reverse limit r.past (accepted_small limit r.processes r.past few formed.accepted)
 
+-- a well-formed recording is within the limits of a trace
 pub limits_kept : LimitsAreKept
 limits_kept r formed = let s = formed_short r formed in (s.entries, s.listed, restarts_few r.processes r.past formed.accepted)

@@ -15,6 +15,7 @@ use Rattle.causal_trace.proofs.Lemmas.AtInstants.{det_within}
 
 -- what is counted
 
+-- the present lane has sent as many messages as it has sends
 pub sends_counted : SendsAreCounted
 sends_counted [] p = refl
 sends_counted (Send from to ssn ∷ past) p = elim (from.0 == p) as (λ b. cond b (sends past p + 1) (sends past p) ≡ length (cond b (Send from to ssn ∷ filter (is_send_of p) (present past p)) (filter (is_send_of p) (present past p)))) [
@@ -30,6 +31,7 @@ sends_counted (Restart who listed ∷ past) p = elim (who.0 == p) as (λ b. cond
   | false ↦ sends_counted past p
 ]
 
+-- the present lane has delivered as many messages as it has deliveries
 pub deliveries_counted : DeliveriesAreCounted
 deliveries_counted [] p = refl
 deliveries_counted (Deliver to send rsn listed ∷ past) p = elim (to.0 == p) as (λ b. cond b (deliveries past p + 1) (deliveries past p) ≡ length (cond b (Deliver to send rsn listed ∷ filter (is_delivery_to p) (present past p)) (filter (is_delivery_to p) (present past p)))) [
@@ -82,6 +84,7 @@ told_det (e ∷ past) d k h =
       | inr other ↦ ap (λ b. is_det (det_of past e) d || b) (told_det past d k (sym (cond-false (k == length past) (det_of past e) (det_at past k) other.0) ∙ h)) ∙ or_true (is_det (det_of past e) d)
     ]
 
+-- d is delivered where it is the determinant of the delivery at some position
 pub delivered_at_position : DeliveredAtPosition
 delivered_at_position past d = (found_det past d, λ h. told_det past d h.0 h.1)
 
@@ -135,5 +138,6 @@ told_write (e ∷ past) d k h =
       | inr other ↦ stable_after e past d (told_write past d k (sym (cond-false (k == length past) (Some e) (entry_at past k) other.0) ∙ h))
     ]
 
+-- d is stable where the entry at some position writes it
 pub stable_at_position : StableAtPosition
 stable_at_position past d = (found_write past d, λ h. told_write past d h.0 h.1)

@@ -8,6 +8,7 @@ use Rattle.causal_audit.proofs.Lemmas.OneVerdict.{one_verdict}
 use Rattle.causal_workers.specs.Judgements.{IsJudgement}
 use Rattle.causal_workers.specs.declared.judged.Judged.{Judged}
 
+-- of a text there is one judgement for each number of faults
 pub one_judgement : (text : List ℕ) (f : ℕ) (a b : Judged) → IsJudgement text f a → IsJudgement text f b → b ≡ a
 one_judgement text f a b first second =
     let same = one_recording default_entries text second.recording first.recording second.spells first.spells in

@@ -16,8 +16,11 @@ rise_counts (r ∷ rises) place (suc i) lt le = omega (arith, rise_counts rises 
 
 -- the count is that of some rise up to the place, or there is none
 pub record IsCountOf (rises : List Rise) (place count i : ℕ) : Type 0 where
+  -- the rise is one of them
   pub within : i < length rises
+  -- it stands up to the place
   pub reached : (rise_at rises i).place ≤ place
+  -- its count is the one told
   pub count_is : count ≡ (rise_at rises i).count
 
 -- a count is nothing yet, or that of the last rise no later than the place

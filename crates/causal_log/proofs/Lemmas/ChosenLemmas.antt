@@ -9,6 +9,7 @@ use Rattle.causal_log.specs.Knowledge.{is_carried}
 use Rattle.causal_log.specs.Logs.{LogMap, chosen, dets_of, item_of}
 use Rattle.causal_log.proofs.Lemmas.Ascents.{filter_ascends}
 
+-- the items that entries make have their determinants
 pub dets_of_items : (es : List (Det × Known)) → dets_of (map item_of es) ≡ keys_of es
 dets_of_items [] = refl
 dets_of_items (e ∷ es) = ap (λ ds. e.0 ∷ ds) (dets_of_items es)

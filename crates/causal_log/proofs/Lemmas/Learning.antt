@@ -39,6 +39,7 @@ module _ (has : Known → Bool) (either : (one other : Known) → has (joined on
       by true e = either (known_of log det) known ∙ ap (λ d. has (known_of log d) || has known) (sym (same_is q det e))
       by false e = or_nothing (has (known_of log q))
 
+  -- after all is learned, q has the property where it had it, or where one told of it
   pub known_all : (es : List (Det × Known)) (log : LogMap) (q : Det) → has (known_of (learned_all es log) q) ≡ (has (known_of log q) || list_any (λ e. same_det q e.0 && has e.1) es)
   known_all [] log q = or_nothing (has (known_of log q))
   known_all (e ∷ es) log q =
@@ -68,9 +69,11 @@ told_keys from me [] = refl
 told_keys from me (item ∷ items) = ap (λ ds. item.det ∷ ds) (told_keys from me items)
 
 module _ (from me : Pid) (q : Det) where
+  -- a message tells of just the determinants of its items
   pub told_dets : (items : List Item) → list_any (λ e. same_det q e.0) (map (told from me) items) ≡ list_any (λ item. same_det q item.det) items
   told_dets items = any_map (told from me) (λ e. same_det q e.0) (λ item. same_det q item.det) (λ x. refl) items
 
+  -- a message tells of none that it is stable
   pub told_stable : (items : List Item) → list_any (λ e. same_det q e.0 && e.1.stable) (map (told from me) items) ≡ false
   told_stable [] = refl
   told_stable (item ∷ items) = ap (λ b. b || list_any (λ e. same_det q e.0 && e.1.stable) (map (told from me) items)) (never (same_det q item.det)) ∙ told_stable items
@@ -89,6 +92,7 @@ module _ (from me : Pid) (q : Det) where
       ∙ (λ i. sym (nat_ties p me.0) i || (set.contains-insert nat_cmp_total item.holders from.0 p ∙ ap (λ b. b || set.contains item.holders p) (sym (nat_ties p from.0))) i)
       ∙ turned (p == from.0) (p == me.0) (set.contains item.holders p)
 
+  -- a message tells that p holds q where an item names p, or has q and p is sender or receiver
   pub told_holders : (p : ℕ) (items : List Item) →
       list_any (λ e. same_det q e.0 && set.contains e.1.holders p) (map (told from me) items)
       ≡ list_any (λ item. same_det q item.det && (set.contains item.holders p || (p == from.0 || p == me.0))) items

@@ -126,6 +126,7 @@ module _ {X : Type 0} where
   pub any_logged : (P : X → Bool) (q : Det) (m : fin.FinMap det_cmp X) → list_any (λ e. same_det q e.0 && P e.1) (fin.entries m) ≡ passes P (fin.get m q)
   any_logged P q m = any_found P q (fin.entries m) (shown _ (fin.entries_sorted m)) ∙ ap (passes P) (sym (fin.get-entries m q))
 
+  -- a determinant is among the entries where the map has it
   pub any_dets : (q : Det) (m : fin.FinMap det_cmp X) → list_any (λ e. same_det q e.0) (fin.entries m) ≡ is_some (fin.get m q)
   any_dets q m = each (fin.entries m) ∙ any_logged (λ x. true) q m ∙ there (fin.get m q)
     where
@@ -151,6 +152,7 @@ module _ {X : Type 0} where
       ap (λ b. cond b (Some e.1) (find det_cmp q es)) ((eq_by_cmp_equiv dets_total).symm q e.0 ∙ apart (det_cmp e.0 q) (before_each e.0 es i (q, x) two.0 at))
       ∙ shown_found es two.1 i q x at
 
+  -- what is found for a determinant stands with it at some place
   pub found_shown : (es : List (Det × X)) (q : Det) (x : X) → find det_cmp q es ≡ Some x → (i : ℕ) × (slice_get es i ≡ Some (q, x))
   found_shown [] q x found = absurd (true≢false (sym (ap is_some found)))
   found_shown (e ∷ es) q x found = by (eq_by_cmp det_cmp q e.0) refl found (λ at. found_shown es q x at)

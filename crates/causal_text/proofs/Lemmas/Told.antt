@@ -4,6 +4,7 @@ use Rattle.causal_text.specs.declared.kind.TextKind.{TextKind}
 use Rattle.causal_text.specs.declared.kind.TextKind.TheVariants as kind
 use Rattle.causal_text.specs.Given.{IsFaultGiven}
 
+-- where memory was not wanted, the fault that is told is the one that reading gives
 pub told : {A E : Type 0} (k : TextKind) (f : E) (read : Result A E) → IsFaultGiven k f read → k ≢ kind.NoMemory → read ≡ Err f
 told kind.NoMemory f read h other = absurd (other refl)
 told _ f read h other = h

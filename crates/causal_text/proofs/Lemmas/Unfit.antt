@@ -16,6 +16,7 @@ IsPlainly r = (e : TextKind) → r ≡ Err e → e ≡ Form
 
 -- ---- of two that do not both hold
 
+-- where not both hold, what follows from the one that fails does
 pub or_else : {P Q : Type 0} (a b : Bool) → (a && b) ≡ false → (a ≡ false → P) → (b ≡ false → Q) → P ⊎ Q
 or_else true b h p q = inr (q h)
 or_else false b h p q = inl (p refl)
@@ -24,6 +25,7 @@ rest_false : (a b : Bool) → a ≡ true → (a && b) ≡ false → b ≡ false
 rest_false true b t h = h
 rest_false false b t h = absurd (let no : false ≡ true = t in cc)
 
+-- where not both hold but the second does, the first does not
 pub last_false : (a b : Bool) → b ≡ true → (a && b) ≡ false → a ≡ false
 last_false a true t h = all a h where
   all : (a : Bool) → (a && true) ≡ false → a ≡ false
@@ -76,6 +78,7 @@ IsPlainly-or_form None = λ e h. (let same : Form ≡ e = cc in sym same)
 IsPlainly-form : {A : Type 0} → IsPlainly {A = A} (Err Form)
 IsPlainly-form = λ e h. (let same : Form ≡ e = cc in sym same)
 
+-- a process is refused for no other kind than `Form`
 pub IsPlainly-pid : (i : ℕ) (d : Data) → IsPlainly (pid_at i d)
 unfolding pid_at
 IsPlainly-pid i d = IsPlainly-after (u8_at i d) _ (IsPlainly-or_form _) (λ p. IsPlainly-ok _)
@@ -84,6 +87,7 @@ IsPlainly-cond : {A : Type 0} (b : Bool) (r : Result A TextKind) → IsPlainly r
 IsPlainly-cond true r p = p
 IsPlainly-cond false r p = IsPlainly-form
 
+-- a determinant is refused for no other kind than `Form`
 pub IsPlainly-det : (d : Data) → IsPlainly (det_of d)
 unfolding det_of
 IsPlainly-det d = IsPlainly-cond (size d == 4) _ (IsPlainly-after (pid_at 0 d) _ (IsPlainly-pid 0 d) (λ a. IsPlainly-after (u32_at 1 d) _ (IsPlainly-or_form _) (λ b. IsPlainly-after (pid_at 2 d) _ (IsPlainly-pid 2 d) (λ c. IsPlainly-after (u32_at 3 d) _ (IsPlainly-or_form _) (λ e. IsPlainly-ok _)))))
@@ -92,6 +96,7 @@ IsPlainly-list : (ds : Items) → IsPlainly (dets_of ds)
 IsPlainly-list no_items = IsPlainly-ok []
 IsPlainly-list (item d ds) = IsPlainly-after (det_of d) _ (IsPlainly-det d) (λ det. IsPlainly-after (dets_of ds) _ (IsPlainly-list ds) (λ dets. IsPlainly-ok _))
 
+-- a list of determinants is refused for no other kind than `Form`
 pub IsPlainly-dets : (i : ℕ) (d : Data) → IsPlainly (dets_at i d)
 unfolding dets_at
 IsPlainly-dets i d = IsPlainly-after (or_form (option_and_then as_array (at i d))) _ (IsPlainly-or_form _) (λ ds. IsPlainly-list ds)
@@ -118,9 +123,11 @@ u64_none left (string s) h = refl
 u64_none left (array ds) h = refl
 u64_none left (object ms) h = refl
 
+-- any number is refused where what is there is none
 pub u64_bad : (left i : ℕ) (d x : Data) → at i d ≡ Some x → fits left x ≡ false → u64_at i d ≡ Err Form
 u64_bad left i d x is h = ap (λ o. or_form (option_and_then as_u64 (option_and_then as_number o))) is ∙ ap or_form (u64_none left x h)
 
+-- a process is refused where what is there is no number
 pub pid_bad : (left i : ℕ) (d x : Data) → at i d ≡ Some x → fits left x ≡ false → pid_at i d ≡ Err Form
 unfolding pid_at
 pid_bad left i d x is h = stops (u8_at i d) _ (number_bad (2 ^ 8) left i d x is h)
@@ -162,6 +169,7 @@ field_bad (string s) h = refl
 field_bad (array ds) h = list_bad 0 ds h
 field_bad (object ms) h = refl
 
+-- a list of determinants is refused where what is there does not fit one
 pub dets_bad : (i : ℕ) (d x : Data) → at i d ≡ Some x → fits 2 x ≡ false → dets_at i d ≡ Err Form
 unfolding dets_at
 dets_bad i d x is h = ap (λ o. or_form (option_and_then as_array o) >>= dets_of) is ∙ field_bad x h

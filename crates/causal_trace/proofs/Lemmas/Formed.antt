@@ -68,6 +68,7 @@ rows_next entries r e h = (nothing_told (passes entries r.past (length (listed_b
 fits : (n a b m l : ℕ) → (nat_lt m (n + 1) || nat_lt l (a + b)) ≡ false → (n + 1 ≤ m) × (a + b ≤ l)
 fits n a b m l h = grind (arith, nat_tests)
 
+-- a run with an entry that nothing stands against is still within its limit
 pub within_next : (entries : ℕ) (r : Recording) (e : Entry) → fault_within entries r e ≡ None → IsWithin entries (with_entry r e)
 within_next entries r e h =
     let fit = fits (length r.past) (listed_in r.past) (length (listed_by e)) entries (listed_within entries) (nothing_told _ TooLong (fault_by_rows r e) h).0 in
@@ -80,6 +81,7 @@ within_before entries r e w = record { few = omega (arith, w.few); listed = omeg
 passed_none : (n a b m l : ℕ) → n + 1 ≤ m → a + b ≤ l → (nat_lt m (n + 1) || nat_lt l (a + b)) ≡ false
 passed_none n a b m l h k = grind (arith, nat_tests)
 
+-- nothing stands against an entry that no row refuses and with which the run is within its limit
 pub next_within : (entries : ℕ) (r : Recording) (e : Entry) → IsWithin entries (with_entry r e) → fault_by_rows r e ≡ None → fault_within entries r e ≡ None
 next_within entries r e w next =
     let none : passes entries r.past (length (listed_by e)) ≡ false = passed_none (length r.past) (listed_in r.past) (length (listed_by e)) entries (listed_within entries) (omega (arith, w.few)) w.listed in
@@ -110,7 +112,9 @@ kept_push r e listed kept next =
 
 -- the limits, entry by entry
 pub record IsShort (past : List Entry) : Type 0 where
+  -- as many entries as a trace may have
   pub entries : length past ≤ 16777216
+  -- as many listed determinants as a trace may have
   pub listed : listed_in past ≤ 268435456
 
 -- an entry that may come next leaves a past within them
