@@ -1,5 +1,5 @@
 -- From one instant of a recorded run to the next, by the entry read there.
-use Rattle.causal_audit.proofs.Common.{◌==◌, ℕ, ◌≡◌, ◌+◌, ◌<◌, ◌≤◌, inl, inr, List, [], ◌∷◌, length, get_or, reverse, take, Some, sym, ap, subst, ◌∙◌, arith, nat_cmp, FinSet, empty, len, cases_lt, cond-false, ne_eqb, length-reverse, take_all, count_below, Entry, instant, entry_at, is_down, Recording, IsWellFormed, past_at, entries_of, past_more, count_below-none, read_instant, accepted_then, instants_stay, one_more_instant}
+use Rattle.causal_audit.proofs.Common.{◌==◌, ◌⊎◌, ℕ, ◌≡◌, ◌+◌, ◌<◌, ◌≤◌, inl, inr, List, None, [], ◌∷◌, length, get_or, reverse, take, Some, sym, ap, subst, ◌∙◌, arith, nat_cmp, FinSet, empty, len, cases_lt, cond-false, cond-true, eqb_tells, entry_beyond, ne_eqb, length-reverse, take_all, count_below, Entry, instant, entry_at, is_down, Recording, IsWellFormed, past_at, entries_of, past_more, count_below-none, read_instant, accepted_then, instants_stay, one_more_instant}
 use Rattle.causal_audit.specs.Inside.Sights.{Shows}
 use Rattle.causal_audit.proofs.Between.{next_entry}
 use Rattle.causal_audit.proofs.Shown.{shows_none, down_members, counted}
@@ -60,3 +60,22 @@ entry_then (e ∷ past) t v below within =
 -- the first entries make an instant
 pub begins : (r : Recording) (es : List Entry) → es ≡ entries_of r → (t : ℕ) → t ≤ length r.past → past_at (take t es) (length (take t es)) ≡ instant r.past t
 begins r es read t within = ap reverse (take_all (length (take t es)) (take t es) (omega arith)) ∙ state_at r es read t within
+
+-- an entry of a state is before its end
+pub entry_within : (past : List Entry) (v : ℕ) (e : Entry) → entry_at past v ≡ Some e → v < length past
+entry_within past v e at =
+    elim (cases_lt v (length past)) [
+      | inl below ↦ below
+      | inr beyond ↦ absurd (let x : None ≡ Some e = sym (entry_beyond past v beyond) ∙ at in cc)
+    ]
+
+-- one with the newest is that, or an older one
+pub entry_cases : (e : Entry) (past : List Entry) (v : ℕ) (x : Entry) → entry_at (e ∷ past) v ≡ Some x → (entry_at past v ≡ Some x) ⊎ ((v ≡ length past) × (e ≡ x))
+entry_cases e past v x at =
+    elim (eqb_tells v (length past)) [
+      | inl here ↦
+          let is : Some e ≡ Some x = sym (cond-true (v == length past) (Some e) (entry_at past v) here.0) ∙ at in
+          let same : e ≡ x = cc is in
+          inr (here.1, same)
+      | inr apart ↦ inl (sym (cond-false (v == length past) (Some e) (entry_at past v) apart.0) ∙ at)
+    ]

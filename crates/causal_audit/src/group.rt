@@ -5,6 +5,7 @@ pub mod held;
 pub mod judged;
 pub mod marks;
 pub mod ordered;
+pub mod own;
 pub mod reach;
 pub mod room;
 pub mod scan;

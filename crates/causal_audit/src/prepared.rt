@@ -89,7 +89,7 @@ impl Prepared {
     /// Those of them from place `from` on and below place `to`. The trace is the one that was prepared.
     ///
     /// # Errors
-    /// `NoMemory` where the memory to follow them was refused: 64 bytes for each entry up to the end.
+    /// `NoMemory` where the memory to follow them was refused: 32 bytes for each entry up to the end.
     pub fn part<'a>(
         &'a self,
         alloc: Global,

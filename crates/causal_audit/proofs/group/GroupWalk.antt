@@ -1,5 +1,5 @@
 -- A walk over the entries for the deliveries of a group.
-use Rattle.causal_audit.proofs.Common.{ℕ, All, cases_lt, ◌≡◌, ◌+◌, ◌++◌, ◌<◌, inl, inr, Bool, true, false, List, [], ◌∷◌, length, Option, Some, None, refl, sym, ap, subst, ◌∙◌, arith, ◌-◌, ◌≤◌, min, take, ◌⊎◌, Contains, ◌&&◌, ◌==◌, not, ◌↔◌, vec_capacity, ◌||◌, nat_cmp, FinSet, contains, remove, empty, union, difference, contains-empty, contains-union, contains-difference, insert, or_cases, or_left, or_right, false≢true, false_from_ne_true, eqb-true, eq-eqb, and_from, cases_Bool, Contains-push, Contains-push_cases, Contains-append_left, Contains-get_or, length-map, length-set, get_or-map, get_or-set_same, get_or-set_other, take_min, Det, Entry, instant, det_at, has, logs, entry_at, Recording, AreAccepted, IsWellFormed, Depends, HasOrphan, accepted_then, det_then, det_within, instant_length, nat_cmp_total, eqb_tells, nat_tests, Pid, Deliver, Crash, Restart, Forget, Send, Stable, max_entries, set, take-length}
+use Rattle.causal_audit.proofs.Common.{ℕ, All, cases_lt, ◌≡◌, ◌+◌, ◌++◌, ◌<◌, inl, inr, Bool, true, false, List, [], ◌∷◌, length, Option, Some, None, refl, sym, ap, subst, ◌∙◌, arith, ◌≤◌, min, take, ◌⊎◌, Contains, ◌&&◌, ◌==◌, not, ◌↔◌, ◌||◌, nat_cmp, FinSet, contains, remove, empty, union, difference, contains-empty, contains-union, contains-difference, insert, or_cases, or_left, or_right, false≢true, false_from_ne_true, eqb-true, eq-eqb, and_from, cases_Bool, Contains-push, Contains-push_cases, Contains-append_left, Contains-get_or, length-map, length-set, get_or-map, get_or-set_same, get_or-set_other, take_min, Det, Entry, instant, det_at, has, logs, entry_at, message_sent, Recording, AreAccepted, IsWellFormed, Depends, HasOrphan, accepted_then, det_then, det_within, instant_length, nat_cmp_total, eqb_tells, nat_tests, Pid, Deliver, Crash, Restart, Forget, Send, Stable, max_entries, set, take-length}
 use Rattle.causal_audit.specs.declared.breach.Breach.{Breach}
 use Rattle.causal_audit.specs.declared.group.copies.Copies.{Copies}
 use Rattle.causal_audit.specs.declared.group.suspects.Step.{Step}
@@ -10,14 +10,14 @@ use Rattle.causal_audit.specs.Sweep.{MayNewlyFail}
 use Rattle.causal_audit.specs.Quiet.{is_turn, mentioned_by}
 use Rattle.causal_audit.specs.Inside.Among.{FirstBreachBy, HasNoOrphanBy, LeastAmongBy}
 use Rattle.causal_audit.specs.Inside.Sights.{BreachAt}
-use Rattle.causal_audit.specs.Inside.Group.Walk.{AreCopied, AreCopies, AreCopiesAfter, copies_at, no_copies, AreHeldBefore, IsLacked, IsSuspected, TellsBreachOf, IsStep, position_at, HasRoom, AreAsked, HaveNone, IsFollowed, ArePlaces, HaveMarked, IsNewly, row, HasRowRoom, IsReach, SeesReach, IsPut, window_at, IsHeldSo, IsDeliveredTo, IsHeldBy}
+use Rattle.causal_audit.specs.Inside.Group.Walk.{AreCopied, AreCopies, AreCopiesAfter, copies_at, no_copies, AreHeldBefore, IsLacked, IsSuspected, TellsBreachOf, IsStep, position_at, HasRoom, AreAsked, HaveNone, IsFollowed, ArePlaces, HaveMarked, IsNewly, row, HasRowRoom, IsReach, SeesReach, IsPut, window_at, IsHeldSo, IsDeliveredTo, IsHeldBy, ArePassed, IsOwn, IsTold, TellRows, AreBelow, AreMarked, IsUntouchedBefore}
 use Rattle.causal_audit.specs.Inside.Group.Scans.{positions_of, IsDeliveryAt, IsWindow}
 use Rattle.causal_audit.proofs.AmongLemmas.{among_push, among_wider, among_none}
 use Rattle.causal_audit.proofs.Between.{depends_before, logs_stay, stable_stays}
 use Rattle.causal_audit.proofs.Lemmas.Judged.{exposed, gone_orphan}
 use Rattle.causal_audit.proofs.Swept.{sweep_law, one_new_orphan}
 use Rattle.causal_audit.proofs.Orphaned.{accepted_next, first_breach_is}
-use Rattle.causal_audit.proofs.group.Reaching.{left_in, left_out, none_in}
+use Rattle.causal_audit.proofs.group.Reaching.{left_in, left_out, none_in, told_so}
 use Rattle.causal_audit.proofs.Steps.{up_to_next}
 use Rattle.causal_audit.proofs.group.Windowed.{position, zero}
 use Rattle.causal_audit.specs.declared.group.room.Room.{Room}
@@ -305,14 +305,17 @@ held_crash who old new others here past j d so q h =
 
 -- ==== a walk over the entries for the deliveries of a group
 
-module _ (r : Recording) (windows : List Window) (start : ℕ) (room : Room) (t : ℕ) (e : Entry) (new_ones : FinSet nat_cmp) (followed : IsFollowed r windows start t room) (formed : IsWellFormed r) (below : t < length r.past)
-    (next : instant r.past (t + 1) ≡ e ∷ instant r.past t) (new : Reach) (sees : SeesReach e t room.reach new new_ones) where
-  sees_each : (j : ℕ) (d : Det) → j < length windows → det_at r.past (position_at windows j) ≡ Some d
+module _ (r : Recording) (windows : List Window) (start : ℕ) (room : Room) (t : ℕ) (e : Entry) (own new_ones : FinSet nat_cmp) (followed : IsFollowed r windows start t room) (formed : IsWellFormed r) (below : t < length r.past)
+    (next : instant r.past (t + 1) ≡ e ∷ instant r.past t) (taken new : Reach) (same : ((v : ℕ) → (v ≡ t → ⊥) → row taken.rows.items v ≡ row room.reach.rows.items v) × (taken.start ≡ room.reach.start) × (taken.present.items ≡ room.reach.present.items))
+    (is_own : IsOwn windows t own) (sees : SeesReach e t own taken new new_ones) where
+  pub sees_each : (j : ℕ) (d : Det) → j < length windows → det_at r.past (position_at windows j) ≡ Some d
       → IsReach (e ∷ instant r.past t) (position_at windows j) j new × IsNewly (instant r.past t) e (position_at windows j) j new_ones
   sees_each j d low at =
       let k = position_at windows j in
       sees r.processes (instant r.past t) k j d formed.count.1 (accepted_next r formed t e below next) (instant_length r.past t (omega (arith, below)))
-      (λ here. ap (λ past. det_at past k) (sym next) ∙ det_then r.past (t + 1) k (omega (arith, here)) (omega (arith, below)) ∙ at) (followed.told j d low at)
+      (λ here. ap (λ past. det_at past k) (sym next) ∙ det_then r.past (t + 1) k (omega (arith, here)) (omega (arith, below)) ∙ at) (λ h. ((is_own j).0 h).1, λ here. (is_own j).1 (low, here))
+      (subst (λ s. TellRows (instant r.past t) s k j taken.rows.items taken.present.items) (sym same.1) (subst (λ rows. TellRows (instant r.past t) room.reach.start k j taken.rows.items rows) (sym same.2)
+      (told_so (instant r.past t) room.reach.start k j room.reach.rows.items taken.rows.items room.reach.present.items (λ v early. same.0 v (λ is. omega (arith, is, early, instant_length r.past t (omega (arith, below))))) (followed.told j d low at))))
 
   -- the deliveries reach the entries so far
   pub told_after : (j : ℕ) (d : Det) → j < length windows → det_at r.past (position_at windows j) ≡ Some d → IsReach (instant r.past (t + 1)) (position_at windows j) j new
@@ -328,41 +331,68 @@ held_then (Restart who listed) past rows places j d by so h = none_in j (subst (
 held_then (Forget who listed) past rows places j d by so h = none_in j (subst (λ s. contains s j ≡ true) by h)
 
 -- the row of an entry tells which determinants it mentions
-pub mentions_here : (r : Recording) (windows : List Window) (start t : ℕ) (room : Room) (x : Entry) (places : FinSet nat_cmp) → IsFollowed r windows start t room → start ≤ t → t - start < length room.mentioned.items
-    → places ≡ row room.mentioned.items (t - start) → entry_at r.past t ≡ Some x → (j : ℕ) (d : Det) → j < length windows → det_at r.past (position_at windows j) ≡ Some d → contains places j ≡ has (mentioned_by x) d
-mentions_here r windows start t room x places followed from inside marks there j d low at =
-    let same : t ≡ start + (t - start) = omega (arith, from) in
-    ap (λ set. contains set j) marks ∙ followed.marked j low (t - start) d x inside at (subst (λ v. entry_at r.past v ≡ Some x) same there)
+mentions_here : (x : Entry) (t j : ℕ) (rows : Sets) (places : FinSet nat_cmp) (d : Det) → IsTold x t rows places → (message_sent x ≡ None → contains (row rows t) j ≡ has (mentioned_by x) d) → contains places j ≡ has (mentioned_by x) d
+mentions_here (Send from to ssn) t j rows places d told marked = ap (λ s. contains s j) told ∙ contains-empty nat_cmp j
+mentions_here (Deliver to send rsn listed) t j rows places d told marked = ap (λ s. contains s j) told ∙ marked refl
+mentions_here (Stable det) t j rows places d told marked = ap (λ s. contains s j) told ∙ marked refl
+mentions_here (Crash who) t j rows places d told marked = ap (λ s. contains s j) told ∙ marked refl
+mentions_here (Restart who listed) t j rows places d told marked = ap (λ s. contains s j) told ∙ marked refl
+mentions_here (Forget who listed) t j rows places d told marked = ap (λ s. contains s j) told ∙ marked refl
+
+-- with the entry at t read, and its row emptied, the rows before are empty but for sends, and those from then on as they were
+pub emptied_next : (past : List Entry) (t : ℕ) (e : Entry) (old new : Sets) → entry_at past t ≡ Some e → ((v : ℕ) → (v ≡ t → ⊥) → row new v ≡ row old v) → (message_sent e ≡ None → row new t ≡ empty)
+    → AreBelow past t 0 old → AreBelow past (t + 1) 0 new
+emptied_next past t e old new here others emptied below v j x early there none h = elim (eqb_tells v t) [
+  | inl is ↦
+      let one : Some x ≡ Some e = sym there ∙ ap (entry_at past) is.1 ∙ here in
+      let same : x ≡ e = cc one in
+      absurd (none_in j (ap (λ s. contains s j) (sym (emptied (ap message_sent (sym same) ∙ none))) ∙ ap (λ u. contains (row new u) j) (sym is.1) ∙ h))
+  | inr apart ↦ below v j x (let ne : v ≡ t → ⊥ = apart.1 in omega (arith, early, ne)) there none (ap (λ s. contains s j) (sym (others v apart.1)) ∙ h)
+]
+
+pub marked_next : (past : List Entry) (windows : List Window) (t : ℕ) (old new : Sets) → length new ≡ length old → ((v : ℕ) → (v ≡ t → ⊥) → row new v ≡ row old v) → AreMarked past t windows (length windows) old
+    → AreMarked past (t + 1) windows (length windows) new
+marked_next past windows t old new count others marked j low v d e late inside at there none =
+    ap (λ s. contains s j) (others v (λ is. omega (arith, is, late))) ∙ marked j low v d e (omega (arith, late)) (omega (arith, inside, count)) at there none
+
+-- rows that are as before, or empty
+pub below_made : (past : List Entry) (to count : ℕ) (old new : Sets) → ((v : ℕ) → (row new v ≡ row old v) ⊎ (row new v ≡ empty)) → AreBelow past to count old → AreBelow past to count new
+below_made past to count old new are below v j e early there none h = elim (are v) [
+  | inl same ↦ below v j e early there none (ap (λ s. contains s j) (sym same) ∙ h)
+  | inr gone ↦ absurd (none_in j (ap (λ s. contains s j) (sym gone) ∙ h))
+]
+
+-- before the walk no entry mentions a determinant of the group
+pub begun_empty : (past : List Entry) (start : ℕ) (windows : List Window) (rows : Sets) → start ≤ length rows → AreBelow past (length rows) (length windows) rows → AreMarked past 0 windows (length windows) rows
+    → All (IsUntouchedBefore past start) windows → All (λ (window : Window). IsDeliveryAt past window.position) windows → AreBelow past start 0 rows
+begun_empty past start windows rows within below marked untouched made v j e early there none h =
+    let low = below v j e (omega (arith, early, within)) there none h in
+    let det = made j zero low in
+    absurd (false≢true (sym ((untouched j zero low).unmentioned det.0 det.1 v e (omega arith) early there) ∙ sym (marked j low v det.0 e (omega arith) (omega (arith, early, within)) det.1 there none) ∙ h))
 
 -- what a step is told
 pub is_step : (r : Recording) (windows : List Window) (start : ℕ) (room : Room) (s : Step) → IsFollowed r windows start s.t room → IsWellFormed r → s.t < length r.past → instant r.past (s.t + 1) ≡ s.entry.now ∷ instant r.past s.t
-    → (new : Reach) → SeesReach s.entry.now s.t room.reach new s.newly
-    → length r.past ≤ max_entries → start ≤ s.t → s.t - start < length room.mentioned.items → s.mentioned ≡ row room.mentioned.items (s.t - start) → entry_at r.past s.t ≡ Some s.entry.now
+    → ((j : ℕ) (d : Det) → j < length windows → det_at r.past (position_at windows j) ≡ Some d → IsNewly (instant r.past s.t) s.entry.now (position_at windows j) j s.newly)
+    → length r.past ≤ max_entries → s.t < length room.reach.rows.items → IsTold s.entry.now s.t room.reach.rows.items s.mentioned → entry_at r.past s.t ≡ Some s.entry.now
     → ((j : ℕ) → j < length windows → IsDeliveryAt r.past (position_at windows j)) → IsStep r windows s
-is_step r windows start room s followed formed below next new sees short from inside marks there made = record {
+is_step r windows start room s followed formed below next newly short inside told there made = record {
   formed = formed;
   short = short;
   below = below;
   next = next;
   made = made;
-  newly = λ j d low at. (sees_each r windows start room s.t s.entry.now s.newly followed formed below next new sees j d low at).1;
-  mentioned = mentions_here r windows start s.t room s.entry.now s.mentioned followed from inside marks there;
+  newly = newly;
+  mentioned = λ j d low at. mentions_here s.entry.now s.t j room.reach.rows.items s.mentioned d told (followed.marked j low s.t d s.entry.now (omega arith) inside at there);
 }
 
 -- the room stays
-pub room_stays : (old new : Room) → ((entries : ℕ) → HasRowRoom entries old.reach → HasRowRoom entries new.reach) → vec_capacity new.mentioned ≡ vec_capacity old.mentioned → length new.copies.items ≡ length old.copies.items
-    → (entries : ℕ) → HasRoom entries old → HasRoom entries new
-room_stays old new rows mentioned copies entries was = record {
-  reach = rows entries was.reach;
-  mentioned = omega (arith, mentioned, was.mentioned);
-  copies = copies ∙ was.copies;
-}
+pub room_stays : (old new : Room) → ((entries : ℕ) → HasRowRoom entries old.reach → HasRowRoom entries new.reach) → length new.copies.items ≡ length old.copies.items → (entries : ℕ) → HasRoom entries old → HasRoom entries new
+room_stays old new rows copies entries was = record { reach = rows entries was.reach; copies = copies ∙ was.copies }
 
 -- where there is room for so many entries there is room for fewer
 pub room_within : (many few : ℕ) (room : Room) → few ≤ many → HasRoom many room → HasRoom few room
 room_within many few room low is = record {
-  reach = record { reached = omega (arith, low, is.reach.reached); present = is.reach.present };
-  mentioned = omega (arith, low, is.mentioned);
+  reach = record { rows = omega (arith, low, is.reach.rows); present = is.reach.present };
   copies = is.copies;
 }
 
@@ -406,19 +436,69 @@ places_more places place are j = (
   ],
 )
 
+-- ---- where they stand
+
+-- those from place `before` on and below `passed` stand at t
+pub record HavePassed (windows : List Window) (t before passed : ℕ) (own : FinSet nat_cmp) : Type 0 where
+  pub from : before ≤ passed
+  pub inside : passed ≤ length windows
+  pub own_are : (j : ℕ) → (contains own j ≡ true) ↔ ((before ≤ j) × (j < passed))
+  pub stand : (j : ℕ) → before ≤ j → j < passed → position_at windows j ≡ t
+
+pub passed_more : (windows : List Window) (t before passed : ℕ) (own : FinSet nat_cmp) → HavePassed windows t before passed own → passed < length windows → position_at windows passed ≡ t
+    → HavePassed windows t before (passed + 1) (insert own passed)
+passed_more windows t before passed own have low here = record {
+  from = omega (arith, have.from);
+  inside = omega (arith, low);
+  own_are = λ j. (
+    λ h. elim (or_cases (passed == j) (contains own j) (sym (inserted own passed j) ∙ h)) [
+      | inl now ↦ (omega (arith, eqb-true passed j now, have.from), omega (arith, eqb-true passed j now))
+      | inr old ↦ let is = (have.own_are j).0 old in (is.0, omega (arith, is.1))
+    ],
+    λ is. inserted own passed j ∙ elim (eqb_tells passed j) [
+      | inl now ↦ or_left (passed == j) (contains own j) now.0
+      | inr apart ↦ or_right (passed == j) (contains own j) ((have.own_are j).1 (is.0, let ne : passed ≡ j → ⊥ = apart.1 in omega (arith, is.1, ne)))
+    ],
+  );
+  stand = λ j late early. elim (cases_lt j passed) [
+    | inl old ↦ have.stand j late old
+    | inr new ↦ let same : passed ≡ j = omega (arith, new, early) in subst (λ i. position_at windows i ≡ t) same here
+  ];
+}
+
+-- where the others stand later these are all
+module _ (windows : List Window) (t before passed : ℕ) (own : FinSet nat_cmp) (have : HavePassed windows t before passed own) (are : ArePassed windows t before) (later : (j : ℕ) → passed ≤ j → j < length windows → t < position_at windows j) where
+  early : (j : ℕ) → j < length windows → position_at windows j ≤ t → j < passed
+  early j low at = elim (cases_lt j passed) [ inl is ↦ is | inr beyond ↦ absurd (omega (arith, at, later j beyond low)) ]
+
+  pub passed_all : ArePassed windows (t + 1) passed
+  passed_all = record {
+    inside = have.inside;
+    earlier = λ j low. (
+      λ is. elim (cases_lt j before) [ inl old ↦ omega (arith, (are.earlier j low).0 old) | inr new ↦ omega (arith, have.stand j new is) ],
+      λ at. early j low (omega (arith, at)),
+    );
+  }
+
+  pub own_all : IsOwn windows t own
+  own_all j = (
+    λ h. let is = (have.own_are j).0 h in (omega (arith, is.1, have.inside), have.stand j is.0 is.1),
+    λ at. (have.own_are j).1 (elim (cases_lt j before) [ inl old ↦ absurd (omega (arith, (are.earlier j at.0).0 old, at.1)) | inr new ↦ new ], early j at.0 (omega (arith, at.1))),
+  )
+
 -- ==== which entries of a walk mention the determinants of the deliveries of a group
 
 -- ---- one place into one row
 
-pub put_in : (rows : Sets) (start place position r : ℕ) → start + r ≡ position → r < length rows → IsPut start place position rows (set rows r (insert (row rows r) place))
-put_in rows start place position r at inside i j low =
+pub put_in : (rows : Sets) (place r : ℕ) → r < length rows → IsPut place r rows (set rows r (insert (row rows r) place))
+put_in rows place r inside i j low =
     elim (eqb_tells i r) [
       | inl here ↦
           let same : contains (row (set rows r (insert (row rows r) place)) i) j ≡ ((place == j) || contains (row rows i) j) =
           ap (λ x. contains (row (set rows r (insert (row rows r) place)) x) j) here.1 ∙ ap (λ s. contains s j) (get_or-set_same rows r (insert (row rows r) place) empty inside) ∙ inserted (row rows r) place j
           ∙ ap (λ x. (place == j) || contains (row rows x) j) (sym here.1) in (
             λ h. elim (or_cases (place == j) (contains (row rows i) j) (sym same ∙ h)) [
-              | inl now ↦ inr (sym (eqb-true place j now), omega (arith, at, here.1))
+              | inl now ↦ inr (sym (eqb-true place j now), here.1)
               | inr old ↦ inl old
             ],
             λ h. same ∙ elim h [
@@ -431,7 +511,7 @@ put_in rows start place position r at inside i j low =
             λ h. inl (ap (λ s. contains s j) (sym same) ∙ h),
             λ h. elim h [
               | inl old ↦ ap (λ s. contains s j) same ∙ old
-              | inr new ↦ absurd (apart.1 (omega (arith, at, new.1)))
+              | inr new ↦ absurd (apart.1 new.1)
             ],
           )
     ]
@@ -444,20 +524,20 @@ take_all xs i many =
     let same : min i (length xs) ≡ length xs = omega (arith, many) in
     sym (take_min i xs) ∙ ap (λ n. take n xs) same ∙ take-length xs
 
-pub marked_more : (start place position : ℕ) (done : List ℕ) (old mid new : Sets) → length mid ≡ length old → HaveMarked start place done old mid → IsPut start place position mid new → HaveMarked start place (done ++ position ∷ []) old new
-marked_more start place position done old mid new same marked is i j low =
+pub marked_more : (place position : ℕ) (done : List ℕ) (old mid new : Sets) → length mid ≡ length old → HaveMarked place done old mid → IsPut place position mid new → HaveMarked place (done ++ position ∷ []) old new
+marked_more place position done old mid new same marked is i j low =
     let before = marked i j low in
     let here = is i j (omega (arith, low, same)) in (
       λ h. elim (here.0 h) [
         | inl was ↦ elim (before.0 was) [
           | inl first ↦ inl first
-          | inr listed ↦ inr (listed.0, Contains-append_left done (position ∷ []) (start + i) listed.1)
+          | inr listed ↦ inr (listed.0, Contains-append_left done (position ∷ []) i listed.1)
         ]
         | inr now ↦ inr (now.0, subst (Contains (done ++ position ∷ [])) (sym now.1) (Contains-push done position))
       ],
       λ h. elim h [
         | inl first ↦ here.1 (inl (before.1 (inl first)))
-        | inr listed ↦ elim (Contains-push_cases done position (start + i) listed.1) [
+        | inr listed ↦ elim (Contains-push_cases done position i listed.1) [
           | inl was ↦ here.1 (inl (before.1 (inr (listed.0, was))))
           | inr now ↦ here.1 (inr (listed.0, sym now))
         ]

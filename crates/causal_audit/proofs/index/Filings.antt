@@ -7,6 +7,7 @@ use Rattle.causal_audit.specs.Inside.ByClock.Changes.{HasNoneUntil, HasMentions}
 use Rattle.causal_audit.specs.Inside.Look.Staying.{restarts_one, RestartsNone}
 use Rattle.causal_audit.specs.Spread.{IsCrashOf}
 use Rattle.causal_audit.proofs.group.Reaching.{left_out}
+use Rattle.causal_audit.proofs.Steps.{entry_cases, entry_within}
 use Rattle.causal_audit.specs.Quiet.{mentioned_by}
 use Rattle.causal_audit.specs.declared.index.numbering.Node.{Node}
 
@@ -136,17 +137,6 @@ older_entry e past v x at =
     elim (cases_lt v (length past)) [
       | inl below ↦ cond-false (v == length past) (Some e) (entry_at past v) (ne_eqb v (length past) (λ is. omega (arith, is, below))) ∙ at
       | inr beyond ↦ absurd (let is : None ≡ Some x = sym (entry_beyond past v beyond) ∙ at in cc)
-    ]
-
--- and one with the newest is that, or an older one
-entry_cases : (e : Entry) (past : List Entry) (v : ℕ) (x : Entry) → entry_at (e ∷ past) v ≡ Some x → (entry_at past v ≡ Some x) ⊎ ((v ≡ length past) × (e ≡ x))
-entry_cases e past v x at =
-    elim (eqb_tells v (length past)) [
-      | inl here ↦
-          let is : Some e ≡ Some x = sym (cond-true (v == length past) (Some e) (entry_at past v) here.0) ∙ at in
-          let same : e ≡ x = cc is in
-          inr (here.1, same)
-      | inr apart ↦ inl (sym (cond-false (v == length past) (Some e) (entry_at past v) apart.0) ∙ at)
     ]
 
 module _ (restarts : Bool) (e : Entry) (past : List Entry) (lists : List (List ℕ)) (are : AreTurnsOf restarts past lists) where
@@ -373,13 +363,6 @@ mentions_alike past dets numbers new lists more ascend same are = record {
 }
 
 -- ---- one more entry
-
-entry_within : (past : List Entry) (v : ℕ) (e : Entry) → entry_at past v ≡ Some e → v < length past
-entry_within past v e at =
-    elim (cases_lt v (length past)) [
-      | inl below ↦ below
-      | inr beyond ↦ absurd (let x : None ≡ Some e = sym (entry_beyond past v beyond) ∙ at in cc)
-    ]
 
 pub mentions_begun : (past : List Entry) (numbers : Numbers) (lists : List (List ℕ)) → AreMentions past numbers lists → AreMentionsWith past [] numbers lists
 mentions_begun past numbers lists are = record {

@@ -1,24 +1,43 @@
 //! Which entries of a walk mention the determinants of the deliveries of a group.
-ghost use Rattle.std.specs.Prelude.{◌≡◌, ◌+◌, ◌≤◌, ◌<◌, ◌↔◌, ℕ, Some, true, length, vec_capacity};
+ghost use Rattle.std.specs.Prelude.{◌≡◌, ◌≤◌, ◌<◌, ◌↔◌, ℕ, None, true, length, vec_capacity};
 ghost use Rattle.std.specs.FinSet as set;
 ghost use Rattle.std.specs.List.{All};
 ghost use Rattle.std.specs.List.Sorted.{IsNonDecreasing};
 ghost use Rattle.causal_audit.specs.Inside.ByClock.Changes.{HasNoneUntil};
-ghost use Rattle.causal_audit.specs.Inside.Group.Walk.{AreMarked, HaveMarked, IsUntouchedBefore, IsMarked, row};
+ghost use Rattle.causal_trace.specs.Past.{message_sent};
+ghost use Rattle.causal_audit.specs.Inside.Group.Walk.{AreBelow, AreMarked, HaveMarked, IsUntouchedBefore, IsMarked, IsTold, row};
 
 use crate::group::reach::put;
 use crate::group::scan::{Scan, Window};
 use causal_holders::Holders;
+use causal_trace::entry::Entry;
 
 /// Puts a place into the rows of the entries at these positions.
-fn mark(rows: &mut Vec<Holders>, start: u32, place: u8, positions: &[u32])
+fn mark(rows: &mut Vec<Holders>, place: u8, positions: &[u32])
     ensures count { length rows.new.items ≡ length rows.old.items }
     ensures room { vec_capacity rows.new ≡ vec_capacity rows.old }
-    ensures marked { HaveMarked start place positions.now rows.old.items rows.new.items }
+    ensures marked { HaveMarked place positions.now rows.old.items rows.new.items }
 {
     for position in positions {
-        put(rows, start, place, *position);
+        put(rows, place, *position);
     }
+}
+
+/// The places whose determinants the entry at position t mentions, by its row, which is emptied; none for a send, whose row is left.
+pub fn take(rows: &mut Vec<Holders>, entry: &Entry, t: u32) -> Holders
+    requires { t < length rows.old.items }
+    ensures count { length rows.new.items ≡ length rows.old.items }
+    ensures room { vec_capacity rows.new ≡ vec_capacity rows.old }
+    ensures told { IsTold entry.now t rows.old.items result }
+    ensures others { (i : ℕ) → (i ≡ t → ⊥) → row rows.new.items i ≡ row rows.old.items i }
+    ensures emptied { message_sent entry.now ≡ None → row rows.new.items t ≡ set.empty }
+{
+    if let Entry::Send { .. } = entry {
+        return Holders::none();
+    }
+    let mentioned = rows[t as usize];
+    rows[t as usize] = Holders::none();
+    mentioned
 }
 
 /// The first of ascending positions, or a bound, if that is less.
@@ -61,32 +80,32 @@ impl Scan<'_> {
     }
 
     /// Puts a place into the rows of the entries that mention the determinant of its delivery.
-    fn mark_window(&self, rows: &mut Vec<Holders>, start: u32, place: u8, window: Window)
-        requires within { start + length rows.old.items ≤ self.now.end }
-        requires fresh { (i : ℕ) → i < length rows.old.items → set.contains (row rows.old.items i) place ≡ true → ⊥ }
+    fn mark_window(&self, rows: &mut Vec<Holders>, place: u8, window: Window)
+        requires within { length rows.old.items ≤ self.now.end }
+        requires fresh { AreBelow self.now.run.past (length rows.old.items) place rows.old.items }
         ensures count { length rows.new.items ≡ length rows.old.items }
         ensures room { vec_capacity rows.new ≡ vec_capacity rows.old }
         ensures others { (i j : ℕ) → i < length rows.old.items → (j ≡ place → ⊥) →
             (set.contains (row rows.new.items i) j ≡ true) ↔ (set.contains (row rows.old.items i) j ≡ true) }
-        ensures marked { IsMarked self.now.run.past start place window rows.new.items }
+        ensures marked { IsMarked self.now.run.past 0 place window rows.new.items }
     {
         if let Some(det) = self.outline.trace.det_at(window.position) {
-            mark(rows, start, place, self.mentions.list(det));
+            mark(rows, place, self.mentions.list(det));
         }
     }
 
     /// Puts the place of each delivery of a group into the rows of the entries that mention its determinant.
-    #[tactic(auto, using(crate::proofs::group::Reaching::none_in))]
-    pub fn mark_all(&self, rows: &mut Vec<Holders>, start: u32, windows: &[Window])
+    pub fn mark_all(&self, rows: &mut Vec<Holders>, windows: &[Window])
         requires few { length windows.now ≤ 256 }
-        requires within { start + length rows.old.items ≤ self.now.end }
-        requires none { (i : ℕ) → row rows.old.items i ≡ set.empty }
+        requires within { length rows.old.items ≤ self.now.end }
+        requires none { AreBelow self.now.run.past (length rows.old.items) 0 rows.old.items }
         ensures count { length rows.new.items ≡ length rows.old.items }
         ensures room { vec_capacity rows.new ≡ vec_capacity rows.old }
-        ensures marked { AreMarked self.now.run.past start windows.now (length windows.now) rows.new.items }
+        ensures marked { AreMarked self.now.run.past 0 windows.now (length windows.now) rows.new.items }
+        ensures below { AreBelow self.now.run.past (length rows.old.items) (length windows.now) rows.new.items }
     {
         for (place, window) in windows.iter().enumerate() {
-            self.mark_window(rows, start, place as u8, *window);
+            self.mark_window(rows, place as u8, *window);
         }
     }
 }

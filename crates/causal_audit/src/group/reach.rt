@@ -1,23 +1,21 @@
-//! Which of a few deliveries reach the entries of a walk, and on which of them the processes depend, all by one walk.
-ghost use Rattle.std.specs.Prelude.{◌≡◌, ◌<◌, ◌≤◌, ℕ, List, IfOk, length, vec_capacity};
+//! On which of a few deliveries the processes depend, and which of them reach the sends, all by one walk over the entries.
+ghost use Rattle.std.specs.Prelude.{◌≡◌, ◌≤◌, ◌⊎◌, ℕ, None, IfOk, length, vec_capacity};
 ghost use Rattle.std.specs.FinSet as set;
-ghost use Rattle.std.specs.List.{All};
-ghost use Rattle.causal_trace.specs.declared.entry.Entry.{Entry};
-ghost use Rattle.causal_audit.specs.Inside.Group.Walk.{AreOwnRows, HasRowOf, HasRowRoom, HasRows, IsPut, IsReach, SeesReach, TellsReached, row, window_at};
+ghost use Rattle.causal_trace.specs.Past.{message_sent};
+ghost use Rattle.causal_audit.specs.Inside.Group.Walk.{HasRowOf, HasRowRoom, HasRows, IsPut, SeesReach, TellsReached, row};
 
-use crate::group::scan::Window;
 use causal_holders::{Holders, PROCESSES};
 use causal_name::NoMemory;
 use causal_trace::entry::Entry;
 use std::alloc::Global;
 
-/// Of at most 256 deliveries, by their places: for each entry of a walk, from the one at `start` on, which of them
-/// reach it if it was read, and which of them it is if it is still to be read; and for each process on which of them
-/// its present lane depends.
+/// Of at most 256 deliveries, by their places, in a walk from the entry at `start` on: for each process on which of them its
+/// present lane depends, and a row for each entry of the run. That of a send which the walk has read tells which of them reach it.
+/// That of an entry which is still to be read, and no send, tells whose determinants it mentions.
 #[derive(Drop)]
 pub struct Reach {
     pub start: u32,
-    pub reached: Vec<Holders>,
+    pub rows: Vec<Holders>,
     pub present: Vec<Holders>,
 }
 
@@ -31,34 +29,15 @@ pub fn set_at(rows: &[Holders], i: usize) -> Holders
     }
 }
 
-/// Puts a place into the row of the entry at a position, where it has one. The first row is of the entry at `start`.
-pub fn put(rows: &mut Vec<Holders>, start: u32, place: u8, position: u32)
+/// Puts a place into the row of the entry at a position, where it has one.
+pub fn put(rows: &mut Vec<Holders>, place: u8, position: u32)
     ensures count { length rows.new.items ≡ length rows.old.items }
     ensures room { vec_capacity rows.new ≡ vec_capacity rows.old }
-    ensures put { IsPut start place position rows.old.items rows.new.items }
+    ensures put { IsPut place position rows.old.items rows.new.items }
 {
-    if position < start {
-        return;
-    }
-    let i = (position - start) as usize;
+    let i = position as usize;
     if i < rows.len() {
         rows[i].insert(place);
-    }
-}
-
-/// Puts the place of each of these deliveries into the row of its own entry, where that has one. The first row is of
-/// the entry at `start`.
-#[tactic(auto, using(crate::proofs::group::Reaching::own_more))]
-fn mark_own(rows: &mut Vec<Holders>, start: u32, windows: &[Window])
-    requires few { length windows.now ≤ 256 }
-    requires from { All (λ window. start ≤ window.position) windows.now }
-    requires none { (i : ℕ) → row rows.old.items i ≡ set.empty }
-    ensures count { length rows.new.items ≡ length rows.old.items }
-    ensures room { vec_capacity rows.new ≡ vec_capacity rows.old }
-    ensures own { AreOwnRows windows.now start (length windows.now) rows.new.items }
-{
-    for (place, window) in windows.iter().enumerate() {
-        put(rows, start, place as u8, window.position);
     }
 }
 
@@ -71,14 +50,13 @@ pub fn clear(rows: &mut Vec<Holders>)
     rows.fill(Holders::none());
 }
 
-/// Makes so many empty rows, for which there is room.
-pub fn make_empty(rows: &mut Vec<Holders>, many: usize)
+/// Makes so many rows of these, for which there is room. New ones are empty.
+fn make_so_many(rows: &mut Vec<Holders>, many: usize)
     requires { many ≤ vec_capacity rows.old }
     ensures count { length rows.new.items ≡ many }
     ensures room { vec_capacity rows.old ≤ vec_capacity rows.new }
-    ensures none { (i : ℕ) → row rows.new.items i ≡ set.empty }
+    ensures rows { (i : ℕ) → (row rows.new.items i ≡ row rows.old.items i) ⊎ (row rows.new.items i ≡ set.empty) }
 {
-    rows.clear();
     if rows.resize(many, Holders::none()).is_err() {
         unreachable!()
     }
@@ -94,58 +72,61 @@ impl Reach {
     {
         Ok(Reach {
             start: 0,
-            reached: Vec::with_capacity(alloc, entries as usize)?,
+            rows: Vec::with_capacity(alloc, entries as usize)?,
             present: vec![in alloc; Holders::none(); PROCESSES as usize]?,
         })
     }
 
-    /// Where no entry was read of a walk from `start` up to `end`, for the deliveries of these windows, none of which
-    /// stands before the walk; so it is after the entries before the walk, none of which they reach.
-    pub fn begin(&mut self, start: u32, end: u32, windows: &[Window])
-        requires few { length windows.now ≤ 256 }
-        requires from { All (λ window. start ≤ window.position) windows.now }
-        requires ordered { start ≤ end }
+    /// No rows of entries, as before the first walk.
+    pub fn forget(&mut self)
+        ensures room { (entries : ℕ) → HasRowRoom entries self.old → HasRowRoom entries self.new }
+        ensures none { (i : ℕ) → row self.new.rows.items i ≡ set.empty }
+    {
+        self.rows.clear();
+    }
+
+    /// Where no entry was read of a walk from `start` up to `end`, and no process depends on any delivery.
+    pub fn begin(&mut self, start: u32, end: u32)
         requires room { HasRowRoom end self.old }
         ensures rows { HasRows start end self.new }
         ensures room { (entries : ℕ) → HasRowRoom entries self.old → HasRowRoom entries self.new }
-        ensures begins { (past : List Entry) (j : ℕ) → length past ≡ start →
-            j < length windows.now → IsReach past (window_at windows.now j).position j self.new }
+        ensures same { (i : ℕ) → (row self.new.rows.items i ≡ row self.old.rows.items i) ⊎ (row self.new.rows.items i ≡ set.empty) }
+        ensures none { (p : ℕ) → row self.new.present.items p ≡ set.empty }
     {
-        make_empty(&mut self.reached, (end - start) as usize);
+        make_so_many(&mut self.rows, end as usize);
         clear(&mut self.present);
-        mark_own(&mut self.reached, start, windows);
         self.start = start;
     }
 
-    /// Which of the deliveries reach the event at a position that was read. None reaches one before the walk.
+    /// Which of the deliveries reach the send at a position that was read. None reaches one before the walk.
     fn reaching(&self, position: u32) -> Holders
         ensures { TellsReached self.now position result }
     {
         if position < self.start {
             return Holders::none();
         }
-        set_at(&self.reached, (position - self.start) as usize)
+        set_at(&self.rows, position as usize)
     }
 
-    /// Takes in the entry at position t, and tells which of the deliveries newly reach its process.
-    pub fn see(&mut self, entry: &Entry, t: u32) -> Holders
+    /// Takes in the entry at position t, which is that of the deliveries of these places, and tells which of the deliveries newly
+    /// reach its process.
+    pub fn see(&mut self, entry: &Entry, t: u32, own: Holders) -> Holders
         requires row { HasRowOf t self.old }
         ensures rows { (start end : ℕ) → HasRows start end self.old → HasRows start end self.new }
         ensures room { (entries : ℕ) → HasRowRoom entries self.old → HasRowRoom entries self.new }
-        ensures sees { SeesReach entry.now t self.old self.new result }
+        ensures others { (i : ℕ) → (i ≡ t → ⊥) → row self.new.rows.items i ≡ row self.old.rows.items i }
+        ensures unsent { message_sent entry.now ≡ None → self.new.rows.items ≡ self.old.rows.items }
+        ensures sees { SeesReach entry.now t own self.old self.new result }
     {
-        let i = (t - self.start) as usize;
         match entry {
             Entry::Send { from, .. } => {
-                self.reached[i] = set_at(&self.present, usize::from(from.0));
+                self.rows[t as usize] = set_at(&self.present, usize::from(from.0));
                 Holders::none()
             }
             Entry::Deliver { to, send, .. } => {
                 let before = set_at(&self.present, usize::from(to.0));
                 let brought = self.reaching(*send);
-                let own = set_at(&self.reached, i);
                 let reached = own.union(before.union(brought));
-                self.reached[i] = reached;
                 self.present[usize::from(to.0)] = reached;
                 reached.minus(before)
             }

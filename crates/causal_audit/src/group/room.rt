@@ -1,30 +1,30 @@
 //! The memory of a walk over the entries for a group of deliveries, which is made once for all groups.
 ghost use Rattle.std.specs.Prelude.{◌≤◌, ℕ, IfOk, length};
 ghost use Rattle.std.specs.List.{All};
-ghost use Rattle.causal_audit.specs.Inside.Group.Walk.{ArePlaces, HasRoom, HasRowsFor, IsFollowed, IsUntouchedBefore};
+ghost use Rattle.causal_audit.specs.Inside.Group.Scans.{IsDeliveryAt};
+ghost use Rattle.causal_audit.specs.Inside.Group.Walk.{AreBelow, ArePlaces, HasRoom, HasRowsFor, IsFollowed, IsUntouchedBefore};
 
 use crate::group::copies::{Copies, forget_all, no_copies};
-use crate::group::reach::{Reach, clear, make_empty};
+use crate::group::reach::{Reach, clear};
 use crate::group::scan::{Scan, Window};
 use crate::group::walk::GROUP;
 use causal_holders::{Holders, PROCESSES};
 use causal_name::NoMemory;
 use std::alloc::Global;
 
-/// What a walk keeps of the deliveries of a group, by their places: which of them reach the entries and on which the processes
+/// What a walk keeps of the deliveries of a group, by their places: which of them reach the sends and on which the processes
 /// depend, of which the entries mention the determinant, whose determinants each process is known to hold, and where their copies
 /// are; and who is down.
 #[derive(Drop)]
 pub struct Room {
     pub reach: Reach,
-    pub mentioned: Vec<Holders>,
     pub held: Vec<Holders>,
     pub copies: Vec<Copies>,
     pub down: Holders,
 }
 
 impl Room {
-    /// Room for walks over so many entries. It takes 64 bytes for each.
+    /// Room for walks over so many entries. It takes 32 bytes for each.
     ///
     /// # Errors
     /// `NoMemory` where memory was refused.
@@ -32,12 +32,10 @@ impl Room {
         ensures { IfOk result (HasRoom entries) }
     {
         let reach = Reach::new(alloc, entries)?;
-        let mentioned = Vec::with_capacity(alloc, entries as usize)?;
         let held = vec![in alloc; Holders::none(); PROCESSES as usize]?;
         let copies = vec![in alloc; no_copies(); GROUP]?;
         Ok(Room {
             reach,
-            mentioned,
             held,
             copies,
             down: Holders::none(),
@@ -59,21 +57,23 @@ pub fn places_of(windows: &[Window]) -> Holders
 }
 
 impl Scan<'_> {
-    /// Makes a room ready for a walk from `start` up to `end`, before which nothing touches a delivery of the group. It takes
-    /// time as the entries of the walk, and as the mentions of the determinants.
+    /// Makes a room ready for a walk from `start` up to `end`, before which nothing touches a delivery of the group. The walks
+    /// before it have left only rows of sends. It takes time as the mentions of the determinants, and as the entries of which no walk
+    /// has come so far.
     pub fn begin(&self, room: &mut Room, start: u32, end: u32, windows: &[Window])
         requires few { length windows.now ≤ 256 }
         requires ordered { start ≤ end }
         requires within { end ≤ self.now.end }
         requires from { All (IsUntouchedBefore self.now.run.past start) windows.now }
         requires room { HasRoom end room.old }
+        requires deliveries { All (λ window. IsDeliveryAt self.now.run.past window.position) windows.now }
+        requires emptied { AreBelow self.now.run.past end 0 room.old.reach.rows.items }
         ensures room { (entries : ℕ) → HasRoom entries room.old → HasRoom entries room.new }
         ensures rows { HasRowsFor start end room.new }
         ensures begun { IsFollowed self.now.run windows.now start start room.new }
     {
-        room.reach.begin(start, end, windows);
-        make_empty(&mut room.mentioned, (end - start) as usize);
-        self.mark_all(&mut room.mentioned, start, windows);
+        room.reach.begin(start, end);
+        self.mark_all(&mut room.reach.rows, windows);
         clear(&mut room.held);
         forget_all(&mut room.copies);
         room.down = self.outline.turns.from(start).down();

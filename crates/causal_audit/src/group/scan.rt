@@ -33,6 +33,12 @@ pub struct Window {
     pub until: u32,
 }
 
+/// What stands where there is no window.
+pub const NO_WINDOW: Window = Window {
+    position: 0,
+    until: 0,
+};
+
 /// An instant after which none of these deliveries has an orphan, or `end` if that comes first.
 pub fn last_of(windows: &[Window], end: u32) -> u32
     ensures bound { result ≤ end }

@@ -1,17 +1,18 @@
 //! The least breach of the deliveries of a group, by one walk over the entries.
 ghost use Rattle.std.specs.Prelude.{◌≤◌, ℕ, length};
 ghost use Rattle.std.specs.List.{All};
-ghost use Rattle.causal_audit.specs.Inside.Among.{LeastAmongBy};
-ghost use Rattle.causal_audit.specs.Inside.Group.Walk.{HasRoom, HasRowsFor, HaveNone, IsFollowed};
-ghost use Rattle.causal_audit.specs.Inside.Group.Scans.{IsDeliveryAt, IsWindow, positions_of};
+ghost use Rattle.causal_audit.specs.Inside.Among.{LeastAmongBy, horizon};
+ghost use Rattle.causal_audit.specs.Inside.Group.Walk.{AreBelow, HasRoom, HasRowsFor, HaveNone, IsFollowed, IsUntouchedBefore};
+ghost use Rattle.causal_audit.specs.Inside.Group.Scans.{AreInOrder, IsDeliveryAt, IsWindow, positions_of};
 
 use crate::breach::{Breach, earlier, horizon};
 use crate::group::copies::{renew, touched};
 use crate::group::held::{held_by, hold};
 use crate::group::judged::judge;
-use crate::group::reach::set_at;
+use crate::group::marks::take;
+use crate::group::own::{by_position, own_at};
 use crate::group::room::{Room, places_of};
-use crate::group::scan::{Scan, Window, last_of};
+use crate::group::scan::{NO_WINDOW, Scan, Window, last_of};
 use crate::group::suspects::Step;
 use crate::sight::down_after;
 use causal_trace::trace::Trace;
@@ -37,16 +38,21 @@ fn follow(
     requires rows { HasRowsFor start end room.old }
     requires begun { IsFollowed trace.now.recording windows.now start start room.old }
     requires none { HaveNone trace.now.recording f windows.now start }
+    requires order { AreInOrder windows.now }
+    requires untouched { All (IsUntouchedBefore trace.now.recording.past start) windows.now }
     ensures room { (entries : ℕ) → HasRoom entries room.old → HasRoom entries room.new }
+    ensures emptied { (to : ℕ) → AreBelow trace.now.recording.past (horizon to result) 0 room.new.reach.rows.items }
     ensures found { LeastAmongBy trace.now.recording f end (positions_of windows.now) result }
 {
     let entries = trace.entries();
     let all = places_of(windows);
     let mut asked = all;
+    let mut passed = 0;
     for t in start..end {
         let entry = &entries[t as usize];
-        let newly = room.reach.see(entry, t);
-        let mentioned = set_at(&room.mentioned, (t - start) as usize);
+        let own = own_at(windows, &mut passed, t);
+        let mentioned = take(&mut room.reach.rows, entry, t);
+        let newly = room.reach.see(entry, t, own);
         let step = Step {
             entry,
             t,
@@ -74,13 +80,17 @@ impl Scan<'_> {
         requires deliveries { All (λ window. IsDeliveryAt self.now.run.past window.position) windows.now }
         requires windows { All (IsWindow self.now.run f end) windows.now }
         requires room { HasRoom end room.old }
+        requires emptied { AreBelow self.now.run.past end 0 room.old.reach.rows.items }
         ensures room { (entries : ℕ) → HasRoom entries room.old → HasRoom entries room.new }
+        ensures emptied { AreBelow self.now.run.past (horizon end result) 0 room.new.reach.rows.items }
         ensures found { LeastAmongBy self.now.run f end (positions_of windows.now) result }
     {
-        let last = last_of(windows, end);
-        let start = self.start_of(windows, last);
-        self.begin(room, start, last, windows);
-        follow(self.outline.trace, f, start, last, windows, room)
+        let mut table = [NO_WINDOW; GROUP];
+        let group = by_position(&mut table, windows);
+        let last = last_of(group, end);
+        let start = self.start_of(group, last);
+        self.begin(room, start, last, group);
+        follow(self.outline.trace, f, start, last, group, room)
     }
 
     /// The least breach, by instant and then by position, of the deliveries of these windows, if it comes by the instant
@@ -104,6 +114,7 @@ impl Scan<'_> {
         ensures found { LeastAmongBy self.now.run f end (positions_of windows.now) result }
     {
         let mut least = None;
+        room.reach.forget();
         for group in windows.chunks(GROUP) {
             let found = self.least_in(f, horizon(end, &least), group, room);
             least = earlier(least, found);

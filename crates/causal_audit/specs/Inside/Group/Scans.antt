@@ -1,6 +1,6 @@
 -- Which deliveries are followed, and what a survey reads to tell them.
 use Rattle.std.specs.Prelude.{◌≡◌, ℕ, ◌≤◌, List, length, map, Some, ◌-◌, ◌<◌, ◌⊎◌, false, min, Contains}
-use Rattle.causal_audit.specs.Inside.Common.{All, Det, Entry, det_at, instant, Recording, IsWellFormed, IsStrictlyIncreasing, max_entries}
+use Rattle.causal_audit.specs.Inside.Common.{All, Det, Entry, det_at, instant, Recording, IsWellFormed, IsStrictlyIncreasing, IsNonDecreasingBy, max_entries}
 use Rattle.causal_audit.specs.Inside.Among.{HasNoOrphanFrom, HasNoOrphanBy}
 use Rattle.causal_audit.specs.declared.index.mentions.Mentions.{Mentions}
 use Rattle.causal_audit.specs.declared.group.scan.Window.{Window}
@@ -14,6 +14,10 @@ use Rattle.causal_audit.specs.Inside.Index.Spreads.{AreSpreads, process_at}
 -- the positions of the deliveries
 abbrev pub positions_of : List Window → List ℕ
 positions_of windows = map (λ window. window.position) windows
+
+-- the deliveries of the windows stand in this order
+abbrev pub AreInOrder : List Window → Type 0
+AreInOrder windows = IsNonDecreasingBy (λ (window : Window). window.position) windows
 
 -- the entry at position k is a delivery
 abbrev pub IsDeliveryAt : List Entry → ℕ → Type 0

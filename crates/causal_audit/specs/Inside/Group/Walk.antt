@@ -1,6 +1,6 @@
 -- What is known of the deliveries of a group, by their places, in one walk over the entries.
-use Rattle.std.specs.Prelude.{◌≡◌, ℕ, ◌+◌, ◌<◌, ◌≤◌, ◌↔◌, ◌⊎◌, Bool, true, false, List, ◌∷◌, length, Option, Some, slice_index_or, vec_capacity, Contains}
-use Rattle.causal_audit.specs.Inside.Common.{nat_cmp, FinSet, contains, empty, Det, Entry, det_at, has, logs, is_stable, is_down, instant, entry_at, AreAccepted, Recording, IsWellFormed, actor, IsEventOf, Reaches, Depends, Deliver, Restart, Forget, max_entries}
+use Rattle.std.specs.Prelude.{◌≡◌, ℕ, ◌+◌, ◌<◌, ◌≤◌, ◌↔◌, ◌⊎◌, Bool, true, false, List, ◌∷◌, length, Option, Some, None, slice_index_or, vec_capacity, Contains}
+use Rattle.causal_audit.specs.Inside.Common.{nat_cmp, FinSet, contains, empty, Det, Entry, det_at, has, logs, is_stable, is_down, instant, entry_at, message_sent, Pid, Send, AreAccepted, Recording, IsWellFormed, actor, Reaches, Depends, Deliver, Restart, Forget, max_entries}
 use Rattle.causal_audit.specs.declared.group.reach.Reach.{Reach}
 use Rattle.causal_audit.specs.declared.group.scan.Window.{Window}
 use Rattle.causal_audit.specs.Quiet.{mentioned_by}
@@ -21,63 +21,80 @@ row rows i = slice_index_or rows i empty
 abbrev pub window_at : List Window → ℕ → Window
 window_at windows j = slice_index_or windows j (record { position = 0; until = 0 })
 
--- the walk begins at `start`, no later than at the delivery at k, whose place is j, and row i is of the i-th entry from there: the
--- rows of the entries so far tell which of them it reaches, those ahead where it stands, and those of the processes whose
--- present lane depends on it
-pub record TellRows (past : List Entry) (start k j : ℕ) (reached present : List (FinSet nat_cmp)) : Type 0 where
+-- the position of the delivery at a place
+abbrev pub position_at : List Window → ℕ → ℕ
+position_at windows j = (window_at windows j).position
+
+-- the walk begins at `start`, no later than at the delivery at k, whose place is j: the rows of the sends so far tell which of
+-- them it reaches, and those of the processes whose present lane depends on it
+pub record TellRows (past : List Entry) (start k j : ℕ) (rows present : List (FinSet nat_cmp)) : Type 0 where
   pub early : start ≤ k
-  pub behind : (i p l : ℕ) → IsEventOf past (start + i) p l → (contains (row reached i) j ≡ true) ↔ Reaches past k (start + i)
-  pub ahead : (i : ℕ) → i < length reached → length past ≤ start + i → (contains (row reached i) j ≡ true) ↔ (start + i ≡ k)
+  pub behind : (v : ℕ) (from to : Pid) (ssn : ℕ) → start ≤ v → entry_at past v ≡ Some (Send from to ssn)
+      → (contains (row rows v) j ≡ true) ↔ Reaches past k v
   pub depends : (p : ℕ) → (contains (row present p) j ≡ true) ↔ Depends past k p
 
 abbrev pub IsReach : List Entry → ℕ → ℕ → Reach → Type 0
-IsReach past k j reach = TellRows past reach.start k j reach.reached.items reach.present.items
+IsReach past k j reach = TellRows past reach.start k j reach.rows.items reach.present.items
 
--- in the row of the entry at a position, if there is one, the place is in now; the rows begin with that of the entry at `start`
-abbrev pub IsPut : ℕ → ℕ → ℕ → List (FinSet nat_cmp) → List (FinSet nat_cmp) → Type 0
-IsPut start place position old new =
-    (i j : ℕ) → i < length old
-    → (contains (row new i) j ≡ true) ↔ ((contains (row old i) j ≡ true) ⊎ ((j ≡ place) × (start + i ≡ position)))
+-- in the row of the entry at a position, if there is one, the place is in now
+abbrev pub IsPut : ℕ → ℕ → List (FinSet nat_cmp) → List (FinSet nat_cmp) → Type 0
+IsPut place position old new =
+    (v j : ℕ) → v < length old
+    → (contains (row new v) j ≡ true) ↔ ((contains (row old v) j ≡ true) ⊎ ((j ≡ place) × (v ≡ position)))
 
--- each row from the one of the entry at `start` on has just those of the first `count` places whose positions it is
-abbrev pub AreOwnRows : List Window → ℕ → ℕ → List (FinSet nat_cmp) → Type 0
-AreOwnRows windows start count rows =
-    (i j : ℕ) → i < length rows
-    → (contains (row rows i) j ≡ true) ↔ ((j < count) × ((window_at windows j).position ≡ start + i))
+-- the set has just the places of the windows of the delivery at t
+abbrev pub IsOwn : List Window → ℕ → FinSet nat_cmp → Type 0
+IsOwn windows t own = (j : ℕ) → (contains own j ≡ true) ↔ ((j < length windows) × (position_at windows j ≡ t))
+
+-- just those of so many windows are of deliveries before t
+pub record ArePassed (windows : List Window) (t passed : ℕ) : Type 0 where
+  pub inside : passed ≤ length windows
+  pub earlier : (j : ℕ) → j < length windows → (j < passed) ↔ (position_at windows j < t)
 
 -- there is room for the rows of so many entries, and a row for each process
 pub record HasRowRoom (entries : ℕ) (reach : Reach) : Type 0 where
-  pub reached : entries ≤ vec_capacity reach.reached
+  pub rows : entries ≤ vec_capacity reach.rows
   pub present : length reach.present.items ≡ 256
 
--- there is a row for each entry from the first of a walk up to its end, and for each process
+-- a walk begins at the first of these entries, and there is a row for each entry before its end, and for each process
 pub record HasRows (first end : ℕ) (reach : Reach) : Type 0 where
   pub start : reach.start ≡ first
-  pub reached : first + length reach.reached.items ≡ end
+  pub rows : length reach.rows.items ≡ end
   pub present : length reach.present.items ≡ 256
 
 -- there is a row for the entry at t, and for each process
 pub record HasRowOf (t : ℕ) (reach : Reach) : Type 0 where
-  pub from : reach.start ≤ t
-  pub reached : t < reach.start + length reach.reached.items
+  pub row : t < length reach.rows.items
   pub present : length reach.present.items ≡ 256
 
--- of the event at v the set tells which of the deliveries reach it
+-- of the send at v the set tells which of the deliveries reach it
 abbrev pub TellsReached : Reach → ℕ → FinSet nat_cmp → Type 0
 TellsReached reach v told =
-    (n : ℕ) (past : List Entry) (k j p l : ℕ) → AreAccepted n past → IsReach past k j reach → IsEventOf past v p l
-    → (contains told j ≡ true) ↔ Reaches past k v
+    (n : ℕ) (past : List Entry) (k j : ℕ) (from to : Pid) (ssn : ℕ) → AreAccepted n past → IsReach past k j reach
+    → entry_at past v ≡ Some (Send from to ssn) → (contains told j ≡ true) ↔ Reaches past k v
 
 -- the place is among the new ones only where k reaches the next entry, and where it does, unless the process depended on k
 pub record IsNewly (past : List Entry) (e : Entry) (k j : ℕ) (newly : FinSet nat_cmp) : Type 0 where
   pub sound : contains newly j ≡ true → Reaches (e ∷ past) k (length past)
   pub complete : (p : ℕ) → actor e ≡ Some p → Reaches (e ∷ past) k (length past) → (contains newly j ≡ true) ⊎ Depends past k p
 
--- with the entry at position t the same is told of each delivery of which it was told, and which it newly reaches
-abbrev pub SeesReach : Entry → ℕ → Reach → Reach → FinSet nat_cmp → Type 0
-SeesReach e t old new newly =
+-- with the entry at position t, which is that of the deliveries of its own places, the same is told of each delivery of which it
+-- was told, and which it newly reaches
+abbrev pub SeesReach : Entry → ℕ → FinSet nat_cmp → Reach → Reach → FinSet nat_cmp → Type 0
+SeesReach e t own old new newly =
     (n : ℕ) (past : List Entry) (k j : ℕ) (d : Det) → n ≤ 256 → AreAccepted n (e ∷ past) → length past ≡ t
-    → (k ≡ t → det_at (e ∷ past) k ≡ Some d) → IsReach past k j old → IsReach (e ∷ past) k j new × IsNewly past e k j newly
+    → (k ≡ t → det_at (e ∷ past) k ≡ Some d) → (contains own j ≡ true) ↔ (k ≡ t)
+    → IsReach past k j old → IsReach (e ∷ past) k j new × IsNewly past e k j newly
+
+-- the places in the row of the entry at t; none for a send
+abbrev pub IsTold : Entry → ℕ → List (FinSet nat_cmp) → FinSet nat_cmp → Type 0
+IsTold (Send from to ssn) t rows places = places ≡ empty
+IsTold _ t rows places = places ≡ row rows t
+
+-- the rows of the entries before `to` that are no sends have only places below `count`
+abbrev pub AreBelow : List Entry → ℕ → ℕ → List (FinSet nat_cmp) → Type 0
+AreBelow past to count rows =
+    (v j : ℕ) (e : Entry) → v < to → entry_at past v ≡ Some e → message_sent e ≡ None → contains (row rows v) j ≡ true → j < count
 
 -- the places in the row of a delivery's receiver; none for any other entry
 abbrev pub IsHeldBy : Entry → List (FinSet nat_cmp) → FinSet nat_cmp → Type 0
@@ -99,30 +116,26 @@ KeepsHeld e mentioned old new =
     (past : List Entry) (j : ℕ) (d : Det) → contains mentioned j ≡ has (mentioned_by e) d
     → IsHeldSo past j d old → IsHeldSo (e ∷ past) j d new
 
--- the position of the delivery at a place
-abbrev pub position_at : List Window → ℕ → ℕ
-position_at windows j = (window_at windows j).position
-
 -- before this position neither the delivery stands nor an entry that mentions its determinant
 pub record IsUntouchedBefore (past : List Entry) (start : ℕ) (window : Window) : Type 0 where
   pub made : start ≤ window.position
   pub unmentioned : (d : Det) → det_at past window.position ≡ Some d → MentionsNone past d 0 start
 
 -- in the rows of the entries at these positions, if there are such, the place is in now
-abbrev pub HaveMarked : ℕ → ℕ → List ℕ → List (FinSet nat_cmp) → List (FinSet nat_cmp) → Type 0
-HaveMarked start place positions old new =
-    (i j : ℕ) → i < length old
-    → (contains (row new i) j ≡ true) ↔ ((contains (row old i) j ≡ true) ⊎ ((j ≡ place) × Contains positions (start + i)))
+abbrev pub HaveMarked : ℕ → List ℕ → List (FinSet nat_cmp) → List (FinSet nat_cmp) → Type 0
+HaveMarked place positions old new =
+    (v j : ℕ) → v < length old
+    → (contains (row new v) j ≡ true) ↔ ((contains (row old v) j ≡ true) ⊎ ((j ≡ place) × Contains positions v))
 
--- each row has the place where its entry mentions the determinant of the window's delivery
+-- from an instant on the row of each entry that is no send has the place where it mentions the determinant of the window's delivery
 abbrev pub IsMarked : List Entry → ℕ → ℕ → Window → List (FinSet nat_cmp) → Type 0
-IsMarked past start place window rows =
-    (i : ℕ) (d : Det) (e : Entry) → i < length rows → det_at past window.position ≡ Some d → entry_at past (start + i) ≡ Some e
-    → contains (row rows i) place ≡ has (mentioned_by e) d
+IsMarked past t place window rows =
+    (v : ℕ) (d : Det) (e : Entry) → t ≤ v → v < length rows → det_at past window.position ≡ Some d → entry_at past v ≡ Some e
+    → message_sent e ≡ None → contains (row rows v) place ≡ has (mentioned_by e) d
 
 -- and so it is for the first `count` places
 abbrev pub AreMarked : List Entry → ℕ → List Window → ℕ → List (FinSet nat_cmp) → Type 0
-AreMarked past start windows count rows = (j : ℕ) → j < count → IsMarked past start j (window_at windows j) rows
+AreMarked past t windows count rows = (j : ℕ) → j < count → IsMarked past t j (window_at windows j) rows
 
 -- these are the copies of the determinant d
 pub record AreCopies (past : List Entry) (d : Det) (copies : Copies) : Type 0 where
@@ -199,13 +212,11 @@ ArePlaces windows all = (j : ℕ) → (contains all j ≡ true) ↔ (j < length 
 -- there is room for walks over so many entries, and at each place for copies
 pub record HasRoom (entries : ℕ) (room : Room) : Type 0 where
   pub reach : HasRowRoom entries room.reach
-  pub mentioned : entries ≤ vec_capacity room.mentioned
   pub copies : length room.copies.items ≡ 256
 
 -- there is a row for each entry of a walk from `start` up to `end`, and at each place there are copies
 pub record HasRowsFor (start end : ℕ) (room : Room) : Type 0 where
   pub reach : HasRows start end room.reach
-  pub mentioned : start + length room.mentioned.items ≡ end
   pub copies : length room.copies.items ≡ 256
 
 -- at the instant t of a walk that began at `start`
@@ -213,7 +224,8 @@ pub record IsFollowed (r : Recording) (windows : List Window) (start t : ℕ) (r
   pub start_is : room.reach.start ≡ start
   pub told : (j : ℕ) (d : Det) → j < length windows → det_at r.past (position_at windows j) ≡ Some d
       → IsReach (instant r.past t) (position_at windows j) j room.reach
-  pub marked : AreMarked r.past start windows (length windows) room.mentioned.items
+  pub marked : AreMarked r.past t windows (length windows) room.reach.rows.items
+  pub emptied : AreBelow r.past t 0 room.reach.rows.items
   pub copied : AreCopied r windows t room.copies.items
   pub held : AreHeld r windows t room.held.items
   pub down : Shows room.down (λ p. is_down (instant r.past t) p)

@@ -12,11 +12,11 @@ loop-position-preserved c =
       count = c.put.ensures.count ∙ invariant.count;
       room = c.put.ensures.room ∙ invariant.room;
       marked =
-          subst (λ list. HaveMarked c.args.start c.args.place list c.args.rows.now.items c.put.new.rows.items) (sym (take_more positions i 0 c.loop-position-test.true))
-          (marked_more c.args.start c.args.place (get_or positions i 0) (take i positions) c.args.rows.now.items c.loop-position.rows.items c.put.new.rows.items invariant.count invariant.marked c.put.ensures.put);
+          subst (λ list. HaveMarked c.args.place list c.args.rows.now.items c.put.new.rows.items) (sym (take_more positions i 0 c.loop-position-test.true))
+          (marked_more c.args.place (get_or positions i 0) (take i positions) c.args.rows.now.items c.loop-position.rows.items c.put.new.rows.items invariant.count invariant.marked c.put.ensures.put);
     }
 
 pub returns-clause-marked : goal.returns-clause-marked
 returns-clause-marked c =
     let positions = c.args.positions.now in
-    subst (λ list. HaveMarked c.args.start c.args.place list c.args.rows.now.items c.loop-position.rows.items) (take_all positions c.loop-position.position-index (omega (arith, c.loop-position-test.false))) c.loop-position.invariant.marked
+    subst (λ list. HaveMarked c.args.place list c.args.rows.now.items c.loop-position.rows.items) (take_all positions c.loop-position.position-index (omega (arith, c.loop-position-test.false))) c.loop-position.invariant.marked

@@ -7,5 +7,5 @@ abbrev pub invariant-loop-position : goal.invariant-loop-position
 invariant-loop-position l = record {
   count : length l.rows.items ≡ length l.fn.rows.items;
   room : vec_capacity l.rows ≡ vec_capacity l.fn.rows;
-  marked : HaveMarked l.start l.place (take l.position-index l.positions) l.fn.rows.items l.rows.items;
+  marked : HaveMarked l.place (take l.position-index l.positions) l.fn.rows.items l.rows.items;
 }

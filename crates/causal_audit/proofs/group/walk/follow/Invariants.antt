@@ -1,5 +1,5 @@
 use Rattle.std.proofs.Common.{ℕ}
-use Rattle.causal_audit.specs.Inside.Group.Walk.{AreAsked, HasRoom, HasRowsFor, HaveNone, IsFollowed}
+use Rattle.causal_audit.specs.Inside.Group.Walk.{AreAsked, ArePassed, HasRoom, HasRowsFor, HaveNone, IsFollowed}
 use Rattle.causal_audit.proofs.group.walk.follow.Given as goal
 
 -- what is known at this instant, and no delivery has had an orphan so far
@@ -10,4 +10,5 @@ invariant-loop-t l = record {
   followed : IsFollowed l.trace.recording l.windows l.start l.t l.room;
   none : HaveNone l.trace.recording l.f l.windows l.t;
   asked : AreAsked l.windows l.t l.asked;
+  passed : ArePassed l.windows l.t l.passed;
 }

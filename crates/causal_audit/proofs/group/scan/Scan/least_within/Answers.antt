@@ -1,8 +1,9 @@
-use Rattle.causal_audit.proofs.Common.{◌≡◌, ◌++◌, [], List, sym, ap, subst, ◌∙◌, append_assoc, append-nil, arith, map-append, nil_from_length, All}
+use Rattle.causal_audit.proofs.Common.{◌≡◌, ◌<◌, ◌≤◌, contains, ◌++◌, [], List, sym, ap, subst, ◌∙◌, append_assoc, append-nil, arith, map-append, nil_from_length, All}
 use Rattle.std.specs.Slice.Iter.{chunks_rest, chunks_size}
-use Rattle.causal_audit.proofs.AmongLemmas.{among_joined, among_none, horizon_within}
+use Rattle.causal_audit.proofs.AmongLemmas.{among_joined, among_none, horizon_joined, horizon_within}
 use Rattle.causal_audit.proofs.group.GroupWalk.{room_within}
-use Rattle.causal_audit.specs.Inside.Among.{LeastAmongBy}
+use Rattle.causal_audit.proofs.group.Reaching.{none_in}
+use Rattle.causal_audit.specs.Inside.Among.{LeastAmongBy, horizon}
 use Rattle.causal_audit.specs.Earlier.{earlier}
 use Rattle.causal_audit.specs.Inside.Group.Scans.{IsDeliveryAt, IsWindow, positions_of}
 use Rattle.causal_audit.specs.declared.group.scan.Window.{Window}
@@ -21,7 +22,8 @@ loop-group-init c =
       size = size;
       deliveries = subst (All (λ (window : Window). IsDeliveryAt r.past window.position)) (sym rest) c.requires.deliveries;
       none_later = subst (All (IsWindow r c.args.f c.args.end)) (sym rest) c.requires.windows;
-      room = λ entries has. has;
+      room = λ entries has. record { reach = c.forget.ensures.room entries has.reach; copies = has.copies };
+      emptied = λ v j e early there none h. absurd (none_in j (ap (λ s. contains s j) (sym (c.forget.ensures.none v)) ∙ h));
       least = ([], rest, among_none r c.args.f c.args.end);
     }
 
@@ -47,6 +49,9 @@ least_in-found-requires-clause-room c =
     let bound = horizon_within c.args.self.now.run c.args.f c.args.end (positions_of i.least.0) c.loop-group.least i.least.2 in
     room_within c.args.end c.horizon.result c.loop-group.room (omega (arith, c.horizon.ensures, bound)) (i.room c.args.end c.requires.room)
 
+pub least_in-found-requires-clause-emptied : goal.least_in-found-requires-clause-emptied
+least_in-found-requires-clause-emptied c v j e early = c.loop-group.invariant.emptied v j e (omega (arith, early, c.horizon.ensures))
+
 pub loop-group-preserved : goal.loop-group-preserved
 loop-group-preserved c =
     let r = c.args.self.now.run in
@@ -65,6 +70,11 @@ loop-group-preserved c =
       deliveries = all_right (λ (window : Window). IsDeliveryAt r.past window.position) group later (subst (All (λ (window : Window). IsDeliveryAt r.past window.position)) parts invariant.deliveries);
       none_later = all_right (IsWindow r f end) group later (subst (All (IsWindow r f end)) parts invariant.none_later);
       room = λ entries has. c.least_in-found.ensures.room entries (invariant.room entries has);
+      emptied = λ v j e early.
+          let found = c.least_in-found.result in
+          let low : v < horizon end (earlier c.loop-group.least found) = subst (λ x. v < horizon end x) c.earlier-least.ensures early in
+          let bound = subst (λ x. horizon end (earlier c.loop-group.least found) ≤ horizon x found) (sym c.horizon.ensures) (horizon_joined r f end c.loop-group.least found) in
+          c.least_in-found.ensures.emptied v j e (omega (arith, low, bound));
       least = (
         done ++ group,
         append_assoc done group later ∙ ap (λ (list : List Window). done ++ list) (sym parts) ∙ invariant.least.1,

@@ -1,7 +1,7 @@
 use Rattle.causal_audit.proofs.Common.{ℕ, ◌≡◌, ◌++◌, List, All}
 use Rattle.std.specs.Slice.Iter.{chunks_rest, chunks_size}
-use Rattle.causal_audit.specs.Inside.Among.{LeastAmongBy}
-use Rattle.causal_audit.specs.Inside.Group.Walk.{HasRoom}
+use Rattle.causal_audit.specs.Inside.Among.{LeastAmongBy, horizon}
+use Rattle.causal_audit.specs.Inside.Group.Walk.{AreBelow, HasRoom}
 use Rattle.causal_audit.specs.declared.group.scan.Window.{Window}
 use Rattle.causal_audit.specs.Inside.Group.Scans.{IsDeliveryAt, IsWindow, positions_of}
 use Rattle.causal_audit.proofs.group.scan.Scan.least_within.Given as goal
@@ -15,5 +15,6 @@ invariant-loop-group l = record {
   deliveries : All (λ (window : Window). IsDeliveryAt l.self.run.past window.position) (chunks_rest l.group-iterator);
   none_later : All (IsWindow l.self.run l.f l.end) (chunks_rest l.group-iterator);
   room : (entries : ℕ) → HasRoom entries l.fn.room → HasRoom entries l.room;
+  emptied : AreBelow l.self.run.past (horizon l.end l.least) 0 l.room.reach.rows.items;
   least : (done : List Window) × (done ++ chunks_rest l.group-iterator ≡ l.windows) × LeastAmongBy l.self.run l.f l.end (positions_of done) l.least;
 }
