@@ -12,6 +12,8 @@ pub mod mentions;
 pub mod numbering;
 /// What tells who is down at an instant.
 pub mod outline;
+/// Which processes the events of each reach.
+pub mod reached;
 /// From which position on no process is released.
 pub mod releases;
 /// How long each entry stays with its process.

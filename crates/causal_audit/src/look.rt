@@ -8,6 +8,7 @@ ghost use Rattle.causal_trace.specs.Past.{instant, is_stable};
 ghost use Rattle.causal_trace.specs.Rows.{IsWellFormed};
 ghost use Rattle.causal_audit.specs.Inside.ByClock.Changes.{HasNoneUntil, AreMentionsOf, HasMentions};
 ghost use Rattle.causal_audit.specs.Inside.Index.Outlines.{AreMentionsOf-prop};
+ghost use Rattle.causal_audit.specs.Inside.Index.Reached.{HasReached};
 
 /// Who is down and holds a determinant.
 pub mod cover;
@@ -29,16 +30,18 @@ use causal_holders::Holders;
 use causal_name::Det;
 use causal_trace::entry::Entry;
 
-/// What is looked at: a determinant with its mentions before the instant `end` of the run, up to that. It is thin where it is not
-/// stable and at most `most` processes are down or hold it.
+/// What is looked at: a determinant with its mentions before the instant `end` of the run, up to that, and whom its receiver
+/// reaches. It is thin where it is not stable, at most `most` processes are down or hold it, and not all of those are or do.
 #[derive(Clone, Copy)]
 pub struct Look<'a> {
     pub run: Outline<'a>,
     pub mentions: &'a [u32],
     pub det: Det,
+    pub reached: Holders,
     pub most: u16,
     pub end: u32,
     ghost within: { end ≤ length run.trace.now.recording.past },
+    ghost reaching: { HasReached run.trace.now.recording.past det.dest.0 reached },
     ghost ascending: { IsNonDecreasing mentions.now },
     ghost mentioned: { HasMentions (instant run.trace.now.recording.past end) det mentions.now },
     ghost only: { AreMentionsOf (instant run.trace.now.recording.past end) det mentions.now } by { AreMentionsOf-prop _ _ _ },
@@ -93,7 +96,7 @@ impl<'a> Look<'a> {
             down: turns.down(),
             holders: Holders::none(),
         };
-        let standing = cover.standing(self.most, self.det.dest.0);
+        let standing = cover.standing(self.most, self.det.dest.0, self.reached);
         Stop {
             t,
             ahead: Cursor::at(self.mentions, t),
@@ -138,7 +141,9 @@ impl<'a> Look<'a> {
             return Some(stretch);
         }
         stop.cover.see(stop.turns.down(), entry, mention == last);
-        stop.standing = stop.cover.standing(self.most, self.det.dest.0);
+        stop.standing = stop
+            .cover
+            .standing(self.most, self.det.dest.0, self.reached);
         let lasting = self.run.lasting_from <= last + 1;
         if lasting && stop.standing.is_kept() {
             return Some(stretch);

@@ -1,11 +1,11 @@
 -- How long a delivery stays with its receiver, and what that means for its orphans.
-use Rattle.causal_audit.proofs.Common.{ℕ, ◌≡◌, ◌<◌, ◌≤◌, inl, inr, true, false, cond, List, [], ◌∷◌, length, Option, Some, None, refl, sym, ap, subst, ◌∙◌, arith, get_or, ◌+◌, ◌≢◌, ◌⊎◌, ◌==◌, ◌||◌, not, ◌&&◌, slice_set, option_map, option_map_or, cases_lt, false≢true, eqb-true, eq-eqb, or_from, cond-true, cond-false, ne_eqb, false_from_ne_true, or_right, Det, Entry, Send, Deliver, Stable, Crash, Restart, Forget, instant, is_down, logs, lane, det_at, det_of, det_from, message_at, entry_at, AreAccepted, actor, IsEventOf, Delivers, DirectlyPrecedes, in_order, by_message, Reaches, itself, onward, is_delivery_of, accepted_forward, event_below, event_lane, instant_length, det_then, eqb_tells, HasOrphan, length-set, get_or-set_other}
+use Rattle.causal_audit.proofs.Common.{ℕ, ◌≡◌, ◌<◌, ◌≤◌, inl, inr, true, false, cond, List, [], ◌∷◌, length, Option, Some, None, refl, sym, ap, subst, ◌∙◌, arith, get_or, delivers_sent, sent_within, message_sent, option_and_then, ◌+◌, ◌≢◌, ◌⊎◌, ◌==◌, ◌||◌, not, ◌&&◌, slice_set, option_map, option_map_or, cases_lt, false≢true, eqb-true, eq-eqb, or_from, cond-true, cond-false, ne_eqb, false_from_ne_true, or_right, Det, Entry, Send, Deliver, Stable, Crash, Restart, Forget, instant, is_down, logs, lane, det_at, det_of, det_from, message_at, entry_at, AreAccepted, actor, IsEventOf, Delivers, DirectlyPrecedes, in_order, by_message, Reaches, itself, onward, is_delivery_of, accepted_forward, event_below, event_lane, instant_length, det_then, eqb_tells, HasOrphan, length-set, get_or-set_other}
 use Rattle.causal_name.specs.declared.MsgName.{MsgName}
 use Rattle.causal_audit.specs.Laws.{gone}
 use Rattle.causal_audit.specs.Spread.{StaysAlone, CoveredHasNone, StaysUntil, CrashedHasNone}
 use Rattle.causal_trace.proofs.Lemmas.Happened.{event_once}
 use Rattle.causal_audit.proofs.Lemmas.Judged.{exposed}
-use Rattle.causal_audit.proofs.Legal.{delivery_event}
+use Rattle.causal_audit.proofs.Legal.{delivery_event, sent_is}
 use Rattle.causal_audit.proofs.Orphaned.{not_yet}
 use Rattle.causal_audit.proofs.by_clock.Reached.{reaches_whole, event_whole}
 use Rattle.causal_audit.specs.Inside.Index.Spreads.{acting, process_at, AreSpreads, with_delivered, spread_at}
@@ -119,15 +119,48 @@ acting_is (Crash who) p is = absurd (let k : None ≡ Some p = is in cc)
 acting_is (Restart who listed) p is = absurd (let k : None ≡ Some p = is in cc)
 acting_is (Forget who listed) p is = absurd (let k : None ≡ Some p = is in cc)
 
+process_older : (e : Entry) (past : List Entry) (i : ℕ) → i < length past → process_at (e ∷ past) i ≡ process_at past i
+process_older e past i below = ap (λ o. option_map_or acting o 0) (cond-false (i == length past) (Some e) (entry_at past i) (ne_eqb i (length past) (λ is. omega (arith, is, below))))
+
 -- an event is an entry of its process
-process_of_event : (past : List Entry) (i p l : ℕ) → IsEventOf past i p l → process_at past i ≡ p
+pub process_of_event : (past : List Entry) (i p l : ℕ) → IsEventOf past i p l → process_at past i ≡ p
 process_of_event [] i p l of = absurd of
 process_of_event (e ∷ past) i p l (inl old) =
-    ap (λ o. option_map_or acting o 0) (cond-false (i == length past) (Some e) (entry_at past i) (ne_eqb i (length past) (λ is. omega (arith, is, event_below past i p l old)))) ∙ process_of_event past i p l old
+    process_older e past i (event_below past i p l old) ∙ process_of_event past i p l old
 process_of_event (e ∷ past) i p l (inr new) = ap (λ o. option_map_or acting o 0) (cond-true (i == length past) (Some e) (entry_at past i) (eq-eqb i (length past) new.0)) ∙ acting_is e p new.1
 
 pub process_is : (past : List Entry) (i : ℕ) (e : Entry) → entry_at past i ≡ Some e → process_at past i ≡ acting e
 process_is past i e at = ap (λ o. option_map_or acting o 0) at
+
+-- a delivery has a determinant, whose source is the process that sent
+pub delivered : (n : ℕ) (past : List Entry) → AreAccepted n past → (v s : ℕ) → Delivers past v s → (d : Det) × (det_at past v ≡ Some d) × (d.source.0 ≡ process_at past s)
+delivered n [] formed v s h = absurd h
+delivered n (e ∷ past) formed v s (inl old) =
+    let was = delivered n past formed.0 v s old in
+    let below = delivers_below past v s old in
+    let sent = accepted_forward n past formed.0 v s old in (
+      was.0,
+      cond-false (v == length past) (det_of past e) (det_at past v) (ne_eqb v (length past) (λ is. omega (arith, is, below))) ∙ was.1,
+      was.2 ∙ sym (process_older e past s (omega (arith, sent, below))),
+    )
+delivered n (Deliver to send rsn listed ∷ past) formed v s (inr new) =
+    let legal = delivers_sent n past to send rsn listed formed.1 in
+    let sent = sent_is to.0 (entry_at past send) legal in
+    let same : send ≡ s = eqb-true send s new.1 in (
+      record { source = sent.0; ssn = sent.2; dest = to; rsn = rsn },
+      cond-true (v == length past) (det_of past (Deliver to send rsn listed)) (det_at past v) (eq-eqb v (length past) new.0)
+          ∙ ap (λ o. option_map (det_from to rsn) (option_and_then message_sent o)) sent.3,
+      sym (process_older (Deliver to send rsn listed) past s (omega (arith, same, sent_within past send to.0 legal)) ∙ ap (process_at past) (sym same) ∙ process_is past send (Send sent.0 sent.1 sent.2) sent.3),
+    )
+delivered n (Send from to ssn ∷ past) formed v s (inr new) = absurd (false≢true new.1)
+delivered n (Stable det ∷ past) formed v s (inr new) = absurd (false≢true new.1)
+delivered n (Crash who ∷ past) formed v s (inr new) = absurd (false≢true new.1)
+delivered n (Restart who listed ∷ past) formed v s (inr new) = absurd (false≢true new.1)
+delivered n (Forget who listed ∷ past) formed v s (inr new) = absurd (false≢true new.1)
+
+-- its receiver is the process that delivers
+pub det_process : (past : List Entry) (k : ℕ) (d : Det) → det_at past k ≡ Some d → process_at past k ≡ d.dest.0
+det_process past k d at = let from = delivery_event past k d at in process_of_event past k from.0 from.1 from.2 ∙ receiver_is past k d from.0 from.1 at from.2
 
 -- a delivery stays with its process
 pub stays_with : (n : ℕ) (past : List Entry) → AreAccepted n past → (stays : List ℕ) → AreSpreads past (process_at past) stays → (k : ℕ) → StaysUntil past k (get_or stays k 0)
@@ -201,7 +234,18 @@ module _ (n most : ℕ) (past : List Entry) (formed : AreAccepted n past) (k : �
   pub orphan_thin : IsThinAt n most past d u
   orphan_thin =
       let e = exposed n most (instant past u) k d (det_then past u k orphan_made within ∙ at) has in
-      record { unstable = e.unstable; few = e.few }
+      record {
+        unstable = e.unstable;
+        few = e.few;
+        left_over = (
+          k,
+          e.depends.event,
+          det_process past k d at,
+          reaches_whole past u k e.depends.event e.depends.reached,
+          ap (gone (instant past u) d) (process_of_event past e.depends.event e.orphan (lane (instant past u) e.orphan) (event_whole past u e.depends.event e.orphan (lane (instant past u) e.orphan) e.depends.present))
+              ∙ or_from (is_down (instant past u) e.orphan) (logs (instant past u) e.orphan d) e.depends.up e.without,
+        );
+      }
 
   -- and bare, while it stays with its receiver
   pub orphan_bare : u ≤ spread → IsBareAt n most past d u

@@ -1,9 +1,10 @@
 -- One step of a look at a determinant.
-use Rattle.causal_audit.proofs.Common.{ℕ, ◌≡◌, ◌+◌, ◌<◌, ◌≤◌, inl, inr, true, List, ◌∷◌, length, get_or, Some, sym, ap, subst, ◌∙◌, arith, ◌==◌, Contains, nat_cmp, FinSet, difference, len, union, Entry, instant, entry_at, has, is_down, is_stable, logs, AreAccepted, entries_of, accepted_then}
+use Rattle.causal_audit.proofs.Common.{ℕ, ◌≡◌, ◌+◌, ◌<◌, ◌≤◌, inl, true, List, ◌∷◌, length, get_or, Some, sym, ap, subst, ◌∙◌, arith, ◌==◌, Contains, nat_cmp, FinSet, difference, union, Entry, instant, entry_at, has, is_down, is_stable, logs, AreAccepted, entries_of}
 use Rattle.causal_audit.specs.declared.look.cover.Cover.{Cover}
 use Rattle.causal_audit.specs.declared.index.cursor.Cursor.{Cursor}
 use Rattle.causal_audit.specs.declared.look.Look.{Look}
 use Rattle.causal_audit.specs.declared.look.Stop.{Stop}
+use Rattle.causal_audit.specs.declared.look.thin.Standing.TheVariants.{Kept}
 use Rattle.causal_audit.specs.declared.look.thin.Stretch.{Stretch}
 use Rattle.causal_audit.specs.declared.index.turns.Passing.{Passing}
 use Rattle.causal_audit.specs.Inside.ByClock.Changes.{HasNoneUntil, IsCursor}
@@ -13,7 +14,7 @@ use Rattle.causal_audit.specs.Inside.Index.Passing.{HasPassed}
 use Rattle.causal_audit.specs.Inside.Sights.{Shows, ShowsDownAfter, ShowsHoldersAfter}
 use Rattle.causal_audit.specs.Inside.Look.Staying.{MentionsNone, RestartsNone}
 use Rattle.causal_audit.specs.Quiet.{mentioned_by}
-use Rattle.causal_audit.proofs.look.Staying.{gone_many, holds_until, mentioned_next, none_mention, stands_until, none_later, thin_ends}
+use Rattle.causal_audit.proofs.look.Staying.{gone_lasts, holds_until, kept_still, mentioned_next, none_mention, stands_until, none_later, over_then}
 use Rattle.causal_audit.proofs.index.Cursors.{cursor_later}
 use Rattle.causal_audit.proofs.Steps.{entry_read, entry_then, next_state}
 use Rattle.causal_audit.proofs.index.Turned.{passed_down}
@@ -57,7 +58,7 @@ module _ (look : Look) (stop : Stop) (mention change : ℕ) (is : IsChange look 
       none_mention (instant past look.end) look.det look.mentions.now look.mentioned stop.t change mention is.low is.none v e above below (entry_then past look.end v (omega (arith, below, is.low, is.early)) look.within ∙ there)
 
   -- the stretch up to the next change is passed
-  pub passed_to : (s : Stretch) (next : ℕ) → s.first ≡ stop.t → s.last ≡ change → StandsBy s.standing look.most look.det.dest.0 (union stop.cover.down stop.cover.holders) → change < next → next ≤ look.end + 1
+  pub passed_to : (s : Stretch) (next : ℕ) → s.first ≡ stop.t → s.last ≡ change → StandsBy s.standing look.most look.det.dest.0 look.reached (union stop.cover.down stop.cover.holders) → change < next → next ≤ look.end + 1
       → ((u : ℕ) → change < u → u < next → IsThinAt n look.most past look.det u → ⊥) → IsPassed look stop.t next s
   passed_to s next first last stands ahead bound after = record {
     first = first;
@@ -65,7 +66,7 @@ module _ (look : Look) (stop : Stop) (mention change : ℕ) (is : IsChange look 
     last = omega (arith, last, ahead);
     within = bound;
     stands = λ u above below.
-        stands_until n past is.formed look.det stop.t change within unmentioned stop.cover.down stop.cover.holders is.unrestarted is.at.down is.at.holders look.most s.standing stands u above (omega (arith, below, last));
+        stands_until n past is.formed look.det stop.t change within unmentioned stop.cover.down stop.cover.holders is.unrestarted is.at.down is.at.holders look.most s.standing look.reached look.reaching stands u above (omega (arith, below, last));
     after = λ u above below. after u (omega (arith, above, last)) below;
   }
 
@@ -84,7 +85,8 @@ module _ (look : Look) (stop : Stop) (mention change : ℕ) (is : IsChange look 
     -- where it writes the determinant to stable storage, that is thin no more
     pub written : ((p : List Entry) → is_stable (e ∷ p) look.det ≡ true) → (u : ℕ) → change < u → u < look.end + 1 → IsThinAt n look.most past look.det u → ⊥
     written writes u above under =
-        thin_ends n look.most past look.det (change + 1) u (inl (ap (λ x. is_stable x look.det) next ∙ writes (instant past change))) (omega (arith, above)) (omega (arith, under, look.within))
+        λ thin.
+        over_then n look.most past look.det (change + 1) u (inl (ap (λ x. is_stable x look.det) next ∙ writes (instant past change))) (omega (arith, above)) (omega (arith, under, look.within)) thin.unstable thin.few
 
     module _ (ahead : Cursor) (cursor : (list : List ℕ) → IsCursor list stop.t stop.ahead → IsCursor list stop.t ahead) (found : (list : List ℕ) → IsCursor list stop.t stop.ahead → mention < look.end → Contains list mention)
         (turns : Passing) (passes : HasPassed stop.turns.turns.now change turns) (fell : FinSet nat_cmp)
@@ -111,22 +113,18 @@ module _ (look : Look) (stop : Stop) (mention change : ℕ) (is : IsChange look 
           (holds_until n past is.formed look.det stop.t change within unmentioned stop.cover.down stop.cover.holders is.unrestarted is.at.down is.at.holders change is.up (omega arith) fell fallen))
 
       -- the look goes on after it
-      pub onward_stop : (new : Stop) → new.t ≡ change + 1 → new.ahead ≡ ahead → new.turns ≡ turns → new.cover ≡ cover → StandsBy new.standing look.most look.det.dest.0 (union cover.down cover.holders) → IsStop look new
+      pub onward_stop : (new : Stop) → new.t ≡ change + 1 → new.ahead ≡ ahead → new.turns ≡ turns → new.cover ≡ cover → StandsBy new.standing look.most look.det.dest.0 look.reached (union cover.down cover.holders) → IsStop look new
       onward_stop new t_is ahead_is turns_is cover_is stands = record {
         within = omega (arith, t_is, below);
         mentions = subst (λ x. IsCursor look.mentions.now new.t x) (sym ahead_is) (cursor_later look.mentions.now stop.t new.t ahead (omega (arith, t_is, is.up)) (cursor look.mentions.now is.at.mentions));
         turns = subst (λ x. x.turns.now ≡ look.run.turns.now) (sym turns_is) passed.over;
         down = subst (λ x. Shows x.down (λ p. is_down (instant past new.t) p)) (sym cover_is) (subst (λ u. Shows cover.down (λ p. is_down (instant past u) p)) (sym t_is) down_then);
         holders = subst (λ x. Shows x.holders (λ p. logs (instant past new.t) p look.det)) (sym cover_is) (subst (λ u. Shows cover.holders (λ p. logs (instant past u) p look.det)) (sym t_is) holders_then);
-        stands = subst (λ x. StandsBy new.standing look.most look.det.dest.0 (union x.down x.holders)) (sym cover_is) stands;
+        stands = subst (λ x. StandsBy new.standing look.most look.det.dest.0 look.reached (union x.down x.holders)) (sym cover_is) stands;
       }
 
-      -- and ends where too many are down or hold it for good
-      pub over : look.run.lasting_from ≤ change + 1 → look.most < len (union cover.down cover.holders) → (u : ℕ) → change < u → u < look.end + 1 → IsThinAt n look.most past look.det u → ⊥
-      over lasting many u above under =
-          thin_ends n look.most past look.det (change + 1) u
-          (inr (
-            none_later past look.run.lasting_from (change + 1) lasting look.run.lasting,
-            omega (arith, many, gone_many n (instant past (change + 1)) look.det (accepted_then n past (change + 1) is.formed) cover.down cover.holders down_then holders_then),
-          ))
-          (omega (arith, above)) (omega (arith, under, look.within))
+      -- and ends where so many are down or hold it for good
+      pub over : look.run.lasting_from ≤ change + 1 → StandsBy Kept look.most look.det.dest.0 look.reached (union cover.down cover.holders) → (u : ℕ) → change < u → u < look.end + 1 → IsThinAt n look.most past look.det u → ⊥
+      over lasting keep u above under =
+          kept_still n look.most past is.formed look.det (change + 1) u look.reached cover.down cover.holders look.reaching down_then holders_then keep
+          (gone_lasts past look.det (change + 1) u (none_later past look.run.lasting_from (change + 1) lasting look.run.lasting) (omega (arith, above)) (omega (arith, under, look.within)))

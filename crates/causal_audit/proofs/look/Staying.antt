@@ -1,5 +1,5 @@
 -- Until when those who are down or hold a determinant are still so, and how it stands until then.
-use Rattle.causal_audit.proofs.Common.{ℕ, ◌≡◌, ◌+◌, ◌<◌, ◌≤◌, inl, inr, Bool, true, false, List, [], ◌∷◌, length, refl, sym, ap, subst, ◌∙◌, arith, Some, zero, suc, ◌-◌, ◌||◌, ◌&&◌, ◌==◌, not, ◌↔◌, Contains, if◌then◌else◌, min, cases_lt, false≢true, ne_eqb, eqb-true, or_cases, and_parts, false_from_ne_true, or_right, eq-eqb, and_right, Det, same_det, count_below, count_below-within, count_below-le, members_counted, Entry, Send, Deliver, Stable, Crash, Restart, Forget, instant, is_down, is_stable, logs, has, entry_at, instants_stay, one_more_instant, last_instant, instant_length, det_then, accepted_then, nat_cmp_total, nat_cmp, FinSet, contains, difference, contains-difference, union, len, contains-union, Pid, AreAccepted, delivers_up, eqb_tells, nat_tests, HasOrphan}
+use Rattle.causal_audit.proofs.Common.{ℕ, ◌≡◌, ◌+◌, ◌<◌, ◌≤◌, inl, inr, Bool, true, false, List, [], ◌∷◌, length, refl, sym, ap, subst, ◌∙◌, arith, Some, ◌||◌, ◌&&◌, ◌==◌, not, ◌↔◌, Contains, cases_lt, false≢true, ne_eqb, eqb-true, or_cases, and_parts, false_from_ne_true, or_right, eq-eqb, and_right, Det, same_det, count_below, count_below-within, members_counted, Entry, Send, Deliver, Stable, Crash, Restart, Forget, instant, is_down, is_stable, logs, has, entry_at, instants_stay, one_more_instant, last_instant, instant_length, det_then, accepted_then, nat_cmp_total, nat_cmp, FinSet, contains, difference, contains-difference, union, len, contains-union, Pid, AreAccepted, delivers_up, eqb_tells, nat_tests}
 use Rattle.causal_audit.specs.Laws.{gone}
 use Rattle.causal_audit.specs.Inside.Look.Looks.{IsThinAt, RulesOut, StandsBy}
 use Rattle.causal_audit.specs.Lasting.{may_release, NoneReleasedFrom, IsOver, OrphansEnd}
@@ -10,6 +10,9 @@ use Rattle.causal_audit.specs.Inside.Look.Staying.{restarts_one, GoneStay, Holde
 use Rattle.causal_audit.proofs.by_clock.Begun.{onward_to}
 use Rattle.causal_audit.proofs.Between.{logs_stay, next_entry}
 use Rattle.causal_audit.specs.Inside.ByClock.Changes.{HasNoneUntil, AreMentionsOf, HasMentions}
+use Rattle.std.specs.FinSet.{is_subset-contains}
+use Rattle.causal_audit.specs.Inside.Index.Reached.{HasReached}
+use Rattle.causal_audit.specs.Inside.Index.Spreads.{process_at}
 use Rattle.causal_audit.specs.Inside.Sights.{Shows}
 use Rattle.causal_audit.specs.declared.look.thin.Standing.{Standing}
 use Rattle.causal_audit.specs.declared.look.thin.Standing.TheVariants.{Kept, Thin, Bare}
@@ -67,22 +70,21 @@ gone_more (Crash who) past d p stays h = or_turned (who.0 == p) (is_down past p)
 gone_more (Restart who listed) past d p stays h = absurd (false≢true (sym stays))
 gone_more (Forget who listed) past d p stays h = absurd (false≢true (sym stays))
 
-keeps_gone : (n f : ℕ) (past : List Entry) (t : ℕ) (d : Det) → NoneReleasedFrom past t → Keeps (λ p. f < count_below n (gone p d)) past t
-keeps_gone n f [] t d none = tt
-keeps_gone n f (e ∷ past) t d none = (
-  keeps_gone n f past t d none.0,
-  λ late many. omega (arith, many, count_below-within n (gone past d) (gone (e ∷ past) d) (λ p _ h. gone_more e past d p (none.1 late) h)),
-)
+keeps_gone : (past : List Entry) (t : ℕ) (d : Det) (p : ℕ) → NoneReleasedFrom past t → Keeps (λ x. gone x d p ≡ true) past t
+keeps_gone [] t d p none = tt
+keeps_gone (e ∷ past) t d p none = (keeps_gone past t d p none.0, λ late h. gone_more e past d p (none.1 late) h)
+
+-- where none is released, who is down or holds d is so at each later instant
+pub gone_lasts : (past : List Entry) (d : Det) (t u : ℕ) → NoneReleasedFrom past t → t ≤ u → u ≤ length past → (p : ℕ) → gone (instant past t) d p ≡ true → gone (instant past u) d p ≡ true
+gone_lasts past d t u none up within p = kept (λ x. gone x d p ≡ true) past t u (keeps_gone past t d p none) up within
 
 -- ---- the end
 
 -- so a determinant that is over is stable, or more than f are down or hold it, at each later instant
-over_then : (n f : ℕ) (past : List Entry) (d : Det) (t u : ℕ) → IsOver n f past t d → t ≤ u → u ≤ length past → is_stable (instant past u) d ≡ false → count_below n (gone (instant past u) d) ≤ f → ⊥
+pub over_then : (n f : ℕ) (past : List Entry) (d : Det) (t u : ℕ) → IsOver n f past t d → t ≤ u → u ≤ length past → is_stable (instant past u) d ≡ false → count_below n (gone (instant past u) d) ≤ f → ⊥
 over_then n f past d t u (inl stable) up within unstable few = false≢true (sym unstable ∙ kept (λ p. is_stable p d ≡ true) past t u (keeps_stable past t d) up within stable)
-over_then n f past d t u (inr many) up within unstable few = omega (arith, few, kept (λ p. f < count_below n (gone p d)) past t u (keeps_gone n f past t d many.0) up within many.1)
-
-pub thin_ends : (n most : ℕ) (past : List Entry) (d : Det) (t u : ℕ) → IsOver n most past t d → t ≤ u → u ≤ length past → IsThinAt n most past d u → ⊥
-thin_ends n most past d t u over up within thin = over_then n most past d t u over up within thin.unstable thin.few
+over_then n f past d t u (inr many) up within unstable few =
+    omega (arith, few, many.1, count_below-within n (gone (instant past t) d) (gone (instant past u) d) (λ p _ here. gone_lasts past d t u many.0 up within p here))
 
 pub orphans_end : OrphansEnd
 orphans_end n f past k d t u at over up within has =
@@ -189,32 +191,6 @@ entry_then past v e below at =
 
 -- ==== a walk over the entries that may change who is down or holds a determinant, and how the determinant stands between them
 
--- ---- an orphan survives
-
--- one that is out of a set leaves one fewer for it
-all_but : (n : ℕ) (set : ℕ → Bool) (p : ℕ) → p < n → set p ≡ false → count_below n set < n
-all_but zero set p low out = absurd (omega (arith, low))
-all_but (suc n) set p low out =
-    elim (cases_lt p n) [
-      | inl below ↦ omega (arith, all_but n set p below out, one (set n))
-      | inr above ↦
-          let is : set n ≡ false = ap set (omega (arith, low, above)) ∙ out in
-          omega (arith, count_below-le n set, ap {B = ℕ} (λ b. if b then 1 else 0) is)
-    ]
-  where
-    one : (b : Bool) → (if b then 1 else 0) ≤ 1
-    one true = omega arith
-    one false = omega arith
-
--- so at most all processes but one are in its crash set
-pub of_most : (n f most : ℕ) (past : List Entry) (k : ℕ) → most ≡ min f (n - 1) → HasOrphan n f past k → HasOrphan n most past k
-of_most n f most past k is has = record {
-  crash = has.crash;
-  orphan = has.orphan;
-  may_crash = record { down = has.may_crash.down; few = omega (arith, is, has.may_crash.few, all_but n has.crash has.orphan has.is_orphan.process has.is_orphan.survives) };
-  is_orphan = has.is_orphan;
-}
-
 -- ---- those who are down or hold a determinant, as a set
 
 module _ (n : ℕ) (past : List Entry) (d : Det) (formed : AreAccepted n past) (down holders : FinSet nat_cmp) (downs : Shows down (λ p. is_down past p)) (holds : Shows holders (λ p. logs past p d)) where
@@ -231,6 +207,23 @@ module _ (n : ℕ) (past : List Entry) (d : Det) (formed : AreAccepted n past) (
             ];
         member = λ q low. gone_shown q;
       })
+
+-- where they keep it, and all of them are still down or hold it, it is not thin
+pub kept_still : (n most : ℕ) (past : List Entry) → AreAccepted n past → (d : Det) (t u : ℕ) (reached down holders : FinSet nat_cmp) → HasReached past d.dest.0 reached → Shows down (λ p. is_down (instant past t) p)
+    → Shows holders (λ p. logs (instant past t) p d) → StandsBy Kept most d.dest.0 reached (union down holders) → ((p : ℕ) → gone (instant past t) d p ≡ true → gone (instant past u) d p ≡ true) → IsThinAt n most past d u → ⊥
+kept_still n most past formed d t u reached down holders has downs holds (inl many) stay thin =
+    omega (
+      arith,
+      thin.few,
+      many,
+      gone_many n (instant past t) d (accepted_then n past t formed) down holders downs holds,
+      count_below-within n (gone (instant past t) d) (gone (instant past u) d) (λ p _ here. stay p here),
+    )
+kept_still n most past formed d t u reached down holders has downs holds (inr all) stay thin =
+    let left = thin.left_over in
+    let q = process_at past left.1 in
+    let here = is_subset-contains nat_cmp_total reached (union down holders) all q (has left.0 left.1 left.2 left.3) in
+    false≢true (sym left.4 ∙ stay q (sym (gone_shown n (instant past t) d (accepted_then n past t formed) down holders downs holds q) ∙ here))
 
 -- a position below the next mention is none
 pub beyond : (change mention : ℕ) → change ≤ mention → (mention == change) ≡ false → change < mention
@@ -288,17 +281,10 @@ module _ (n : ℕ) (past : List Entry) (formed : AreAccepted n past) (d : Det) (
         (gone_shown n (instant past t) d (legal t) down holders downs holds p ∙ here) here
 
     -- so it stands as it did
-    pub stands_until : (most : ℕ) (s : Standing) → StandsBy s most d.dest.0 (union down holders) → (u : ℕ) → t ≤ u → u ≤ next → RulesOut s n most past d u
-    stands_until most Kept many u up low = λ thin.
-        omega (
-          arith,
-          thin.few,
-          many,
-          gone_many n (instant past t) d (legal t) down holders downs holds,
-          count_below-within n (gone (instant past t) d) (gone (instant past u) d) (λ p _ here. gone_until u up low p here),
-        )
-    stands_until most Thin here u up low = λ bare. false≢true (sym bare.receiver ∙ gone_until u up low d.dest.0 (sym (gone_shown n (instant past t) d (legal t) down holders downs holds d.dest.0) ∙ here))
-    stands_until most Bare here u up low = tt
+    pub stands_until : (most : ℕ) (s : Standing) (reached : FinSet nat_cmp) → HasReached past d.dest.0 reached → StandsBy s most d.dest.0 reached (union down holders) → (u : ℕ) → t ≤ u → u ≤ next → RulesOut s n most past d u
+    stands_until most Kept reached has keep u up low = kept_still n most past formed d t u reached down holders has downs holds keep (gone_until u up low)
+    stands_until most Thin reached has here u up low = λ bare. false≢true (sym bare.receiver ∙ gone_until u up low d.dest.0 (sym (gone_shown n (instant past t) d (legal t) down holders downs holds d.dest.0) ∙ here))
+    stands_until most Bare reached has here u up low = tt
 
 -- where nothing is left to come nothing mentions it
 pub none_mention : (past : List Entry) (d : Det) (mentions : List ℕ) → HasMentions past d mentions → (t next last : ℕ) → next ≤ last → HasNoneUntil mentions t last → MentionsNone past d t next

@@ -28,12 +28,13 @@ impl Cover {
         self.down.union(self.holders)
     }
 
-    /// How a determinant of this receiver stands while these are down and hold it, where at most so many may crash.
-    pub fn standing(&self, most: u16, receiver: u8) -> Standing
-        ensures { StandsBy result most receiver (set.union self.now.down self.now.holders) }
+    /// How a determinant of this receiver stands while these are down and hold it, where at most so many may crash, and where
+    /// the receiver reaches no others than these.
+    pub fn standing(&self, most: u16, receiver: u8, reached: Holders) -> Standing
+        ensures { StandsBy result most receiver reached (set.union self.now.down self.now.holders) }
     {
         let gone = self.gone();
-        if gone.len() > u32::from(most) {
+        if gone.len() > u32::from(most) || reached.is_subset(gone) {
             Standing::Kept
         } else if gone.contains(receiver) {
             Standing::Thin

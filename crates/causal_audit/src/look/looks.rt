@@ -5,6 +5,7 @@ ghost use Rattle.causal_audit.specs.Inside.Index.Kept.{AreMentionsKept};
 
 use crate::index::mentions::Mentions;
 use crate::index::outline::Outline;
+use crate::index::reached::{reached_by, reached_in};
 use crate::look::Look;
 use crate::look::thins::Thins;
 use causal_name::{Det, NoMemory};
@@ -44,6 +45,7 @@ impl<'a> Looks<'a> {
         requires mentioned { AreMentionsKept (instant run.now.trace.now.recording.past end) mentions.now }
         ensures { IfOk result (AreAllLooks run.now.trace.now.recording most end) }
     {
+        let sets = reached_in(alloc, run.trace)?;
         let mut found = Vec::with_capacity(alloc, mentions.lists.len())?;
         for number in 0..mentions.lists.len() {
             let det = mentions.numbers.det(number);
@@ -51,6 +53,7 @@ impl<'a> Looks<'a> {
                 run: *run,
                 mentions: mentions.list(det),
                 det,
+                reached: reached_by(&sets, det.dest.0),
                 most,
                 end,
             };

@@ -5,7 +5,7 @@ ghost use Rattle.causal_trace.specs.Past.{det_at, instant};
 ghost use Rattle.causal_audit.specs.Inside.Among.{HasNoOrphanFrom};
 ghost use Rattle.causal_audit.specs.Inside.Look.Looks.{AreAllLooks};
 ghost use Rattle.causal_audit.specs.Inside.Index.Kept.{AreMentionsKept};
-ghost use Rattle.causal_audit.specs.Inside.Group.Scans.{AreGathered, asked_of, most_of};
+ghost use Rattle.causal_audit.specs.Inside.Group.Scans.{AreGathered, asked_of};
 
 use crate::group::scan::Window;
 use crate::index::by_process::ByProcess;
@@ -45,7 +45,7 @@ impl Survey<'_, '_> {
     fn uncovered_until(&self, looks: &Looks<'_>, k: u32, det: Det) -> u32
         requires delivery { det_at self.now.run.past k ≡ Some det }
         requires early { k < self.now.end }
-        requires looks { AreAllLooks self.now.run (most_of self.now.run self.now.f) self.now.end looks.now }
+        requires looks { AreAllLooks self.now.run self.now.f self.now.end looks.now }
         ensures { HasNoOrphanFrom self.now.run self.now.f k result self.now.end }
     {
         let Some(thins) = looks.find(det) else {
@@ -58,7 +58,7 @@ impl Survey<'_, '_> {
     /// Gathers the window of the delivery at position k, if there is one that is not seen to be covered throughout.
     fn gather(&self, looks: &Looks<'_>, k: u32, gathered: &mut Vec<Window>) -> Result<(), NoMemory>
         requires early { k < self.now.end }
-        requires looks { AreAllLooks self.now.run (most_of self.now.run self.now.f) self.now.end looks.now }
+        requires looks { AreAllLooks self.now.run self.now.f self.now.end looks.now }
         ensures { OnOk result
             (AreGathered self.now k gathered.old.items → AreGathered self.now (k + 1) gathered.new.items) }
     {
@@ -75,7 +75,7 @@ impl Survey<'_, '_> {
 
     /// The windows of the deliveries before the end that are not seen to be covered throughout, in order.
     fn uncovered(&self, alloc: Global, looks: &Looks<'_>) -> Result<Vec<Window>, NoMemory>
-        requires { AreAllLooks self.now.run (most_of self.now.run self.now.f) self.now.end looks.now }
+        requires { AreAllLooks self.now.run self.now.f self.now.end looks.now }
         ensures { IfOk result (λ windows. AreGathered self.now self.now.end windows.items) }
     {
         let mut gathered = Vec::new(alloc);
@@ -90,9 +90,7 @@ impl Survey<'_, '_> {
     fn windows(&self, alloc: Global) -> Result<Vec<Window>, NoMemory>
         ensures { IfOk result (λ windows. AreGathered self.now self.now.end windows.items) }
     {
-        // An orphan survives, so never all processes are in its crash set.
-        let most = self.f.min(self.outline.trace.processes() - 1);
-        let looks = Looks::of(alloc, &self.outline, self.mentions, most, self.end)?;
+        let looks = Looks::of(alloc, &self.outline, self.mentions, self.f, self.end)?;
         self.uncovered(alloc, &looks)
     }
 }

@@ -4,7 +4,7 @@ ghost use Rattle.std.specs.Prelude.{◌≡◌, true};
 /// Who keeps a determinant that is not stable.
 #[derive(Clone, Copy, Debug)]
 pub enum Standing {
-    /// More processes are down or hold it than may crash.
+    /// More processes are down or hold it than may crash, or all whom its receiver reaches.
     Kept,
     /// They are so few that all of them may crash, and its receiver is one of them.
     Thin,
@@ -15,7 +15,7 @@ pub enum Standing {
 impl Standing {
     ghost use Rattle.causal_audit.specs.declared.look.thin.Standing.TheVariants.{Kept};
 
-    /// Whether more processes keep it than may crash.
+    /// Whether so many processes keep it.
     pub fn is_kept(self) -> bool
         ensures { result ≡ true → self ≡ Kept }
     {

@@ -1,5 +1,5 @@
 -- Which deliveries are followed, and what a survey reads to tell them.
-use Rattle.std.specs.Prelude.{◌≡◌, ℕ, ◌≤◌, List, length, map, Some, ◌-◌, ◌<◌, ◌⊎◌, false, min, Contains}
+use Rattle.std.specs.Prelude.{◌≡◌, ℕ, ◌≤◌, List, length, map, Some, ◌<◌, ◌⊎◌, false, Contains}
 use Rattle.causal_audit.specs.Inside.Common.{All, Det, Entry, det_at, instant, Recording, IsWellFormed, IsStrictlyIncreasing, IsNonDecreasingBy, max_entries}
 use Rattle.causal_audit.specs.Inside.Among.{HasNoOrphanFrom, HasNoOrphanBy}
 use Rattle.causal_audit.specs.declared.index.mentions.Mentions.{Mentions}
@@ -68,10 +68,6 @@ pub record IsSurvey (r : Recording) (end : ℕ) (mentions : Mentions) (crashes :
   pub mentioned : AreMentionsKept (instant r.past end) mentions
   pub crashed : AreTurnsOf false r.past (lists_in crashes.lists.items)
   pub staying : AreSpreads r.past (process_at r.past) stays
-
--- how many processes a crash set has at most that leaves an orphan: that survives
-abbrev pub most_of : Recording → ℕ → ℕ
-most_of r f = min f (r.processes - 1)
 
 -- these ascending positions are of deliveries before position `below`, and each other delivery before it has no orphan by
 -- the instant `end`

@@ -1,11 +1,13 @@
 -- Where a look at a determinant stands, how the determinant stands then, and what all looks found.
 use Rattle.std.specs.Prelude.{◌≡◌, ℕ, ◌<◌, ◌≤◌, true, false, List, ◌+◌, ◌⊎◌, Contains, length, Some, slice_index_or}
-use Rattle.causal_audit.specs.Inside.Common.{nat_cmp, FinSet, contains, len, union, Det, Entry, instant, is_stable, is_down, logs, All, IsNonDecreasingBy, Recording}
+use Rattle.causal_audit.specs.Inside.Common.{nat_cmp, FinSet, contains, len, union, Det, Entry, instant, is_stable, is_down, logs, All, IsNonDecreasingBy, Recording, Reaches}
+use Rattle.std.specs.FinSet.{is_subset}
 use Rattle.causal_name.specs.Sets.{count_below}
 use Rattle.causal_audit.specs.Laws.{gone}
 use Rattle.causal_audit.specs.declared.look.thin.Standing.{Standing}
 use Rattle.causal_audit.specs.declared.look.thin.Standing.TheVariants.{Kept, Thin, Bare}
 use Rattle.causal_audit.specs.Inside.ByClock.Changes.{IsCursor}
+use Rattle.causal_audit.specs.Inside.Index.Spreads.{process_at}
 use Rattle.causal_audit.specs.Inside.Sights.{Shows}
 use Rattle.causal_audit.specs.declared.look.Look.{Look}
 use Rattle.causal_audit.specs.declared.look.Stop.{Stop}
@@ -14,10 +16,12 @@ use Rattle.causal_audit.specs.declared.look.thins.Thins.{Thins}
 use Rattle.causal_audit.specs.Inside.Index.Filed.{Numbers, number_of}
 use Rattle.causal_audit.specs.declared.look.looks.Looks.{Looks}
 
--- d is not stable at the instant u, and at most so many processes are down or hold it
+-- d is not stable at the instant u, at most so many processes are down or hold it, and one that its receiver reaches neither is
+-- nor does
 pub record IsThinAt (n most : ℕ) (past : List Entry) (d : Det) (u : ℕ) : Type 0 where
   pub unstable : is_stable (instant past u) d ≡ false
   pub few : count_below n (gone (instant past u) d) ≤ most
+  pub left_over : (i : ℕ) × (j : ℕ) × (process_at past i ≡ d.dest.0) × Reaches past i j × (gone (instant past u) d (process_at past j) ≡ false)
 
 -- and its receiver is none of these
 pub record IsBareAt (n most : ℕ) (past : List Entry) (d : Det) (u : ℕ) : Type 0 where
@@ -30,11 +34,12 @@ RulesOut Kept n most past d u = IsThinAt n most past d u → ⊥
 RulesOut Thin n most past d u = IsBareAt n most past d u → ⊥
 RulesOut Bare n most past d u = Unit {0}
 
--- it stands so by those who are down or hold it: they are more than `most`, or its receiver is one of them
-abbrev pub StandsBy : Standing → ℕ → ℕ → FinSet nat_cmp → Type 0
-StandsBy Kept most receiver set = most < len set
-StandsBy Thin most receiver set = contains set receiver ≡ true
-StandsBy Bare most receiver set = Unit {0}
+-- it stands so by those who are down or hold it: they are more than `most` or all whom its receiver reaches, or its receiver is
+-- one of them
+abbrev pub StandsBy : Standing → ℕ → ℕ → FinSet nat_cmp → FinSet nat_cmp → Type 0
+StandsBy Kept most receiver reached set = (most < len set) ⊎ (is_subset reached set ≡ true)
+StandsBy Thin most receiver reached set = contains set receiver ≡ true
+StandsBy Bare most receiver reached set = Unit {0}
 
 -- a look at d has come to an instant: what is ahead of it, who is down then, who holds d, and how d stands by that
 pub record IsStop (look : Look) (stop : Stop) : Type 0 where
@@ -43,7 +48,7 @@ pub record IsStop (look : Look) (stop : Stop) : Type 0 where
   pub turns : stop.turns.turns.now ≡ look.run.turns.now
   pub down : Shows stop.cover.down (λ p. is_down (instant look.run.trace.now.recording.past stop.t) p)
   pub holders : Shows stop.cover.holders (λ p. logs (instant look.run.trace.now.recording.past stop.t) p look.det)
-  pub stands : StandsBy stop.standing look.most look.det.dest.0 (union stop.cover.down stop.cover.holders)
+  pub stands : StandsBy stop.standing look.most look.det.dest.0 look.reached (union stop.cover.down stop.cover.holders)
 
 -- a look that came to the instant t and goes on at `next` has passed this stretch: at each instant of it the determinant stands
 -- so, and after it, before `next`, it is thin no more

@@ -35,7 +35,7 @@ returns-then-is_kept-clause-passed c =
     (over look c.args.stop.now c.next-mention.result c.next_restart-last.result is c.entries-entries.result.now c.entries-entries.ensures.value c.index-entries-last.result c.index-entries-last.is c.if-last-self.false
     c.next-mention.new.self c.next-mention.ensures.cursor c.next-mention.ensures.found c.next_restart-last.new.self c.next_restart-last.ensures.passed c.down.result c.down.ensures
     c.see.new.self c.see.ensures.down (c.see.ensures.holders look.det) c.if-lasting.true
-    (subst (λ x. StandsBy x look.most look.det.dest.0 (union c.see.new.self.down c.see.new.self.holders)) (c.is_kept.ensures c.if-is_kept.true) c.standing-stop.ensures))
+    (subst (λ x. StandsBy x look.most look.det.dest.0 look.reached (union c.see.new.self.down c.see.new.self.holders)) (c.is_kept.ensures c.if-is_kept.true) c.standing-stop.ensures))
 
 pub returns-clause-stop : goal.returns-clause-stop
 returns-clause-stop c later =

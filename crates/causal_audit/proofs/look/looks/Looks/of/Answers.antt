@@ -1,4 +1,5 @@
-use Rattle.causal_audit.proofs.Common.{ℕ, Vec, Global, List, map, sym, subst, IsNonDecreasing, instant}
+use Rattle.causal_audit.proofs.Common.{ℕ, ◌≡◌, Vec, Global, List, map, ap, sym, subst, ◌∙◌, IsNonDecreasing, instant}
+use Rattle.causal_audit.specs.Inside.Index.Reached.{HasReached, reached_by}
 use Rattle.causal_audit.specs.Inside.ByClock.Changes.{AreMentionsOf, HasMentions}
 use Rattle.causal_audit.proofs.index.Filings.{mentions_ascend}
 use Rattle.causal_audit.proofs.look.looks.Looks.of.Goals as goal
@@ -11,8 +12,11 @@ invariant_of-look c =
     let past = instant c.args.run.now.trace.now.recording.past c.args.end in
     let mentions = c.args.mentions.now in
     let det = c.det-det.result in
+    let is : c.reached_by.result ≡ reached_by c.in_ok-sets.sets.items det.dest.0 =
+    c.reached_by.ensures ∙ ap (λ xs. reached_by xs det.dest.0) c.deref.ensures.value in
     record {
       within = c.requires.within;
+      reaching = subst (HasReached c.args.run.now.trace.now.recording.past det.dest.0) (sym is) (c.in_ok-sets.ensures.each det.dest.0);
       ascending = subst IsNonDecreasing (sym c.list.ensures) (mentions_ascend past mentions.numbers (map positions mentions.lists.items) c.requires.mentioned det);
       mentioned = subst (HasMentions past det) (sym c.list.ensures) (c.requires.mentioned.mentioned det);
       only = subst (AreMentionsOf past det) (sym c.list.ensures) (c.requires.mentioned.only det);

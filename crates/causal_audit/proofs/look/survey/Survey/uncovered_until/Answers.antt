@@ -1,10 +1,8 @@
-use Rattle.causal_audit.proofs.Common.{◌≡◌, inl, inr, get_or, Some, refl, arith, cases_lt, det_at, instant}
+use Rattle.causal_audit.proofs.Common.{◌≡◌, inl, inr, get_or, Some, arith, cases_lt, det_at}
 use Rattle.causal_audit.specs.Inside.Look.Looks.{AreAllLooks}
 use Rattle.causal_audit.specs.Inside.Index.Filed.{lists_in}
-use Rattle.causal_audit.specs.Inside.Group.Scans.{most_of}
 use Rattle.causal_audit.proofs.index.Receivers.{stays_with, orphan_open}
 use Rattle.causal_audit.proofs.index.Filings.{first_crash_is}
-use Rattle.causal_audit.proofs.look.Staying.{of_most}
 use Rattle.causal_audit.proofs.look.survey.Survey.uncovered_until.Goals as goal
 
 pub returns : goal.returns
@@ -12,21 +10,19 @@ returns c =
     let s = c.self.inside in
     let r = s.outline.trace.now.recording in
     let k = c.args.k in
-    let most = most_of r s.f in
     let kept = c.self.invariant in
     let formed = kept.formed.accepted in
     let at : det_at r.past k ≡ Some c.args.det = rw (← c.self.view_is) at c.requires.delivery in
-    let looks : AreAllLooks r most s.end c.args.looks.now = rw (← c.self.view_is) at c.requires.looks in
+    let looks : AreAllLooks r s.f s.end c.args.looks.now = rw (← c.self.view_is) at c.requires.looks in
     let thins = c.in-Some.thins.now in
-    let found = c.in-Some.ensures r most s.end looks in
+    let found = c.in-Some.ensures r s.f s.end looks in
     let crash = c.next_of-crash in
     let first = first_crash_is r.past (lists_in s.crashes.now.lists.items) c.args.det.dest.0 k s.end crash.result kept.crashed crash.ensures.bounds.0 crash.ensures.bounds.1 crash.ensures.none crash.ensures.found in
     rw (← c.self.view_is)
     (λ u above low has.
-    let few = of_most r.processes s.f most (instant r.past u) k refl has in
     elim (cases_lt k thins.from) [
       | inl before ↦ omega (arith, above, low, c.uncovered_until.ensures.early before)
       | inr known ↦
           c.uncovered_until.ensures.covered found.rising u known above low
-          (orphan_open r.processes most r.past formed k c.args.det at (get_or s.stays.now k 0) (stays_with r.processes r.past formed s.stays.now kept.staying k) u (omega (arith, low, kept.within)) few s.end crash.result thins low first known found)
+          (orphan_open r.processes s.f r.past formed k c.args.det at (get_or s.stays.now k 0) (stays_with r.processes r.past formed s.stays.now kept.staying k) u (omega (arith, low, kept.within)) has s.end crash.result thins low first known found)
     ])

@@ -1,0 +1,23 @@
+-- Which processes the events of each reach.
+use Rattle.std.specs.Prelude.{◌≡◌, ℕ, true, List, length, slice_index_or, slice_set, Option, Some, None}
+use Rattle.std.specs.FinSet.{insert}
+use Rattle.causal_audit.specs.Inside.Common.{nat_cmp, FinSet, contains, empty, union, Det, Entry, Reaches}
+use Rattle.causal_audit.specs.Inside.Index.Spreads.{process_at}
+
+-- the set has the process of each event that an event of p reaches
+abbrev pub HasReached : List Entry → ℕ → FinSet nat_cmp → Type 0
+HasReached past p set = (i j : ℕ) → process_at past i ≡ p → Reaches past i j → contains set (process_at past j) ≡ true
+
+-- a process, and its set
+abbrev pub reached_by : List (FinSet nat_cmp) → ℕ → FinSet nat_cmp
+reached_by sets p = insert (slice_index_or sets p empty) p
+
+-- each process has such a set
+pub record AreReached (past : List Entry) (sets : List (FinSet nat_cmp)) : Type 0 where
+  pub count : length sets ≡ 256
+  pub each : (p : ℕ) → HasReached past p (reached_by sets p)
+
+-- the sets, where the sender of a delivery reaches whom its receiver reaches
+abbrev pub with_reached : List (FinSet nat_cmp) → Option Det → List (FinSet nat_cmp)
+with_reached sets None = sets
+with_reached sets (Some d) = slice_set sets d.source.0 (union (reached_by sets d.source.0) (reached_by sets d.dest.0))
