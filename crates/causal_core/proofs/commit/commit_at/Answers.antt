@@ -2,12 +2,12 @@ use Rattle.std.proofs.Common.{◌≡◌, ◌∙◌, ap, subst, Some, slice_get, 
 use Rattle.causal_core.specs.Inside.Facts.{FitsAt}
 use Rattle.causal_core.specs.Inside.Memories.{memory_of, memories_in}
 use Rattle.causal_core.proofs.Fitting.{all_fit_set}
-use Rattle.causal_core.proofs.Cells.{read_at, up_within, there, memory_there, room_there, memories_put, bodies_more}
+use Rattle.causal_core.proofs.Cells.{lent_at, there, memory_there, room_there, memories_put, bodies_more}
 use Rattle.causal_core.proofs.commit.commit_at.Goals as goal
 use Rattle.causal_core.proofs.commit.commit_at.Goals.{In-Some}
 
 found : (c : In-Some) → slice_get c.args.cells.now.items c.args.q.0 ≡ Some (Some c.in-Some.cell)
-found c = rw c.from.ensures at (read_at c.args.cells.now.items c.from.result c.index_mut.result.now (Some c.in-Some.cell) (let h = up_within c.args.cells.now.items c.args.q.0 c.requires.up in omega (arith, h, c.from.ensures)) c.index_mut.ensures.value c.in-Some.is)
+found c = lent_at c.args.cells.now.items c.args.q.0 c.from.result c.index_mut.result.now c.in-Some.cell c.requires.up c.from.ensures c.index_mut.ensures.value c.in-Some.is
 
 pub commit-requires-clause-fit : goal.commit-requires-clause-fit
 commit-requires-clause-fit c =
