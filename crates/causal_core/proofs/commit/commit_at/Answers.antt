@@ -67,36 +67,3 @@ pub returns-clause-bodies : goal.returns-clause-bodies
 returns-clause-bodies c =
     let f = found (goal.at.returns-clause-bodies c).In-Some in
     rw c.from.ensures (bodies_more c.args.cells.now.items c.args.q.0 c.in-Some.cell f c.commit.new.cell _ c.commit.ensures.bodies)
-
-pub commit-requires-clause-process : goal.commit-requires-clause-process
-commit-requires-clause-process c = c.requires.process
-
-pub commit-requires-clause-legal : goal.commit-requires-clause-legal
-commit-requires-clause-legal c = c.requires.legal
-
-pub commit-requires-clause-sent : goal.commit-requires-clause-sent
-commit-requires-clause-sent c = c.requires.sent
-
-pub commit-requires-clause-ascending : goal.commit-requires-clause-ascending
-commit-requires-clause-ascending c = c.requires.ascending
-
-pub commit-requires-clause-delivered : goal.commit-requires-clause-delivered
-commit-requires-clause-delivered c = c.requires.delivered
-
-pub commit-requires-clause-shares : goal.commit-requires-clause-shares
-commit-requires-clause-shares c = c.requires.shares
-
-pub commit-requires-clause-few : goal.commit-requires-clause-few
-commit-requires-clause-few c = c.requires.few
-
-pub commit-requires-clause-spare : goal.commit-requires-clause-spare
-commit-requires-clause-spare c = c.requires.spare
-
-pub commit-requires-clause-short : goal.commit-requires-clause-short
-commit-requires-clause-short c = c.requires.short
-
-pub returns-clause-number : goal.returns-clause-number
-returns-clause-number c = c.commit.ensures.number
-
-pub returns-clause-formed : goal.returns-clause-formed
-returns-clause-formed c = c.commit.ensures.formed
