@@ -1,6 +1,7 @@
 //! The calls of a core.
 use crate::readings::is_judged;
 use crate::told::{TRIES, came, refused};
+use causal_commands::audited;
 use causal_core::{Core, CoreFault, FlushFault};
 use causal_log::{MemStable, Stable};
 use causal_name::Pid;
@@ -225,6 +226,17 @@ pub fn started<P: Print + Eprint>(
     }
 }
 
+/// Audits what a core has recorded, until there is memory for it.
+fn is_audited<P: Print + Eprint, S: Stable>(rt: &P, alloc: Global, core: &Core<S>) -> bool {
+    for _ in 0..TRIES {
+        match audited(alloc, core) {
+            Ok(verdict) => return came(rt, "audited", &verdict),
+            Err(fault) => refused(rt, "audited", &fault, true),
+        };
+    }
+    false
+}
+
 /// A core of these processes, all its calls, and what it has then recorded; whether it was started.
 pub fn run<R: Print + Eprint + Threads + Wait>(
     rt: &R,
@@ -233,7 +245,11 @@ pub fn run<R: Print + Eprint + Threads + Wait>(
     spare: Boxed,
 ) -> bool {
     match started(rt, alloc, boxes) {
-        Some(mut core) => { all_calls(rt, &mut core, spare) && is_judged(rt, alloc, core.trace()) }
+        Some(mut core) => {
+            all_calls(rt, &mut core, spare)
+                && is_judged(rt, alloc, core.trace())
+                && is_audited(rt, alloc, &core)
+        }
         None => false,
     }
 }

@@ -69,202 +69,155 @@ fn left_by(fault: SharedFault, before: (u32, u32)) -> (u32, u32) {
     }
 }
 
-/// A call that makes an item.
-fn asked<R: Wait>(
-    rt: &R,
-    shared: &Shared<MemStable>,
-    seat: &mut Seat,
-    call: Call,
-) -> Result<(), SharedFault>
-    requires { 1 ≤ TRIES }
-{
-    match call {
-        Call::Deliver(q, source, ssn) => {
-            match shared.deliver(rt, seat, Pid(q), Pid(source), ssn) {
+/// A shared runtime, and where it is told what comes of its calls.
+#[derive(Drop)]
+struct Calling<'a, R> {
+    rt: &'a R,
+    shared: &'a Shared<MemStable>,
+}
+
+impl<'a, R: Print + Eprint + Wait> Calling<'a, R> {
+    /// A call that makes an item.
+    fn asked(&self, seat: &mut Seat, call: Call) -> Result<(), SharedFault>
+        requires { 1 ≤ TRIES }
+    {
+        match call {
+            Call::Deliver(q, source, ssn) => {
+                match self.shared.deliver(self.rt, seat, Pid(q), Pid(source), ssn) {
+                    Ok(_) => Ok(()),
+                    Err(fault) => Err(fault),
+                }
+            }
+            Call::Crash(p) => match self.shared.crash(self.rt, seat, Pid(p)) {
                 Ok(_) => Ok(()),
                 Err(fault) => Err(fault),
+            },
+            Call::Flush(p) => match self.shared.flush(self.rt, seat, Pid(p)) {
+                Ok(_) => Ok(()),
+                Err(fault) => Err(fault),
+            },
+            Call::Forget(p) => match self.shared.forget(self.rt, seat, Pid(p)) {
+                Ok(_) => Ok(()),
+                Err(fault) => Err(fault),
+            },
+            Call::Pending(_) | Call::Snapshot => Ok(()),
+        }
+    }
+
+    /// Makes such a call once; whether it came through.
+    fn recorded(&self, seat: &mut Seat, call: Call) -> bool
+        requires { 1 ≤ TRIES }
+    {
+        let before = sitting(seat);
+        match self.asked(seat, call) {
+            Ok(()) => came(self.rt, call.name(), &seat.seen()),
+            Err(fault) => {
+                let is_left = sitting(seat) == left_by(fault, before);
+                refused(self.rt, call.name(), &fault, is_left)
             }
         }
-        Call::Crash(p) => match shared.crash(rt, seat, Pid(p)) {
-            Ok(_) => Ok(()),
-            Err(fault) => Err(fault),
-        },
-        Call::Flush(p) => match shared.flush(rt, seat, Pid(p)) {
-            Ok(_) => Ok(()),
-            Err(fault) => Err(fault),
-        },
-        Call::Forget(p) => match shared.forget(rt, seat, Pid(p)) {
-            Ok(_) => Ok(()),
-            Err(fault) => Err(fault),
-        },
-        Call::Pending(_) | Call::Snapshot => Ok(()),
     }
-}
 
-/// Makes such a call once; whether it came through.
-fn recorded<R: Print + Eprint + Wait>(
-    rt: &R,
-    shared: &Shared<MemStable>,
-    seat: &mut Seat,
-    call: Call,
-) -> bool
-    requires { 1 ≤ TRIES }
-{
-    let before = sitting(seat);
-    match asked(rt, shared, seat, call) {
-        Ok(()) => came(rt, call.name(), &seat.seen()),
-        Err(fault) => {
-            let is_left = sitting(seat) == left_by(fault, before);
-            refused(rt, call.name(), &fault, is_left)
+    fn pending(&self, seat: &Seat, call: Call, q: u8) -> bool
+        requires { 1 ≤ TRIES }
+    {
+        match self.shared.pending(self.rt, seat, Pid(q)) {
+            Ok(names) => came(self.rt, call.name(), &names.len()),
+            Err(fault) => refused(self.rt, call.name(), &fault, true),
         }
     }
-}
 
-fn pending<R: Print + Eprint + Wait>(
-    rt: &R,
-    shared: &Shared<MemStable>,
-    seat: &Seat,
-    call: Call,
-    q: u8,
-) -> bool
-    requires { 1 ≤ TRIES }
-{
-    match shared.pending(rt, seat, Pid(q)) {
-        Ok(names) => came(rt, call.name(), &names.len()),
-        Err(fault) => refused(rt, call.name(), &fault, true),
-    }
-}
-
-fn snapshot<R: Print + Eprint + Wait>(
-    rt: &R,
-    shared: &Shared<MemStable>,
-    seat: &mut Seat,
-    call: Call,
-) -> bool
-    requires { 1 ≤ TRIES }
-{
-    let before = sitting(seat);
-    match shared.snapshot(rt, seat) {
-        Ok(shown) => came(rt, call.name(), &shown.trace.len()),
-        Err(fault) => refused(rt, call.name(), &fault, sitting(seat) == before),
-    }
-}
-
-/// Makes a call once; whether it came through.
-fn made<R: Print + Eprint + Wait>(
-    rt: &R,
-    shared: &Shared<MemStable>,
-    seat: &mut Seat,
-    call: Call,
-) -> bool
-    requires { 1 ≤ TRIES }
-{
-    match call {
-        Call::Pending(q) => pending(rt, shared, seat, call, q),
-        Call::Snapshot => snapshot(rt, shared, seat, call),
-        _ => recorded(rt, shared, seat, call),
-    }
-}
-
-/// Makes a call until it comes through.
-fn made_again<R: Print + Eprint + Wait>(
-    rt: &R,
-    shared: &Shared<MemStable>,
-    seat: &mut Seat,
-    call: Call,
-) -> bool
-    requires { 1 ≤ TRIES }
-{
-    let mut is_made = false;
-    for _ in 0..TRIES {
-        is_made = is_made || made(rt, shared, seat, call);
-    }
-    is_made
-}
-
-fn all_made<R: Print + Eprint + Wait>(
-    rt: &R,
-    shared: &Shared<MemStable>,
-    seat: &mut Seat,
-    calls: &[Call],
-) -> bool
-    requires { 1 ≤ TRIES }
-{
-    let mut are_made = true;
-    for call in calls {
-        are_made = are_made && made_again(rt, shared, seat, *call);
-    }
-    are_made
-}
-
-/// A restart gives the spare back where it is refused.
-fn restarted<R: Print + Eprint + Wait>(
-    rt: &R,
-    shared: &Shared<MemStable>,
-    seat: &mut Seat,
-    spare: Boxed,
-) -> Option<Boxed>
-    requires { 1 ≤ TRIES }
-{
-    let before = sitting(seat);
-    match shared.restart(rt, seat, Pid(1), spare) {
-        Ok(_) => {
-            came(rt, "shared.restart", &seat.seen());
-            None
-        }
-        Err(back) => {
-            let is_left = sitting(seat) == left_by(back.fault, before);
-            refused(rt, "shared.restart", &back.fault, is_left);
-            Some(back.spare)
+    fn snapshot(&self, seat: &mut Seat, call: Call) -> bool
+        requires { 1 ≤ TRIES }
+    {
+        let before = sitting(seat);
+        match self.shared.snapshot(self.rt, seat) {
+            Ok(shown) => came(self.rt, call.name(), &shown.trace.len()),
+            Err(fault) => refused(self.rt, call.name(), &fault, sitting(seat) == before),
         }
     }
-}
 
-/// Restarts process 1 by the spare, until it comes through.
-fn restarted_again<R: Print + Eprint + Wait>(
-    rt: &R,
-    shared: &Shared<MemStable>,
-    seat: &mut Seat,
-    spare: Boxed,
-) -> bool
-    requires { 1 ≤ TRIES }
-{
-    let mut spare = Some(spare);
-    for _ in 0..TRIES {
-        spare = match spare {
-            Some(boxed) => restarted(rt, shared, seat, boxed),
-            None => None,
-        };
+    /// Makes a call once; whether it came through.
+    fn made(&self, seat: &mut Seat, call: Call) -> bool
+        requires { 1 ≤ TRIES }
+    {
+        match call {
+            Call::Pending(q) => self.pending(seat, call, q),
+            Call::Snapshot => self.snapshot(seat, call),
+            _ => self.recorded(seat, call),
+        }
     }
-    spare.is_none()
-}
 
-/// Makes each call of a seat until it comes through.
-fn all_calls<R: Print + Eprint + Wait>(
-    rt: &R,
-    shared: &Shared<MemStable>,
-    seat: &mut Seat,
-    spare: Boxed,
-) -> bool
-    requires { 1 ≤ TRIES }
-{
-    all_made(rt, shared, seat, &BEFORE)
-        && restarted_again(rt, shared, seat, spare)
-        && all_made(rt, shared, seat, &AFTER)
-}
+    /// Makes a call until it comes through.
+    fn made_again(&self, seat: &mut Seat, call: Call) -> bool
+        requires { 1 ≤ TRIES }
+    {
+        let mut is_made = false;
+        for _ in 0..TRIES {
+            is_made = is_made || self.made(seat, call);
+        }
+        is_made
+    }
 
-/// The same, by the first of the seats.
-fn all_calls_of<R: Print + Eprint + Wait>(
-    rt: &R,
-    shared: &Shared<MemStable>,
-    seats: &mut Vec<Seat>,
-    spare: Boxed,
-) -> bool
-    requires { 1 ≤ TRIES }
-{
-    match seats.first_mut() {
-        Some(seat) => all_calls(rt, shared, seat, spare),
-        None => false,
+    fn all_made(&self, seat: &mut Seat, calls: &[Call]) -> bool
+        requires { 1 ≤ TRIES }
+    {
+        let mut are_made = true;
+        for call in calls {
+            are_made = are_made && self.made_again(seat, *call);
+        }
+        are_made
+    }
+
+    /// A restart gives the spare back where it is refused.
+    fn restarted(&self, seat: &mut Seat, spare: Boxed) -> Option<Boxed>
+        requires { 1 ≤ TRIES }
+    {
+        let before = sitting(seat);
+        match self.shared.restart(self.rt, seat, Pid(1), spare) {
+            Ok(_) => {
+                came(self.rt, "shared.restart", &seat.seen());
+                None
+            }
+            Err(back) => {
+                let is_left = sitting(seat) == left_by(back.fault, before);
+                refused(self.rt, "shared.restart", &back.fault, is_left);
+                Some(back.spare)
+            }
+        }
+    }
+
+    /// Restarts process 1 by the spare, until it comes through.
+    fn restarted_again(&self, seat: &mut Seat, spare: Boxed) -> bool
+        requires { 1 ≤ TRIES }
+    {
+        let mut spare = Some(spare);
+        for _ in 0..TRIES {
+            spare = match spare {
+                Some(boxed) => self.restarted(seat, boxed),
+                None => None,
+            };
+        }
+        spare.is_none()
+    }
+
+    /// Makes each call of a seat until it comes through.
+    fn all_calls(&self, seat: &mut Seat, spare: Boxed) -> bool
+        requires { 1 ≤ TRIES }
+    {
+        self.all_made(seat, &BEFORE)
+            && self.restarted_again(seat, spare)
+            && self.all_made(seat, &AFTER)
+    }
+
+    /// The same, by the first of the seats.
+    fn all_calls_of(&self, seats: &mut Vec<Seat>, spare: Boxed) -> bool
+        requires { 1 ≤ TRIES }
+    {
+        match seats.first_mut() {
+            Some(seat) => self.all_calls(seat, spare),
+            None => false,
+        }
     }
 }
 
@@ -294,5 +247,9 @@ pub fn served<R: Print + Eprint + Threads + Wait>(
     requires { 1 ≤ TRIES }
 {
     let mut seats = seats;
-    all_calls_of(rt, &shared, &mut seats, spare) && ended(rt, alloc, shared, seats)
+    let calling = Calling {
+        rt,
+        shared: &shared,
+    };
+    calling.all_calls_of(&mut seats, spare) && ended(rt, alloc, shared, seats)
 }

@@ -55,6 +55,12 @@ up_within [] p h = absurd (false≢true h)
 up_within (c ∷ cells) zero h = omega arith
 up_within (c ∷ cells) (suc p) h = omega (arith, up_within cells p h)
 
+-- the cell of a process that is up, as it is lent at a place that is its number
+pub lent_at : (cells : List (Option Cell)) (p i : ℕ) (slot : Option Cell) (cell : Cell) → is_some (at (memories_in cells) p) ≡ true → i ≡ p → slot ≡ get_or cells i slot → slot ≡ Some cell → slice_get cells p ≡ Some (Some cell)
+lent_at cells p i slot cell up is value some =
+    let h = up_within cells p up in
+    rw is at (read_at cells i slot (Some cell) (omega (arith, h, is)) value some)
+
 pub some_within : (ms : Memories) (p : ℕ) (m : Memory) → at ms p ≡ Some m → p < length ms
 some_within [] p m h = absurd (let e : None ≡ Some m = h in cc)
 some_within (x ∷ ms) zero m h = omega arith
@@ -84,6 +90,12 @@ module _ (cells : List (Option Cell)) (p : ℕ) (cell : Cell) (found : slice_get
   module _ (new : Cell) where
     pub memories_put : memories_in (slice_set cells p (Some new)) ≡ slice_set (memories_in cells) p (Some (memory_of new))
     memories_put = map-set (option_map memory_of) cells p (Some new)
+
+    pub memories_changed : (change : Memory → Memory) → memory_of new ≡ change (memory_of cell) → memories_in (slice_set cells p (Some new)) ≡ slice_set (memories_in cells) p (option_map change (at (memories_in cells) p))
+    memories_changed change is =
+        memories_put
+        ∙ ap (λ m. slice_set (memories_in cells) p (Some m)) is
+        ∙ ap (λ o. slice_set (memories_in cells) p (option_map change o)) (sym there)
 
     pub memories_kept : memory_of new ≡ memory_of cell → memories_in (slice_set cells p (Some new)) ≡ memories_in cells
     memories_kept same = memories_put ∙ ap (λ m. slice_set (memories_in cells) p (Some m)) same ∙ set_same (memories_in cells) p (memory_of cell) there

@@ -24,6 +24,7 @@ use Rattle.causal_protocol.specs.Run.{stable_of}
 use Rattle.causal_protocol.specs.Naming.{name, named_for, kept_for, has_received, listed_for}
 use Rattle.causal_protocol.specs.Refusals.{rows, first_of, first_fault, is_long, is_full, when, unless, count_down, gathered, unwritten, forgettable}
 use Rattle.causal_protocol.specs.Steps.{reason_of, extended}
+use Rattle.causal_protocol.proofs.Lemmas.Reasons.{reason_known}
 use Rattle.causal_core.specs.Inside.Facts.{FitsAt, AllFit, IsHeld}
 use Rattle.causal_core.proofs.Fitting.{is_of, fits_other, all_fit_set}
 
@@ -48,16 +49,7 @@ is_reason (Some Why.StoreFault) = false
 is_reason _ = true
 
 reason_told : (fault : CoreFault) → is_reason (Some fault) ≡ true → reason_of fault ≡ Some fault
-reason_told Why.NoMemory h = absurd (false≢true h)
-reason_told Why.NoProcess h = refl
-reason_told Why.Down h = refl
-reason_told Why.NotDown h = refl
-reason_told Why.OverFaults h = refl
-reason_told (Why.MustReplay m) h = refl
-reason_told Why.NotAvailable h = refl
-reason_told Why.AlreadyDelivered h = refl
-reason_told Why.Full h = refl
-reason_told Why.StoreFault h = refl
+reason_told fault h = reason_known fault (λ is. false≢true (subst (λ x. is_reason (Some x) ≡ true) is h))
 
 reasons : (told : List (Option CoreFault)) (fault : CoreFault) → list_all is_reason told ≡ true → first_of told ≡ Some fault → reason_of fault ≡ Some fault
 reasons [] fault all h = absurd (let e : None ≡ Some fault = h in cc)

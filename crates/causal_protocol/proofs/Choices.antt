@@ -21,6 +21,7 @@ use Rattle.causal_log.specs.Knowledge.{nothing_known, is_carried, as_stable}
 use Rattle.causal_log.specs.Logs.{LogMap, known_of, item_of, is_chosen, chosen, stable_in, marked, mark, dets_of, unstable_in}
 use Rattle.causal_log.specs.Stores.{DetSet, with_det}
 use Rattle.causal_log.specs.Stores as store
+use Rattle.causal_log.proofs.Lemmas.Choosing.{carried, swap_first}
 use Rattle.causal_log.proofs.Lemmas.Searches.{any_map, any_kept, any_logged, passes}
 use Rattle.causal_protocol.specs.Gathering.{stable_set, without}
 use Rattle.causal_protocol.specs.Naming.{with_own, by_order}
@@ -31,16 +32,6 @@ swap true true = refl
 swap true false = refl
 swap false true = refl
 swap false false = refl
-
-swap_first : (a b d : Bool) → (a && (b && d)) ≡ (b && (a && d))
-swap_first true true d = refl
-swap_first true false d = refl
-swap_first false true d = refl
-swap_first false false d = refl
-
-carried : (f : ℕ) (o : Option Known) → passes (is_carried f) o ≡ is_chosen f o
-carried f None = refl
-carried f (Some known) = refl
 
 -- what a log chooses
 module _ (f : ℕ) (log : LogMap) (d : Det) where

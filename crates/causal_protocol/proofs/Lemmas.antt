@@ -2,3 +2,4 @@
 pub mod Carried
 pub mod Telling
 pub mod StepProps
+pub mod Reasons

@@ -135,21 +135,20 @@ module _ (batch : List Item) (own : Det) (log : LogMap) (d : Det) where
         | inr more ↦ or_right _ _ (item_named q items more)
       ]
 
-  item_sent : (items : List Item) → has_item d items ≡ true → list_any (tells_item own.source.0) items ≡ true
-  item_sent [] h = absurd (false≢true h)
-  item_sent (item ∷ items) h =
+  -- an item that comes tells that both ends of its message hold it
+  item_at : (q : ℕ) → (q == own.source.0 || q == own.dest.0) ≡ true → (items : List Item) → has_item d items ≡ true → list_any (tells_item q) items ≡ true
+  item_at q end [] h = absurd (false≢true h)
+  item_at q end (item ∷ items) h =
       elim (or_cases (same_det d item.det) (has_item d items) h) [
-        | inl one ↦ or_left _ _ (and_from _ _ one (or_right _ _ (or_left _ _ (eq-eqb own.source.0 own.source.0 refl))))
-        | inr more ↦ or_right _ _ (item_sent items more)
+        | inl one ↦ or_left _ _ (and_from _ _ one (or_right _ _ end))
+        | inr more ↦ or_right _ _ (item_at q end items more)
       ]
 
+  item_sent : (items : List Item) → has_item d items ≡ true → list_any (tells_item own.source.0) items ≡ true
+  item_sent = item_at own.source.0 (or_left _ _ (eq-eqb own.source.0 own.source.0 refl))
+
   item_received : (items : List Item) → has_item d items ≡ true → list_any (tells_item own.dest.0) items ≡ true
-  item_received [] h = absurd (false≢true h)
-  item_received (item ∷ items) h =
-      elim (or_cases (same_det d item.det) (has_item d items) h) [
-        | inl one ↦ or_left _ _ (and_from _ _ one (or_right _ _ (or_right _ _ (eq-eqb own.dest.0 own.dest.0 refl))))
-        | inr more ↦ or_right _ _ (item_received items more)
-      ]
+  item_received = item_at own.dest.0 (or_right _ _ (eq-eqb own.dest.0 own.dest.0 refl))
 
   -- who is told to hold it was before, or the message says so, or is its sender or receiver; or it is the receiver's own
   pub gained_holder : (q : ℕ) → tells_holder d q (gained batch own log) ≡ true

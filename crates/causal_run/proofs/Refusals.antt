@@ -12,22 +12,11 @@ use Rattle.causal_protocol.specs.declared.request.CoreFault.TheVariants as Why
 use Rattle.causal_protocol.specs.Run.{Run}
 use Rattle.causal_protocol.specs.Refusals.{first_fault}
 use Rattle.causal_protocol.specs.Steps.{LegalStep, reason_of, flush_reason_of}
+use Rattle.causal_protocol.proofs.Lemmas.Reasons.{reason_known}
 use Rattle.causal_shared.specs.declared.item.Item.{Item}
 use Rattle.causal_shared.specs.History.{instant, since, IsStep}
 use Rattle.causal_script.specs.declared.script.Command.{Command}
 use Rattle.causal_run.specs.Runs.{fault_told, Stands}
-
-reason_known : (fault : CoreFault) → fault ≢ Why.NoMemory → reason_of fault ≡ Some fault
-reason_known Why.NoProcess known = refl
-reason_known Why.Down known = refl
-reason_known Why.NotDown known = refl
-reason_known Why.OverFaults known = refl
-reason_known (Why.MustReplay m) known = refl
-reason_known Why.NotAvailable known = refl
-reason_known Why.AlreadyDelivered known = refl
-reason_known Why.Full known = refl
-reason_known Why.StoreFault known = refl
-reason_known Why.NoMemory known = absurd (known refl)
 
 flush_stands : (r : Run) (p : Pid) (fault : CoreFault) → first_fault r (Ask.Flush p) ≡ flush_reason_of fault → fault ≢ Why.NoMemory → Stands r (Ask.Flush p) fault
 flush_stands r p Why.NoProcess is known = is

@@ -3,7 +3,7 @@ ghost use Rattle.std.specs.Prelude.{◌≡◌, ◌+◌, ◌<◌, ◌≤◌, ◌�
 ghost use Rattle.std.specs.Prelude.{vec_len, vec_capacity, IfOk, IfErr, OnOk, OnErr, IsTrue, None};
 ghost use Rattle.std.specs.Option.{option_copied};
 ghost use Rattle.causal_core.specs.CoreView.{run_of};
-ghost use Rattle.causal_shared.specs.History.{IsHistory, Holds, Sees, instant, count_at, with_kept};
+ghost use Rattle.causal_shared.specs.History.{IsHistory, Holds, Sees, instant, count_at, item_of, with_kept};
 ghost use Rattle.causal_shared.specs.Inside.Keeping.{Keeps, item_at};
 ghost use Rattle.causal_shared.specs.Inside.Noting.{GoesOn};
 ghost use Rattle.causal_shared.specs.Limits.{max_items, max_seats};
@@ -42,25 +42,65 @@ fn instant_of<S: Stable>(core: &Core<S>) -> u32
     core.trace().len()
 }
 
-/// Stores an item, and what is then kept of its seat. Where the item tells the step that led to the core's run, the
+/// Makes room for one item more, and tells how many entries there are before it.
+///
+/// # Errors
+/// `NoRecord`, and the items are as they were.
+fn begun<S: Stable>(core: &Core<S>, history: &mut Vec<Item>) -> Result<u32, LockedFault>
+    ensures items { history.new.items ≡ history.old.items }
+    ensures len { vec_len history.new ≡ vec_len history.old }
+    ensures room { OnOk result (vec_len history.new < vec_capacity history.new) }
+    ensures first { IfOk result (λ first. first ≡ instant (run_of core.now)) }
+    ensures err { IfErr result (λ fault. fault ≡ LockedFault.NoRecord) }
+{
+    if history.reserve(1).is_err() {
+        return Err(LockedFault::NoRecord);
+    }
+    Ok(instant_of(core))
+}
+
+/// A call of a seat, and how many entries there were before it.
+#[derive(Clone, Copy)]
+struct Turn {
+    seat: u32,
+    call: u32,
+    first: u32,
+}
+
+/// Stores the item of a call, and what is then kept of its seat. Where the item tells the step that led to the core's run, the
 /// history stays legal.
-fn note<S: Stable>(core: &Core<S>, history: &mut Vec<Item>, seats: &mut Vec<KeptSeat>, item: Item)
-    requires seat { item.seat < vec_len seats.old }
-    requires call { item.call < max_items }
+fn note<S: Stable>(
+    core: &Core<S>,
+    history: &mut Vec<Item>,
+    seats: &mut Vec<KeptSeat>,
+    turn: Turn,
+    told: (Request, Reply),
+)
+    requires seat { turn.seat < vec_len seats.old }
+    requires call { turn.call < max_items }
     requires place { vec_len history.old < max_items }
     requires room { vec_len history.old < vec_capacity history.old }
-    ensures history { history.new.items ≡ history.old.items ++ item ∷ [] }
+    ensures history { history.new.items
+        ≡ history.old.items ++ item_of turn.seat turn.call told.0 told.1 turn.first ∷ [] }
     ensures len { vec_len history.new ≡ vec_len history.old + 1 }
     ensures seats { seats.new.items
-        ≡ with_kept seats.old.items item (instant (run_of core.now)) (vec_len history.old) }
+        ≡ with_kept seats.old.items (item_of turn.seat turn.call told.0 told.1 turn.first)
+        (instant (run_of core.now)) (vec_len history.old) }
     ensures same { vec_len seats.new ≡ vec_len seats.old }
-    ensures keeps { GoesOn (run_of core.now) item
+    ensures keeps { GoesOn (run_of core.now) (item_of turn.seat turn.call told.0 told.1 turn.first)
         history.old.items seats.old.items history.new.items seats.new.items }
 {
     let place = history.len() as u32;
+    let item = Item {
+        seat: turn.seat,
+        call: turn.call,
+        request: told.0,
+        reply: told.1,
+        first: turn.first,
+    };
     let _ = history.push(item);
-    seats[item.seat as usize] = KeptSeat {
-        count: item.call + 1,
+    seats[turn.seat as usize] = KeptSeat {
+        count: turn.call + 1,
         seen: instant_of(core),
         last: Some(place),
     };
@@ -233,19 +273,12 @@ impl<S: Stable> Locked<S> {
             (Delivers answers q source ssn (state_under self.old) (state_under self.new)) }
         ensures refused { OnErr result (LeavesUnder answers self.old self.new) }
     {
-        if self.history.reserve(1).is_err() {
-            return Err(LockedFault::NoRecord);
-        }
-        let first = instant_of(&self.core);
+        let first = begun(&self.core, &mut self.history)?;
         let answer = self.core.deliver(q, source, ssn);
-        let item = Item {
-            seat,
-            call,
-            request: Request::Deliver { q, source, ssn },
-            reply: Reply::of_delivery(answer),
-            first,
-        };
-        note(&self.core, &mut self.history, &mut self.seats, item);
+        let request = Request::Deliver { q, source, ssn };
+        let told = (request, Reply::of_delivery(answer));
+        let turn = Turn { seat, call, first };
+        note(&self.core, &mut self.history, &mut self.seats, turn, told);
         Ok(answer?)
     }
 
@@ -261,19 +294,11 @@ impl<S: Stable> Locked<S> {
         ensures ok { OnOk result (Crashes answers p (state_under self.old) (state_under self.new)) }
         ensures refused { OnErr result (LeavesUnder answers self.old self.new) }
     {
-        if self.history.reserve(1).is_err() {
-            return Err(LockedFault::NoRecord);
-        }
-        let first = instant_of(&self.core);
+        let first = begun(&self.core, &mut self.history)?;
         let answer = self.core.crash(p);
-        let item = Item {
-            seat,
-            call,
-            request: Request::Crash { p },
-            reply: Reply::of_crash(answer),
-            first,
-        };
-        note(&self.core, &mut self.history, &mut self.seats, item);
+        let told = (Request::Crash { p }, Reply::of_crash(answer));
+        let turn = Turn { seat, call, first };
+        note(&self.core, &mut self.history, &mut self.seats, turn, told);
         Ok(answer?)
     }
 
@@ -298,22 +323,14 @@ impl<S: Stable> Locked<S> {
         ensures refused { OnErr result (LeavesUnder answers self.old self.new) }
         ensures spare { IfErr result (λ refused. AnswersAs answers refused.spare spare) }
     {
-        if self.history.reserve(1).is_err() {
-            return Err(LockedRefused {
-                fault: LockedFault::NoRecord,
-                spare,
-            });
-        }
-        let first = instant_of(&self.core);
-        let answer = self.core.restart(p, spare);
-        let item = Item {
-            seat,
-            call,
-            request: Request::Restart { p },
-            reply: restart_reply(&answer),
-            first,
+        let first = match begun(&self.core, &mut self.history) {
+            Ok(first) => first,
+            Err(fault) => return Err(LockedRefused { fault, spare }),
         };
-        note(&self.core, &mut self.history, &mut self.seats, item);
+        let answer = self.core.restart(p, spare);
+        let told = (Request::Restart { p }, restart_reply(&answer));
+        let turn = Turn { seat, call, first };
+        note(&self.core, &mut self.history, &mut self.seats, turn, told);
         Ok(answer?)
     }
 
@@ -333,19 +350,11 @@ impl<S: Stable> Locked<S> {
         ensures boxes { SameAnswers answers
             (state_under self.old).slots (state_under self.new).slots }
     {
-        if self.history.reserve(1).is_err() {
-            return Err(LockedFault::NoRecord);
-        }
-        let first = instant_of(&self.core);
+        let first = begun(&self.core, &mut self.history)?;
         let answer = self.core.flush(p);
-        let item = Item {
-            seat,
-            call,
-            request: Request::Flush { p },
-            reply: Reply::of_flush(answer),
-            first,
-        };
-        note(&self.core, &mut self.history, &mut self.seats, item);
+        let told = (Request::Flush { p }, Reply::of_flush(answer));
+        let turn = Turn { seat, call, first };
+        note(&self.core, &mut self.history, &mut self.seats, turn, told);
         Ok(answer?)
     }
 
@@ -362,19 +371,11 @@ impl<S: Stable> Locked<S> {
         ensures boxes { SameAnswers answers
             (state_under self.old).slots (state_under self.new).slots }
     {
-        if self.history.reserve(1).is_err() {
-            return Err(LockedFault::NoRecord);
-        }
-        let first = instant_of(&self.core);
+        let first = begun(&self.core, &mut self.history)?;
         let answer = self.core.forget(p);
-        let item = Item {
-            seat,
-            call,
-            request: Request::Forget { p },
-            reply: Reply::of_forget(answer),
-            first,
-        };
-        note(&self.core, &mut self.history, &mut self.seats, item);
+        let told = (Request::Forget { p }, Reply::of_forget(answer));
+        let turn = Turn { seat, call, first };
+        note(&self.core, &mut self.history, &mut self.seats, turn, told);
         Ok(answer?)
     }
 

@@ -12,13 +12,15 @@ use Rattle.causal_log.specs.Knowledge.{nothing_known, is_carried}
 use Rattle.causal_log.specs.Logs.{LogMap, known_of, item_of, is_chosen, chosen}
 use Rattle.causal_log.proofs.Lemmas.Searches.{any_kept, any_logged, passes}
 
-swap_first : (a b d : Bool) → (a && (b && d)) ≡ (b && (a && d))
+-- the second of three conditions may be asked first
+pub swap_first : (a b d : Bool) → (a && (b && d)) ≡ (b && (a && d))
 swap_first true true d = refl
 swap_first true false d = refl
 swap_first false true d = refl
 swap_first false false d = refl
 
-carried : (f : ℕ) (o : Option Known) → passes (is_carried f) o ≡ is_chosen f o
+-- what is known of a determinant is carried where the log chooses it
+pub carried : (f : ℕ) (o : Option Known) → passes (is_carried f) o ≡ is_chosen f o
 carried f None = refl
 carried f (Some known) = refl
 

@@ -2,12 +2,12 @@ use Rattle.std.proofs.Common.{◌≡◌, ◌∙◌, ap, subst, Some, slice_get, 
 use Rattle.causal_core.specs.Inside.Facts.{FitsAt}
 use Rattle.causal_core.specs.Inside.Memories.{memory_of, memories_in}
 use Rattle.causal_core.proofs.Fitting.{all_fit_set}
-use Rattle.causal_core.proofs.Cells.{read_at, up_within, there, memory_there, room_there, memories_put, bodies_more}
+use Rattle.causal_core.proofs.Cells.{lent_at, there, memory_there, room_there, memories_put, bodies_more}
 use Rattle.causal_core.proofs.commit.commit_at.Goals as goal
 use Rattle.causal_core.proofs.commit.commit_at.Goals.{In-Some}
 
 found : (c : In-Some) → slice_get c.args.cells.now.items c.args.q.0 ≡ Some (Some c.in-Some.cell)
-found c = rw c.from.ensures at (read_at c.args.cells.now.items c.from.result c.index_mut.result.now (Some c.in-Some.cell) (let h = up_within c.args.cells.now.items c.args.q.0 c.requires.up in omega (arith, h, c.from.ensures)) c.index_mut.ensures.value c.in-Some.is)
+found c = lent_at c.args.cells.now.items c.args.q.0 c.from.result c.index_mut.result.now c.in-Some.cell c.requires.up c.from.ensures c.index_mut.ensures.value c.in-Some.is
 
 pub commit-requires-clause-fit : goal.commit-requires-clause-fit
 commit-requires-clause-fit c =
@@ -67,36 +67,3 @@ pub returns-clause-bodies : goal.returns-clause-bodies
 returns-clause-bodies c =
     let f = found (goal.at.returns-clause-bodies c).In-Some in
     rw c.from.ensures (bodies_more c.args.cells.now.items c.args.q.0 c.in-Some.cell f c.commit.new.cell _ c.commit.ensures.bodies)
-
-pub commit-requires-clause-process : goal.commit-requires-clause-process
-commit-requires-clause-process c = c.requires.process
-
-pub commit-requires-clause-legal : goal.commit-requires-clause-legal
-commit-requires-clause-legal c = c.requires.legal
-
-pub commit-requires-clause-sent : goal.commit-requires-clause-sent
-commit-requires-clause-sent c = c.requires.sent
-
-pub commit-requires-clause-ascending : goal.commit-requires-clause-ascending
-commit-requires-clause-ascending c = c.requires.ascending
-
-pub commit-requires-clause-delivered : goal.commit-requires-clause-delivered
-commit-requires-clause-delivered c = c.requires.delivered
-
-pub commit-requires-clause-shares : goal.commit-requires-clause-shares
-commit-requires-clause-shares c = c.requires.shares
-
-pub commit-requires-clause-few : goal.commit-requires-clause-few
-commit-requires-clause-few c = c.requires.few
-
-pub commit-requires-clause-spare : goal.commit-requires-clause-spare
-commit-requires-clause-spare c = c.requires.spare
-
-pub commit-requires-clause-short : goal.commit-requires-clause-short
-commit-requires-clause-short c = c.requires.short
-
-pub returns-clause-number : goal.returns-clause-number
-returns-clause-number c = c.commit.ensures.number
-
-pub returns-clause-formed : goal.returns-clause-formed
-returns-clause-formed c = c.commit.ensures.formed

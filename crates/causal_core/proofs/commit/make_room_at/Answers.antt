@@ -1,10 +1,10 @@
-use Rattle.std.proofs.Common.{◌≡◌, Some, slice_get, arith}
-use Rattle.causal_core.proofs.Cells.{read_at, up_within, memories_kept, bodies_kept, room_put}
+use Rattle.std.proofs.Common.{◌≡◌, Some, slice_get}
+use Rattle.causal_core.proofs.Cells.{lent_at, memories_kept, bodies_kept, room_put}
 use Rattle.causal_core.proofs.commit.make_room_at.Goals as goal
 use Rattle.causal_core.proofs.commit.make_room_at.Goals.{In-Some}
 
 found : (c : In-Some) → slice_get c.args.cells.now.items c.args.q.0 ≡ Some (Some c.in-Some.cell)
-found c = rw c.from.ensures at (read_at c.args.cells.now.items c.from.result c.index_mut.result.now (Some c.in-Some.cell) (let h = up_within c.args.cells.now.items c.args.q.0 c.requires in omega (arith, h, c.from.ensures)) c.index_mut.ensures.value c.in-Some.is)
+found c = lent_at c.args.cells.now.items c.args.q.0 c.from.result c.index_mut.result.now c.in-Some.cell c.requires c.from.ensures c.index_mut.ensures.value c.in-Some.is
 
 pub returns-clause-memories : goal.returns-clause-memories
 returns-clause-memories c =

@@ -41,26 +41,14 @@ loop-det-init g c = record {
 pub write_one-requires-clause-process : goal.write_one-requires-clause-process
 write_one-requires-clause-process g c = let same = ap (λ r. r.recording.processes) c.loop-det.invariant.run in omega (arith, same, c.requires.process)
 
-pub write_one-requires-clause-up : goal.write_one-requires-clause-up
-write_one-requires-clause-up g c = c.loop-det.invariant.up
-
 pub write_one-requires-clause-short : goal.write_one-requires-clause-short
 write_one-requires-clause-short g c = omega (arith, c.loop-det.invariant.long, c.loop-det-test.true, c.requires.short)
 
 pub write_one-requires-clause-room : goal.write_one-requires-clause-room
 write_one-requires-clause-room g c = omega (arith, c.loop-det.invariant.room, c.loop-det-test.true)
 
-pub write_one-requires-clause-stored : goal.write_one-requires-clause-stored
-write_one-requires-clause-stored g c = c.loop-det.invariant.stored
-
 pub returns-in-Err-clause-run : goal.returns-in-Err-clause-run
 returns-in-Err-clause-run g c = c.in-Err.ensures.err ∙ c.loop-det.invariant.run ∙ ap (λ k. flushed c.args.held.now.run c.args.p (take k c.args.dets.now)) (sym c.loop-det.invariant.done)
-
-pub returns-in-Err-clause-why : goal.returns-in-Err-clause-why
-returns-in-Err-clause-why g c = c.in-Err.ensures.why
-
-pub returns-in-Err-clause-stored : goal.returns-in-Err-clause-stored
-returns-in-Err-clause-stored g c = c.write_one.ensures.stored
 
 pub returns-in-Err-clause-filled : goal.returns-in-Err-clause-filled
 returns-in-Err-clause-filled g c = c.write_one.ensures.filled ∙ c.loop-det.invariant.filled
@@ -73,12 +61,3 @@ returns-clause-run g c = c.loop-det.invariant.run ∙ ap (λ k. flushed c.args.h
 
 pub returns-clause-ok : goal.returns-clause-ok
 returns-clause-ok g c = omega (arith, c.loop-det.invariant.done, c.loop-det-test.false, c.loop-det.auto.det-index-end)
-
-pub returns-clause-stored : goal.returns-clause-stored
-returns-clause-stored g c = c.loop-det.invariant.stored
-
-pub returns-clause-filled : goal.returns-clause-filled
-returns-clause-filled g c = c.loop-det.invariant.filled
-
-pub returns-clause-bodies : goal.returns-clause-bodies
-returns-clause-bodies g c = c.loop-det.invariant.bodies

@@ -8,15 +8,6 @@ returns-in-Ok-clause-stored g c = stable_stored c.args.held.now.run c.note_stabl
 pub returns-in-Ok-clause-filled : goal.returns-in-Ok-clause-filled
 returns-in-Ok-clause-filled g c = stable_filled c.args.held.now.run c.note_stable.new.self.run c.args.p c.args.det c.note_stable.ensures.run
 
-pub returns-in-Ok-clause-ok : goal.returns-in-Ok-clause-ok
-returns-in-Ok-clause-ok g c = c.note_stable.ensures.run
-
-pub returns-in-Ok-clause-bodies : goal.returns-in-Ok-clause-bodies
-returns-in-Ok-clause-bodies g c = c.note_stable.ensures.bodies
-
-pub returns-in-Ok-clause-room : goal.returns-in-Ok-clause-room
-returns-in-Ok-clause-room g c = c.note_stable.ensures.room
-
 pub returns-in-Err-Device-clause-err : goal.returns-in-Err-Device-clause-err
 returns-in-Err-Device-clause-err g c = refl
 

@@ -1,30 +1,15 @@
-use Rattle.std.proofs.Common.{◌≡◌, Some, slice_get, arith}
-use Rattle.causal_core.proofs.Cells.{read_at, up_within, body_there, memories_kept, bodies_kept, rooms_kept}
+use Rattle.std.proofs.Common.{◌≡◌, Some, slice_get}
+use Rattle.causal_core.proofs.Cells.{lent_at, body_there, memories_kept, bodies_kept, rooms_kept}
 use Rattle.causal_core.proofs.give.give_at.Goals as goal
 use Rattle.causal_core.proofs.give.give_at.Goals.{In-Some}
 
 found : (g : _) (c : In-Some g) → slice_get c.args.cells.now.items c.args.source.0 ≡ Some (Some c.in-Some.cell)
-found g c = rw c.from.ensures at (read_at c.args.cells.now.items c.from.result c.index_mut.result.now (Some c.in-Some.cell) (let h = up_within c.args.cells.now.items c.args.source.0 c.requires.up in omega (arith, h, c.from.ensures)) c.index_mut.ensures.value c.in-Some.is)
-
-pub give_kept-requires-clause-box_there : goal.give_kept-requires-clause-box_there
-give_kept-requires-clause-box_there g c = c.requires.box_there
+found g c = lent_at c.args.cells.now.items c.args.source.0 c.from.result c.index_mut.result.now c.in-Some.cell c.requires.up c.from.ensures c.index_mut.ensures.value c.in-Some.is
 
 pub returns-clause-ok : goal.returns-clause-ok
 returns-clause-ok g c =
     let f = found g (goal.at.returns-clause-ok g c).In-Some in
     rw (body_there c.args.cells.now.items c.args.source.0 c.in-Some.cell f c.args.ssn) c.give_kept.ensures.ok
-
-pub returns-clause-few : goal.returns-clause-few
-returns-clause-few g c = c.give_kept.ensures.few
-
-pub returns-clause-others : goal.returns-clause-others
-returns-clause-others g c = c.give_kept.ensures.others
-
-pub returns-clause-err : goal.returns-clause-err
-returns-clause-err g c = c.give_kept.ensures.err
-
-pub returns-clause-filled : goal.returns-clause-filled
-returns-clause-filled g c = c.give_kept.ensures.filled
 
 pub returns-clause-memories : goal.returns-clause-memories
 returns-clause-memories g c =

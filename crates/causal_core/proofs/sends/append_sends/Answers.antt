@@ -161,9 +161,6 @@ send-requires-clause-from c = omega (arith, from c, c.requires.process)
 pub send-requires-clause-to : goal.send-requires-clause-to
 send-requires-clause-to c = omega (arith, from c, c.if-from-n.true, c.from.ensures, c.processes-n.ensures.value)
 
-pub send-requires-clause-fit : goal.send-requires-clause-fit
-send-requires-clause-fit c = c.loop-outgoing.invariant.fit
-
 pub send-requires-clause-spare : goal.send-requires-clause-spare
 send-requires-clause-spare c = omega (arith, left c, c.loop-outgoing.invariant.spare, c.requires.few)
 
@@ -190,15 +187,6 @@ returns-clause-recording c = c.loop-outgoing.invariant.recording ∙ ap (λ xs. 
 
 pub returns-clause-memory : goal.returns-clause-memory
 returns-clause-memory c = c.loop-outgoing.invariant.memory ∙ ap (λ xs. keep_sends c.args.trace.now.recording c.args.shares.items xs (memory_of c.args.cell.now)) (done c)
-
-pub returns-clause-formed : goal.returns-clause-formed
-returns-clause-formed c = c.loop-outgoing.invariant.formed
-
-pub returns-clause-fit : goal.returns-clause-fit
-returns-clause-fit c = c.loop-outgoing.invariant.fit
-
-pub returns-clause-others : goal.returns-clause-others
-returns-clause-others c = c.loop-outgoing.invariant.others
 
 pub returns-clause-bodies : goal.returns-clause-bodies
 returns-clause-bodies c = c.loop-outgoing.invariant.bodies ∙ ap (λ xs. bodies_of c.args.cell.now ++ sent_bodies c.args.trace.now.recording.processes xs) (done c)

@@ -26,15 +26,6 @@ returns-in-Some-clause-mismatch g c = λ n e. c.finish_fault.ensures.mismatch n 
 pub returns-in-Some-clause-opened : goal.returns-in-Some-clause-opened
 returns-in-Some-clause-opened g c = λ e. c.finish_fault.ensures.opened (c.in-Some.is ∙ found _ _ e)
 
-pub returns-clause-run : goal.returns-clause-run
-returns-clause-run g c = c.into_parts-core.ensures.run
-
-pub returns-clause-history : goal.returns-clause-history
-returns-clause-history g c = c.into_parts-core.ensures.history
-
-pub returns-clause-legal : goal.returns-clause-legal
-returns-clause-legal g c = c.into_parts-core.ensures.legal
-
 pub returns-clause-safe : goal.returns-clause-safe
 returns-clause-safe g c = safe_carried (run_of c.into_parts-core.result.0) c.into_parts-core.result.0.kept
 

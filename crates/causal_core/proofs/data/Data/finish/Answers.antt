@@ -175,16 +175,10 @@ returns-clause-det c =
 pub commit_at-sends-requires-clause-process : goal.commit_at-sends-requires-clause-process
 commit_at-sends-requires-clause-process c = (may (goal.at.commit_at-sends-requires-clause-process c).After-len-first).process
 
-pub commit_at-sends-requires-clause-fit : goal.commit_at-sends-requires-clause-fit
-commit_at-sends-requires-clause-fit c = c.self.invariant.fit
-
 pub commit_at-sends-requires-clause-shares : goal.commit_at-sends-requires-clause-shares
 commit_at-sends-requires-clause-shares c =
     let shares = (grown (goal.at.commit_at-sends-requires-clause-shares c).After-len-first).shares in
     shares ∙ ap (λ cs. replicate 8 (first_batch cs)) (sym shares)
-
-pub commit_at-sends-requires-clause-few : goal.commit_at-sends-requires-clause-few
-commit_at-sends-requires-clause-few c = c.requires.few
 
 room : (c : After-len-first) → HasRoom c.args.q.0 (length (carried_by c.args.grown) + 1) (state c)
 room c = subst (HasRoom c.args.q.0 (length (carried_by c.args.grown) + 1)) (sym c.self.view_is) c.requires.room

@@ -11,6 +11,6 @@ note-requires-clause-call g c = count_below (run_of c.args.self.now.core) c.args
 pub invariant_of-self-2-clause-keeps : goal.invariant_of-self-2-clause-keeps
 invariant_of-self-2-clause-keeps g c =
     let run = run_of c.args.self.now.core in
-    let item = item_of c.args.seat c.args.call (Ask.Deliver c.args.q c.args.source c.args.ssn) c.of_delivery.result c.instant_of-first.result in
-    c.note.ensures.keeps run (rw c.reserve.ensures.items c.args.self.now.keeps) (rw c.of_delivery.ensures c.deliver-answer.ensures.step) c.instant_of-first.ensures c.requires.call
-    (shows_delivery run (run_of c.deliver-answer.new.self) c.args.q c.args.source c.args.ssn c.deliver-answer.result item c.deliver-answer.ensures.step c.deliver-answer.ensures.det c.of_delivery.ensures c.instant_of-first.ensures)
+    let item = item_of c.args.seat c.args.call (Ask.Deliver c.args.q c.args.source c.args.ssn) c.of_delivery.result c.in_ok-first.first in
+    c.note.ensures.keeps run (rw c.begun.ensures.items c.args.self.now.keeps) (rw c.of_delivery.ensures c.deliver-answer.ensures.step) c.in_ok-first.ensures.first c.requires.call
+    (shows_delivery run (run_of c.deliver-answer.new.self) c.args.q c.args.source c.args.ssn c.deliver-answer.result item c.deliver-answer.ensures.step c.deliver-answer.ensures.det c.of_delivery.ensures c.in_ok-first.ensures.first)
