@@ -20,7 +20,7 @@ runtime_log: anyhow causal_name causal_log
 """
 RUNS = 5
 RINGS = ((2, 1), (64, 1), (2, 2), (64, 2), (64, 8))
-KEYS = ((1_024, 1_024), (16_384, 16_384))
+KEYS = ((1_024, 2_048), (2_048, 2_048), (16_384, 16_384))
 
 
 def newest(paths):

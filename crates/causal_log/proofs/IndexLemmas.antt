@@ -37,7 +37,7 @@ ended None h = refl
 ended (Some k) h = absurd (h k refl)
 
 -- where the next older entry stands, from an entry that is there
-module _ (ds : List Det) (heads older : List (Option ℕ)) (index : IsIndex ds heads older) where
+module _ (turn : ℕ) (ds : List Det) (heads older : List (Option ℕ)) (index : IsIndex turn ds heads older) where
   -- an entry leads to one that is there, or nowhere
   pub older_below : (i : ℕ) → i < length ds → IfSome (get_or older i None) (λ k. k < length ds)
   older_below i low = below_all (get_or older i None) (length ds) (λ k is. more k i (length ds) (index.down i k is) low)
@@ -61,7 +61,7 @@ module _ (ds : List Det) (heads older : List (Option ℕ)) (index : IsIndex ds h
     n = length ds
 
     abbrev h : ℕ
-    h = head_of (length heads) (slot_of d)
+    h = head_of (length heads) turn (slot_of d)
 
     -- with one more entry, the newest of its head
     module _ (some : h < length heads) where
@@ -95,19 +95,19 @@ module _ (ds : List Det) (heads older : List (Option ℕ)) (index : IsIndex ds h
         ]
       ]
 
-      found : (k : ℕ) (e : Det) → slice_get (ds ++ d ∷ []) k ≡ Some e → IsLed more_older (newest_of more_heads (slot_of e)) k
+      found : (k : ℕ) (e : Det) → slice_get (ds ++ d ∷ []) k ≡ Some e → IsLed more_older (newest_of more_heads turn (slot_of e)) k
       found k e at = elim (got_push ds d e k at) [ inl old ↦ by old | inr new ↦ last new ]
         where
           g : ℕ
-          g = head_of (length heads) (slot_of e)
+          g = head_of (length heads) turn (slot_of e)
 
-          same_heads : newest_of more_heads (slot_of e) ≡ get_or more_heads g None
-          same_heads = ap (λ m. get_or more_heads (head_of m (slot_of e)) None) (length-set heads h (Some n))
+          same_heads : newest_of more_heads turn (slot_of e) ≡ get_or more_heads g None
+          same_heads = ap (λ m. get_or more_heads (head_of m turn (slot_of e)) None) (length-set heads h (Some n))
 
-          to_new : g ≡ h → newest_of more_heads (slot_of e) ≡ Some n
+          to_new : g ≡ h → newest_of more_heads turn (slot_of e) ≡ Some n
           to_new same = same_heads ∙ ap (λ i. get_or more_heads i None) same ∙ get_or-set_same heads h (Some n) None some
 
-          by : slice_get ds k ≡ Some e → IsLed more_older (newest_of more_heads (slot_of e)) k
+          by : slice_get ds k ≡ Some e → IsLed more_older (newest_of more_heads turn (slot_of e)) k
           by old =
               let way = index.found k e old in
               let on : Leads more_older (get_or heads g None) k way.0 = leads_more (get_or heads h None) (get_or heads g None) k way.0 (newest_below g) way.1 in
@@ -120,11 +120,11 @@ module _ (ds : List Det) (heads older : List (Option ℕ)) (index : IsIndex ds h
                 | inr apart ↦ (way.0, subst (λ o. Leads more_older o k way.0) (sym (same_heads ∙ get_or-set_other heads h g (Some n) None apart)) on)
               ]
 
-          last : (k ≡ n) × (d ≡ e) → IsLed more_older (newest_of more_heads (slot_of e)) k
-          last new = (zero, subst (λ o. Leads more_older o k zero) (sym (to_new (ap (λ x. head_of (length heads) (slot_of x)) (sym new.1)))) (sym new.0))
+          last : (k ≡ n) × (d ≡ e) → IsLed more_older (newest_of more_heads turn (slot_of e)) k
+          last new = (zero, subst (λ o. Leads more_older o k zero) (sym (to_new (ap (λ x. head_of (length heads) turn (slot_of x)) (sym new.1)))) (sym new.0))
 
       -- an index with one more entry, the newest of its head, is an index of them all
-      pub one_more : IsIndex (ds ++ d ∷ []) more_heads more_older
+      pub one_more : IsIndex turn (ds ++ d ∷ []) more_heads more_older
       one_more = record {
         count = length_push older (get_or heads h None) ∙ ap (λ m. m + 1) index.count ∙ sym (length_push ds d);
         within = within;
@@ -167,8 +167,8 @@ module _ (ds : List Det) (older : List (Option ℕ)) (d : Det) where
       by false h = refl
 
 -- no entries, and heads that lead nowhere
-pub no_index : (heads : List (Option ℕ)) → ((h : ℕ) → get_or heads h None ≡ None) → IsIndex [] heads []
-no_index heads none = record {
+pub no_index : (turn : ℕ) (heads : List (Option ℕ)) → ((h : ℕ) → get_or heads h None ≡ None) → IsIndex turn [] heads []
+no_index turn heads none = record {
   count = refl;
   within = λ h k is. none_some (get_or heads h None) k (none h) is;
   down = λ i k is. none_some None k refl is;

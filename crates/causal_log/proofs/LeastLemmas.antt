@@ -42,10 +42,10 @@ slot_is slot q h =
     λ i. record { dest = record { 0 = dest i }; rsn = rsn i }
 
 -- before the first entry is asked, the head leads to all that fill the slot
-pub none_passed : (ds : List Det) (heads older : List (Option ℕ)) (slot : Slot) → IsIndex ds heads older → HasPassed slot.dest slot.rsn ds older (newest_of heads slot) None
-none_passed ds heads older slot index = record {
+pub none_passed : (turn : ℕ) (ds : List Det) (heads older : List (Option ℕ)) (slot : Slot) → IsIndex turn ds heads older → HasPassed slot.dest slot.rsn ds older (newest_of heads turn slot) None
+none_passed turn ds heads older slot index = record {
   fits = tt;
-  rest = λ k q at fits. inl (subst (λ s. IsLed older (newest_of heads s) k) (slot_is slot q fits) (index.found k q at));
+  rest = λ k q at fits. inl (subst (λ s. IsLed older (newest_of heads turn s) k) (slot_is slot q fits) (index.found k q at));
 }
 
 -- where two tests do not both pass, the second fails where the first passes

@@ -14,28 +14,28 @@ use causal_name::{Det, Slot};
 const APART: usize = 40_503;
 
 /// The number of a slot's head, where the number of heads is a power of two. Eight slots of a receiver have heads beside each
-/// other, and the next eight come after a step that no other receiver makes: so those of two receivers meet now and then, and
-/// not one after the other.
+/// other, and the next eight come after a step that no other receiver makes in this turn: so those of two receivers meet now
+/// and then, and not one after the other.
 #[tactic(auto, using(std::proofs::lemmas::Nat::and_le_r), unfolding(crate::specs::Inside::Indexes::head_of))]
-fn head_of(heads: usize, slot: Slot) -> usize
+fn head_of(heads: usize, turn: u8, slot: Slot) -> usize
     requires { 0 < heads }
-    ensures head { result ≡ head_of heads slot }
+    ensures head { result ≡ head_of heads turn slot }
     ensures within { result < heads }
 {
     let dest = usize::from(slot.dest.0);
     let rsn = slot.rsn as usize;
-    let eight = rsn / 8 * (2 * dest + 1) + dest * APART;
+    let eight = rsn / 8 * (2 * (dest + usize::from(turn)) + 1) + dest * APART;
     (eight * 8 + rsn % 8) & (heads - 1)
 }
 
 /// The place of the newest entry that a slot's head leads to.
-pub(crate) fn newest(heads: &[Option<u32>], slot: Slot) -> Option<u32>
-    ensures { result ≡ newest_of heads.now slot }
+pub(crate) fn newest(heads: &[Option<u32>], turn: u8, slot: Slot) -> Option<u32>
+    ensures { result ≡ newest_of heads.now turn slot }
 {
     if heads.is_empty() {
         return None;
     }
-    heads[head_of(heads.len(), slot)]
+    heads[head_of(heads.len(), turn, slot)]
 }
 
 /// The place of a determinant.
@@ -43,14 +43,15 @@ pub(crate) fn search(
     dets: &[Det],
     heads: &[Option<u32>],
     older: &[Option<u32>],
+    turn: u8,
     det: Det,
 ) -> Option<usize>
-    requires { IsIndex dets.now heads.now older.now }
+    requires { IsIndex turn dets.now heads.now older.now }
     ensures found { IfSome result (λ place. slice_get dets.now place ≡ Some det) }
     ensures within { IfSome result (λ place. place < length dets.now) }
     ensures absent { IsNone result → list_any (same_det det) dets.now ≡ false }
 {
-    let mut place = newest(heads, det.slot());
+    let mut place = newest(heads, turn, det.slot());
     while let Some(k) = place {
         if dets[k as usize] == det {
             return Some(k as usize);
@@ -65,13 +66,14 @@ pub(crate) fn least_of_slot(
     dets: &[Det],
     heads: &[Option<u32>],
     older: &[Option<u32>],
+    turn: u8,
     slot: Slot,
 ) -> Option<Det>
-    requires { IsIndex dets.now heads.now older.now }
+    requires { IsIndex turn dets.now heads.now older.now }
     ensures { IsLeastOfSlot slot.dest slot.rsn dets.now result }
 {
     let mut least = None;
-    let mut place = newest(heads, slot);
+    let mut place = newest(heads, turn, slot);
     while let Some(k) = place {
         let det = dets[k as usize];
         if is_lesser(&det, slot.dest, slot.rsn, least) {
@@ -83,18 +85,18 @@ pub(crate) fn least_of_slot(
 }
 
 /// Adds one more entry, the newest of its head, in room that there is.
-pub(crate) fn link(heads: &mut [Option<u32>], older: &mut Vec<Option<u32>>, slot: Slot)
+pub(crate) fn link(heads: &mut [Option<u32>], older: &mut Vec<Option<u32>>, turn: u8, slot: Slot)
     requires some { 0 < length heads.old }
     requires few { vec_len older.old < 2 ^ 32 }
     requires room { vec_len older.old < vec_capacity older.old }
-    ensures older { older.new.items ≡ older.old.items ++ newest_of heads.old slot ∷ [] }
+    ensures older { older.new.items ≡ older.old.items ++ newest_of heads.old turn slot ∷ [] }
     ensures capacity { vec_capacity older.old ≤ vec_capacity older.new }
     ensures index { (det : Det) → slot_of det ≡ slot → (dets : List Det) →
-        IsIndex dets heads.old older.old.items → IsIndex (dets ++ det ∷ []) heads.new older.new.items }
+        IsIndex turn dets heads.old older.old.items → IsIndex turn (dets ++ det ∷ []) heads.new older.new.items }
     ensures len { length heads.new ≡ length heads.old }
 {
     let place = older.len() as u32;
-    let head = head_of(heads.len(), slot);
+    let head = head_of(heads.len(), turn, slot);
     older.push_reserved(heads[head]);
     heads[head] = Some(place);
 }

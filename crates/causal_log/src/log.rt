@@ -150,8 +150,7 @@ impl Log {
         });
     }
 
-    /// What the messages of a step would carry once `grow` has taken in a delivery. The log is not changed. Its only error
-    /// is want of memory.
+    /// What the messages of a step would carry once `grow` has taken in a delivery. Its only error is want of memory.
     pub fn choose_grown(
         &self,
         alloc: Global,
@@ -223,8 +222,7 @@ impl Log {
         entries::unstable_len(self.entries.entries())
     }
 
-    /// The message that the log names for a slot, the delivery of number `rsn` to `dest`: that of the least determinant
-    /// logged for it.
+    /// The message that the log names for a slot, number `rsn` of `dest`: that of the least determinant logged for it.
     pub fn for_slot(&self, dest: Pid, rsn: u32) -> Option<MsgName>
         ensures { result ≡ named dest rsn self.now.map }
     {
@@ -232,8 +230,7 @@ impl Log {
         least.map(|det| det.message())
     }
 
-    /// Makes the next `more` insertions sure of their memory. Where it is refused nothing changes, and its only error is
-    /// want of memory.
+    /// Makes the next `more` insertions sure of their memory. Its only error is want of memory, and then nothing changes.
     pub fn reserve(&mut self, more: u32) -> Result<(), NoMemory>
         ensures map { self.new.map ≡ self.old.map }
         ensures ok { OnOk result (more ≤ self.new.spare) }
@@ -243,8 +240,7 @@ impl Log {
         self.entries.reserve(more as usize)
     }
 
-    /// Puts the entries in order, so that `at` takes constant time until a determinant comes in. Its only error is want of
-    /// memory.
+    /// Puts the entries in order, so that `at` takes constant time until a determinant comes in, unless memory is refused.
     pub fn sort(&mut self) -> Result<(), NoMemory>
         ensures map { self.new.map ≡ self.old.map }
         ensures spare { self.new.spare ≡ self.old.spare }
@@ -257,8 +253,7 @@ impl Log {
         Ok(())
     }
 
-    /// Learns something of one determinant. The only error is want of memory, which comes for a determinant that is not
-    /// logged yet.
+    /// Learns something of one determinant. The only error is want of memory, for a determinant that is not logged yet.
     fn learn(&mut self, det: Det, heard: Known) -> Result<(), NoMemory>
         ensures ok { OnOk result (self.new.map ≡ learned self.old.map det heard) }
         ensures err { OnErr result (self.new.map ≡ self.old.map) }
@@ -363,8 +358,7 @@ impl Log {
         true
     }
 
-    /// Takes out the determinants that are known to be stable, and says how many these were. Takes no memory. It reads the
-    /// whole log.
+    /// Takes out the determinants that are known to be stable, and says how many. It reads the whole log, with no memory.
     pub fn drop_stable(&mut self) -> u32
         ensures left { self.new.map ≡ unmarked self.old.map }
         ensures count { result ≡ length (stable_in self.old.map) }

@@ -19,11 +19,11 @@ use causal_name::{Det, NoMemory, Slot};
 use std::alloc::Global;
 use std::marker::Model;
 
-/// The most entries of a table, so that a number of 32 bits counts them; further ones are refused as want of memory.
-const MOST_ENTRIES: usize = 0xffff_ffff;
-
 /// The fewest heads of a table with entries.
-const FEWEST_HEADS: usize = 1024;
+const FEWEST_HEADS: usize = 2048;
+
+/// How far a turn is from the one before: far enough that what shared a head is spread over many.
+const TURN: u8 = 37;
 
 /// Entries, with the heads that lead to them: a power of two of them, and no fewer than there is room for entries.
 #[derive(Debug, Drop)]
@@ -34,6 +34,8 @@ pub(crate) struct Table {
     heads: Vec<Option<u32>>,
     /// Of each entry the place of the next older one.
     older: Vec<Option<u32>>,
+    /// In which turn heads are chosen.
+    turn: u8,
     /// For how many more there is room.
     room: usize,
 }
@@ -49,7 +51,7 @@ impl Model for Table {
 
     ghost view = { λ t. record { entries = t.entries.items; spare = t.room } };
 
-    ghost invariant = { λ t. IsTable t.dets.items (keys_of t.entries.items) t.heads.items t.older.items t.room
+    ghost invariant = { λ t. IsTable t.dets.items (keys_of t.entries.items) t.heads.items t.older.items t.turn t.room
         (vec_capacity t.dets) (vec_capacity t.entries) (vec_capacity t.older) };
 }
 
@@ -63,6 +65,7 @@ impl Table {
             dets: Vec::new(alloc),
             heads: Vec::new(alloc),
             older: Vec::new(alloc),
+            turn: 0,
             room: 0,
         }
     }
@@ -91,12 +94,9 @@ impl Table {
         ensures place { IfSome result (λ found. slice_get self.now.entries found.0 ≡ Some (det, found.1)) }
         ensures within { IfSome result (λ found. found.0 < length self.now.entries) }
     {
-        let place = search(
-            self.dets.as_slice(),
-            self.heads.as_slice(),
-            self.older.as_slice(),
-            det,
-        )?;
+        let heads = self.heads.as_slice();
+        let older = self.older.as_slice();
+        let place = search(self.dets.as_slice(), heads, older, self.turn, det)?;
         Some((place, self.entries[place].1))
     }
 
@@ -111,12 +111,9 @@ impl Table {
     pub(crate) fn least_of(&self, slot: Slot) -> Option<Det>
         ensures { IsLeastOfSlot slot.dest slot.rsn (keys_of self.now.entries) result }
     {
-        least_of_slot(
-            self.dets.as_slice(),
-            self.heads.as_slice(),
-            self.older.as_slice(),
-            slot,
-        )
+        let heads = self.heads.as_slice();
+        let older = self.older.as_slice();
+        least_of_slot(self.dets.as_slice(), heads, older, self.turn, slot)
     }
 
     /// Changes what is known of the determinant at a place.
@@ -138,7 +135,8 @@ impl Table {
         ensures keys { keys_of self.new.entries ≡ keys_of self.old.entries ++ det ∷ [] }
         ensures spare { self.old.spare ≡ self.new.spare + 1 }
     {
-        link(self.heads.as_mut_slice(), &mut self.older, det.slot());
+        let heads = self.heads.as_mut_slice();
+        link(heads, &mut self.older, self.turn, det.slot());
         self.dets.push_reserved(det);
         self.entries.push_reserved((det, known));
         self.room -= 1;
@@ -154,18 +152,24 @@ impl Table {
         if more <= self.room {
             return Ok(());
         }
-        if more > MOST_ENTRIES - self.entries.len() {
+        // a number of 32 bits counts them
+        if more > u32::MAX as usize - self.entries.len() {
             return Err(NoMemory);
         }
+        let before = self.dets.capacity();
         self.entries.reserve(more)?;
         self.dets.reserve(more)?;
         self.older.reserve(more)?;
+        // more than half of the entries came to a head that led to another one already
+        let is_crowded = before < self.dets.capacity()
+            && self.older.iter().filter(|place| place.is_some()).count() > self.older.len() / 2;
         widen(
             self.entries.as_slice(),
             &mut self.dets,
             &mut self.heads,
             &mut self.older,
-            self.entries.capacity(),
+            &mut self.turn,
+            is_crowded,
         )?;
         self.room = more;
         Ok(())
@@ -181,6 +185,7 @@ impl Table {
             dets: Vec::from_slice(alloc, self.dets.as_slice())?,
             heads: Vec::from_slice(alloc, self.heads.as_slice())?,
             older: Vec::from_slice(alloc, self.older.as_slice())?,
+            turn: self.turn,
             room: 0,
         })
     }
@@ -198,12 +203,9 @@ impl Table {
                 ensures { result ≡ not entry.now.1.stable }
             { !entry.1.stable },
         );
-        lead(
-            self.entries.as_slice(),
-            &mut self.dets,
-            self.heads.as_mut_slice(),
-            &mut self.older,
-        );
+        let entries = self.entries.as_slice();
+        let heads = self.heads.as_mut_slice();
+        lead(entries, &mut self.dets, heads, &mut self.older, self.turn);
         (before - self.entries.len()) as u32
     }
 
@@ -215,43 +217,45 @@ impl Table {
         ensures err { OnErr result (self.new.entries ≡ self.old.entries) }
     {
         sort(&mut self.entries)?;
-        lead(
-            self.entries.as_slice(),
-            &mut self.dets,
-            self.heads.as_mut_slice(),
-            &mut self.older,
-        );
+        let entries = self.entries.as_slice();
+        let heads = self.heads.as_mut_slice();
+        lead(entries, &mut self.dets, heads, &mut self.older, self.turn);
         Ok(())
     }
 }
 
-/// Makes so many heads at least, and a power of two, which lead to some entries as fewer did.
+/// Makes a power of two of heads, as many as there is room for determinants at least, which lead to some entries as fewer did.
 fn widen(
     entries: &[(Det, Known)],
     dets: &mut Vec<Det>,
     heads: &mut Vec<Option<u32>>,
     older: &mut Vec<Option<u32>>,
-    least: usize,
+    turn: &mut u8,
+    is_turned: bool,
 ) -> Result<(), NoMemory>
     requires dets { dets.old.items ≡ keys_of entries.now }
-    requires index { IsIndex dets.old.items heads.old.items older.old.items }
+    requires index { IsIndex turn.old dets.old.items heads.old.items older.old.items }
     requires few { length entries.now < 2 ^ 32 }
     requires dets_room { length entries.now ≤ vec_capacity dets.old }
     requires older_room { length entries.now ≤ vec_capacity older.old }
     ensures dets { dets.new.items ≡ keys_of entries.now }
-    ensures index { IsIndex dets.new.items heads.new.items older.new.items }
-    ensures ok { OnOk result (least ≤ vec_len heads.new) }
+    ensures index { IsIndex turn.new dets.new.items heads.new.items older.new.items }
+    ensures ok { OnOk result (vec_capacity dets.old ≤ vec_len heads.new) }
     ensures len { vec_len heads.old ≤ vec_len heads.new }
     ensures dets_capacity { vec_capacity dets.old ≤ vec_capacity dets.new }
     ensures capacity { vec_capacity older.old ≤ vec_capacity older.new }
 {
-    if least <= heads.len() {
+    let least = dets.capacity().max(heads.len());
+    if least == heads.len() && !is_turned {
         return Ok(());
     }
     let count = least.max(FEWEST_HEADS).checked_next_power_of_two();
     let count = count.ok_or(NoMemory)?;
     heads.resize(count, None)?;
-    lead(entries, dets, heads.as_mut_slice(), older);
+    if is_turned {
+        *turn = turn.wrapping_add(TURN);
+    }
+    lead(entries, dets, heads.as_mut_slice(), older, *turn);
     Ok(())
 }
 
@@ -261,13 +265,14 @@ fn lead(
     dets: &mut Vec<Det>,
     heads: &mut [Option<u32>],
     older: &mut Vec<Option<u32>>,
+    turn: u8,
 )
     requires some { 0 < length entries.now → 0 < length heads.old }
     requires few { length entries.now < 2 ^ 32 }
     requires dets_room { length entries.now ≤ vec_capacity dets.old }
     requires room { length entries.now ≤ vec_capacity older.old }
     ensures dets { dets.new.items ≡ keys_of entries.now }
-    ensures index { IsIndex dets.new.items heads.new older.new.items }
+    ensures index { IsIndex turn dets.new.items heads.new older.new.items }
     ensures len { length heads.new ≡ length heads.old }
     ensures dets_capacity { vec_capacity dets.old ≤ vec_capacity dets.new }
     ensures capacity { vec_capacity older.old ≤ vec_capacity older.new }
@@ -276,7 +281,7 @@ fn lead(
     older.clear();
     heads.fill(None);
     for (det, _) in entries {
-        link(heads, older, det.slot());
+        link(heads, older, turn, det.slot());
         dets.push_reserved(*det);
     }
 }

@@ -19,10 +19,10 @@ coded_table =
     (λ t. (t.entries, t.spare)) (λ p. record { entries = p.0; spare = p.1 }) (λ _. refl)
 
 -- how the entries are kept: one of each determinant, each of which its head leads to, with room for some more
-pub record IsTable (dets standing : List Det) (heads older : List (Option ℕ)) (room dets_room entries_room older_room : ℕ) : Type 0 where
+pub record IsTable (dets standing : List Det) (heads older : List (Option ℕ)) (turn room dets_room entries_room older_room : ℕ) : Type 0 where
   pub keys : dets ≡ standing
   pub distinct : IsDistinct same_det dets
-  pub index : IsIndex dets heads older
+  pub index : IsIndex turn dets heads older
   pub few : length dets + room < 2 ^ 32
   pub dets_fit : length dets + room ≤ dets_room
   pub entries_fit : length dets + room ≤ entries_room

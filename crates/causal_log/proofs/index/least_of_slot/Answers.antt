@@ -11,8 +11,8 @@ loop-place-init c =
     let heads = c.args.heads.now in
     let older = c.args.older.now in
     record {
-      inside = subst (λ o. IfSome o (λ k. k < length dets)) (sym c.newest-place.ensures) (newest_below dets heads older c.requires (head_of (length heads) c.args.slot));
-      passed = subst (λ o. HasPassed c.args.slot.dest c.args.slot.rsn dets older o None) (sym c.newest-place.ensures) (none_passed dets heads older c.args.slot c.requires);
+      inside = subst (λ o. IfSome o (λ k. k < length dets)) (sym c.newest-place.ensures) (newest_below c.args.turn dets heads older c.requires (head_of (length heads) c.args.turn c.args.slot));
+      passed = subst (λ o. HasPassed c.args.slot.dest c.args.slot.rsn dets older o None) (sym c.newest-place.ensures) (none_passed c.args.turn dets heads older c.args.slot c.requires);
     }
 
 pub loop-place-preserved : goal.loop-place-preserved
@@ -25,7 +25,7 @@ loop-place-preserved c =
     let low : k < length dets = below_one c.loop-place.place (length dets) k c.loop-place.invariant.inside c.in-Some.is in
     let has = subst (λ o. HasPassed dest rsn dets older o c.loop-place.least) c.in-Some.is c.loop-place.invariant.passed in
     record {
-      inside = older_below dets c.args.heads.now older c.requires k low;
+      inside = older_below c.args.turn dets c.args.heads.now older c.requires k low;
       passed =
           elim c.if-is_lesser.branch [
             | then-is_lesser w ↦

@@ -9,9 +9,9 @@ returns-clause-index c = λ det is dets index.
     let heads = c.args.heads.now in
     let older = c.args.older.now.items in
     let all = dets ++ det ∷ [] in
-    let head : head_of (length heads) (slot_of det) ≡ c.head_of-head.result = ap (head_of (length heads)) is ∙ sym c.head_of-head.ensures.head in
+    let head : head_of (length heads) c.args.turn (slot_of det) ≡ c.head_of-head.result = ap (head_of (length heads) c.args.turn) is ∙ sym c.head_of-head.ensures.head in
     let place : length dets ≡ c.len-place.result = omega (arith, index.count, c.len-place.ensures, c.args.older.now.ok.0) in
-    subst (λ o. IsIndex all (set heads c.head_of-head.result (Some c.len-place.result)) o) (sym c.push_reserved.ensures.items)
-    (subst (λ n. IsIndex all (set heads c.head_of-head.result (Some n)) (older ++ get_or heads c.head_of-head.result None ∷ [])) place
-    (subst (λ h. IsIndex all (set heads h (Some (length dets))) (older ++ get_or heads h None ∷ [])) head
-    (one_more dets heads older index det (subst (λ h. h < length heads) (sym head) c.head_of-head.ensures.within))))
+    subst (λ o. IsIndex c.args.turn all (set heads c.head_of-head.result (Some c.len-place.result)) o) (sym c.push_reserved.ensures.items)
+    (subst (λ n. IsIndex c.args.turn all (set heads c.head_of-head.result (Some n)) (older ++ get_or heads c.head_of-head.result None ∷ [])) place
+    (subst (λ h. IsIndex c.args.turn all (set heads h (Some (length dets))) (older ++ get_or heads h None ∷ [])) head
+    (one_more c.args.turn dets heads older index det (subst (λ h. h < length heads) (sym head) c.head_of-head.ensures.within))))

@@ -9,7 +9,7 @@ loop-place-preserved c =
     let k = c.in-Some.k in
     let low : k < length dets = below_one c.loop-place.place (length dets) k c.loop-place.invariant.inside c.in-Some.is in
     record {
-      inside = older_below dets c.args.heads.now older c.requires k low;
+      inside = older_below c.args.turn dets c.args.heads.now older c.requires k low;
       leads = next_leads dets older c.args.det k _ (subst (LeadsOn dets older c.args.det) c.in-Some.is c.loop-place.invariant.leads) (sym c.eq.ensures ∙ c.if-eq.false);
     }
 

@@ -9,7 +9,7 @@ invariant-loop-det l = record {
   keys : l.dets.items ≡ take l.det-index (keys_of l.entries);
   len : length l.dets.items ≡ l.det-index;
   older_len : vec_len l.older ≡ l.det-index;
-  index : IsIndex l.dets.items l.heads l.older.items;
+  index : IsIndex l.turn l.dets.items l.heads l.older.items;
   heads_len : length l.heads ≡ length l.fn.heads;
   room : length l.entries ≤ vec_capacity l.dets;
   older_room : length l.entries ≤ vec_capacity l.older;

@@ -20,7 +20,7 @@ invariant_of-self c =
     let len = ap length dets ∙ length_push before.dets.items c.args.det in
     let room = ap (λ t. t.spare) c.self.view_is in
     let none : lookup (same_det c.args.det) es ≡ None = sym (get_log es c.args.det) ∙ ap (λ t. fin.get (log_of t.entries) c.args.det) c.self.view_is ∙ c.requires.new in
-    let heads = ap length c.as_mut_slice.ensures.value in
+    let heads = ap length c.as_mut_slice-heads.ensures.value in
     let written = take_whole c.link.new.heads (drop (length c.link.new.heads) before.heads.items) before.heads.len (omega (arith, heads, c.link.ensures.len, before.heads.ok.0)) in
     record {
       keys = dets ∙ ap (λ ds. ds ++ c.args.det ∷ []) c.self.invariant.keys ∙ sym (ap keys_of c.push_reserved-2.ensures.items ∙ keys_push es c.args.det c.args.known);
@@ -29,9 +29,9 @@ invariant_of-self c =
           (IsDistinct-push det_equiv before.dets.items c.args.det c.self.invariant.distinct
           (ap (list_any (same_det c.args.det)) c.self.invariant.keys ∙ sym (is_some-lookup (same_det c.args.det) es) ∙ ap is_some none));
       index =
-          subst (λ hs. IsIndex c.push_reserved.new.self.items hs c.link.new.older.items) (sym written)
-          (subst (λ ds. IsIndex ds c.link.new.heads c.link.new.older.items) (sym dets)
-          (c.link.ensures.index c.args.det (sym c.slot.ensures) before.dets.items (subst (λ hs. IsIndex before.dets.items hs before.older.items) (sym c.as_mut_slice.ensures.value) c.self.invariant.index)));
+          subst (λ hs. IsIndex before.turn c.push_reserved.new.self.items hs c.link.new.older.items) (sym written)
+          (subst (λ ds. IsIndex before.turn ds c.link.new.heads c.link.new.older.items) (sym dets)
+          (c.link.ensures.index c.args.det (sym c.slot.ensures) before.dets.items (subst (λ hs. IsIndex before.turn before.dets.items hs before.older.items) (sym c.as_mut_slice-heads.ensures.value) c.self.invariant.index)));
       few = omega (arith, len, room, c.requires.room, c.self.invariant.few);
       dets_fit = omega (arith, len, room, c.requires.room, c.self.invariant.dets_fit, c.push_reserved.ensures.capacity);
       entries_fit = omega (arith, len, room, c.requires.room, c.self.invariant.entries_fit, c.push_reserved-2.ensures.capacity);

@@ -14,8 +14,8 @@ invariant_of-result c =
       keys = c.new-2.ensures.items ∙ sym (ap keys_of c.new.ensures.items);
       distinct = subst (IsDistinct same_det) (sym c.new-2.ensures.items) none_distinct;
       index =
-          subst (λ ds. IsIndex ds c.new-3.result.items c.new-4.result.items) (sym c.new-2.ensures.items)
-          (subst (IsIndex [] c.new-3.result.items) (sym c.new-4.ensures.items) (no_index c.new-3.result.items (λ h. ap (λ hs. get_or hs h None) c.new-3.ensures.items)));
+          subst (λ ds. IsIndex 0 ds c.new-3.result.items c.new-4.result.items) (sym c.new-2.ensures.items)
+          (subst (IsIndex 0 [] c.new-3.result.items) (sym c.new-4.ensures.items) (no_index 0 c.new-3.result.items (λ h. ap (λ hs. get_or hs h None) c.new-3.ensures.items)));
       few = omega (arith, none);
       dets_fit = omega (arith, none);
       entries_fit = omega (arith, none);
