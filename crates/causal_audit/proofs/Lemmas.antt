@@ -1,4 +1,5 @@
 -- What crates above may cite of this crate's proofs.
+pub mod Beginnings
 pub mod Judged
 pub mod NumberLemmas
 pub mod OneVerdict

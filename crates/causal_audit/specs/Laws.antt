@@ -1,5 +1,5 @@
 -- Laws over the judgement of recorded runs.
-use Rattle.std.specs.Prelude.{◌≡◌, ℕ, ◌<◌, ◌≤◌, Bool, true, false, List, Some, ◌⊎◌, ◌↔◌}
+use Rattle.std.specs.Prelude.{◌≡◌, ◌≢◌, ℕ, ◌<◌, ◌≤◌, ◌++◌, Bool, true, false, List, Some, ◌⊎◌, ◌↔◌}
 use Rattle.causal_name.specs.declared.Det.{Det}
 use Rattle.causal_name.specs.Sets.{count_below, either, IsWithin}
 use Rattle.causal_trace.specs.declared.entry.Entry.{Entry}
@@ -8,6 +8,7 @@ use Rattle.causal_trace.specs.Dependence.{Depends}
 use Rattle.causal_trace.specs.Rows.{Recording}
 use Rattle.causal_trace.specs.Judgement.{IsCrashSet, IsOrphan, HasOrphan, IsSafe}
 use Rattle.causal_audit.specs.declared.verdict.Verdict.{Verdict}
+use Rattle.causal_audit.specs.declared.verdict.Verdict.TheVariants.{Accept}
 use Rattle.causal_audit.specs.Verdicts.{IsVerdict}
 
 -- the processes that are down, and those whose volatile log has d
@@ -52,3 +53,9 @@ NoOrphansCondition =
 -- a recorded run has one verdict for f
 abbrev pub VerdictsAreOne : Type 0
 VerdictsAreOne = (r : Recording) (f : ℕ) (v w : Verdict) → IsVerdict r f v → IsVerdict r f w → v ≡ w
+
+-- a verdict that does not accept what a run begins with is the verdict of the run
+abbrev pub BeginningsDecide : Type 0
+BeginningsDecide =
+    (r whole : Recording) (later : List Entry) (f : ℕ) (v : Verdict) → whole.processes ≡ r.processes → whole.past ≡ later ++ r.past
+    → v ≢ Accept → IsVerdict r f v → IsVerdict whole f v

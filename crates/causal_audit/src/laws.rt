@@ -4,7 +4,7 @@ ghost use Rattle.causal_audit.specs.Lasting.{OrphansEnd};
 ghost use Rattle.causal_audit.specs.Quiet.{InstantsAgree, OrphansAgree};
 ghost use Rattle.causal_audit.specs.Spread.{StaysAlone, CoveredHasNone, CrashedHasNone};
 ghost use Rattle.causal_audit.specs.Sweep.{SweepLaw, OneNewOrphan};
-ghost use Rattle.causal_audit.specs.Laws.{OrphansAreCounted, CrashSetsContain, GoneIsCrashSet, NoOrphansCondition, VerdictsAreOne};
+ghost use Rattle.causal_audit.specs.Laws.{OrphansAreCounted, CrashSetsContain, GoneIsCrashSet, NoOrphansCondition, VerdictsAreOne, BeginningsDecide};
 
 /// What safety means for those who survive: an instant is safe exactly where at most f processes are down, and for each
 /// crash set and each delivery on which a process outside it depends, the determinant is in stable storage or in the log
@@ -34,6 +34,11 @@ pub fn no_orphans_condition()
 /// are determined.
 pub fn verdicts_are_one()
     ensures { VerdictsAreOne }
+{}
+
+/// A verdict that does not accept what a run begins with is the verdict of the run, however it goes on.
+pub fn beginnings_decide()
+    ensures { BeginningsDecide }
 {}
 
 /// A delivery has no orphan any more once its determinant is stable, nor once more than f processes are down or hold it,

@@ -42,7 +42,7 @@ split_complete most h b line more s complete =
     ∙ ap (λ xs. s.complete ++ lines xs) (sym (append_assoc h.rest line more))
     ∙ ap (λ ls. s.complete ++ ls) (lines_complete (h.rest ++ line) more (IsComplete-append h.rest line s.unfinished complete))
 
-kept_of : (most : ℕ) (h : Held) (b line : List ℕ) (number : ℕ) (kept : Option Before) → StandsFor most h b → IsComplete line → IsKeptAt h.place.stage (h.rest ++ line) kept → number ≡ h.place.count + 1
+pub kept_of : (most : ℕ) (h : Held) (b line : List ℕ) (number : ℕ) (kept : Option Before) → StandsFor most h b → IsComplete line → IsKeptAt h.place.stage (h.rest ++ line) kept → number ≡ h.place.count + 1
     → IfSome kept (λ at. (more : List ℕ) → StandsBeforeWithin most ((b ++ line) ++ more) number at.trace.recording at.says)
 kept_of most h b line number None s complete k is = tt
 kept_of most h b line number (Some at) s complete k is = λ more. stands most h b (h.rest ++ line) (lines more) ((b ++ line) ++ more) number at s (split_complete most h b line more s complete) k.0 k.1 is

@@ -143,13 +143,13 @@ Comes most h0 done h1 = (b : List ℕ) → StandsFor most h0 b → StandsFor mos
 regrouped : (most : ℕ) (h : Held) (b done more : List ℕ) → StandsFor most h ((b ++ done) ++ more) → StandsFor most h (b ++ (done ++ more))
 regrouped most h b done more s = subst (λ (xs : List ℕ). StandsFor most h xs) (append_assoc b done more) s
 
-with_line_ok : (most : ℕ) (h h1 : Held) (line : List ℕ) → with_line most h line ≡ Ok h1 → (p : Place) × (next most h.place (h.rest ++ line) ≡ Ok p) × (record { place = p; rest = [] } ≡ h1)
+pub with_line_ok : (most : ℕ) (h h1 : Held) (line : List ℕ) → with_line most h line ≡ Ok h1 → (p : Place) × (next most h.place (h.rest ++ line) ≡ Ok p) × (record { place = p; rest = [] } ≡ h1)
 with_line_ok most h h1 line e = parts (next most h.place (h.rest ++ line)) e where
   parts : (r : Result Place TextFault) → (r >>= λ p. Ok (record { place = p; rest = [] })) ≡ Ok h1 → (p : Place) × (r ≡ Ok p) × (record { place = p; rest = [] } ≡ h1)
   parts (Ok p) e = (p, refl, cc)
   parts (Err f) e = absurd (let no : Err f ≡ Ok h1 = e in cc)
 
-with_line_err : (most : ℕ) (h : Held) (line : List ℕ) (f : TextFault) → with_line most h line ≡ Err f → next most h.place (h.rest ++ line) ≡ Err f
+pub with_line_err : (most : ℕ) (h : Held) (line : List ℕ) (f : TextFault) → with_line most h line ≡ Err f → next most h.place (h.rest ++ line) ≡ Err f
 with_line_err most h line f e = parts (next most h.place (h.rest ++ line)) e where
   parts : (r : Result Place TextFault) → ◌>>=◌ {B = Held} r (λ p. Ok (record { place = p; rest = [] })) ≡ Err f → r ≡ Err f
   parts (Ok p) e = let k : Held = record { place = p; rest = [] } in absurd (let no : Ok k ≡ Err f = e in cc)

@@ -1,5 +1,6 @@
 pub mod Lemmas
 mod BeforeLemmas
+mod Begun
 mod Canonicals
 mod Complete
 mod FedLemmas
@@ -17,6 +18,7 @@ mod ShapeData
 mod Sizes
 mod Spellings
 mod Steps
+mod Stops
 mod StreamLemmas
 mod Texts
 mod Values

@@ -1,6 +1,8 @@
 -- What holds of every text and of every recording.
-use Rattle.std.specs.Prelude.{◌≡◌, ◌⊎◌, ◌≤◌, ℕ, List, length}
+use Rattle.std.specs.Prelude.{◌≡◌, ◌⊎◌, ◌≤◌, ◌++◌, ℕ, List, length}
+use Rattle.causal_trace.specs.declared.entry.Entry.{Entry}
 use Rattle.causal_trace.specs.Rows.{Recording, IsWellFormed, IsWithin}
+use Rattle.causal_text.specs.Begun.{BeginsWith}
 use Rattle.causal_text.specs.Canonical.{canonical}
 use Rattle.causal_text.specs.Stages.{text_within}
 use Rattle.causal_text.specs.Spelling.{SpellsWithin, IsFirstFaultWithin}
@@ -20,3 +22,9 @@ CanonicalSpells = (most : ℕ) (r : Recording) → 1 ≤ most → IsWellFormed r
 -- which is within the limit of a text
 abbrev pub CanonicalIsShort : Type 0
 CanonicalIsShort = (most : ℕ) (r : Recording) → 1 ≤ most → IsWellFormed r → IsWithin most r → length (canonical r) ≤ text_within most
+
+-- a run whose text begins with lines that say another begins with that one
+abbrev pub TextsGoOn : Type 0
+TextsGoOn =
+    (most : ℕ) (text : List ℕ) (whole r : Recording) → SpellsWithin most text whole → BeginsWith most text r
+    → (later : List Entry) × (whole.processes ≡ r.processes) × (whole.past ≡ later ++ r.past)

@@ -14,6 +14,7 @@ pub mod Sentences
 pub mod Canonical
 pub mod Pieces
 pub mod Before
+pub mod Begun
 pub mod Streams
 pub mod Fed
 pub mod Written

@@ -5,13 +5,15 @@
 //!
 //! Begin at [`read_trace`] for a text that is there as a whole, or [`read_from`] for one that a reader gives; [`TraceReader`]
 //! reads a piece at a time, and [`FedReader`] the pieces that it is handed. [`read_keeping`] gives with a fault what stands before
-//! its line, and [`read_within`] does so by limits that the caller sets, as [`FedReader::within`] does of pieces. [`wrong_with`]
+//! its line, and [`read_within`] does so by limits that the caller sets, as [`FedReader::within`] does of pieces. A [`Beginning`] lends the trace so far. [`wrong_with`]
 //! tells then what is wrong with the line, and [`sentence`] says so. [`text_of`] and [`write_trace`] give the canonical text,
 //! [`write_whole`] writes any bytes. [`laws`] says that a text has one reading.
 #![tactic(auto)]
 
 /// The first fault of a text, and what stands before its line.
 pub mod before;
+/// The beginning of a text, at which one can look.
+pub mod beginning;
 /// What a lane has sent and delivered.
 mod counts;
 /// Which determinants have been delivered.
@@ -58,6 +60,7 @@ pub mod written;
 pub mod wrong;
 
 pub use before::{Before, Rejected};
+pub use beginning::Beginning;
 pub use fed::FedReader;
 pub use kept::{Unread, read_keeping, read_within};
 pub use kind::{TextFault, TextKind};
@@ -65,6 +68,7 @@ pub use reader::read_trace;
 pub use report::fault_line;
 pub use sentences::sentence;
 pub use shape::Shape;
+pub use stage::text_within;
 pub use stream::{Progress, ReaderFault, TraceReader, read_from};
 pub use writer::{text_of, write_trace};
 pub use written::{WriteCause, WriteFault, write_whole};

@@ -1,13 +1,15 @@
 //! A text line by line.
 ghost use Rattle.std.specs.Prelude.{◌≡◌, ◌≢◌, ◌+◌, ◌<◌, ◌≤◌, length, None, IfSome, IfNone, IfErr};
+ghost use Rattle.causal_trace.specs.Rows.{Recording};
 ghost use Rattle.causal_text.specs.Inside.LineByLine.{start, next, ended, IsFaultFrom, HasRoomFor};
-ghost use Rattle.causal_text.specs.Inside.Kept.{GivesRejected, IsKeptAt};
+ghost use Rattle.causal_text.specs.Inside.Kept.{GivesRejected, IsGoingOn, IsKeptAt};
 
 use crate::before::Rejected;
 use crate::kind::{TextFault, TextKind};
 use crate::recorded::Recorded;
 use crate::stage::{Refused, Stage, after_line, text_within};
 use causal_trace::limits::Limits;
+use causal_trace::trace::Trace;
 use std::alloc::Global;
 use std::marker::Model;
 
@@ -108,6 +110,17 @@ impl LineReader {
             line: self.count + 1,
             kind,
         })
+    }
+
+    /// The trace so far, where its header has come and its end line has not.
+    pub(crate) fn trace(&self) -> Option<&Trace>
+        ensures some { IfSome result (λ trace. IsGoingOn self.now.stage trace.now.recording) }
+        ensures none { IfNone result ((r : Recording) → IsGoingOn self.now.stage r → ⊥) }
+    {
+        match &self.stage {
+            Stage::Within { trace, .. } => Some(trace.trace()),
+            _ => None,
+        }
     }
 
     /// The trace, where its end line has come.

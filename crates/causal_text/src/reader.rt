@@ -1,8 +1,9 @@
 //! From a text, whole or in pieces, to the trace that it spells, or to its first fault.
-ghost use Rattle.std.specs.Prelude.{◌≡◌, ◌≢◌, ◌++◌, ◌+◌, ◌<◌, ◌≤◌, List, [], ℕ, length, None, IfOk, IfErr};
+ghost use Rattle.std.specs.Prelude.{◌≡◌, ◌≢◌, ◌++◌, ◌+◌, ◌<◌, ◌≤◌, List, [], ℕ, length, None, IfOk, IfErr, IfSome, IfNone};
 ghost use Rattle.causal_trace.specs.Limits.{default_entries};
+ghost use Rattle.causal_trace.specs.Rows.{Recording};
 ghost use Rattle.causal_text.specs.Before.{IsKeptWithin};
-ghost use Rattle.causal_text.specs.Inside.Kept.{GivesRejected, IsKeptAt, IsKeptOfAll};
+ghost use Rattle.causal_text.specs.Inside.Kept.{GivesRejected, IsGoingOn, IsKeptAt, IsKeptOfAll};
 ghost use Rattle.causal_text.specs.Inside.LineByLine.{reading};
 ghost use Rattle.causal_text.specs.Pieces.{StandsFor};
 ghost use Rattle.causal_text.specs.Inside.Unfinished.{IsFaultOfAll, with_line, IsPast, ending, HasRoom};
@@ -52,8 +53,21 @@ impl PieceReader {
         self.lines.no_memory()
     }
 
+    /// The trace of the complete lines, where the header is among them and the end line is not.
+    pub(crate) fn trace(&self) -> Option<&Trace>
+        ensures some { IfSome result (λ trace. IsGoingOn self.now.place.stage trace.now.recording) }
+        ensures none { IfNone result ((r : Recording) → IsGoingOn self.now.place.stage r → ⊥) }
+    {
+        self.lines.trace()
+    }
+
     /// Takes the rest of a line, with its line feed.
-    fn complete(self, alloc: Global, limits: Limits, line: &[u8]) -> Result<PieceReader, Rejected>
+    pub(crate) fn complete(
+        self,
+        alloc: Global,
+        limits: Limits,
+        line: &[u8],
+    ) -> Result<PieceReader, Rejected>
         requires { 0 < length line.now }
         ensures value { GivesRejected result (with_line limits.entries self line.now) }
         ensures line { IfErr result (λ rejected. rejected.fault.line ≡ self.place.count + 1) }
@@ -72,7 +86,7 @@ impl PieceReader {
     }
 
     /// Holds more of a line, unless no line may stand there or the text is too long by it.
-    fn hold(self, limits: Limits, part: &[u8]) -> Result<PieceReader, Rejected>
+    pub(crate) fn hold(self, limits: Limits, part: &[u8]) -> Result<PieceReader, Rejected>
         ensures ok { IfOk result
             (λ r. r ≡ record { place = self.place; rest = self.rest ++ part.now }) }
         ensures room { IfOk result (HasRoom limits.entries) }

@@ -57,6 +57,13 @@ impl Recorded {
         self.trace.len()
     }
 
+    /// The trace so far.
+    pub(crate) fn trace(&self) -> &Trace
+        ensures { result.now.recording ≡ self.now }
+    {
+        &self.trace
+    }
+
     /// The trace that was read.
     pub(crate) fn into_trace(self) -> Trace
         ensures { result.recording ≡ self }

@@ -18,7 +18,7 @@ use causal_trace::limits::Limits;
 use std::alloc::Global;
 
 /// How many bytes a text has at most whose trace is to keep these limits: 512 for each entry.
-pub(crate) fn text_within(limits: Limits) -> usize
+pub fn text_within(limits: Limits) -> usize
     ensures value { result ≡ text_within limits.entries }
     ensures few { result ≤ longest_text }
 {
