@@ -11,7 +11,7 @@ use Rattle.causal_protocol.specs.declared.request.CoreFault.{CoreFault}
 use Rattle.causal_protocol.specs.declared.request.CoreFault.TheVariants as Why
 use Rattle.causal_protocol.specs.Run.{Run}
 use Rattle.causal_protocol.specs.Refusals.{first_fault}
-use Rattle.causal_protocol.specs.Steps.{LegalStep, reason_of, flush_reason_of}
+use Rattle.causal_protocol.specs.Steps.{LegalStep, flush_reason_of}
 use Rattle.causal_protocol.proofs.Lemmas.Reasons.{reason_known}
 use Rattle.causal_shared.specs.declared.item.Item.{Item}
 use Rattle.causal_shared.specs.History.{instant, since, IsStep}
