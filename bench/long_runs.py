@@ -81,8 +81,7 @@ class LongRun(generate.Run):
 
 
 def run_pairs(run):
-    """Partners send to and fro, and both hold each delivery: where both may crash it stays open to the end, and nobody else depends
-    on it. The last two messages are of the first pair, as `finish` has them."""
+    """Partners send to and fro, and both hold each delivery. For f = 2 both may crash, and nobody else ever depends on it."""
     half = run.n // 2
     turn = 0
     while run.room() > 4:

@@ -50,8 +50,7 @@ def ring(n, entries, lacking):
 
 
 def pairs(n, entries):
-    """Partners send to and fro, and each delivery is held by both: where both may crash it stays open to the end, and nobody else
-    depends on it."""
+    """Partners send to and fro, and each delivery is held by both. Both may crash, and nobody else ever depends on it."""
     half = n // 2
     turns = [(i % half, i // half) for i in range(entries // 2)]
     hops = [(2 * j + m % 2, 2 * j + 1 - m % 2, m // 2) for j, m in turns]
