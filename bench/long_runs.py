@@ -8,6 +8,7 @@ It prints a row for each run. It ends with status 1 where an answer is not the o
 import argparse
 import collections
 import io
+import json
 import os
 import random
 import sys
@@ -111,39 +112,48 @@ def simulate(shape, f, entries, file):
     return lines
 
 
-def answer_of(f, lines):
-    return f"accept f={f} entries={len(lines)} deliveries={lines.deliveries}"
+def answer_of(f, about):
+    return f"accept f={f} entries={about['entries']} deliveries={about['deliveries']}"
+
+
+def about(lines):
+    return {"entries": len(lines), "deliveries": lines.deliveries, "listed": lines.listed}
 
 
 def check(shape, f):
     """A short run of the same make is judged by the plain reader."""
     file = io.StringIO()
-    lines = simulate(shape, f, SHORT, file)
+    known = about(simulate(shape, f, SHORT, file))
     said = answered(file.getvalue(), f)[1]
-    if said != answer_of(f, lines):
+    if said != answer_of(f, known):
         sys.exit(f"{shape} f={f}: the plain reader says {said}")
 
 
-def measured(program, workers, shape, f, entries):
-    path = os.path.join(INPUTS, "long.jsonl")
-    with open(path, "w", buffering=1 << 20) as file:
-        lines = simulate(shape, f, entries, file)
-    command = [program, "audit", "--faults", str(f), "--workers", str(workers), "--entries", str(entries)]
-    found = timed.measure(command, path)
-    if found.line != answer_of(f, lines):
-        sys.exit(f"{shape} f={f} entries={entries}: the program says {found.line}")
-    return found, lines
+def made(shape, f, entries):
+    """The file of a run, and what is known of it. What an earlier call has made is taken as it is."""
+    path = os.path.join(INPUTS, f"long-{shape}-{f}-{entries}.jsonl")
+    if not os.path.exists(path + ".about"):
+        with open(path, "w", buffering=1 << 20) as file:
+            known = about(simulate(shape, f, entries, file))
+        with open(path + ".about", "w") as file:
+            json.dump(known, file)
+    with open(path + ".about") as file:
+        return path, json.load(file)
 
 
 def rows(program, workers, shape, f, sizes):
     """Beside the time for each entry stands how many times it is that of the first size; of the memory, what each entry takes."""
     first = None
     for entries in sizes:
-        found, lines = measured(program, workers, shape, f, entries)
+        path, known = made(shape, f, entries)
+        command = [program, "audit", "--faults", str(f), "--workers", str(workers), "--entries", str(entries)]
+        found = timed.measure(command, path)
+        if found.line != answer_of(f, known):
+            sys.exit(f"{shape} f={f} entries={entries}: the program says {found.line}")
         each = found.least_processor() / entries * 1e6
         first = first or each
         print(
-            f"| {shape} | {f} | {entries:,} | {lines.listed / entries:.2f} | {min(found.walls):.2f} | {each:.2f} | {each / first:.2f} "
+            f"| {shape} | {f} | {entries:,} | {known['listed'] / entries:.2f} | {min(found.walls):.2f} | {each:.2f} | {each / first:.2f} "
             f"| {found.peak * 1024 / entries:.0f} |",
             flush=True,
         )
@@ -156,14 +166,21 @@ def main():
     words.add_argument("--faults", default="1,2")
     words.add_argument("--shapes", default=",".join(SHAPES))
     words.add_argument("--workers", type=int, default=1)
+    words.add_argument("--only-make", action="store_true", help="make the files, and measure nothing")
     given = words.parse_args()
     timed.LIMIT = 3600.0
     os.makedirs(INPUTS, exist_ok=True)
+    sizes = list(map(int, given.entries.split(",")))
+    asked = [(shape, f) for shape in given.shapes.split(",") for f in map(int, given.faults.split(","))]
+    if given.only_make:
+        for shape, f in asked:
+            for entries in sizes:
+                made(shape, f, entries)
+        return
     print("| run | f | entries | listed | s | us an entry | times | bytes an entry |\n|---|---|---|---|---|---|---|---|")
-    for shape in given.shapes.split(","):
-        for f in map(int, given.faults.split(",")):
-            check(shape, f)
-            rows(given.program, given.workers, shape, f, list(map(int, given.entries.split(","))))
+    for shape, f in asked:
+        check(shape, f)
+        rows(given.program, given.workers, shape, f, sizes)
 
 
 if __name__ == "__main__":
