@@ -13,7 +13,7 @@ use std::marker::Model;
 #[derive(Clone, Copy, Debug)]
 pub struct Node {
     pub det: Det,
-    pub next: Option<usize>,
+    pub next: Option<u32>,
 }
 
 /// Determinants by their numbers. Each sender has a list of heads by the numbers of its messages; a head leads to the
@@ -23,7 +23,7 @@ pub struct Node {
 /// A sender that came up again may send the same name to another receiver.
 #[derive(Drop)]
 pub struct Numbering {
-    heads: Vec<Vec<Option<usize>>>,
+    heads: Vec<Vec<Option<u32>>>,
     nodes: Vec<Node>,
 }
 
@@ -72,17 +72,21 @@ impl Numbering {
         ensures ok { OnOk result (self.new ≡ det ∷ self.old) }
         ensures err { OnErr result (self.new ≡ self.old) }
     {
-        open(&mut self.heads, det)?;
         let number = self.nodes.len();
+        // a number of 32 bits counts them
+        if number > u32::MAX as usize {
+            return Err(NoMemory);
+        }
+        open(&mut self.heads, det)?;
         let next = head(self.heads.as_slice(), det);
         self.nodes.push(Node { det, next })?;
-        lead(&mut self.heads, det, number);
+        lead(&mut self.heads, det, number as u32);
         Ok(())
     }
 }
 
 /// No heads of each sender.
-fn empty_heads(alloc: Global) -> Result<Vec<Vec<Option<usize>>>, NoMemory>
+fn empty_heads(alloc: Global) -> Result<Vec<Vec<Option<u32>>>, NoMemory>
     ensures { IfOk result (λ heads. lists_in heads.items ≡ replicate 256 []) }
 {
     let mut heads = Vec::new(alloc);
@@ -93,7 +97,7 @@ fn empty_heads(alloc: Global) -> Result<Vec<Vec<Option<usize>>>, NoMemory>
 }
 
 /// The head of a determinant's message.
-fn head(heads: &[Vec<Option<usize>>], det: Det) -> Option<usize>
+fn head(heads: &[Vec<Option<u32>>], det: Det) -> Option<u32>
     ensures { result ≡ head_of (lists_in heads.now) det }
 {
     let list = heads.get(det.source.0 as usize)?;
@@ -101,7 +105,7 @@ fn head(heads: &[Vec<Option<usize>>], det: Det) -> Option<usize>
 }
 
 /// Makes a list long enough for the head of a message of this number; a new head leads nowhere.
-fn lengthen(list: &mut Vec<Option<usize>>, ssn: u32) -> Result<(), NoMemory>
+fn lengthen(list: &mut Vec<Option<u32>>, ssn: u32) -> Result<(), NoMemory>
     ensures same { (i : ℕ) → slice_index_or list.new.items i None ≡ slice_index_or list.old.items i None }
     ensures there { OnOk result (ssn < length list.new.items) }
 {
@@ -112,7 +116,7 @@ fn lengthen(list: &mut Vec<Option<usize>>, ssn: u32) -> Result<(), NoMemory>
 }
 
 /// Makes a head for a determinant's message, where it has none; no head leads elsewhere.
-fn open(heads: &mut Vec<Vec<Option<usize>>>, det: Det) -> Result<(), NoMemory>
+fn open(heads: &mut Vec<Vec<Option<u32>>>, det: Det) -> Result<(), NoMemory>
     requires { det.source.0 < length heads.old.items }
     ensures count { length heads.new.items ≡ length heads.old.items }
     ensures same { (d : Det) → head_of (lists_in heads.new.items) d ≡ head_of (lists_in heads.old.items) d }
@@ -122,7 +126,7 @@ fn open(heads: &mut Vec<Vec<Option<usize>>>, det: Det) -> Result<(), NoMemory>
 }
 
 /// Lets the head of a determinant's message lead to a place.
-fn lead(heads: &mut Vec<Vec<Option<usize>>>, det: Det, place: usize)
+fn lead(heads: &mut Vec<Vec<Option<u32>>>, det: Det, place: u32)
     requires { HasHead (lists_in heads.old.items) det }
     ensures count { length heads.new.items ≡ length heads.old.items }
     ensures heads { LeadsTo det place (lists_in heads.old.items) (lists_in heads.new.items) }
@@ -131,16 +135,16 @@ fn lead(heads: &mut Vec<Vec<Option<usize>>>, det: Det, place: usize)
 }
 
 /// The place of a determinant's node in the chain from a place on.
-fn search(nodes: &[Node], from: Option<usize>, det: Det) -> Option<usize>
+fn search(nodes: &[Node], from: Option<u32>, det: Det) -> Option<usize>
     requires inside { IsBelow from (length nodes.now) }
     requires down { LeadDown (reverse nodes.now) }
     ensures { result ≡ sought (reverse nodes.now) from det }
 {
     let mut place = from;
     while let Some(k) = place {
-        let node = nodes[k];
+        let node = nodes[k as usize];
         if node.det == det {
-            return Some(k);
+            return Some(k as usize);
         }
         place = node.next;
     }
