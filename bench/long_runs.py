@@ -25,12 +25,11 @@ SHORT = 512  # entries of a run that the plain reader judges
 
 
 class Lines:
-    """The entries of a run, of which only the last is kept: each is written at once."""
+    """The entries of a run, each of which is written at once and not kept."""
 
     def __init__(self, file):
         self.file = file
         self.count = self.listed = self.deliveries = 0
-        self.last = None
 
     def __len__(self):
         return self.count
@@ -38,9 +37,11 @@ class Lines:
     def append(self, entry):
         self.file.write(generate.line_of(entry) + "\n")
         self.count += 1
-        self.deliveries += entry[0] == "deliver"
-        self.listed += {"deliver": lambda: len(entry[4]), "restart": lambda: len(entry[2])}.get(entry[0], lambda: 0)()
-        self.last = entry
+        if entry[0] == "deliver":
+            self.deliveries += 1
+            self.listed += len(entry[4])
+        elif entry[0] == "restart":
+            self.listed += len(entry[2])
 
 
 class LongRun(generate.Run):
