@@ -8,6 +8,9 @@ use causal_name::{MsgName, NoMemory, Pid};
 use std::alloc::Global;
 use std::marker::Model;
 
+/// For how many messages and receipts room is made at once, since each list of heads is asked for it.
+const AT_ONCE: usize = 64;
+
 /// A delivery of a message: by whom, in which of its lanes, and as which of the lane's deliveries.
 #[derive(Clone, Copy, Debug)]
 pub(crate) struct Receipt {
@@ -39,15 +42,19 @@ pub(crate) enum Sought {
 pub(crate) struct Chains {
     heads: Vec<Vec<Option<u32>>>,
     nodes: Vec<Node>,
+    /// For how many more messages and receipts there is room at least.
+    room: usize,
 }
 
 impl Model for Chains {
-    ghost use Rattle.std.specs.Prelude.{◌-◌, map, reverse, vec_len, vec_capacity};
+    ghost use Rattle.std.specs.Prelude.{◌-◌, ◌≤◌, map, reverse, vec_len, vec_capacity};
     ghost use Rattle.causal_trace.specs.Inside.Chains.{least_room, ChainsState};
 
     ghost Value = { ChainsState };
 
     ghost view = { λ a. record { heads = map (λ list. list.items) a.heads.items; nodes = reverse a.nodes.items; spare = least_room a.heads.items (vec_capacity a.nodes - vec_len a.nodes) } };
+
+    ghost invariant = { λ a. a.room ≤ least_room a.heads.items (vec_capacity a.nodes - vec_len a.nodes) };
 }
 
 impl Chains {
@@ -59,6 +66,7 @@ impl Chains {
         Ok(Chains {
             heads: empty_lists(alloc, processes)?,
             nodes: Vec::new(alloc),
+            room: 0,
         })
     }
 
@@ -78,6 +86,7 @@ impl Chains {
         ensures spare { self.old.spare ≤ self.new.spare + 1 }
         ensures full { OnErr result (self.old.spare ≡ 0) }
     {
+        self.room = self.room.saturating_sub(1);
         let heads = &mut self.heads[message.source.0 as usize];
         if heads.len() != message.ssn as usize {
             return Ok(());
@@ -96,6 +105,7 @@ impl Chains {
         ensures spare { self.old.spare ≤ self.new.spare + 1 }
         ensures full { OnErr result (self.old.spare ≡ 0) }
     {
+        self.room = self.room.saturating_sub(1);
         let place = self.nodes.len() as u32;
         let next = self.head(message);
         self.nodes.push(Node { receipt, next })?;
@@ -135,8 +145,26 @@ impl Chains {
         ensures spare { self.old.spare ≤ self.new.spare }
         ensures full { OnErr result (self.old.spare < entries) }
     {
+        if entries <= self.room {
+            return Ok(());
+        }
+        if self.reserve_now(entries.max(AT_ONCE)).is_err() {
+            self.reserve_now(entries)?;
+        }
+        Ok(())
+    }
+
+    /// The same, in each list of heads.
+    fn reserve_now(&mut self, entries: usize) -> Result<(), NoMemory>
+        ensures heads { self.new.heads ≡ self.old.heads }
+        ensures nodes { self.new.nodes ≡ self.old.nodes }
+        ensures ok { OnOk result (entries ≤ self.new.spare) }
+        ensures spare { self.old.spare ≤ self.new.spare }
+        ensures full { OnErr result (self.old.spare < entries) }
+    {
         reserve_each(self.heads.as_mut_slice(), entries)?;
         self.nodes.reserve(entries)?;
+        self.room = entries;
         Ok(())
     }
 
@@ -147,7 +175,11 @@ impl Chains {
     {
         let heads = copied_lists(self.heads.as_slice(), *self.heads.allocator())?;
         let nodes = self.nodes.clone()?;
-        Ok(Chains { heads, nodes })
+        Ok(Chains {
+            heads,
+            nodes,
+            room: 0,
+        })
     }
 }
 

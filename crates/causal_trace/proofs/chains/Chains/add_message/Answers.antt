@@ -55,3 +55,17 @@ returns-clause-spare c =
     let other = vec_capacity c.self.inside.nodes - vec_len c.self.inside.nodes in
     let less : room (get_or c.self.inside.heads.items c.args.message.source.0 c.index_mut-heads.result.now) ≤ room c.push.new.self + 1 = omega (arith, here d, c.in_ok-push.ensures.len, c.in_ok-push.ensures.capacity) in
     omega (arith, ap (λ s. s.spare) c.self.view_is, least_set c.self.inside.heads.items c.args.message.source.0 other other c.push.new.self c.index_mut-heads.result.now (inside d) less (omega arith))
+
+pub invariant_of-self-in_err-push : goal.invariant_of-self-in_err-push
+invariant_of-self-in_err-push c =
+    let d : After-index_mut-heads = (goal.at.invariant_of-self-in_err-push c).After-index_mut-heads in
+    let other = vec_capacity c.self.inside.nodes - vec_len c.self.inside.nodes in
+    let less : room (get_or c.self.inside.heads.items c.args.message.source.0 c.index_mut-heads.result.now) ≤ room c.push.new.self + 1 = omega (arith, here d, c.in_err-push.ensures.len, c.in_err-push.ensures.capacity) in
+    omega (arith, c.self.invariant, c.saturating_sub-self-inside.ensures, least_set c.self.inside.heads.items c.args.message.source.0 other other c.push.new.self c.index_mut-heads.result.now (inside d) less (omega arith))
+
+pub invariant_of-self-2 : goal.invariant_of-self-2
+invariant_of-self-2 c =
+    let d : After-index_mut-heads = (goal.at.invariant_of-self-2 c).After-index_mut-heads in
+    let other = vec_capacity c.self.inside.nodes - vec_len c.self.inside.nodes in
+    let less : room (get_or c.self.inside.heads.items c.args.message.source.0 c.index_mut-heads.result.now) ≤ room c.push.new.self + 1 = omega (arith, here d, c.in_ok-push.ensures.len, c.in_ok-push.ensures.capacity) in
+    omega (arith, c.self.invariant, c.saturating_sub-self-inside.ensures, least_set c.self.inside.heads.items c.args.message.source.0 other other c.push.new.self c.index_mut-heads.result.now (inside d) less (omega arith))

@@ -41,3 +41,19 @@ returns-clause-spare c =
     let new = vec_capacity c.push.new.self - vec_len c.push.new.self in
     let less : room (get_or lists p c.index_mut.result.now) ≤ room c.index_mut.result.now + 1 = omega (arith, ap room c.index_mut.ensures.value) in
     omega (arith, ap (λ s. s.spare) c.self.view_is, least_set lists p old new (with_item c.index_mut.result.now c.args.message.ssn (Some c.len-place.result)) c.index_mut.result.now inside less (omega (arith, c.in_ok-push.ensures.len, c.in_ok-push.ensures.capacity)))
+
+pub invariant_of-self-in_err-push : goal.invariant_of-self-in_err-push
+invariant_of-self-in_err-push c =
+    let old = vec_capacity c.self.inside.nodes - vec_len c.self.inside.nodes in
+    let new = vec_capacity c.push.new.self - vec_len c.push.new.self in
+    omega (arith, c.self.invariant, c.saturating_sub-self-inside.ensures, least_falls c.self.inside.heads.items old new (omega (arith, c.in_err-push.ensures.len, c.in_err-push.ensures.capacity)))
+
+pub invariant_of-self-2 : goal.invariant_of-self-2
+invariant_of-self-2 c =
+    let lists = c.self.inside.heads.items in
+    let p = c.args.message.source.0 in
+    let inside : p < length lists = omega (arith, c.requires.head.source, ap (λ s. length s.heads) c.self.view_is, length-map lists (λ list. list.items)) in
+    let old = vec_capacity c.self.inside.nodes - vec_len c.self.inside.nodes in
+    let new = vec_capacity c.push.new.self - vec_len c.push.new.self in
+    let less : room (get_or lists p c.index_mut.result.now) ≤ room c.index_mut.result.now + 1 = omega (arith, ap room c.index_mut.ensures.value) in
+    omega (arith, c.self.invariant, c.saturating_sub-self-inside.ensures, least_set lists p old new (with_item c.index_mut.result.now c.args.message.ssn (Some c.len-place.result)) c.index_mut.result.now inside less (omega (arith, c.in_ok-push.ensures.len, c.in_ok-push.ensures.capacity)))

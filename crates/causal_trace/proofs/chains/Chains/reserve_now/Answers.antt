@@ -3,7 +3,7 @@ use Rattle.std.proofs.lemmas.List.{length-map, take_at}
 use Rattle.causal_trace.specs.Inside.Chains.{least_room}
 use Rattle.std.specs.Prelude.{◌-◌, vec_capacity, vec_len}
 use Rattle.causal_trace.proofs.Rooms.{least_more, least_other, on_err}
-use Rattle.causal_trace.proofs.chains.Chains.reserve.Goals as goal
+use Rattle.causal_trace.proofs.chains.Chains.reserve_now.Goals as goal
 
 pub returns-in_err-reserve-clause-full : goal.returns-in_err-reserve-clause-full
 returns-in_err-reserve-clause-full c =
