@@ -132,6 +132,14 @@ impl Data {
         &self.trace
     }
 
+    /// The trace alone.
+    pub(crate) fn into_trace(self) -> Trace
+        ensures { result.recording ≡ self.run.recording }
+    {
+        let Data { trace, .. } = self;
+        trace
+    }
+
     /// For how many failures it runs.
     pub fn faults(&self) -> u16
         ensures { result ≡ self.now.run.faults }

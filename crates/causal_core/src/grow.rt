@@ -16,7 +16,7 @@ use std::sync::Arc;
 pub(crate) fn shares(alloc: Global, batch: &Arc<Batch>) -> Result<Vec<Arc<Batch>>, NoMemory>
     ensures { IfOk result (λ shares. batches_of shares.items ≡ replicate 8 (arc_value batch.now)) }
 {
-    let mut shares = Vec::new(alloc);
+    let mut shares = Vec::with_capacity(alloc, 8)?;
     while shares.len() < 8 {
         shares.push(Arc::try_clone(batch)?)?;
     }

@@ -49,6 +49,14 @@ impl<S: Stable> Core<S> {
         self.held.trace()
     }
 
+    /// What is recorded, without a copy. The processes and the store are dropped.
+    pub fn into_trace(self) -> Trace
+        ensures { result.recording ≡ (run_of self).recording }
+    {
+        let Core { held, .. } = self;
+        held.into_trace()
+    }
+
     /// For how many failures it runs.
     pub fn faults(&self) -> u16
         ensures { result ≡ (run_of self.now).faults }

@@ -117,5 +117,5 @@ pub fn perform<R: Wait>(
     );
     let finished = finish(shared, seats)?;
     outcome?;
-    Ok(finished.core.trace().try_clone()?)
+    Ok(finished.core.into_trace())
 }

@@ -1,4 +1,4 @@
-use Rattle.std.proofs.Common.{◌≡◌, ◌∙◌, subst, List, length, rules}
+use Rattle.std.proofs.Common.{◌≡◌, subst, List, length, rules}
 use Rattle.std.proofs.lemmas.Result.{err_from_is_err_and}
 use Rattle.causal_core.specs.CoreView.{run_of, state_of}
 use Rattle.causal_shared.specs.declared.item.Item.{Item}
@@ -32,11 +32,11 @@ returns-clause-run g c =
     let told = subst (λ (cs : List Command). AreDone cs seat.sitting.items) c.as_slice.ensures c.in_ok-outcome.ensures.ok in
     let done = subst (λ (is : List Item). AreDone c.args.script.now.commands is) whole told in
     let opens = opened-as r history (opening_of c.in_ok-shared.shared) (run_of c.in_ok-core.core) c.in_ok-finished.ensures.opening c.in_ok-shared.ensures.recording c.in_ok-shared.ensures.faults in
-    run-of _ c.args.script.now.f c.args.boxes.items c.args.script.now.commands (state_of c.in_ok-core.core) r history c.in_ok-try_clone.field-0.recording c.in_ok-core.ensures.ok opens c.in_ok-finished.ensures.legal.legal done (c.in_ok-try_clone.ensures ∙ c.trace.ensures.recording)
+    run-of _ c.args.script.now.f c.args.boxes.items c.args.script.now.commands (state_of c.in_ok-core.core) r history c.into_trace.result.recording c.in_ok-core.ensures.ok opens c.in_ok-finished.ensures.legal.legal done c.into_trace.ensures
 
 pub returns-clause-safe : goal.returns-clause-safe
 returns-clause-safe g c =
     let history = c.in_ok-finished.finished.history in
     let r = run_of c.in_ok-finished.finished.core in
     let opens = opened-as r history (opening_of c.in_ok-shared.shared) (run_of c.in_ok-core.core) c.in_ok-finished.ensures.opening c.in_ok-shared.ensures.recording c.in_ok-shared.ensures.faults in
-    safe-as _ c.args.script.now.f c.args.boxes.items (state_of c.in_ok-core.core) r history c.in_ok-try_clone.field-0.recording c.in_ok-core.ensures.ok opens c.in_ok-finished.ensures.safe (c.in_ok-try_clone.ensures ∙ c.trace.ensures.recording)
+    safe-as _ c.args.script.now.f c.args.boxes.items (state_of c.in_ok-core.core) r history c.into_trace.result.recording c.in_ok-core.ensures.ok opens c.in_ok-finished.ensures.safe c.into_trace.ensures
