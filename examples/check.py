@@ -328,6 +328,10 @@ WORDS = [
     (["merge", "--entries", "one"], b"", USAGE + "invalid value 'one' for '--entries <N>': invalid digit found in string\n", 3),
     (["merge", "--entries"], b"", USAGE + "a value is required for '--entries <N>' but none was supplied\n", 3),
     (["run", "--entries", "1"], b"", USAGE + "unexpected argument '--entries' found\n", 3),
+    (["audit", "--faults", "1", "--until-breach"], b"orphan f=1 instant=4 delivery=1 crash=1 orphan=2 read=4\n", "", 1),
+    (["audit", "--until-breach"], b"", USAGE + "the following required arguments were not provided:\n  --faults <F>\n", 3),
+    (["audit", "--until-breach", "--faults", "1", "--entries", "0"], b"", USAGE + "invalid value '0' for '--entries <N>': 0 is not in 1..=16777216\n", 3),
+    (["explain", "--until-breach"], b"", USAGE + "unexpected argument '--until-breach' found\n", 3),
     (["audit", "--faults", "0", "--entries", "4"], SAFE, "", 0),
     (["audit", "--faults", "0", "--entries", "16777216"], SAFE, "", 0),
     (["audit", "--faults", "0", "--entries", "3"], b"fault line=5 TooLong\n", "causal_tool audit: line 5: the trace would be too long\n", 2),
@@ -518,7 +522,7 @@ def helped(program, *words):
     """The options that a command's help names, and the commands."""
     text = subprocess.run([program, *words, "--help"], capture_output=True).stdout.decode()
     commands = re.search(r"Commands:\n((?:  .*\n)+)", text)
-    return set(re.findall(r"--[a-z]+", text.split("Options:\n")[1].split("\n\n")[0])), re.findall(r"^  (\w+)", commands[1], re.M) if commands else []
+    return set(re.findall(r"--[a-z-]+", text.split("Options:\n")[1].split("\n\n")[0])), re.findall(r"^  (\w+)", commands[1], re.M) if commands else []
 
 
 def completed(*words):
@@ -543,7 +547,7 @@ def wrong_pages(program):
         if completed(*words) != wanted:
             wrong += 1
             print(f"causal_tool.bash offers {sorted(completed(*words))} after {words}, the help has {sorted(wanted)}")
-    named = set(re.findall(r"--[a-z]+", page))
+    named = set(re.findall(r"--[a-z-]+", page))
     for word in sorted((named ^ known) | {command for command in set(commands) - {"help"} if f"\n.B {command}\n" not in page}):
         wrong += 1
         print(f"causal_tool.1 and the help differ in {word}")

@@ -240,6 +240,8 @@ def audit_case(rng):
     f = rng.choice((0, 1, 1, 1, 2, 2, 3, 5, 65535))
     words = ["audit", "--faults", str(f), "--workers", str(rng.choice((1, 1, 2, 3, 5)))]
     text = damaged(rng, lines)
+    if rng.random() < 0.2:
+        return [*words, "--until-breach"], text, lambda _: traces.audited_until_breach(text, f)
     return words, text, lambda _: traces.audited(text, f)
 
 

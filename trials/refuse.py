@@ -43,6 +43,7 @@ RUNS = [
     ("audit, two workers", ["audit", "--faults", "1", "--workers", "2"], RING, 0),
     ("audit of a text with a fault", ["audit", "--faults", "1"], RING.replace('"end",6', '"end",7'), 2),
     *((f"explain, {name}", ["explain", "--faults", "1"], text, status) for name, text, status in TEXTS),
+    ("audit until a breach", ["audit", "--faults", "1", "--until-breach"], CRASHED, 1),
     ("audit, as JSON", ["audit", "--faults", "1", "--json"], CRASHED, 1),
     *((f"explain as JSON, {name}", ["explain", "--faults", "1", "--json"], text, status) for name, text, status in TEXTS),
     ("explain for all numbers of faults", ["explain"], CRASHED, 0),

@@ -323,3 +323,15 @@ def audited(text, f):
         if failure:
             return failure, 1
     return f"accept f={f} entries={len(trace.entries)} deliveries={len(trace.dets)}", 0
+
+
+def audited_until_breach(text, f):
+    """The same with --until-breach: the answer to the first 1, 2, 4 entries and so on, as if the trace ended there, where that is a
+    breach."""
+    lines = lines_of(text)
+    for look in itertools.takewhile(lambda look: look < len(lines), (1 << k for k in itertools.count())):
+        begun = b"".join(lines[: look + 1])
+        line, status = audited(begun + b'["end",%d]' % look, f)
+        if status == 1 and begun.endswith(b"\n"):
+            return f"{line} read={look}", 1
+    return audited(text, f)

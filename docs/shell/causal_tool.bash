@@ -8,7 +8,7 @@ _causal_tool() {
         offered="audit explain draw merge run help --help --version"
     else
         case ${COMP_WORDS[1]} in
-        audit) offered="--faults --workers --entries --json --help" ;;
+        audit) offered="--faults --workers --entries --until-breach --json --help" ;;
         explain) offered="--faults --entries --json --help" ;;
         draw) offered="--faults --entries --help" ;;
         merge) offered="--entries --help" ;;

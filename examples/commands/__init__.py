@@ -6,10 +6,10 @@ import merge_model
 import scripts as runtime
 import traces as auditor
 
-from . import faults, merges, pictures, reasons, scripts, verdicts
+from . import breaches, faults, merges, pictures, reasons, scripts, verdicts
 from .row import difference
 
-MODULES = (verdicts, faults, reasons, pictures, scripts, merges)
+MODULES = (verdicts, breaches, faults, reasons, pictures, scripts, merges)
 SHORT = 300_000  # bytes of a text that a plain model reads in no time
 
 
@@ -44,10 +44,11 @@ def merged(text):
 
 def modelled(row):
     """What a plain model answers to a row, where there is one."""
-    if len(row.text) > SHORT or row.seen is not bytes.decode:
+    if len(row.text) > SHORT or row.seen is not bytes.decode or {"--entries", "--json"} & set(row.words):
         return None
     if row.words[0] == "audit":
-        line, status = auditor.audited(row.text, int(row.words[2]))
+        answered = auditor.audited_until_breach if "--until-breach" in row.words else auditor.audited
+        line, status = answered(row.text, int(row.words[2]))
         return status, line + "\n"
     if row.words[0] == "run":
         return runtime.ran(row.text)[::-1]

@@ -1,10 +1,10 @@
 -- What is written as JSON, where what was read and written is known.
-use Rattle.std.proofs.Common.{◌≡◌, ◌<◌, List, ℕ, Option, None, Some, length, take, subst}
+use Rattle.std.proofs.Common.{◌≡◌, ◌<◌, List, ℕ, Option, length, take, subst}
 use Rattle.std.specs.Io.KnownBytes.{Appends}
 use Rattle.causal_commands.specs.declared.ended.Ended.{Ended}
 use Rattle.causal_commands.specs.declared.ended.Ended.TheVariants.{Accepted, Breached, Ranged, Merged, Faulted, Ran, Refused, ReadFault, WriteFault, NoMemory, NoWorker, FinishFault}
 use Rattle.causal_commands.specs.declared.json.Question.{Question}
-use Rattle.causal_commands.specs.declared.json.Question.TheVariants.{Verdict, Reason, Range}
+use Rattle.causal_commands.specs.declared.json.Question.TheVariants.{Verdict, Breach, Reason, Range}
 use Rattle.causal_commands.specs.Json.{AreLines, IsObject, WritesObject, WritesObjectFor}
 use Rattle.causal_commands.specs.Inside.Answers.{IsObjectFor}
 use Rattle.causal_commands.proofs.Known.{IfSome-weaker}
@@ -12,21 +12,25 @@ use Rattle.causal_commands.proofs.Known.{IfSome-weaker}
 -- no lines answer where the program ends without an answer
 no_read : (most : ℕ) (q : Question) (text lines : List ℕ) → AreLines most q text ReadFault lines → ⊥
 no_read most (Verdict faults workers) text lines p = p
+no_read most (Breach faults workers) text lines p = p.1
 no_read most (Reason faults) text lines p = p
 no_read most Range text lines p = p
 
 no_write : (most : ℕ) (q : Question) (text lines : List ℕ) → AreLines most q text WriteFault lines → ⊥
 no_write most (Verdict faults workers) text lines p = p
+no_write most (Breach faults workers) text lines p = p.1
 no_write most (Reason faults) text lines p = p
 no_write most Range text lines p = p
 
 no_memory : (most : ℕ) (q : Question) (text lines : List ℕ) → AreLines most q text NoMemory lines → ⊥
 no_memory most (Verdict faults workers) text lines p = p
+no_memory most (Breach faults workers) text lines p = p.1
 no_memory most (Reason faults) text lines p = p
 no_memory most Range text lines p = p
 
 no_worker : (most : ℕ) (q : Question) (text lines : List ℕ) → AreLines most q text NoWorker lines → ⊥
 no_worker most (Verdict faults workers) text lines p = p
+no_worker most (Breach faults workers) text lines p = p.1
 no_worker most (Reason faults) text lines p = p
 no_worker most Range text lines p = p
 

@@ -1,8 +1,14 @@
 -- Facts of bytes that may be known.
-use Rattle.std.proofs.Common.{List, ℕ, Option, Some, None}
+use Rattle.std.proofs.Common.{List, ℕ, Option, Some, None, Result, Ok, Err, IfOk}
 use Rattle.std.specs.Prelude.{IfSome}
 
 -- what follows of any bytes follows of those that are known
 pub IfSome-weaker : (known : Option (List ℕ)) (P Q : List ℕ → Type 0) → ((bytes : List ℕ) → P bytes → Q bytes) → IfSome known P → IfSome known Q
 IfSome-weaker None P Q weaker fact = tt
 IfSome-weaker (Some bytes) P Q weaker fact = weaker bytes fact
+
+-- the same of what a call gives, at the limits and for the number of faults that it was called with
+pub IfOk-known : {A E : Type 0} (most : ℕ) (known : Option (List ℕ)) (f : ℕ) (P : ℕ → List ℕ → ℕ → Type 0) (Q : A → ℕ → List ℕ → ℕ → Type 0) (result : Result A E)
+    → IfSome known (λ text. P most text f) → IfOk result (λ a. (k : ℕ) (text : List ℕ) (g : ℕ) → P k text g → Q a k text g) → IfOk result (λ a. IfSome known (λ text. Q a most text f))
+IfOk-known most known f P Q (Err e) p weaker = tt
+IfOk-known most known f P Q (Ok a) p weaker = IfSome-weaker known _ _ (λ text h. weaker most text f h) p

@@ -1,10 +1,15 @@
 -- What is told of a text that was refused. `most` is how many entries the trace may have.
-use Rattle.std.proofs.Common.{◌≡◌, List, ℕ, Option, Result, Ok, Err, IfOk, sym, subst}
+use Rattle.std.proofs.Common.{◌≡◌, ◌≢◌, List, ℕ, Option, Result, Ok, Err, IfOk, sym, subst}
 use Rattle.std.specs.Prelude.{IfSome}
 use Rattle.causal_text.specs.declared.before.Rejected.{Rejected}
+use Rattle.causal_text.specs.declared.kept.Unread.TheVariants as unread
+use Rattle.causal_text.specs.declared.kind.TextKind.TheVariants as kind
+use Rattle.causal_workers.specs.Early.{TellsUnjudged}
+use Rattle.causal_workers.specs.declared.early.Unjudged.TheVariants.{Unread}
 use Rattle.causal_commands.specs.declared.ended.Ended.{Ended}
 use Rattle.causal_commands.specs.declared.ended.Ended.TheVariants.{Faulted}
 use Rattle.causal_commands.specs.declared.judged.Stopped.{Stopped}
+use Rattle.causal_commands.specs.declared.judged.Stopped.TheVariants.{Text}
 use Rattle.causal_commands.specs.declared.remark.Refusal.{Refusal}
 use Rattle.causal_commands.specs.declared.shown.View.{View}
 use Rattle.causal_commands.specs.declared.stream.Answer.{Answer}
@@ -12,6 +17,7 @@ use Rattle.causal_commands.specs.Ranges.{IsRangeAnswer}
 use Rattle.causal_commands.specs.Remarks.{IsRefusal, NamesFirstFault}
 use Rattle.causal_commands.specs.Shown.{IsFaultShown, IsReply}
 use Rattle.causal_commands.specs.Streams.{IsFaultLine, IsAnswer}
+use Rattle.causal_commands.specs.Until.{IsAnswerUntil}
 use Rattle.causal_commands.specs.Inside.Answers.{IsAnswerFor, IsRangeAnswerFor, IsReplyFor}
 use Rattle.causal_commands.specs.Inside.Refusals.{IsRejectedSo, NamesRejected, TellsStop}
 use Rattle.causal_commands.proofs.Known.{IfSome-weaker}
@@ -47,3 +53,18 @@ pub rejects : (most : ℕ) (known : Option (List ℕ)) (stopped : Stopped) (resu
     → IfOk result (λ a. (k : ℕ) (text : List ℕ) → TellsStop k text stopped → IfSome a.rejected (IsRejectedSo k text)) → IfOk result (λ a. NamesRejected most known a.rejected)
 rejects most known stopped (Err e) tells h = tt
 rejects most known stopped (Ok a) tells h = IfSome-weaker known _ _ (h most) tells
+
+-- the line of a fault before which no look finds a breach answers a text that is read until one does
+pub faults_until : (rejected : Rejected) (result : Result Answer Ended) → rejected.fault.kind ≢ kind.NoMemory → IfOk result (λ a. a.ended ≡ Faulted)
+    → IfOk result (λ a. (k : ℕ) (text : List ℕ) → TellsStop k text (Text rejected) → IsFaultLine k text a.line.items)
+    → IfOk result (λ a. (k : ℕ) (text : List ℕ) (f : ℕ) → TellsUnjudged k text f (Unread (unread.Text rejected)) → IsAnswerUntil k text f a.ended a.line.items)
+faults_until rejected (Err e) some ended line = tt
+faults_until rejected (Ok a) some ended line = λ k text f told.
+    subst (λ (e : Ended). IsAnswerUntil k text f e a.line.items) (sym ended) (told.1 some, line k text ((told.0.first some, told.0.kept), some))
+
+-- and what was rejected is told
+pub rejects_until : (rejected : Rejected) (result : Result Answer Ended) → rejected.fault.kind ≢ kind.NoMemory
+    → IfOk result (λ a. (k : ℕ) (text : List ℕ) → TellsStop k text (Text rejected) → IfSome a.rejected (IsRejectedSo k text))
+    → IfOk result (λ a. (k : ℕ) (text : List ℕ) (f : ℕ) → TellsUnjudged k text f (Unread (unread.Text rejected)) → IfSome a.rejected (IsRejectedSo k text))
+rejects_until rejected (Err e) some so = tt
+rejects_until rejected (Ok a) some so = λ k text f told. so k text ((told.0.first some, told.0.kept), some)

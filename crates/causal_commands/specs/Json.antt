@@ -5,21 +5,24 @@ use Rattle.causal_report.specs.Objects.{verdict_object, ranges_object}
 use Rattle.causal_commands.specs.declared.ended.Ended.{Ended}
 use Rattle.causal_commands.specs.declared.ended.Ended.TheVariants.{Ranged, ReadFault, WriteFault, NoMemory, NoWorker}
 use Rattle.causal_commands.specs.declared.json.Question.{Question}
-use Rattle.causal_commands.specs.declared.json.Question.TheVariants.{Verdict, Reason, Range}
+use Rattle.causal_commands.specs.declared.json.Question.TheVariants.{Verdict, Breach, Reason, Range}
 use Rattle.causal_commands.specs.declared.shown.View.TheVariants as view
 use Rattle.causal_commands.specs.Ranges.{IsRangeAnswer}
 use Rattle.causal_commands.specs.Shown.{IsReply}
 use Rattle.causal_commands.specs.Streams.{IsAnswer}
+use Rattle.causal_commands.specs.Until.{IsAnswerUntil}
 
 -- for how many faults it is asked; those before a fault of the text are judged for none where it is asked of all
 abbrev pub faults_of : Question → ℕ
 faults_of (Verdict faults workers) = faults
+faults_of (Breach faults workers) = faults
 faults_of (Reason faults) = faults
 faults_of Range = 0
 
 -- how many workers judge
 abbrev pub workers_of : Question → ℕ
 workers_of (Verdict faults workers) = workers
+workers_of (Breach faults workers) = workers
 workers_of _ = 1
 
 -- 1 to 64 workers judge
@@ -29,6 +32,7 @@ HasFewWorkers question = (1 ≤ workers_of question) × (workers_of question ≤
 -- the lines that answer the question of a text where the program ends so
 abbrev pub AreLines : ℕ → Question → List ℕ → Ended → List ℕ → Type 0
 AreLines most (Verdict faults workers) text ended lines = IsAnswer most text faults ended lines
+AreLines most (Breach faults workers) text ended lines = IsAnswerUntil most text faults ended lines
 AreLines most (Reason faults) text ended lines = IsReply most view.Reason text faults ended lines
 AreLines most Range text ended lines = IsRangeAnswer most text ended lines
 

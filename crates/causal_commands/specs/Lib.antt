@@ -13,3 +13,4 @@ pub mod Remarks
 pub mod Complaints
 pub mod Runs
 pub mod Streams
+pub mod Until

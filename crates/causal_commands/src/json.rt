@@ -9,7 +9,7 @@ use crate::ended::Ended;
 use crate::remark::{Refusal, refusal_of};
 use crate::shown::View;
 use crate::stream::{Answer, Told};
-use crate::{range, shown, stream};
+use crate::{range, shown, stream, until};
 use causal_report::{ranges_object, verdict_object};
 use causal_text::write_whole;
 use causal_trace::limits::Limits;
@@ -24,7 +24,9 @@ use std::thread::Threads;
 pub enum Question {
     /// Its verdict for at most so many processes that are down at once, by so many workers.
     Verdict { faults: u16, workers: u32 },
-    /// The same by one worker, and why it is so.
+    /// The same as soon as a look at what was read finds a breach, without reading on.
+    Breach { faults: u16, workers: u32 },
+    /// The same of the whole text by one worker, and why it is so.
     Reason { faults: u16 },
     /// For which numbers of faults it is safe.
     Range,
@@ -36,7 +38,9 @@ impl Question {
         ensures { result ≡ told.faults_of self }
     {
         match self {
-            Question::Verdict { faults, .. } | Question::Reason { faults } => faults,
+            Question::Verdict { faults, .. }
+            | Question::Breach { faults, .. }
+            | Question::Reason { faults } => faults,
             Question::Range => 0,
         }
     }
@@ -132,6 +136,9 @@ fn lines_for<I: Read, R: Threads + Wait>(
     match question {
         Question::Verdict { faults, workers } => {
             stream::answered(rt, alloc, input, limits, faults, workers, &OpenGate)
+        }
+        Question::Breach { faults, workers } => {
+            until::answered(rt, alloc, input, limits, faults, workers, &OpenGate)
         }
         Question::Reason { faults } => {
             shown::answered(rt, alloc, input, limits, faults, View::Reason)

@@ -1,12 +1,13 @@
 //! The work of the program's commands, from any reader to any writer.
 //!
-//! Begin at [`audit_and_tell`], the work of `audit`; [`show_and_tell`] is that of `explain` and `draw`, [`range_and_tell`] that of
-//! `explain` for all numbers of faults, [`merge_and_tell`] that of `merge`, and [`run_and_tell`] that of `run`. Each reads a text and
-//! writes one answer, and what it gives, a [`Told`] or a [`Merging`], says how that ended, as an [`Ended`] with its status and its
-//! words, and what the text has against it, which [`complaint`] and [`hint_of`] put into words. [`answer_as_json`] writes an answer of
-//! `audit` or `explain` as one JSON object. [`audit_stream`] and [`run_stream`] are the same with the ending alone. [`audit_from`] gives
-//! the verdict itself and writes nothing; [`read_script`] is how a script's text is read. [`Noted`] is for streams that may fail.
-//! [`audited`] judges what the runtime has recorded.
+//! Begin at [`audit_and_tell`], the work of `audit`, and [`audit_until_breach`], which ends at a breach; [`show_and_tell`] is
+//! that of `explain` and `draw`, [`range_and_tell`] that of `explain` for all numbers of faults, [`merge_and_tell`] that of
+//! `merge`, and [`run_and_tell`] that of `run`. Each reads a text and writes one answer, and what it gives, a [`Told`] or a
+//! [`Merging`], says how that ended, as an [`Ended`] with its status and its words, and what the text has against it, which
+//! [`complaint`] and [`hint_of`] put into words. [`answer_as_json`] writes an answer of `audit` or `explain` as one JSON
+//! object. [`audit_stream`] and [`run_stream`] are the same with the ending alone. [`audit_from`] gives the verdict itself and
+//! writes nothing; [`read_script`] is how a script's text is read. [`Noted`] is for streams that may fail. [`audited`] judges
+//! what the runtime has recorded.
 #![tactic(auto)]
 
 /// What the runtime has recorded, audited.
@@ -24,6 +25,7 @@ pub mod remark;
 pub mod script;
 pub mod shown;
 pub mod stream;
+pub mod until;
 
 pub use accepted::audited;
 pub use complaints::complaint;
@@ -39,3 +41,4 @@ pub use remark::{Refusal, Remark};
 pub use script::{Reason, run_and_tell, run_stream};
 pub use shown::{View, show_and_tell};
 pub use stream::{Told, audit_and_tell, audit_stream};
+pub use until::audit_until_breach;

@@ -12,6 +12,10 @@ Answers, as one line on standard output:
       P depends; entries count from 0
   fault line=L KIND
       the text is no trace: its first fault is at line L
+With --until-breach a look is taken after 1, 2, 4 entries and so on. Where it finds a breach
+nothing more is read, and the line ends with
+  read=N
+      N entries were read; what comes later may have a fault
 With --json the same as one JSON object:
   {\"verdict\":\"orphan\",\"f\":F,\"instant\":T,\"delivery\":K,\"crash\":[P,..],\"orphan\":P}
 

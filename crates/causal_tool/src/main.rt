@@ -1,10 +1,10 @@
 //! Audits the recorded run, or runs the script, that it reads on standard input.
 //!
-//! The work is that of `causal_commands`: [`audit_and_tell`] of `audit`, [`show_and_tell`] of `explain` and `draw`,
-//! [`range_and_tell`] of `explain` with no number of faults, [`answer_as_json`] of both with `--json`, [`merge_and_tell`] of `merge`, and
-//! [`run_and_tell`] of `run`. All go from any reader to any writer, and their clauses are what the program promises. [`read_words`] tells
-//! what the words of the command line ask for. `main` adds the standard streams, the exit status, and the name of the command before
-//! what is said on standard error.
+//! The work is that of `causal_commands`: [`audit_and_tell`] of `audit`, [`audit_until_breach`] of it with `--until-breach`,
+//! [`show_and_tell`] of `explain` and `draw`, [`range_and_tell`] of `explain` with no number of faults, [`answer_as_json`] of
+//! both with `--json`, [`merge_and_tell`] of `merge`, and [`run_and_tell`] of `run`. All go from any reader to any writer, and
+//! their clauses are what the program promises. [`read_words`] tells what the words of the command line ask for. `main` adds
+//! the standard streams, the exit status, and the name of the command before what is said on standard error.
 #![tactic(auto)]
 
 ghost use Rattle.std.specs.Prelude.{◌≡◌};
@@ -23,8 +23,9 @@ use crate::watched::Watched;
 use crate::words::{Asked, Form, Refused, read_words};
 pub use causal_commands::audit_stream;
 use causal_commands::{
-    Ended, Noted, Question, Reason, Refusal, Told, View, answer_as_json, audit_and_tell, complaint,
-    hint_of, merge_and_tell, range_and_tell, run_and_tell, show_and_tell,
+    Ended, Noted, Question, Reason, Refusal, Told, View, answer_as_json, audit_and_tell,
+    audit_until_breach, complaint, hint_of, merge_and_tell, range_and_tell, run_and_tell,
+    show_and_tell,
 };
 use causal_trace::limits::Limits;
 use causal_workers::OpenGate;
@@ -38,7 +39,7 @@ use std::thread::Threads;
 fn name_of(asked: Asked) -> &'static str {
     match asked {
         Asked::Trace {
-            question: Question::Verdict { .. },
+            question: Question::Verdict { .. } | Question::Breach { .. },
             ..
         } => "causal_tool audit",
         Asked::Trace { .. } => "causal_tool explain",
@@ -112,6 +113,9 @@ fn answered<R: Threads + Wait + AllocGlobal, I: Read, O: Write>(
         (Form::Json, _) => answer_as_json(rt, alloc, input, output, limits, question),
         (Form::Lines, Question::Verdict { faults, workers }) => {
             audit_and_tell(rt, alloc, input, output, limits, faults, workers, &OpenGate)
+        }
+        (Form::Lines, Question::Breach { faults, workers }) => {
+            audit_until_breach(rt, alloc, input, output, limits, faults, workers, &OpenGate)
         }
         (Form::Lines, Question::Reason { faults }) => {
             show_and_tell(rt, alloc, input, output, limits, faults, View::Reason)

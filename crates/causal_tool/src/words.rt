@@ -138,7 +138,11 @@ fn audit_asked(given: &ArgMatches) -> Option<Asked>
     let faults = given.get_one::<u16>("faults")?;
     match given.get_one::<u32>("workers") {
         Some(workers @ 1..=64) => Some(Asked::Trace {
-            question: Question::Verdict { faults, workers },
+            question: if given.get_flag("until-breach") {
+                Question::Breach { faults, workers }
+            } else {
+                Question::Verdict { faults, workers }
+            },
             form: form_asked(given),
             limits: limits_asked(given),
         }),
@@ -219,6 +223,14 @@ fn entries<'a>(alloc: Global) -> Arg<'a> {
         .default_value("65536")
 }
 
+/// The option that the audit ends at a breach.
+fn until_breach<'a>(alloc: Global) -> Arg<'a> {
+    Arg::new(alloc, "until-breach")
+        .long("until-breach")
+        .help("Ends at the first breach found, without reading on")
+        .action(ArgAction::SetTrue)
+}
+
 /// The option that the answer is JSON.
 fn json<'a>(alloc: Global) -> Arg<'a> {
     Arg::new(alloc, "json")
@@ -234,6 +246,7 @@ fn audit_words<'a>(alloc: Global) -> Result<Command<'a>, AllocError> {
         .arg(faults(alloc))?
         .arg(workers(alloc))?
         .arg(entries(alloc))?
+        .arg(until_breach(alloc))?
         .arg(json(alloc))
 }
 

@@ -1,3 +1,4 @@
 mod Commas
+mod EarlyLemmas
 mod JudgementLemmas
 mod ShareLemmas

@@ -3,17 +3,19 @@
 //! The calling thread prepares the run. The groups of deliveries that must be followed are divided into consecutive shares, one for
 //! each worker, and the workers' answers are joined, so the verdict is the same for every number of workers.
 //!
-//! Begin at [`audit`] for a trace, or [`audit_text`] for its text; both take a [`Gate`], of which [`OpenGate`] lets all through.
-//! [`verdict_line`] prints what they answer.
+//! Begin at [`audit`] for a trace, or [`audit_text`] for its text; [`judge_until_breach`] ends as soon as it finds a breach. All take
+//! a [`Gate`], of which [`OpenGate`] lets all through. [`verdict_line`] prints what they answer.
 #![tactic(auto)]
 
 pub mod divided;
+pub mod early;
 pub mod gate;
 pub mod judged;
 pub mod line;
 mod share;
 
 pub use divided::{AuditFault, audit};
+pub use early::{Known, Unjudged, judge_until_breach};
 pub use gate::{Gate, OpenGate};
 pub use judged::{AuditTextFault, Judged, audit_text, judge_trace};
 pub use line::verdict_line;

@@ -8,10 +8,15 @@ use Rattle.causal_commands.specs.Json.{AreLines, IsObject}
 use Rattle.causal_commands.specs.Ranges.{IsRangeAnswer}
 use Rattle.causal_commands.specs.Shown.{IsReply}
 use Rattle.causal_commands.specs.Streams.{IsAnswer}
+use Rattle.causal_commands.specs.Until.{IsAnswerUntil}
 
 -- the line answers the text that a reader gives, where its bytes are known
 abbrev pub IsAnswerFor : ℕ → Option (List ℕ) → ℕ → Ended → List ℕ → Type 0
 IsAnswerFor most given f ended line = IfSome given (λ text. IsAnswer most text f ended line)
+
+-- the line that ends at a breach
+abbrev pub IsAnswerUntilFor : ℕ → Option (List ℕ) → ℕ → Ended → List ℕ → Type 0
+IsAnswerUntilFor most given f ended line = IfSome given (λ text. IsAnswerUntil most text f ended line)
 
 -- this replies to it, and shows why the verdict is so
 abbrev pub IsReplyFor : ℕ → View → Option (List ℕ) → ℕ → Ended → List ℕ → Type 0

@@ -1,0 +1,110 @@
+#!/usr/bin/env python3
+"""Pipes runs that never end into the built program. Each breaks at a known instant, and the program has to end by itself with that
+verdict, without reading far beyond the look that finds it.
+
+    trials/live.py [--program PATH]
+"""
+import argparse
+import itertools
+import os
+import subprocess
+import sys
+
+PROGRAM = os.path.join(os.path.dirname(os.path.abspath(__file__)), "..", "crates", "causal_tool", "out", "causal_tool")
+PROCESSES = 5
+AHEAD = 2 * 65_536 + 4_096  # bytes: those of a pipe, the longest piece that is written, and one that is read
+LONGEST = 100  # seconds for one answer
+
+
+def hop(place):
+    """Who sends and who receives at a place of the ring, and what both count."""
+    return place % PROCESSES, (place + 1) % PROCESSES, place // PROCESSES
+
+
+def det(place):
+    sender, receiver, number = hop(place)
+    return f"[{sender},{number},{receiver},{number}]"
+
+
+def ring(broken):
+    """The lines of a token that goes round for ever, each message with the determinant of the delivery before it; but the one that is
+    delivered at this place brings none."""
+    yield f'["trace",2,{PROCESSES}]\n'
+    for place in itertools.count():
+        sender, receiver, number = hop(place)
+        brought = [place - 1] if place > 0 and place != broken else []
+        listed = ",".join(sorted((det(k) for k in [*brought, place]), key=lambda text: [int(part) for part in text[1:-1].split(",")]))
+        yield f'["send",{sender},{receiver},{number}]\n'
+        yield f'["deliver",{receiver},{2 * place},{number},[{listed}]]\n'
+
+
+def verdict(broken):
+    """The instant of that delivery fails: whoever delivered before it may crash, and its receiver depends on what is lost."""
+    sender, receiver, _ = hop(broken)
+    return f"orphan f=1 instant={2 * broken + 2} delivery={2 * broken - 1} crash={sender} orphan={receiver}"
+
+
+def look_at(instant):
+    return 1 << (instant - 1).bit_length()
+
+
+def pieces(lines, size):
+    """The bytes of the lines in pieces of this size."""
+    held = b""
+    for line in lines:
+        held += line.encode()
+        while len(held) >= size:
+            yield held[:size]
+            held = held[size:]
+
+
+def answered(program, words, parts, most):
+    """The answer and the status of the program, into which these parts are piped until nobody reads them; the pipe stays open. It may
+    take so many bytes."""
+    running = subprocess.Popen([program, "audit", "--until-breach", *words], stdin=subprocess.PIPE, stdout=subprocess.PIPE, stderr=subprocess.DEVNULL)
+    written = 0
+    try:
+        while written <= most and (part := next(parts, None)):
+            written += os.write(running.stdin.fileno(), part)
+    except BrokenPipeError:
+        pass
+    try:
+        running.wait(LONGEST if written <= most else 0)
+    except subprocess.TimeoutExpired:
+        running.kill()
+    return running.stdout.read().decode(), running.wait()
+
+
+def trials():
+    """Names, words, what is piped in, the answer, and how many bytes have to be read for it."""
+    long = ("--faults", "1", "--entries", "16777216")
+    for broken in (1, 2_047, 2_048, 50_000):
+        look = look_at(2 * broken + 2)
+        needed = sum(map(len, itertools.islice(ring(broken), look + 1)))
+        said = f"{verdict(broken)} read={look}\n", 1
+        for size in (4_096, 1_000, 65_536):
+            yield f"broken at {broken}, pieces of {size}", long, pieces(ring(broken), size), said, needed
+        yield f"broken at {broken}, four workers", (*long, "--workers", "4"), pieces(ring(broken), 4_096), said, needed
+        yield f"broken at {broken}, and no more", long, map(str.encode, itertools.islice(ring(broken), look + 1)), said, needed
+    bound = 5_000
+    needed = sum(map(len, itertools.islice(ring(None), bound + 2)))
+    safe = pieces(ring(None), 4_096)
+    yield "never broken", ("--faults", "1", "--entries", str(bound)), safe, (f"fault line={bound + 2} TooLong\n", 2), needed
+
+
+def main():
+    options = argparse.ArgumentParser(description=__doc__.splitlines()[0])
+    options.add_argument("--program", default=PROGRAM)
+    program, count, wrong = options.parse_args().program, 0, 0
+    for name, words, parts, wanted, needed in trials():
+        count += 1
+        got = answered(program, words, parts, needed + AHEAD)
+        if got != wanted:
+            wrong += 1
+            print(f"{name}: wanted {wanted!r}, the program gives {got!r}")
+    print(f"live: {count} runs, {wrong} wrong")
+    return 1 if wrong else 0
+
+
+if __name__ == "__main__":
+    sys.exit(main())
