@@ -1,5 +1,5 @@
-use Rattle.causal_audit.proofs.Common.{get_or, take, subst, sym, ◌∙◌, arith, take_more}
-use Rattle.causal_audit.proofs.group.GroupWalk.{take_all, marked_more}
+use Rattle.causal_audit.proofs.Common.{get_or, take, subst, sym, ◌∙◌, arith, take_all, take_more}
+use Rattle.causal_audit.proofs.group.GroupWalk.{marked_more}
 use Rattle.causal_audit.specs.Inside.Group.Walk.{HaveMarked}
 use Rattle.causal_audit.proofs.group.marks.mark.Goals as goal
 
@@ -19,4 +19,4 @@ loop-position-preserved c =
 pub returns-clause-marked : goal.returns-clause-marked
 returns-clause-marked c =
     let positions = c.args.positions.now in
-    subst (λ list. HaveMarked c.args.place list c.args.rows.now.items c.loop-position.rows.items) (take_all positions c.loop-position.position-index (omega (arith, c.loop-position-test.false))) c.loop-position.invariant.marked
+    subst (λ list. HaveMarked c.args.place list c.args.rows.now.items c.loop-position.rows.items) (take_all c.loop-position.position-index positions (omega (arith, c.loop-position-test.false))) c.loop-position.invariant.marked
