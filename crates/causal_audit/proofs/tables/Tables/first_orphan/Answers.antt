@@ -17,6 +17,3 @@ first_orphan-requires c =
       mentioned = subst (HasMentions past c.args.det) (sym c.list-mentions.ensures) (kept.mentioned c.args.det);
       only = subst (AreMentionsOf past c.args.det) (sym c.list-mentions.ensures) (kept.only c.args.det);
     }
-
-pub returns : goal.returns
-returns c = rw (← c.self.view_is) c.first_orphan.ensures
