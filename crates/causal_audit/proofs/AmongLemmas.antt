@@ -166,14 +166,6 @@ module _ (r : Recording) (f : ℕ) where
   ]
   among_later last end positions (Some b) up later one = (omega (arith, one.0, up), one.1)
 
-  -- where a delivery has no orphan from some instant on, its first breach by that instant is its first
-  pub first_until : (end until k : ℕ) (found : Option Breach) → HasNoOrphanFrom r f k until end → FirstBreachBy r f (min until end) k found → FirstBreachBy r f end k found
-  first_until end until k None later none = λ t low has. elim (cases_lt t until) [
-    | inl early ↦ none t (omega (arith, early, low)) has
-    | inr late ↦ later t late low has
-  ]
-  first_until end until k (Some b) later one = (omega (arith, one.0), one.1)
-
   -- a breach that is known comes by the bound
   pub horizon_within : (end : ℕ) (positions : List ℕ) (found : Option Breach) → LeastAmongBy r f end positions found → horizon end found ≤ end
   horizon_within end positions None none = omega arith

@@ -8,7 +8,7 @@ use Rattle.causal_audit.specs.Verdicts.{IsLeastOrphan}
 use Rattle.causal_audit.proofs.look.Staying.{gone_many, gone_shown}
 use Rattle.causal_audit.proofs.Lemmas.Judged.{exposed, crash_contains, orphan_without, gone_crash, gone_orphan}
 use Rattle.causal_audit.proofs.Legal.{event_inside}
-use Rattle.causal_audit.proofs.Shown.{shows_none, down_inside, logs_inside}
+use Rattle.causal_audit.proofs.Shown.{shows_none, down_inside, logs_inside, parts}
 
 pub sight_begun : (past : List Entry) (k : ℕ) (d : Det) (down : FinSet nat_cmp) → Shows down (λ p. is_down past p) → IsUnheard past k d → IsSight past k d (record { down = down; holders = empty; stable = false; dependents = empty })
 sight_begun past k d down shown none = record {
@@ -17,9 +17,6 @@ sight_begun past k d down shown none = record {
   stable = sym none.unstable;
   dependents = λ p. (λ has. absurd (false≢true (sym (contains-empty nat_cmp p) ∙ has)), λ depends. absurd (none.independent p depends));
 }
-
-not_parts : (a b : Bool) → (a && not b) ≡ true → (a ≡ true) × (b ≡ false)
-not_parts a b h = grind (arith, nat_tests)
 
 pub depends_inside : (n : ℕ) (past : List Entry) (k p : ℕ) → AreAccepted n past → Depends past k p → p < n
 depends_inside n past k p formed d = event_inside n past formed d.event p _ d.present
@@ -51,8 +48,8 @@ module _ (n f : ℕ) (past : List Entry) (k : ℕ) (d : Det) (formed : AreAccept
 
   unheld_parts : (p : ℕ) → contains unheld p ≡ true → Depends past k p × (logs past p d ≡ false)
   unheld_parts p h =
-      let parts = not_parts (contains s.dependents p) (contains s.holders p) (sym (contains-difference nat_cmp_total s.dependents s.holders p) ∙ h) in
-      ((sight.dependents p).0 parts.0, sym (sight.holders p) ∙ parts.1)
+      let both = parts (contains s.dependents p) (contains s.holders p) (sym (contains-difference nat_cmp_total s.dependents s.holders p) ∙ h) in
+      ((sight.dependents p).0 both.0, sym (sight.holders p) ∙ both.1)
 
   pub not_many : f < len crash → HasOrphan n f past k → ⊥
   not_many many has = omega (arith, many, crash_counted, (exposed n f past k d at has).few)

@@ -1,5 +1,6 @@
 -- What is known of the entries of a well-formed run.
 use Rattle.causal_audit.proofs.Common.{ℕ, ◌≡◌, ◌<◌, inl, inr, true, false, cond, List, [], ◌∷◌, length, Option, Some, None, refl, subst, arith, ◌==◌, nat_le, option_map_or, false≢true, eqb-true, nat_tests, Pid, Det, Entry, Send, Deliver, Stable, Crash, Restart, Forget, is_down, lane, restarts, listed_in, listed_by, entry_at, is_send_to, is_sent_to, det_of, det_at, first_fault, AreAccepted, actor, is_delivery_of, IsEventOf, Delivers, row_fails, delivers_sent}
+use Rattle.causal_audit.specs.Numbers.{is_delivery}
 use Rattle.causal_trace.specs.Rows.{rows}
 use Rattle.causal_trace.specs.declared.fault.TraceFault.TheVariants.{NotUp, Lanes}
 use Rattle.causal_trace.proofs.Lemmas.Formed.{within_limits, limits}
@@ -94,19 +95,19 @@ sender_event n [] h j i d = absurd d
 sender_event n (e ∷ past) h j i (inl d) = let found = sender_event n past h.0 j i d in (found.0, found.1, inl found.2)
 sender_event n (e ∷ past) h j i (inr d) = let found = sender_of n past e i h.1 d.1 in (found.0, found.1, inl found.2)
 
--- a delivery is an event
-det_actor : (past : List Entry) (e : Entry) (d : Det) → det_of past e ≡ Some d → (p : ℕ) × (actor e ≡ Some p)
-det_actor past (Send from to ssn) d h = absurd (let k : None ≡ Some d = h in cc)
-det_actor past (Deliver to send rsn listed) d h = (to.0, refl)
-det_actor past (Stable det) d h = absurd (let k : None ≡ Some d = h in cc)
-det_actor past (Crash who) d h = absurd (let k : None ≡ Some d = h in cc)
-det_actor past (Restart who listed) d h = absurd (let k : None ≡ Some d = h in cc)
-det_actor past (Forget who listed) d h = absurd (let k : None ≡ Some d = h in cc)
+-- what has a determinant is a delivery, and an event
+pub det_delivers : (past : List Entry) (e : Entry) (d : Det) → det_of past e ≡ Some d → (p : ℕ) × (actor e ≡ Some p) × (is_delivery e ≡ true)
+det_delivers past (Send from to ssn) d h = absurd (let k : None ≡ Some d = h in cc)
+det_delivers past (Deliver to send rsn listed) d h = (to.0, refl, refl)
+det_delivers past (Stable det) d h = absurd (let k : None ≡ Some d = h in cc)
+det_delivers past (Crash who) d h = absurd (let k : None ≡ Some d = h in cc)
+det_delivers past (Restart who listed) d h = absurd (let k : None ≡ Some d = h in cc)
+det_delivers past (Forget who listed) d h = absurd (let k : None ≡ Some d = h in cc)
 
 pub delivery_event : (past : List Entry) (k : ℕ) (d : Det) → det_at past k ≡ Some d → (p : ℕ) × (l : ℕ) × IsEventOf past k p l
 delivery_event [] k d h = absurd (let e : None ≡ Some d = h in cc)
 delivery_event (e ∷ past) k d h =
     elim (k == length past) as (λ b. (k == length past) ≡ b → cond b (det_of past e) (det_at past k) ≡ Some d → (p : ℕ) × (l : ℕ) × IsEventOf (e ∷ past) k p l) [
-      | true ↦ λ here at. let found = det_actor past e d at in (found.0, lane past found.0, inr (eqb-true k (length past) here, found.1, refl))
+      | true ↦ λ here at. let found = det_delivers past e d at in (found.0, lane past found.0, inr (eqb-true k (length past) here, found.1, refl))
       | false ↦ λ there at. let found = delivery_event past k d at in (found.0, found.1, inl found.2)
     ] refl h

@@ -1,7 +1,7 @@
 -- Deliveries by their numbers.
-use Rattle.causal_audit.proofs.Common.{ℕ, zero, suc, ◌≡◌, ◌+◌, ◌-◌, drop, ◌<◌, ◌≤◌, inl, inr, true, List, [], ◌∷◌, length, Option, Some, None, refl, sym, ap, subst, ◌∙◌, arith, ◌==◌, option_map, option_and_then, false≢true, cases_lt, cond-true, cond-false, eqb_tells, Pid, Det, Entry, Send, Deliver, Stable, Crash, Restart, Forget, instant, entry_at, det_at, det_of, det_from, message_sent, deliveries_in, AreAccepted, delivers_sent, instants_stay, one_more_instant}
+use Rattle.causal_audit.proofs.Common.{ℕ, zero, suc, ◌≡◌, ◌+◌, ◌-◌, drop, ◌<◌, ◌≤◌, inl, inr, true, List, [], ◌∷◌, length, Some, refl, sym, ap, subst, ◌∙◌, arith, false≢true, eq-eqb, cases_lt, is_delivery_of, Delivers, Det, Entry, Send, Deliver, Stable, Crash, Restart, Forget, instant, det_at, deliveries_in, AreAccepted, instants_stay, one_more_instant}
 use Rattle.causal_audit.specs.Numbers.{is_delivery, IsNumbered}
-use Rattle.causal_audit.proofs.Legal.{sent_is}
+use Rattle.causal_audit.proofs.index.Receivers.{delivered}
 use Rattle.causal_audit.proofs.Lemmas.NumberLemmas.{no_fewer, one_more}
 
 pub numbered_place : (past : List Entry) (i k : ℕ) → IsNumbered past i k → k < length past
@@ -46,40 +46,23 @@ numbered_later (e ∷ past) t i k within n =
       | inr h ↦ inl (numbered_later past t i k h (subst (λ p. IsNumbered p i k) (instants_stay e past t h) n))
     ]
 
--- a numbered delivery has a determinant
-pub numbered_det : (n : ℕ) (past : List Entry) (i k : ℕ) → AreAccepted n past → IsNumbered past i k → det_at past k ≡ None → ⊥
-numbered_det n [] i k a m none = m
-numbered_det n (e ∷ past) i k a (inl m) none =
-    elim (eqb_tells k (length past)) [
-      | inl here ↦ omega (arith, numbered_place past i k m, here.1)
-      | inr there ↦ numbered_det n past i k a.0 m (sym (cond-false (k == length past) (det_of past e) (det_at past k) there.0) ∙ none)
-    ]
-numbered_det n (e ∷ past) i k a (inr m) none =
-    elim (eqb_tells k (length past)) [
-      | inl here ↦ some e past a m.1 (sym (cond-true (k == length past) (det_of past e) (det_at past k) here.0) ∙ none)
-      | inr there ↦ there.1 m.0
-    ]
-  where
-    told : (o : Option Entry) (to sender q : Pid) (rsn ssn : ℕ) → o ≡ Some (Send sender q ssn) → option_map (det_from to rsn) (option_and_then message_sent o) ≡ None → ⊥
-    told o to sender q rsn ssn at none =
-        let d : Det = record { source = sender; ssn = ssn; dest = to; rsn = rsn } in
-        let x : Some d ≡ None = sym (ap (λ y. option_map (det_from to rsn) (option_and_then message_sent y)) at) ∙ none in
-        cc
+-- a numbered delivery delivers a message
+delivery_of : (e : Entry) → is_delivery e ≡ true → (s : ℕ) × (is_delivery_of s e ≡ true)
+delivery_of (Send from to ssn) h = absurd (false≢true h)
+delivery_of (Deliver to send rsn listed) h = (send, eq-eqb send send refl)
+delivery_of (Stable det) h = absurd (false≢true h)
+delivery_of (Crash who) h = absurd (false≢true h)
+delivery_of (Restart who listed) h = absurd (false≢true h)
+delivery_of (Forget who listed) h = absurd (false≢true h)
 
-    some : (e : Entry) (past : List Entry) → AreAccepted n (e ∷ past) → is_delivery e ≡ true → det_of past e ≡ None → ⊥
-    some (Send from to ssn) past a h none = false≢true h
-    some (Deliver to send rsn listed) past a h none =
-        let sent : (sender : Pid) × (q : Pid) × (ssn : ℕ) × (entry_at past send ≡ Some (Send sender q ssn)) = sent_is to.0 (entry_at past send) (delivers_sent n past to send rsn listed a.1) in
-        told (entry_at past send) to sent.0 sent.1 rsn sent.2 sent.3 none
-    some (Stable det) past a h none = false≢true h
-    some (Crash who) past a h none = false≢true h
-    some (Restart who listed) past a h none = false≢true h
-    some (Forget who listed) past a h none = false≢true h
+numbered_delivers : (past : List Entry) (i k : ℕ) → IsNumbered past i k → (s : ℕ) × Delivers past k s
+numbered_delivers [] i k numbered = absurd numbered
+numbered_delivers (e ∷ past) i k (inl old) = let was = numbered_delivers past i k old in (was.0, inl was.1)
+numbered_delivers (e ∷ past) i k (inr new) = let sent = delivery_of e new.1 in (sent.0, inr (new.0, sent.1))
 
--- a delivery has a determinant
+-- so it has a determinant
 pub numbered_some : (n : ℕ) (past : List Entry) (i k : ℕ) → AreAccepted n past → IsNumbered past i k → (d : Det) × (det_at past k ≡ Some d)
 numbered_some n past i k formed numbered =
-    elim (det_at past k) as (λ o. det_at past k ≡ o → (d : Det) × (o ≡ Some d)) [
-      | None ↦ λ none. absurd (numbered_det n past i k formed numbered none)
-      | Some d ↦ λ _. (d, refl)
-    ] refl
+    let by = numbered_delivers past i k numbered in
+    let found = delivered n past formed k by.0 by.1 in
+    (found.0, found.1)

@@ -18,6 +18,10 @@ inserted s p q = contains-insert nat_cmp_total s p q ∙ ap (λ b. b || contains
 pub removed : (s : FinSet nat_cmp) (p q : ℕ) → contains (remove s p) q ≡ (not (p == q) && contains s q)
 removed s p q = contains-remove nat_cmp_total s p q ∙ ap (λ b. not b && contains s q) (unsigned_tied q p ∙ same_number p q)
 
+-- a member of a difference is one of the first set, and none of the second
+pub parts : (a b : Bool) → (a && not b) ≡ true → (a ≡ true) × (b ≡ false)
+parts a b h = grind (arith, nat_tests)
+
 and_true : (a b : Bool) → b ≡ true → a ≡ (a && b)
 and_true a b h = grind (arith, nat_tests)
 

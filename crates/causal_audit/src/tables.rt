@@ -10,12 +10,9 @@ ghost use Rattle.causal_audit.specs.Numbers.{IsNumbered, ArePositions};
 ghost use Rattle.causal_audit.specs.Inside.ByClock.Positions.{ArePositionsAfter};
 
 use crate::breach::Breach;
-use crate::by_clock::changes::Changes;
 use crate::by_clock::events::clocks_of;
-use crate::by_clock::lanes::{LANES, lanes_of, write_firsts};
 use crate::by_clock::orphans::first_orphan;
 use crate::index::mentions::{Mentions, mentions_in};
-use crate::index::turns::Turns;
 use causal_clock::Clocks;
 use causal_name::{Det, NoMemory};
 use causal_trace::entry::Entry;
@@ -24,29 +21,24 @@ use std::alloc::Global;
 use std::marker::Model;
 
 /// What is kept of a recorded run to judge it: a copy of its trace, the positions of its deliveries, a clock of its
-/// entries, and where something may change for a delivery. It is seen as the recording.
+/// entries, and what mentions each determinant. It is seen as the recording.
 #[derive(Drop)]
 pub struct Tables {
     trace: Trace,
     positions: Vec<u32>,
     clocks: Clocks,
     mentions: Mentions,
-    turns: Turns,
-    lanes: Vec<Vec<u32>>,
 }
 
 impl Model for Tables {
     ghost use Rattle.causal_trace.specs.Rows.{Recording};
-    ghost use Rattle.causal_audit.specs.Inside.Index.Filed.{lists_in};
-    ghost use Rattle.causal_audit.specs.Inside.ByClock.Stored.{AreIndexes, AreTables};
+    ghost use Rattle.causal_audit.specs.Inside.ByClock.Stored.{AreTables};
 
     ghost Value = { Recording };
 
     ghost view = { λ a. a.trace.recording };
 
-    ghost invariant = { λ a. AreTables a.trace.recording a.positions.items a.clocks.events
-        × AreIndexes a.trace.recording a.clocks.events a.mentions.numbers (lists_in a.mentions.lists.items)
-        a.turns (lists_in a.lanes.items) };
+    ghost invariant = { λ a. AreTables a.trace.recording a.positions.items a.clocks.events a.mentions };
 }
 
 impl Tables {
@@ -61,16 +53,12 @@ impl Tables {
         let positions = positions_of(alloc, entries)?;
         let clocks = clocks_of(alloc, trace)?;
         let mentions = mentions_in(alloc, entries)?;
-        let turns = Turns::of(alloc, entries)?;
-        let lanes = lanes_of(alloc, entries, &clocks)?;
         let trace = trace.try_clone()?;
         Ok(Tables {
             trace,
             positions,
             clocks,
             mentions,
-            turns,
-            lanes,
         })
     }
 
@@ -121,15 +109,7 @@ impl Tables {
         ensures { FirstBreachBy self.now f end k result }
     {
         let mentions = self.mentions.list(det);
-        let mut room = [0; LANES];
-        let firsts = &mut room[..self.lanes.len()];
-        write_firsts(firsts, &self.clocks, &self.lanes, k, self.entries());
-        let changes = Changes {
-            mentions,
-            firsts: &*firsts,
-            turns: self.turns.positions.as_slice(),
-        };
-        first_orphan(&self.trace, &changes, f, end, k, det)
+        first_orphan(&self.trace, &self.clocks, mentions, f, end, k, det)
     }
 }
 

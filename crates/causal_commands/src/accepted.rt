@@ -7,7 +7,7 @@ ghost use Rattle.std.specs.Prelude.{◌≡◌, IfOk};
 ghost use Rattle.causal_core.specs.CoreView.{run_of};
 ghost use Rattle.causal_commands.specs.Accepted.{IsTheVerdict, SafeIsAccepted};
 
-use causal_audit::{Tables, Verdict, judge};
+use causal_audit::{Verdict, verdict_of};
 use causal_core::Core;
 use causal_log::Stable;
 use causal_name::NoMemory;
@@ -23,8 +23,7 @@ pub fn audited<S: Stable>(alloc: Global, core: &Core<S>) -> Result<Verdict, NoMe
         (IsTheVerdict (run_of core.now).recording (run_of core.now).faults) }
     ensures accept { IfOk result (λ verdict. verdict ≡ Verdict.Accept) }
 {
-    let tables = Tables::of(alloc, core.trace())?;
-    Ok(judge(&tables, core.faults()))
+    verdict_of(alloc, core.trace(), core.faults())
 }
 
 /// A law, of a function that does nothing: what is safe for f is accepted by each audit for f. So is the trace of a snapshot, of

@@ -1,6 +1,7 @@
 -- Deliveries are counted, and each has a number.
 use Rattle.causal_audit.proofs.Common.{ℕ, ◌≡◌, ◌+◌, ◌<◌, ◌≤◌, inl, inr, true, List, [], ◌∷◌, length, Some, None, refl, sym, ◌∙◌, arith, ◌==◌, false≢true, cond-true, cond-false, eqb_tells, Det, Entry, Send, Deliver, Stable, Crash, Restart, Forget, det_at, det_of, deliveries_in}
 use Rattle.causal_audit.specs.Numbers.{is_delivery, IsNumbered}
+use Rattle.causal_audit.proofs.Legal.{det_delivers}
 
 -- with a delivery there is one more of them
 pub one_more : (e : Entry) (past : List Entry) → is_delivery e ≡ true → deliveries_in (e ∷ past) ≡ deliveries_in past + 1
@@ -20,22 +21,13 @@ no_fewer (Crash who) past = omega arith
 no_fewer (Restart who listed) past = omega arith
 no_fewer (Forget who listed) past = omega arith
 
--- what has a determinant is a delivery
-delivers : (past : List Entry) (e : Entry) (d : Det) → det_of past e ≡ Some d → is_delivery e ≡ true
-delivers past (Send from to ssn) d h = absurd (let x : None ≡ Some d = h in cc)
-delivers past (Deliver to send rsn listed) d h = refl
-delivers past (Stable det) d h = absurd (let x : None ≡ Some d = h in cc)
-delivers past (Crash who) d h = absurd (let x : None ≡ Some d = h in cc)
-delivers past (Restart who listed) d h = absurd (let x : None ≡ Some d = h in cc)
-delivers past (Forget who listed) d h = absurd (let x : None ≡ Some d = h in cc)
-
 -- a delivery with a determinant has a number
 pub has_number : (past : List Entry) (k : ℕ) (d : Det) → det_at past k ≡ Some d → (i : ℕ) × (i < deliveries_in past) × IsNumbered past i k
 has_number [] k d at = absurd (let x : None ≡ Some d = at in cc)
 has_number (e ∷ past) k d at =
     elim (eqb_tells k (length past)) [
       | inl here ↦
-          let is : is_delivery e ≡ true = delivers past e d (sym (cond-true (k == length past) (det_of past e) (det_at past k) here.0) ∙ at) in
+          let is : is_delivery e ≡ true = (det_delivers past e d (sym (cond-true (k == length past) (det_of past e) (det_at past k) here.0) ∙ at)).2 in
           (deliveries_in past, omega (arith, one_more e past is), inr (here.1, is, refl))
       | inr there ↦
           let old : (i : ℕ) × (i < deliveries_in past) × IsNumbered past i k = has_number past k d (sym (cond-false (k == length past) (det_of past e) (det_at past k) there.0) ∙ at) in

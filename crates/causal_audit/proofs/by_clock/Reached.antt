@@ -1,15 +1,19 @@
 -- Which entries a delivery reaches, at each instant and in the whole run, and how one is followed from change to change.
-use Rattle.causal_audit.proofs.Common.{ℕ, zero, suc, ◌≡◌, ◌-◌, ◌<◌, ◌≤◌, inl, false, Result, Ok, Err, List, [], ◌∷◌, length, drop, sym, arith, inr, Bool, true, Some, refl, ap, subst, ◌∙◌, ◌+◌, get_or, Option, OnOk, ◌↔◌, ◌⊎◌, ◌||◌, Contains, false≢true, or_cases, eqb-true, eq-eqb, cases_lt, or_left, or_right, nat_tests, Entry, instant, det_at, lane, entry_at, AreAccepted, Recording, IsWellFormed, IsEventOf, Reaches, actor, in_order, by_message, itself, onward, Depends, reaches_old, event_below, reaches_newest, ReachesNewest, is_newest, in_lane, through_message, accepted_forward, Pid, Det, Send, Deliver, nat_cmp, FinSet, contains, HasOrphan, entries_of, accepted_then, det_then, instant_length}
+use Rattle.causal_audit.proofs.Common.{ℕ, zero, suc, ◌≡◌, ◌-◌, ◌<◌, ◌≤◌, ◌==◌, inl, false, Result, Ok, Err, List, [], ◌∷◌, length, drop, sym, arith, inr, Bool, true, Some, refl, ap, subst, ◌∙◌, ◌+◌, get_or, Option, OnOk, ◌↔◌, ◌⊎◌, ◌||◌, Contains, false≢true, or_cases, eqb-true, eq-eqb, cases_lt, or_left, or_right, nat_tests, Entry, instant, det_at, lane, entry_at, AreAccepted, Recording, IsWellFormed, IsEventOf, Reaches, actor, in_order, by_message, itself, onward, Depends, reaches_old, event_below, reaches_newest, ReachesNewest, is_newest, has, in_lane, through_message, accepted_forward, Pid, Det, Send, Deliver, nat_cmp, FinSet, contains, HasOrphan, entries_of, accepted_then, det_then, instant_length}
 use Rattle.std.specs.Result.{is_err}
-use Rattle.causal_audit.proofs.Between.{reaches_more, known_already, instants_agree, none_agrees, sight_agrees}
+use Rattle.causal_clock.specs.declared.Event.{Event}
+use Rattle.causal_clock.specs.Precedence as clock
+use Rattle.causal_audit.proofs.Between.{reaches_more, known_already, quiet_step}
+use Rattle.causal_audit.proofs.Legal.{delivery_event}
+use Rattle.causal_audit.proofs.by_clock.Link.{clock_tells}
+use Rattle.causal_audit.specs.Inside.ByClock.Stands.{Stands}
 use Rattle.causal_audit.specs.Inside.Sights.{TellsNextReach, AreDependents, IsSight, IsSightAfter, BreachAt, TellsBreachAt}
 use Rattle.causal_audit.proofs.Swept.{sent_before}
 use Rattle.causal_audit.specs.declared.breach.Breach.{Breach}
-use Rattle.causal_audit.specs.declared.by_clock.changes.Changes.{Changes}
 use Rattle.causal_audit.specs.declared.sight.Sight.{Sight}
-use Rattle.causal_audit.specs.Quiet.{AreQuiet, Agree}
-use Rattle.causal_audit.specs.Inside.ByClock.Changes.{AreNoneUntil, AreFirstsBelow, AreFollowed, IsReachedBy}
-use Rattle.causal_audit.proofs.look.Staying.{mentioned_listed, entry_then}
+use Rattle.causal_audit.specs.Quiet.{Agree, mentioned_by}
+use Rattle.causal_audit.specs.Inside.ByClock.Changes.{AreMentionsOf, ChangesNothing, HasMentions, HasNoneUntil}
+use Rattle.causal_audit.proofs.look.Staying.{mentioned_next}
 use Rattle.causal_audit.proofs.Orphaned.{accepted_next}
 use Rattle.causal_audit.proofs.Steps.{entry_read, next_state}
 
@@ -98,102 +102,43 @@ module _ (n : ℕ) (past : List Entry) (k : ℕ) (depends : ℕ → Bool) (are :
 
 -- ==== a delivery that is followed from change to change
 
--- ---- an event is one at each later instant
+-- the entry at t, of which the clock tells whether the delivery reaches it, and the next mention whether it mentions the determinant
+module _ (r : Recording) (formed : IsWellFormed r) (es : List Entry) (read : es ≡ entries_of r) (events : List Event) (stands : Stands r.past events) (k : ℕ) (d : Det) (made : det_at r.past k ≡ Some d) (mentions : List ℕ) (listed : HasMentions r.past d mentions) (only : AreMentionsOf r.past d mentions)
+    (t : ℕ) (e : Entry) (is : e ≡ get_or es t e) (below : t < length r.past) (mention : ℕ) (late : t ≤ mention) (none : HasNoneUntil mentions t mention) (found : mention ≡ t → Contains mentions t) (reached : Bool) (tells : (reached ≡ true) ↔ clock.Reaches events k t) where
+  next : instant r.past (t + 1) ≡ e ∷ instant r.past t
+  next = next_state r es read t e below is
 
-event_dropped : (m : ℕ) (past : List Entry) (i p l : ℕ) → i < length past - m → IsEventOf past i p l → IsEventOf (drop m past) i p l
-event_dropped zero past i p l below at = at
-event_dropped (suc m) [] i p l below at = at
-event_dropped (suc m) (e ∷ past) i p l below (inl at) = event_dropped m past i p l (omega (arith, below)) at
-event_dropped (suc m) (e ∷ past) i p l below (inr at) = absurd (omega (arith, below, at.0))
+  long : length (instant r.past t) ≡ t
+  long = instant_length r.past t (omega (arith, below))
 
-event_then : (past : List Entry) (t i p l : ℕ) → t ≤ length past → i < t → IsEventOf past i p l → IsEventOf (instant past t) i p l
-event_then past t i p l within below at = event_dropped (length past - t) past i p l (omega (arith, within, below)) at
+  told : (mention == t) ≡ has (mentioned_by e) d
+  told = mentioned_next r.past d mentions listed only t mention none t (omega arith) late found e (entry_read r es read t e below is)
 
--- ---- the entries by which it newly reaches a process
+  clock_reached : TellsNextReach (instant r.past t) e k reached
+  clock_reached p of =
+      let from = delivery_event r.past k d made in
+      let here : IsEventOf (e ∷ instant r.past t) t p (lane (instant r.past t) p) = inr (sym long, of, refl) in
+      let event = event_whole r.past (t + 1) t p (lane (instant r.past t) p) (subst (λ past. IsEventOf past t p (lane (instant r.past t) p)) (sym next) here) in
+      let same = clock_tells r.processes r.past formed.accepted events stands k t from.0 p from.1 (lane (instant r.past t) p) from.2 event in (
+        λ h. subst (Reaches (e ∷ instant r.past t) k) (sym long) (subst (λ past. Reaches past k t) next (reaches_then r.processes r.past (t + 1) k t formed.accepted (omega (arith, below)) (omega arith) (same.0 (tells.0 h)))),
+        λ reach. tells.1 (same.1 (reaches_whole r.past (t + 1) k t (subst (λ past. Reaches past k t) (sym next) (subst (Reaches (e ∷ instant r.past t) k) long reach)))),
+      )
 
-module _ (r : Recording) (formed : IsWellFormed r) (k end : ℕ) (firsts : List ℕ) (are : AreFirstsBelow r.past k end firsts) (v : ℕ) (e : Entry) (below : v < length r.past) (early : v < end) (at : entry_at r.past v ≡ Some e) where
-  next : instant r.past (v + 1) ≡ e ∷ instant r.past v
-  next = entry_then r.past v e below at
+  -- where it changes nothing, the instants before and after it agree
+  pub unchanged : (s : Sight) → IsSight (instant r.past t) k d s → ChangesNothing e (mention == t) reached s.dependents → Agree (instant r.past t) (instant r.past (t + 1)) k d
+  unchanged s sight nothing =
+      subst (λ past. Agree (instant r.past t) past k d) (sym next)
+      (quiet_step r.processes e (instant r.past t) k d (accepted_next r formed t e below next) (record {
+        no_turn = nothing.no_turn;
+        unmentioned = sym told ∙ nothing.unmentioned;
+        known = λ p of reach. (sight.dependents p).0 (nothing.known p of ((clock_reached p of).1 reach));
+      }))
 
-  long : length (instant r.past v) ≡ v
-  long = instant_length r.past v (omega (arith, below))
+  -- else what is known after it tells whether the delivery has an orphan then
+  pub seen_after : (before after : Sight) → IsSight (instant r.past t) k d before → IsSightAfter e (mention == t) reached before after → IsSight (instant r.past (t + 1)) k d after
+  seen_after before after sight sees =
+      subst (λ past. IsSight past k d after) (sym next) (sees r.processes (instant r.past t) k d (accepted_next r formed t e below next) told clock_reached sight)
 
-  -- what reaches the entry then reaches it in the whole run, and the other way round
-  reach_out : Reaches (e ∷ instant r.past v) k (length (instant r.past v)) → Reaches r.past k v
-  reach_out h = reaches_whole r.past (v + 1) k v (subst (λ past. Reaches past k v) (sym next) (subst (Reaches (e ∷ instant r.past v) k) long h))
-
-  reach_in : Reaches r.past k v → Reaches (e ∷ instant r.past v) k (length (instant r.past v))
-  reach_in h = subst (Reaches (e ∷ instant r.past v) k) (sym long) (subst (λ past. Reaches past k v) next (reaches_then r.processes r.past (v + 1) k v formed.accepted (omega (arith, below)) (omega arith) h))
-
-  -- a reached event is among the firsts, or its process depends on k already
-  first_or_known : (p : ℕ) → actor e ≡ Some p → Reaches (e ∷ instant r.past v) k (length (instant r.past v)) → Contains firsts v ⊎ Depends (instant r.past v) k p
-  first_or_known p of reach =
-      let here : IsEventOf (e ∷ instant r.past v) v p (lane (instant r.past v) p) = inr (sym long, of, refl) in
-      let event = event_whole r.past (v + 1) v p (lane (instant r.past v) p) (subst (λ past. IsEventOf past v p (lane (instant r.past v) p)) (sym next) here) in
-      elim (are.first v p (lane (instant r.past v) p) early event (reach_out reach)) [
-        | inl listed ↦ inl listed
-        | inr found ↦ inr (known_already r.processes (instant r.past v) e k found.0 p (subst (AreAccepted r.processes) next (accepted_then r.processes r.past (v + 1) formed.accepted)).1 of
-            (event_then r.past v found.0 p (lane (instant r.past v) p) (omega (arith, below)) found.1 found.2)
-            (reaches_then r.processes r.past v k found.0 formed.accepted (omega (arith, below)) found.1 found.3))
-      ]
-
-  -- so it is told whether the entry is reached
-  pub followed_tells : (dependents : FinSet nat_cmp) → AreDependents (instant r.past v) k dependents → (newly hit : Bool) → (newly ≡ true) ↔ Contains firsts v → IsReachedBy e dependents newly hit → TellsNextReach (instant r.past v) e k hit
-  followed_tells dependents known newly hit tells by p of = (
-    λ h. elim (or_cases newly (contains dependents p) (sym (by p of) ∙ h)) [
-      | inl is ↦ reach_in (are.reached v early (tells.0 is))
-      | inr already ↦ reached_after e (instant r.past v) k p of ((known p).0 already)
-    ],
-    λ reach. by p of ∙ elim (first_or_known p of reach) [
-      | inl listed ↦ or_left newly (contains dependents p) (tells.1 listed)
-      | inr depends ↦ or_right newly (contains dependents p) ((known p).1 depends)
-    ],
-  )
-
--- ---- from a change to the next
-
-module _ (r : Recording) (formed : IsWellFormed r) (k : ℕ) (d : Det) (end : ℕ) (within : end ≤ length r.past) (lists : Changes) (followed : AreFollowed r.past k d end lists) (t u : ℕ) (up : t ≤ u) (low : u ≤ end) (none : AreNoneUntil lists t u) where
-  quiet : (w : ℕ) → w ≤ u → AreQuiet r.past t w k d
-  quiet w early v e above below there = record {
-    no_turn = followed.turned v e there (none.turns v above (omega (arith, below, early)));
-    unmentioned = followed.mentioned v e there (none.mentions v above (omega (arith, below, early)));
-    known = λ p of reach.
-        elim (first_or_known r formed k end lists.firsts.now followed.firsts v e (omega (arith, below, early, low, within)) (omega (arith, below, early, low)) there p of reach) [
-          | inl listed ↦ absurd (none.firsts v above (omega (arith, below, early)) listed)
-          | inr depends ↦ depends
-        ];
-  }
-
-  agree : (w : ℕ) → t ≤ w → w ≤ u → Agree (instant r.past t) (instant r.past w) k d
-  agree w late early = instants_agree r.processes r.past k d t w formed.accepted late (omega (arith, early, low, within)) (quiet w early)
-
-  -- the same is known at the next change
-  pub followed_sight : (s : Sight) → IsSight (instant r.past t) k d s → IsSight (instant r.past u) k d s
-  followed_sight s = sight_agrees (instant r.past t) (instant r.past u) k d s (agree u up (omega arith))
-
-  -- and it has no orphan up to there, where it has none so far
-  pub followed_none : (f : ℕ) → det_at r.past k ≡ Some d → ((w : ℕ) → w ≤ t → HasOrphan r.processes f (instant r.past w) k → ⊥) → (w : ℕ) → w ≤ u → HasOrphan r.processes f (instant r.past w) k → ⊥
-  followed_none f at so_far w early has =
-      elim (cases_lt t w) [
-        | inr old ↦ so_far w old has
-        | inl late ↦ so_far t (omega arith) (none_agrees r.processes f r.past k d t w at (omega (arith, late)) (omega (arith, early, low, within)) (agree w (omega (arith, late)) early) has)
-      ]
-
-  -- what is known after it
-  pub followed_seen : (es : List Entry) → es ≡ entries_of r → (x : Entry) → x ≡ get_or es u x → (early : u < end) → (before after : Sight) → (mentioned newly hit : Bool) → IsSight (instant r.past t) k d before
-      → (mentioned ≡ true) ↔ Contains lists.mentions.now u → (newly ≡ true) ↔ Contains lists.firsts.now u → IsReachedBy x before.dependents newly hit → IsSightAfter x mentioned hit before after → IsSight (instant r.past (u + 1)) k d after
-  followed_seen es read x is early before after mentioned newly hit sight tells_mention tells_first by sees =
-      let below : u < length r.past = omega (arith, early, within) in
-      let there = entry_read r es read u x below is in
-      let next = next_state r es read u x below is in
-      let here = followed_sight before sight in
-      subst (λ past. IsSight past k d after) (sym next)
-      (sees r.processes (instant r.past u) k d (accepted_next r formed u x below next)
-      (mentioned_listed r.past d lists.mentions.now followed.mentioned followed.only u x there mentioned tells_mention)
-      (followed_tells r formed k end lists.firsts.now followed.firsts u x below early there before.dependents here.dependents newly hit tells_first by) here)
-
-  -- so it is told whether it has an orphan then
-  pub followed_breach : (f : ℕ) → det_at r.past k ≡ Some d → (early : u < end) → (after : Sight) (found : Option Breach) → IsSight (instant r.past (u + 1)) k d after → TellsBreachAt f k (u + 1) after found → BreachAt r.processes f (instant r.past (u + 1)) k (u + 1) found
-  followed_breach f at early after found sight tells =
-      let below : u + 1 ≤ length r.past = omega (arith, early, within) in
-      tells r.processes (instant r.past (u + 1)) d (accepted_then r.processes r.past (u + 1) formed.accepted) (instant_length r.past (u + 1) below) (λ made. det_then r.past (u + 1) k made below ∙ at) sight
+pub breach_after : (r : Recording) (formed : IsWellFormed r) (f k : ℕ) (d : Det) (made : det_at r.past k ≡ Some d) (t : ℕ) (within : t ≤ length r.past) (s : Sight) (found : Option Breach) → IsSight (instant r.past t) k d s → TellsBreachAt f k t s found → BreachAt r.processes f (instant r.past t) k t found
+breach_after r formed f k d made t within s found sight tells =
+    tells r.processes (instant r.past t) d (accepted_then r.processes r.past t formed.accepted) (instant_length r.past t within) (λ early. det_then r.past t k early within ∙ made) sight

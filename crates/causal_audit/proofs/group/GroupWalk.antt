@@ -1,5 +1,5 @@
 -- A walk over the entries for the deliveries of a group.
-use Rattle.causal_audit.proofs.Common.{ℕ, All, cases_lt, ◌≡◌, ◌+◌, ◌++◌, ◌<◌, inl, inr, Bool, true, false, List, [], ◌∷◌, length, Option, Some, None, refl, sym, ap, subst, ◌∙◌, arith, ◌≤◌, min, take, ◌⊎◌, Contains, ◌&&◌, ◌==◌, not, ◌↔◌, ◌||◌, nat_cmp, FinSet, contains, remove, empty, union, difference, contains-empty, contains-union, contains-difference, insert, or_cases, or_left, or_right, false≢true, false_from_ne_true, eqb-true, eq-eqb, and_from, cases_Bool, Contains-push, Contains-push_cases, Contains-append_left, Contains-get_or, length-map, length-set, get_or-map, get_or-set_same, get_or-set_other, take_min, Det, Entry, instant, det_at, has, logs, entry_at, message_sent, Recording, AreAccepted, IsWellFormed, Depends, HasOrphan, accepted_then, det_then, det_within, instant_length, nat_cmp_total, eqb_tells, nat_tests, Pid, Deliver, Crash, Restart, Forget, Send, Stable, max_entries, set, take-length}
+use Rattle.causal_audit.proofs.Common.{ℕ, All, cases_lt, ◌≡◌, ◌+◌, ◌++◌, ◌<◌, inl, inr, Bool, true, false, List, [], ◌∷◌, length, Option, Some, None, refl, sym, ap, subst, ◌∙◌, arith, ◌≤◌, min, take, ◌⊎◌, Contains, ◌&&◌, ◌==◌, not, ◌↔◌, ◌||◌, nat_cmp, FinSet, contains, remove, empty, union, difference, contains-empty, contains-union, contains-difference, insert, or_cases, or_left, or_right, false≢true, false_from_ne_true, eqb-true, eq-eqb, and_from, cases_Bool, Contains-push, Contains-push_cases, Contains-append_left, Contains-get_or, length-map, length-set, get_or-map, get_or-set_same, get_or-set_other, Det, Entry, instant, det_at, has, logs, entry_at, message_sent, Recording, AreAccepted, IsWellFormed, Depends, HasOrphan, accepted_then, det_then, det_within, instant_length, nat_cmp_total, eqb_tells, nat_tests, Pid, Deliver, Crash, Restart, Forget, Send, Stable, max_entries, set}
 use Rattle.causal_audit.specs.declared.breach.Breach.{Breach}
 use Rattle.causal_audit.specs.declared.group.copies.Copies.{Copies}
 use Rattle.causal_audit.specs.declared.group.suspects.Step.{Step}
@@ -22,7 +22,7 @@ use Rattle.causal_audit.proofs.Steps.{up_to_next}
 use Rattle.causal_audit.proofs.group.Windowed.{position, zero}
 use Rattle.causal_audit.specs.declared.group.room.Room.{Room}
 use Rattle.causal_audit.specs.declared.group.reach.Reach.{Reach}
-use Rattle.causal_audit.proofs.Shown.{inserted}
+use Rattle.causal_audit.proofs.Shown.{inserted, parts}
 
 abbrev Sets : Type 0
 Sets = List (FinSet nat_cmp)
@@ -257,10 +257,6 @@ not_second a b c h k = grind (arith, nat_tests)
 
 apart_and : (a c : Bool) → a ≡ false → c ≡ true → (not a && c) ≡ true
 apart_and a c h k = grind (arith, nat_tests)
-
--- a member of a difference is one of the first set, and none of the second
-parts : (a b : Bool) → (a && not b) ≡ true → (a ≡ true) × (b ≡ false)
-parts a b h = grind (arith, nat_tests)
 
 -- the rows of all processes but p are as before, and that of p has these places at most
 module _ (old new : List (FinSet nat_cmp)) (p : ℕ) (places : FinSet nat_cmp) (others : (i : ℕ) → (i ≡ p → ⊥) → row new i ≡ row old i)
@@ -517,12 +513,6 @@ put_in rows place r inside i j low =
     ]
 
 -- ---- one position more
-
--- so many as there are, or more, are all
-pub take_all : {X : Type 0} → (xs : List X) (i : ℕ) → length xs ≤ i → take i xs ≡ xs
-take_all xs i many =
-    let same : min i (length xs) ≡ length xs = omega (arith, many) in
-    sym (take_min i xs) ∙ ap (λ n. take n xs) same ∙ take-length xs
 
 pub marked_more : (place position : ℕ) (done : List ℕ) (old mid new : Sets) → length mid ≡ length old → HaveMarked place done old mid → IsPut place position mid new → HaveMarked place (done ++ position ∷ []) old new
 marked_more place position done old mid new same marked is i j low =

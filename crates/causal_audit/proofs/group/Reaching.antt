@@ -8,7 +8,7 @@ use Rattle.causal_audit.proofs.Legal.{sent_is}
 use Rattle.causal_audit.proofs.Steps.{entry_cases, entry_within}
 use Rattle.causal_audit.proofs.by_clock.Reached.{send_tells, delivery_tells}
 use Rattle.causal_audit.proofs.index.Receivers.{reach_later}
-use Rattle.causal_audit.proofs.Shown.{inserted, removed, crash_inside, restart_inside}
+use Rattle.causal_audit.proofs.Shown.{inserted, parts, removed, crash_inside, restart_inside}
 
 abbrev Sets : Type 0
 Sets = List (FinSet nat_cmp)
@@ -183,7 +183,7 @@ module _ (n : ℕ) (past : List Entry) (start k j : ℕ) (rows present : Sets) (
     delivered room = (
       record { early = told.early; behind = behind_same e formed refl; depends = depends_set room },
       record {
-        sound = λ h. (tells to.0 refl).0 (first (contains hit j) (contains (row present to.0) j) (sym (contains-difference nat_cmp_total hit (row present to.0) j) ∙ h));
+        sound = λ h. (tells to.0 refl).0 (parts (contains hit j) (contains (row present to.0) j) (sym (contains-difference nat_cmp_total hit (row present to.0) j) ∙ h)).0;
         complete = λ p of reach.
             let same : to.0 ≡ p = let x : Some to.0 ≡ Some p = of in cc in
             elim (either_new (contains hit j) (contains (row present to.0) j) ((tells p of).1 reach)) [
@@ -193,9 +193,6 @@ module _ (n : ℕ) (past : List Entry) (start k j : ℕ) (rows present : Sets) (
       },
     )
       where
-        first : (a b : Bool) → (a && not b) ≡ true → a ≡ true
-        first a b h = grind (arith, nat_tests)
-
         either_new : (a b : Bool) → a ≡ true → ((a && not b) ≡ true) ⊎ (b ≡ true)
         either_new a b h = grind (arith, nat_tests)
 

@@ -1,9 +1,7 @@
 -- A walk over an ascending list.
 use Rattle.causal_audit.proofs.Common.{ℕ, ◌≡◌, ◌+◌, ◌<◌, ◌≤◌, inl, inr, true, false, List, length, get_or, subst, arith, IsNonDecreasing, IsPartitionPoint, cases_lt, ltb-true, get_or_default}
 use Rattle.std.proofs.Math.Dec.{ltb}
-use Rattle.causal_audit.specs.declared.by_clock.changes.Changes.{Changes}
-use Rattle.causal_audit.specs.declared.by_clock.changes.Ahead.{Ahead}
-use Rattle.causal_audit.specs.Inside.ByClock.Changes.{AreAhead, HasNoneUntil, IsCursor}
+use Rattle.causal_audit.specs.Inside.ByClock.Changes.{HasNoneUntil, IsCursor}
 
 -- ---- the numbers that a cursor has passed
 
@@ -43,11 +41,4 @@ pub cursor_later : (list : List ℕ) (from to : ℕ) (cursor : _) → from ≤ t
 cursor_later list from to cursor up is = record {
   over = is.over;
   passed = λ i v low. omega (arith, is.passed i v low, up);
-}
-
-pub ahead_later : (changes : Changes) (from to : ℕ) (ahead : Ahead) → from ≤ to → AreAhead changes from ahead → AreAhead changes to ahead
-ahead_later changes from to ahead up are = record {
-  mentions = cursor_later changes.mentions.now from to ahead.mentions up are.mentions;
-  firsts = cursor_later changes.firsts.now from to ahead.firsts up are.firsts;
-  turns = cursor_later changes.turns.now from to ahead.turns up are.turns;
 }

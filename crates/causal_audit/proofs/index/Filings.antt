@@ -1,8 +1,6 @@
 -- The lists of positions that are kept of a run: one more position, and one more entry.
-use Rattle.causal_audit.proofs.Common.{ℕ, ◌≡◌, ◌≢◌, ◌+◌, ◌-◌, ◌<◌, ◌≤◌, inl, inr, true, false, Result, Ok, Err, List, [], ◌∷◌, ◌++◌, length, get_or, Option, Some, None, refl, sym, ap, subst, ◌∙◌, arith, Bool, map, reverse, ◌⊎◌, OnOk, Contains, ◌==◌, ◌&&◌, ◌||◌, is_some, option_map_or, All, get_or-eq_default, get_or-append, cases_lt, false≢true, cond-true, cond-false, false_from_ne_true, eqb-true, eq-eqb, ne_eqb, and_parts, or_cases, cases_Bool, or_left, or_right, eqb_tells, nat_tests, get_or-set_same, get_or-set_other, get_or_past, length-map, length-reverse, reverse-append, All-push, All-set, All-get_or, All-weaker, Contains-append_left, Contains-push, Contains-push_cases, IsNonDecreasingBy-push, Entry, lane, entry_at, has, actor, IsEventOf, nat_cmp, FinSet, contains, empty, remove, contains-empty, IsNonDecreasing, Send, Deliver, Stable, Crash, Restart, Forget, entry_beyond, get_or-append_seam, Det, same_det}
-use Rattle.causal_clock.specs.declared.Event.{Event}
-use Rattle.causal_clock.specs.Timeline.{lane_of}
-use Rattle.causal_audit.specs.Inside.Index.Filed.{Ascends, AreLanes, list_at, with_added, AreMentions, AreMentionsWith, Numbers, mentions_of, number_of, AreTurnsOf, IsFirstCrash, is_turn_of}
+use Rattle.causal_audit.proofs.Common.{ℕ, ◌≡◌, ◌≢◌, ◌+◌, ◌-◌, ◌<◌, ◌≤◌, inl, inr, true, false, Result, Ok, Err, List, [], ◌∷◌, ◌++◌, length, get_or, Option, Some, None, refl, sym, ap, subst, ◌∙◌, arith, Bool, map, reverse, ◌⊎◌, OnOk, Contains, ◌==◌, ◌&&◌, ◌||◌, option_map_or, All, get_or-eq_default, get_or-append, cases_lt, false≢true, cond-true, cond-false, false_from_ne_true, eqb-true, eq-eqb, ne_eqb, and_parts, or_cases, cases_Bool, or_left, or_right, eqb_tells, nat_tests, get_or-set_same, get_or-set_other, get_or_past, length-map, length-reverse, reverse-append, All-push, All-set, All-get_or, All-weaker, Contains-append_left, Contains-push, Contains-push_cases, IsNonDecreasingBy-push, Entry, entry_at, has, nat_cmp, FinSet, contains, empty, remove, contains-empty, IsNonDecreasing, Send, Deliver, Stable, Crash, Restart, Forget, entry_beyond, get_or-append_seam, Det, same_det}
+use Rattle.causal_audit.specs.Inside.Index.Filed.{Ascends, list_at, with_added, AreMentions, AreMentionsWith, Numbers, mentions_of, number_of, AreTurnsOf, IsFirstCrash, is_turn_of}
 use Rattle.causal_audit.specs.Inside.ByClock.Changes.{HasNoneUntil, HasMentions}
 use Rattle.causal_audit.specs.Inside.Look.Staying.{restarts_one, RestartsNone}
 use Rattle.causal_audit.specs.Spread.{IsCrashOf}
@@ -73,55 +71,6 @@ nothing_in lists all m v has =
       | inl there ↦ let is : list_at lists m ≡ [] = all m [] there in omega (arith, has.1, ap length is)
       | inr beyond ↦ let is : list_at lists m ≡ [] = get_or-eq_default lists [] beyond in omega (arith, has.1, ap length is)
     ]
-
--- ---- the lanes, with one more entry
-
-one_longer : (e : Entry) (past : List Entry) → length past + 1 ≡ length (e ∷ past)
-one_longer e past = omega arith
-
-pub lanes_more : (e : Entry) (past : List Entry) (events : List Event) (lists : List (List ℕ)) (m p : ℕ) → actor e ≡ Some p → lane_of events (length past) ≡ m → m < length lists → AreLanes past events lists → AreLanes (e ∷ past) events (with_added lists m (length past))
-lanes_more e past events lists m p of lane_is there are = record {
-  ascend = subst (λ n. All (Ascends n) (with_added lists m (length past))) (one_longer e past)
-      (added_ascend lists m (length past) there (ascend_weaker (length past) (length past + 1) lists (omega arith) are.ascend));
-  inside = λ j v has. elim (added_cases lists m (length past) there j v has) [
-    | inl old ↦ let was = are.inside j v old in (was.0, was.1, was.2, inl was.3)
-    | inr new ↦ (ap (lane_of events) (sym new.1) ∙ lane_is ∙ sym new.0, p, lane past p, inr (sym new.1, of, refl))
-  ];
-  each = each;
-}
-  where
-    each : (v q l : ℕ) → IsEventOf (e ∷ past) v q l → Contains (list_at (with_added lists m (length past)) (lane_of events v)) v
-    each v q l (inl at) = added_keeps lists m (length past) there (lane_of events v) v (are.each v q l at)
-    each v q l (inr at) =
-        subst (λ w. Contains (list_at (with_added lists m (length past)) (lane_of events w)) w) (sym at.0)
-        (subst (λ j. Contains (list_at (with_added lists m (length past)) j) (length past)) (sym lane_is) (added_has lists m (length past) there))
-
-pub lanes_same : (e : Entry) (past : List Entry) (events : List Event) (lists : List (List ℕ)) → actor e ≡ None → AreLanes past events lists → AreLanes (e ∷ past) events lists
-lanes_same e past events lists none are = record {
-  ascend = subst (λ n. All (Ascends n) lists) (one_longer e past) (ascend_weaker (length past) (length past + 1) lists (omega arith) are.ascend);
-  inside = λ j v has. let was = are.inside j v has in (was.0, was.1, was.2, inl was.3);
-  each = each;
-}
-  where
-    each : (v q l : ℕ) → IsEventOf (e ∷ past) v q l → Contains (list_at lists (lane_of events v)) v
-    each v q l (inl at) = are.each v q l at
-    each v q l (inr at) = absurd (let x : None ≡ Some q = sym none ∙ at.1 in cc)
-
-pub lanes_none : (events : List Event) (lists : List (List ℕ)) → All (λ list. list ≡ []) lists → AreLanes [] events lists
-lanes_none events lists all = record {
-  ascend = empty_ascend lists all;
-  inside = λ m v has. absurd (nothing_in lists all m v has);
-  each = λ v p l at. absurd at;
-}
-
--- what an entry's actor is, by whether it has one
-pub has_actor : (o : Option ℕ) → is_some o ≡ true → (p : ℕ) × (o ≡ Some p)
-has_actor None h = absurd (false≢true h)
-has_actor (Some p) h = (p, refl)
-
-pub no_actor : (o : Option ℕ) → is_some o ≡ false → o ≡ None
-no_actor None h = refl
-no_actor (Some p) h = absurd (false≢true (sym h))
 
 pub on_ok : {A E P Q : Type 0} (r : Result A E) → (P → Q) → OnOk r P → OnOk r Q
 on_ok (Ok x) f h = f h

@@ -25,15 +25,14 @@ use Rattle.causal_audit.proofs.by_clock.Link.{delivers_below}
 abbrev Left : List Entry → ℕ → ℕ → ℕ → ℕ → Type 0
 Left past i p l v = (s : ℕ) × (j : ℕ) × (i ≤ s) × IsEventOf past s p l × Delivers past j s × (j ≤ v)
 
--- what an event reaches is no earlier
-pub reach_later : (n : ℕ) (past : List Entry) → AreAccepted n past → (i j : ℕ) → Reaches past i j → i ≤ j
-reach_later n past formed i j (itself p l at) = omega arith
-reach_later n past formed i k (onward {j} r (in_order p l less a b)) = omega (arith, reach_later n past formed i j r, less)
-reach_later n past formed i k (onward {j} r (by_message h)) = omega (arith, reach_later n past formed i j r, accepted_forward n past formed k j h)
-
 precedes_less : (n : ℕ) (past : List Entry) → AreAccepted n past → (i j : ℕ) → DirectlyPrecedes past i j → i < j
 precedes_less n past formed i j (in_order p l less a b) = less
 precedes_less n past formed i j (by_message h) = accepted_forward n past formed j i h
+
+-- what an event reaches is no earlier
+pub reach_later : (n : ℕ) (past : List Entry) → AreAccepted n past → (i j : ℕ) → Reaches past i j → i ≤ j
+reach_later n past formed i j (itself p l at) = omega arith
+reach_later n past formed i k (onward {j} r direct) = omega (arith, reach_later n past formed i j r, precedes_less n past formed j k direct)
 
 module _ (n : ℕ) (past : List Entry) (formed : AreAccepted n past) (i p l : ℕ) (of : IsEventOf past i p l) where
   next_stays : (j v : ℕ) → i ≤ j → IsEventOf past j p l → DirectlyPrecedes past j v → IsEventOf past v p l ⊎ Left past i p l v
@@ -66,19 +65,9 @@ receiver_named past (Forget who listed) d p h of = absurd (let k : None ≡ Some
 
 receiver_is : (past : List Entry) (k : ℕ) (d : Det) (p l : ℕ) → det_at past k ≡ Some d → IsEventOf past k p l → p ≡ d.dest.0
 receiver_is [] k d p l h of = absurd of
-receiver_is (e ∷ past) k d p l h of =
-    elim (k == length past) as (λ b. (k == length past) ≡ b → cond b (det_of past e) (det_at past k) ≡ Some d → p ≡ d.dest.0) [
-      | true ↦ λ here at. newest (eqb-true k (length past) here) at of
-      | false ↦ λ there at. older (λ old. receiver_is past k d p l at old) there of
-    ] refl h
-  where
-    newest : k ≡ length past → det_of past e ≡ Some d → IsEventOf (e ∷ past) k p l → p ≡ d.dest.0
-    newest is at (inl old) = omega (arith, is, event_below past k p l old)
-    newest is at (inr new) = receiver_named past e d p at new.1
-
-    older : (IsEventOf past k p l → p ≡ d.dest.0) → (k == length past) ≡ false → IsEventOf (e ∷ past) k p l → p ≡ d.dest.0
-    older before apart (inl old) = before old
-    older before apart (inr new) = absurd (false≢true (sym apart ∙ eq-eqb k (length past) new.0))
+receiver_is (e ∷ past) k d p l h (inl old) =
+    receiver_is past k d p l (sym (cond-false (k == length past) (det_of past e) (det_at past k) (ne_eqb k (length past) (λ is. omega (arith, is, event_below past k p l old)))) ∙ h) old
+receiver_is (e ∷ past) k d p l h (inr new) = receiver_named past e d p (sym (cond-true (k == length past) (det_of past e) (det_at past k) (eq-eqb k (length past) new.0)) ∙ h) new.1
 
 -- ---- while it stays, only the receiver depends
 
@@ -280,24 +269,14 @@ module _ (n most : ℕ) (past : List Entry) (formed : AreAccepted n past) (k : �
 
 -- ---- the entry that delivers
 
-newest_delivers : (x e : Entry) (past : List Entry) (j s : ℕ) → j ≡ length past → x ≡ e → Delivers (x ∷ past) j s → is_delivery_of s e ≡ true
-newest_delivers x e past j s here same (inl old) = absurd (omega (arith, here, delivers_below past j s old))
-newest_delivers x e past j s here same (inr new) = ap (is_delivery_of s) (sym same) ∙ new.1
-
-older_delivers : (x : Entry) (past : List Entry) (j s : ℕ) → j ≢ length past → Delivers (x ∷ past) j s → Delivers past j s
-older_delivers x past j s there (inl old) = old
-older_delivers x past j s there (inr new) = absurd (there new.0)
-
 pub delivers_entry : (past : List Entry) (j s : ℕ) (e : Entry) → entry_at past j ≡ Some e → Delivers past j s → is_delivery_of s e ≡ true
 delivers_entry [] j s e at delivers = absurd delivers
-delivers_entry (x ∷ past) j s e at delivers =
-    elim (eqb_tells j (length past)) [
-      | inl here ↦
-          let is : Some x ≡ Some e = sym (cond-true (j == length past) (Some x) (entry_at past j) here.0) ∙ at in
-          let same : x ≡ e = cc is in
-          newest_delivers x e past j s here.1 same delivers
-      | inr there ↦ delivers_entry past j s e (sym (cond-false (j == length past) (Some x) (entry_at past j) there.0) ∙ at) (older_delivers x past j s there.1 delivers)
-    ]
+delivers_entry (x ∷ past) j s e at (inl old) =
+    delivers_entry past j s e (sym (cond-false (j == length past) (Some x) (entry_at past j) (ne_eqb j (length past) (λ is. omega (arith, is, delivers_below past j s old)))) ∙ at) old
+delivers_entry (x ∷ past) j s e at (inr new) =
+    let is : Some x ≡ Some e = sym (cond-true (j == length past) (Some x) (entry_at past j) (eq-eqb j (length past) new.0)) ∙ at in
+    let same : x ≡ e = cc is in
+    ap (is_delivery_of s) (sym same) ∙ new.1
 
 -- ---- what an entry notes at its send
 

@@ -1,5 +1,5 @@
 -- Until when those who are down or hold a determinant are still so, and how it stands until then.
-use Rattle.causal_audit.proofs.Common.{ℕ, ◌≡◌, ◌+◌, ◌<◌, ◌≤◌, inl, inr, Bool, true, false, List, [], ◌∷◌, length, refl, sym, ap, subst, ◌∙◌, arith, Some, ◌||◌, ◌&&◌, ◌==◌, not, ◌↔◌, Contains, cases_lt, false≢true, ne_eqb, eqb-true, or_cases, and_parts, false_from_ne_true, or_right, eq-eqb, and_right, Det, same_det, count_below, count_below-within, members_counted, Entry, Send, Deliver, Stable, Crash, Restart, Forget, instant, is_down, is_stable, logs, has, entry_at, instants_stay, one_more_instant, last_instant, instant_length, det_then, accepted_then, nat_cmp_total, nat_cmp, FinSet, contains, difference, contains-difference, union, len, contains-union, Pid, AreAccepted, delivers_up, eqb_tells, nat_tests}
+use Rattle.causal_audit.proofs.Common.{ℕ, ◌≡◌, ◌+◌, ◌<◌, ◌≤◌, inl, inr, Bool, true, false, List, [], ◌∷◌, length, refl, sym, ap, subst, ◌∙◌, arith, Some, None, ◌||◌, ◌&&◌, ◌==◌, not, ◌↔◌, Contains, cases_lt, false≢true, ne_eqb, eqb-true, or_cases, and_parts, false_from_ne_true, or_right, eq-eqb, and_right, Det, same_det, count_below, count_below-within, members_counted, Entry, Send, Deliver, Stable, Crash, Restart, Forget, instant, is_down, is_stable, logs, has, entry_at, instant_length, det_then, accepted_then, nat_cmp_total, nat_cmp, FinSet, contains, difference, contains-difference, union, len, contains-union, Pid, AreAccepted, delivers_up, eqb_tells, nat_tests}
 use Rattle.causal_audit.specs.Laws.{gone}
 use Rattle.causal_audit.specs.Inside.Look.Looks.{IsThinAt, RulesOut, StandsBy}
 use Rattle.causal_audit.specs.Lasting.{may_release, NoneReleasedFrom, IsOver, OrphansEnd}
@@ -17,28 +17,9 @@ use Rattle.causal_audit.specs.Inside.Sights.{Shows}
 use Rattle.causal_audit.specs.declared.look.thin.Standing.{Standing}
 use Rattle.causal_audit.specs.declared.look.thin.Standing.TheVariants.{Kept, Thin, Bare}
 use Rattle.causal_audit.proofs.Shown.{down_inside, logs_inside}
+use Rattle.causal_audit.proofs.Steps.{entry_cases}
 
 -- ==== when a delivery has no orphan any more
-
--- ---- what each entry from a position on keeps holds at the later instants
-
-abbrev Keeps : (List Entry → Type 0) → List Entry → ℕ → Type 0
-Keeps P [] t = Unit {0}
-Keeps P (e ∷ past) t = Keeps P past t × (t ≤ length past → P past → P (e ∷ past))
-
-kept : (P : List Entry → Type 0) (past : List Entry) (t u : ℕ) → Keeps P past t → t ≤ u → u ≤ length past → P (instant past t) → P (instant past u)
-kept P [] t u keeps up within h = let same : t ≡ u = omega (arith, up, within) in subst (λ x. P (instant [] x)) same h
-kept P (e ∷ past) t u keeps up within h =
-    elim (cases_lt (length past) u) [
-      | inl last ↦ elim (cases_lt (length past) t) [
-        | inl late ↦ let same : t ≡ u = omega (arith, up, within, late) in subst (λ x. P (instant (e ∷ past) x)) same h
-        | inr before ↦
-            let at : u ≡ length past + 1 = omega (arith, last, within) in
-            let here : P past = subst P (last_instant past) (kept P past t (length past) keeps.0 before (omega arith) (subst P (instants_stay e past t before) h)) in
-            subst P (sym (ap (λ x. instant (e ∷ past) x) at ∙ one_more_instant e past)) (keeps.1 before here)
-      ]
-      | inr early ↦ subst P (sym (instants_stay e past u early)) (kept P past t u keeps.0 up early (subst P (instants_stay e past t (omega (arith, up, early))) h))
-    ]
 
 -- ---- what is stable stays stable
 
@@ -49,10 +30,6 @@ stable_more (Stable det) past d h = or_right (same_det d det) (is_stable past d)
 stable_more (Crash who) past d h = h
 stable_more (Restart who listed) past d h = h
 stable_more (Forget who listed) past d h = h
-
-keeps_stable : (past : List Entry) (t : ℕ) (d : Det) → Keeps (λ p. is_stable p d ≡ true) past t
-keeps_stable [] t d = tt
-keeps_stable (e ∷ past) t d = (keeps_stable past t d, λ _ h. stable_more e past d h)
 
 -- ---- who is down or holds a determinant stays so where none is released
 
@@ -70,19 +47,23 @@ gone_more (Crash who) past d p stays h = or_turned (who.0 == p) (is_down past p)
 gone_more (Restart who listed) past d p stays h = absurd (false≢true (sym stays))
 gone_more (Forget who listed) past d p stays h = absurd (false≢true (sym stays))
 
-keeps_gone : (past : List Entry) (t : ℕ) (d : Det) (p : ℕ) → NoneReleasedFrom past t → Keeps (λ x. gone x d p ≡ true) past t
-keeps_gone [] t d p none = tt
-keeps_gone (e ∷ past) t d p none = (keeps_gone past t d p none.0, λ late h. gone_more e past d p (none.1 late) h)
+none_releases : (past : List Entry) (t : ℕ) → NoneReleasedFrom past t → (v : ℕ) (e : Entry) → t ≤ v → entry_at past v ≡ Some e → may_release e ≡ false
+none_releases [] t none v e late at = absurd (let x : None ≡ Some e = at in cc)
+none_releases (x ∷ past) t none v e late at = elim (entry_cases x past v e at) [
+  | inl old ↦ none_releases past t none.0 v e late old
+  | inr new ↦ ap may_release (sym new.1) ∙ none.1 (omega (arith, late, new.0))
+]
 
 -- where none is released, who is down or holds d is so at each later instant
 pub gone_lasts : (past : List Entry) (d : Det) (t u : ℕ) → NoneReleasedFrom past t → t ≤ u → u ≤ length past → (p : ℕ) → gone (instant past t) d p ≡ true → gone (instant past u) d p ≡ true
-gone_lasts past d t u none up within p = kept (λ x. gone x d p ≡ true) past t u (keeps_gone past t d p none) up within
+gone_lasts past d t u none up within p =
+    onward_to (λ x. gone x d p ≡ true) past t u up within (λ v e above below at h. gone_more e (instant past v) d p (none_releases past t none v e above at) h)
 
 -- ---- the end
 
 -- so a determinant that is over is stable, or more than f are down or hold it, at each later instant
 pub over_then : (n f : ℕ) (past : List Entry) (d : Det) (t u : ℕ) → IsOver n f past t d → t ≤ u → u ≤ length past → is_stable (instant past u) d ≡ false → count_below n (gone (instant past u) d) ≤ f → ⊥
-over_then n f past d t u (inl stable) up within unstable few = false≢true (sym unstable ∙ kept (λ p. is_stable p d ≡ true) past t u (keeps_stable past t d) up within stable)
+over_then n f past d t u (inl stable) up within unstable few = false≢true (sym unstable ∙ onward_to (λ p. is_stable p d ≡ true) past t u up within (λ v e above below at h. stable_more e (instant past v) d h) stable)
 over_then n f past d t u (inr many) up within unstable few =
     omega (arith, few, many.1, count_below-within n (gone (instant past t) d) (gone (instant past u) d) (λ p _ here. gone_lasts past d t u many.0 up within p here))
 

@@ -1,35 +1,36 @@
-//! The first instant at which a delivery has an orphan, told by the entries by which it newly reaches a process.
-ghost use Rattle.std.specs.Prelude.{◌≡◌, ◌≤◌, length, Some};
-ghost use Rattle.causal_name.specs.declared.Det.{Det};
+//! The first instant at which a delivery has an orphan, where a clock tells which entries the delivery reaches.
+ghost use Rattle.std.specs.Prelude.{◌≡◌, ◌≤◌, false, length, Some};
+ghost use Rattle.std.specs.List.Sorted.{IsNonDecreasing};
 ghost use Rattle.causal_trace.specs.Past.{det_at};
 ghost use Rattle.causal_audit.specs.Inside.Among.{FirstBreachBy};
-ghost use Rattle.causal_audit.specs.Inside.ByClock.Changes.{AreFollowed, IsReachedBy};
+ghost use Rattle.causal_audit.specs.Inside.ByClock.Changes.{AreMentionsOf, ChangesNothing, HasMentions};
+ghost use Rattle.causal_audit.specs.Inside.ByClock.Stands.{Stands};
 
 use crate::breach::Breach;
-use crate::by_clock::changes::Changes;
+use crate::index::cursor::Cursor;
+use crate::index::spreads::acting;
+use crate::index::turns::is_turn;
 use crate::sight::{Sight, breach_at};
+use causal_clock::Clocks;
 use causal_holders::Holders;
 use causal_name::Det;
 use causal_trace::entry::Entry;
 use causal_trace::trace::Trace;
 
-/// Whether a delivery reaches the entry, where these processes depend on it before, and it newly reaches a process by the
-/// entry or not.
-fn is_reached(entry: &Entry, dependents: Holders, newly: bool) -> bool
-    ensures { IsReachedBy entry.now dependents newly result }
+/// Whether an entry may change what is known of a delivery. The entry mentions the determinant or not, and the delivery reaches it
+/// or not.
+fn is_change(sight: &Sight, entry: &Entry, mentioned: bool, reached: bool) -> bool
+    ensures { result ≡ false → ChangesNothing entry.now mentioned reached sight.now.dependents }
 {
-    match entry {
-        Entry::Send { from, .. } => newly || dependents.contains(from.0),
-        Entry::Deliver { to, .. } => newly || dependents.contains(to.0),
-        _ => false,
-    }
+    is_turn(entry) || mentioned || (reached && !sight.dependents.contains(acting(entry)))
 }
 
-/// How the delivery at position k, whose determinant this is, first has an orphan, if it has one by the instant `end`. Only
-/// the instants after a change are looked at.
+/// How the delivery at position k, whose determinant has these mentions, first has an orphan, if it has one by the instant
+/// `end`. Only the instants after a change are looked at.
 pub fn first_orphan(
     trace: &Trace,
-    changes: &Changes<'_>,
+    clocks: &Clocks,
+    mentions: &[u32],
     f: u16,
     end: u32,
     k: u32,
@@ -37,24 +38,24 @@ pub fn first_orphan(
 ) -> Option<Breach>
     requires within { end ≤ length trace.now.recording.past }
     requires delivery { det_at trace.now.recording.past k ≡ Some det }
-    requires changes { AreFollowed trace.now.recording.past k det end changes.now }
+    requires stands { Stands trace.now.recording.past clocks.now.events }
+    requires ascending { IsNonDecreasing mentions.now }
+    requires mentioned { HasMentions trace.now.recording.past det mentions.now }
+    requires only { AreMentionsOf trace.now.recording.past det mentions.now }
     ensures { FirstBreachBy trace.now.recording f end k result }
 {
     let entries = trace.entries();
-    let mut ahead = changes.ahead();
+    let mut ahead = Cursor::at(mentions, 0);
     let mut sight = Sight::begin(Holders::none());
-    let mut t = 0;
-    while t < end {
-        let next = ahead.next(t, end);
-        let change = next.position;
-        if change == end {
-            return None;
+    for t in 0..end {
+        let entry = &entries[t as usize];
+        let mentioned = ahead.next(t, end) == t;
+        let reached = clocks.precedes(k, t);
+        if !is_change(&sight, entry, mentioned, reached) {
+            continue;
         }
-        let entry = &entries[change as usize];
-        let reached = is_reached(entry, sight.dependents, next.newly);
-        sight.see(entry, next.mentioned, reached);
-        t = change + 1;
-        if let Some(found) = breach_at(&sight, f, k, t) {
+        sight.see(entry, mentioned, reached);
+        if let Some(found) = breach_at(&sight, f, k, t + 1) {
             return Some(found);
         }
     }

@@ -36,7 +36,7 @@ fn note_spread(spreads: &mut Vec<u32>, outs: &mut [u32], entry: &Entry, lane: us
 }
 
 /// The process of a send or a delivery; of another entry it is any.
-fn acting(entry: &Entry) -> u8
+pub fn acting(entry: &Entry) -> u8
     ensures { result ≡ acting entry.now }
 {
     match entry {

@@ -5,12 +5,6 @@ use Rattle.causal_audit.specs.Inside.Among.{FirstBreachBy}
 use Rattle.causal_audit.proofs.Numbered.{numbered_one}
 use Rattle.causal_audit.proofs.judging.first_breach.Goals as goal
 
-pub first_breach_at-requires-clause-delivery : goal.first_breach_at-requires-clause-delivery
-first_breach_at-requires-clause-delivery c = (c.args.i, c.position.ensures)
-
-pub first_breach_at-requires-clause-within : goal.first_breach_at-requires-clause-within
-first_breach_at-requires-clause-within c = omega (arith, c.entries.ensures.length)
-
 -- by the last instant there is no bound
 whole : (r : Recording) (f k : ℕ) (found : Option Breach) → FirstBreachBy r f (length r.past) k found → FirstBreach r f k found
 whole r f k None none = none

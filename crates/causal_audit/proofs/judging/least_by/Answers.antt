@@ -2,12 +2,6 @@ use Rattle.causal_audit.proofs.Common.{◌≡◌, arith, subst, deliveries_in}
 use Rattle.causal_audit.proofs.AmongLemmas.{IsLeastBelow, below_all, below_more, below_none}
 use Rattle.causal_audit.proofs.judging.least_by.Goals as goal
 
-pub loop-i-init : goal.loop-i-init
-loop-i-init c = below_none c.args.tables.now c.args.f c.args.end
-
-pub first_breach_at-found-requires-clause-delivery : goal.first_breach_at-found-requires-clause-delivery
-first_breach_at-found-requires-clause-delivery c = (c.loop-i.i, c.position.ensures)
-
 pub loop-i-preserved : goal.loop-i-preserved
 loop-i-preserved c =
     rw c.earlier-least.ensures

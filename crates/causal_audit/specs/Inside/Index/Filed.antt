@@ -1,10 +1,7 @@
 -- The lists of positions that are kept of a run.
 use Rattle.std.specs.Prelude.{◌≡◌, ℕ, ◌+◌, ◌<◌, ◌≤◌, ◌⊎◌, true, if◌then◌else◌, List, [], ◌∷◌, ◌++◌, length, map, Option, Some, None, slice_set, slice_index_or, Contains, ◌&&◌, ◌==◌, not, Bool, false, MatchOption}
-use Rattle.causal_audit.specs.Inside.Common.{All, IsNonDecreasing, option_map_or, nat_cmp, FinSet, Det, same_det, Entry, entry_at, has, instant, is_down, past_at, IsEventOf, Crash, Restart}
+use Rattle.causal_audit.specs.Inside.Common.{All, IsNonDecreasing, option_map_or, nat_cmp, FinSet, Det, same_det, Entry, entry_at, has, instant, is_down, past_at, Crash, Restart}
 use Rattle.std.specs.Global.{Vec}
-use Rattle.causal_clock.specs.declared.Event.{Event}
-use Rattle.causal_clock.specs.Timeline.{lane_of}
-use Rattle.causal_clock.specs.Precedence.{Reaches}
 use Rattle.causal_audit.specs.Inside.ByClock.Changes.{AreMentionsOf, HasMentions, HasTurns}
 use Rattle.causal_audit.specs.Quiet.{mentioned_by}
 use Rattle.causal_audit.specs.Inside.Sights.{Shows}
@@ -37,36 +34,6 @@ pub record AreTurns (past : List Entry) (list : List ℕ) (downs : List (FinSet 
   pub turned : HasTurns past list
   pub counted : length downs ≡ length list
   pub shown : (i : ℕ) (s : FinSet nat_cmp) → i < length list → Shows (slice_index_or downs i s) (λ p. is_down (instant past (slice_index_or list i 0 + 1)) p)
-
--- all events of the list are of one lane
-abbrev pub AreOfOneLane : List Event → List ℕ → Type 0
-AreOfOneLane events lane = (v w : ℕ) → Contains lane v → Contains lane w → lane_of events v ≡ lane_of events w
-
--- each list has events of its own lane alone
-abbrev pub AreInLanes : List Event → List (List ℕ) → Type 0
-AreInLanes events lanes = (m v : ℕ) → Contains (list_at lanes m) v → lane_of events v ≡ m
-
--- for each lane of the clock the positions of its sends and deliveries
-pub record AreLanes (past : List Entry) (events : List Event) (lanes : List (List ℕ)) : Type 0 where
-  pub ascend : All (Ascends (length past)) lanes
-  pub inside : (m v : ℕ) → Contains (list_at lanes m) v → (lane_of events v ≡ m) × (p : ℕ) × (l : ℕ) × IsEventOf past v p l
-  pub each : (v p l : ℕ) → IsEventOf past v p l → Contains (list_at lanes (lane_of events v)) v
-
--- if k reaches any event of the list, then this one, and it is the first of them; below `end` it is one that k reaches
-pub record IsFirstReached (events : List Event) (k : ℕ) (lane : List ℕ) (end first : ℕ) : Type 0 where
-  pub any : (v : ℕ) → Contains lane v → Reaches events k v → (first ≤ v) × Contains lane first × Reaches events k first
-  pub below : first < end → Contains lane first × Reaches events k first
-
--- of each lane of which k reaches an event, the list has the first one
-abbrev pub AreFirsts : List Event → ℕ → List (List ℕ) → List ℕ → Type 0
-AreFirsts events k lanes firsts =
-    (m v : ℕ) → Contains (list_at lanes m) v → Reaches events k v
-    → (i : ℕ) × Contains firsts i × (i ≤ v) × Contains (list_at lanes m) i × Reaches events k i
-
--- each of them below `end` is an event of some lane, and k reaches it
-abbrev pub AreReached : List Event → ℕ → List (List ℕ) → ℕ → List ℕ → Type 0
-AreReached events k lanes end firsts =
-    (v : ℕ) → v < end → Contains firsts v → (m : ℕ) × Contains (list_at lanes m) v × Reaches events k v
 
 -- determinants that have numbers, the newest first
 abbrev pub Numbers : Type 0

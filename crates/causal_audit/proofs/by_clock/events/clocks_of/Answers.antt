@@ -6,17 +6,6 @@ use Rattle.causal_audit.proofs.by_clock.Reached.{if_ok}
 use Rattle.causal_audit.proofs.Steps.{next_state, no_entry}
 use Rattle.causal_audit.proofs.by_clock.events.clocks_of.Goals as goal
 
-pub loop-entry-init : goal.loop-entry-init
-loop-entry-init c =
-    let r = c.args.trace.now.recording in
-    record {
-      items = c.entries-entry-items.ensures.value;
-      mirrors = rw (no_entry r.past, c.in-Ok.ensures.ok, c.processes-n.ensures.value)
-          (mirrors_none r.processes c.in_ok-present.present.items
-          (c.in_ok-present.ensures.count ∙ c.processes-n.ensures.value)
-          (λ p low. c.in_ok-present.ensures.each p (omega (arith, low, c.processes-n.ensures.value))));
-    }
-
 pub note-requires : goal.note-requires
 note-requires c =
     let r = c.args.trace.now.recording in

@@ -1,80 +1,71 @@
-use Rattle.causal_audit.proofs.Common.{ℕ, ◌+◌, ◌<◌, ◌≤◌, Some, None, sym, subst, arith, instant, is_down, HasOrphan, instant_length}
+use Rattle.causal_audit.proofs.Common.{ℕ, ◌≡◌, ◌+◌, ◌<◌, ◌≤◌, ◌==◌, length, Contains, Some, None, refl, sym, subst, arith, instant, is_down, has, det_within, Entry, HasOrphan, instant_length}
 use Rattle.causal_audit.specs.Inside.Sights.{IsSight, Shows}
+use Rattle.causal_audit.specs.Quiet.{mentioned_by}
+use Rattle.causal_audit.proofs.Between.{none_agrees, sight_agrees}
 use Rattle.causal_audit.proofs.by_clock.Begun.{unheard_before}
-use Rattle.causal_audit.proofs.index.Cursors.{ahead_later}
-use Rattle.causal_audit.proofs.by_clock.Reached.{followed_breach, followed_none, followed_seen}
+use Rattle.causal_audit.proofs.by_clock.Reached.{breach_after, seen_after, unchanged}
+use Rattle.causal_audit.proofs.index.Cursors.{cursor_later}
+use Rattle.causal_audit.proofs.look.Staying.{mentioned_next}
 use Rattle.causal_audit.proofs.Orphaned.{not_yet, first_breach_is}
-use Rattle.causal_audit.proofs.Steps.{nobody_down, up_to_next}
+use Rattle.causal_audit.proofs.Steps.{entry_read, next_state, nobody_down, up_to_next}
 use Rattle.causal_audit.proofs.by_clock.orphans.first_orphan.Goals as goal
+
+pub precedes-reached-requires-clause-earlier : goal.precedes-reached-requires-clause-earlier
+precedes-reached-requires-clause-earlier c = omega (arith, det_within c.args.trace.now.recording.past c.args.k c.args.det c.requires.delivery, c.requires.stands.count)
 
 pub loop-t-init : goal.loop-t-init
 loop-t-init c =
     let past = c.args.trace.now.recording.past in
     record {
-      within = omega arith;
-      ahead = c.ahead-ahead.ensures;
+      ahead = c.at-ahead.ensures;
       sight = c.begin-sight.ensures (instant past 0) c.args.k c.args.det (subst (λ s. Shows s (λ p. is_down (instant past 0) p)) (sym c.none.ensures) (nobody_down past))
           (unheard_before past c.args.k c.args.det 0 (λ v e above below there. absurd (omega (arith, below))) (omega arith) (omega arith));
       before = λ u h. not_yet c.args.trace.now.recording.processes c.args.f (instant past u) c.args.k (omega (arith, h, instant_length past u (omega (arith, h))));
     }
 
-pub returns-then-change-end : goal.returns-then-change-end
-returns-then-change-end c =
+pub loop-t-preserved-then-not-is_change : goal.loop-t-preserved-then-not-is_change
+loop-t-preserved-then-not-is_change c =
     let r = c.args.trace.now.recording in
-    let formed = c.entries-entries.ensures.formed in
-    let i = c.loop-t.invariant in
-    let lists = c.args.changes.now in
     let t = c.loop-t.t in
-    let change = c.next-next.result.position in
-    let bounds = c.next-next.ensures.bounds in
-    let no_change = c.next-next.ensures.none lists i.ahead in
-    let none : (u : ℕ) → u ≤ change → HasOrphan r.processes c.args.f (instant r.past u) c.args.k → ⊥ =
-    followed_none r formed c.args.k c.args.det c.args.end c.requires.within lists c.requires.changes t change bounds.0 bounds.1 no_change c.args.f c.requires.delivery i.before in
-    λ u within. none u (omega (arith, within, c.if-change-end.true))
+    let i = c.loop-t.invariant in
+    let formed = c.entries-entries.ensures.formed in
+    let below : t < length r.past = omega (arith, c.loop-t-test.true, c.requires.within) in
+    let agree =
+    unchanged r formed c.entries-entries.result.now c.entries-entries.ensures.value c.args.clocks.now.events c.requires.stands c.args.k c.args.det c.requires.delivery c.args.mentions.now c.requires.mentioned c.requires.only t c.index-entries-t.result c.index-entries-t.is below c.next.result c.next.ensures.bounds.0 (c.next.ensures.none c.args.mentions.now i.ahead) (λ here. subst (Contains c.args.mentions.now) here (c.next.ensures.found c.args.mentions.now i.ahead (omega (arith, here, c.loop-t-test.true)))) c.precedes-reached.result (c.precedes-reached.ensures.0, c.precedes-reached.ensures.1)
+    c.loop-t.sight i.sight (c.if-not-is_change.ensures refl) in
+    record {
+      ahead = cursor_later c.args.mentions.now t (t + 1) c.next.new.self (omega arith) (c.next.ensures.cursor c.args.mentions.now i.ahead);
+      sight = sight_agrees (instant r.past t) (instant r.past (t + 1)) c.args.k c.args.det c.loop-t.sight agree i.sight;
+      before = up_to_next (λ u. HasOrphan r.processes c.args.f (instant r.past u) c.args.k → ⊥) t i.before
+          (λ has. i.before t (omega arith) (none_agrees r.processes c.args.f r.past c.args.k c.args.det t (t + 1) c.requires.delivery (omega arith) (omega (arith, below)) agree has));
+    }
 
 pub returns-in-Some : goal.returns-in-Some
 returns-in-Some c =
     let r = c.args.trace.now.recording in
-    let formed = c.entries-entries.ensures.formed in
-    let i = c.loop-t.invariant in
-    let lists = c.args.changes.now in
     let t = c.loop-t.t in
-    let change = c.next-next.result.position in
-    let bounds = c.next-next.ensures.bounds in
-    let no_change = c.next-next.ensures.none lists i.ahead in
-    let none : (u : ℕ) → u ≤ change → HasOrphan r.processes c.args.f (instant r.past u) c.args.k → ⊥ =
-    followed_none r formed c.args.k c.args.det c.args.end c.requires.within lists c.requires.changes t change bounds.0 bounds.1 no_change c.args.f c.requires.delivery i.before in
-    let early : change < c.args.end = omega (arith, bounds, c.if-change-end.false) in
-    let seen : IsSight (instant r.past (change + 1)) c.args.k c.args.det c.see.new.self =
-    followed_seen r formed c.args.k c.args.det c.args.end c.requires.within lists c.requires.changes t change bounds.0 bounds.1 no_change c.entries-entries.result.now c.entries-entries.ensures.value c.index-entries-change.result c.index-entries-change.is early
-    c.loop-t.sight c.see.new.self c.next-next.result.mentioned c.next-next.result.newly c.is_reached-reached.result i.sight (c.next-next.ensures.mentioned lists i.ahead early) (c.next-next.ensures.newly lists i.ahead early) c.is_reached-reached.ensures c.see.ensures in
-    let e =
-    followed_breach r formed c.args.k c.args.det c.args.end c.requires.within lists c.requires.changes t change bounds.0 bounds.1 no_change c.args.f c.requires.delivery early c.see.new.self (Some c.in-Some.found) seen c.in-Some.ensures in
-    (omega (arith, e.0, early), first_breach_is r c.args.f c.args.k change c.in-Some.found (omega (arith, early, c.requires.within)) none e.0 e.1 e.2)
+    let i = c.loop-t.invariant in
+    let formed = c.entries-entries.ensures.formed in
+    let below : t < length r.past = omega (arith, c.loop-t-test.true, c.requires.within) in
+    let seen =
+    seen_after r formed c.entries-entries.result.now c.entries-entries.ensures.value c.args.clocks.now.events c.requires.stands c.args.k c.args.det c.requires.delivery c.args.mentions.now c.requires.mentioned c.requires.only t c.index-entries-t.result c.index-entries-t.is below c.next.result c.next.ensures.bounds.0 (c.next.ensures.none c.args.mentions.now i.ahead) (λ here. subst (Contains c.args.mentions.now) here (c.next.ensures.found c.args.mentions.now i.ahead (omega (arith, here, c.loop-t-test.true)))) c.precedes-reached.result (c.precedes-reached.ensures.0, c.precedes-reached.ensures.1)
+    c.loop-t.sight c.see.new.self i.sight c.see.ensures in
+    let it = breach_after r formed c.args.f c.args.k c.args.det c.requires.delivery (t + 1) (omega (arith, below)) c.see.new.self (Some c.in-Some.found) seen c.in-Some.ensures in
+    (omega (arith, it.0, c.loop-t-test.true), first_breach_is r c.args.f c.args.k t c.in-Some.found below i.before it.0 it.1 it.2)
 
 pub loop-t-preserved : goal.loop-t-preserved
 loop-t-preserved c =
     let r = c.args.trace.now.recording in
-    let formed = c.entries-entries.ensures.formed in
-    let i = c.loop-t.invariant in
-    let lists = c.args.changes.now in
     let t = c.loop-t.t in
-    let change = c.next-next.result.position in
-    let bounds = c.next-next.ensures.bounds in
-    let no_change = c.next-next.ensures.none lists i.ahead in
-    let none : (u : ℕ) → u ≤ change → HasOrphan r.processes c.args.f (instant r.past u) c.args.k → ⊥ =
-    followed_none r formed c.args.k c.args.det c.args.end c.requires.within lists c.requires.changes t change bounds.0 bounds.1 no_change c.args.f c.requires.delivery i.before in
-    let early : change < c.args.end = omega (arith, bounds, c.if-change-end.false) in
-    let seen : IsSight (instant r.past (change + 1)) c.args.k c.args.det c.see.new.self =
-    followed_seen r formed c.args.k c.args.det c.args.end c.requires.within lists c.requires.changes t change bounds.0 bounds.1 no_change c.entries-entries.result.now c.entries-entries.ensures.value c.index-entries-change.result c.index-entries-change.is early
-    c.loop-t.sight c.see.new.self c.next-next.result.mentioned c.next-next.result.newly c.is_reached-reached.result i.sight (c.next-next.ensures.mentioned lists i.ahead early) (c.next-next.ensures.newly lists i.ahead early) c.is_reached-reached.ensures c.see.ensures in
+    let i = c.loop-t.invariant in
+    let formed = c.entries-entries.ensures.formed in
+    let below : t < length r.past = omega (arith, c.loop-t-test.true, c.requires.within) in
+    let seen =
+    seen_after r formed c.entries-entries.result.now c.entries-entries.ensures.value c.args.clocks.now.events c.requires.stands c.args.k c.args.det c.requires.delivery c.args.mentions.now c.requires.mentioned c.requires.only t c.index-entries-t.result c.index-entries-t.is below c.next.result c.next.ensures.bounds.0 (c.next.ensures.none c.args.mentions.now i.ahead) (λ here. subst (Contains c.args.mentions.now) here (c.next.ensures.found c.args.mentions.now i.ahead (omega (arith, here, c.loop-t-test.true)))) c.precedes-reached.result (c.precedes-reached.ensures.0, c.precedes-reached.ensures.1)
+    c.loop-t.sight c.see.new.self i.sight c.see.ensures in
     record {
-      within = omega (arith, early, c.requires.within);
-      ahead = ahead_later lists t (change + 1) c.next-next.new.self (omega (arith, bounds)) (c.next-next.ensures.ahead lists i.ahead);
+      ahead = cursor_later c.args.mentions.now t (t + 1) c.next.new.self (omega arith) (c.next.ensures.cursor c.args.mentions.now i.ahead);
       sight = seen;
-      before = up_to_next (λ u. HasOrphan r.processes c.args.f (instant r.past u) c.args.k → ⊥) change none
-          (followed_breach r formed c.args.k c.args.det c.args.end c.requires.within lists c.requires.changes t change bounds.0 bounds.1 no_change c.args.f c.requires.delivery early c.see.new.self None seen c.in_default.ensures);
+      before = up_to_next (λ u. HasOrphan r.processes c.args.f (instant r.past u) c.args.k → ⊥) t i.before
+          (breach_after r formed c.args.f c.args.k c.args.det c.requires.delivery (t + 1) (omega (arith, below)) c.see.new.self None seen c.in_default.ensures);
     }
-
-pub returns : goal.returns
-returns c = λ u within. c.loop-t.invariant.before u (omega (arith, within, c.loop-t-test.false))

@@ -4,9 +4,6 @@ use Rattle.causal_audit.proofs.group.GroupWalk.{renewed_none, renewed_more, Have
 use Rattle.causal_audit.proofs.group.Reaching.{fewer}
 use Rattle.causal_audit.proofs.group.copies.renew.Goals as goal
 
-pub loop-place-init : goal.loop-place-init
-loop-place-init c = renewed_none c.args.entry.now c.args.mentioned c.args.touched c.args.copies.now.items
-
 pub loop-place-smaller : goal.loop-place-smaller
 loop-place-smaller c = rw c.remove.ensures (fewer c.loop-place.rest c.in-Some.place c.in-Some.ensures.0)
 

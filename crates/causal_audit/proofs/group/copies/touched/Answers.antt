@@ -4,9 +4,6 @@ use Rattle.causal_audit.proofs.group.copies.touched.Goals as goal
 and_missing : (a b : Bool) → (a && not b) ≡ false → (a ≡ false) ⊎ (b ≡ true)
 and_missing a b h = grind (arith, nat_tests)
 
-pub returns-then-is_turn : goal.returns-then-is_turn
-returns-then-is_turn c = record { quiet = λ j h out. absurd (false≢true (sym out ∙ h)) }
-
 pub returns : goal.returns
 returns c = record {
   quiet = λ j h out. (

@@ -17,9 +17,3 @@ returns-in-Restart c j s =
     let told = subst (λ e. IsSuspected e step.newly step.mentioned c.args.present.now c.args.held.now c.args.processes j) c.in-Restart.is s in
     ap (λ s. contains s j) c.minus-in-Restart.ensures ∙ contains-difference nat_cmp_total c.lacked.result step.mentioned j
     ∙ and_from (contains c.lacked.result j) (not (contains step.mentioned j)) (c.lacked.ensures j told.1) (not_from_false (contains step.mentioned j) told.0)
-
-pub returns-in-Forget : goal.returns-in-Forget
-returns-in-Forget c j s =
-    let step = c.args.step.now in
-    let told = subst (λ e. IsSuspected e step.newly step.mentioned c.args.present.now c.args.held.now c.args.processes j) c.in-Forget.is s in
-    c.forgotten.ensures j told.0 told.1

@@ -22,21 +22,6 @@ has_rows start end reach rows count has = record { start = has.start; rows = cou
 stays : (reach new : Reach) (rows : Vec (FinSet nat_cmp) Global) → vec_capacity rows ≡ vec_capacity reach.rows → ((entries : ℕ) → HasRowRoom entries (with_rows reach rows) → HasRowRoom entries new) → (entries : ℕ) → HasRowRoom entries reach → HasRowRoom entries new
 stays reach new rows room more entries has = more entries (record { rows = omega (arith, room, has.rows); present = has.present })
 
-pub see-newly-requires : goal.see-newly-requires
-see-newly-requires c =
-    let has = c.loop-t.invariant.rows.reach in
-    record { row = record { row = omega (arith, has.rows, c.take-mentioned.ensures.count, c.loop-t-test.true); present = has.present } }
-
-pub loop-t-init : goal.loop-t-init
-loop-t-init c = record {
-  room = λ entries has. has;
-  rows = c.requires.rows;
-  followed = c.requires.begun;
-  none = c.requires.none;
-  passed = record { inside = omega arith; earlier = λ j low. (λ h. absurd (omega (arith, h)), λ before. absurd (omega (arith, before, (c.requires.untouched j zero low).made))) };
-  asked = record { places = λ j h. (c.places_of-all.ensures j).0 h; over = λ j low out. absurd (false≢true (sym out ∙ (c.places_of-all.ensures j).1 low)) };
-}
-
 pub judge-requires-clause-windows : goal.judge-requires-clause-windows
 judge-requires-clause-windows c k window low u from within = c.requires.windows k window low u from (omega (arith, within, c.loop-t-test.true))
 
@@ -113,14 +98,6 @@ returns-clause-found c k t listed within has =
     let r = c.args.trace.now.recording in
     let at = place_of c.args.windows.now k listed in
     c.loop-t.invariant.none at.0 at.1 t (omega (arith, within, c.loop-t-test.false)) (subst (HasOrphan r.processes c.args.f (instant r.past t)) (sym at.2) has)
-
-pub returns-in-Some-clause-emptied : goal.returns-in-Some-clause-emptied
-returns-in-Some-clause-emptied c to v j e early =
-    let r = c.args.trace.now.recording in
-    let t = c.loop-t.t in
-    let found = Some c.in-Some.found in
-    let within = horizon_within r c.args.f (t + 1) (positions_of c.args.windows.now) found (subst (LeastAmongBy r c.args.f (t + 1) (positions_of c.args.windows.now)) c.in-Some.is c.judge.ensures.found) in
-    c.judge.ensures.followed.emptied v j e (omega (arith, early, within))
 
 pub returns-clause-emptied : goal.returns-clause-emptied
 returns-clause-emptied c to v j e early there none h = elim (cases_lt v c.loop-t.t) [

@@ -33,12 +33,3 @@ loop-k-preserved c =
           subst (AreReachedFrom r.past k) (sym is)
           (reached_next r.processes r.past c.entries.ensures.formed.accepted k sets bound (subst (λ t. AreReachedFrom r.past t sets) (sym back) c.loop-k.invariant.reached));
     }
-
-pub returns : goal.returns
-returns c =
-    let sets = c.loop-k.sets.items in
-    let past = c.args.trace.now.recording.past in
-    record {
-      count = c.loop-k.invariant.count;
-      each = λ p i j at r. subst (λ x. contains (reached_by sets x) (process_at past j) ≡ true) at (c.loop-k.invariant.reached.each i j (omega (arith, c.loop-k-test.false)) r);
-    }

@@ -4,9 +4,6 @@ use Rattle.causal_audit.specs.Inside.Look.Looks.{StandsBy}
 use Rattle.causal_audit.proofs.look.Looked.{is_change, passed_to, written, onward_stop, over}
 use Rattle.causal_audit.proofs.look.Look.next.Goals as goal
 
-pub overflow_add-stop : goal.overflow_add-stop
-overflow_add-stop c = omega (arith, c.args.self.now.within, c.entries-entries.ensures.few)
-
 pub returns-then-last-self-clause-passed : goal.returns-then-last-self-clause-passed
 returns-then-last-self-clause-passed c =
     let look = c.args.self.now in

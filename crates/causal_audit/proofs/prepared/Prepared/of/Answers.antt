@@ -11,16 +11,6 @@ use Rattle.causal_audit.proofs.Steps.{begins}
 use Rattle.causal_audit.proofs.group.Windowed.{of_positions}
 use Rattle.causal_audit.proofs.prepared.Prepared.of.Goals as goal
 
-pub invariant_of-outline : goal.invariant_of-outline
-invariant_of-outline c =
-    let entries = c.entries-entries.result.now in
-    let past = c.args.trace.now.recording.past in
-    let whole : past_at entries (length entries) ≡ past = past_whole entries ∙ ap reverse c.entries-entries.ensures.value ∙ reverse-reverse past in
-    record {
-      lasting = subst (λ p. NoneReleasedFrom p c.lasting_from-lasting_from.result) whole c.lasting_from-lasting_from.ensures;
-      turned = subst (λ p. AreTurnsKept p c.in_ok-turns.turns) whole c.in_ok-turns.ensures;
-    }
-
 pub windows_of-requires-clause-mentioned : goal.windows_of-requires-clause-mentioned
 windows_of-requires-clause-mentioned c =
     let entries = c.entries-entries.result.now in

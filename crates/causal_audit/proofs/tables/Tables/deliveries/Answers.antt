@@ -3,4 +3,4 @@ use Rattle.causal_audit.proofs.Numbered.{deliveries_few}
 use Rattle.causal_audit.proofs.tables.Tables.deliveries.Goals as goal
 
 pub overflow_cast-result : goal.overflow_cast-result
-overflow_cast-result c = omega (arith, c.len.ensures, c.self.invariant.0.numbered.count, c.self.invariant.0.short, deliveries_few c.self.inside.trace.recording.past)
+overflow_cast-result c = omega (arith, c.len.ensures, c.self.invariant.numbered.count, c.self.invariant.short, deliveries_few c.self.inside.trace.recording.past)

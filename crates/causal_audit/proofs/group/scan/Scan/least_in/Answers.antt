@@ -18,17 +18,8 @@ pub begin-requires-clause-deliveries : goal.begin-requires-clause-deliveries
 begin-requires-clause-deliveries c =
     All-permutation (λ (window : Window). IsDeliveryAt c.args.self.now.run.past window.position) c.args.windows.now c.by_position-group.result.now c.by_position-group.ensures.same c.requires.deliveries
 
-pub begin-requires-clause-emptied : goal.begin-requires-clause-emptied
-begin-requires-clause-emptied c v j e early = c.requires.emptied v j e (omega (arith, early, c.last_of-last.ensures.bound))
-
-pub begin-requires-clause-room : goal.begin-requires-clause-room
-begin-requires-clause-room c = room_within c.args.end c.last_of-last.result c.args.room.now c.last_of-last.ensures.bound c.requires.room
-
 pub follow-requires-clause-few : goal.follow-requires-clause-few
 follow-requires-clause-few c = omega (arith, length_permutation c.args.windows.now c.by_position-group.result.now c.by_position-group.ensures.same, c.requires.few)
-
-pub follow-requires-clause-untouched : goal.follow-requires-clause-untouched
-follow-requires-clause-untouched c = subst (λ (s : Scanned). All (IsUntouchedBefore s.run.past c.start_of-start.result) c.by_position-group.result.now) (sym c.self.view_is) c.start_of-start.ensures.first
 
 pub follow-requires-clause-none : goal.follow-requires-clause-none
 follow-requires-clause-none c =
@@ -52,9 +43,6 @@ follow-requires-clause-windows c =
     let group = c.by_position-group.result.now in
     subst (λ (s : Scanned). All (IsWindow s.run c.args.f c.last_of-last.result) group) (sym c.self.view_is)
     (λ k window below u from before. All-permutation (IsWindow r c.args.f c.args.end) c.args.windows.now group c.by_position-group.ensures.same c.requires.windows k window below u from (omega (arith, before, c.last_of-last.ensures.bound)))
-
-pub returns-clause-emptied : goal.returns-clause-emptied
-returns-clause-emptied c = subst (λ (s : Scanned). AreBelow s.run.past (horizon c.args.end c.follow.result) 0 c.follow.new.room.reach.rows.items) c.self.view_is (c.follow.ensures.emptied c.args.end)
 
 pub returns-clause-found : goal.returns-clause-found
 returns-clause-found c =

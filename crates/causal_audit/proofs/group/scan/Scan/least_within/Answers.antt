@@ -27,11 +27,6 @@ loop-group-init c =
       least = ([], rest, among_none r c.args.f c.args.end);
     }
 
-pub least_in-found-requires-clause-within : goal.least_in-found-requires-clause-within
-least_in-found-requires-clause-within c =
-    let bound = horizon_within c.args.self.now.run c.args.f c.args.end (positions_of c.loop-group.invariant.least.0) c.loop-group.least c.loop-group.invariant.least.2 in
-    omega (arith, c.horizon.ensures, bound, c.requires.within)
-
 pub least_in-found-requires-clause-windows : goal.least_in-found-requires-clause-windows
 least_in-found-requires-clause-windows c k window below u from before =
     let bound = horizon_within c.args.self.now.run c.args.f c.args.end (positions_of c.loop-group.invariant.least.0) c.loop-group.least c.loop-group.invariant.least.2 in
@@ -48,9 +43,6 @@ least_in-found-requires-clause-room c =
     let i = c.loop-group.invariant in
     let bound = horizon_within c.args.self.now.run c.args.f c.args.end (positions_of i.least.0) c.loop-group.least i.least.2 in
     room_within c.args.end c.horizon.result c.loop-group.room (omega (arith, c.horizon.ensures, bound)) (i.room c.args.end c.requires.room)
-
-pub least_in-found-requires-clause-emptied : goal.least_in-found-requires-clause-emptied
-least_in-found-requires-clause-emptied c v j e early = c.loop-group.invariant.emptied v j e (omega (arith, early, c.horizon.ensures))
 
 pub loop-group-preserved : goal.loop-group-preserved
 loop-group-preserved c =

@@ -4,13 +4,6 @@ use Rattle.causal_audit.proofs.group.Reaching.{fewer}
 use Rattle.causal_audit.proofs.index.Filings.{RestNone, none_rest, rest_less}
 use Rattle.causal_audit.proofs.index.by_process.ByProcess.next_among.Goals as goal
 
-pub loop-process-init : goal.loop-process-init
-loop-process-init c = record {
-  late = c.requires;
-  early = omega arith;
-  none = λ p member out. absurd (false≢true (sym out ∙ member));
-}
-
 pub loop-process-smaller : goal.loop-process-smaller
 loop-process-smaller c = rw c.remove.ensures (fewer c.loop-process.rest c.in-Some.process c.in-Some.ensures.0)
 

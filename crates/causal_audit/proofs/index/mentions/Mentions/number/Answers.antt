@@ -12,13 +12,3 @@ pub returns-clause-ascend : goal.returns-clause-ascend
 returns-clause-ascend c bound all =
     let more = pushed c.args.self.now.lists.items c.reserve.new.self.items c.push_reserved.new.self.items c.new.result c.new.ensures.items c.in_ok-reserve.ensures.items c.push_reserved.ensures.items in
     subst (All (Ascends bound)) (sym more) (new_ascend bound (lists_in c.args.self.now.lists.items) all)
-
-pub returns-clause-same : goal.returns-clause-same
-returns-clause-same c d =
-    let old = c.args.self.now in
-    let lists = lists_in old.lists.items in
-    let more = pushed old.lists.items c.reserve.new.self.items c.push_reserved.new.self.items c.new.result c.new.ensures.items c.in_ok-reserve.ensures.items c.push_reserved.ensures.items in
-    let none : number_of old.numbers c.args.det ≡ None = sym c.in_default.ensures in
-    ap (λ ls. mentions_of c.add.new.self ls d) more
-    ∙ ap (λ numbers. mentions_of numbers (lists ++ [] ∷ []) d) c.in_ok-add.ensures.ok
-    ∙ new_same old.numbers lists c.args.det none (omega (arith, old.numbered, length-map old.lists.items (λ list. list.items))) d

@@ -3,14 +3,6 @@ use Rattle.causal_audit.proofs.Steps.{entry_read}
 use Rattle.causal_audit.proofs.index.Turned.{left_above, none_restarts, passed_one_more}
 use Rattle.causal_audit.proofs.index.turns.Turns.next_of_many.Goals as goal
 
-pub loop-position-init : goal.loop-position-init
-loop-position-init c =
-    let list = c.args.self.now.positions.items in
-    record {
-      left = λ i v late inside. c.before-passed.ensures.point.1 i v late inside;
-      none = λ i e low late at. absurd (let before : get_or list i 0 < c.args.from = c.before-passed.ensures.point.0 i 0 (omega arith) low in omega (arith, before, late));
-    }
-
 pub loop-position-preserved : goal.loop-position-preserved
 loop-position-preserved c =
     let i = c.loop-position.invariant in
@@ -30,13 +22,6 @@ loop-position-preserved c =
           (sym c.restarts_one.ensures ∙ c.if-restarts_one.false);
     }
 
-pub loop-position-smaller : goal.loop-position-smaller
-loop-position-smaller c =
-    let list = c.args.self.now.positions.items in
-    let passed = c.loop-position.passed in
-    let there : passed < length list = subst (λ l. passed < length l) c.deref.ensures.value c.in-Some.ensures.lookup.3.0 in
-    omega (arith, there)
-
 pub returns-then-position-end-clause-none : goal.returns-then-position-end-clause-none
 returns-then-position-end-clause-none c =
     let i = c.loop-position.invariant in
@@ -51,16 +36,6 @@ returns-then-position-end-clause-none c =
     (λ j v ahead inside.
     let up : x ≤ get_or list j v = left_above r.past list c.args.self.now.downs.items are c.args.members c.args.from passed i.none x there is j v ahead inside in
     omega (arith, up, c.if-position-end.true))
-
-pub returns-then-restarts_one-clause-bounds : goal.returns-then-restarts_one-clause-bounds
-returns-then-restarts_one-clause-bounds c =
-    let list = c.args.self.now.positions.items in
-    let passed = c.loop-position.passed in
-    let x = c.in-Some.position.now in
-    let there : passed < length list = subst (λ l. passed < length l) c.deref.ensures.value c.in-Some.ensures.lookup.3.0 in
-    let is : x ≡ get_or list passed x = subst (λ l. x ≡ get_or l passed x) c.deref.ensures.value (c.in-Some.ensures.lookup.3.1 x) in
-    let late : c.args.from ≤ get_or list passed x = c.loop-position.invariant.left passed x (omega arith) there in
-    (omega (arith, late, is), omega (arith, c.if-position-end.false))
 
 pub returns-then-restarts_one-clause-none : goal.returns-then-restarts_one-clause-none
 returns-then-restarts_one-clause-none c =

@@ -4,12 +4,6 @@ use Rattle.causal_audit.specs.Inside.Look.Looks.{RulesOut}
 use Rattle.causal_audit.proofs.look.Thinned.{none_more, one_more}
 use Rattle.causal_audit.proofs.look.thins.Thins.note.Goals as goal
 
-pub returns-then-stretch-self-clause-thins : goal.returns-then-stretch-self-clause-thins
-returns-then-stretch-self-clause-thins c look t next passed found =
-    none_more look t next c.args.stretch passed c.args.self.now c.args.self.now refl found refl (omega arith) (omega (arith, found.bound, passed.order, passed.last))
-    (λ u after _ inside _. absurd (omega (arith, after, inside, c.if-stretch-self.true)))
-    (λ u after _ inside _. absurd (omega (arith, after, inside, c.if-stretch-self.true)))
-
 pub returns-in-Kept-clause-thins : goal.returns-in-Kept-clause-thins
 returns-in-Kept-clause-thins c look t next passed found =
     let r = look.run.trace.now.recording in
