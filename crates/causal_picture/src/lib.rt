@@ -12,6 +12,8 @@ mod down;
 pub mod focus;
 /// What stands around the marks.
 mod frame;
+/// Words with a number that stand at a place.
+mod label;
 /// Where things stand in a picture.
 mod layout;
 /// What each sign means, below the picture.
