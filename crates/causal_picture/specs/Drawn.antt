@@ -10,7 +10,7 @@ use Rattle.causal_picture.specs.declared.marks.Event.{Event}
 use Rattle.causal_picture.specs.declared.marks.Event.TheVariants.{Delivery, Crash, Restart}
 use Rattle.causal_picture.specs.declared.marks.Mark.{Mark}
 use Rattle.causal_picture.specs.declared.stretch.Grid.{Grid}
-use Rattle.causal_picture.specs.declared.label.Label.TheVariants.{LineNumber}
+use Rattle.causal_picture.specs.declared.shapes.Label.TheVariants.{LineNumber}
 use Rattle.causal_picture.specs.Labels.{label_text}
 use Rattle.causal_picture.specs.Layout.{column_of, x_of, y_of}
 use Rattle.causal_picture.specs.Marks.{process_of}

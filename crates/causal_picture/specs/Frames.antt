@@ -4,7 +4,7 @@ use Rattle.causal_picture.specs.declared.stretch.Grid.{Grid}
 use Rattle.causal_picture.specs.Layout.{width_of, height_of, columns_of, right_of, row_of, bottom_of, x_of_instant, y_of}
 use Rattle.causal_picture.specs.Titles.{line_of}
 use Rattle.causal_picture.specs.Shapes.{level_text, upright_text}
-use Rattle.causal_picture.specs.declared.label.Label.TheVariants.{Name, NameAgain}
+use Rattle.causal_picture.specs.declared.shapes.Label.TheVariants.{Name, NameAgain}
 use Rattle.causal_picture.specs.Labels.{label_text}
 
 -- the root's tag, and what the picture is, in words

@@ -1,7 +1,7 @@
 -- Words with a number that stand at a place.
 use Rattle.std.specs.Prelude.{ℕ, List, ◌++◌, codes, decimal}
-use Rattle.causal_picture.specs.declared.label.Label.{Label}
-use Rattle.causal_picture.specs.declared.label.Label.TheVariants.{Name, NameAgain, LineNumber, Instant}
+use Rattle.causal_picture.specs.declared.shapes.Label.{Label}
+use Rattle.causal_picture.specs.declared.shapes.Label.TheVariants.{Name, NameAgain, LineNumber, Instant}
 
 -- how the text looks, and its words up to the number
 abbrev pub opening_of : Label → List ℕ

@@ -7,7 +7,7 @@ use Rattle.causal_picture.specs.declared.overlay.Point.{Point}
 use Rattle.causal_picture.specs.declared.marks.Mark.{Mark}
 use Rattle.causal_picture.specs.declared.focus.Orphan.{Orphan}
 use Rattle.causal_picture.specs.declared.stretch.Grid.{Grid}
-use Rattle.causal_picture.specs.declared.label.Label.TheVariants.{Instant}
+use Rattle.causal_picture.specs.declared.shapes.Label.TheVariants.{Instant}
 use Rattle.causal_picture.specs.Labels.{label_text}
 use Rattle.causal_picture.specs.Layout.{x_of, x_of_instant, y_of, bottom_of}
 use Rattle.causal_picture.specs.Roles.{processes_text}

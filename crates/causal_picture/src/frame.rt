@@ -4,11 +4,10 @@ ghost use Rattle.causal_picture.specs.Appended.{Appends};
 ghost use Rattle.causal_picture.specs.Frames as frames;
 ghost use Rattle.causal_picture.specs.Stretches as stretches;
 
-use crate::label::{Label, push_label};
 use crate::layout::{
     bottom_of, columns_of, height_of, right_of, row_of, width_of, x_of_instant, y_of,
 };
-use crate::shapes::{push_level, push_upright};
+use crate::shapes::{Label, push_label, push_level, push_upright};
 use crate::stretch::Grid;
 use crate::titles::line_of;
 use std::alloc::AllocError;

@@ -12,8 +12,6 @@ mod down;
 pub mod focus;
 /// What stands around the marks.
 mod frame;
-/// Words with a number that stand at a place.
-mod label;
 /// Where things stand in a picture.
 mod layout;
 /// What each sign means, below the picture.
@@ -32,7 +30,7 @@ pub mod picture;
 mod resent;
 /// The processes at the instant.
 mod roles;
-/// The shape of each mark.
+/// The shape of each mark, and words with a number.
 mod shapes;
 /// Which entries are shown.
 pub mod stretch;

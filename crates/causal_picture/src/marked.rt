@@ -5,11 +5,12 @@ ghost use Rattle.std.specs.Option.{option_copied};
 ghost use Rattle.causal_picture.specs.Appended.{Appends};
 ghost use Rattle.causal_picture.specs.Drawn as drawn;
 
-use crate::label::{Label, push_label};
 use crate::layout::{Panel, column_of, x_of, y_of};
 use crate::marks::{Event, Mark};
 use crate::resent::is_resent;
-use crate::shapes::{push_bent, push_level, push_shape, push_straight, shape_of};
+use crate::shapes::{
+    Label, push_bent, push_label, push_level, push_shape, push_straight, shape_of,
+};
 use crate::stretch::Grid;
 use crate::titles::{line_of, push_title};
 use causal_name::{Det, Pid};

@@ -4,11 +4,10 @@ ghost use Rattle.causal_picture.specs.Appended.{Appends};
 ghost use Rattle.causal_picture.specs.Overlays as overlays;
 
 use crate::focus::Focus;
-use crate::label::{Label, push_label};
 use crate::layout::{bottom_of, is_shown, x_of, x_of_instant, y_of};
 use crate::marks::mark_at;
 use crate::roles::push_processes;
-use crate::shapes::{Shape, push_shape, push_upright};
+use crate::shapes::{Label, Shape, push_label, push_shape, push_upright};
 use crate::stretch::Grid;
 use causal_name::NoMemory;
 use causal_trace::Trace;
