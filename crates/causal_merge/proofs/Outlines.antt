@@ -1,15 +1,17 @@
 -- A value that does not fit the outline of a line has none of the shapes of a recording's line.
 use Rattle.std.proofs.Common.{◌≡◌, ◌⊎◌, suc, ◌^◌, arith, true, false, Some, Err, inl, inr, refl, cond}
-use Rattle.std.specs.Prelude.{◌&&◌, codes}
+use Rattle.std.specs.Prelude.{◌&&◌, List, codes}
 use Rattle.serde_json.specs.Data.{Data, number, string, array, object, no_items, item}
 use Rattle.serde_json.specs.Events.{items_len}
 use Rattle.serde_json.specs.Find.{at}
+use Rattle.causal_name.specs.declared.Det.{Det}
 use Rattle.causal_text.specs.declared.kind.TextKind.TheVariants.{Form}
+use Rattle.causal_text.specs.Reading.{◌>>=◌}
 use Rattle.causal_text.specs.Shapes.{pid_at, u32_at, u64_at, det_of, dets_at, begins}
 use Rattle.causal_text.specs.Outline.{levels, fits}
 use Rattle.causal_text.proofs.Lemmas.Unfit.{or_else, last_false, split, stops, after, chain, IsPlainly-or_form, IsPlainly-pid, IsPlainly-det, IsPlainly-dets, number_bad, u64_bad, pid_bad, far, det_bad, dets_bad, wrong, right, fields, either}
 use Rattle.causal_merge.specs.declared.event.Act.{Act}
-use Rattle.causal_merge.specs.declared.event.Act.TheVariants.{Crash}
+use Rattle.causal_merge.specs.declared.event.Act.TheVariants.{Crash, Restart, Forget}
 use Rattle.causal_merge.specs.Shapes.{header_of, event_with, send_of, deliver_of, stable_of, restart_of, forget_of, heard_of, line_of}
 
 -- each of the eight is refused
@@ -55,19 +57,22 @@ stable_bad a b c e h = by (split (fits 2 b) (fits 2 c) (fits 2 e && true) h) whe
   by (inl event) = after (det_of e) _ (IsPlainly-det e) (λ det. event_bad (array (item a (item b (item c (item e no_items))))) b c _ refl refl event)
   by (inr own) = stops (det_of e) _ (det_bad 2 e refl (last_false (fits 2 e) true refl own))
 
-restart_bad : (a b c e : Data) → (fits 2 b && (fits 2 c && (fits 2 e && true))) ≡ false → restart_of (array (item a (item b (item c (item e no_items))))) ≡ Err Form
-unfolding restart_of
-restart_bad a b c e h = by (split (fits 2 b) (fits 2 c) (fits 2 e && true) h) where
-  by : ((fits 2 b && fits 2 c) ≡ false) ⊎ ((fits 2 e && true) ≡ false) → restart_of (array (item a (item b (item c (item e no_items))))) ≡ Err Form
+-- the list of an event that lists determinants, or the process or the clock, does not fit
+listing_bad : (a b c e : Data) (act : List Det → Act) → (fits 2 b && (fits 2 c && (fits 2 e && true))) ≡ false
+    → (dets_at 3 (array (item a (item b (item c (item e no_items))))) >>= λ listed. event_with (array (item a (item b (item c (item e no_items))))) (act listed)) ≡ Err Form
+listing_bad a b c e act h = by (split (fits 2 b) (fits 2 c) (fits 2 e && true) h) where
+  by : ((fits 2 b && fits 2 c) ≡ false) ⊎ ((fits 2 e && true) ≡ false)
+      → (dets_at 3 (array (item a (item b (item c (item e no_items))))) >>= λ listed. event_with (array (item a (item b (item c (item e no_items))))) (act listed)) ≡ Err Form
   by (inl event) = after (dets_at 3 (array (item a (item b (item c (item e no_items)))))) _ (IsPlainly-dets 3 (array (item a (item b (item c (item e no_items)))))) (λ listed. event_bad (array (item a (item b (item c (item e no_items))))) b c _ refl refl event)
   by (inr own) = stops (dets_at 3 (array (item a (item b (item c (item e no_items)))))) _ (dets_bad 3 (array (item a (item b (item c (item e no_items))))) e refl (last_false (fits 2 e) true refl own))
 
+restart_bad : (a b c e : Data) → (fits 2 b && (fits 2 c && (fits 2 e && true))) ≡ false → restart_of (array (item a (item b (item c (item e no_items))))) ≡ Err Form
+unfolding restart_of
+restart_bad a b c e h = listing_bad a b c e Restart h
+
 forget_bad : (a b c e : Data) → (fits 2 b && (fits 2 c && (fits 2 e && true))) ≡ false → forget_of (array (item a (item b (item c (item e no_items))))) ≡ Err Form
 unfolding forget_of
-forget_bad a b c e h = by (split (fits 2 b) (fits 2 c) (fits 2 e && true) h) where
-  by : ((fits 2 b && fits 2 c) ≡ false) ⊎ ((fits 2 e && true) ≡ false) → forget_of (array (item a (item b (item c (item e no_items))))) ≡ Err Form
-  by (inl event) = after (dets_at 3 (array (item a (item b (item c (item e no_items)))))) _ (IsPlainly-dets 3 (array (item a (item b (item c (item e no_items)))))) (λ listed. event_bad (array (item a (item b (item c (item e no_items))))) b c _ refl refl event)
-  by (inr own) = stops (dets_at 3 (array (item a (item b (item c (item e no_items)))))) _ (dets_bad 3 (array (item a (item b (item c (item e no_items))))) e refl (last_false (fits 2 e) true refl own))
+forget_bad a b c e h = listing_bad a b c e Forget h
 
 header_bad : (a b c e x : Data) → (fits 2 b && (fits 2 c && (fits 2 e && (fits 2 x && true)))) ≡ false → header_of (array (item a (item b (item c (item e (item x no_items)))))) ≡ Err Form
 unfolding header_of

@@ -1,6 +1,6 @@
 -- Which entries have a place in a picture.
-use Rattle.std.proofs.Common.{◌≡◌, ℕ, ◌+◌, ◌-◌, ◌<◌, ◌≤◌, suc, true, false, Bool, refl, inl, inr, arith}
-use Rattle.std.specs.Prelude.{◌||◌, ◌&&◌, nat_le, nat_lt, min, if◌then◌else◌, length, Option, Some, None, IfSome}
+use Rattle.std.proofs.Common.{◌≡◌, ℕ, ◌+◌, ◌-◌, ◌<◌, ◌≤◌, true, false, refl, arith}
+use Rattle.std.specs.Prelude.{◌||◌, nat_lt, if◌then◌else◌, length, Option, Some, None, IfSome}
 use Rattle.std.proofs.lemmas.Bool.{le-leb, lt-ltb, ltb-true, ltb-false}
 use Rattle.causal_trace.specs.Rows.{Recording}
 use Rattle.causal_picture.specs.declared.focus.Focus.{Focus}

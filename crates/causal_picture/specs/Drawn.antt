@@ -10,6 +10,8 @@ use Rattle.causal_picture.specs.declared.marks.Event.{Event}
 use Rattle.causal_picture.specs.declared.marks.Event.TheVariants.{Delivery, Crash, Restart}
 use Rattle.causal_picture.specs.declared.marks.Mark.{Mark}
 use Rattle.causal_picture.specs.declared.stretch.Grid.{Grid}
+use Rattle.causal_picture.specs.declared.shapes.Label.TheVariants.{LineNumber}
+use Rattle.causal_picture.specs.Labels.{label_text}
 use Rattle.causal_picture.specs.Layout.{column_of, x_of, y_of}
 use Rattle.causal_picture.specs.Marks.{process_of}
 use Rattle.causal_picture.specs.Resent.{is_resent}
@@ -53,10 +55,6 @@ link_of g panel marks position _ = []
 unfoldable pub link_text : Grid → Panel → List Mark → Mark → List ℕ
 link_text g panel marks m = link_of g panel marks m.position m.event
 
-unfoldable pub level_number : ℕ → ℕ → List ℕ
-level_number x line =
-    codes "<text x='" ++ (decimal x ++ (codes "' y='62' text-anchor='middle' font-size='9' fill='#777'>" ++ (decimal line ++ codes "</text>\n")))
-
 unfoldable pub upright_number : ℕ → ℕ → List ℕ
 upright_number x line =
     codes "<text transform='translate(" ++ (decimal x ++ (codes ",66)rotate(-90)' dy='3' font-size='9' fill='#777'>" ++ (decimal line ++ codes "</text>\n")))
@@ -66,7 +64,7 @@ abbrev pub number_text : Grid → ℕ → List ℕ
 number_text g position =
     if nat_lt (column_of g) 28
     then upright_number (x_of g position) (line_of position)
-    else level_number (x_of g position) (line_of position)
+    else label_text (x_of g position) 62 LineNumber (line_of position)
 
 -- the beginning of what is drawn of an event
 abbrev pub group_text : Bool → List ℕ

@@ -4,6 +4,8 @@ use Rattle.causal_picture.specs.declared.stretch.Grid.{Grid}
 use Rattle.causal_picture.specs.Layout.{width_of, height_of, columns_of, right_of, row_of, bottom_of, x_of_instant, y_of}
 use Rattle.causal_picture.specs.Titles.{line_of}
 use Rattle.causal_picture.specs.Shapes.{level_text, upright_text}
+use Rattle.causal_picture.specs.declared.shapes.Label.TheVariants.{Name, NameAgain}
+use Rattle.causal_picture.specs.Labels.{label_text}
 
 -- the root's tag, and what the picture is, in words
 unfoldable pub root_text : ℕ → ℕ → List ℕ
@@ -41,10 +43,6 @@ shade_text g p is_shaded = if is_shaded then shade_line (width_of g) (y_of g p) 
 unfoldable pub process_title : ℕ → List ℕ
 process_title p = codes "<g><title>process " ++ (decimal p ++ codes "</title>\n")
 
-unfoldable pub process_name : ℕ → ℕ → List ℕ
-process_name p y =
-    codes "<text x='72' y='" ++ (decimal y ++ (codes "' dy='4' text-anchor='end' fill='#222'>process " ++ (decimal p ++ codes "</text>\n")))
-
 -- the dotted line of a process, from end to end
 unfoldable pub dotted_text : ℕ → ℕ → List ℕ
 dotted_text right y = level_text 80 right y (codes "stroke='#999' stroke-dasharray='1 5'")
@@ -53,13 +51,12 @@ dotted_text right y = level_text 80 right y (codes "stroke='#999' stroke-dasharr
 abbrev pub name_again : Grid → ℕ → ℕ → List ℕ
 name_again g p x =
     if nat_lt x (right_of g)
-    then codes "<text x='" ++ (decimal x ++ (codes "' y='" ++ (decimal (y_of g p)
-    ++ (codes "' dy='-5' text-anchor='middle' font-size='10' fill='#777'>process " ++ (decimal p ++ codes "</text>\n")))))
+    then label_text x (y_of g p) NameAgain p
     else []
 
 -- the name of a process at the left end of its line, and again where that is far
 unfoldable pub names_text : Grid → ℕ → List ℕ
-names_text g p = process_name p (y_of g p) ++ (name_again g p 680 ++ (name_again g p 1280 ++ name_again g p 1880))
+names_text g p = label_text 72 (y_of g p) Name p ++ (name_again g p 680 ++ (name_again g p 1280 ++ name_again g p 1880))
 
 -- the row of a process: its shade, its dotted line, and its names
 unfoldable pub row_text : Grid → ℕ → Bool → List ℕ

@@ -3,7 +3,8 @@ pub mod Captions
 pub mod Drawn
 pub mod Frames
 pub mod Inside
-pub mod Layout
+pub mod Labels
+mod Layout
 pub mod Legends
 pub mod Marks
 pub mod Overlays

@@ -7,6 +7,8 @@ use Rattle.causal_picture.specs.declared.overlay.Point.{Point}
 use Rattle.causal_picture.specs.declared.marks.Mark.{Mark}
 use Rattle.causal_picture.specs.declared.focus.Orphan.{Orphan}
 use Rattle.causal_picture.specs.declared.stretch.Grid.{Grid}
+use Rattle.causal_picture.specs.declared.shapes.Label.TheVariants.{Instant}
+use Rattle.causal_picture.specs.Labels.{label_text}
 use Rattle.causal_picture.specs.Layout.{x_of, x_of_instant, y_of, bottom_of}
 use Rattle.causal_picture.specs.Roles.{processes_text}
 use Rattle.causal_picture.specs.Stretches.{is_shown}
@@ -60,11 +62,6 @@ instant_title instant = codes "<g><title>instant " ++ (decimal instant ++ codes 
 unfoldable pub instant_line : ℕ → ℕ → List ℕ
 instant_line x bottom = upright_text x bottom (codes "stroke='#0072b2' stroke-width='2' stroke-dasharray='7 4'")
 
-unfoldable pub instant_label : ℕ → ℕ → ℕ → List ℕ
-instant_label x y instant =
-    codes "<text x='" ++ (decimal x ++ (codes "' y='" ++ (decimal y ++ (codes "' dy='14' text-anchor='middle' fill='#0072b2'>instant " ++ (decimal instant
-    ++ codes "</text>\n")))))
-
 -- the same, where some of it is shown
 abbrev pub shown_chain : List Point → List ℕ
 shown_chain [] = []
@@ -75,4 +72,4 @@ unfoldable pub instant_text : Grid → ℕ → Option Orphan → List ℕ
 instant_text g t orphan =
     instant_title t
     ++ (instant_line (x_of_instant g t) (bottom_of g.processes)
-    ++ (instant_label (x_of_instant g t) (bottom_of g.processes) t ++ (processes_text g (x_of_instant g t) orphan ++ codes "</g>\n")))
+    ++ (label_text (x_of_instant g t) (bottom_of g.processes) Instant t ++ (processes_text g (x_of_instant g t) orphan ++ codes "</g>\n")))

@@ -7,7 +7,7 @@ ghost use Rattle.causal_picture.specs.Stretches as stretches;
 use crate::layout::{
     bottom_of, columns_of, height_of, right_of, row_of, width_of, x_of_instant, y_of,
 };
-use crate::shapes::{push_level, push_upright};
+use crate::shapes::{Label, push_label, push_level, push_upright};
 use crate::stretch::Grid;
 use crate::titles::line_of;
 use std::alloc::AllocError;
@@ -101,16 +101,6 @@ pub fn push_process_title(out: &mut String, process: u16) -> Result<(), AllocErr
     write!(out, "<g><title>process {process}</title>\n")
 }
 
-#[tactic(auto, unfolding(crate::specs::Frames::process_name))]
-fn push_process_name(out: &mut String, process: u16, y: u32) -> Result<(), AllocError>
-    ensures { Appends result out.old out.new (frames.process_name process y) }
-{
-    write!(
-        out,
-        "<text x='72' y='{y}' dy='4' text-anchor='end' fill='#222'>process {process}</text>\n"
-    )
-}
-
 /// The name of a process above its line, where the line reaches so far.
 fn push_name_again(out: &mut String, grid: Grid, process: u16, x: u64) -> Result<(), AllocError>
     ensures { Appends result out.old out.new (frames.name_again grid process x) }
@@ -119,10 +109,7 @@ fn push_name_again(out: &mut String, grid: Grid, process: u16, x: u64) -> Result
         return Ok(());
     }
     let y = y_of(grid, process);
-    write!(
-        out,
-        "<text x='{x}' y='{y}' dy='-5' text-anchor='middle' font-size='10' fill='#777'>process {process}</text>\n"
-    )
+    push_label(out, x, y, Label::NameAgain, u64::from(process))
 }
 
 /// The name of a process at the left end of its line, and again where that is far.
@@ -130,7 +117,8 @@ fn push_name_again(out: &mut String, grid: Grid, process: u16, x: u64) -> Result
 fn push_names(out: &mut String, grid: Grid, process: u16) -> Result<(), AllocError>
     ensures { Appends result out.old out.new (frames.names_text grid process) }
 {
-    push_process_name(out, process, y_of(grid, process))?;
+    let y = y_of(grid, process);
+    push_label(out, 72, y, Label::Name, u64::from(process))?;
     push_name_again(out, grid, process, 680)?;
     push_name_again(out, grid, process, 1280)?;
     push_name_again(out, grid, process, 1880)

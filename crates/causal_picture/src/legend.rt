@@ -5,23 +5,23 @@ ghost use Rattle.causal_picture.specs.Legends as legends;
 use crate::shapes::{Shape, push_shape};
 use std::alloc::AllocError;
 
-#[tactic(auto, unfolding(crate::specs::Legends::label_text))]
-fn push_label(out: &mut String, x: u64, y: u32, label: &str) -> Result<(), AllocError>
-    ensures { Appends result out.old out.new (legends.label_text x y label.now) }
+#[tactic(auto, unfolding(crate::specs::Legends::meaning_text))]
+fn push_meaning(out: &mut String, x: u64, y: u32, meaning: &str) -> Result<(), AllocError>
+    ensures { Appends result out.old out.new (legends.meaning_text x y meaning.now) }
 {
     write!(
         out,
-        "<text x='{x}' y='{y}' dx='16' dy='4' fill='#222'>{label}</text>\n"
+        "<text x='{x}' y='{y}' dx='16' dy='4' fill='#222'>{meaning}</text>\n"
     )
 }
 
 /// A shape, and what it means.
 #[tactic(auto, unfolding(crate::specs::Legends::key_text))]
-fn push_key(out: &mut String, x: u64, y: u32, shape: Shape, label: &str) -> Result<(), AllocError>
-    ensures { Appends result out.old out.new (legends.key_text x y shape label.now) }
+fn push_key(out: &mut String, x: u64, y: u32, shape: Shape, meaning: &str) -> Result<(), AllocError>
+    ensures { Appends result out.old out.new (legends.key_text x y shape meaning.now) }
 {
     push_shape(out, x, y, shape)?;
-    push_label(out, x, y, label)
+    push_meaning(out, x, y, meaning)
 }
 
 #[tactic(auto, unfolding(crate::specs::Legends::upper_text))]

@@ -30,7 +30,7 @@ pub mod picture;
 mod resent;
 /// The processes at the instant.
 mod roles;
-/// The shape of each mark.
+/// The shape of each mark, and words with a number.
 mod shapes;
 /// Which entries are shown.
 pub mod stretch;

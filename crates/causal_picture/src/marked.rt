@@ -8,7 +8,9 @@ ghost use Rattle.causal_picture.specs.Drawn as drawn;
 use crate::layout::{Panel, column_of, x_of, y_of};
 use crate::marks::{Event, Mark};
 use crate::resent::is_resent;
-use crate::shapes::{push_bent, push_level, push_shape, push_straight, shape_of};
+use crate::shapes::{
+    Label, push_bent, push_label, push_level, push_shape, push_straight, shape_of,
+};
 use crate::stretch::Grid;
 use crate::titles::{line_of, push_title};
 use causal_name::{Det, Pid};
@@ -111,16 +113,6 @@ fn push_link(
     }
 }
 
-#[tactic(auto, unfolding(crate::specs::Drawn::level_number))]
-fn push_level_number(out: &mut String, x: u64, line: u64) -> Result<(), AllocError>
-    ensures { Appends result out.old out.new (drawn.level_number x line) }
-{
-    write!(
-        out,
-        "<text x='{x}' y='62' text-anchor='middle' font-size='9' fill='#777'>{line}</text>\n"
-    )
-}
-
 #[tactic(auto, unfolding(crate::specs::Drawn::upright_number))]
 fn push_upright_number(out: &mut String, x: u64, line: u64) -> Result<(), AllocError>
     ensures { Appends result out.old out.new (drawn.upright_number x line) }
@@ -135,10 +127,11 @@ fn push_upright_number(out: &mut String, x: u64, line: u64) -> Result<(), AllocE
 fn push_number(out: &mut String, grid: Grid, position: u32) -> Result<(), AllocError>
     ensures { Appends result out.old out.new (drawn.number_text grid position) }
 {
+    let x = x_of(grid, position);
     if column_of(grid) < 28 {
-        push_upright_number(out, x_of(grid, position), line_of(position))
+        push_upright_number(out, x, line_of(position))
     } else {
-        push_level_number(out, x_of(grid, position), line_of(position))
+        push_label(out, x, 62, Label::LineNumber, line_of(position))
     }
 }
 

@@ -7,7 +7,7 @@ use crate::focus::Focus;
 use crate::layout::{bottom_of, is_shown, x_of, x_of_instant, y_of};
 use crate::marks::mark_at;
 use crate::roles::push_processes;
-use crate::shapes::{Shape, push_shape, push_upright};
+use crate::shapes::{Label, Shape, push_label, push_shape, push_upright};
 use crate::stretch::Grid;
 use causal_name::NoMemory;
 use causal_trace::Trace;
@@ -133,16 +133,6 @@ fn push_instant_title(out: &mut String, instant: u32) -> Result<(), AllocError>
     write!(out, "<g><title>instant {instant}</title>\n")
 }
 
-#[tactic(auto, unfolding(crate::specs::Overlays::instant_label))]
-fn push_instant_label(out: &mut String, x: u64, y: u32, instant: u32) -> Result<(), AllocError>
-    ensures { Appends result out.old out.new (overlays.instant_label x y instant) }
-{
-    write!(
-        out,
-        "<text x='{x}' y='{y}' dy='14' text-anchor='middle' fill='#0072b2'>instant {instant}</text>\n"
-    )
-}
-
 #[tactic(auto, unfolding(crate::specs::Overlays::instant_line))]
 fn push_instant_line(out: &mut String, x: u64, bottom: u32) -> Result<(), AllocError>
     ensures { Appends result out.old out.new (overlays.instant_line x bottom) }
@@ -170,7 +160,7 @@ pub fn push_instant(
     let bottom = bottom_of(grid.processes);
     push_instant_title(out, instant)?;
     push_instant_line(out, x, bottom)?;
-    push_instant_label(out, x, bottom, instant)?;
+    push_label(out, x, bottom, Label::Instant, u64::from(instant))?;
     push_processes(out, grid, x, focus)?;
     out.push_str("</g>\n")
 }

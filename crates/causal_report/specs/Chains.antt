@@ -1,5 +1,5 @@
 -- A chain of dependence, as text.
-use Rattle.std.specs.Prelude.{ℕ, ◌==◌, if◌then◌else◌, List, ◌++◌, codes, decimal, flat_map, Option, Some, None}
+use Rattle.std.specs.Prelude.{ℕ, Bool, ◌==◌, if◌then◌else◌, List, ◌++◌, codes, decimal, flat_map, Option, Some, None}
 use Rattle.causal_trace.specs.Rows.{Recording}
 use Rattle.causal_report.specs.declared.event.Event.{Event}
 use Rattle.causal_report.specs.declared.event.Event.TheVariants.{Send, Delivery, Other}
@@ -26,26 +26,27 @@ chain_text r chain = flat_map (λ position. chain_line position (event_at r posi
 unfoldable pub no_delivery_line : ℕ → List ℕ
 no_delivery_line line = codes "unlisted line=" ++ (decimal line ++ codes ": no delivery\n")
 
--- a delivery after which its receiver's log lacks its own determinant
-unfoldable pub unlogged_line : ℕ → ℕ → ℕ → List ℕ
-unlogged_line line send to =
-    codes "unlisted line=" ++ (decimal line ++ (codes " send=" ++ (decimal send ++ (codes " process=" ++ (decimal to
-    ++ (codes ": process " ++ (decimal to ++ (codes " delivers what line " ++ (decimal send
-    ++ codes " sends, and does not log the determinant\n")))))))))
+-- a delivery: its line, that of the send, and the receiver
+unfoldable pub delivery_place : ℕ → ℕ → ℕ → List ℕ
+delivery_place line send to =
+    codes "unlisted line=" ++ (decimal line ++ (codes " send=" ++ (decimal send ++ (codes " process=" ++ (decimal to ++ codes ": ")))))
 
--- a delivery whose message did not bring the determinant along
-unfoldable pub unlisted_line : ℕ → ℕ → ℕ → List ℕ
-unlisted_line line send to =
-    codes "unlisted line=" ++ (decimal line ++ (codes " send=" ++ (decimal send ++ (codes " process=" ++ (decimal to
-    ++ (codes ": the message that line " ++ (decimal send ++ (codes " sends comes to process " ++ (decimal to
-    ++ codes " without the determinant\n")))))))))
+-- what its receiver does without: its own determinant, or another one, which its message did not bring along
+unfoldable pub lack : ℕ → ℕ → Bool → List ℕ
+lack send to is_own =
+    if is_own
+    then codes "process " ++ (decimal to ++ (codes " delivers what line " ++ (decimal send
+    ++ codes " sends, and does not log the determinant\n")))
+    else codes "the message that line " ++ (decimal send ++ (codes " sends comes to process " ++ (decimal to
+    ++ codes " without the determinant\n")))
+
+-- a delivery after which its receiver's log lacks its own determinant, or that of another one
+abbrev pub delivery_line : ℕ → ℕ → ℕ → Bool → List ℕ
+delivery_line line send to is_own = delivery_place line send to ++ lack send to is_own
 
 -- the event at a position, where the log of its receiver lacks the determinant of the delivery at another, or of its own
 abbrev pub lacking_line : ℕ → ℕ → Event → List ℕ
-lacking_line delivery position (Delivery to send) =
-    if position == delivery
-    then unlogged_line (line_at position) (line_at send) to
-    else unlisted_line (line_at position) (line_at send) to
+lacking_line delivery position (Delivery to send) = delivery_line (line_at position) (line_at send) to (position == delivery)
 lacking_line delivery position _ = no_delivery_line (line_at position)
 
 -- that no delivery lacks it

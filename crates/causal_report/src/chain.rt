@@ -52,11 +52,14 @@ pub(crate) fn push_unlisted(
         return push_listed(out);
     };
     match event_at(trace, position) {
-        Event::Delivery { to, send } if position == delivery => {
-            push_unlogged(out, line_at(position), line_at(send), to)
-        }
         Event::Delivery { to, send } => {
-            push_unlisted_at(out, line_at(position), line_at(send), to)
+            push_lacking(
+                out,
+                line_at(position),
+                line_at(send),
+                to,
+                position == delivery,
+            )
         }
         _ => push_no_delivery(out, line_at(position)),
     }
@@ -71,28 +74,42 @@ fn push_listed(out: &mut String) -> Result<(), AllocError>
     )
 }
 
-/// Adds the line of a delivery after which its receiver's log lacks its own determinant.
-#[tactic(auto, unfolding(crate::specs::Chains::unlogged_line))]
-fn push_unlogged(out: &mut String, line: u64, send: u64, to: u8) -> Result<(), AllocError>
-    ensures { OnOk result (Adds out.old out.new (chains.unlogged_line line send to)) }
+/// Adds the line of a delivery after which its receiver's log lacks its own determinant, or that of another one.
+fn push_lacking(
+    out: &mut String,
+    line: u64,
+    send: u64,
+    to: u8,
+    is_own: bool,
+) -> Result<(), AllocError>
+    ensures { OnOk result (Adds out.old out.new (chains.delivery_line line send to is_own)) }
 {
-    write!(
-        out,
-        "unlisted line={line} send={send} process={to}: \
-         process {to} delivers what line {send} sends, and does not log the determinant\n"
-    )
+    push_place(out, line, send, to)?;
+    push_lack(out, send, to, is_own)
 }
 
-/// Adds the line of a delivery after which its receiver's log lacks the determinant of another one.
-#[tactic(auto, unfolding(crate::specs::Chains::unlisted_line))]
-fn push_unlisted_at(out: &mut String, line: u64, send: u64, to: u8) -> Result<(), AllocError>
-    ensures { OnOk result (Adds out.old out.new (chains.unlisted_line line send to)) }
+#[tactic(auto, unfolding(crate::specs::Chains::delivery_place))]
+fn push_place(out: &mut String, line: u64, send: u64, to: u8) -> Result<(), AllocError>
+    ensures { OnOk result (Adds out.old out.new (chains.delivery_place line send to)) }
 {
-    write!(
-        out,
-        "unlisted line={line} send={send} process={to}: \
-         the message that line {send} sends comes to process {to} without the determinant\n"
-    )
+    write!(out, "unlisted line={line} send={send} process={to}: ")
+}
+
+#[tactic(auto, unfolding(crate::specs::Chains::lack))]
+fn push_lack(out: &mut String, send: u64, to: u8, is_own: bool) -> Result<(), AllocError>
+    ensures { OnOk result (Adds out.old out.new (chains.lack send to is_own)) }
+{
+    if is_own {
+        write!(
+            out,
+            "process {to} delivers what line {send} sends, and does not log the determinant\n"
+        )
+    } else {
+        write!(
+            out,
+            "the message that line {send} sends comes to process {to} without the determinant\n"
+        )
+    }
 }
 
 #[tactic(auto, unfolding(crate::specs::Chains::no_delivery_line))]

@@ -6,7 +6,7 @@ ghost use Rattle.causal_report.specs.Objects as told;
 use crate::json::parts::parts;
 use std::alloc::{AllocError, Global};
 
-/// AddsBytes the member of a field.
+/// Adds the member of a field.
 pub(crate) fn push_field(alloc: Global, out: &mut Vec<u8>, field: &[u8]) -> Result<(), AllocError>
     ensures { OnOk result (AddsBytes out.old out.new (told.field_member field.now)) }
 {
@@ -53,7 +53,7 @@ fn push_value(out: &mut Vec<u8>, key: &[u8], value: &[u8]) -> Result<(), AllocEr
     }
 }
 
-/// AddsBytes a text in quotes.
+/// Adds a text in quotes.
 pub(crate) fn push_quoted(out: &mut Vec<u8>, text: &[u8]) -> Result<(), AllocError>
     ensures { OnOk result (AddsBytes out.old out.new (told.quoted text.now)) }
 {

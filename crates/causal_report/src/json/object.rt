@@ -37,7 +37,7 @@ pub fn ranges_object(alloc: Global, text: &[u8]) -> Result<Vec<u8>, AllocError>
     let found = lines(alloc, text)?;
     let mut out = Vec::new(alloc);
     out.extend_from_slice(b"{\"ranges\":".as_slice())?;
-    push_array(alloc, &mut out, b"verdict".as_slice(), found.as_slice())?;
+    push_rows(alloc, &mut out, b"verdict".as_slice(), found.as_slice())?;
     out.extend_from_slice(b"}\n".as_slice())?;
     Ok(out)
 }
@@ -61,96 +61,69 @@ fn push_reason(alloc: Global, out: &mut Vec<u8>, facts: &[&[u8]]) -> Result<(), 
         return Ok(());
     }
     out.extend_from_slice(b",\"reason\":".as_slice())?;
-    push_array(alloc, out, b"fact".as_slice(), facts)
+    push_rows(alloc, out, b"fact".as_slice(), facts)
 }
 
-fn push_array(
-    alloc: Global,
-    out: &mut Vec<u8>,
-    name: &[u8],
-    lines: &[&[u8]],
-) -> Result<(), AllocError>
+fn push_rows(alloc: Global, out: &mut Vec<u8>, key: &[u8], rows: &[&[u8]]) -> Result<(), AllocError>
     ensures { OnOk result
-        (AddsBytes out.old out.new (told.array name.now (map (λ line. line.now) lines.now))) }
+        (AddsBytes out.old out.new (told.array key.now (map (λ line. line.now) rows.now))) }
 {
     out.push(b'[')?;
-    push_listed(alloc, out, name, lines)?;
+    push_each(alloc, out, key, rows)?;
     out.extend_from_slice(b"]".as_slice())
 }
 
-/// AddsBytes an object for each line, with commas between them.
-fn push_listed(
-    alloc: Global,
-    out: &mut Vec<u8>,
-    name: &[u8],
-    lines: &[&[u8]],
-) -> Result<(), AllocError>
+/// Adds an object for each line, with commas between them.
+fn push_each(alloc: Global, out: &mut Vec<u8>, key: &[u8], rows: &[&[u8]]) -> Result<(), AllocError>
     ensures { OnOk result
-        (AddsBytes out.old out.new (told.listed name.now (map (λ line. line.now) lines.now))) }
+        (AddsBytes out.old out.new (told.listed key.now (map (λ line. line.now) rows.now))) }
 {
-    let [line, more @ ..] = lines else {
+    let [line, more @ ..] = rows else {
         return Ok(());
     };
-    push_object(alloc, out, name, line)?;
-    push_more(alloc, out, name, more)
+    push_object(alloc, out, key, line)?;
+    push_more(alloc, out, key, more)
 }
 
-fn push_more(
-    alloc: Global,
-    out: &mut Vec<u8>,
-    name: &[u8],
-    lines: &[&[u8]],
-) -> Result<(), AllocError>
+fn push_more(alloc: Global, out: &mut Vec<u8>, key: &[u8], rows: &[&[u8]]) -> Result<(), AllocError>
     ensures { OnOk result (AddsBytes out.old out.new
-        (flat_map (told.next_object name.now) (map (λ line. line.now) lines.now))) }
+        (flat_map (told.next_object key.now) (map (λ line. line.now) rows.now))) }
 {
-    for line in lines {
+    for line in rows {
         out.push(b',')?;
-        push_object(alloc, out, name, line)?;
+        push_object(alloc, out, key, line)?;
     }
     Ok(())
 }
 
-fn push_object(alloc: Global, out: &mut Vec<u8>, name: &[u8], line: &[u8]) -> Result<(), AllocError>
-    ensures { OnOk result (AddsBytes out.old out.new (told.object name.now line.now)) }
+fn push_object(alloc: Global, out: &mut Vec<u8>, key: &[u8], line: &[u8]) -> Result<(), AllocError>
+    ensures { OnOk result (AddsBytes out.old out.new (told.object key.now line.now)) }
 {
     out.push(b'{')?;
-    push_line(alloc, out, name, line)?;
+    push_line(alloc, out, key, line)?;
     out.extend_from_slice(b"}".as_slice())
 }
 
-/// AddsBytes what a line says, but for its sentence.
-fn push_line(alloc: Global, out: &mut Vec<u8>, name: &[u8], line: &[u8]) -> Result<(), AllocError>
-    ensures { OnOk result (AddsBytes out.old out.new (told.line_members name.now line.now)) }
+/// Adds what a line says, but for its sentence.
+fn push_line(alloc: Global, out: &mut Vec<u8>, key: &[u8], line: &[u8]) -> Result<(), AllocError>
+    ensures { OnOk result (AddsBytes out.old out.new (told.line_members key.now line.now)) }
 {
     let found = parts(alloc, b':', line)?;
     let [fields, ..] = found.as_slice() else {
         return Ok(());
     };
     let words = parts(alloc, b' ', fields)?;
-    push_words(alloc, out, name, words.as_slice())
-}
-
-fn push_words(
-    alloc: Global,
-    out: &mut Vec<u8>,
-    name: &[u8],
-    words: &[&[u8]],
-) -> Result<(), AllocError>
-    ensures { OnOk result
-        (AddsBytes out.old out.new (told.members name.now (map (λ word. word.now) words.now))) }
-{
-    let [word, fields @ ..] = words else {
+    let [word, members @ ..] = words.as_slice() else {
         return Ok(());
     };
-    push_named(out, name, word)?;
-    push_fields(alloc, out, fields)
+    push_named(out, key, word)?;
+    push_fields(alloc, out, members)
 }
 
-fn push_named(out: &mut Vec<u8>, name: &[u8], word: &[u8]) -> Result<(), AllocError>
-    ensures { OnOk result (AddsBytes out.old out.new (told.named name.now word.now)) }
+fn push_named(out: &mut Vec<u8>, key: &[u8], word: &[u8]) -> Result<(), AllocError>
+    ensures { OnOk result (AddsBytes out.old out.new (told.named key.now word.now)) }
 {
-    push_quoted(out, name)?;
+    push_quoted(out, key)?;
     out.push(b':')?;
     push_quoted(out, word)
 }

@@ -4,4 +4,4 @@ use Rattle.causal_report.proofs.json.object.push_more.Given as goal
 
 abbrev pub invariant-loop-line : goal.invariant-loop-line
 invariant-loop-line l =
-    l.fn.out.items ++ flat_map (next_object l.name) (map (λ line. line.now) l.lines) ≡ l.out.items ++ flat_map (next_object l.name) (map (λ line. line.now) (drop l.line-index l.lines))
+    l.fn.out.items ++ flat_map (next_object l.key) (map (λ line. line.now) l.rows) ≡ l.out.items ++ flat_map (next_object l.key) (map (λ line. line.now) (drop l.line-index l.rows))
