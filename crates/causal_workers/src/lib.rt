@@ -3,8 +3,8 @@
 //! The calling thread prepares the run. The groups of deliveries that must be followed are divided into consecutive shares, one for
 //! each worker, and the workers' answers are joined, so the verdict is the same for every number of workers.
 //!
-//! Begin at [`audit`] for a trace, or [`audit_text`] for its text; [`judge_until_breach`] ends as soon as it finds a breach. All take
-//! a [`Gate`], of which [`OpenGate`] lets all through. [`verdict_line`] prints what they answer.
+//! Begin at [`audit`] for a trace, or [`audit_text`] for its text; [`judge_until_breach`] ends as soon as it finds a breach. All take a [`Gate`], of which [`OpenGate`] lets all through.
+//! [`verdict_line`] prints what they answer.
 #![tactic(auto)]
 
 pub mod divided;
