@@ -1,10 +1,10 @@
 -- The least breach of the deliveries at given positions.
-use Rattle.causal_audit.proofs.Common.{ℕ, ◌≡◌, ◌+◌, ◌<◌, ◌≤◌, inl, inr, Bool, true, false, List, [], ◌∷◌, ◌++◌, Option, Some, None, length, refl, sym, subst, arith, ◌⊎◌, Contains, if◌then◌else◌, min, cases_lt, nat_tests, Contains-append_cases, Contains-append_left, Contains-append_right, Contains-push, Contains-push_cases, Det, instant, deliveries_in, det_at, Recording, AreAccepted, HasOrphan}
+use Rattle.causal_audit.proofs.Common.{ℕ, ◌≡◌, ◌+◌, ◌<◌, ◌≤◌, inl, inr, Bool, true, false, List, [], ◌∷◌, ◌++◌, Option, Some, None, length, refl, sym, subst, arith, ◌⊎◌, Contains, if◌then◌else◌, cases_lt, nat_tests, Contains-append_cases, Contains-append_left, Contains-append_right, Contains-push, Contains-push_cases, Det, instant, deliveries_in, det_at, Recording, AreAccepted, HasOrphan}
 use Rattle.causal_audit.specs.declared.breach.Breach.{Breach}
 use Rattle.causal_audit.specs.Earlier.{comes_before, earlier}
 use Rattle.causal_audit.specs.Numbers.{IsNumbered}
 use Rattle.causal_audit.specs.Breaches.{IsFirstBreach, LeastBreachBy}
-use Rattle.causal_audit.specs.Inside.Among.{FirstBreachBy, HasNoOrphanBy, HasNoOrphanFrom, IsLeastAmong, LeastAmongBy, horizon}
+use Rattle.causal_audit.specs.Inside.Among.{FirstBreachBy, HasNoOrphanBy, IsLeastAmong, LeastAmongBy, horizon}
 use Rattle.causal_audit.proofs.Lemmas.NumberLemmas.{has_number}
 use Rattle.causal_audit.proofs.Numbered.{numbered_later, numbered_below, numbered_one, numbered_some}
 
@@ -221,9 +221,6 @@ pub record IsLeastBelow (r : Recording) (f end i : ℕ) (found : Option Breach) 
   pub positions : List ℕ
   pub each : (j k : ℕ) → j < i → IsNumbered r.past j k → Contains positions k
   pub least : LeastAmongBy r f end positions found
-
-pub below_none : (r : Recording) (f end : ℕ) → IsLeastBelow r f end 0 None
-below_none r f end = record { positions = []; each = λ j k low. absurd (omega (arith, low)); least = among_none r f end }
 
 pub below_more : (r : Recording) (f end i k : ℕ) (one other : Option Breach) → IsNumbered r.past i k → IsLeastBelow r f end i one → FirstBreachBy r f end k other → IsLeastBelow r f end (i + 1) (earlier one other)
 below_more r f end i k one other here so_far next = record {

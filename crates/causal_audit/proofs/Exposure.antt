@@ -1,5 +1,5 @@
 -- Orphans, by what is known of a delivery at an instant.
-use Rattle.causal_audit.proofs.Common.{ℕ, ◌≡◌, ◌<◌, ◌≤◌, inl, inr, Bool, true, false, List, Some, sym, ap, subst, ◌∙◌, arith, ◌&&◌, not, nat_cmp, nat_cmp_total, FinSet, contains, empty, union, difference, len, contains-empty, contains-difference, false≢true, or_cases, nat_tests, Det, count_below, Entry, is_down, logs, det_at, Depends, AreAccepted, HasOrphan, IsCrashSet, IsOrphan}
+use Rattle.causal_audit.proofs.Common.{ℕ, ◌≡◌, ◌<◌, ◌≤◌, inl, inr, true, false, List, Some, sym, ap, subst, ◌∙◌, arith, ◌&&◌, not, nat_cmp, nat_cmp_total, FinSet, contains, empty, union, difference, len, contains-empty, contains-difference, false≢true, or_cases, Det, count_below, Entry, is_down, logs, det_at, Depends, AreAccepted, HasOrphan, IsCrashSet, IsOrphan}
 use Rattle.causal_holders.specs.Members.{IsLeast}
 use Rattle.causal_audit.specs.declared.sight.Sight.{Sight}
 use Rattle.causal_audit.specs.Inside.Sights.{IsSight, IsUnheard, Shows}

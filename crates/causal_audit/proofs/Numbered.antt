@@ -1,13 +1,8 @@
 -- Deliveries by their numbers.
-use Rattle.causal_audit.proofs.Common.{ℕ, zero, suc, ◌≡◌, ◌+◌, ◌-◌, drop, ◌<◌, ◌≤◌, inl, inr, true, List, [], ◌∷◌, length, Some, refl, sym, ap, subst, ◌∙◌, arith, false≢true, eq-eqb, cases_lt, is_delivery_of, Delivers, Det, Entry, Send, Deliver, Stable, Crash, Restart, Forget, instant, det_at, deliveries_in, AreAccepted, instants_stay, one_more_instant}
+use Rattle.causal_audit.proofs.Common.{ℕ, zero, suc, ◌≡◌, ◌+◌, ◌-◌, drop, ◌<◌, ◌≤◌, inl, inr, true, List, [], ◌∷◌, length, Some, refl, ap, subst, ◌∙◌, arith, false≢true, eq-eqb, cases_lt, is_delivery_of, Delivers, Det, Entry, Send, Deliver, Stable, Crash, Restart, Forget, instant, det_at, deliveries_in, AreAccepted, instants_stay, one_more_instant}
 use Rattle.causal_audit.specs.Numbers.{is_delivery, IsNumbered}
 use Rattle.causal_audit.proofs.index.Receivers.{delivered}
 use Rattle.causal_audit.proofs.Lemmas.NumberLemmas.{no_fewer, one_more}
-
-pub numbered_place : (past : List Entry) (i k : ℕ) → IsNumbered past i k → k < length past
-numbered_place [] i k n = absurd n
-numbered_place (e ∷ past) i k (inl n) = omega (arith, numbered_place past i k n)
-numbered_place (e ∷ past) i k (inr n) = omega (arith, n.0)
 
 pub deliveries_few : (past : List Entry) → deliveries_in past ≤ length past
 deliveries_few [] = omega arith

@@ -80,11 +80,3 @@ module _ (r : Recording) (f : ℕ) where
           least = here;
         },
       )
-
-  -- the least breach by its own instant is that by any later one
-  pub least_later : (end : ℕ) (b : Breach) (found : Option Breach) → b.instant ≤ end → IsLeastBreach r f 0 (deliveries_in r.past) b → LeastBreachBy r f b.instant 0 (deliveries_in r.past) found
-      → LeastBreachBy r f end 0 (deliveries_in r.past) found
-  least_later end b None low least none =
-      let here = least.first.least in
-      absurd (none least.number b.delivery b.instant least.least_from least.below_to least.numbered (omega arith) (record { crash = _; orphan = b.orphan; may_crash = here.may_crash; is_orphan = here.is_orphan }))
-  least_later end b (Some x) low least one = (omega (arith, one.0, low), one.1)

@@ -206,22 +206,6 @@ module _ (n : ℕ) (past : List Entry) (c : Timeline) (present : List ℕ) (who 
     present_lane = restart_present;
   }
 
--- before the first entry
-pub mirrors_none : (n : ℕ) (present : List ℕ) → length present ≡ n → ((p : ℕ) → p < n → get_or present p 0 ≡ p) → Mirrors n [] (record { lanes = n; opened = 0; events = [] }) present
-mirrors_none n present long each = record {
-  stands = record {
-    count = refl;
-    same_lane = λ i j p q l m a. absurd a;
-    receives = λ j i low. absurd (omega (arith, low));
-  };
-  opened = refl;
-  processes = long;
-  within = λ p low. omega (arith, each p low, low);
-  apart = λ p q in_p in_q same. omega (arith, each p in_p, each q in_q, same);
-  lanes = λ i p l a. absurd a;
-  present_lane = λ i p q l low a. absurd a;
-}
-
 -- ==== the event of one more entry: that it may be added, and that the clock then stands for one more entry
 
 module _ (x : Entry) (c : Timeline) (present : List ℕ) (can : CanMirror x c present) where

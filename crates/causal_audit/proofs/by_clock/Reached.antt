@@ -1,5 +1,5 @@
 -- Which entries a delivery reaches, at each instant and in the whole run, and how one is followed from change to change.
-use Rattle.causal_audit.proofs.Common.{ℕ, zero, suc, ◌≡◌, ◌-◌, ◌<◌, ◌≤◌, ◌==◌, inl, false, Result, Ok, Err, List, [], ◌∷◌, length, drop, sym, arith, inr, Bool, true, Some, refl, ap, subst, ◌∙◌, ◌+◌, get_or, Option, OnOk, ◌↔◌, ◌⊎◌, ◌||◌, Contains, false≢true, or_cases, eqb-true, eq-eqb, cases_lt, or_left, or_right, nat_tests, Entry, instant, det_at, lane, entry_at, AreAccepted, Recording, IsWellFormed, IsEventOf, Reaches, actor, in_order, by_message, itself, onward, Depends, reaches_old, event_below, reaches_newest, ReachesNewest, is_newest, has, in_lane, through_message, accepted_forward, Pid, Det, Send, Deliver, nat_cmp, FinSet, contains, HasOrphan, entries_of, accepted_then, det_then, instant_length}
+use Rattle.causal_audit.proofs.Common.{ℕ, zero, suc, ◌≡◌, ◌-◌, ◌<◌, ◌≤◌, ◌==◌, inl, false, Result, Ok, Err, List, [], ◌∷◌, length, drop, sym, arith, inr, Bool, true, Some, refl, ap, subst, ◌∙◌, ◌+◌, get_or, Option, OnOk, ◌↔◌, ◌⊎◌, ◌||◌, Contains, false≢true, or_cases, eqb-true, eq-eqb, nat_tests, Entry, instant, det_at, lane, AreAccepted, Recording, IsWellFormed, IsEventOf, Reaches, actor, in_order, by_message, itself, onward, Depends, reaches_old, event_below, reaches_newest, ReachesNewest, is_newest, has, in_lane, through_message, accepted_forward, Pid, Det, Send, Deliver, entries_of, accepted_then, det_then, instant_length}
 use Rattle.std.specs.Result.{is_err}
 use Rattle.causal_clock.specs.declared.Event.{Event}
 use Rattle.causal_clock.specs.Precedence as clock
@@ -7,7 +7,7 @@ use Rattle.causal_audit.proofs.Between.{reaches_more, known_already, quiet_step}
 use Rattle.causal_audit.proofs.Legal.{delivery_event}
 use Rattle.causal_audit.proofs.by_clock.Link.{clock_tells}
 use Rattle.causal_audit.specs.Inside.ByClock.Stands.{Stands}
-use Rattle.causal_audit.specs.Inside.Sights.{TellsNextReach, AreDependents, IsSight, IsSightAfter, BreachAt, TellsBreachAt}
+use Rattle.causal_audit.specs.Inside.Sights.{TellsNextReach, IsSight, IsSightAfter, BreachAt, TellsBreachAt}
 use Rattle.causal_audit.proofs.Swept.{sent_before}
 use Rattle.causal_audit.specs.declared.breach.Breach.{Breach}
 use Rattle.causal_audit.specs.declared.sight.Sight.{Sight}

@@ -1,5 +1,5 @@
 -- A walk over the entries for the deliveries of a group.
-use Rattle.causal_audit.proofs.Common.{ℕ, All, cases_lt, ◌≡◌, ◌+◌, ◌++◌, ◌<◌, inl, inr, Bool, true, false, List, [], ◌∷◌, length, Option, Some, None, refl, sym, ap, subst, ◌∙◌, arith, ◌≤◌, min, take, ◌⊎◌, Contains, ◌&&◌, ◌==◌, not, ◌↔◌, ◌||◌, nat_cmp, FinSet, contains, remove, empty, union, difference, contains-empty, contains-union, contains-difference, insert, or_cases, or_left, or_right, false≢true, false_from_ne_true, eqb-true, eq-eqb, and_from, cases_Bool, Contains-push, Contains-push_cases, Contains-append_left, Contains-get_or, length-map, length-set, get_or-map, get_or-set_same, get_or-set_other, Det, Entry, instant, det_at, has, logs, entry_at, message_sent, Recording, AreAccepted, IsWellFormed, Depends, HasOrphan, accepted_then, det_then, det_within, instant_length, nat_cmp_total, eqb_tells, nat_tests, Pid, Deliver, Crash, Restart, Forget, Send, Stable, max_entries, set}
+use Rattle.causal_audit.proofs.Common.{ℕ, All, cases_lt, ◌≡◌, ◌+◌, ◌++◌, ◌<◌, inl, inr, Bool, true, false, List, [], ◌∷◌, length, Option, Some, None, refl, sym, ap, subst, ◌∙◌, arith, ◌≤◌, ◌⊎◌, Contains, ◌&&◌, ◌==◌, not, ◌↔◌, ◌||◌, nat_cmp, FinSet, contains, remove, empty, union, difference, contains-empty, contains-union, contains-difference, insert, or_cases, or_left, or_right, false≢true, false_from_ne_true, eqb-true, eq-eqb, and_from, cases_Bool, Contains-push, Contains-push_cases, Contains-append_left, Contains-get_or, length-map, length-set, get_or-map, get_or-set_same, get_or-set_other, Det, Entry, instant, det_at, has, logs, entry_at, message_sent, Recording, AreAccepted, IsWellFormed, Depends, HasOrphan, accepted_then, det_then, det_within, instant_length, nat_cmp_total, eqb_tells, nat_tests, Pid, Deliver, Crash, Restart, Forget, Send, Stable, max_entries, set}
 use Rattle.causal_audit.specs.declared.breach.Breach.{Breach}
 use Rattle.causal_audit.specs.declared.group.copies.Copies.{Copies}
 use Rattle.causal_audit.specs.declared.group.suspects.Step.{Step}
@@ -76,15 +76,6 @@ pub record HaveRenewed (e : Entry) (mentioned places rest : FinSet nat_cmp) (old
   pub renewed : (j : ℕ) → contains places j ≡ true → contains rest j ≡ false → AreCopiesAfter e (contains mentioned j) (copies_at old j) (copies_at now j)
   pub ahead : (j : ℕ) → contains rest j ≡ true → copies_at now j ≡ copies_at old j
   pub others : (j : ℕ) → contains places j ≡ false → copies_at now j ≡ copies_at old j
-
-pub renewed_none : (e : Entry) (mentioned places : FinSet nat_cmp) (old : List Copies) → HaveRenewed e mentioned places places old old
-renewed_none e mentioned places old = record {
-  count = refl;
-  left = λ j h. h;
-  renewed = λ j h out. absurd (false≢true (sym out ∙ h));
-  ahead = λ j h. refl;
-  others = λ j h. refl;
-}
 
 pub renewed_more : (e : Entry) (mentioned places rest : FinSet nat_cmp) (old mid : List Copies) (p : ℕ) (here : Copies) → contains rest p ≡ true → p < length mid
     → HaveRenewed e mentioned places rest old mid → AreCopiesAfter e (contains mentioned p) (copies_at mid p) here
@@ -513,23 +504,3 @@ put_in rows place r inside i j low =
     ]
 
 -- ---- one position more
-
-pub marked_more : (place position : ℕ) (done : List ℕ) (old mid new : Sets) → length mid ≡ length old → HaveMarked place done old mid → IsPut place position mid new → HaveMarked place (done ++ position ∷ []) old new
-marked_more place position done old mid new same marked is i j low =
-    let before = marked i j low in
-    let here = is i j (omega (arith, low, same)) in (
-      λ h. elim (here.0 h) [
-        | inl was ↦ elim (before.0 was) [
-          | inl first ↦ inl first
-          | inr listed ↦ inr (listed.0, Contains-append_left done (position ∷ []) i listed.1)
-        ]
-        | inr now ↦ inr (now.0, subst (Contains (done ++ position ∷ [])) (sym now.1) (Contains-push done position))
-      ],
-      λ h. elim h [
-        | inl first ↦ here.1 (inl (before.1 (inl first)))
-        | inr listed ↦ elim (Contains-push_cases done position i listed.1) [
-          | inl was ↦ here.1 (inl (before.1 (inr (listed.0, was))))
-          | inr now ↦ here.1 (inr (listed.0, sym now))
-        ]
-      ],
-    )

@@ -11,15 +11,6 @@ AreBelow list passed from = (i v : ℕ) → i < passed → get_or list i v < fro
 pub passed_at : (list : List ℕ) (from i : ℕ) → IsPartitionPoint (λ y. ltb y from ≡ true) (λ y. ltb y from ≡ false) list i → AreBelow list i from
 passed_at list from i point j v low = ltb-true (get_or list j v) from (point.0 j v (omega arith) low)
 
-pub passed_one : (list : List ℕ) (passed from x : ℕ) → AreBelow list passed from → passed < length list → x ≡ get_or list passed x → x < from → AreBelow list (passed + 1) from
-passed_one list passed from x below there is low i v early =
-    elim (cases_lt i passed) [
-      | inl before ↦ below i v before
-      | inr last ↦
-          let same : passed ≡ i = omega (arith, early, last) in
-          subst (λ j. get_or list j v < from) same (omega (arith, is, low, get_or_default list passed x v there))
-    ]
-
 -- ---- the first number that is left
 
 module _ (list : List ℕ) (from passed : ℕ) (ascending : IsNonDecreasing list) (below : AreBelow list passed from) where

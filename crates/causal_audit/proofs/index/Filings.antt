@@ -239,19 +239,6 @@ module _ (numbers : Numbers) (lists : List (List ℕ)) (det : Det) (none : numbe
   old_list None inside = refl
   old_list (Some m) inside = get_or-append lists ([] ∷ []) [] m (inside m refl)
 
-  pub new_same : (d : Det) → mentions_of (det ∷ numbers) (lists ++ [] ∷ []) d ≡ mentions_of numbers lists d
-  new_same d =
-      elim (cases_Bool (same_det det d)) [
-        | inl same ↦
-            ap (λ o. option_map_or (list_at (lists ++ [] ∷ [])) o []) (cond-true (same_det det d) (Some (length numbers)) (number_of numbers d) same)
-            ∙ ap (λ m. list_at (lists ++ [] ∷ []) m) (sym numbered)
-            ∙ get_or-append_seam lists [] [] []
-            ∙ sym (ap (λ o. option_map_or (list_at lists) o []) (ap (number_of numbers) (sym (same_is det d same)) ∙ none))
-        | inr other ↦
-            ap (λ o. option_map_or (list_at (lists ++ [] ∷ [])) o []) (cond-false (same_det det d) (Some (length numbers)) (number_of numbers d) other)
-            ∙ old_list (number_of numbers d) (λ m at. omega (arith, numbered, number_below numbers d m at))
-      ]
-
 pub new_ascend : (bound : ℕ) (lists : List (List ℕ)) → All (Ascends bound) lists → All (Ascends bound) (lists ++ [] ∷ [])
 new_ascend bound lists all = All-push (Ascends bound) lists [] all (record { ascending = λ i j d low high. absurd (omega (arith, high)); below = λ i d low. absurd (omega (arith, low)) })
 

@@ -9,16 +9,6 @@ use Rattle.causal_audit.specs.Inside.Look.Looks.{IsPassed, IsBareAt, IsThinAt, A
 pub none_rising : AreRising []
 none_rising = record { firsts = λ i j d low high. absurd (omega (arith, high)); lasts = λ i j d low high. absurd (omega (arith, high)) }
 
-pub none_thin : (n most : ℕ) (past : List Entry) (d : Det) (from : ℕ) (thins : Thins) → thins.from ≡ from → thins.bare.items ≡ [] → thins.last ≡ 0 → AreThins n most past d from thins
-none_thin n most past d from thins is none zero = record {
-  bound = omega (arith, zero);
-  last = λ u after before _. absurd (omega (arith, after, before, is));
-  bare = λ u after before _. absurd (omega (arith, after, before, is));
-  rising = subst AreRising (sym none) none_rising;
-  firsts_below = subst (All (λ (s : Stretch). s.first < from)) (sym none) (λ k d inside. absurd (omega (arith, inside)));
-  lasts_below = subst (All (λ (s : Stretch). s.last < from)) (sym none) (λ k d inside. absurd (omega (arith, inside)));
-}
-
 -- ---- one stretch more
 
 module _ (look : Look) (t next : ℕ) (s : Stretch) (passed : IsPassed look t next s) (old new : Thins) (same : new.from ≡ old.from) (found : AreFound look t old) where

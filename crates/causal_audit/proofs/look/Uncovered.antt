@@ -18,15 +18,6 @@ increasing_push xs k ascend below j inside =
     ]
 
 module _ (r : Recording) (f end : ℕ) where
-  -- before the first position nothing is gathered
-  pub none_gathered : AreUncovered r f end 0 []
-  none_gathered = record {
-    ascend = λ k inside. absurd (omega (arith, inside));
-    before = λ k d inside. absurd (omega (arith, inside));
-    deliveries = λ k d inside. absurd (omega (arith, inside));
-    others = λ k low made. absurd (omega (arith, low));
-  }
-
   -- a position with no delivery, or with one that has no orphan, is not gathered
   pub one_left_out : (k : ℕ) (positions : List ℕ) → (IsDeliveryAt r.past k → HasNoOrphanBy r f k end) → AreUncovered r f end k positions → AreUncovered r f end (k + 1) positions
   one_left_out k positions none so_far = record {

@@ -1,6 +1,5 @@
-use Rattle.causal_audit.proofs.Common.{◌≤◌, Some, length, subst, arith, deliveries_in}
-use Rattle.causal_audit.specs.Breaches.{LeastBreachBy, deciding}
-use Rattle.causal_audit.proofs.VerdictLemmas.{least_later}
+use Rattle.causal_audit.proofs.Common.{subst, deliveries_in}
+use Rattle.causal_audit.specs.Breaches.{LeastBreachBy}
 use Rattle.causal_audit.proofs.audit.horizon_in.Goals as goal
 
 pub returns-in-None-clause-decides : goal.returns-in-None-clause-decides

@@ -1,4 +1,4 @@
-use Rattle.causal_audit.proofs.Common.{ℕ, length, Option, Some, None, arith, subst, Recording}
+use Rattle.causal_audit.proofs.Common.{ℕ, length, Option, Some, None, subst, Recording}
 use Rattle.causal_audit.specs.declared.breach.Breach.{Breach}
 use Rattle.causal_audit.specs.Breaches.{FirstBreach}
 use Rattle.causal_audit.specs.Inside.Among.{FirstBreachBy}

@@ -1,5 +1,5 @@
 use Rattle.causal_audit.proofs.Common.{◌≡◌, arith, subst, deliveries_in}
-use Rattle.causal_audit.proofs.AmongLemmas.{IsLeastBelow, below_all, below_more, below_none}
+use Rattle.causal_audit.proofs.AmongLemmas.{IsLeastBelow, below_all, below_more}
 use Rattle.causal_audit.proofs.judging.least_by.Goals as goal
 
 pub loop-i-preserved : goal.loop-i-preserved

@@ -1,9 +1,8 @@
 use Rattle.causal_audit.proofs.Common.{◌≡◌, ◌+◌, ◌∷◌, ◌++◌, length, take, drop, arith, sym, subst, ap, ◌∙◌, length-reverse, instant, AreAccepted, accepted_then, last_instant}
 use Rattle.std.proofs.lemmas.Grind.{common_steps}
 use Rattle.causal_audit.specs.Inside.ByClock.Stands.{Mirrors, Stands}
-use Rattle.causal_audit.proofs.by_clock.Mirrored.{mirrors_none}
 use Rattle.causal_audit.proofs.by_clock.Reached.{if_ok}
-use Rattle.causal_audit.proofs.Steps.{next_state, no_entry}
+use Rattle.causal_audit.proofs.Steps.{next_state}
 use Rattle.causal_audit.proofs.by_clock.events.clocks_of.Goals as goal
 
 pub note-requires : goal.note-requires

@@ -1,13 +1,11 @@
-use Rattle.causal_audit.proofs.Common.{ℕ, ◌≡◌, ◌+◌, ◌<◌, ◌≤◌, ◌==◌, length, Contains, Some, None, refl, sym, subst, arith, instant, is_down, has, det_within, Entry, HasOrphan, instant_length}
-use Rattle.causal_audit.specs.Inside.Sights.{IsSight, Shows}
-use Rattle.causal_audit.specs.Quiet.{mentioned_by}
+use Rattle.causal_audit.proofs.Common.{◌+◌, ◌<◌, length, Contains, Some, None, refl, sym, subst, arith, instant, is_down, det_within, HasOrphan, instant_length}
+use Rattle.causal_audit.specs.Inside.Sights.{Shows}
 use Rattle.causal_audit.proofs.Between.{none_agrees, sight_agrees}
 use Rattle.causal_audit.proofs.by_clock.Begun.{unheard_before}
 use Rattle.causal_audit.proofs.by_clock.Reached.{breach_after, seen_after, unchanged}
 use Rattle.causal_audit.proofs.index.Cursors.{cursor_later}
-use Rattle.causal_audit.proofs.look.Staying.{mentioned_next}
 use Rattle.causal_audit.proofs.Orphaned.{not_yet, first_breach_is}
-use Rattle.causal_audit.proofs.Steps.{entry_read, next_state, nobody_down, up_to_next}
+use Rattle.causal_audit.proofs.Steps.{nobody_down, up_to_next}
 use Rattle.causal_audit.proofs.by_clock.orphans.first_orphan.Goals as goal
 
 pub precedes-reached-requires-clause-earlier : goal.precedes-reached-requires-clause-earlier

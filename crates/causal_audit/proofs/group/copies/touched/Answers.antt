@@ -1,4 +1,4 @@
-use Rattle.causal_audit.proofs.Common.{◌≡◌, ◌∙◌, Bool, true, false, sym, ap, arith, ◌&&◌, ◌⊎◌, not, nat_cmp_total, contains, contains-difference, false≢true, nat_tests}
+use Rattle.causal_audit.proofs.Common.{◌≡◌, ◌∙◌, Bool, true, false, sym, ap, arith, ◌&&◌, ◌⊎◌, not, nat_cmp_total, contains, contains-difference, nat_tests}
 use Rattle.causal_audit.proofs.group.copies.touched.Goals as goal
 
 and_missing : (a b : Bool) → (a && not b) ≡ false → (a ≡ false) ⊎ (b ≡ true)

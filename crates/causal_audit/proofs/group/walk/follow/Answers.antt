@@ -1,9 +1,8 @@
-use Rattle.causal_audit.proofs.Common.{Vec, Global, FinSet, nat_cmp, vec_capacity, ℕ, ◌≡◌, inl, inr, Some, contains, empty, cases_lt, get_or-eq_default, ◌∙◌, ◌+◌, ◌<◌, length, refl, sym, ap, subst, arith, false≢true, instant, is_down, HasOrphan}
+use Rattle.causal_audit.proofs.Common.{Vec, Global, FinSet, nat_cmp, vec_capacity, ℕ, ◌≡◌, inl, inr, contains, empty, cases_lt, get_or-eq_default, ◌∙◌, ◌+◌, ◌<◌, length, refl, sym, ap, subst, arith, instant, is_down, HasOrphan}
 use Rattle.causal_audit.specs.Inside.Among.{LeastAmongBy}
 use Rattle.causal_audit.specs.Inside.Group.Scans.{positions_of}
 use Rattle.causal_audit.specs.Inside.Group.Walk.{row, HasRowRoom, HasRows, IsFollowed, IsHeldBy, IsHeldSo}
 use Rattle.causal_audit.specs.declared.group.reach.Reach.{Reach}
-use Rattle.causal_audit.proofs.AmongLemmas.{horizon_within}
 use Rattle.causal_audit.proofs.group.Reaching.{none_in}
 use Rattle.causal_audit.proofs.group.Windowed.{zero}
 use Rattle.causal_audit.specs.Inside.Sights.{Shows}

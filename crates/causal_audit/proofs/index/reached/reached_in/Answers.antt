@@ -1,7 +1,6 @@
-use Rattle.causal_audit.proofs.Common.{◌≡◌, ◌-◌, ◌+◌, ◌<◌, true, length, Option, Some, sym, ap, subst, ◌∙◌, arith, Det, det_at, contains}
+use Rattle.causal_audit.proofs.Common.{◌≡◌, ◌-◌, ◌+◌, ◌<◌, length, Option, Some, sym, ap, subst, ◌∙◌, arith, Det, det_at}
 use Rattle.std.specs.Option.{IfSome}
-use Rattle.causal_audit.specs.Inside.Index.Reached.{reached_by, with_reached}
-use Rattle.causal_audit.specs.Inside.Index.Spreads.{process_at}
+use Rattle.causal_audit.specs.Inside.Index.Reached.{with_reached}
 use Rattle.causal_audit.proofs.Steps.{how_many}
 use Rattle.causal_audit.proofs.index.Reachable.{AreReachedFrom, reached_begun, reached_next}
 use Rattle.causal_audit.proofs.index.reached.reached_in.Goals as goal

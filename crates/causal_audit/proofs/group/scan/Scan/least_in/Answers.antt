@@ -2,12 +2,12 @@ use Rattle.causal_audit.proofs.Common.{◌≤◌, inl, length, sym, subst, arith
 use Rattle.std.specs.Prelude.{IsPermutation}
 use Rattle.std.proofs.lemmas.List.Sorted.{length_permutation}
 use Rattle.causal_audit.proofs.group.Windowed.{position, zero}
-use Rattle.causal_audit.specs.Inside.Among.{LeastAmongBy, horizon}
-use Rattle.causal_audit.specs.Inside.Group.Walk.{AreBelow, HaveNone, IsUntouchedBefore, position_at}
+use Rattle.causal_audit.specs.Inside.Among.{LeastAmongBy}
+use Rattle.causal_audit.specs.Inside.Group.Walk.{HaveNone, position_at}
 use Rattle.causal_audit.specs.Inside.Group.Scans.{IsDeliveryAt, IsWindow, Scanned, positions_of}
 use Rattle.causal_audit.specs.declared.group.scan.Window.{Window}
 use Rattle.causal_audit.proofs.AmongLemmas.{among_later, among_wider}
-use Rattle.causal_audit.proofs.group.GroupWalk.{place_of, room_within}
+use Rattle.causal_audit.proofs.group.GroupWalk.{place_of}
 use Rattle.causal_audit.proofs.Orphaned.{not_yet}
 use Rattle.causal_audit.proofs.group.scan.Scan.least_in.Goals as goal
 

@@ -1,4 +1,4 @@
-use Rattle.causal_audit.proofs.Common.{subst, sym, arith, ◌∙◌, false≢true}
+use Rattle.causal_audit.proofs.Common.{subst, arith}
 use Rattle.causal_audit.specs.Inside.Index.Filed.{lists_in}
 use Rattle.causal_audit.proofs.group.Reaching.{fewer}
 use Rattle.causal_audit.proofs.index.Filings.{RestNone, none_rest, rest_less}

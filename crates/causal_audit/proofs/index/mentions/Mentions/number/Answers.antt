@@ -1,6 +1,6 @@
-use Rattle.causal_audit.proofs.Common.{ℕ, ◌≡◌, ◌∷◌, ◌++◌, [], Vec, Global, List, None, sym, ap, subst, ◌∙◌, arith, All, length-map, map-append}
-use Rattle.causal_audit.specs.Inside.Index.Filed.{Ascends, lists_in, mentions_of, number_of}
-use Rattle.causal_audit.proofs.index.Filings.{new_same, new_ascend}
+use Rattle.causal_audit.proofs.Common.{ℕ, ◌≡◌, ◌∷◌, ◌++◌, [], Vec, Global, List, sym, ap, subst, ◌∙◌, All, map-append}
+use Rattle.causal_audit.specs.Inside.Index.Filed.{Ascends, lists_in}
+use Rattle.causal_audit.proofs.index.Filings.{new_ascend}
 use Rattle.causal_audit.proofs.index.mentions.Mentions.number.Goals as goal
 
 -- the lists after a push of an empty one
