@@ -1,10 +1,10 @@
 -- What one more entry makes of who depends on a delivery, and what stays between two changes.
 use Rattle.causal_audit.proofs.Common.{ℕ, ◌≡◌, ◌≢◌, ◌+◌, inl, inr, Bool, true, false, cond, List, ◌∷◌, length, Some, None, refl, sym, ap, subst, ◌∙◌, zero, suc, ◌-◌, ◌<◌, ◌≤◌, [], arith, ◌⊎◌, ◌↔◌, ◌&&◌, ◌||◌, not, ◌==◌, nat_cmp, FinSet, contains, insert, remove, false≢true, eq-eqb, ne_eqb, cases_lt, cond-true, cond-false, eqb_tells, nat_tests, Pid, Det, Entry, Send, Deliver, Stable, Crash, Restart, Forget, is_down, lane, instant, entry_at, det_at, is_stable, logs, has, AreAccepted, first_fault, actor, IsEventOf, DirectlyPrecedes, in_order, by_message, Reaches, itself, onward, Depends, event_below, reaches_old, depends_restarted, reaches_begins, accepted_forward, delivers_up, same_det, count_below, HasOrphan, instants_stay, one_more_instant, last_instant, accepted_then, det_then, det_within, instant_length}
-use Rattle.causal_audit.specs.Inside.Sights.{AreDependents, TellsNextReach, IsSight}
+use Rattle.causal_audit.specs.Inside.DeliveryStates.{AreDependents, TellsNextReach, IsDeliveryState}
 use Rattle.causal_audit.proofs.Legal.{sends_up}
 use Rattle.causal_audit.proofs.Shown.{inserted, removed}
 use Rattle.causal_audit.specs.Laws.{gone, IsExposed}
-use Rattle.causal_audit.specs.declared.sight.Sight.{Sight}
+use Rattle.causal_audit.specs.declared.delivery_state.DeliveryState.{DeliveryState}
 use Rattle.causal_audit.specs.Quiet.{is_turn, mentioned_by, IsQuiet, AreQuiet, Agree, InstantsAgree, OrphansAgree}
 use Rattle.causal_audit.proofs.Lemmas.Judged.{exposed, unexposed}
 
@@ -278,8 +278,8 @@ orphans_agree n f past k d t u formed at made up within quiet =
     )
 
 -- what is known of the delivery at one is known at the other
-pub sight_agrees : (one other : List Entry) (k : ℕ) (d : Det) (s : Sight) → Agree one other k d → IsSight one k d s → IsSight other k d s
-sight_agrees one other k d s a is = record {
+pub state_agrees : (one other : List Entry) (k : ℕ) (d : Det) (s : DeliveryState) → Agree one other k d → IsDeliveryState one k d s → IsDeliveryState other k d s
+state_agrees one other k d s a is = record {
   down = λ p. is.down p ∙ a.down p;
   holders = λ p. is.holders p ∙ a.logged p;
   stable = is.stable ∙ a.stable;

@@ -1,8 +1,8 @@
 -- Orphans, by what is known of a delivery at an instant.
 use Rattle.causal_audit.proofs.Common.{ℕ, ◌≡◌, ◌<◌, ◌≤◌, inl, inr, true, false, List, Some, sym, ap, subst, ◌∙◌, arith, ◌&&◌, not, nat_cmp, nat_cmp_total, FinSet, contains, empty, union, difference, len, contains-empty, contains-difference, false≢true, or_cases, Det, count_below, Entry, is_down, logs, det_at, Depends, AreAccepted, HasOrphan, IsCrashSet, IsOrphan}
 use Rattle.causal_holders.specs.Members.{IsLeast}
-use Rattle.causal_audit.specs.declared.sight.Sight.{Sight}
-use Rattle.causal_audit.specs.Inside.Sights.{IsSight, IsUnheard, Shows}
+use Rattle.causal_audit.specs.declared.delivery_state.DeliveryState.{DeliveryState}
+use Rattle.causal_audit.specs.Inside.DeliveryStates.{IsDeliveryState, IsUnheard, Shows}
 use Rattle.causal_audit.specs.Laws.{gone}
 use Rattle.causal_audit.specs.Verdicts.{IsLeastOrphan}
 use Rattle.causal_audit.proofs.look.Staying.{gone_many, gone_shown}
@@ -10,8 +10,8 @@ use Rattle.causal_audit.proofs.Lemmas.Judged.{exposed, crash_contains, orphan_wi
 use Rattle.causal_audit.proofs.Legal.{event_inside}
 use Rattle.causal_audit.proofs.Shown.{shows_none, down_inside, logs_inside, parts}
 
-pub sight_begun : (past : List Entry) (k : ℕ) (d : Det) (down : FinSet nat_cmp) → Shows down (λ p. is_down past p) → IsUnheard past k d → IsSight past k d (record { down = down; holders = empty; stable = false; dependents = empty })
-sight_begun past k d down shown none = record {
+pub state_begun : (past : List Entry) (k : ℕ) (d : Det) (down : FinSet nat_cmp) → Shows down (λ p. is_down past p) → IsUnheard past k d → IsDeliveryState past k d (record { down = down; holders = empty; stable = false; dependents = empty })
+state_begun past k d down shown none = record {
   down = shown;
   holders = shows_none (λ p. logs past p d) none.unlogged;
   stable = sym none.unstable;
@@ -21,7 +21,7 @@ sight_begun past k d down shown none = record {
 pub depends_inside : (n : ℕ) (past : List Entry) (k p : ℕ) → AreAccepted n past → Depends past k p → p < n
 depends_inside n past k p formed d = event_inside n past formed d.event p _ d.present
 
-module _ (n f : ℕ) (past : List Entry) (k : ℕ) (d : Det) (formed : AreAccepted n past) (at : det_at past k ≡ Some d) (s : Sight) (sight : IsSight past k d s) where
+module _ (n f : ℕ) (past : List Entry) (k : ℕ) (d : Det) (formed : AreAccepted n past) (at : det_at past k ≡ Some d) (s : DeliveryState) (state : IsDeliveryState past k d s) where
   abbrev crash : FinSet nat_cmp
   crash = union s.down s.holders
 
@@ -29,7 +29,7 @@ module _ (n f : ℕ) (past : List Entry) (k : ℕ) (d : Det) (formed : AreAccept
   unheld = difference s.dependents s.holders
 
   crash_is : (q : ℕ) → contains crash q ≡ gone past d q
-  crash_is q = gone_shown n past d formed s.down s.holders sight.down sight.holders q
+  crash_is q = gone_shown n past d formed s.down s.holders state.down state.holders q
 
   crash_inside : (q : ℕ) → contains crash q ≡ true → q < n
   crash_inside q h =
@@ -39,17 +39,17 @@ module _ (n f : ℕ) (past : List Entry) (k : ℕ) (d : Det) (formed : AreAccept
       ]
 
   crash_counted : len crash ≡ count_below n (gone past d)
-  crash_counted = gone_many n past d formed s.down s.holders sight.down sight.holders
+  crash_counted = gone_many n past d formed s.down s.holders state.down state.holders
 
   unheld_is : (p : ℕ) → Depends past k p → logs past p d ≡ false → contains unheld p ≡ true
   unheld_is p depends without =
       contains-difference nat_cmp_total s.dependents s.holders p
-      ∙ (λ i. (sight.dependents p).1 depends i && not ((sight.holders p ∙ without) i))
+      ∙ (λ i. (state.dependents p).1 depends i && not ((state.holders p ∙ without) i))
 
   unheld_parts : (p : ℕ) → contains unheld p ≡ true → Depends past k p × (logs past p d ≡ false)
   unheld_parts p h =
       let both = parts (contains s.dependents p) (contains s.holders p) (sym (contains-difference nat_cmp_total s.dependents s.holders p) ∙ h) in
-      ((sight.dependents p).0 both.0, sym (sight.holders p) ∙ both.1)
+      ((state.dependents p).0 both.0, sym (state.holders p) ∙ both.1)
 
   pub not_many : f < len crash → HasOrphan n f past k → ⊥
   not_many many has = omega (arith, many, crash_counted, (exposed n f past k d at has).few)
@@ -66,7 +66,7 @@ module _ (n f : ℕ) (past : List Entry) (k : ℕ) (d : Det) (formed : AreAccept
       record {
         process = crash_inside;
         may_crash = subst (IsCrashSet n f past) shown (gone_crash n f past k d at (omega (arith, few, crash_counted)));
-        is_orphan = subst (λ c. IsOrphan n past k c p) shown (gone_orphan n f past k d at p (depends_inside n past k p formed here.0) (sym sight.stable ∙ unstable) here.0 here.1);
+        is_orphan = subst (λ c. IsOrphan n past k c p) shown (gone_orphan n f past k d at p (depends_inside n past k p formed here.0) (sym state.stable ∙ unstable) here.0 here.1);
         least_set = λ other q may orphan w low in_crash. crash_contains n f past k d at other q may orphan w low (sym (crash_is w) ∙ in_crash);
         least_orphan = λ q orphan. least.1 q (unheld_is q orphan.depends (orphan_without n f past k d at (contains crash) q orphan).1);
       }

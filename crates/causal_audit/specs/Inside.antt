@@ -5,4 +5,4 @@ pub mod Common
 pub mod Group
 pub mod Index
 pub mod Look
-pub mod Sights
+pub mod DeliveryStates

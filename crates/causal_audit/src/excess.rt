@@ -3,7 +3,7 @@ ghost use Rattle.std.specs.Prelude.{◌≡◌, ◌≤◌, ℕ, length};
 ghost use Rattle.causal_audit.specs.Breaches.{FirstExcess, deciding};
 
 use crate::breach::Excess;
-use crate::sight::down_after;
+use crate::delivery_state::down_after;
 use causal_holders::Holders;
 use causal_trace::trace::Trace;
 

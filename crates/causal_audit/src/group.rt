@@ -1,5 +1,6 @@
 //! The deliveries of a group are followed by one walk over the entries.
 
+pub mod buffers;
 pub mod copies;
 pub mod held;
 pub mod judged;
@@ -7,7 +8,6 @@ pub mod marks;
 pub mod ordered;
 pub mod own;
 pub mod reach;
-pub mod room;
-pub mod scan;
+pub mod run_to_follow;
 pub mod suspects;
 pub mod walk;

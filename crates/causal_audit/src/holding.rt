@@ -3,9 +3,9 @@ ghost use Rattle.std.specs.Prelude.{◌≡◌, true, false};
 ghost use Rattle.causal_name.specs.declared.Det.{Det};
 ghost use Rattle.causal_trace.specs.Past.{has};
 ghost use Rattle.causal_audit.specs.Quiet.{mentioned_by};
-ghost use Rattle.causal_audit.specs.Inside.Sights.{ShowsHoldersAfter};
+ghost use Rattle.causal_audit.specs.Inside.DeliveryStates.{ShowsHoldersAfter};
 
-use crate::sight::{with, without};
+use crate::delivery_state::{with, without};
 use causal_holders::Holders;
 use causal_trace::entry::Entry;
 

@@ -19,4 +19,4 @@ pub mod releases;
 /// How long each entry stays with its process.
 pub mod spreads;
 /// The crashes and restarts, in order.
-pub mod turns;
+pub mod crashes_and_restarts;

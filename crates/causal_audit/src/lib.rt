@@ -39,7 +39,7 @@ mod index;
 /// A look at a determinant: until when a delivery with it may be uncovered.
 mod look;
 /// What is known of one delivery at an instant.
-mod sight;
+mod delivery_state;
 
 pub use audit::{horizon_in, least_by, verdict_of};
 pub use breach::{Breach, Excess, earlier};

@@ -19,11 +19,11 @@ pub mod survey;
 /// How a determinant stands through a stretch of instants.
 pub mod thin;
 /// What a look found.
-pub mod thins;
+pub mod thin_stretches;
 
+use crate::index::crashes_and_restarts::Passing;
 use crate::index::cursor::Cursor;
 use crate::index::outline::Outline;
-use crate::index::turns::Passing;
 use crate::look::cover::Cover;
 use crate::look::thin::{Standing, Stretch};
 use causal_holders::Holders;
@@ -50,7 +50,7 @@ pub struct Look<'a> {
 /// The instant that a look has come to, with who is down and holds the determinant then, and how it stands by that; past the end
 /// once all is looked at.
 #[derive(Clone, Copy)]
-pub struct Stop<'a> {
+pub struct LookPosition<'a> {
     pub t: u32,
     pub ahead: Cursor<'a>,
     pub turns: Passing<'a>,
@@ -81,14 +81,14 @@ fn is_written(entry: &Entry, det: Det) -> bool
 }
 
 impl<'a> Look<'a> {
-    ghost use Rattle.causal_audit.specs.Inside.Look.Looks.{IsPassed, IsStop};
+    ghost use Rattle.causal_audit.specs.Inside.Look.Looks.{IsPassed, IsLookPosition};
 
     /// A look from the first mention on, or from an instant before the end if that comes first: until then nobody holds the
     /// determinant.
-    pub fn start(&self, from: u32) -> Stop<'a>
+    pub fn start(&self, from: u32) -> LookPosition<'a>
         requires { from ≤ self.now.end }
         ensures before { result.t ≤ from }
-        ensures stop { IsStop self.now result }
+        ensures stop { IsLookPosition self.now result }
     {
         let t = first_of(self.mentions, from);
         let turns = self.run.turns.from(t);
@@ -97,7 +97,7 @@ impl<'a> Look<'a> {
             holders: Holders::none(),
         };
         let standing = cover.standing(self.most, self.det.dest.0, self.reached);
-        Stop {
+        LookPosition {
             t,
             ahead: Cursor::at(self.mentions, t),
             turns,
@@ -109,11 +109,11 @@ impl<'a> Look<'a> {
     /// The next stretch, up to the next entry that mentions the determinant or restarts one of those who were down or held it:
     /// until then they still are or do. None where all is looked at. What was stable or held
     /// by too many for good is not looked at any more.
-    pub fn next(&self, stop: &mut Stop<'a>) -> Option<Stretch>
-        requires { stop.old.t ≤ self.now.end → IsStop self.now stop.old }
+    pub fn next(&self, stop: &mut LookPosition<'a>) -> Option<Stretch>
+        requires { stop.old.t ≤ self.now.end → IsLookPosition self.now stop.old }
         ensures formed { IsWellFormed self.now.run.trace.now.recording }
         ensures short { self.now.end ≤ max_entries }
-        ensures stop { stop.new.t ≤ self.now.end → IsStop self.now stop.new }
+        ensures stop { stop.new.t ≤ self.now.end → IsLookPosition self.now stop.new }
         ensures passed { MatchOption result (self.now.end < stop.old.t) (IsPassed self.now stop.old.t stop.new.t) }
     {
         let entries = self.run.trace.entries();

@@ -3,14 +3,14 @@ ghost use Rattle.std.specs.Prelude.{◌≡◌, ◌≤◌, IfOk, length};
 ghost use Rattle.causal_audit.specs.Parts.{AreEnough, LeastOf, part_of};
 
 use crate::breach::Breach;
+use crate::group::buffers::WalkBuffers;
 use crate::group::ordered::put_in_order;
-use crate::group::room::Room;
-use crate::group::scan::{Scan, Window};
+use crate::group::run_to_follow::{OpenDelivery, RunToFollow};
+use crate::index::crashes_and_restarts::CrashesAndRestarts;
 use crate::index::mentions::{Mentions, mentions_in};
 use crate::index::outline::Outline;
 use crate::index::releases::lasting_from;
-use crate::index::turns::Turns;
-use crate::look::survey::windows_of;
+use crate::look::survey::open_deliveries_of;
 use causal_name::NoMemory;
 use causal_trace::trace::Trace;
 use std::alloc::Global;
@@ -23,22 +23,22 @@ use std::snapshot::Snapshot;
 pub struct Prepared {
     run: Snapshot<Trace>,
     lasting_from: u32,
-    turns: Turns,
+    turns: CrashesAndRestarts,
     mentions: Mentions,
     f: u16,
     end: u32,
-    windows: Vec<Window>,
+    opened: Vec<OpenDelivery>,
 }
 
 impl Model for Prepared {
     ghost use Rattle.causal_audit.specs.Parts.{Followed};
-    ghost use Rattle.causal_audit.specs.Inside.Group.Scans.{IsPrepared, positions_of};
+    ghost use Rattle.causal_audit.specs.Inside.Group.OpenDeliveries.{IsPrepared, positions_of};
 
     ghost Value = { Followed };
 
-    ghost view = { λ a. record { run = a.run.value.recording; f = a.f; end = a.end; positions = positions_of a.windows.items } };
+    ghost view = { λ a. record { run = a.run.value.recording; f = a.f; end = a.end; positions = positions_of a.opened.items } };
 
-    ghost invariant = { λ a. IsPrepared a.run.value.recording a.f a.end a.lasting_from a.turns a.mentions a.windows.items };
+    ghost invariant = { λ a. IsPrepared a.run.value.recording a.f a.end a.lasting_from a.turns a.mentions a.opened.items };
 }
 
 impl Prepared {
@@ -59,15 +59,15 @@ impl Prepared {
         let run = Snapshot::of(trace);
         let entries = trace.entries();
         let lasting_from = lasting_from(entries);
-        let turns = Turns::of(alloc, entries)?;
+        let turns = CrashesAndRestarts::of(alloc, entries)?;
         let mentions = mentions_in(alloc, &entries[..end as usize])?;
         let outline = Outline {
             trace,
             lasting_from,
             turns: &turns,
         };
-        let mut windows = windows_of(alloc, outline, &mentions, f, end)?;
-        put_in_order(trace, &mentions, &mut windows)?;
+        let mut opened = open_deliveries_of(alloc, outline, &mentions, f, end)?;
+        put_in_order(trace, &mentions, &mut opened)?;
         Ok(Prepared {
             run,
             lasting_from,
@@ -75,7 +75,7 @@ impl Prepared {
             mentions,
             f,
             end,
-            windows,
+            opened,
         })
     }
 
@@ -83,7 +83,7 @@ impl Prepared {
     pub fn followed(&self) -> usize
         ensures { result ≡ length self.now.positions }
     {
-        self.windows.len()
+        self.opened.len()
     }
 
     /// Those of them from place `from` on and below place `to`. The trace is the one that was prepared.
@@ -101,22 +101,22 @@ impl Prepared {
         requires places { (from ≤ to) × (to ≤ length self.now.positions) }
         ensures { IfOk result (λ part. part ≡ part_of self.now from to) }
     {
-        let room = Room::new(alloc, self.end)?;
+        let room = WalkBuffers::new(alloc, self.end)?;
         let outline = Outline {
             trace,
             lasting_from: self.lasting_from,
             turns: &self.turns,
         };
-        let scan = Scan {
+        let following = RunToFollow {
             outline,
             mentions: &self.mentions,
             end: self.end,
         };
         Ok(Part {
-            scan,
+            following,
             f: self.f,
             end: self.end,
-            windows: &self.windows[from..to],
+            opened: &self.opened[from..to],
             room,
         })
     }
@@ -125,24 +125,24 @@ impl Prepared {
 /// Some of the deliveries of a prepared run that are followed, with the memory that this takes. It is seen as these deliveries.
 #[derive(Drop)]
 pub struct Part<'a> {
-    scan: Scan<'a>,
+    following: RunToFollow<'a>,
     f: u16,
     end: u32,
-    windows: &'a [Window],
-    room: Room,
+    opened: &'a [OpenDelivery],
+    room: WalkBuffers,
 }
 
 impl<'a> Model for Part<'a> {
     ghost use Rattle.causal_audit.specs.Parts.{Followed};
     ghost use Rattle.std.specs.Prelude.{◌≤◌};
-    ghost use Rattle.causal_audit.specs.Inside.Group.Walk.{HasRoom};
-    ghost use Rattle.causal_audit.specs.Inside.Group.Scans.{AreWindows, positions_of};
+    ghost use Rattle.causal_audit.specs.Inside.Group.Walk.{HasBuffers};
+    ghost use Rattle.causal_audit.specs.Inside.Group.OpenDeliveries.{AreOpenDeliveries, positions_of};
 
     ghost Value = { Followed };
 
-    ghost view = { λ a. record { run = a.scan.run; f = a.f; end = a.end; positions = positions_of a.windows.now } };
+    ghost view = { λ a. record { run = a.following.run; f = a.f; end = a.end; positions = positions_of a.opened.now } };
 
-    ghost invariant = { λ a. AreWindows a.scan.run a.f a.end a.windows.now × (a.end ≤ a.scan.end) × HasRoom a.end a.room };
+    ghost invariant = { λ a. AreOpenDeliveries a.following.run a.f a.end a.opened.now × (a.end ≤ a.following.end) × HasBuffers a.end a.room };
 }
 
 impl Part<'_> {
@@ -151,7 +151,7 @@ impl Part<'_> {
     pub fn least(&mut self) -> Option<Breach>
         ensures { LeastOf self.old result }
     {
-        self.scan
-            .least_within(self.f, self.end, self.windows, &mut self.room)
+        self.following
+            .least_within(self.f, self.end, self.opened, &mut self.room)
     }
 }

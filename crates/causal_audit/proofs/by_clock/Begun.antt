@@ -1,7 +1,7 @@
 -- What is known where the walk of a delivery begins.
 use Rattle.causal_audit.proofs.Common.{ℕ, zero, suc, ◌≡◌, ◌+◌, ◌-◌, ◌<◌, ◌≤◌, Bool, false, List, ◌∷◌, length, Some, refl, sym, ap, subst, ◌∙◌, arith, and_right, nat_tests, ◌||◌, ◌&&◌, ◌==◌, not, Det, Entry, Send, Deliver, Stable, Crash, Restart, Forget, instant, entry_at, is_down, is_stable, logs, has, reaches_begins, instant_length}
 use Rattle.causal_audit.specs.Quiet.{is_turn, mentioned_by}
-use Rattle.causal_audit.specs.Inside.Sights.{IsUnheard}
+use Rattle.causal_audit.specs.Inside.DeliveryStates.{IsUnheard}
 use Rattle.causal_audit.specs.Inside.Look.Staying.{MentionsNone}
 use Rattle.causal_audit.proofs.Between.{next_entry, no_turn_stays, stable_stays}
 use Rattle.causal_audit.proofs.Steps.{no_entry}

@@ -7,10 +7,10 @@ use Rattle.causal_audit.proofs.Between.{reaches_more, known_already, quiet_step}
 use Rattle.causal_audit.proofs.Legal.{delivery_event}
 use Rattle.causal_audit.proofs.by_clock.Link.{clock_tells}
 use Rattle.causal_audit.specs.Inside.ByClock.Stands.{Stands}
-use Rattle.causal_audit.specs.Inside.Sights.{TellsNextReach, IsSight, IsSightAfter, BreachAt, TellsBreachAt}
+use Rattle.causal_audit.specs.Inside.DeliveryStates.{TellsNextReach, IsDeliveryState, IsStateAfter, BreachAt, TellsBreachAt}
 use Rattle.causal_audit.proofs.Swept.{sent_before}
 use Rattle.causal_audit.specs.declared.breach.Breach.{Breach}
-use Rattle.causal_audit.specs.declared.sight.Sight.{Sight}
+use Rattle.causal_audit.specs.declared.delivery_state.DeliveryState.{DeliveryState}
 use Rattle.causal_audit.specs.Quiet.{Agree, mentioned_by}
 use Rattle.causal_audit.specs.Inside.ByClock.Changes.{AreMentionsOf, ChangesNothing, HasMentions, HasNoneUntil}
 use Rattle.causal_audit.proofs.look.Staying.{mentioned_next}
@@ -125,20 +125,20 @@ module _ (r : Recording) (formed : IsWellFormed r) (es : List Entry) (read : es 
       )
 
   -- where it changes nothing, the instants before and after it agree
-  pub unchanged : (s : Sight) → IsSight (instant r.past t) k d s → ChangesNothing e (mention == t) reached s.dependents → Agree (instant r.past t) (instant r.past (t + 1)) k d
-  unchanged s sight nothing =
+  pub unchanged : (s : DeliveryState) → IsDeliveryState (instant r.past t) k d s → ChangesNothing e (mention == t) reached s.dependents → Agree (instant r.past t) (instant r.past (t + 1)) k d
+  unchanged s state nothing =
       subst (λ past. Agree (instant r.past t) past k d) (sym next)
       (quiet_step r.processes e (instant r.past t) k d (accepted_next r formed t e below next) (record {
         no_turn = nothing.no_turn;
         unmentioned = sym told ∙ nothing.unmentioned;
-        known = λ p of reach. (sight.dependents p).0 (nothing.known p of ((clock_reached p of).1 reach));
+        known = λ p of reach. (state.dependents p).0 (nothing.known p of ((clock_reached p of).1 reach));
       }))
 
   -- else what is known after it tells whether the delivery has an orphan then
-  pub seen_after : (before after : Sight) → IsSight (instant r.past t) k d before → IsSightAfter e (mention == t) reached before after → IsSight (instant r.past (t + 1)) k d after
-  seen_after before after sight sees =
-      subst (λ past. IsSight past k d after) (sym next) (sees r.processes (instant r.past t) k d (accepted_next r formed t e below next) told clock_reached sight)
+  pub seen_after : (before after : DeliveryState) → IsDeliveryState (instant r.past t) k d before → IsStateAfter e (mention == t) reached before after → IsDeliveryState (instant r.past (t + 1)) k d after
+  seen_after before after state sees =
+      subst (λ past. IsDeliveryState past k d after) (sym next) (sees r.processes (instant r.past t) k d (accepted_next r formed t e below next) told clock_reached state)
 
-pub breach_after : (r : Recording) (formed : IsWellFormed r) (f k : ℕ) (d : Det) (made : det_at r.past k ≡ Some d) (t : ℕ) (within : t ≤ length r.past) (s : Sight) (found : Option Breach) → IsSight (instant r.past t) k d s → TellsBreachAt f k t s found → BreachAt r.processes f (instant r.past t) k t found
-breach_after r formed f k d made t within s found sight tells =
-    tells r.processes (instant r.past t) d (accepted_then r.processes r.past t formed.accepted) (instant_length r.past t within) (λ early. det_then r.past t k early within ∙ made) sight
+pub breach_after : (r : Recording) (formed : IsWellFormed r) (f k : ℕ) (d : Det) (made : det_at r.past k ≡ Some d) (t : ℕ) (within : t ≤ length r.past) (s : DeliveryState) (found : Option Breach) → IsDeliveryState (instant r.past t) k d s → TellsBreachAt f k t s found → BreachAt r.processes f (instant r.past t) k t found
+breach_after r formed f k d made t within s found state tells =
+    tells r.processes (instant r.past t) d (accepted_then r.processes r.past t formed.accepted) (instant_length r.past t within) (λ early. det_then r.past t k early within ∙ made) state

@@ -3,15 +3,15 @@ use Rattle.causal_audit.proofs.Common.{ℕ, All, cases_lt, ◌≡◌, ◌+◌, �
 use Rattle.causal_audit.specs.declared.breach.Breach.{Breach}
 use Rattle.causal_audit.specs.declared.group.copies.Copies.{Copies}
 use Rattle.causal_audit.specs.declared.group.suspects.Step.{Step}
-use Rattle.causal_audit.specs.declared.group.scan.Window.{Window}
+use Rattle.causal_audit.specs.declared.group.run_to_follow.OpenDelivery.{OpenDelivery}
 use Rattle.causal_audit.specs.Earlier.{earlier}
 use Rattle.causal_audit.specs.Laws.{gone, IsExposed}
 use Rattle.causal_audit.specs.Sweep.{MayNewlyFail}
 use Rattle.causal_audit.specs.Quiet.{is_turn, mentioned_by}
 use Rattle.causal_audit.specs.Inside.Among.{FirstBreachBy, HasNoOrphanBy, LeastAmongBy}
-use Rattle.causal_audit.specs.Inside.Sights.{BreachAt}
-use Rattle.causal_audit.specs.Inside.Group.Walk.{AreCopied, AreCopies, AreCopiesAfter, copies_at, no_copies, AreHeldBefore, IsLacked, IsSuspected, TellsBreachOf, IsStep, position_at, HasRoom, AreAsked, HaveNone, IsFollowed, ArePlaces, HaveMarked, IsNewly, row, HasRowRoom, IsReach, SeesReach, IsPut, window_at, IsHeldSo, IsDeliveredTo, IsHeldBy, ArePassed, IsOwn, IsTold, TellRows, AreBelow, AreMarked, IsUntouchedBefore}
-use Rattle.causal_audit.specs.Inside.Group.Scans.{positions_of, IsDeliveryAt, IsWindow}
+use Rattle.causal_audit.specs.Inside.DeliveryStates.{BreachAt}
+use Rattle.causal_audit.specs.Inside.Group.Walk.{AreCopied, AreCopies, AreCopiesAfter, copies_at, no_copies, AreHeldBefore, IsLacked, IsSuspected, TellsBreachOf, IsStep, position_at, HasBuffers, AreAsked, HaveNone, IsFollowed, ArePlaces, HaveMarked, IsNewly, row, HasRowRoom, IsReach, SeesReach, IsPut, opened_at, IsHeldSo, IsDeliveredTo, IsHeldBy, ArePassed, IsOwn, IsTold, TellRows, AreBelow, AreMarked, IsUntouchedBefore}
+use Rattle.causal_audit.specs.Inside.Group.OpenDeliveries.{positions_of, IsDeliveryAt, IsOpenDelivery}
 use Rattle.causal_audit.proofs.AmongLemmas.{among_push, among_wider, among_none}
 use Rattle.causal_audit.proofs.Between.{depends_before, logs_stay, stable_stays}
 use Rattle.causal_audit.proofs.Lemmas.Judged.{exposed, gone_orphan}
@@ -19,9 +19,9 @@ use Rattle.causal_audit.proofs.Swept.{sweep_law, one_new_orphan}
 use Rattle.causal_audit.proofs.Orphaned.{accepted_next, first_breach_is}
 use Rattle.causal_audit.proofs.group.Reaching.{left_in, left_out, none_in, told_so}
 use Rattle.causal_audit.proofs.Steps.{up_to_next}
-use Rattle.causal_audit.proofs.group.Windowed.{position, zero}
-use Rattle.causal_audit.specs.declared.group.room.Room.{Room}
-use Rattle.causal_audit.specs.declared.group.reach.Reach.{Reach}
+use Rattle.causal_audit.proofs.group.Opened.{position, zero}
+use Rattle.causal_audit.specs.declared.group.buffers.WalkBuffers.{WalkBuffers}
+use Rattle.causal_audit.specs.declared.group.reach.ReachingDeliveries.{ReachingDeliveries}
 use Rattle.causal_audit.proofs.Shown.{inserted, parts}
 
 abbrev Sets : Type 0
@@ -29,7 +29,7 @@ Sets = List (FinSet nat_cmp)
 
 -- ==== what one more entry makes of what is known of the deliveries of a group
 
-module _ (r : Recording) (windows : List Window) (s : Step) (step : IsStep r windows s) where
+module _ (r : Recording) (opened : List OpenDelivery) (s : Step) (step : IsStep r opened s) where
   pub accepted_here : AreAccepted r.processes (s.entry.now ∷ instant r.past s.t)
   accepted_here = accepted_next r step.formed s.t s.entry.now step.below step.next
 
@@ -127,17 +127,17 @@ suspect_by n f (Stable det) past k j d newly mentioned present held formed at is
 suspect_by n f (Crash who) past k j d newly mentioned present held formed at is says depend so has_one never may = absurd may
 
 -- one that has an orphan after a step, and had none before, is suspected
-pub suspect : (r : Recording) (f : ℕ) (windows : List Window) (start : ℕ) (room : Room) (s : Step) → IsStep r windows s → IsFollowed r windows start (s.t + 1) room
-    → (j : ℕ) → j < length windows → HasNoOrphanBy r f (position_at windows j) s.t → HasOrphan r.processes f (instant r.past (s.t + 1)) (position_at windows j)
+pub suspect : (r : Recording) (f : ℕ) (opened : List OpenDelivery) (start : ℕ) (room : WalkBuffers) (s : Step) → IsStep r opened s → IsFollowed r opened start (s.t + 1) room
+    → (j : ℕ) → j < length opened → HasNoOrphanBy r f (position_at opened j) s.t → HasOrphan r.processes f (instant r.past (s.t + 1)) (position_at opened j)
     → IsSuspected s.entry.now s.newly s.mentioned room.reach.present.items room.held.items r.processes j
-suspect r f windows start room s step now j low none has_one =
-    let k = position_at windows j in
+suspect r f opened start room s step now j low none has_one =
+    let k = position_at opened j in
     let made = step.made j low in
     let past = instant r.past s.t in
     let e = s.entry.now in
-    let formed = accepted_here r windows s step in
+    let formed = accepted_here r opened s step in
     let then : HasOrphan r.processes f (e ∷ past) k = subst (λ p. HasOrphan r.processes f p k) step.next has_one in
-    let early : k < s.t + 1 = omega (arith, det_within (instant r.past (s.t + 1)) k has_one.is_orphan.det has_one.is_orphan.delivered, length_after r windows s step) in
+    let early : k < s.t + 1 = omega (arith, det_within (instant r.past (s.t + 1)) k has_one.is_orphan.det has_one.is_orphan.delivered, length_after r opened s step) in
     let at : det_at (e ∷ past) k ≡ Some made.0 = ap (λ p. det_at p k) (sym step.next) ∙ det_then r.past (s.t + 1) k early (omega (arith, step.below)) ∙ made.1 in
     let told = now.told j made.0 low made.1 in
     let never : HasOrphan r.processes f past k → ⊥ = none s.t (omega arith) in
@@ -151,31 +151,31 @@ suspect r f windows start room s step now j low none has_one =
 -- ---- some of them, one by one
 
 -- how one first has an orphan after the entry
-pub found_next : (r : Recording) (windows : List Window) (start : ℕ) (room : Room) (s : Step) (step : IsStep r windows s) → IsFollowed r windows start (s.t + 1) room → (j f : ℕ) → j < length windows → (found : Option Breach)
-    → HasNoOrphanBy r f (position_at windows j) s.t → TellsBreachOf room f (position_at windows j) j (s.t + 1) found → FirstBreachBy r f (s.t + 1) (position_at windows j) found
-found_next r windows start room s step now j f low found none tells =
+pub found_next : (r : Recording) (opened : List OpenDelivery) (start : ℕ) (room : WalkBuffers) (s : Step) (step : IsStep r opened s) → IsFollowed r opened start (s.t + 1) room → (j f : ℕ) → j < length opened → (found : Option Breach)
+    → HasNoOrphanBy r f (position_at opened j) s.t → TellsBreachOf room f (position_at opened j) j (s.t + 1) found → FirstBreachBy r f (s.t + 1) (position_at opened j) found
+found_next r opened start room s step now j f low found none tells =
     let made = step.made j low in
-    first_here r windows s step f (position_at windows j) found none
-    (tells r.processes (instant r.past (s.t + 1)) made.0 (accepted_then r.processes r.past (s.t + 1) step.formed.accepted) (length_after r windows s step)
-    (λ early. det_then r.past (s.t + 1) (position_at windows j) early (omega (arith, step.below)) ∙ made.1) (now.told j made.0 low made.1) (now.copied j made.0 low made.1) now.down)
+    first_here r opened s step f (position_at opened j) found none
+    (tells r.processes (instant r.past (s.t + 1)) made.0 (accepted_then r.processes r.past (s.t + 1) step.formed.accepted) (length_after r opened s step)
+    (λ early. det_then r.past (s.t + 1) (position_at opened j) early (omega (arith, step.below)) ∙ made.1) (now.told j made.0 low made.1) (now.copied j made.0 low made.1) now.down)
 
--- the position of a place is one of the windows'
-pub among_windows : (windows : List Window) (j : ℕ) → j < length windows → Contains (positions_of windows) (position_at windows j)
-among_windows windows j low =
-    let zero : Window = record { position = 0; until = 0 } in
-    let count : j < length (positions_of windows) = omega (arith, low, length-map windows position) in
-    subst (Contains (positions_of windows)) (get_or-map position windows j zero 0 low) (Contains-get_or (positions_of windows) j 0 count)
+-- the position of a place is one of the deliveries'
+pub among_opened : (opened : List OpenDelivery) (j : ℕ) → j < length opened → Contains (positions_of opened) (position_at opened j)
+among_opened opened j low =
+    let zero : OpenDelivery = record { position = 0; until = 0 } in
+    let count : j < length (positions_of opened) = omega (arith, low, length-map opened position) in
+    subst (Contains (positions_of opened)) (get_or-map position opened j zero 0 low) (Contains-get_or (positions_of opened) j 0 count)
 
 -- those of the places that are not left have been judged
-pub record HaveJudged (r : Recording) (f : ℕ) (windows : List Window) (t : ℕ) (places rest : FinSet nat_cmp) (least : Option Breach) : Type 0 where
+pub record HaveJudged (r : Recording) (f : ℕ) (opened : List OpenDelivery) (t : ℕ) (places rest : FinSet nat_cmp) (least : Option Breach) : Type 0 where
   pub left : (j : ℕ) → contains rest j ≡ true → contains places j ≡ true
   pub done : List ℕ
-  pub inside : (k : ℕ) → Contains done k → Contains (positions_of windows) k
-  pub each : (j : ℕ) → contains places j ≡ true → contains rest j ≡ false → Contains done (position_at windows j)
+  pub inside : (k : ℕ) → Contains done k → Contains (positions_of opened) k
+  pub each : (j : ℕ) → contains places j ≡ true → contains rest j ≡ false → Contains done (position_at opened j)
   pub found : LeastAmongBy r f (t + 1) done least
 
-pub judged_none : (r : Recording) (f : ℕ) (windows : List Window) (t : ℕ) (places : FinSet nat_cmp) → HaveJudged r f windows t places places None
-judged_none r f windows t places = record {
+pub judged_none : (r : Recording) (f : ℕ) (opened : List OpenDelivery) (t : ℕ) (places : FinSet nat_cmp) → HaveJudged r f opened t places places None
+judged_none r f opened t places = record {
   left = λ j h. h;
   done = [];
   inside = λ k listed. absurd (omega (arith, listed.1));
@@ -183,20 +183,20 @@ judged_none r f windows t places = record {
   found = among_none r f (t + 1);
 }
 
-pub judged_more : (r : Recording) (f : ℕ) (windows : List Window) (t : ℕ) (places rest : FinSet nat_cmp) (least found : Option Breach) (p : ℕ) → contains rest p ≡ true → HaveJudged r f windows t places rest least
-    → Contains (positions_of windows) (position_at windows p) → FirstBreachBy r f (t + 1) (position_at windows p) found → HaveJudged r f windows t places (remove rest p) (earlier least found)
-judged_more r f windows t places rest least found p within so_far among first = record {
+pub judged_more : (r : Recording) (f : ℕ) (opened : List OpenDelivery) (t : ℕ) (places rest : FinSet nat_cmp) (least found : Option Breach) (p : ℕ) → contains rest p ≡ true → HaveJudged r f opened t places rest least
+    → Contains (positions_of opened) (position_at opened p) → FirstBreachBy r f (t + 1) (position_at opened p) found → HaveJudged r f opened t places (remove rest p) (earlier least found)
+judged_more r f opened t places rest least found p within so_far among first = record {
   left = λ j h. so_far.left j (left_in rest p j h).0;
-  done = so_far.done ++ position_at windows p ∷ [];
-  inside = λ k listed. elim (Contains-push_cases so_far.done (position_at windows p) k listed) [
+  done = so_far.done ++ position_at opened p ∷ [];
+  inside = λ k listed. elim (Contains-push_cases so_far.done (position_at opened p) k listed) [
     | inl old ↦ so_far.inside k old
-    | inr new ↦ subst (Contains (positions_of windows)) new among
+    | inr new ↦ subst (Contains (positions_of opened)) new among
   ];
   each = λ j h out. elim (left_out rest p j out) [
-    | inl is ↦ subst (λ x. Contains (so_far.done ++ position_at windows p ∷ []) (position_at windows x)) (sym is) (Contains-push so_far.done (position_at windows p))
-    | inr gone ↦ Contains-append_left so_far.done (position_at windows p ∷ []) (position_at windows j) (so_far.each j h gone)
+    | inl is ↦ subst (λ x. Contains (so_far.done ++ position_at opened p ∷ []) (position_at opened x)) (sym is) (Contains-push so_far.done (position_at opened p))
+    | inr gone ↦ Contains-append_left so_far.done (position_at opened p ∷ []) (position_at opened j) (so_far.each j h gone)
   ];
-  found = among_push r f (t + 1) so_far.done (position_at windows p) least found so_far.found first;
+  found = among_push r f (t + 1) so_far.done (position_at opened p) least found so_far.found first;
 }
 
 -- ---- all of them
@@ -205,11 +205,11 @@ pub in_or_out : (s : FinSet nat_cmp) (j : ℕ) → (contains s j ≡ true) ⊎ (
 in_or_out s j = cases_Bool (contains s j)
 
 -- the copies after a step
-pub copied_next : (r : Recording) (windows : List Window) (s : Step) → IsStep r windows s → (all held places : FinSet nat_cmp) (old new : List Copies) → ArePlaces windows all → AreHeldBefore r windows s held
+pub copied_next : (r : Recording) (opened : List OpenDelivery) (s : Step) → IsStep r opened s → (all held places : FinSet nat_cmp) (old new : List Copies) → ArePlaces opened all → AreHeldBefore r opened s held
     → ((j : ℕ) → contains all j ≡ true → contains places j ≡ false → (is_turn s.entry.now ≡ false) × ((contains s.mentioned j ≡ false) ⊎ (contains held j ≡ true)))
     → ((j : ℕ) → contains places j ≡ false → copies_at new j ≡ copies_at old j) → ((j : ℕ) → contains places j ≡ true → AreCopiesAfter s.entry.now (contains s.mentioned j) (copies_at old j) (copies_at new j))
-    → AreCopied r windows s.t old → AreCopied r windows (s.t + 1) new
-copied_next r windows s step all held places old new are before quiet others renewed known j d low at =
+    → AreCopied r opened s.t old → AreCopied r opened (s.t + 1) new
+copied_next r opened s step all held places old new are before quiet others renewed known j d low at =
     let past = instant r.past s.t in
     let told = step.mentioned j d low at in
     subst (λ x. AreCopies x d (copies_at new j)) (sym step.next) (elim (in_or_out places j) [
@@ -220,19 +220,19 @@ copied_next r windows s step all held places old new are before quiet others ren
           (copies_still s.entry.now past d (copies_at old j) still.0 (elim still.1 [ inl silent ↦ inl (sym told ∙ silent) | inr holds ↦ inr (before j d low at holds) ]) (known j d low at))
     ])
 
--- a place with a position among the windows'
-pub place_of : (windows : List Window) (k : ℕ) → Contains (positions_of windows) k → (j : ℕ) × (j < length windows) × (position_at windows j ≡ k)
-place_of windows k listed =
-    let zero : Window = record { position = 0; until = 0 } in
-    let low : listed.0 < length windows = omega (arith, listed.1, length-map windows position) in
-    (listed.0, low, sym (get_or-map position windows listed.0 zero k low) ∙ listed.2)
+-- a place with a position among the deliveries'
+pub place_of : (opened : List OpenDelivery) (k : ℕ) → Contains (positions_of opened) k → (j : ℕ) × (j < length opened) × (position_at opened j ≡ k)
+place_of opened k listed =
+    let zero : OpenDelivery = record { position = 0; until = 0 } in
+    let low : listed.0 < length opened = omega (arith, listed.1, length-map opened position) in
+    (listed.0, low, sym (get_or-map position opened listed.0 zero k low) ∙ listed.2)
 
 -- where all places have been judged, and the others have none, it is the least of all
-pub least_in_all : (r : Recording) (f : ℕ) (windows : List Window) (t : ℕ) (places rest : FinSet nat_cmp) (least : Option Breach) → HaveJudged r f windows t places rest least → ((j : ℕ) → contains rest j ≡ false)
-    → ((j : ℕ) → j < length windows → contains places j ≡ false → HasNoOrphanBy r f (position_at windows j) (t + 1)) → LeastAmongBy r f (t + 1) (positions_of windows) least
-least_in_all r f windows t places rest least judged whole none =
-    among_wider r f (t + 1) judged.done (positions_of windows) least judged.inside (λ k listed.
-    let at = place_of windows k listed in
+pub least_in_all : (r : Recording) (f : ℕ) (opened : List OpenDelivery) (t : ℕ) (places rest : FinSet nat_cmp) (least : Option Breach) → HaveJudged r f opened t places rest least → ((j : ℕ) → contains rest j ≡ false)
+    → ((j : ℕ) → j < length opened → contains places j ≡ false → HasNoOrphanBy r f (position_at opened j) (t + 1)) → LeastAmongBy r f (t + 1) (positions_of opened) least
+least_in_all r f opened t places rest least judged whole none =
+    among_wider r f (t + 1) judged.done (positions_of opened) least judged.inside (λ k listed.
+    let at = place_of opened k listed in
     elim (in_or_out places at.0) [
       | inl seen ↦ inl (subst (Contains judged.done) at.2 (judged.each at.0 seen (whole at.0)))
       | inr out ↦ inr (subst (λ x. HasNoOrphanBy r f x (t + 1)) at.2 (none at.0 at.1 out))
@@ -292,21 +292,21 @@ held_crash who old new others here past j d so q h =
 
 -- ==== a walk over the entries for the deliveries of a group
 
-module _ (r : Recording) (windows : List Window) (start : ℕ) (room : Room) (t : ℕ) (e : Entry) (own new_ones : FinSet nat_cmp) (followed : IsFollowed r windows start t room) (formed : IsWellFormed r) (below : t < length r.past)
-    (next : instant r.past (t + 1) ≡ e ∷ instant r.past t) (taken new : Reach) (same : ((v : ℕ) → (v ≡ t → ⊥) → row taken.rows.items v ≡ row room.reach.rows.items v) × (taken.start ≡ room.reach.start) × (taken.present.items ≡ room.reach.present.items))
-    (is_own : IsOwn windows t own) (sees : SeesReach e t own taken new new_ones) where
-  pub sees_each : (j : ℕ) (d : Det) → j < length windows → det_at r.past (position_at windows j) ≡ Some d
-      → IsReach (e ∷ instant r.past t) (position_at windows j) j new × IsNewly (instant r.past t) e (position_at windows j) j new_ones
+module _ (r : Recording) (opened : List OpenDelivery) (start : ℕ) (room : WalkBuffers) (t : ℕ) (e : Entry) (own new_ones : FinSet nat_cmp) (followed : IsFollowed r opened start t room) (formed : IsWellFormed r) (below : t < length r.past)
+    (next : instant r.past (t + 1) ≡ e ∷ instant r.past t) (taken new : ReachingDeliveries) (same : ((v : ℕ) → (v ≡ t → ⊥) → row taken.rows.items v ≡ row room.reach.rows.items v) × (taken.start ≡ room.reach.start) × (taken.present.items ≡ room.reach.present.items))
+    (is_own : IsOwn opened t own) (sees : SeesReach e t own taken new new_ones) where
+  pub sees_each : (j : ℕ) (d : Det) → j < length opened → det_at r.past (position_at opened j) ≡ Some d
+      → IsReach (e ∷ instant r.past t) (position_at opened j) j new × IsNewly (instant r.past t) e (position_at opened j) j new_ones
   sees_each j d low at =
-      let k = position_at windows j in
+      let k = position_at opened j in
       sees r.processes (instant r.past t) k j d formed.count.1 (accepted_next r formed t e below next) (instant_length r.past t (omega (arith, below)))
       (λ here. ap (λ past. det_at past k) (sym next) ∙ det_then r.past (t + 1) k (omega (arith, here)) (omega (arith, below)) ∙ at) (λ h. ((is_own j).0 h).1, λ here. (is_own j).1 (low, here))
       (subst (λ s. TellRows (instant r.past t) s k j taken.rows.items taken.present.items) (sym same.1) (subst (λ rows. TellRows (instant r.past t) room.reach.start k j taken.rows.items rows) (sym same.2)
       (told_so (instant r.past t) room.reach.start k j room.reach.rows.items taken.rows.items room.reach.present.items (λ v early. same.0 v (λ is. omega (arith, is, early, instant_length r.past t (omega (arith, below))))) (followed.told j d low at))))
 
   -- the deliveries reach the entries so far
-  pub told_after : (j : ℕ) (d : Det) → j < length windows → det_at r.past (position_at windows j) ≡ Some d → IsReach (instant r.past (t + 1)) (position_at windows j) j new
-  told_after j d low at = subst (λ past. IsReach past (position_at windows j) j new) (sym next) (sees_each j d low at).0
+  pub told_after : (j : ℕ) (d : Det) → j < length opened → det_at r.past (position_at opened j) ≡ Some d → IsReach (instant r.past (t + 1)) (position_at opened j) j new
+  told_after j d low at = subst (λ past. IsReach past (position_at opened j) j new) (sym next) (sees_each j d low at).0
 
 -- the receiver of a delivery logs what its row says
 pub held_then : (e : Entry) (past : List Entry) (rows : List (FinSet nat_cmp)) (places : FinSet nat_cmp) (j : ℕ) (d : Det) → IsHeldBy e rows places → IsHeldSo past j d rows → contains places j ≡ true → IsDeliveredTo e past d
@@ -337,9 +337,9 @@ emptied_next past t e old new here others emptied below v j x early there none h
   | inr apart ↦ below v j x (let ne : v ≡ t → ⊥ = apart.1 in omega (arith, early, ne)) there none (ap (λ s. contains s j) (sym (others v apart.1)) ∙ h)
 ]
 
-pub marked_next : (past : List Entry) (windows : List Window) (t : ℕ) (old new : Sets) → length new ≡ length old → ((v : ℕ) → (v ≡ t → ⊥) → row new v ≡ row old v) → AreMarked past t windows (length windows) old
-    → AreMarked past (t + 1) windows (length windows) new
-marked_next past windows t old new count others marked j low v d e late inside at there none =
+pub marked_next : (past : List Entry) (opened : List OpenDelivery) (t : ℕ) (old new : Sets) → length new ≡ length old → ((v : ℕ) → (v ≡ t → ⊥) → row new v ≡ row old v) → AreMarked past t opened (length opened) old
+    → AreMarked past (t + 1) opened (length opened) new
+marked_next past opened t old new count others marked j low v d e late inside at there none =
     ap (λ s. contains s j) (others v (λ is. omega (arith, is, late))) ∙ marked j low v d e (omega (arith, late)) (omega (arith, inside, count)) at there none
 
 -- rows that are as before, or empty
@@ -350,19 +350,19 @@ below_made past to count old new are below v j e early there none h = elim (are 
 ]
 
 -- before the walk no entry mentions a determinant of the group
-pub begun_empty : (past : List Entry) (start : ℕ) (windows : List Window) (rows : Sets) → start ≤ length rows → AreBelow past (length rows) (length windows) rows → AreMarked past 0 windows (length windows) rows
-    → All (IsUntouchedBefore past start) windows → All (λ (window : Window). IsDeliveryAt past window.position) windows → AreBelow past start 0 rows
-begun_empty past start windows rows within below marked untouched made v j e early there none h =
+pub begun_empty : (past : List Entry) (start : ℕ) (opened : List OpenDelivery) (rows : Sets) → start ≤ length rows → AreBelow past (length rows) (length opened) rows → AreMarked past 0 opened (length opened) rows
+    → All (IsUntouchedBefore past start) opened → All (λ (delivery : OpenDelivery). IsDeliveryAt past delivery.position) opened → AreBelow past start 0 rows
+begun_empty past start opened rows within below marked untouched made v j e early there none h =
     let low = below v j e (omega (arith, early, within)) there none h in
     let det = made j zero low in
     absurd (false≢true (sym ((untouched j zero low).unmentioned det.0 det.1 v e (omega arith) early there) ∙ sym (marked j low v det.0 e (omega arith) (omega (arith, early, within)) det.1 there none) ∙ h))
 
 -- what a step is told
-pub is_step : (r : Recording) (windows : List Window) (start : ℕ) (room : Room) (s : Step) → IsFollowed r windows start s.t room → IsWellFormed r → s.t < length r.past → instant r.past (s.t + 1) ≡ s.entry.now ∷ instant r.past s.t
-    → ((j : ℕ) (d : Det) → j < length windows → det_at r.past (position_at windows j) ≡ Some d → IsNewly (instant r.past s.t) s.entry.now (position_at windows j) j s.newly)
+pub is_step : (r : Recording) (opened : List OpenDelivery) (start : ℕ) (room : WalkBuffers) (s : Step) → IsFollowed r opened start s.t room → IsWellFormed r → s.t < length r.past → instant r.past (s.t + 1) ≡ s.entry.now ∷ instant r.past s.t
+    → ((j : ℕ) (d : Det) → j < length opened → det_at r.past (position_at opened j) ≡ Some d → IsNewly (instant r.past s.t) s.entry.now (position_at opened j) j s.newly)
     → length r.past ≤ max_entries → s.t < length room.reach.rows.items → IsTold s.entry.now s.t room.reach.rows.items s.mentioned → entry_at r.past s.t ≡ Some s.entry.now
-    → ((j : ℕ) → j < length windows → IsDeliveryAt r.past (position_at windows j)) → IsStep r windows s
-is_step r windows start room s followed formed below next newly short inside told there made = record {
+    → ((j : ℕ) → j < length opened → IsDeliveryAt r.past (position_at opened j)) → IsStep r opened s
+is_step r opened start room s followed formed below next newly short inside told there made = record {
   formed = formed;
   short = short;
   below = below;
@@ -373,44 +373,44 @@ is_step r windows start room s followed formed below next newly short inside tol
 }
 
 -- the room stays
-pub room_stays : (old new : Room) → ((entries : ℕ) → HasRowRoom entries old.reach → HasRowRoom entries new.reach) → length new.copies.items ≡ length old.copies.items → (entries : ℕ) → HasRoom entries old → HasRoom entries new
+pub room_stays : (old new : WalkBuffers) → ((entries : ℕ) → HasRowRoom entries old.reach → HasRowRoom entries new.reach) → length new.copies.items ≡ length old.copies.items → (entries : ℕ) → HasBuffers entries old → HasBuffers entries new
 room_stays old new rows copies entries was = record { reach = rows entries was.reach; copies = copies ∙ was.copies }
 
 -- where there is room for so many entries there is room for fewer
-pub room_within : (many few : ℕ) (room : Room) → few ≤ many → HasRoom many room → HasRoom few room
+pub room_within : (many few : ℕ) (room : WalkBuffers) → few ≤ many → HasBuffers many room → HasBuffers few room
 room_within many few room low is = record {
   reach = record { rows = omega (arith, low, is.reach.rows); present = is.reach.present };
   copies = is.copies;
 }
 
 -- where none is the least there is none
-pub none_of_all : (r : Recording) (f end : ℕ) (windows : List Window) → LeastAmongBy r f end (positions_of windows) None → HaveNone r f windows end
-none_of_all r f end windows none j low u within has = none (position_at windows j) u (among_windows windows j low) within has
+pub none_of_all : (r : Recording) (f end : ℕ) (opened : List OpenDelivery) → LeastAmongBy r f end (positions_of opened) None → HaveNone r f opened end
+none_of_all r f end opened none j low u within has = none (position_at opened j) u (among_opened opened j low) within has
 
 -- ---- which of them are still asked
 
--- one whose window is over has no orphan
-pub none_over : (r : Recording) (f t : ℕ) (windows : List Window) (j : ℕ) → j < length windows → All (IsWindow r f (t + 1)) windows → HaveNone r f windows t → (window_at windows j).until ≤ t + 1
-    → HasNoOrphanBy r f (position_at windows j) (t + 1)
-none_over r f t windows j low later none over u within has = elim (cases_lt t u) [
+-- one whose delivery is over has no orphan
+pub none_over : (r : Recording) (f t : ℕ) (opened : List OpenDelivery) (j : ℕ) → j < length opened → All (IsOpenDelivery r f (t + 1)) opened → HaveNone r f opened t → (opened_at opened j).until ≤ t + 1
+    → HasNoOrphanBy r f (position_at opened j) (t + 1)
+none_over r f t opened j low later none over u within has = elim (cases_lt t u) [
   | inl late ↦ later j zero low u (omega (arith, late, over)) within has
   | inr early ↦ none j low u early has
 ]
 
 -- it is not asked any more
-pub asked_less : (windows : List Window) (t place : ℕ) (asked : FinSet nat_cmp) → AreAsked windows t asked → (window_at windows place).until ≤ t → AreAsked windows t (remove asked place)
-asked_less windows t place asked are over = record {
+pub asked_less : (opened : List OpenDelivery) (t place : ℕ) (asked : FinSet nat_cmp) → AreAsked opened t asked → (opened_at opened place).until ≤ t → AreAsked opened t (remove asked place)
+asked_less opened t place asked are over = record {
   places = λ j h. are.places j (left_in asked place j h).0;
-  over = λ j low out. elim (left_out asked place j out) [ inl is ↦ subst (λ i. (window_at windows i).until ≤ t) (sym is) over | inr gone ↦ are.over j low gone ];
+  over = λ j low out. elim (left_out asked place j out) [ inl is ↦ subst (λ i. (opened_at opened i).until ≤ t) (sym is) over | inr gone ↦ are.over j low gone ];
 }
 
 -- and nothing changes
-pub judged_over : (r : Recording) (f : ℕ) (windows : List Window) (t : ℕ) (places rest : FinSet nat_cmp) (least : Option Breach) (p : ℕ) → contains rest p ≡ true → HaveJudged r f windows t places rest least
-    → Contains (positions_of windows) (position_at windows p) → HasNoOrphanBy r f (position_at windows p) (t + 1) → HaveJudged r f windows t places (remove rest p) least
-judged_over r f windows t places rest None p within so_far among none = judged_more r f windows t places rest None None p within so_far among none
-judged_over r f windows t places rest (Some b) p within so_far among none = judged_more r f windows t places rest (Some b) None p within so_far among none
+pub judged_over : (r : Recording) (f : ℕ) (opened : List OpenDelivery) (t : ℕ) (places rest : FinSet nat_cmp) (least : Option Breach) (p : ℕ) → contains rest p ≡ true → HaveJudged r f opened t places rest least
+    → Contains (positions_of opened) (position_at opened p) → HasNoOrphanBy r f (position_at opened p) (t + 1) → HaveJudged r f opened t places (remove rest p) least
+judged_over r f opened t places rest None p within so_far among none = judged_more r f opened t places rest None None p within so_far among none
+judged_over r f opened t places rest (Some b) p within so_far among none = judged_more r f opened t places rest (Some b) None p within so_far among none
 
--- the places of one window more
+-- the places of one delivery more
 pub places_more : (places : FinSet nat_cmp) (place : ℕ) → ((j : ℕ) → (contains places j ≡ true) ↔ (j < place)) → (j : ℕ) → (contains (insert places place) j ≡ true) ↔ (j < place + 1)
 places_more places place are j = (
   λ h. elim (or_cases (place == j) (contains places j) (sym (inserted places place j) ∙ h)) [
@@ -426,15 +426,15 @@ places_more places place are j = (
 -- ---- where they stand
 
 -- those from place `before` on and below `passed` stand at t
-pub record HavePassed (windows : List Window) (t before passed : ℕ) (own : FinSet nat_cmp) : Type 0 where
+pub record HavePassed (opened : List OpenDelivery) (t before passed : ℕ) (own : FinSet nat_cmp) : Type 0 where
   pub from : before ≤ passed
-  pub inside : passed ≤ length windows
+  pub inside : passed ≤ length opened
   pub own_are : (j : ℕ) → (contains own j ≡ true) ↔ ((before ≤ j) × (j < passed))
-  pub stand : (j : ℕ) → before ≤ j → j < passed → position_at windows j ≡ t
+  pub stand : (j : ℕ) → before ≤ j → j < passed → position_at opened j ≡ t
 
-pub passed_more : (windows : List Window) (t before passed : ℕ) (own : FinSet nat_cmp) → HavePassed windows t before passed own → passed < length windows → position_at windows passed ≡ t
-    → HavePassed windows t before (passed + 1) (insert own passed)
-passed_more windows t before passed own have low here = record {
+pub passed_more : (opened : List OpenDelivery) (t before passed : ℕ) (own : FinSet nat_cmp) → HavePassed opened t before passed own → passed < length opened → position_at opened passed ≡ t
+    → HavePassed opened t before (passed + 1) (insert own passed)
+passed_more opened t before passed own have low here = record {
   from = omega (arith, have.from);
   inside = omega (arith, low);
   own_are = λ j. (
@@ -449,16 +449,16 @@ passed_more windows t before passed own have low here = record {
   );
   stand = λ j late early. elim (cases_lt j passed) [
     | inl old ↦ have.stand j late old
-    | inr new ↦ let same : passed ≡ j = omega (arith, new, early) in subst (λ i. position_at windows i ≡ t) same here
+    | inr new ↦ let same : passed ≡ j = omega (arith, new, early) in subst (λ i. position_at opened i ≡ t) same here
   ];
 }
 
 -- where the others stand later these are all
-module _ (windows : List Window) (t before passed : ℕ) (own : FinSet nat_cmp) (have : HavePassed windows t before passed own) (are : ArePassed windows t before) (later : (j : ℕ) → passed ≤ j → j < length windows → t < position_at windows j) where
-  early : (j : ℕ) → j < length windows → position_at windows j ≤ t → j < passed
+module _ (opened : List OpenDelivery) (t before passed : ℕ) (own : FinSet nat_cmp) (have : HavePassed opened t before passed own) (are : ArePassed opened t before) (later : (j : ℕ) → passed ≤ j → j < length opened → t < position_at opened j) where
+  early : (j : ℕ) → j < length opened → position_at opened j ≤ t → j < passed
   early j low at = elim (cases_lt j passed) [ inl is ↦ is | inr beyond ↦ absurd (omega (arith, at, later j beyond low)) ]
 
-  pub passed_all : ArePassed windows (t + 1) passed
+  pub passed_all : ArePassed opened (t + 1) passed
   passed_all = record {
     inside = have.inside;
     earlier = λ j low. (
@@ -467,7 +467,7 @@ module _ (windows : List Window) (t before passed : ℕ) (own : FinSet nat_cmp) 
     );
   }
 
-  pub own_all : IsOwn windows t own
+  pub own_all : IsOwn opened t own
   own_all j = (
     λ h. let is = (have.own_are j).0 h in (omega (arith, is.1, have.inside), have.stand j is.0 is.1),
     λ at. (have.own_are j).1 (elim (cases_lt j before) [ inl old ↦ absurd (omega (arith, (are.earlier j at.0).0 old, at.1)) | inr new ↦ new ], early j at.0 (omega (arith, at.1))),

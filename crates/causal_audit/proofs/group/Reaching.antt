@@ -1,8 +1,8 @@
 -- Which of a few deliveries reach the entries of a walk, with one entry more.
 use Rattle.causal_audit.proofs.Common.{ℕ, ◌≡◌, ◌≢◌, ◌+◌, ◌<◌, ◌≤◌, inl, inr, Bool, true, false, cond, List, ◌∷◌, length, Some, None, entry_at, message_sent, refl, sym, ap, subst, ◌∙◌, arith, ◌↔◌, ◌⊎◌, ◌||◌, ◌&&◌, ◌==◌, not, set, nat_cmp, nat_cmp_total, FinSet, contains, empty, len, len-insert, remove, same_set, nat_cmp-IsAntisymmetric, union, difference, insert, contains-empty, contains-union, contains-difference, false≢true, and_parts, eqb-true, eq-eqb, ne_eqb, eqb_tells, nat_tests, get_or-set_same, get_or-set_other, Pid, Det, Entry, Send, Deliver, Stable, Crash, Restart, Forget, det_at, is_down, lane, AreAccepted, actor, Reaches, Depends, accepted_forward, delivers_sent, delivers_up, event_below, reaches_begins, reaches_old, depends_restarted}
-use Rattle.causal_audit.specs.declared.group.reach.Reach.{Reach}
+use Rattle.causal_audit.specs.declared.group.reach.ReachingDeliveries.{ReachingDeliveries}
 use Rattle.causal_audit.specs.Inside.Group.Walk.{IsNewly, TellRows, TellsReached, row}
-use Rattle.causal_audit.specs.Inside.Sights.{TellsNextReach}
+use Rattle.causal_audit.specs.Inside.DeliveryStates.{TellsNextReach}
 use Rattle.causal_audit.proofs.Between.{IsNoTurn, reaches_more, depends_more, depends_before}
 use Rattle.causal_audit.proofs.Legal.{sent_is}
 use Rattle.causal_audit.proofs.Steps.{entry_cases, entry_within}
@@ -207,7 +207,7 @@ seen x y t start rows present after now own newly same sees n past k j d few for
     (λ legal made. sees n past k j d few legal long made is_own is) formed at
 
 -- none reaches a send before the walk
-pub told_before : (reach : Reach) (v : ℕ) → v < reach.start → TellsReached reach v empty
+pub told_before : (reach : ReachingDeliveries) (v : ℕ) → v < reach.start → TellsReached reach v empty
 told_before reach v before n past k j from to ssn formed is at = (
   λ h. absurd (none_in j h),
   λ reaches. absurd (omega (arith, before, is.early, reach_later n past formed k v reaches)),

@@ -11,9 +11,9 @@ use Rattle.causal_audit.proofs.by_clock.Reached.{reaches_whole, event_whole}
 use Rattle.causal_audit.specs.Inside.Index.Spreads.{acting, process_at, AreSpreads, with_delivered, spread_at}
 use Rattle.causal_audit.proofs.by_clock.Begun.{onward_to}
 use Rattle.causal_audit.proofs.look.Staying.{entry_then}
-use Rattle.causal_audit.specs.declared.look.thins.Thins.{Thins}
+use Rattle.causal_audit.specs.declared.look.thin_stretches.ThinStretches.{ThinStretches}
 use Rattle.causal_audit.specs.Inside.Index.Filed.{IsFirstCrash}
-use Rattle.causal_audit.specs.Inside.Look.Looks.{IsBareAt, IsThinAt, AreThins, MayBeOpen}
+use Rattle.causal_audit.specs.Inside.Look.Looks.{IsBareAt, IsThinAt, AreThinStretches, MayBeOpen}
 use Rattle.std.proofs.lemmas.Grind.{get_or-set_at}
 use Rattle.causal_audit.proofs.by_clock.Link.{delivers_below}
 
@@ -252,7 +252,7 @@ module _ (n most : ℕ) (past : List Entry) (formed : AreAccepted n past) (k : �
       ]
 
   -- so it may be uncovered by what was found of its determinant
-  pub orphan_open : (end c : ℕ) (thins : Thins) → u ≤ end → IsFirstCrash past d.dest.0 k end c → thins.from ≤ k → AreThins n most past d (end + 1) thins → MayBeOpen thins k spread c u
+  pub orphan_open : (end c : ℕ) (thins : ThinStretches) → u ≤ end → IsFirstCrash past d.dest.0 k end c → thins.from ≤ k → AreThinStretches n most past d (end + 1) thins → MayBeOpen thins k spread c u
   orphan_open end c thins bound first from found =
       let after : thins.from < u = omega (arith, from, orphan_made) in
       let before : u < end + 1 = omega (arith, bound) in

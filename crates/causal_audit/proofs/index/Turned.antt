@@ -1,12 +1,12 @@
 -- The crashes and restarts, and who is down after each.
 use Rattle.causal_audit.proofs.Common.{ℕ, ◌≡◌, ◌+◌, ◌<◌, ◌≤◌, inl, inr, true, false, List, [], length, get_or, Some, None, refl, sym, ap, subst, ◌∙◌, arith, nat_cmp, FinSet, empty, IsPartitionPoint, cases_lt, false≢true, false_from_ne_true, get_or_default, Entry, Send, Deliver, Stable, Crash, Restart, Forget, instant, entry_at, is_down}
-use Rattle.causal_audit.specs.declared.index.turns.Turns.{Turns}
-use Rattle.causal_audit.specs.declared.index.turns.Passing.{Passing}
+use Rattle.causal_audit.specs.declared.index.crashes_and_restarts.CrashesAndRestarts.{CrashesAndRestarts}
+use Rattle.causal_audit.specs.declared.index.crashes_and_restarts.Passing.{Passing}
 use Rattle.causal_audit.specs.Inside.Index.Filed.{AreTurns}
 use Rattle.causal_audit.specs.Quiet.{is_turn}
 use Rattle.causal_audit.specs.Inside.Index.Kept.{AreTurnsKept}
 use Rattle.causal_audit.specs.Inside.Index.Passing.{HasPassed}
-use Rattle.causal_audit.specs.Inside.Sights.{Shows}
+use Rattle.causal_audit.specs.Inside.DeliveryStates.{Shows}
 use Rattle.causal_audit.specs.Inside.Look.Staying.{restarts_one, RestartsNone}
 use Rattle.causal_audit.proofs.by_clock.Begun.{down_stays}
 use Rattle.causal_audit.proofs.Steps.{nobody_down}
@@ -93,5 +93,5 @@ module _ (past : List Entry) (list : List ℕ) (downs : List (FinSet nat_cmp)) (
 -- ---- where a walk stands
 
 -- who is down is told of the turns that it walks over
-pub passed_down : (past : List Entry) (turns : Turns) (t : ℕ) (walk : Passing) → AreTurnsKept past turns → HasPassed turns t walk → AreTurnsKept past walk.turns.now × HasPassed walk.turns.now t walk
+pub passed_down : (past : List Entry) (turns : CrashesAndRestarts) (t : ℕ) (walk : Passing) → AreTurnsKept past turns → HasPassed turns t walk → AreTurnsKept past walk.turns.now × HasPassed walk.turns.now t walk
 passed_down past turns t walk are has = (subst (AreTurnsKept past) (sym has.over) are, subst (λ x. HasPassed x t walk) (sym has.over) has)

@@ -3,15 +3,15 @@ use Rattle.causal_audit.proofs.Common.{ℕ, ◌≡◌, ◌+◌, ◌<◌, ◌≤�
 use Rattle.causal_audit.specs.declared.look.cover.Cover.{Cover}
 use Rattle.causal_audit.specs.declared.index.cursor.Cursor.{Cursor}
 use Rattle.causal_audit.specs.declared.look.Look.{Look}
-use Rattle.causal_audit.specs.declared.look.Stop.{Stop}
+use Rattle.causal_audit.specs.declared.look.LookPosition.{LookPosition}
 use Rattle.causal_audit.specs.declared.look.thin.Standing.TheVariants.{Kept}
 use Rattle.causal_audit.specs.declared.look.thin.Stretch.{Stretch}
-use Rattle.causal_audit.specs.declared.index.turns.Passing.{Passing}
+use Rattle.causal_audit.specs.declared.index.crashes_and_restarts.Passing.{Passing}
 use Rattle.causal_audit.specs.Inside.ByClock.Changes.{HasNoneUntil, IsCursor}
 use Rattle.causal_audit.specs.Inside.Index.Kept.{AreTurnsKept}
-use Rattle.causal_audit.specs.Inside.Look.Looks.{IsPassed, IsStop, IsThinAt, StandsBy}
+use Rattle.causal_audit.specs.Inside.Look.Looks.{IsPassed, IsLookPosition, IsThinAt, StandsBy}
 use Rattle.causal_audit.specs.Inside.Index.Passing.{HasPassed}
-use Rattle.causal_audit.specs.Inside.Sights.{Shows, ShowsDownAfter, ShowsHoldersAfter}
+use Rattle.causal_audit.specs.Inside.DeliveryStates.{Shows, ShowsDownAfter, ShowsHoldersAfter}
 use Rattle.causal_audit.specs.Inside.Look.Staying.{MentionsNone, RestartsNone}
 use Rattle.causal_audit.specs.Quiet.{mentioned_by}
 use Rattle.causal_audit.proofs.look.Staying.{gone_lasts, holds_until, kept_still, mentioned_next, none_mention, stands_until, none_later, over_then}
@@ -20,9 +20,9 @@ use Rattle.causal_audit.proofs.Steps.{entry_read, entry_then, next_state}
 use Rattle.causal_audit.proofs.index.Turned.{passed_down}
 
 -- up to the next change of a look nothing mentions the determinant, and none restarts of those who were down or held it
-pub record IsChange (look : Look) (stop : Stop) (mention change : ℕ) : Type 0 where
+pub record IsChange (look : Look) (stop : LookPosition) (mention change : ℕ) : Type 0 where
   pub formed : AreAccepted look.run.trace.now.recording.processes look.run.trace.now.recording.past
-  pub at : IsStop look stop
+  pub at : IsLookPosition look stop
   pub up : stop.t ≤ change
   pub low : change ≤ mention
   pub early : mention ≤ look.end
@@ -30,7 +30,7 @@ pub record IsChange (look : Look) (stop : Stop) (mention change : ℕ) : Type 0 
   pub unrestarted : RestartsNone look.run.trace.now.recording.past (union stop.cover.down stop.cover.holders) stop.t change
 
 -- this is so at the next mention, or at a restart before it
-pub is_change : (look : Look) (stop : Stop) (mention change : ℕ) (gone : FinSet nat_cmp) → AreAccepted look.run.trace.now.recording.processes look.run.trace.now.recording.past → IsStop look stop → gone ≡ union stop.cover.down stop.cover.holders
+pub is_change : (look : Look) (stop : LookPosition) (mention change : ℕ) (gone : FinSet nat_cmp) → AreAccepted look.run.trace.now.recording.processes look.run.trace.now.recording.past → IsLookPosition look stop → gone ≡ union stop.cover.down stop.cover.holders
     → (stop.t ≤ mention) × (mention ≤ look.end) → (stop.t ≤ change) × (change ≤ mention) → ((list : List ℕ) → IsCursor list stop.t stop.ahead → HasNoneUntil list stop.t mention) → RestartsNone look.run.trace.now.recording.past gone stop.t change
     → IsChange look stop mention change
 is_change look stop mention change gone formed at same early bounds none unrestarted = record {
@@ -43,7 +43,7 @@ is_change look stop mention change gone formed at same early bounds none unresta
   unrestarted = subst (λ s. RestartsNone look.run.trace.now.recording.past s stop.t change) same unrestarted;
 }
 
-module _ (look : Look) (stop : Stop) (mention change : ℕ) (is : IsChange look stop mention change) where
+module _ (look : Look) (stop : LookPosition) (mention change : ℕ) (is : IsChange look stop mention change) where
   abbrev pub past : List Entry
   past = look.run.trace.now.recording.past
 
@@ -113,7 +113,7 @@ module _ (look : Look) (stop : Stop) (mention change : ℕ) (is : IsChange look 
           (holds_until n past is.formed look.det stop.t change within unmentioned stop.cover.down stop.cover.holders is.unrestarted is.at.down is.at.holders change is.up (omega arith) fell fallen))
 
       -- the look goes on after it
-      pub onward_stop : (new : Stop) → new.t ≡ change + 1 → new.ahead ≡ ahead → new.turns ≡ turns → new.cover ≡ cover → StandsBy new.standing look.most look.det.dest.0 look.reached (union cover.down cover.holders) → IsStop look new
+      pub onward_stop : (new : LookPosition) → new.t ≡ change + 1 → new.ahead ≡ ahead → new.turns ≡ turns → new.cover ≡ cover → StandsBy new.standing look.most look.det.dest.0 look.reached (union cover.down cover.holders) → IsLookPosition look new
       onward_stop new t_is ahead_is turns_is cover_is stands = record {
         within = omega (arith, t_is, below);
         mentions = subst (λ x. IsCursor look.mentions.now new.t x) (sym ahead_is) (cursor_later look.mentions.now stop.t new.t ahead (omega (arith, t_is, is.up)) (cursor look.mentions.now is.at.mentions));

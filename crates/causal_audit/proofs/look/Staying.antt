@@ -13,7 +13,7 @@ use Rattle.causal_audit.specs.Inside.ByClock.Changes.{HasNoneUntil, AreMentionsO
 use Rattle.std.specs.FinSet.{is_subset-contains}
 use Rattle.causal_audit.specs.Inside.Index.Reached.{HasReached}
 use Rattle.causal_audit.specs.Inside.Index.Spreads.{process_at}
-use Rattle.causal_audit.specs.Inside.Sights.{Shows}
+use Rattle.causal_audit.specs.Inside.DeliveryStates.{Shows}
 use Rattle.causal_audit.specs.declared.look.thin.Standing.{Standing}
 use Rattle.causal_audit.specs.declared.look.thin.Standing.TheVariants.{Kept, Thin, Bare}
 use Rattle.causal_audit.proofs.Shown.{down_inside, logs_inside}

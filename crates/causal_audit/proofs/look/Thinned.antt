@@ -2,8 +2,8 @@
 use Rattle.causal_audit.proofs.Common.{ℕ, ◌≡◌, ◌-◌, ◌<◌, ◌≤◌, inl, inr, List, [], ◌∷◌, ◌++◌, length, get_or, sym, subst, arith, ◌⊎◌, min, All, IsPartitionPoint, cases_lt, get_or_default, All-push, All-weaker, Contains-append_left, Contains-push, IsNonDecreasingBy-push, Det, Entry}
 use Rattle.causal_audit.specs.declared.look.Look.{Look}
 use Rattle.causal_audit.specs.declared.look.thin.Stretch.{Stretch}
-use Rattle.causal_audit.specs.declared.look.thins.Thins.{Thins}
-use Rattle.causal_audit.specs.Inside.Look.Looks.{IsPassed, IsBareAt, IsThinAt, AreFound, AreRising, AreThins, IsInOne}
+use Rattle.causal_audit.specs.declared.look.thin_stretches.ThinStretches.{ThinStretches}
+use Rattle.causal_audit.specs.Inside.Look.Looks.{IsPassed, IsBareAt, IsThinAt, AreFound, AreRising, AreThinStretches, IsInOne}
 
 -- where nothing is looked at nothing is found
 pub none_rising : AreRising []
@@ -11,7 +11,7 @@ none_rising = record { firsts = λ i j d low high. absurd (omega (arith, high));
 
 -- ---- one stretch more
 
-module _ (look : Look) (t next : ℕ) (s : Stretch) (passed : IsPassed look t next s) (old new : Thins) (same : new.from ≡ old.from) (found : AreFound look t old) where
+module _ (look : Look) (t next : ℕ) (s : Stretch) (passed : IsPassed look t next s) (old new : ThinStretches) (same : new.from ≡ old.from) (found : AreFound look t old) where
   abbrev n : ℕ
   n = look.run.trace.now.recording.processes
 

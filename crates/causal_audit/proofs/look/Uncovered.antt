@@ -1,7 +1,7 @@
 -- What a survey gathers: one delivery more, and what all together tell.
 use Rattle.causal_audit.proofs.Common.{ℕ, ◌≡◌, ◌+◌, ◌<◌, ◌≤◌, inl, inr, List, [], ◌∷◌, ◌++◌, length, get_or, Some, sym, subst, arith, length-append, ◌⊎◌, Contains, All, IsStrictlyIncreasing, get_or-append, get_or-append_seam, cases_lt, All-push, All-weaker, Contains-append_left, Contains-push, Det, det_at, instant, Recording, instant_length}
 use Rattle.causal_audit.specs.Inside.Among.{HasNoOrphanBy}
-use Rattle.causal_audit.specs.Inside.Group.Scans.{IsDeliveryAt, AreUncovered}
+use Rattle.causal_audit.specs.Inside.Group.OpenDeliveries.{IsDeliveryAt, AreUncovered}
 use Rattle.causal_audit.proofs.Orphaned.{not_yet}
 
 -- a list ascends with one more number that is above all of its

@@ -7,10 +7,10 @@ ghost use Rattle.causal_audit.specs.Inside.ByClock.Changes.{AreMentionsOf, Chang
 ghost use Rattle.causal_audit.specs.Inside.ByClock.Stands.{Stands};
 
 use crate::breach::Breach;
+use crate::delivery_state::{DeliveryState, breach_at};
+use crate::index::crashes_and_restarts::is_turn;
 use crate::index::cursor::Cursor;
 use crate::index::spreads::acting;
-use crate::index::turns::is_turn;
-use crate::sight::{Sight, breach_at};
 use causal_clock::Clocks;
 use causal_holders::Holders;
 use causal_name::Det;
@@ -19,10 +19,10 @@ use causal_trace::trace::Trace;
 
 /// Whether an entry may change what is known of a delivery. The entry mentions the determinant or not, and the delivery reaches it
 /// or not.
-fn is_change(sight: &Sight, entry: &Entry, mentioned: bool, reached: bool) -> bool
-    ensures { result ≡ false → ChangesNothing entry.now mentioned reached sight.now.dependents }
+fn is_change(state: &DeliveryState, entry: &Entry, mentioned: bool, reached: bool) -> bool
+    ensures { result ≡ false → ChangesNothing entry.now mentioned reached state.now.dependents }
 {
-    is_turn(entry) || mentioned || (reached && !sight.dependents.contains(acting(entry)))
+    is_turn(entry) || mentioned || (reached && !state.dependents.contains(acting(entry)))
 }
 
 /// How the delivery at position k, whose determinant has these mentions, first has an orphan, if it has one by the instant
@@ -46,16 +46,16 @@ pub fn first_orphan(
 {
     let entries = trace.entries();
     let mut ahead = Cursor::at(mentions, 0);
-    let mut sight = Sight::begin(Holders::none());
+    let mut state = DeliveryState::begin(Holders::none());
     for t in 0..end {
         let entry = &entries[t as usize];
         let mentioned = ahead.next(t, end) == t;
         let reached = clocks.precedes(k, t);
-        if !is_change(&sight, entry, mentioned, reached) {
+        if !is_change(&state, entry, mentioned, reached) {
             continue;
         }
-        sight.see(entry, mentioned, reached);
-        if let Some(found) = breach_at(&sight, f, k, t + 1) {
+        state.see(entry, mentioned, reached);
+        if let Some(found) = breach_at(&state, f, k, t + 1) {
             return Some(found);
         }
     }

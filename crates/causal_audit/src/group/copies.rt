@@ -4,9 +4,9 @@ ghost use Rattle.std.specs.FinSet as set;
 ghost use Rattle.causal_audit.specs.Quiet.{is_turn};
 ghost use Rattle.causal_audit.specs.Inside.Group.Walk.{AreCopiesAfter, copies_at, no_copies};
 
+use crate::delivery_state::stable_after;
 use crate::holding::holders_after;
-use crate::index::turns::is_turn;
-use crate::sight::stable_after;
+use crate::index::crashes_and_restarts::is_turn;
 use causal_holders::Holders;
 use causal_trace::entry::Entry;
 

@@ -8,7 +8,7 @@ ghost use Rattle.causal_trace.specs.Past.{message_sent};
 ghost use Rattle.causal_audit.specs.Inside.Group.Walk.{AreBelow, AreMarked, HaveMarked, IsUntouchedBefore, IsMarked, IsTold, row};
 
 use crate::group::reach::put;
-use crate::group::scan::{Scan, Window};
+use crate::group::run_to_follow::{OpenDelivery, RunToFollow};
 use causal_holders::Holders;
 use causal_trace::entry::Entry;
 
@@ -52,60 +52,60 @@ fn first_in(positions: &[u32], bound: u32) -> u32
     }
 }
 
-impl Scan<'_> {
+impl RunToFollow<'_> {
     /// The position of a delivery, or the first at which its determinant is mentioned, or a bound, if that is less.
-    fn first_touched(&self, window: Window, bound: u32) -> u32
+    fn first_touched(&self, delivery: OpenDelivery, bound: u32) -> u32
         requires { bound ≤ self.now.end }
         ensures bound { result ≤ bound }
-        ensures first { IsUntouchedBefore self.now.run.past result window }
+        ensures first { IsUntouchedBefore self.now.run.past result delivery }
     {
-        let first = bound.min(window.position);
-        let Some(det) = self.outline.trace.det_at(window.position) else {
+        let first = bound.min(delivery.position);
+        let Some(det) = self.outline.trace.det_at(delivery.position) else {
             return first;
         };
         first_in(self.mentions.list(det), first)
     }
 
     /// The first of the deliveries of a group and of the mentions of their determinants, or a bound, if that is less.
-    pub fn start_of(&self, windows: &[Window], bound: u32) -> u32
+    pub fn start_of(&self, opened: &[OpenDelivery], bound: u32) -> u32
         requires { bound ≤ self.now.end }
         ensures bound { result ≤ bound }
-        ensures first { All (IsUntouchedBefore self.now.run.past result) windows.now }
+        ensures first { All (IsUntouchedBefore self.now.run.past result) opened.now }
     {
         let mut first = bound;
-        for window in windows {
-            first = self.first_touched(*window, first);
+        for delivery in opened {
+            first = self.first_touched(*delivery, first);
         }
         first
     }
 
     /// Puts a place into the rows of the entries that mention the determinant of its delivery.
-    fn mark_window(&self, rows: &mut Vec<Holders>, place: u8, window: Window)
+    fn mark_delivery(&self, rows: &mut Vec<Holders>, place: u8, delivery: OpenDelivery)
         requires within { length rows.old.items ≤ self.now.end }
         requires fresh { AreBelow self.now.run.past (length rows.old.items) place rows.old.items }
         ensures count { length rows.new.items ≡ length rows.old.items }
         ensures room { vec_capacity rows.new ≡ vec_capacity rows.old }
         ensures others { (i j : ℕ) → i < length rows.old.items → (j ≡ place → ⊥) →
             (set.contains (row rows.new.items i) j ≡ true) ↔ (set.contains (row rows.old.items i) j ≡ true) }
-        ensures marked { IsMarked self.now.run.past 0 place window rows.new.items }
+        ensures marked { IsMarked self.now.run.past 0 place delivery rows.new.items }
     {
-        if let Some(det) = self.outline.trace.det_at(window.position) {
+        if let Some(det) = self.outline.trace.det_at(delivery.position) {
             mark(rows, place, self.mentions.list(det));
         }
     }
 
     /// Puts the place of each delivery of a group into the rows of the entries that mention its determinant.
-    pub fn mark_all(&self, rows: &mut Vec<Holders>, windows: &[Window])
-        requires few { length windows.now ≤ 256 }
+    pub fn mark_all(&self, rows: &mut Vec<Holders>, opened: &[OpenDelivery])
+        requires few { length opened.now ≤ 256 }
         requires within { length rows.old.items ≤ self.now.end }
         requires none { AreBelow self.now.run.past (length rows.old.items) 0 rows.old.items }
         ensures count { length rows.new.items ≡ length rows.old.items }
         ensures room { vec_capacity rows.new ≡ vec_capacity rows.old }
-        ensures marked { AreMarked self.now.run.past 0 windows.now (length windows.now) rows.new.items }
-        ensures below { AreBelow self.now.run.past (length rows.old.items) (length windows.now) rows.new.items }
+        ensures marked { AreMarked self.now.run.past 0 opened.now (length opened.now) rows.new.items }
+        ensures below { AreBelow self.now.run.past (length rows.old.items) (length opened.now) rows.new.items }
     {
-        for (place, window) in windows.iter().enumerate() {
-            self.mark_window(rows, place as u8, *window);
+        for (place, delivery) in opened.iter().enumerate() {
+            self.mark_delivery(rows, place as u8, *delivery);
         }
     }
 }

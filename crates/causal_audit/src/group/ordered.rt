@@ -1,7 +1,7 @@
 //! In which order deliveries are followed: those that are open until the same instant side by side.
 ghost use Rattle.std.specs.Prelude.{IsPermutation};
 
-use crate::group::scan::Window;
+use crate::group::run_to_follow::OpenDelivery;
 use crate::index::mentions::Mentions;
 use causal_name::NoMemory;
 use causal_trace::trace::Trace;
@@ -17,7 +17,7 @@ fn place_of(trace: &Trace, mentions: &Mentions, position: u32) -> usize {
     }
 }
 
-/// Puts the windows in the order of their ends, so that a few long ones do not make the walks of all groups long. Those with one
+/// Puts the deliveries in the order of their ends, so that a few long ones do not make the walks of all groups long. Those with one
 /// end stand by their determinants: first those that nothing mentions, then in the order in which they are first mentioned. A
 /// group then has few determinants, and a mention is passed by few groups.
 ///
@@ -26,12 +26,12 @@ fn place_of(trace: &Trace, mentions: &Mentions, position: u32) -> usize {
 pub fn put_in_order(
     trace: &Trace,
     mentions: &Mentions,
-    windows: &mut Vec<Window>,
+    opened: &mut Vec<OpenDelivery>,
 ) -> Result<(), NoMemory>
-    ensures { IsPermutation windows.old.items windows.new.items }
+    ensures { IsPermutation opened.old.items opened.new.items }
 {
-    windows.sort_by_cached_key(|window: &Window| {
-        (window.until, place_of(trace, mentions, window.position))
+    opened.sort_by_cached_key(|delivery: &OpenDelivery| {
+        (delivery.until, place_of(trace, mentions, delivery.position))
     })?;
     Ok(())
 }

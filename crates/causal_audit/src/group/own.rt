@@ -1,35 +1,38 @@
 //! Where the deliveries of a group stand.
 ghost use Rattle.std.specs.Prelude.{◌+◌, ◌≤◌, IsPermutation, length};
-ghost use Rattle.causal_audit.specs.Inside.Group.Scans.{AreInOrder};
+ghost use Rattle.causal_audit.specs.Inside.Group.OpenDeliveries.{AreInOrder};
 ghost use Rattle.causal_audit.specs.Inside.Group.Walk.{ArePassed, IsOwn};
 
-use crate::group::scan::Window;
+use crate::group::run_to_follow::OpenDelivery;
 use crate::group::walk::GROUP;
 use causal_holders::Holders;
 
-/// Puts the windows of a group into this table, by their positions.
-pub fn by_position<'a>(table: &'a mut [Window; GROUP], windows: &[Window]) -> &'a [Window]
-    requires { length windows.now ≤ 256 }
-    ensures same { IsPermutation windows.now result.now }
+/// Puts the deliveries of a group into this table, by their positions.
+pub fn by_position<'a>(
+    table: &'a mut [OpenDelivery; GROUP],
+    opened: &[OpenDelivery],
+) -> &'a [OpenDelivery]
+    requires { length opened.now ≤ 256 }
+    ensures same { IsPermutation opened.now result.now }
     ensures order { AreInOrder result.now }
 {
-    let sorted = &mut table[..windows.len()];
-    sorted.copy_from_slice(windows);
-    sorted.sort_unstable_by_key(|window: &Window| window.position);
+    let sorted = &mut table[..opened.len()];
+    sorted.copy_from_slice(opened);
+    sorted.sort_unstable_by_key(|delivery: &OpenDelivery| delivery.position);
     sorted
 }
 
 /// The places of the deliveries at position t of a group that ascends, of which so many have been passed; passes them too.
-pub fn own_at(windows: &[Window], passed: &mut usize, t: u32) -> Holders
-    requires few { length windows.now ≤ 256 }
-    requires order { AreInOrder windows.now }
-    requires passed { ArePassed windows.now t passed.old }
-    ensures passed { ArePassed windows.now (t + 1) passed.new }
-    ensures own { IsOwn windows.now t result }
+pub fn own_at(opened: &[OpenDelivery], passed: &mut usize, t: u32) -> Holders
+    requires few { length opened.now ≤ 256 }
+    requires order { AreInOrder opened.now }
+    requires passed { ArePassed opened.now t passed.old }
+    ensures passed { ArePassed opened.now (t + 1) passed.new }
+    ensures own { IsOwn opened.now t result }
 {
     let mut own = Holders::none();
-    while let Some(window) = windows.get(*passed) {
-        if window.position > t {
+    while let Some(delivery) = opened.get(*passed) {
+        if delivery.position > t {
             return own;
         }
         own.insert(*passed as u8);

@@ -13,7 +13,7 @@ use std::alloc::Global;
 /// present lane depends, and a row for each entry of the run. That of a send which the walk has read tells which of them reach it.
 /// That of an entry which is still to be read, and no send, tells whose determinants it mentions.
 #[derive(Drop)]
-pub struct Reach {
+pub struct ReachingDeliveries {
     pub start: u32,
     pub rows: Vec<Holders>,
     pub present: Vec<Holders>,
@@ -62,15 +62,15 @@ fn make_so_many(rows: &mut Vec<Holders>, many: usize)
     }
 }
 
-impl Reach {
-    /// Room for walks over so many entries.
+impl ReachingDeliveries {
+    /// WalkBuffers for walks over so many entries.
     ///
     /// # Errors
     /// `NoMemory` where memory was refused.
-    pub fn new(alloc: Global, entries: u32) -> Result<Reach, NoMemory>
+    pub fn new(alloc: Global, entries: u32) -> Result<ReachingDeliveries, NoMemory>
         ensures { IfOk result (HasRowRoom entries) }
     {
-        Ok(Reach {
+        Ok(ReachingDeliveries {
             start: 0,
             rows: Vec::with_capacity(alloc, entries as usize)?,
             present: vec![in alloc; Holders::none(); PROCESSES as usize]?,

@@ -2,19 +2,19 @@
 ghost use Rattle.std.specs.Prelude.{◌≤◌, ℕ, length};
 ghost use Rattle.std.specs.List.{All};
 ghost use Rattle.causal_audit.specs.Inside.Among.{LeastAmongBy, horizon};
-ghost use Rattle.causal_audit.specs.Inside.Group.Walk.{AreBelow, HasRoom, HasRowsFor, HaveNone, IsFollowed, IsUntouchedBefore};
-ghost use Rattle.causal_audit.specs.Inside.Group.Scans.{AreInOrder, IsDeliveryAt, IsWindow, positions_of};
+ghost use Rattle.causal_audit.specs.Inside.Group.Walk.{AreBelow, HasBuffers, HasRowsFor, HaveNone, IsFollowed, IsUntouchedBefore};
+ghost use Rattle.causal_audit.specs.Inside.Group.OpenDeliveries.{AreInOrder, IsDeliveryAt, IsOpenDelivery, positions_of};
 
 use crate::breach::{Breach, earlier, horizon};
+use crate::delivery_state::down_after;
+use crate::group::buffers::{WalkBuffers, places_of};
 use crate::group::copies::{renew, touched};
 use crate::group::held::{held_by, hold};
 use crate::group::judged::judge;
 use crate::group::marks::take;
 use crate::group::own::{by_position, own_at};
-use crate::group::room::{Room, places_of};
-use crate::group::scan::{NO_WINDOW, Scan, Window, last_of};
+use crate::group::run_to_follow::{NO_DELIVERY, OpenDelivery, RunToFollow, last_of};
 use crate::group::suspects::Step;
-use crate::sight::down_after;
 use causal_trace::trace::Trace;
 
 /// How many deliveries are followed by one walk.
@@ -27,30 +27,30 @@ fn follow(
     f: u16,
     start: u32,
     end: u32,
-    windows: &[Window],
-    room: &mut Room,
+    opened: &[OpenDelivery],
+    room: &mut WalkBuffers,
 ) -> Option<Breach>
-    requires few { length windows.now ≤ 256 }
+    requires few { length opened.now ≤ 256 }
     requires ordered { start ≤ end }
     requires within { end ≤ length trace.now.recording.past }
-    requires deliveries { All (λ window. IsDeliveryAt trace.now.recording.past window.position) windows.now }
-    requires windows { All (IsWindow trace.now.recording f end) windows.now }
+    requires deliveries { All (λ delivery. IsDeliveryAt trace.now.recording.past delivery.position) opened.now }
+    requires opened { All (IsOpenDelivery trace.now.recording f end) opened.now }
     requires rows { HasRowsFor start end room.old }
-    requires begun { IsFollowed trace.now.recording windows.now start start room.old }
-    requires none { HaveNone trace.now.recording f windows.now start }
-    requires order { AreInOrder windows.now }
-    requires untouched { All (IsUntouchedBefore trace.now.recording.past start) windows.now }
-    ensures room { (entries : ℕ) → HasRoom entries room.old → HasRoom entries room.new }
+    requires begun { IsFollowed trace.now.recording opened.now start start room.old }
+    requires none { HaveNone trace.now.recording f opened.now start }
+    requires order { AreInOrder opened.now }
+    requires untouched { All (IsUntouchedBefore trace.now.recording.past start) opened.now }
+    ensures room { (entries : ℕ) → HasBuffers entries room.old → HasBuffers entries room.new }
     ensures emptied { (to : ℕ) → AreBelow trace.now.recording.past (horizon to result) 0 room.new.reach.rows.items }
-    ensures found { LeastAmongBy trace.now.recording f end (positions_of windows.now) result }
+    ensures found { LeastAmongBy trace.now.recording f end (positions_of opened.now) result }
 {
     let entries = trace.entries();
-    let all = places_of(windows);
+    let all = places_of(opened);
     let mut asked = all;
     let mut passed = 0;
     for t in start..end {
         let entry = &entries[t as usize];
-        let own = own_at(windows, &mut passed, t);
+        let own = own_at(opened, &mut passed, t);
         let mentioned = take(&mut room.reach.rows, entry, t);
         let newly = room.reach.see(entry, t, own);
         let step = Step {
@@ -64,36 +64,42 @@ fn follow(
         renew(&mut room.copies, entry, mentioned, places);
         hold(&mut room.held, entry, mentioned);
         room.down = down_after(room.down, entry);
-        if let Some(found) = judge(&*room, trace, f, windows, &step, &mut asked) {
+        if let Some(found) = judge(&*room, trace, f, opened, &step, &mut asked) {
             return Some(found);
         }
     }
     None
 }
 
-impl Scan<'_> {
+impl RunToFollow<'_> {
     /// The least breach of the deliveries of a group, if it comes by the instant `end`: a walk from the first of them, or an
     /// earlier mention of one of their determinants, up to the last instant at which one may have an orphan.
-    fn least_in(&self, f: u16, end: u32, windows: &[Window], room: &mut Room) -> Option<Breach>
+    fn least_in(
+        &self,
+        f: u16,
+        end: u32,
+        opened: &[OpenDelivery],
+        room: &mut WalkBuffers,
+    ) -> Option<Breach>
         requires within { end ≤ self.now.end }
-        requires few { length windows.now ≤ 256 }
-        requires deliveries { All (λ window. IsDeliveryAt self.now.run.past window.position) windows.now }
-        requires windows { All (IsWindow self.now.run f end) windows.now }
-        requires room { HasRoom end room.old }
+        requires few { length opened.now ≤ 256 }
+        requires deliveries { All (λ delivery. IsDeliveryAt self.now.run.past delivery.position) opened.now }
+        requires opened { All (IsOpenDelivery self.now.run f end) opened.now }
+        requires room { HasBuffers end room.old }
         requires emptied { AreBelow self.now.run.past end 0 room.old.reach.rows.items }
-        ensures room { (entries : ℕ) → HasRoom entries room.old → HasRoom entries room.new }
+        ensures room { (entries : ℕ) → HasBuffers entries room.old → HasBuffers entries room.new }
         ensures emptied { AreBelow self.now.run.past (horizon end result) 0 room.new.reach.rows.items }
-        ensures found { LeastAmongBy self.now.run f end (positions_of windows.now) result }
+        ensures found { LeastAmongBy self.now.run f end (positions_of opened.now) result }
     {
-        let mut table = [NO_WINDOW; GROUP];
-        let group = by_position(&mut table, windows);
+        let mut table = [NO_DELIVERY; GROUP];
+        let group = by_position(&mut table, opened);
         let last = last_of(group, end);
         let start = self.start_of(group, last);
         self.begin(room, start, last, group);
         follow(self.outline.trace, f, start, last, group, room)
     }
 
-    /// The least breach, by instant and then by position, of the deliveries of these windows, if it comes by the instant
+    /// The least breach, by instant and then by position, of these deliveries, if it comes by the instant
     /// `end`; None where none of them has an orphan by then.
     ///
     /// They are followed in groups of 256: for each the entries are walked once, and no further than a breach that was found.
@@ -103,19 +109,19 @@ impl Scan<'_> {
         &self,
         f: u16,
         end: u32,
-        windows: &[Window],
-        room: &mut Room,
+        opened: &[OpenDelivery],
+        room: &mut WalkBuffers,
     ) -> Option<Breach>
         requires within { end ≤ self.now.end }
-        requires deliveries { All (λ window. IsDeliveryAt self.now.run.past window.position) windows.now }
-        requires windows { All (IsWindow self.now.run f end) windows.now }
-        requires room { HasRoom end room.old }
-        ensures room { (entries : ℕ) → HasRoom entries room.old → HasRoom entries room.new }
-        ensures found { LeastAmongBy self.now.run f end (positions_of windows.now) result }
+        requires deliveries { All (λ delivery. IsDeliveryAt self.now.run.past delivery.position) opened.now }
+        requires opened { All (IsOpenDelivery self.now.run f end) opened.now }
+        requires room { HasBuffers end room.old }
+        ensures room { (entries : ℕ) → HasBuffers entries room.old → HasBuffers entries room.new }
+        ensures found { LeastAmongBy self.now.run f end (positions_of opened.now) result }
     {
         let mut least = None;
         room.reach.forget();
-        for group in windows.chunks(GROUP) {
+        for group in opened.chunks(GROUP) {
             let found = self.least_in(f, horizon(end, &least), group, room);
             least = earlier(least, found);
         }

@@ -54,7 +54,7 @@ impl Mentions {
             return Ok(number);
         }
         let number = self.lists.len();
-        // Room comes first, so that a refusal leaves no determinant without a list.
+        // WalkBuffers comes first, so that a refusal leaves no determinant without a list.
         self.lists.reserve(1)?;
         self.numbers.add(det)?;
         self.lists.push_reserved(Vec::new(alloc));

@@ -4,12 +4,12 @@ ghost use Rattle.std.specs.FinSet as set;
 ghost use Rattle.causal_name.specs.declared.Det.{Det};
 ghost use Rattle.causal_trace.specs.Past.{has};
 ghost use Rattle.causal_audit.specs.Quiet.{mentioned_by};
-ghost use Rattle.causal_audit.specs.Inside.Sights.{ShowsDownAfter, ShowsHoldersAfter};
+ghost use Rattle.causal_audit.specs.Inside.DeliveryStates.{ShowsDownAfter, ShowsHoldersAfter};
 ghost use Rattle.causal_audit.specs.Inside.Look.Looks.{StandsBy};
 
+use crate::delivery_state::down_after;
 use crate::holding::holders_after;
 use crate::look::thin::Standing;
-use crate::sight::down_after;
 use causal_holders::Holders;
 use causal_trace::entry::Entry;
 

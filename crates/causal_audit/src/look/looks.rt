@@ -7,7 +7,7 @@ use crate::index::mentions::Mentions;
 use crate::index::outline::Outline;
 use crate::index::reached::{reached_by, reached_in};
 use crate::look::Look;
-use crate::look::thins::Thins;
+use crate::look::thin_stretches::ThinStretches;
 use causal_name::{Det, NoMemory};
 use std::alloc::Global;
 
@@ -15,7 +15,7 @@ use std::alloc::Global;
 #[derive(Drop)]
 pub struct Looks<'a> {
     pub mentions: &'a Mentions,
-    pub found: Vec<Thins>,
+    pub found: Vec<ThinStretches>,
     ghost each: { length found.items ≡ length mentions.now.numbers },
 }
 
@@ -23,7 +23,7 @@ impl<'a> Looks<'a> {
     ghost use Rattle.causal_audit.specs.Inside.Look.Looks.{AreAllLooks, IsLookOf};
 
     /// What was found of a determinant; None where nothing mentions it.
-    pub fn find(&self, det: Det) -> Option<&Thins>
+    pub fn find(&self, det: Det) -> Option<&ThinStretches>
         ensures { IfSome result (λ thins. IsLookOf self.now det thins.now) }
     {
         match self.mentions.numbers.find(det) {
@@ -57,7 +57,7 @@ impl<'a> Looks<'a> {
                 most,
                 end,
             };
-            found.push(Thins::of(alloc, &look)?)?;
+            found.push(ThinStretches::of(alloc, &look)?)?;
         }
         Ok(Looks { mentions, found })
     }

@@ -5,9 +5,9 @@ ghost use Rattle.causal_trace.specs.Past.{det_at, instant};
 ghost use Rattle.causal_audit.specs.Inside.Among.{HasNoOrphanFrom};
 ghost use Rattle.causal_audit.specs.Inside.Look.Looks.{AreAllLooks};
 ghost use Rattle.causal_audit.specs.Inside.Index.Kept.{AreMentionsKept};
-ghost use Rattle.causal_audit.specs.Inside.Group.Scans.{AreGathered, asked_of};
+ghost use Rattle.causal_audit.specs.Inside.Group.OpenDeliveries.{AreGathered, asked_of};
 
-use crate::group::scan::Window;
+use crate::group::run_to_follow::OpenDelivery;
 use crate::index::by_process::ByProcess;
 use crate::index::mentions::Mentions;
 use crate::index::outline::Outline;
@@ -30,7 +30,7 @@ pub struct Survey<'a, 'r> {
 }
 
 impl<'a, 'r> Model for Survey<'a, 'r> {
-    ghost use Rattle.causal_audit.specs.Inside.Group.Scans.{Asked, IsSurvey};
+    ghost use Rattle.causal_audit.specs.Inside.Group.OpenDeliveries.{Asked, IsSurvey};
 
     ghost Value = { Asked };
 
@@ -42,7 +42,7 @@ impl<'a, 'r> Model for Survey<'a, 'r> {
 impl Survey<'_, '_> {
     /// An instant from which on the delivery at k, whose determinant this is, is seen to be covered up to the end; 0 where it is
     /// so throughout.
-    fn uncovered_until(&self, looks: &Looks<'_>, k: u32, det: Det) -> u32
+    fn delivery_uncovered_until(&self, looks: &Looks<'_>, k: u32, det: Det) -> u32
         requires delivery { det_at self.now.run.past k ≡ Some det }
         requires early { k < self.now.end }
         requires looks { AreAllLooks self.now.run self.now.f self.now.end looks.now }
@@ -55,8 +55,13 @@ impl Survey<'_, '_> {
         thins.uncovered_until(k, self.stays[k as usize], crash, self.end)
     }
 
-    /// Gathers the window of the delivery at position k, if there is one that is not seen to be covered throughout.
-    fn gather(&self, looks: &Looks<'_>, k: u32, gathered: &mut Vec<Window>) -> Result<(), NoMemory>
+    /// Gathers the delivery of the delivery at position k, if there is one that is not seen to be covered throughout.
+    fn gather(
+        &self,
+        looks: &Looks<'_>,
+        k: u32,
+        gathered: &mut Vec<OpenDelivery>,
+    ) -> Result<(), NoMemory>
         requires early { k < self.now.end }
         requires looks { AreAllLooks self.now.run self.now.f self.now.end looks.now }
         ensures { OnOk result
@@ -65,18 +70,18 @@ impl Survey<'_, '_> {
         let Some(det) = self.outline.trace.det_at(k) else {
             return Ok(());
         };
-        let until = self.uncovered_until(looks, k, det);
+        let until = self.delivery_uncovered_until(looks, k, det);
         if until == 0 {
             return Ok(());
         }
-        gathered.push(Window { position: k, until })?;
+        gathered.push(OpenDelivery { position: k, until })?;
         Ok(())
     }
 
-    /// The windows of the deliveries before the end that are not seen to be covered throughout, in order.
-    fn uncovered(&self, alloc: Global, looks: &Looks<'_>) -> Result<Vec<Window>, NoMemory>
+    /// The deliveries before the end that are not seen to be covered throughout, in order.
+    fn uncovered(&self, alloc: Global, looks: &Looks<'_>) -> Result<Vec<OpenDelivery>, NoMemory>
         requires { AreAllLooks self.now.run self.now.f self.now.end looks.now }
-        ensures { IfOk result (λ windows. AreGathered self.now self.now.end windows.items) }
+        ensures { IfOk result (λ opened. AreGathered self.now self.now.end opened.items) }
     {
         let mut gathered = Vec::new(alloc);
         for k in 0..self.end {
@@ -85,30 +90,30 @@ impl Survey<'_, '_> {
         Ok(gathered)
     }
 
-    /// The windows of the deliveries before the end that are not seen to be covered throughout, by one look at each
+    /// The deliveries before the end that are not seen to be covered throughout, by one look at each
     /// determinant.
-    fn windows(&self, alloc: Global) -> Result<Vec<Window>, NoMemory>
-        ensures { IfOk result (λ windows. AreGathered self.now self.now.end windows.items) }
+    fn opened(&self, alloc: Global) -> Result<Vec<OpenDelivery>, NoMemory>
+        ensures { IfOk result (λ opened. AreGathered self.now self.now.end opened.items) }
     {
         let looks = Looks::of(alloc, &self.outline, self.mentions, self.f, self.end)?;
         self.uncovered(alloc, &looks)
     }
 }
 
-/// The windows of the deliveries of a run before the instant `end` that may have an orphan for f by then, in order.
+/// The deliveries of a run before the instant `end` that may have an orphan for f by then, in order.
 ///
 /// # Errors
 /// `NoMemory` where memory was refused.
-pub fn windows_of(
+pub fn open_deliveries_of(
     alloc: Global,
     outline: Outline<'_>,
     mentions: &Mentions,
     f: u16,
     end: u32,
-) -> Result<Vec<Window>, NoMemory>
+) -> Result<Vec<OpenDelivery>, NoMemory>
     requires within { end ≤ length outline.trace.now.recording.past }
     requires mentioned { AreMentionsKept (instant outline.trace.now.recording.past end) mentions.now }
-    ensures { IfOk result (λ windows. AreGathered (asked_of outline.entry.trace.now.recording f end) end windows.items) }
+    ensures { IfOk result (λ opened. AreGathered (asked_of outline.entry.trace.now.recording f end) end opened.items) }
 {
     let entries = outline.trace.entries();
     let crashes = ByProcess::of(alloc, entries, false)?;
@@ -121,5 +126,5 @@ pub fn windows_of(
         f,
         end,
     };
-    survey.windows(alloc)
+    survey.opened(alloc)
 }

@@ -1,5 +1,5 @@
 use Rattle.causal_audit.proofs.Common.{ℕ, List, length, ◌≡◌, ◌+◌, ◌<◌, ◌∷◌, ◌≤◌, arith, sym, subst, count_below, instant, is_down, Entry, Recording, entries_of, accepted_then}
-use Rattle.causal_audit.specs.Inside.Sights.{Shows}
+use Rattle.causal_audit.specs.Inside.DeliveryStates.{Shows}
 use Rattle.causal_audit.proofs.Shown.{down_members}
 use Rattle.causal_audit.proofs.Steps.{how_many, next_state, nobody_down, down_count, few_at_first, up_to_next}
 use Rattle.causal_audit.proofs.excess.first_excess_in.Goals as goal

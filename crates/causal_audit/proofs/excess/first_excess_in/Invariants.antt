@@ -1,5 +1,5 @@
 use Rattle.causal_audit.proofs.Common.{ℕ, ◌≤◌, count_below, instant, is_down}
-use Rattle.causal_audit.specs.Inside.Sights.{Shows}
+use Rattle.causal_audit.specs.Inside.DeliveryStates.{Shows}
 use Rattle.causal_audit.proofs.excess.first_excess_in.Given as goal
 
 -- who is down at this instant, and at most f were at each so far

@@ -27,7 +27,8 @@ abbrev pub HasNoneUntil : List ℕ → ℕ → ℕ → Type 0
 HasNoneUntil list from next = (v : ℕ) → from ≤ v → v < next → Contains list v → ⊥
 
 -- an entry, which mentions the determinant of a delivery or not, and which that reaches or not, changes nothing that is known of
--- it: the entry is no crash and no restart, and no event of a process that newly depends on the delivery
+-- it: it is no crash and no restart, does not mention the determinant, and is no event of a process that newly depends on the
+-- delivery
 pub record ChangesNothing (e : Entry) (mentioned reached : Bool) (dependents : FinSet nat_cmp) : Type 0 where
   pub no_turn : is_turn e ≡ false
   pub unmentioned : mentioned ≡ false

@@ -1,15 +1,15 @@
 -- What is known of the deliveries of a group, by their places, in one walk over the entries.
 use Rattle.std.specs.Prelude.{◌≡◌, ℕ, ◌+◌, ◌<◌, ◌≤◌, ◌↔◌, ◌⊎◌, Bool, true, false, List, ◌∷◌, length, Option, Some, None, slice_index_or, vec_capacity, Contains}
 use Rattle.causal_audit.specs.Inside.Common.{nat_cmp, FinSet, contains, empty, Det, Entry, det_at, has, logs, is_stable, is_down, instant, entry_at, message_sent, Pid, Send, AreAccepted, Recording, IsWellFormed, actor, Reaches, Depends, Deliver, Restart, Forget, max_entries}
-use Rattle.causal_audit.specs.declared.group.reach.Reach.{Reach}
-use Rattle.causal_audit.specs.declared.group.scan.Window.{Window}
+use Rattle.causal_audit.specs.declared.group.reach.ReachingDeliveries.{ReachingDeliveries}
+use Rattle.causal_audit.specs.declared.group.run_to_follow.OpenDelivery.{OpenDelivery}
 use Rattle.causal_audit.specs.Quiet.{mentioned_by}
 use Rattle.causal_audit.specs.Inside.Among.{HasNoOrphanBy}
-use Rattle.causal_audit.specs.Inside.Group.Scans.{IsDeliveryAt}
-use Rattle.causal_audit.specs.Inside.Sights.{BreachAt, Shows}
+use Rattle.causal_audit.specs.Inside.Group.OpenDeliveries.{IsDeliveryAt}
+use Rattle.causal_audit.specs.Inside.DeliveryStates.{BreachAt, Shows}
 use Rattle.causal_audit.specs.Inside.Look.Staying.{MentionsNone}
 use Rattle.causal_audit.specs.declared.breach.Breach.{Breach}
-use Rattle.causal_audit.specs.declared.group.room.Room.{Room}
+use Rattle.causal_audit.specs.declared.group.buffers.WalkBuffers.{WalkBuffers}
 use Rattle.causal_audit.specs.declared.group.suspects.Step.{Step}
 use Rattle.causal_audit.specs.declared.group.copies.Copies.{Copies}
 
@@ -17,13 +17,13 @@ use Rattle.causal_audit.specs.declared.group.copies.Copies.{Copies}
 abbrev pub row : List (FinSet nat_cmp) → ℕ → FinSet nat_cmp
 row rows i = slice_index_or rows i empty
 
--- the window at a place; where there is none, one that is over before the first instant
-abbrev pub window_at : List Window → ℕ → Window
-window_at windows j = slice_index_or windows j (record { position = 0; until = 0 })
+-- the delivery at a place; where there is none, one that is over before the first instant
+abbrev pub opened_at : List OpenDelivery → ℕ → OpenDelivery
+opened_at opened j = slice_index_or opened j (record { position = 0; until = 0 })
 
 -- the position of the delivery at a place
-abbrev pub position_at : List Window → ℕ → ℕ
-position_at windows j = (window_at windows j).position
+abbrev pub position_at : List OpenDelivery → ℕ → ℕ
+position_at opened j = (opened_at opened j).position
 
 -- the walk begins at `start`, no later than at the delivery at k, whose place is j: the rows of the sends so far tell which of
 -- them it reaches, and those of the processes whose present lane depends on it
@@ -33,7 +33,7 @@ pub record TellRows (past : List Entry) (start k j : ℕ) (rows present : List (
       → (contains (row rows v) j ≡ true) ↔ Reaches past k v
   pub depends : (p : ℕ) → (contains (row present p) j ≡ true) ↔ Depends past k p
 
-abbrev pub IsReach : List Entry → ℕ → ℕ → Reach → Type 0
+abbrev pub IsReach : List Entry → ℕ → ℕ → ReachingDeliveries → Type 0
 IsReach past k j reach = TellRows past reach.start k j reach.rows.items reach.present.items
 
 -- in the row of the entry at a position, if there is one, the place is in now
@@ -42,33 +42,33 @@ IsPut place position old new =
     (v j : ℕ) → v < length old
     → (contains (row new v) j ≡ true) ↔ ((contains (row old v) j ≡ true) ⊎ ((j ≡ place) × (v ≡ position)))
 
--- the set has just the places of the windows of the delivery at t
-abbrev pub IsOwn : List Window → ℕ → FinSet nat_cmp → Type 0
-IsOwn windows t own = (j : ℕ) → (contains own j ≡ true) ↔ ((j < length windows) × (position_at windows j ≡ t))
+-- the set has just the places of the delivery at t
+abbrev pub IsOwn : List OpenDelivery → ℕ → FinSet nat_cmp → Type 0
+IsOwn opened t own = (j : ℕ) → (contains own j ≡ true) ↔ ((j < length opened) × (position_at opened j ≡ t))
 
--- just those of so many windows are of deliveries before t
-pub record ArePassed (windows : List Window) (t passed : ℕ) : Type 0 where
-  pub inside : passed ≤ length windows
-  pub earlier : (j : ℕ) → j < length windows → (j < passed) ↔ (position_at windows j < t)
+-- just those of so many deliveries come before t
+pub record ArePassed (opened : List OpenDelivery) (t passed : ℕ) : Type 0 where
+  pub inside : passed ≤ length opened
+  pub earlier : (j : ℕ) → j < length opened → (j < passed) ↔ (position_at opened j < t)
 
 -- there is room for the rows of so many entries, and a row for each process
-pub record HasRowRoom (entries : ℕ) (reach : Reach) : Type 0 where
+pub record HasRowRoom (entries : ℕ) (reach : ReachingDeliveries) : Type 0 where
   pub rows : entries ≤ vec_capacity reach.rows
   pub present : length reach.present.items ≡ 256
 
 -- a walk begins at the first of these entries, and there is a row for each entry before its end, and for each process
-pub record HasRows (first end : ℕ) (reach : Reach) : Type 0 where
+pub record HasRows (first end : ℕ) (reach : ReachingDeliveries) : Type 0 where
   pub start : reach.start ≡ first
   pub rows : length reach.rows.items ≡ end
   pub present : length reach.present.items ≡ 256
 
 -- there is a row for the entry at t, and for each process
-pub record HasRowOf (t : ℕ) (reach : Reach) : Type 0 where
+pub record HasRowOf (t : ℕ) (reach : ReachingDeliveries) : Type 0 where
   pub row : t < length reach.rows.items
   pub present : length reach.present.items ≡ 256
 
 -- of the send at v the set tells which of the deliveries reach it
-abbrev pub TellsReached : Reach → ℕ → FinSet nat_cmp → Type 0
+abbrev pub TellsReached : ReachingDeliveries → ℕ → FinSet nat_cmp → Type 0
 TellsReached reach v told =
     (n : ℕ) (past : List Entry) (k j : ℕ) (from to : Pid) (ssn : ℕ) → AreAccepted n past → IsReach past k j reach
     → entry_at past v ≡ Some (Send from to ssn) → (contains told j ≡ true) ↔ Reaches past k v
@@ -80,7 +80,7 @@ pub record IsNewly (past : List Entry) (e : Entry) (k j : ℕ) (newly : FinSet n
 
 -- with the entry at position t, which is that of the deliveries of its own places, the same is told of each delivery of which it
 -- was told, and which it newly reaches
-abbrev pub SeesReach : Entry → ℕ → FinSet nat_cmp → Reach → Reach → FinSet nat_cmp → Type 0
+abbrev pub SeesReach : Entry → ℕ → FinSet nat_cmp → ReachingDeliveries → ReachingDeliveries → FinSet nat_cmp → Type 0
 SeesReach e t own old new newly =
     (n : ℕ) (past : List Entry) (k j : ℕ) (d : Det) → n ≤ 256 → AreAccepted n (e ∷ past) → length past ≡ t
     → (k ≡ t → det_at (e ∷ past) k ≡ Some d) → (contains own j ≡ true) ↔ (k ≡ t)
@@ -117,9 +117,9 @@ KeepsHeld e mentioned old new =
     → IsHeldSo past j d old → IsHeldSo (e ∷ past) j d new
 
 -- before this position neither the delivery stands nor an entry that mentions its determinant
-pub record IsUntouchedBefore (past : List Entry) (start : ℕ) (window : Window) : Type 0 where
-  pub made : start ≤ window.position
-  pub unmentioned : (d : Det) → det_at past window.position ≡ Some d → MentionsNone past d 0 start
+pub record IsUntouchedBefore (past : List Entry) (start : ℕ) (delivery : OpenDelivery) : Type 0 where
+  pub made : start ≤ delivery.position
+  pub unmentioned : (d : Det) → det_at past delivery.position ≡ Some d → MentionsNone past d 0 start
 
 -- in the rows of the entries at these positions, if there are such, the place is in now
 abbrev pub HaveMarked : ℕ → List ℕ → List (FinSet nat_cmp) → List (FinSet nat_cmp) → Type 0
@@ -127,15 +127,15 @@ HaveMarked place positions old new =
     (v j : ℕ) → v < length old
     → (contains (row new v) j ≡ true) ↔ ((contains (row old v) j ≡ true) ⊎ ((j ≡ place) × Contains positions v))
 
--- from an instant on the row of each entry that is no send has the place where it mentions the determinant of the window's delivery
-abbrev pub IsMarked : List Entry → ℕ → ℕ → Window → List (FinSet nat_cmp) → Type 0
-IsMarked past t place window rows =
-    (v : ℕ) (d : Det) (e : Entry) → t ≤ v → v < length rows → det_at past window.position ≡ Some d → entry_at past v ≡ Some e
+-- from an instant on the row of each entry that is no send has the place where it mentions the determinant of the delivery's delivery
+abbrev pub IsMarked : List Entry → ℕ → ℕ → OpenDelivery → List (FinSet nat_cmp) → Type 0
+IsMarked past t place delivery rows =
+    (v : ℕ) (d : Det) (e : Entry) → t ≤ v → v < length rows → det_at past delivery.position ≡ Some d → entry_at past v ≡ Some e
     → message_sent e ≡ None → contains (row rows v) place ≡ has (mentioned_by e) d
 
 -- and so it is for the first `count` places
-abbrev pub AreMarked : List Entry → ℕ → List Window → ℕ → List (FinSet nat_cmp) → Type 0
-AreMarked past t windows count rows = (j : ℕ) → j < count → IsMarked past t j (window_at windows j) rows
+abbrev pub AreMarked : List Entry → ℕ → List OpenDelivery → ℕ → List (FinSet nat_cmp) → Type 0
+AreMarked past t opened count rows = (j : ℕ) → j < count → IsMarked past t j (opened_at opened j) rows
 
 -- these are the copies of the determinant d
 pub record AreCopies (past : List Entry) (d : Det) (copies : Copies) : Type 0 where
@@ -156,9 +156,9 @@ abbrev pub copies_at : List Copies → ℕ → Copies
 copies_at copies j = slice_index_or copies j no_copies
 
 -- at each place there are the copies of its delivery's determinant at the instant t
-abbrev pub AreCopied : Recording → List Window → ℕ → List Copies → Type 0
-AreCopied r windows t copies =
-    (j : ℕ) (d : Det) → j < length windows → det_at r.past (position_at windows j) ≡ Some d → AreCopies (instant r.past t) d (copies_at copies j)
+abbrev pub AreCopied : Recording → List OpenDelivery → ℕ → List Copies → Type 0
+AreCopied r opened t copies =
+    (j : ℕ) (d : Det) → j < length opened → det_at r.past (position_at opened j) ≡ Some d → AreCopies (instant r.past t) d (copies_at copies j)
 
 -- one of n processes depends on the place, and is not known to hold its determinant
 abbrev pub IsLacked : List (FinSet nat_cmp) → List (FinSet nat_cmp) → ℕ → ℕ → Type 0
@@ -172,66 +172,66 @@ IsSuspected (Restart who listed) newly mentioned present held n j = (contains me
 IsSuspected (Forget who listed) newly mentioned present held n j = (contains mentioned j ≡ true) × IsLacked present held n j
 IsSuspected _ newly mentioned present held n j = ⊥
 
--- the entry of a step is that at its position; each window is of a delivery, of which it is told whether it newly reaches the
+-- the entry of a step is that at its position; each delivery is of a delivery, of which it is told whether it newly reaches the
 -- entry's process, and whether the entry mentions its determinant
-pub record IsStep (r : Recording) (windows : List Window) (s : Step) : Type 0 where
+pub record IsStep (r : Recording) (opened : List OpenDelivery) (s : Step) : Type 0 where
   pub formed : IsWellFormed r
   pub short : length r.past ≤ max_entries
   pub below : s.t < length r.past
   pub next : instant r.past (s.t + 1) ≡ s.entry.now ∷ instant r.past s.t
-  pub made : (j : ℕ) → j < length windows → IsDeliveryAt r.past (position_at windows j)
-  pub newly : (j : ℕ) (d : Det) → j < length windows → det_at r.past (position_at windows j) ≡ Some d
-      → IsNewly (instant r.past s.t) s.entry.now (position_at windows j) j s.newly
-  pub mentioned : (j : ℕ) (d : Det) → j < length windows → det_at r.past (position_at windows j) ≡ Some d
+  pub made : (j : ℕ) → j < length opened → IsDeliveryAt r.past (position_at opened j)
+  pub newly : (j : ℕ) (d : Det) → j < length opened → det_at r.past (position_at opened j) ≡ Some d
+      → IsNewly (instant r.past s.t) s.entry.now (position_at opened j) j s.newly
+  pub mentioned : (j : ℕ) (d : Det) → j < length opened → det_at r.past (position_at opened j) ≡ Some d
       → contains s.mentioned j ≡ has (mentioned_by s.entry.now) d
 
 -- each process whose row has the place of a delivery logs its determinant at the instant t
-abbrev pub AreHeld : Recording → List Window → ℕ → List (FinSet nat_cmp) → Type 0
-AreHeld r windows t rows =
-    (j : ℕ) (d : Det) → j < length windows → det_at r.past (position_at windows j) ≡ Some d → IsHeldSo (instant r.past t) j d rows
+abbrev pub AreHeld : Recording → List OpenDelivery → ℕ → List (FinSet nat_cmp) → Type 0
+AreHeld r opened t rows =
+    (j : ℕ) (d : Det) → j < length opened → det_at r.past (position_at opened j) ≡ Some d → IsHeldSo (instant r.past t) j d rows
 
 -- the entry of a step delivers to a process that logs the determinants of these places
-abbrev pub AreHeldBefore : Recording → List Window → Step → FinSet nat_cmp → Type 0
-AreHeldBefore r windows s places =
-    (j : ℕ) (d : Det) → j < length windows → det_at r.past (position_at windows j) ≡ Some d → contains places j ≡ true
+abbrev pub AreHeldBefore : Recording → List OpenDelivery → Step → FinSet nat_cmp → Type 0
+AreHeldBefore r opened s places =
+    (j : ℕ) (d : Det) → j < length opened → det_at r.past (position_at opened j) ≡ Some d → contains places j ≡ true
     → IsDeliveredTo s.entry.now (instant r.past s.t) d
 
 -- none of the deliveries has an orphan up to an instant
-abbrev pub HaveNone : Recording → ℕ → List Window → ℕ → Type 0
-HaveNone r f windows t = (j : ℕ) → j < length windows → HasNoOrphanBy r f (position_at windows j) t
+abbrev pub HaveNone : Recording → ℕ → List OpenDelivery → ℕ → Type 0
+HaveNone r f opened t = (j : ℕ) → j < length opened → HasNoOrphanBy r f (position_at opened j) t
 
--- the places are of windows, and the other windows are over at the instant t
-pub record AreAsked (windows : List Window) (t : ℕ) (asked : FinSet nat_cmp) : Type 0 where
-  pub places : (j : ℕ) → contains asked j ≡ true → j < length windows
-  pub over : (j : ℕ) → j < length windows → contains asked j ≡ false → (window_at windows j).until ≤ t
+-- the places are of open deliveries, and the others are over at the instant t
+pub record AreAsked (opened : List OpenDelivery) (t : ℕ) (asked : FinSet nat_cmp) : Type 0 where
+  pub places : (j : ℕ) → contains asked j ≡ true → j < length opened
+  pub over : (j : ℕ) → j < length opened → contains asked j ≡ false → (opened_at opened j).until ≤ t
 
 -- the places of a group
-abbrev pub ArePlaces : List Window → FinSet nat_cmp → Type 0
-ArePlaces windows all = (j : ℕ) → (contains all j ≡ true) ↔ (j < length windows)
+abbrev pub ArePlaces : List OpenDelivery → FinSet nat_cmp → Type 0
+ArePlaces opened all = (j : ℕ) → (contains all j ≡ true) ↔ (j < length opened)
 
 -- there is room for walks over so many entries, and at each place for copies
-pub record HasRoom (entries : ℕ) (room : Room) : Type 0 where
+pub record HasBuffers (entries : ℕ) (room : WalkBuffers) : Type 0 where
   pub reach : HasRowRoom entries room.reach
   pub copies : length room.copies.items ≡ 256
 
 -- there is a row for each entry of a walk from `start` up to `end`, and at each place there are copies
-pub record HasRowsFor (start end : ℕ) (room : Room) : Type 0 where
+pub record HasRowsFor (start end : ℕ) (room : WalkBuffers) : Type 0 where
   pub reach : HasRows start end room.reach
   pub copies : length room.copies.items ≡ 256
 
 -- at the instant t of a walk that began at `start`
-pub record IsFollowed (r : Recording) (windows : List Window) (start t : ℕ) (room : Room) : Type 0 where
+pub record IsFollowed (r : Recording) (opened : List OpenDelivery) (start t : ℕ) (room : WalkBuffers) : Type 0 where
   pub start_is : room.reach.start ≡ start
-  pub told : (j : ℕ) (d : Det) → j < length windows → det_at r.past (position_at windows j) ≡ Some d
-      → IsReach (instant r.past t) (position_at windows j) j room.reach
-  pub marked : AreMarked r.past t windows (length windows) room.reach.rows.items
+  pub told : (j : ℕ) (d : Det) → j < length opened → det_at r.past (position_at opened j) ≡ Some d
+      → IsReach (instant r.past t) (position_at opened j) j room.reach
+  pub marked : AreMarked r.past t opened (length opened) room.reach.rows.items
   pub emptied : AreBelow r.past t 0 room.reach.rows.items
-  pub copied : AreCopied r windows t room.copies.items
-  pub held : AreHeld r windows t room.held.items
+  pub copied : AreCopied r opened t room.copies.items
+  pub held : AreHeld r opened t room.held.items
   pub down : Shows room.down (λ p. is_down (instant r.past t) p)
 
 -- how the delivery of a place, which stands at position k, has an orphan at the instant t, where the room is at that
-abbrev pub TellsBreachOf : Room → ℕ → ℕ → ℕ → ℕ → Option Breach → Type 0
+abbrev pub TellsBreachOf : WalkBuffers → ℕ → ℕ → ℕ → ℕ → Option Breach → Type 0
 TellsBreachOf room f k place t found =
     (n : ℕ) (past : List Entry) (d : Det) → AreAccepted n past → length past ≡ t → (k < t → det_at past k ≡ Some d)
     → IsReach past k place room.reach → AreCopies past d (copies_at room.copies.items place) → Shows room.down (λ p. is_down past p)

@@ -4,7 +4,7 @@ use Rattle.causal_audit.specs.Inside.Common.{All, IsNonDecreasing, option_map_or
 use Rattle.std.specs.Global.{Vec}
 use Rattle.causal_audit.specs.Inside.ByClock.Changes.{AreMentionsOf, HasMentions, HasTurns}
 use Rattle.causal_audit.specs.Quiet.{mentioned_by}
-use Rattle.causal_audit.specs.Inside.Sights.{Shows}
+use Rattle.causal_audit.specs.Inside.DeliveryStates.{Shows}
 use Rattle.causal_audit.specs.Spread.{IsCrashOf}
 
 -- a list ascends, and has only numbers below a bound

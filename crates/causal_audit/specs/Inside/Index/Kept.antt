@@ -2,11 +2,11 @@
 use Rattle.std.specs.Prelude.{◌≡◌, ℕ, true, List}
 use Rattle.causal_audit.specs.Inside.Common.{All, Det, Entry}
 use Rattle.causal_audit.specs.declared.index.mentions.Mentions.{Mentions}
-use Rattle.causal_audit.specs.declared.index.turns.Turns.{Turns}
+use Rattle.causal_audit.specs.declared.index.crashes_and_restarts.CrashesAndRestarts.{CrashesAndRestarts}
 use Rattle.causal_audit.specs.Inside.Index.Filed.{AreTurnsOf, Ascends, AreMentions, AreMentionsWith, AreTurns, lists_in, mentions_of}
 
 -- the positions of the crashes and restarts are kept, who is down after each, and the restarts of each process
-pub record AreTurnsKept (past : List Entry) (turns : Turns) : Type 0 where
+pub record AreTurnsKept (past : List Entry) (turns : CrashesAndRestarts) : Type 0 where
   pub turned : AreTurns past turns.positions.items turns.downs.items
   pub restarted : AreTurnsOf true past (lists_in turns.restarts.lists.items)
 

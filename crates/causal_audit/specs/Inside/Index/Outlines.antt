@@ -5,7 +5,7 @@ use Rattle.std.specs.Coded.{Unit-prop, codes}
 use Rattle.std.proofs.Props.{props}
 use Rattle.std.proofs.Common.{sym, subst, ◌∙◌}
 use Rattle.std.proofs.Math.Bool.{Bool-set}
-use Rattle.causal_audit.specs.declared.index.turns.Turns.{Turns}
+use Rattle.causal_audit.specs.declared.index.crashes_and_restarts.CrashesAndRestarts.{CrashesAndRestarts}
 use Rattle.causal_audit.specs.Inside.ByClock.Changes.{AreMentionsOf}
 use Rattle.causal_audit.specs.Inside.Index.Kept.{AreTurnsKept}
 use Rattle.causal_audit.specs.Lasting.{NoneReleasedFrom}
@@ -27,7 +27,7 @@ one_entry o f x y =
     options_set = Prim.hlevel (props, codes)
 
 -- that these are the crashes and restarts of a run
-pub AreTurnsKept-prop : (past : List Entry) (turns : Turns) → IsProp (AreTurnsKept past turns)
+pub AreTurnsKept-prop : (past : List Entry) (turns : CrashesAndRestarts) → IsProp (AreTurnsKept past turns)
 AreTurnsKept-prop past turns = Prim.hlevel (props, one_entry)
 
 -- that a list has positions of entries alone that mention a determinant

@@ -8,11 +8,11 @@ use Rattle.causal_audit.specs.declared.look.thin.Standing.{Standing}
 use Rattle.causal_audit.specs.declared.look.thin.Standing.TheVariants.{Kept, Thin, Bare}
 use Rattle.causal_audit.specs.Inside.ByClock.Changes.{IsCursor}
 use Rattle.causal_audit.specs.Inside.Index.Spreads.{process_at}
-use Rattle.causal_audit.specs.Inside.Sights.{Shows}
+use Rattle.causal_audit.specs.Inside.DeliveryStates.{Shows}
 use Rattle.causal_audit.specs.declared.look.Look.{Look}
-use Rattle.causal_audit.specs.declared.look.Stop.{Stop}
+use Rattle.causal_audit.specs.declared.look.LookPosition.{LookPosition}
 use Rattle.causal_audit.specs.declared.look.thin.Stretch.{Stretch}
-use Rattle.causal_audit.specs.declared.look.thins.Thins.{Thins}
+use Rattle.causal_audit.specs.declared.look.thin_stretches.ThinStretches.{ThinStretches}
 use Rattle.causal_audit.specs.Inside.Index.Filed.{Numbers, number_of}
 use Rattle.causal_audit.specs.declared.look.looks.Looks.{Looks}
 
@@ -42,7 +42,7 @@ StandsBy Thin most receiver reached set = contains set receiver ≡ true
 StandsBy Bare most receiver reached set = Unit {0}
 
 -- a look at d has come to an instant: what is ahead of it, who is down then, who holds d, and how d stands by that
-pub record IsStop (look : Look) (stop : Stop) : Type 0 where
+pub record IsLookPosition (look : Look) (stop : LookPosition) : Type 0 where
   pub within : stop.t ≤ look.end
   pub mentions : IsCursor look.mentions.now stop.t stop.ahead
   pub turns : stop.turns.turns.now ≡ look.run.turns.now
@@ -75,7 +75,7 @@ EndsBy stretches bound last = AreRising stretches → (u : ℕ) → u ≤ bound 
 
 -- of the instants after the first mention and before t, d is thin at none after the last one that was found, and bare only in
 -- the stretches, which ascend up to t
-pub record AreThins (n most : ℕ) (past : List Entry) (d : Det) (t : ℕ) (thins : Thins) : Type 0 where
+pub record AreThinStretches (n most : ℕ) (past : List Entry) (d : Det) (t : ℕ) (thins : ThinStretches) : Type 0 where
   pub last : (u : ℕ) → thins.from < u → u < t → IsThinAt n most past d u → u ≤ thins.last
   pub bare : (u : ℕ) → thins.from < u → u < t → IsBareAt n most past d u → IsInOne thins.bare.items u
   pub bound : thins.last ≤ t
@@ -84,26 +84,26 @@ pub record AreThins (n most : ℕ) (past : List Entry) (d : Det) (t : ℕ) (thin
   pub lasts_below : All (λ (s : Stretch). s.last < t) thins.bare.items
 
 -- this was found by a look that came to the instant t
-abbrev pub AreFound : Look → ℕ → Thins → Type 0
-AreFound look t thins = AreThins look.run.trace.now.recording.processes look.most look.run.trace.now.recording.past look.det t thins
+abbrev pub AreFound : Look → ℕ → ThinStretches → Type 0
+AreFound look t thins = AreThinStretches look.run.trace.now.recording.processes look.most look.run.trace.now.recording.past look.det t thins
 
 -- by what was found, the delivery at k may be uncovered at the instant u: its determinant is thin, and it has left its receiver,
 -- or that has not crashed since, and the determinant is bare
-pub record MayBeOpen (thins : Thins) (k spread crash u : ℕ) : Type 0 where
+pub record MayBeOpen (thins : ThinStretches) (k spread crash u : ℕ) : Type 0 where
   pub made : k < u
   pub thin : u ≤ thins.last
   pub left : (spread < u) ⊎ ((u ≤ crash) × IsInOne thins.bare.items u)
 
 -- for each determinant of a number below m it was found by that number where it is thin up to the instant `end`
-abbrev pub AreLooksBelow : Recording → ℕ → ℕ → Numbers → ℕ → List Thins → Type 0
+abbrev pub AreLooksBelow : Recording → ℕ → ℕ → Numbers → ℕ → List ThinStretches → Type 0
 AreLooksBelow r most end numbers m found =
-    (d : Det) (i : ℕ) (x : Thins) → i < m → number_of numbers d ≡ Some i
-    → AreThins r.processes most r.past d (end + 1) (slice_index_or found i x)
+    (d : Det) (i : ℕ) (x : ThinStretches) → i < m → number_of numbers d ≡ Some i
+    → AreThinStretches r.processes most r.past d (end + 1) (slice_index_or found i x)
 
 -- for each determinant that is mentioned
 pub record AreAllLooks (r : Recording) (most end : ℕ) (looks : Looks) : Type 0 where
   pub found : AreLooksBelow r most end looks.mentions.now.numbers (length looks.found.items) looks.found.items
 
 -- this was found of the determinant
-abbrev pub IsLookOf : Looks → Det → Thins → Type 0
-IsLookOf looks d thins = (r : Recording) (most end : ℕ) → AreAllLooks r most end looks → AreThins r.processes most r.past d (end + 1) thins
+abbrev pub IsLookOf : Looks → Det → ThinStretches → Type 0
+IsLookOf looks d thins = (r : Recording) (most end : ℕ) → AreAllLooks r most end looks → AreThinStretches r.processes most r.past d (end + 1) thins

@@ -1,6 +1,6 @@
 use Rattle.causal_audit.proofs.Common.{◌+◌, ◌<◌, length, Contains, Some, None, refl, sym, subst, arith, instant, is_down, det_within, HasOrphan, instant_length}
-use Rattle.causal_audit.specs.Inside.Sights.{Shows}
-use Rattle.causal_audit.proofs.Between.{none_agrees, sight_agrees}
+use Rattle.causal_audit.specs.Inside.DeliveryStates.{Shows}
+use Rattle.causal_audit.proofs.Between.{none_agrees, state_agrees}
 use Rattle.causal_audit.proofs.by_clock.Begun.{unheard_before}
 use Rattle.causal_audit.proofs.by_clock.Reached.{breach_after, seen_after, unchanged}
 use Rattle.causal_audit.proofs.index.Cursors.{cursor_later}
@@ -16,7 +16,7 @@ loop-t-init c =
     let past = c.args.trace.now.recording.past in
     record {
       ahead = c.at-ahead.ensures;
-      sight = c.begin-sight.ensures (instant past 0) c.args.k c.args.det (subst (λ s. Shows s (λ p. is_down (instant past 0) p)) (sym c.none.ensures) (nobody_down past))
+      state = c.begin-state.ensures (instant past 0) c.args.k c.args.det (subst (λ s. Shows s (λ p. is_down (instant past 0) p)) (sym c.none.ensures) (nobody_down past))
           (unheard_before past c.args.k c.args.det 0 (λ v e above below there. absurd (omega (arith, below))) (omega arith) (omega arith));
       before = λ u h. not_yet c.args.trace.now.recording.processes c.args.f (instant past u) c.args.k (omega (arith, h, instant_length past u (omega (arith, h))));
     }
@@ -30,10 +30,10 @@ loop-t-preserved-then-not-is_change c =
     let below : t < length r.past = omega (arith, c.loop-t-test.true, c.requires.within) in
     let agree =
     unchanged r formed c.entries-entries.result.now c.entries-entries.ensures.value c.args.clocks.now.events c.requires.stands c.args.k c.args.det c.requires.delivery c.args.mentions.now c.requires.mentioned c.requires.only t c.index-entries-t.result c.index-entries-t.is below c.next.result c.next.ensures.bounds.0 (c.next.ensures.none c.args.mentions.now i.ahead) (λ here. subst (Contains c.args.mentions.now) here (c.next.ensures.found c.args.mentions.now i.ahead (omega (arith, here, c.loop-t-test.true)))) c.precedes-reached.result (c.precedes-reached.ensures.0, c.precedes-reached.ensures.1)
-    c.loop-t.sight i.sight (c.if-not-is_change.ensures refl) in
+    c.loop-t.state i.state (c.if-not-is_change.ensures refl) in
     record {
       ahead = cursor_later c.args.mentions.now t (t + 1) c.next.new.self (omega arith) (c.next.ensures.cursor c.args.mentions.now i.ahead);
-      sight = sight_agrees (instant r.past t) (instant r.past (t + 1)) c.args.k c.args.det c.loop-t.sight agree i.sight;
+      state = state_agrees (instant r.past t) (instant r.past (t + 1)) c.args.k c.args.det c.loop-t.state agree i.state;
       before = up_to_next (λ u. HasOrphan r.processes c.args.f (instant r.past u) c.args.k → ⊥) t i.before
           (λ has. i.before t (omega arith) (none_agrees r.processes c.args.f r.past c.args.k c.args.det t (t + 1) c.requires.delivery (omega arith) (omega (arith, below)) agree has));
     }
@@ -47,7 +47,7 @@ returns-in-Some c =
     let below : t < length r.past = omega (arith, c.loop-t-test.true, c.requires.within) in
     let seen =
     seen_after r formed c.entries-entries.result.now c.entries-entries.ensures.value c.args.clocks.now.events c.requires.stands c.args.k c.args.det c.requires.delivery c.args.mentions.now c.requires.mentioned c.requires.only t c.index-entries-t.result c.index-entries-t.is below c.next.result c.next.ensures.bounds.0 (c.next.ensures.none c.args.mentions.now i.ahead) (λ here. subst (Contains c.args.mentions.now) here (c.next.ensures.found c.args.mentions.now i.ahead (omega (arith, here, c.loop-t-test.true)))) c.precedes-reached.result (c.precedes-reached.ensures.0, c.precedes-reached.ensures.1)
-    c.loop-t.sight c.see.new.self i.sight c.see.ensures in
+    c.loop-t.state c.see.new.self i.state c.see.ensures in
     let it = breach_after r formed c.args.f c.args.k c.args.det c.requires.delivery (t + 1) (omega (arith, below)) c.see.new.self (Some c.in-Some.found) seen c.in-Some.ensures in
     (omega (arith, it.0, c.loop-t-test.true), first_breach_is r c.args.f c.args.k t c.in-Some.found below i.before it.0 it.1 it.2)
 
@@ -60,10 +60,10 @@ loop-t-preserved c =
     let below : t < length r.past = omega (arith, c.loop-t-test.true, c.requires.within) in
     let seen =
     seen_after r formed c.entries-entries.result.now c.entries-entries.ensures.value c.args.clocks.now.events c.requires.stands c.args.k c.args.det c.requires.delivery c.args.mentions.now c.requires.mentioned c.requires.only t c.index-entries-t.result c.index-entries-t.is below c.next.result c.next.ensures.bounds.0 (c.next.ensures.none c.args.mentions.now i.ahead) (λ here. subst (Contains c.args.mentions.now) here (c.next.ensures.found c.args.mentions.now i.ahead (omega (arith, here, c.loop-t-test.true)))) c.precedes-reached.result (c.precedes-reached.ensures.0, c.precedes-reached.ensures.1)
-    c.loop-t.sight c.see.new.self i.sight c.see.ensures in
+    c.loop-t.state c.see.new.self i.state c.see.ensures in
     record {
       ahead = cursor_later c.args.mentions.now t (t + 1) c.next.new.self (omega arith) (c.next.ensures.cursor c.args.mentions.now i.ahead);
-      sight = seen;
+      state = seen;
       before = up_to_next (λ u. HasOrphan r.processes c.args.f (instant r.past u) c.args.k → ⊥) t i.before
           (breach_after r formed c.args.f c.args.k c.args.det c.requires.delivery (t + 1) (omega (arith, below)) c.see.new.self None seen c.in_default.ensures);
     }

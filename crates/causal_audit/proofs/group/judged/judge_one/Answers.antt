@@ -1,7 +1,7 @@
 use Rattle.causal_audit.proofs.Common.{ℕ, ◌≡◌, ◌∙◌, ◌<◌, List, Some, length, sym, ap, subst, arith, false≢true, det_at, det_within, get_or, get_or_default, len, logs, Det, Entry, HasOrphan}
 use Rattle.causal_audit.specs.Laws.{IsExposed}
 use Rattle.causal_audit.specs.Inside.Group.Walk.{copies_at, no_copies}
-use Rattle.causal_audit.specs.Inside.Sights.{Shows}
+use Rattle.causal_audit.specs.Inside.DeliveryStates.{Shows}
 use Rattle.causal_audit.specs.declared.group.copies.Copies.{Copies}
 use Rattle.causal_audit.proofs.Lemmas.Judged.{exposed}
 use Rattle.causal_audit.proofs.look.Staying.{gone_many}

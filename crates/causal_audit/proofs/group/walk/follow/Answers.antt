@@ -1,28 +1,28 @@
 use Rattle.causal_audit.proofs.Common.{Vec, Global, FinSet, nat_cmp, vec_capacity, ℕ, ◌≡◌, inl, inr, contains, empty, cases_lt, get_or-eq_default, ◌∙◌, ◌+◌, ◌<◌, length, refl, sym, ap, subst, arith, instant, is_down, HasOrphan}
 use Rattle.causal_audit.specs.Inside.Among.{LeastAmongBy}
-use Rattle.causal_audit.specs.Inside.Group.Scans.{positions_of}
+use Rattle.causal_audit.specs.Inside.Group.OpenDeliveries.{positions_of}
 use Rattle.causal_audit.specs.Inside.Group.Walk.{row, HasRowRoom, HasRows, IsFollowed, IsHeldBy, IsHeldSo}
-use Rattle.causal_audit.specs.declared.group.reach.Reach.{Reach}
+use Rattle.causal_audit.specs.declared.group.reach.ReachingDeliveries.{ReachingDeliveries}
 use Rattle.causal_audit.proofs.group.Reaching.{none_in}
-use Rattle.causal_audit.proofs.group.Windowed.{zero}
-use Rattle.causal_audit.specs.Inside.Sights.{Shows}
-use Rattle.causal_audit.specs.declared.group.room.Room.{Room}
+use Rattle.causal_audit.proofs.group.Opened.{zero}
+use Rattle.causal_audit.specs.Inside.DeliveryStates.{Shows}
+use Rattle.causal_audit.specs.declared.group.buffers.WalkBuffers.{WalkBuffers}
 use Rattle.causal_audit.proofs.group.GroupWalk.{copied_next, emptied_next, marked_next, sees_each, place_of, held_then, is_step, told_after, room_stays, none_of_all}
 use Rattle.causal_audit.proofs.Steps.{next_state, entry_read}
 use Rattle.causal_audit.proofs.group.walk.follow.Goals as goal
 
 -- with other rows, of which there are as many
-abbrev with_rows : Reach → Vec (FinSet nat_cmp) Global → Reach
+abbrev with_rows : ReachingDeliveries → Vec (FinSet nat_cmp) Global → ReachingDeliveries
 with_rows reach rows = record { start = reach.start; rows = rows; present = reach.present }
 
-has_rows : (start end : ℕ) (reach : Reach) (rows : Vec (FinSet nat_cmp) Global) → length rows.items ≡ length reach.rows.items → HasRows start end reach → HasRows start end (with_rows reach rows)
+has_rows : (start end : ℕ) (reach : ReachingDeliveries) (rows : Vec (FinSet nat_cmp) Global) → length rows.items ≡ length reach.rows.items → HasRows start end reach → HasRows start end (with_rows reach rows)
 has_rows start end reach rows count has = record { start = has.start; rows = count ∙ has.rows; present = has.present }
 
-stays : (reach new : Reach) (rows : Vec (FinSet nat_cmp) Global) → vec_capacity rows ≡ vec_capacity reach.rows → ((entries : ℕ) → HasRowRoom entries (with_rows reach rows) → HasRowRoom entries new) → (entries : ℕ) → HasRowRoom entries reach → HasRowRoom entries new
+stays : (reach new : ReachingDeliveries) (rows : Vec (FinSet nat_cmp) Global) → vec_capacity rows ≡ vec_capacity reach.rows → ((entries : ℕ) → HasRowRoom entries (with_rows reach rows) → HasRowRoom entries new) → (entries : ℕ) → HasRowRoom entries reach → HasRowRoom entries new
 stays reach new rows room more entries has = more entries (record { rows = omega (arith, room, has.rows); present = has.present })
 
-pub judge-requires-clause-windows : goal.judge-requires-clause-windows
-judge-requires-clause-windows c k window low u from within = c.requires.windows k window low u from (omega (arith, within, c.loop-t-test.true))
+pub judge-requires-clause-opened : goal.judge-requires-clause-opened
+judge-requires-clause-opened c k delivery low u from within = c.requires.opened k delivery low u from (omega (arith, within, c.loop-t-test.true))
 
 pub judge-requires-clause-present : goal.judge-requires-clause-present
 judge-requires-clause-present c = (c.see-newly.ensures.rows c.args.start c.args.end (has_rows c.args.start c.args.end c.loop-t.room.reach c.take-mentioned.new.rows c.take-mentioned.ensures.count c.loop-t.invariant.rows.reach)).present
@@ -36,8 +36,8 @@ judge-requires-clause-step c =
     let formed = c.entries-entries.ensures.formed in
     let below : t < length r.past = omega (arith, c.loop-t-test.true, c.requires.within) in
     let next = next_state r c.entries-entries.result.now c.entries-entries.ensures.value t x below c.index-entries-t.is in
-    is_step r c.args.windows.now c.args.start c.loop-t.room _ i.followed formed below next
-    (λ j d low at. (sees_each r c.args.windows.now c.args.start c.loop-t.room t x c.own_at-own.result c.see-newly.result i.followed formed below next (with_rows c.loop-t.room.reach c.take-mentioned.new.rows) c.see-newly.new.self (c.take-mentioned.ensures.others, refl, refl) c.own_at-own.ensures.own
+    is_step r c.args.opened.now c.args.start c.loop-t.room _ i.followed formed below next
+    (λ j d low at. (sees_each r c.args.opened.now c.args.start c.loop-t.room t x c.own_at-own.result c.see-newly.result i.followed formed below next (with_rows c.loop-t.room.reach c.take-mentioned.new.rows) c.see-newly.new.self (c.take-mentioned.ensures.others, refl, refl) c.own_at-own.ensures.own
     c.see-newly.ensures.sees j d low at).1)
     c.entries-entries.ensures.few (omega (arith, i.rows.reach.rows, c.loop-t-test.true)) c.take-mentioned.ensures.told
     (entry_read r c.entries-entries.result.now c.entries-entries.ensures.value t x below c.index-entries-t.is) (λ j low. c.requires.deliveries j zero low)
@@ -45,26 +45,26 @@ judge-requires-clause-step c =
 pub judge-requires-clause-followed : goal.judge-requires-clause-followed
 judge-requires-clause-followed c =
     let r = c.args.trace.now.recording in
-    let windows = c.args.windows.now in
+    let opened = c.args.opened.now in
     let t = c.loop-t.t in
     let i = c.loop-t.invariant in
     let x = c.index-entries-t.result in
     let step = judge-requires-clause-step c in
     let rows = c.see-newly.ensures.rows c.args.start c.args.end (has_rows c.args.start c.args.end c.loop-t.room.reach c.take-mentioned.new.rows c.take-mentioned.ensures.count c.loop-t.invariant.rows.reach) in
     let by = subst (λ rows. IsHeldBy x rows c.held_by-held.result) c.deref.ensures.value c.held_by-held.ensures in
-    let room : Room = record { reach = c.see-newly.new.self; held = c.hold.new.held; copies = c.renew.new.copies; down = c.down_after-room.result } in
+    let room : WalkBuffers = record { reach = c.see-newly.new.self; held = c.hold.new.held; copies = c.renew.new.copies; down = c.down_after-room.result } in
     let others : (v : ℕ) → (v ≡ t → ⊥) → row c.see-newly.new.self.rows.items v ≡ row c.loop-t.room.reach.rows.items v = λ v apart. c.see-newly.ensures.others v apart ∙ c.take-mentioned.ensures.others v apart in
-    subst (λ start. IsFollowed r windows start (t + 1) room) (sym rows.start) (record {
+    subst (λ start. IsFollowed r opened start (t + 1) room) (sym rows.start) (record {
       start_is = rows.start;
       told =
-          told_after r windows c.args.start c.loop-t.room t x c.own_at-own.result c.see-newly.result i.followed c.entries-entries.ensures.formed step.below step.next (with_rows c.loop-t.room.reach c.take-mentioned.new.rows) c.see-newly.new.self (c.take-mentioned.ensures.others, refl, refl)
+          told_after r opened c.args.start c.loop-t.room t x c.own_at-own.result c.see-newly.result i.followed c.entries-entries.ensures.formed step.below step.next (with_rows c.loop-t.room.reach c.take-mentioned.new.rows) c.see-newly.new.self (c.take-mentioned.ensures.others, refl, refl)
           c.own_at-own.ensures.own c.see-newly.ensures.sees;
-      marked = marked_next r.past windows t c.loop-t.room.reach.rows.items c.see-newly.new.self.rows.items (rows.rows ∙ sym i.rows.reach.rows) others i.followed.marked;
+      marked = marked_next r.past opened t c.loop-t.room.reach.rows.items c.see-newly.new.self.rows.items (rows.rows ∙ sym i.rows.reach.rows) others i.followed.marked;
       emptied =
           emptied_next r.past t x c.loop-t.room.reach.rows.items c.see-newly.new.self.rows.items (entry_read r c.entries-entries.result.now c.entries-entries.ensures.value t x step.below c.index-entries-t.is) others
           (λ none. ap (λ rows. row rows t) (c.see-newly.ensures.unsent none) ∙ c.take-mentioned.ensures.emptied none) i.followed.emptied;
       copied =
-          copied_next r windows _ step c.places_of-all.result c.held_by-held.result c.touched-places.result c.loop-t.room.copies.items c.renew.new.copies.items c.places_of-all.ensures
+          copied_next r opened _ step c.places_of-all.result c.held_by-held.result c.touched-places.result c.loop-t.room.copies.items c.renew.new.copies.items c.places_of-all.ensures
           (λ j d low at h. held_then x (instant r.past t) c.loop-t.room.held.items c.held_by-held.result j d by (i.followed.held j d low at) h)
           c.touched-places.ensures.quiet c.renew.ensures.others c.renew.ensures.renewed i.followed.copied;
       held = λ j d low at. subst (λ past. IsHeldSo past j d c.hold.new.held.items) (sym step.next) (c.hold.ensures.keeps (instant r.past t) j d (step.mentioned j d low at) (i.followed.held j d low at));
@@ -78,24 +78,24 @@ returns-in-Some-clause-room c entries has =
 pub loop-t-preserved : goal.loop-t-preserved
 loop-t-preserved c =
     let r = c.args.trace.now.recording in
-    let windows = c.args.windows.now in
+    let opened = c.args.opened.now in
     let t = c.loop-t.t in
     let i = c.loop-t.invariant in
     let rows = c.see-newly.ensures.rows c.args.start c.args.end (has_rows c.args.start c.args.end c.loop-t.room.reach c.take-mentioned.new.rows c.take-mentioned.ensures.count c.loop-t.invariant.rows.reach) in
-    let room : Room = record { reach = c.see-newly.new.self; held = c.hold.new.held; copies = c.renew.new.copies; down = c.down_after-room.result } in
+    let room : WalkBuffers = record { reach = c.see-newly.new.self; held = c.hold.new.held; copies = c.renew.new.copies; down = c.down_after-room.result } in
     record {
       room = λ entries has. room_stays c.loop-t.room _ (stays c.loop-t.room.reach c.see-newly.new.self c.take-mentioned.new.rows c.take-mentioned.ensures.room c.see-newly.ensures.room) c.renew.ensures.count entries (i.room entries has);
       rows = record { reach = rows; copies = c.renew.ensures.count ∙ i.rows.copies };
-      followed = subst (λ start. IsFollowed r windows start (t + 1) room) rows.start c.judge.ensures.followed;
+      followed = subst (λ start. IsFollowed r opened start (t + 1) room) rows.start c.judge.ensures.followed;
       asked = c.judge.ensures.asked;
       passed = c.own_at-own.ensures.passed;
-      none = none_of_all r c.args.f (t + 1) windows (subst (LeastAmongBy r c.args.f (t + 1) (positions_of windows)) c.in_default.is c.judge.ensures.found);
+      none = none_of_all r c.args.f (t + 1) opened (subst (LeastAmongBy r c.args.f (t + 1) (positions_of opened)) c.in_default.is c.judge.ensures.found);
     }
 
 pub returns-clause-found : goal.returns-clause-found
 returns-clause-found c k t listed within has =
     let r = c.args.trace.now.recording in
-    let at = place_of c.args.windows.now k listed in
+    let at = place_of c.args.opened.now k listed in
     c.loop-t.invariant.none at.0 at.1 t (omega (arith, within, c.loop-t-test.false)) (subst (HasOrphan r.processes c.args.f (instant r.past t)) (sym at.2) has)
 
 pub returns-clause-emptied : goal.returns-clause-emptied

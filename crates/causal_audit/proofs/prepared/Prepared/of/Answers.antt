@@ -1,18 +1,18 @@
 use Rattle.causal_audit.proofs.Common.{◌≡◌, inl, length, reverse, ap, subst, ◌∙◌, reverse-reverse, All-permutation, Contains-permutation, IsPermutation-map, IsPermutation-sym, past_at, past_whole}
 use Rattle.std.specs.Prelude.{IsPermutation}
 use Rattle.causal_audit.specs.Inside.Index.Kept.{AreMentionsKept, AreTurnsKept}
-use Rattle.causal_audit.specs.Inside.Group.Scans.{IsDeliveryAt, IsPrepared, IsWindow, positions_of}
-use Rattle.causal_audit.specs.declared.group.scan.Window.{Window}
+use Rattle.causal_audit.specs.Inside.Group.OpenDeliveries.{IsDeliveryAt, IsPrepared, IsOpenDelivery, positions_of}
+use Rattle.causal_audit.specs.declared.group.run_to_follow.OpenDelivery.{OpenDelivery}
 use Rattle.causal_audit.specs.Parts.{AreEnough}
 use Rattle.causal_audit.specs.Lasting.{NoneReleasedFrom}
 use Rattle.causal_audit.proofs.AmongLemmas.{among_all, among_wider}
 use Rattle.causal_audit.proofs.look.Uncovered.{any_other}
 use Rattle.causal_audit.proofs.Steps.{begins}
-use Rattle.causal_audit.proofs.group.Windowed.{of_positions}
+use Rattle.causal_audit.proofs.group.Opened.{of_positions}
 use Rattle.causal_audit.proofs.prepared.Prepared.of.Goals as goal
 
-pub windows_of-requires-clause-mentioned : goal.windows_of-requires-clause-mentioned
-windows_of-requires-clause-mentioned c =
+pub open_deliveries_of-requires-clause-mentioned : goal.open_deliveries_of-requires-clause-mentioned
+open_deliveries_of-requires-clause-mentioned c =
     let entries = c.entries-entries.result.now in
     let past = c.args.trace.now.recording.past in
     subst (λ p. AreMentionsKept p c.in_ok-mentions.mentions) (begins c.args.trace.now.recording entries c.entries-entries.ensures.value c.args.end c.requires) c.in_ok-mentions.ensures
@@ -23,18 +23,18 @@ invariant_of-result c =
     let r = c.args.trace.now.recording in
     let past = r.past in
     let whole : past_at entries (length entries) ≡ past = past_whole entries ∙ ap reverse c.entries-entries.ensures.value ∙ reverse-reverse past in
-    let all = c.in_ok-windows.ensures in
-    let gathered = c.in_ok-windows.windows.items in
-    let windows = c.put_in_order.new.windows.items in
+    let all = c.in_ok-opened.ensures in
+    let gathered = c.in_ok-opened.opened.items in
+    let opened = c.put_in_order.new.opened.items in
     let moved = c.put_in_order.ensures in
-    let prepared : IsPrepared r c.args.f c.args.end c.lasting_from-lasting_from.result c.in_ok-turns.turns c.in_ok-mentions.mentions windows = record {
+    let prepared : IsPrepared r c.args.f c.args.end c.lasting_from-lasting_from.result c.in_ok-turns.turns c.in_ok-mentions.mentions opened = record {
       lasting = subst (λ p. NoneReleasedFrom p c.lasting_from-lasting_from.result) whole c.lasting_from-lasting_from.ensures;
       turned = subst (λ p. AreTurnsKept p c.in_ok-turns.turns) whole c.in_ok-turns.ensures;
       mentioned = subst (λ p. AreMentionsKept p c.in_ok-mentions.mentions) (begins r entries c.entries-entries.ensures.value c.args.end c.requires) c.in_ok-mentions.ensures;
       followed = record {
         within = c.requires;
-        deliveries = All-permutation (λ (window : Window). IsDeliveryAt past window.position) gathered windows moved (of_positions (IsDeliveryAt past) gathered all.uncovered.deliveries);
-        none_later = All-permutation (IsWindow r c.args.f c.args.end) gathered windows moved all.none_later;
+        deliveries = All-permutation (λ (delivery : OpenDelivery). IsDeliveryAt past delivery.position) gathered opened moved (of_positions (IsDeliveryAt past) gathered all.uncovered.deliveries);
+        none_later = All-permutation (IsOpenDelivery r c.args.f c.args.end) gathered opened moved all.none_later;
       };
     } in
     rw c.of-run.ensures prepared
@@ -44,14 +44,14 @@ returns-clause-enough c =
     let r = c.args.trace.now.recording in
     let f = c.args.f in
     let end = c.args.end in
-    let gathered = positions_of c.in_ok-windows.windows.items in
-    let positions = positions_of c.put_in_order.new.windows.items in
+    let gathered = positions_of c.in_ok-opened.opened.items in
+    let positions = positions_of c.put_in_order.new.opened.items in
     let moved : IsPermutation gathered positions =
-    IsPermutation-map (λ (window : Window). window.position) c.in_ok-windows.windows.items c.put_in_order.new.windows.items c.put_in_order.ensures in
+    IsPermutation-map (λ (delivery : OpenDelivery). delivery.position) c.in_ok-opened.opened.items c.put_in_order.new.opened.items c.put_in_order.ensures in
     let enough : AreEnough r f end (record { run = r; f = f; end = end; positions = positions }) =
     λ found least.
     among_all r f end gathered found c.entries-entries.ensures.formed.accepted c.requires
-    (any_other r f end gathered c.requires c.in_ok-windows.ensures.uncovered)
+    (any_other r f end gathered c.requires c.in_ok-opened.ensures.uncovered)
     (among_wider r f end positions gathered found (λ k. Contains-permutation positions gathered k (IsPermutation-sym gathered positions moved))
     (λ k listed. inl (Contains-permutation gathered positions k moved listed)) least)
     in

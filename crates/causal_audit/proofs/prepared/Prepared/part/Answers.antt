@@ -1,11 +1,11 @@
 use Rattle.causal_audit.proofs.Common.{ℕ, ◌≡◌, ◌-◌, take, drop, ap, subst, sym, ◌∙◌, arith, take-map, drop-map, All-drop, All-take, Recording}
 use Rattle.causal_audit.specs.Parts.{Followed, part_of}
-use Rattle.causal_audit.specs.declared.group.scan.Window.{Window}
-use Rattle.causal_audit.specs.Inside.Group.Scans.{AreWindows, IsDeliveryAt, IsWindow, positions_of}
+use Rattle.causal_audit.specs.declared.group.run_to_follow.OpenDelivery.{OpenDelivery}
+use Rattle.causal_audit.specs.Inside.Group.OpenDeliveries.{AreOpenDeliveries, IsDeliveryAt, IsOpenDelivery, positions_of}
 use Rattle.causal_audit.proofs.prepared.Prepared.part.Goals as goal
 
-abbrev is_of_delivery : Recording → Window → Type 0
-is_of_delivery r window = IsDeliveryAt r.past window.position
+abbrev is_of_delivery : Recording → OpenDelivery → Type 0
+is_of_delivery r delivery = IsDeliveryAt r.past delivery.position
 
 pub invariant_of-result : goal.invariant_of-result
 invariant_of-result c =
@@ -15,14 +15,14 @@ invariant_of-result c =
     let followed = c.self.invariant.followed in
     let from = c.args.from in
     let many = c.args.to - c.args.from in
-    let windows = s.windows.items in
-    let part : AreWindows r s.f s.end (take many (drop from windows)) = record {
+    let opened = s.opened.items in
+    let part : AreOpenDeliveries r s.f s.end (take many (drop from opened)) = record {
       within = followed.within;
-      deliveries = All-take (is_of_delivery r) many (drop from windows) (All-drop (is_of_delivery r) from windows followed.deliveries);
-      none_later = All-take (IsWindow r s.f s.end) many (drop from windows) (All-drop (IsWindow r s.f s.end) from windows followed.none_later);
+      deliveries = All-take (is_of_delivery r) many (drop from opened) (All-drop (is_of_delivery r) from opened followed.deliveries);
+      none_later = All-take (IsOpenDelivery r s.f s.end) many (drop from opened) (All-drop (IsOpenDelivery r s.f s.end) from opened followed.none_later);
     } in (
-      subst (λ (x : Recording). AreWindows x s.f s.end (take many (drop from c.deref.result.now))) same
-          (subst (λ list. AreWindows r s.f s.end (take many (drop from list))) (sym c.deref.ensures.value) part),
+      subst (λ (x : Recording). AreOpenDeliveries x s.f s.end (take many (drop from c.deref.result.now))) same
+          (subst (λ list. AreOpenDeliveries r s.f s.end (take many (drop from list))) (sym c.deref.ensures.value) part),
       omega arith,
       c.in_ok-room.ensures,
     )
@@ -32,9 +32,9 @@ returns c =
     let s = c.self.inside in
     let from = c.args.from in
     let many = c.args.to - c.args.from in
-    let place : Window → ℕ = λ window. window.position in
-    let cut : positions_of (take many (drop from c.deref.result.now)) ≡ take many (drop from (positions_of s.windows.items)) =
-    ap (λ windows. positions_of (take many (drop from windows))) c.deref.ensures.value ∙ sym (take-map place many (drop from s.windows.items)) ∙ ap (take many) (sym (drop-map place from s.windows.items)) in
+    let place : OpenDelivery → ℕ = λ delivery. delivery.position in
+    let cut : positions_of (take many (drop from c.deref.result.now)) ≡ take many (drop from (positions_of s.opened.items)) =
+    ap (λ opened. positions_of (take many (drop from opened))) c.deref.ensures.value ∙ sym (take-map place many (drop from s.opened.items)) ∙ ap (take many) (sym (drop-map place from s.opened.items)) in
     let same : c.args.trace.now.recording ≡ s.run.value.recording = c.requires.same ∙ sym (ap (λ (followed : Followed). followed.run) c.self.view_is) in
     ap (λ (x : Recording). record { run = x; f = s.f; end = s.end; positions = positions_of (take many (drop from c.deref.result.now)) }) same
     ∙ ap (λ positions. record { run = s.run.value.recording; f = s.f; end = s.end; positions = positions }) cut ∙ ap (λ f. part_of f from c.args.to) c.self.view_is

@@ -1,8 +1,8 @@
 use Rattle.causal_audit.proofs.Common.{◌≡◌, ◌+◌, ◌∷◌, [], Some, None, sym, ◌∙◌, subst, arith, det_at, map-append, All-push}
-use Rattle.causal_audit.specs.declared.group.scan.Window.{Window}
-use Rattle.causal_audit.specs.Inside.Group.Scans.{IsWindow, positions_of, AreGathered, AreUncovered, Asked}
+use Rattle.causal_audit.specs.declared.group.run_to_follow.OpenDelivery.{OpenDelivery}
+use Rattle.causal_audit.specs.Inside.Group.OpenDeliveries.{IsOpenDelivery, positions_of, AreGathered, AreUncovered, Asked}
 use Rattle.causal_audit.proofs.look.Uncovered.{one_gathered, one_left_out}
-use Rattle.causal_audit.proofs.group.Windowed.{position}
+use Rattle.causal_audit.proofs.group.Opened.{position}
 use Rattle.causal_audit.proofs.look.survey.Survey.gather.Goals as goal
 
 pub returns-in_default : goal.returns-in_default
@@ -31,11 +31,11 @@ returns c so_far =
     let asked = c.args.self.now in
     let r = asked.run in
     let before = c.args.gathered.now.items in
-    let window : Window = record { position = c.args.k; until = c.uncovered_until-until.result } in
+    let delivery : OpenDelivery = record { position = c.args.k; until = c.uncovered_until-until.result } in
     subst (AreGathered asked (c.args.k + 1)) (sym c.in_ok-push.ensures.items)
     (record {
       uncovered =
-          subst (AreUncovered r asked.f asked.end (c.args.k + 1)) (sym (map-append position before (window ∷ [])))
+          subst (AreUncovered r asked.f asked.end (c.args.k + 1)) (sym (map-append position before (delivery ∷ [])))
           (one_gathered r asked.f asked.end c.args.k (positions_of before) (c.in-Some.det, subst (λ (a : Asked). det_at a.run.past c.args.k ≡ Some c.in-Some.det) c.self.view_is (sym c.in-Some.ensures)) so_far.uncovered);
-      none_later = All-push (IsWindow r asked.f asked.end) before window so_far.none_later c.uncovered_until-until.ensures;
+      none_later = All-push (IsOpenDelivery r asked.f asked.end) before delivery so_far.none_later c.uncovered_until-until.ensures;
     })

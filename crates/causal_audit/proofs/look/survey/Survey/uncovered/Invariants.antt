@@ -1,4 +1,4 @@
-use Rattle.causal_audit.specs.Inside.Group.Scans.{AreGathered}
+use Rattle.causal_audit.specs.Inside.Group.OpenDeliveries.{AreGathered}
 use Rattle.causal_audit.proofs.look.survey.Survey.uncovered.Given as goal
 
 -- those so far are gathered

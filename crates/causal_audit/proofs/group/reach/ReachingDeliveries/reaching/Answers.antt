@@ -1,0 +1,11 @@
+use Rattle.causal_audit.proofs.Common.{sym, subst, arith}
+use Rattle.causal_audit.specs.Inside.Group.Walk.{TellsReached}
+use Rattle.causal_audit.proofs.group.Reaching.{told_before}
+use Rattle.causal_audit.proofs.group.reach.ReachingDeliveries.reaching.Goals as goal
+
+pub returns-then-position-self : goal.returns-then-position-self
+returns-then-position-self c =
+    subst (TellsReached c.args.self.now c.args.position) (sym c.none.ensures) (told_before c.args.self.now c.args.position (omega (arith, c.if-position-self.true)))
+
+pub returns : goal.returns
+returns c = rw (c.set_at.ensures, c.deref.ensures.value) (λ n past k j from to ssn formed is at. is.behind c.args.position from to ssn (omega (arith, c.if-position-self.false)) at)

@@ -1,6 +1,0 @@
-use Rattle.causal_audit.proofs.Common.{ℕ, ◌≡◌, ◌<◌, true, ◌↔◌, contains}
-use Rattle.causal_audit.proofs.group.room.places_of.Given as goal
-
--- those so far
-abbrev pub invariant-loop-place : goal.invariant-loop-place
-invariant-loop-place l = (j : ℕ) → (contains l.places j ≡ true) ↔ (j < l.place)

@@ -1,0 +1,29 @@
+use Rattle.causal_audit.proofs.Common.{◌≡◌, ◌≤◌, ◌∙◌, Vec, Global, ℕ, List, Some, map, subst, sym, arith, Contains, false, IsNonDecreasing, has, instant}
+use Rattle.causal_audit.specs.Quiet.{mentioned_by}
+use Rattle.causal_audit.specs.Inside.Group.Walk.{IsUntouchedBefore}
+use Rattle.causal_audit.specs.Inside.Group.OpenDeliveries.{RunUpTo}
+use Rattle.causal_audit.proofs.index.Filings.{mentions_ascend}
+use Rattle.causal_audit.proofs.Steps.{entry_then}
+use Rattle.causal_audit.proofs.group.run_to_follow.RunToFollow.first_touched.Goals as goal
+
+abbrev positions : Vec ℕ Global → List ℕ
+positions list = list.items
+
+pub first_in-requires : goal.first_in-requires
+first_in-requires c =
+    let following = c.self.inside in
+    record { ascend = subst IsNonDecreasing (sym c.list.ensures) (mentions_ascend (instant following.outline.trace.now.recording.past following.end) following.mentions.now.numbers (map positions following.mentions.now.lists.items) c.self.invariant.mentioned c.in-Some.det) }
+
+pub returns-clause-first : goal.returns-clause-first
+returns-clause-first c =
+    let following = c.self.inside in
+    let past = following.outline.trace.now.recording.past in
+    let inside : c.first_in.result ≤ following.end = subst (λ (s : RunUpTo). c.first_in.result ≤ s.end) (sym c.self.view_is) (omega (arith, c.first_in.ensures.bound, c.min-first.ensures, c.requires)) in
+    subst (λ (s : RunUpTo). IsUntouchedBefore s.run.past c.first_in.result c.args.delivery) c.self.view_is (record {
+      made = omega (arith, c.first_in.ensures.bound, c.min-first.ensures);
+      unmentioned = λ d at v e from below there.
+          let one : Some c.in-Some.det ≡ Some d = c.in-Some.ensures ∙ at in
+          let same : c.in-Some.det ≡ d = cc one in
+          subst (λ x. has (mentioned_by e) x ≡ false) same
+          (c.self.invariant.mentioned.mentioned c.in-Some.det v e (entry_then past following.end v (omega (arith, below, inside)) c.self.invariant.within ∙ there) (λ listed. c.first_in.ensures.none v (omega arith) below (subst (λ list. Contains list v) (sym c.list.ensures) listed)));
+    })

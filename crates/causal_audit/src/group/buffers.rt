@@ -1,0 +1,81 @@
+//! The memory of a walk over the entries for a group of deliveries, which is made once for all groups.
+ghost use Rattle.std.specs.Prelude.{◌≤◌, ℕ, IfOk, length};
+ghost use Rattle.std.specs.List.{All};
+ghost use Rattle.causal_audit.specs.Inside.Group.OpenDeliveries.{IsDeliveryAt};
+ghost use Rattle.causal_audit.specs.Inside.Group.Walk.{AreBelow, ArePlaces, HasBuffers, HasRowsFor, IsFollowed, IsUntouchedBefore};
+
+use crate::group::copies::{Copies, forget_all, no_copies};
+use crate::group::reach::{ReachingDeliveries, clear};
+use crate::group::run_to_follow::{OpenDelivery, RunToFollow};
+use crate::group::walk::GROUP;
+use causal_holders::{Holders, PROCESSES};
+use causal_name::NoMemory;
+use std::alloc::Global;
+
+/// What a walk keeps of the deliveries of a group, by their places: which of them reach the sends and on which the processes
+/// depend, of which the entries mention the determinant, whose determinants each process is known to hold, and where their copies
+/// are; and who is down.
+#[derive(Drop)]
+pub struct WalkBuffers {
+    pub reach: ReachingDeliveries,
+    pub held: Vec<Holders>,
+    pub copies: Vec<Copies>,
+    pub down: Holders,
+}
+
+impl WalkBuffers {
+    /// WalkBuffers for walks over so many entries. It takes 32 bytes for each.
+    ///
+    /// # Errors
+    /// `NoMemory` where memory was refused.
+    pub fn new(alloc: Global, entries: u32) -> Result<WalkBuffers, NoMemory>
+        ensures { IfOk result (HasBuffers entries) }
+    {
+        let reach = ReachingDeliveries::new(alloc, entries)?;
+        let held = vec![in alloc; Holders::none(); PROCESSES as usize]?;
+        let copies = vec![in alloc; no_copies(); GROUP]?;
+        Ok(WalkBuffers {
+            reach,
+            held,
+            copies,
+            down: Holders::none(),
+        })
+    }
+}
+
+/// The places of a group.
+#[tactic(auto, using(crate::proofs::group::GroupWalk::places_more, crate::proofs::group::Reaching::none_in))]
+pub fn places_of(opened: &[OpenDelivery]) -> Holders
+    requires { length opened.now ≤ 256 }
+    ensures { ArePlaces opened.now result }
+{
+    let mut places = Holders::none();
+    for place in 0..opened.len() {
+        places.insert(place as u8);
+    }
+    places
+}
+
+impl RunToFollow<'_> {
+    /// Makes a room ready for a walk from `start` up to `end`, before which nothing touches a delivery of the group. The walks
+    /// before it have left only rows of sends. It takes time as the mentions of the determinants, and as the entries of which no walk
+    /// has come so far.
+    pub fn begin(&self, room: &mut WalkBuffers, start: u32, end: u32, opened: &[OpenDelivery])
+        requires few { length opened.now ≤ 256 }
+        requires ordered { start ≤ end }
+        requires within { end ≤ self.now.end }
+        requires from { All (IsUntouchedBefore self.now.run.past start) opened.now }
+        requires room { HasBuffers end room.old }
+        requires deliveries { All (λ delivery. IsDeliveryAt self.now.run.past delivery.position) opened.now }
+        requires emptied { AreBelow self.now.run.past end 0 room.old.reach.rows.items }
+        ensures room { (entries : ℕ) → HasBuffers entries room.old → HasBuffers entries room.new }
+        ensures rows { HasRowsFor start end room.new }
+        ensures begun { IsFollowed self.now.run opened.now start start room.new }
+    {
+        room.reach.begin(start, end);
+        self.mark_all(&mut room.reach.rows, opened);
+        clear(&mut room.held);
+        forget_all(&mut room.copies);
+        room.down = self.outline.turns.from(start).down();
+    }
+}
