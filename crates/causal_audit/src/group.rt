@@ -11,3 +11,8 @@ pub mod reach;
 pub mod run_to_follow;
 pub mod suspects;
 pub mod walk;
+
+use causal_holders::ByteSet;
+
+/// Some deliveries of a group, by their places in it.
+pub type Places = ByteSet;

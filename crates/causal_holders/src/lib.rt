@@ -1,6 +1,6 @@
 //! Sets of processes by their numbers. Begin at [`Holders`]; [`laws`] says what its sets are to tests of numbers.
 //!
-//! A set is four words of which each bit is one process, so that union, difference and number of members are a few word
+//! A set is four words of which each bit is one number, so that union, difference and number of members are a few word
 //! operations, and a set is copied like a number.
 #![tactic(auto)]
 
@@ -16,23 +16,24 @@ use std::marker::Model;
 /// How many processes there can be: they are numbered from 0, below this.
 pub const PROCESSES: u16 = 256;
 
-/// How many processes one word stands for.
+/// How many numbers one word stands for.
 const WORD: u8 = 64;
 
-/// How many words stand for all processes.
+/// How many words stand for all numbers.
 const WORDS: usize = PROCESSES as usize / WORD as usize;
 
-/// A set of processes.
+/// A set of processes: the holders of a determinant, those that are down, that depend on a delivery, or that may crash.
+pub type Holders = ByteSet;
+
+/// A set of bytes, which number as many processes, or as many places in a table.
 ///
-/// It is used for the holders of a determinant, the processes that are down, those that depend on a delivery and those
-/// that may crash. Contracts see it as the finite set of its members' numbers, each below [`PROCESSES`]. No call fails,
-/// and none takes memory.
+/// Contracts see it as the finite set of its members, each below [`PROCESSES`]. No call fails, and none takes memory.
 #[derive(Clone, Copy, Debug)]
-pub struct Holders {
+pub struct ByteSet {
     words: [u64; WORDS],
 }
 
-impl Model for Holders {
+impl Model for ByteSet {
     ghost use Rattle.std.specs.Ordering.{nat_cmp};
     ghost use Rattle.std.specs.FinSet as set;
     ghost use Rattle.std.specs.Coded.{coded_ℕ};
@@ -54,7 +55,7 @@ impl Model for Holders {
     ghost inverse_ok = { λ a h i. record { words = words_shown a.words h i } };
 }
 
-impl Holders {
+impl ByteSet {
     /// The empty set.
     pub fn none() -> Self
         ensures { result ≡ set.empty }
@@ -62,28 +63,28 @@ impl Holders {
         Self { words: [0; WORDS] }
     }
 
-    /// Puts a process in; one that is in already stays.
-    pub fn insert(&mut self, process: u8)
-        ensures { self.new ≡ set.insert self.old process }
+    /// Puts a number in; one that is in already stays.
+    pub fn insert(&mut self, number: u8)
+        ensures { self.new ≡ set.insert self.old number }
     {
-        self.words[usize::from(process / WORD)] |= 1 << (process % WORD);
+        self.words[usize::from(number / WORD)] |= 1 << (number % WORD);
     }
 
-    /// Takes a process out, if it is in.
-    pub fn remove(&mut self, process: u8)
-        ensures { self.new ≡ set.remove self.old process }
+    /// Takes a number out, if it is in.
+    pub fn remove(&mut self, number: u8)
+        ensures { self.new ≡ set.remove self.old number }
     {
-        self.words[usize::from(process / WORD)] &= !(1 << (process % WORD));
+        self.words[usize::from(number / WORD)] &= !(1 << (number % WORD));
     }
 
-    /// Whether the process is in the set.
-    pub fn contains(self, process: u8) -> bool
-        ensures { result ≡ set.contains self process }
+    /// Whether the number is in the set.
+    pub fn contains(self, number: u8) -> bool
+        ensures { result ≡ set.contains self number }
     {
-        self.words[usize::from(process / WORD)] >> (process % WORD) & 1 == 1
+        self.words[usize::from(number / WORD)] >> (number % WORD) & 1 == 1
     }
 
-    /// The processes that are in this set, in the other, or in both.
+    /// The numbers that are in this set, in the other, or in both.
     pub fn union(self, other: Self) -> Self
         ensures { result ≡ set.union self other }
     {
@@ -97,7 +98,7 @@ impl Holders {
         }
     }
 
-    /// The processes that are in this set and not in the other.
+    /// The numbers that are in this set and not in the other.
     pub fn minus(self, other: Self) -> Self
         ensures { result ≡ set.difference self other }
     {
@@ -111,7 +112,7 @@ impl Holders {
         }
     }
 
-    /// How many processes are in the set: from 0 to [`PROCESSES`].
+    /// How many numbers are in the set: from 0 to [`PROCESSES`].
     pub fn len(self) -> u32
         ensures counted { result ≡ set.len self }
         ensures members { AreProcesses self }
@@ -122,22 +123,22 @@ impl Holders {
             + self.words[3].count_ones()
     }
 
-    /// Whether each process of this set is in the other.
+    /// Whether each number of this set is in the other.
     pub fn is_subset(self, other: Self) -> bool
         ensures { result ≡ set.is_subset self other }
     {
         self.minus(other) == Self::none()
     }
 
-    /// The least process of the set, or `None` where it is empty.
+    /// The least number of the set, or `None` where it is empty.
     pub fn least(self) -> Option<u8>
-        ensures { MatchOption result (self ≡ set.empty) (λ process. IsLeast self process) }
+        ensures { MatchOption result (self ≡ set.empty) (λ number. IsLeast self number) }
     {
         let word = self.words.iter().position(|&word| word != 0)?;
         Some(WORD * word as u8 + self.words[word].trailing_zeros() as u8)
     }
 
-    /// The processes of the set in ascending order, each once.
+    /// The numbers of the set in ascending order, each once.
     pub fn iter(self) -> Iter
         ensures { result ≡ self }
     {
@@ -145,28 +146,28 @@ impl Holders {
     }
 }
 
-impl PartialEq for Holders {
+impl PartialEq for ByteSet {
     ghost use Rattle.causal_holders.specs.Same.{have_same_members, same_members_laws};
 
     ghost eq = { have_same_members };
 
     ghost laws = { same_members_laws };
 
-    fn eq(&self, other: &Holders) -> bool {
+    fn eq(&self, other: &ByteSet) -> bool {
         self.words == other.words
     }
 }
 
-impl Eq for Holders {
+impl Eq for ByteSet {
     ghost use Rattle.causal_holders.specs.Same.{same_members_equivalence};
 
     ghost laws = { same_members_equivalence };
 }
 
-/// The processes of a set that are still to come, the least of them next.
+/// The numbers of a set that are still to come, the least of them next.
 #[derive(Clone, Debug, Drop)]
 pub struct Iter {
-    rest: Holders,
+    rest: ByteSet,
 }
 
 impl Model for Iter {
@@ -192,8 +193,8 @@ impl Iterator for Iter {
     ghost remaining = { item_count ascending };
 
     fn next(&mut self) -> Option<u8> {
-        let process = self.rest.least()?;
-        self.rest.remove(process);
-        Some(process)
+        let number = self.rest.least()?;
+        self.rest.remove(number);
+        Some(number)
     }
 }

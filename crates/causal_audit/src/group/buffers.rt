@@ -4,6 +4,7 @@ ghost use Rattle.std.specs.List.{All};
 ghost use Rattle.causal_audit.specs.Inside.Group.OpenDeliveries.{IsDeliveryAt};
 ghost use Rattle.causal_audit.specs.Inside.Group.Walk.{AreBelow, ArePlaces, HasBuffers, HasRowsFor, IsFollowed, IsUntouchedBefore};
 
+use crate::group::Places;
 use crate::group::copies::{Copies, forget_all, no_copies};
 use crate::group::reach::{ReachingDeliveries, clear};
 use crate::group::run_to_follow::{OpenDelivery, RunToFollow};
@@ -18,7 +19,7 @@ use std::alloc::Global;
 #[derive(Drop)]
 pub struct WalkBuffers {
     pub reach: ReachingDeliveries,
-    pub held: Vec<Holders>,
+    pub held: Vec<Places>,
     pub copies: Vec<Copies>,
     pub down: Holders,
 }
@@ -32,7 +33,7 @@ impl WalkBuffers {
         ensures { IfOk result (HasBuffers entries) }
     {
         let reach = ReachingDeliveries::new(alloc, entries)?;
-        let held = vec![in alloc; Holders::none(); PROCESSES as usize]?;
+        let held = vec![in alloc; Places::none(); PROCESSES as usize]?;
         let copies = vec![in alloc; no_copies(); GROUP]?;
         Ok(WalkBuffers {
             reach,
@@ -45,11 +46,11 @@ impl WalkBuffers {
 
 /// The places of a group.
 #[tactic(auto, using(crate::proofs::group::GroupWalk::places_more, crate::proofs::group::Reaching::none_in))]
-pub fn places_of(opened: &[OpenDelivery]) -> Holders
+pub fn places_of(opened: &[OpenDelivery]) -> Places
     requires { length opened.now ≤ 256 }
     ensures { ArePlaces opened.now result }
 {
-    let mut places = Holders::none();
+    let mut places = Places::none();
     for place in 0..opened.len() {
         places.insert(place as u8);
     }

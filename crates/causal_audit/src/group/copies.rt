@@ -5,6 +5,7 @@ ghost use Rattle.causal_audit.specs.Quiet.{is_turn};
 ghost use Rattle.causal_audit.specs.Inside.Group.Walk.{AreCopiesAfter, copies_at, no_copies};
 
 use crate::delivery_state::stable_after;
+use crate::group::Places;
 use crate::holding::holders_after;
 use crate::index::crashes_and_restarts::is_turn;
 use causal_holders::Holders;
@@ -48,7 +49,7 @@ fn copies_after(copies: Copies, entry: &Entry, mentioned: bool) -> Copies
 
 /// The places whose copies an entry may change: all by a crash or a restart, and else those that it mentions, but for those
 /// whose determinants the process holds already.
-pub fn touched(entry: &Entry, mentioned: Holders, held: Holders, all: Holders) -> Holders
+pub fn touched(entry: &Entry, mentioned: Places, held: Places, all: Places) -> Places
     ensures quiet { (j : ℕ) → set.contains all j ≡ true → set.contains result j ≡ false →
         (is_turn entry.now ≡ false) × ((set.contains mentioned j ≡ false) ⊎ (set.contains held j ≡ true)) }
 {
@@ -60,7 +61,7 @@ pub fn touched(entry: &Entry, mentioned: Holders, held: Holders, all: Holders) -
 
 /// Takes an entry, which mentions the determinants of some places, into what is known of the copies at the places that it
 /// touches. It takes time as these.
-pub fn renew(copies: &mut Vec<Copies>, entry: &Entry, mentioned: Holders, touched: Holders)
+pub fn renew(copies: &mut Vec<Copies>, entry: &Entry, mentioned: Places, touched: Places)
     requires room { length copies.old.items ≡ 256 }
     ensures count { length copies.new.items ≡ length copies.old.items }
     ensures others { (j : ℕ) → set.contains touched j ≡ false →

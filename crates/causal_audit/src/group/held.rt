@@ -3,22 +3,22 @@ ghost use Rattle.std.specs.Prelude.{◌≡◌, ℕ, true, length};
 ghost use Rattle.std.specs.FinSet as set;
 ghost use Rattle.causal_audit.specs.Inside.Group.Walk.{IsHeldBy, KeepsHeld, row};
 
+use crate::group::Places;
 use crate::group::reach::set_at;
-use causal_holders::Holders;
 use causal_trace::entry::Entry;
 
 /// The places whose determinants the receiver of a delivery is known to hold; none for any other entry.
-pub fn held_by(held: &[Holders], entry: &Entry) -> Holders
+pub fn held_by(held: &[Places], entry: &Entry) -> Places
     ensures { IsHeldBy entry.now held.now result }
 {
     match entry {
         Entry::Deliver { to, .. } => set_at(held, usize::from(to.0)),
-        _ => Holders::none(),
+        _ => Places::none(),
     }
 }
 
 /// Puts a set into the row of a process, if there is one.
-fn put_row(rows: &mut Vec<Holders>, p: u8, places: Holders)
+fn put_row(rows: &mut Vec<Places>, p: u8, places: Places)
     ensures count { length rows.new.items ≡ length rows.old.items }
     ensures others { (i : ℕ) → (i ≡ p → ⊥) → row rows.new.items i ≡ row rows.old.items i }
     ensures here { (j : ℕ) → set.contains (row rows.new.items p) j ≡ true → set.contains places j ≡ true }
@@ -30,7 +30,7 @@ fn put_row(rows: &mut Vec<Holders>, p: u8, places: Holders)
 }
 
 /// Takes one more entry, which mentions the determinants of these places, into what each process is known to hold.
-pub fn hold(held: &mut Vec<Holders>, entry: &Entry, mentioned: Holders)
+pub fn hold(held: &mut Vec<Places>, entry: &Entry, mentioned: Places)
     ensures count { length held.new.items ≡ length held.old.items }
     ensures keeps { KeepsHeld entry.now mentioned held.old.items held.new.items }
 {
@@ -44,7 +44,7 @@ pub fn hold(held: &mut Vec<Holders>, entry: &Entry, mentioned: Holders)
             let before = set_at(held, usize::from(who.0));
             put_row(held, who.0, before.minus(mentioned));
         }
-        Entry::Crash { who } => put_row(held, who.0, Holders::none()),
+        Entry::Crash { who } => put_row(held, who.0, Places::none()),
         Entry::Send { .. } | Entry::Stable { .. } => {}
     }
 }

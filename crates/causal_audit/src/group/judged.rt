@@ -8,6 +8,7 @@ ghost use Rattle.causal_audit.specs.Inside.Group.Walk.{AreAsked, HaveNone, IsFol
 
 use crate::breach::{Breach, earlier};
 use crate::delivery_state::{DeliveryState, breach_at};
+use crate::group::Places;
 use crate::group::buffers::WalkBuffers;
 use crate::group::run_to_follow::OpenDelivery;
 use crate::group::suspects::{Step, both, suspected};
@@ -16,7 +17,7 @@ use causal_trace::trace::Trace;
 
 /// Which processes depend on the delivery of a place.
 #[tactic(auto, using(crate::proofs::Shown::inserted))]
-fn dependents_of(present: &[Holders], place: u8) -> Holders
+fn dependents_of(present: &[Places], place: u8) -> Holders
     requires { length present.now ≤ 256 }
     ensures { (p : ℕ) → set.contains result p ≡ set.contains (row present.now p) place }
 {
@@ -60,7 +61,7 @@ pub fn judge(
     f: u16,
     opened: &[OpenDelivery],
     step: &Step<'_>,
-    asked: &mut Holders,
+    asked: &mut Places,
 ) -> Option<Breach>
     requires opened { All (IsOpenDelivery trace.now.recording f (step.now.t + 1)) opened.now }
     requires asked { AreAsked opened.now step.now.t asked.old }

@@ -7,13 +7,13 @@ ghost use Rattle.causal_audit.specs.Inside.ByClock.Changes.{HasNoneUntil};
 ghost use Rattle.causal_trace.specs.Past.{message_sent};
 ghost use Rattle.causal_audit.specs.Inside.Group.Walk.{AreBelow, AreMarked, HaveMarked, IsUntouchedBefore, IsMarked, IsTold, row};
 
+use crate::group::Places;
 use crate::group::reach::put;
 use crate::group::run_to_follow::{OpenDelivery, RunToFollow};
-use causal_holders::Holders;
 use causal_trace::entry::Entry;
 
 /// Puts a place into the rows of the entries at these positions.
-fn mark(rows: &mut Vec<Holders>, place: u8, positions: &[u32])
+fn mark(rows: &mut Vec<Places>, place: u8, positions: &[u32])
     ensures count { length rows.new.items ≡ length rows.old.items }
     ensures room { vec_capacity rows.new ≡ vec_capacity rows.old }
     ensures marked { HaveMarked place positions.now rows.old.items rows.new.items }
@@ -24,7 +24,7 @@ fn mark(rows: &mut Vec<Holders>, place: u8, positions: &[u32])
 }
 
 /// The places whose determinants the entry at position t mentions, by its row, which is emptied; none for a send, whose row is left.
-pub fn take(rows: &mut Vec<Holders>, entry: &Entry, t: u32) -> Holders
+pub fn take(rows: &mut Vec<Places>, entry: &Entry, t: u32) -> Places
     requires { t < length rows.old.items }
     ensures count { length rows.new.items ≡ length rows.old.items }
     ensures room { vec_capacity rows.new ≡ vec_capacity rows.old }
@@ -33,10 +33,10 @@ pub fn take(rows: &mut Vec<Holders>, entry: &Entry, t: u32) -> Holders
     ensures emptied { message_sent entry.now ≡ None → row rows.new.items t ≡ set.empty }
 {
     if let Entry::Send { .. } = entry {
-        return Holders::none();
+        return Places::none();
     }
     let mentioned = rows[t as usize];
-    rows[t as usize] = Holders::none();
+    rows[t as usize] = Places::none();
     mentioned
 }
 
@@ -80,7 +80,7 @@ impl RunToFollow<'_> {
     }
 
     /// Puts a place into the rows of the entries that mention the determinant of its delivery.
-    fn mark_delivery(&self, rows: &mut Vec<Holders>, place: u8, delivery: OpenDelivery)
+    fn mark_delivery(&self, rows: &mut Vec<Places>, place: u8, delivery: OpenDelivery)
         requires within { length rows.old.items ≤ self.now.end }
         requires fresh { AreBelow self.now.run.past (length rows.old.items) place rows.old.items }
         ensures count { length rows.new.items ≡ length rows.old.items }
@@ -95,7 +95,7 @@ impl RunToFollow<'_> {
     }
 
     /// Puts the place of each delivery of a group into the rows of the entries that mention its determinant.
-    pub fn mark_all(&self, rows: &mut Vec<Holders>, opened: &[OpenDelivery])
+    pub fn mark_all(&self, rows: &mut Vec<Places>, opened: &[OpenDelivery])
         requires few { length opened.now ≤ 256 }
         requires within { length rows.old.items ≤ self.now.end }
         requires none { AreBelow self.now.run.past (length rows.old.items) 0 rows.old.items }

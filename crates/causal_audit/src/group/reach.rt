@@ -4,7 +4,8 @@ ghost use Rattle.std.specs.FinSet as set;
 ghost use Rattle.causal_trace.specs.Past.{message_sent};
 ghost use Rattle.causal_audit.specs.Inside.Group.Walk.{HasRowOf, HasRowRoom, HasRows, IsPut, SeesReach, TellsReached, row};
 
-use causal_holders::{Holders, PROCESSES};
+use crate::group::Places;
+use causal_holders::PROCESSES;
 use causal_name::NoMemory;
 use causal_trace::entry::Entry;
 use std::alloc::Global;
@@ -15,22 +16,22 @@ use std::alloc::Global;
 #[derive(Drop)]
 pub struct ReachingDeliveries {
     pub start: u32,
-    pub rows: Vec<Holders>,
-    pub present: Vec<Holders>,
+    pub rows: Vec<Places>,
+    pub present: Vec<Places>,
 }
 
 /// The set at a row; the empty one where there is none.
-pub fn set_at(rows: &[Holders], i: usize) -> Holders
+pub fn set_at(rows: &[Places], i: usize) -> Places
     ensures { result ≡ row rows.now i }
 {
     match rows.get(i) {
         Some(set) => *set,
-        None => Holders::none(),
+        None => Places::none(),
     }
 }
 
 /// Puts a place into the row of the entry at a position, where it has one.
-pub fn put(rows: &mut Vec<Holders>, place: u8, position: u32)
+pub fn put(rows: &mut Vec<Places>, place: u8, position: u32)
     ensures count { length rows.new.items ≡ length rows.old.items }
     ensures room { vec_capacity rows.new ≡ vec_capacity rows.old }
     ensures put { IsPut place position rows.old.items rows.new.items }
@@ -43,21 +44,21 @@ pub fn put(rows: &mut Vec<Holders>, place: u8, position: u32)
 
 /// Empties each of these rows.
 #[tactic(auto, using(crate::proofs::Begins::read_same))]
-pub fn clear(rows: &mut Vec<Holders>)
+pub fn clear(rows: &mut Vec<Places>)
     ensures count { length rows.new.items ≡ length rows.old.items }
     ensures none { (i : ℕ) → row rows.new.items i ≡ set.empty }
 {
-    rows.fill(Holders::none());
+    rows.fill(Places::none());
 }
 
 /// Makes so many rows of these, for which there is room. New ones are empty.
-fn make_so_many(rows: &mut Vec<Holders>, many: usize)
+fn make_so_many(rows: &mut Vec<Places>, many: usize)
     requires { many ≤ vec_capacity rows.old }
     ensures count { length rows.new.items ≡ many }
     ensures room { vec_capacity rows.old ≤ vec_capacity rows.new }
     ensures rows { (i : ℕ) → (row rows.new.items i ≡ row rows.old.items i) ⊎ (row rows.new.items i ≡ set.empty) }
 {
-    if rows.resize(many, Holders::none()).is_err() {
+    if rows.resize(many, Places::none()).is_err() {
         unreachable!()
     }
 }
@@ -73,7 +74,7 @@ impl ReachingDeliveries {
         Ok(ReachingDeliveries {
             start: 0,
             rows: Vec::with_capacity(alloc, entries as usize)?,
-            present: vec![in alloc; Holders::none(); PROCESSES as usize]?,
+            present: vec![in alloc; Places::none(); PROCESSES as usize]?,
         })
     }
 
@@ -99,18 +100,18 @@ impl ReachingDeliveries {
     }
 
     /// Which of the deliveries reach the send at a position that was read. None reaches one before the walk.
-    fn reaching(&self, position: u32) -> Holders
+    fn reaching(&self, position: u32) -> Places
         ensures { TellsReached self.now position result }
     {
         if position < self.start {
-            return Holders::none();
+            return Places::none();
         }
         set_at(&self.rows, position as usize)
     }
 
     /// Takes in the entry at position t, which is that of the deliveries of these places, and tells which of the deliveries newly
     /// reach its process.
-    pub fn see(&mut self, entry: &Entry, t: u32, own: Holders) -> Holders
+    pub fn see(&mut self, entry: &Entry, t: u32, own: Places) -> Places
         requires row { HasRowOf t self.old }
         ensures rows { (start end : ℕ) → HasRows start end self.old → HasRows start end self.new }
         ensures room { (entries : ℕ) → HasRowRoom entries self.old → HasRowRoom entries self.new }
@@ -121,7 +122,7 @@ impl ReachingDeliveries {
         match entry {
             Entry::Send { from, .. } => {
                 self.rows[t as usize] = set_at(&self.present, usize::from(from.0));
-                Holders::none()
+                Places::none()
             }
             Entry::Deliver { to, send, .. } => {
                 let before = set_at(&self.present, usize::from(to.0));
@@ -131,15 +132,15 @@ impl ReachingDeliveries {
                 reached.minus(before)
             }
             Entry::Crash { who } => {
-                self.present[usize::from(who.0)] = Holders::none();
-                Holders::none()
+                self.present[usize::from(who.0)] = Places::none();
+                Places::none()
             }
             Entry::Restart { who, .. } => {
-                self.present[usize::from(who.0)] = Holders::none();
-                Holders::none()
+                self.present[usize::from(who.0)] = Places::none();
+                Places::none()
             }
-            Entry::Stable { .. } => Holders::none(),
-            Entry::Forget { .. } => Holders::none(),
+            Entry::Stable { .. } => Places::none(),
+            Entry::Forget { .. } => Places::none(),
         }
     }
 }

@@ -3,7 +3,7 @@ use Rattle.std.specs.Prelude.{MatchOption}
 use Rattle.std.specs.List.{AllWithin, HoldsAt}
 use Rattle.std.proofs.lemmas.Iterator.{IsFirst-from_position, YieldsList-from_slice}
 use Rattle.causal_holders.proofs.Words.{shown_empty, lowest}
-use Rattle.causal_holders.proofs.Holders.least.Goals as goal
+use Rattle.causal_holders.proofs.ByteSet.least.Goals as goal
 
 -- where the search for a word that is not 0 ended
 abbrev FirstUsed : List ℕ → Option ℕ → Type 0

@@ -2,7 +2,7 @@ use Rattle.std.proofs.Common.{ap, subst, ◌∙◌}
 use Rattle.std.specs.FinSet as set
 use Rattle.causal_holders.specs.Members.{AreProcesses}
 use Rattle.causal_holders.proofs.Words.{len-shown, shown_below}
-use Rattle.causal_holders.proofs.Holders.len.Goals as goal
+use Rattle.causal_holders.proofs.ByteSet.len.Goals as goal
 
 pub returns : goal.returns
 returns c = record {

@@ -1,7 +1,7 @@
 use Rattle.std.proofs.Common.{◌∙◌}
 use Rattle.std.specs.FinSet as set
 use Rattle.causal_holders.proofs.Words.{united, or_words, or_are_words}
-use Rattle.causal_holders.proofs.Holders.union.Goals as goal
+use Rattle.causal_holders.proofs.ByteSet.union.Goals as goal
 
 pub invariant_of-result : goal.invariant_of-result
 unfolding or_words

@@ -1,7 +1,7 @@
 use Rattle.std.proofs.Common.{◌∙◌}
 use Rattle.std.specs.FinSet as set
 use Rattle.causal_holders.proofs.Words.{without, without_words}
-use Rattle.causal_holders.proofs.Holders.minus.Goals as goal
+use Rattle.causal_holders.proofs.ByteSet.minus.Goals as goal
 
 pub returns : goal.returns
 unfolding without_words

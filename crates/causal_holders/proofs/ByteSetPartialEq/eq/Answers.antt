@@ -1,7 +1,7 @@
 use Rattle.std.proofs.Common.{◌∙◌}
 use Rattle.causal_holders.specs.Same.{have_same_members}
 use Rattle.causal_holders.proofs.Words.{same_words}
-use Rattle.causal_holders.proofs.HoldersPartialEq.eq.Goals as goal
+use Rattle.causal_holders.proofs.ByteSetPartialEq.eq.Goals as goal
 
 pub returns : goal.returns
 returns c =
