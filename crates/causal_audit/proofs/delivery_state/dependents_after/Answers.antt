@@ -1,5 +1,5 @@
 use Rattle.causal_audit.proofs.Between.{sent_reached, sent_unreached, delivered_reached, delivered_unreached, stored, forgotten, crashed, restarted}
-use Rattle.causal_audit.proofs.state.dependents_after.Goals as goal
+use Rattle.causal_audit.proofs.delivery_state.dependents_after.Goals as goal
 
 pub returns-then-reached : goal.returns-then-reached
 returns-then-reached c n past k formed tells are = rw c.with.ensures (sent_reached n _ past k formed _ tells _ are _ _ _ c.in-Send.is c.if-reached.true)

@@ -1,7 +1,7 @@
 use Rattle.causal_audit.proofs.Common.{◌∷◌, sym, subst, is_down}
 use Rattle.causal_audit.specs.Inside.DeliveryStates.{Shows}
 use Rattle.causal_audit.proofs.Shown.{shows_with, shows_without}
-use Rattle.causal_audit.proofs.state.down_after.Goals as goal
+use Rattle.causal_audit.proofs.delivery_state.down_after.Goals as goal
 
 pub returns-in-Crash : goal.returns-in-Crash
 returns-in-Crash c past shown =

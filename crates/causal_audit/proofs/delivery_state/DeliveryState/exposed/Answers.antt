@@ -1,7 +1,7 @@
 use Rattle.causal_audit.proofs.Common.{◌≡◌, ◌<◌, arith, sym, ◌∙◌, ap, len, union, difference, empty}
 use Rattle.causal_holders.specs.Members.{IsLeast}
 use Rattle.causal_audit.proofs.Exposure.{not_many, not_none, least_orphan_is}
-use Rattle.causal_audit.proofs.state.DeliveryState.exposed.Goals as goal
+use Rattle.causal_audit.proofs.delivery_state.DeliveryState.exposed.Goals as goal
 
 pub returns-then-len-from : goal.returns-then-len-from
 returns-then-len-from c n past k d formed at state =

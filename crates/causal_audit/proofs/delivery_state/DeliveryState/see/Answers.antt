@@ -1,4 +1,4 @@
-use Rattle.causal_audit.proofs.state.DeliveryState.see.Goals as goal
+use Rattle.causal_audit.proofs.delivery_state.DeliveryState.see.Goals as goal
 
 pub returns : goal.returns
 returns c n past k d formed told tells state = record {

@@ -3,7 +3,7 @@ use Rattle.causal_audit.specs.Inside.Look.Looks.{AreAllLooks}
 use Rattle.causal_audit.specs.Inside.Index.Filed.{lists_in}
 use Rattle.causal_audit.proofs.index.Receivers.{stays_with, orphan_open}
 use Rattle.causal_audit.proofs.index.Filings.{first_crash_is}
-use Rattle.causal_audit.proofs.look.survey.Survey.uncovered_until.Goals as goal
+use Rattle.causal_audit.proofs.look.survey.Survey.delivery_uncovered_until.Goals as goal
 
 pub returns : goal.returns
 returns c =
