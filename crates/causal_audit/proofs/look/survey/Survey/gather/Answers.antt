@@ -22,7 +22,7 @@ returns-then-until-eq0 c so_far =
     record {
       uncovered =
           one_left_out r asked.f asked.end c.args.k (positions_of c.args.gathered.now.items)
-          (λ _ u low. c.uncovered_until-until.ensures u (omega (arith, c.if-until-eq0.true)) low) so_far.uncovered;
+          (λ _ u low. c.delivery_uncovered_until-until.ensures u (omega (arith, c.if-until-eq0.true)) low) so_far.uncovered;
       none_later = so_far.none_later;
     }
 
@@ -31,11 +31,11 @@ returns c so_far =
     let asked = c.args.self.now in
     let r = asked.run in
     let before = c.args.gathered.now.items in
-    let delivery : OpenDelivery = record { position = c.args.k; until = c.uncovered_until-until.result } in
+    let delivery : OpenDelivery = record { position = c.args.k; until = c.delivery_uncovered_until-until.result } in
     subst (AreGathered asked (c.args.k + 1)) (sym c.in_ok-push.ensures.items)
     (record {
       uncovered =
           subst (AreUncovered r asked.f asked.end (c.args.k + 1)) (sym (map-append position before (delivery ∷ [])))
           (one_gathered r asked.f asked.end c.args.k (positions_of before) (c.in-Some.det, subst (λ (a : Asked). det_at a.run.past c.args.k ≡ Some c.in-Some.det) c.self.view_is (sym c.in-Some.ensures)) so_far.uncovered);
-      none_later = All-push (IsOpenDelivery r asked.f asked.end) before delivery so_far.none_later c.uncovered_until-until.ensures;
+      none_later = All-push (IsOpenDelivery r asked.f asked.end) before delivery so_far.none_later c.delivery_uncovered_until-until.ensures;
     })
