@@ -153,7 +153,8 @@ impl Lane {
         requires few { self.old.events < EVENTS }
         requires column { source < length (rises_in self.old) }
         requires counted { source < length self.old.row.items }
-        requires room { slice_index self.old.row.items source < count → 0 < slice_index (spares_in self.old) source }
+        requires room { slice_index self.old.row.items source < count →
+            0 < slice_index (spares_in self.old) source }
         ensures rest { SameButFor source self.old self.new }
         ensures raised { column_in (rises_in self.new) source
             ≡ raised (column_in (rises_in self.old) source) self.old.events count }

@@ -25,7 +25,8 @@ pub fn growth_law()
 /// `counted`: where the events of a lane that reach an event are its first n ones, n is how many of the lane's events
 /// reach it. `unique`: just one number is so.
 pub fn reach_law()
-    ensures counted { (events : List Event) (j lane n : ℕ) (test : ℕ → Bool) → FirstReach events j lane n →
+    ensures counted { (events : List Event) (j lane n : ℕ) (test : ℕ → Bool) →
+        FirstReach events j lane n →
         TellsReach events j test → count_in_lane events lane test ≡ n }
     ensures unique { (events : List Event) (j lane n m : ℕ) → FirstReach events j lane n →
         FirstReach events j lane m → n ≡ m }

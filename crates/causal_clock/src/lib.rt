@@ -128,7 +128,8 @@ impl Clocks {
     pub fn new(alloc: Global, lanes: u16) -> Result<Self, ClockFault>
         requires some { 1 ≤ lanes }
         requires few { lanes ≤ FIRST_LANES }
-        ensures ok { IfOk result (λ clocks. clocks ≡ record { lanes = lanes; opened = 0; events = [] }) }
+        ensures ok { IfOk result (λ clocks. clocks ≡
+            record { lanes = lanes; opened = 0; events = [] }) }
         ensures refusal { IfErr result (λ fault. fault ≡ ClockFault.NoMemory) }
     {
         let count = usize::from(lanes);
@@ -200,7 +201,8 @@ impl Clocks {
         requires lane { lane < self.old.lanes }
         requires room { length self.old.events < EVENTS }
         ensures number { IfOk result (λ event. event ≡ length self.old.events) }
-        ensures appended { OnOk result (self.new ≡ with_event self.old (record { lane = lane; send = None })) }
+        ensures appended { OnOk result (self.new ≡ with_event self.old
+            (record { lane = lane; send = None })) }
         ensures unchanged { OnErr result (self.new ≡ self.old) }
         ensures refusal { IfErr result (λ fault. fault ≡ ClockFault.NoMemory) }
     {
@@ -220,7 +222,8 @@ impl Clocks {
         requires sent { send_event < length self.old.events }
         requires room { length self.old.events < EVENTS }
         ensures number { IfOk result (λ event. event ≡ length self.old.events) }
-        ensures appended { OnOk result (self.new ≡ with_event self.old (receiving lane send_event)) }
+        ensures appended { OnOk result (self.new ≡
+            with_event self.old (receiving lane send_event)) }
         ensures unchanged { OnErr result (self.new ≡ self.old) }
         ensures refusal { IfErr result (λ fault. fault ≡ ClockFault.NoMemory) }
     {
@@ -337,7 +340,8 @@ fn append(entries: &mut Vec<Entry>, lane: &mut Lane, event: Event) -> u32
     requires few { vec_len entries.old < EVENTS }
     requires room { vec_len entries.old < vec_capacity entries.old }
     ensures number { result ≡ vec_len entries.old }
-    ensures appended { entries.new.items ≡ entries.old.items ++ record { event = event; place = lane.old.events } ∷ [] }
+    ensures appended { entries.new.items ≡
+        entries.old.items ++ record { event = event; place = lane.old.events } ∷ [] }
     ensures counted { lane.new.events ≡ lane.old.events + 1 }
     ensures same { rises_in lane.new ≡ rises_in lane.old }
 {

@@ -27,8 +27,10 @@ pub fn equality_law()
 pub fn counting_law()
     ensures counted { (n : ℕ) (s : set.FinSet nat_cmp) (test : ℕ → Bool) → HasMembers n s test →
         set.len s ≡ count_below n test }
-    ensures united { (n : ℕ) (s t : set.FinSet nat_cmp) (a b : ℕ → Bool) → HasMembers n s a → HasMembers n t b →
+    ensures united { (n : ℕ) (s t : set.FinSet nat_cmp) (a b : ℕ → Bool) → HasMembers n s a →
+        HasMembers n t b →
         HasMembers n (set.union s t) (either a b) }
-    ensures within { (n : ℕ) (s t : set.FinSet nat_cmp) (a b : ℕ → Bool) → HasMembers n s a → HasMembers n t b →
+    ensures within { (n : ℕ) (s t : set.FinSet nat_cmp) (a b : ℕ → Bool) → HasMembers n s a →
+        HasMembers n t b →
         (set.is_subset s t ≡ true) ↔ IsWithin n a b }
 {}

@@ -26,7 +26,8 @@ pub trait Process: Drop {
         ensures ok { IfOk result (λ sends. (inputs : List Input) →
             answers self.old (input.now ∷ inputs) ≡ sends.items ∷ answers self.new inputs) }
         ensures limits { IfOk result (λ sends. IsWithinLimits sends.items) }
-        ensures err { OnErr result ((inputs : List Input) → answers self.new inputs ≡ answers self.old inputs) };
+        ensures err { OnErr result ((inputs : List Input) →
+            answers self.new inputs ≡ answers self.old inputs) };
 
     /// One list of sends for each input.
     ghost each: { AnswersEach answers };
