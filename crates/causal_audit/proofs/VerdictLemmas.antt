@@ -1,5 +1,5 @@
 -- The verdict, from the first excess and the least breach.
-use Rattle.causal_audit.proofs.Common.{ℕ, ◌+◌, ◌<◌, ◌≤◌, length, Option, Some, None, refl, arith, count_below, instant, is_down, deliveries_in, Recording, HasOrphan, IsSafe}
+use Rattle.causal_audit.proofs.Common.{ℕ, ◌+◌, ◌<◌, ◌≤◌, length, None, refl, arith, count_below, instant, is_down, deliveries_in, Recording, HasOrphan, IsSafe}
 use Rattle.causal_audit.specs.declared.breach.Breach.{Breach}
 use Rattle.causal_audit.specs.declared.breach.Excess.{Excess}
 use Rattle.causal_audit.specs.declared.verdict.Verdict.TheVariants.{Accept, Exceeded, Orphan}

@@ -10,6 +10,8 @@ pub mod lists;
 pub mod mentions;
 /// The numbers of determinants.
 pub mod numbering;
+/// Lists of positions in one vector.
+pub mod packed;
 /// What tells who is down at an instant.
 pub mod outline;
 /// Which processes the events of each reach.

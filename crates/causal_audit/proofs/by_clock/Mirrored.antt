@@ -1,5 +1,5 @@
 -- The event of one more entry: that it may be added, and that the clock then stands for one more entry.
-use Rattle.causal_audit.proofs.Common.{ℕ, ◌≡◌, ◌≢◌, ◌+◌, ◌<◌, inl, inr, true, cond, List, [], ◌∷◌, ◌++◌, length, Option, Some, None, refl, sym, ap, ◌∙◌, arith, get_or, length-append, false, subst, ◌↔◌, slice_index, slice_set, ◌==◌, get_or-append, get_or-append_seam, false≢true, cases_lt, eq-eqb, ne_eqb, eqb-true, eqb_tells, get_or-set_same, get_or-set_other, length-set, Pid, Det, Entry, Restart, Send, Deliver, Stable, Crash, Forget, lane, restarts, actor, is_delivery_of, IsEventOf, Delivers, event_below, event_lane, AreAccepted, delivers_sent, sent_within}
+use Rattle.causal_audit.proofs.Common.{ℕ, ◌≡◌, ◌≢◌, ◌+◌, ◌<◌, inl, inr, true, cond, List, [], ◌∷◌, ◌++◌, length, Option, Some, None, refl, sym, ap, ◌∙◌, arith, length-append, false, subst, ◌↔◌, slice_index, slice_set, ◌==◌, get_or-append, get_or-append_seam, false≢true, cases_lt, eq-eqb, ne_eqb, eqb-true, eqb_tells, get_or-set_same, get_or-set_other, length-set, Pid, Det, Entry, Restart, Send, Deliver, Stable, Crash, Forget, lane, restarts, actor, is_delivery_of, IsEventOf, Delivers, event_below, event_lane, AreAccepted, delivers_sent, sent_within}
 use Rattle.causal_clock.specs.declared.Event.{Event}
 use Rattle.causal_clock.specs.Timeline.{Timeline, lane_of, send_of, with_event}
 use Rattle.causal_audit.specs.Inside.ByClock.Stands.{Stands, Mirrors, CanMirror}

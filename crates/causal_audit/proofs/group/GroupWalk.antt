@@ -10,7 +10,7 @@ use Rattle.causal_audit.specs.Sweep.{MayNewlyFail}
 use Rattle.causal_audit.specs.Quiet.{is_turn, mentioned_by}
 use Rattle.causal_audit.specs.Inside.Among.{FirstBreachBy, HasNoOrphanBy, LeastAmongBy}
 use Rattle.causal_audit.specs.Inside.DeliveryStates.{BreachAt}
-use Rattle.causal_audit.specs.Inside.Group.Walk.{AreCopied, AreCopies, AreCopiesAfter, copies_at, no_copies, AreHeldBefore, IsLacked, IsSuspected, TellsBreachOf, IsStep, position_at, HasBuffers, AreAsked, HaveNone, IsFollowed, ArePlaces, HaveMarked, IsNewly, row, HasRowRoom, IsReach, SeesReach, IsPut, opened_at, IsHeldSo, IsDeliveredTo, IsHeldBy, ArePassed, IsOwn, IsTold, TellRows, AreBelow, AreMarked, IsUntouchedBefore}
+use Rattle.causal_audit.specs.Inside.Group.Walk.{AreCopied, AreCopies, AreCopiesAfter, copies_at, no_copies, AreHeldBefore, IsLacked, IsSuspected, TellsBreachOf, IsStep, position_at, HasBuffers, AreAsked, HaveNone, IsFollowed, ArePlaces, IsNewly, row, HasRowRoom, IsReach, SeesReach, IsPut, opened_at, IsHeldSo, IsDeliveredTo, IsHeldBy, ArePassed, IsOwn, IsTold, TellRows, AreBelow, AreMarked, IsUntouchedBefore}
 use Rattle.causal_audit.specs.Inside.Group.OpenDeliveries.{positions_of, IsDeliveryAt, IsOpenDelivery}
 use Rattle.causal_audit.proofs.AmongLemmas.{among_push, among_wider, among_none}
 use Rattle.causal_audit.proofs.Between.{depends_before, logs_stay, stable_stays}

@@ -1,5 +1,5 @@
 -- A walk over an ascending list.
-use Rattle.causal_audit.proofs.Common.{ℕ, ◌≡◌, ◌+◌, ◌<◌, ◌≤◌, inl, inr, true, false, List, length, get_or, subst, arith, IsNonDecreasing, IsPartitionPoint, cases_lt, ltb-true, get_or_default}
+use Rattle.causal_audit.proofs.Common.{ℕ, ◌≡◌, ◌<◌, ◌≤◌, inl, inr, true, false, List, length, get_or, arith, IsNonDecreasing, IsPartitionPoint, cases_lt, ltb-true, get_or_default}
 use Rattle.std.proofs.Math.Dec.{ltb}
 use Rattle.causal_audit.specs.Inside.ByClock.Changes.{HasNoneUntil, IsCursor}
 

@@ -1,7 +1,7 @@
 -- The lists of positions that are kept of a run: one more position, and one more entry.
 use Rattle.causal_audit.proofs.Common.{ℕ, ◌≡◌, ◌≢◌, ◌+◌, ◌-◌, ◌<◌, ◌≤◌, inl, inr, true, false, Result, Ok, Err, List, [], ◌∷◌, ◌++◌, length, get_or, Option, Some, None, refl, sym, ap, subst, ◌∙◌, arith, Bool, map, reverse, ◌⊎◌, OnOk, Contains, ◌==◌, ◌&&◌, ◌||◌, option_map_or, All, get_or-eq_default, get_or-append, cases_lt, false≢true, cond-true, cond-false, false_from_ne_true, eqb-true, eq-eqb, ne_eqb, and_parts, or_cases, cases_Bool, or_left, or_right, eqb_tells, nat_tests, get_or-set_same, get_or-set_other, get_or_past, length-map, length-reverse, reverse-append, All-push, All-set, All-get_or, All-weaker, Contains-append_left, Contains-push, Contains-push_cases, IsNonDecreasingBy-push, Entry, entry_at, has, nat_cmp, FinSet, contains, empty, remove, contains-empty, IsNonDecreasing, Send, Deliver, Stable, Crash, Restart, Forget, entry_beyond, get_or-append_seam, Det, same_det}
 use Rattle.causal_audit.specs.Inside.Index.Filed.{Ascends, list_at, with_added, AreMentions, AreMentionsWith, Numbers, mentions_of, number_of, AreTurnsOf, IsFirstCrash, is_turn_of}
-use Rattle.causal_audit.specs.Inside.ByClock.Changes.{HasNoneUntil, HasMentions}
+use Rattle.causal_audit.specs.Inside.ByClock.Changes.{HasNoneUntil}
 use Rattle.causal_audit.specs.Inside.Look.Staying.{restarts_one, RestartsNone}
 use Rattle.causal_audit.specs.Spread.{IsCrashOf}
 use Rattle.causal_audit.proofs.group.Reaching.{left_out}
@@ -232,16 +232,6 @@ numbers_apart (x ∷ older) c d m at to =
       ]
     ]
 
--- ---- a new list, for a determinant that has none
-
-module _ (numbers : Numbers) (lists : List (List ℕ)) (det : Det) (none : number_of numbers det ≡ None) (numbered : length lists ≡ length numbers) where
-  old_list : (o : Option ℕ) → ((m : ℕ) → o ≡ Some m → m < length lists) → option_map_or (list_at (lists ++ [] ∷ [])) o [] ≡ option_map_or (list_at lists) o []
-  old_list None inside = refl
-  old_list (Some m) inside = get_or-append lists ([] ∷ []) [] m (inside m refl)
-
-pub new_ascend : (bound : ℕ) (lists : List (List ℕ)) → All (Ascends bound) lists → All (Ascends bound) (lists ++ [] ∷ [])
-new_ascend bound lists all = All-push (Ascends bound) lists [] all (record { ascending = λ i j d low high. absurd (omega (arith, high)); below = λ i d low. absurd (omega (arith, low)) })
-
 -- ---- one more position in the list of a determinant
 
 has_more : (dets : List Det) (det d : Det) → has (dets ++ det ∷ []) d ≡ (has dets d || same_det d det)
@@ -288,15 +278,18 @@ mentions_more past dets numbers lists det m at there are =
       ];
     }
 
--- ---- with a new number the lists say the same
+-- ---- before the first entry
 
-pub mentions_alike : (past : List Entry) (dets : List Det) (numbers new : Numbers) (lists more : List (List ℕ)) → ((bound : ℕ) → All (Ascends bound) lists → All (Ascends bound) more) → ((d : Det) → mentions_of new more d ≡ mentions_of numbers lists d) → AreMentionsWith past dets numbers lists → AreMentionsWith past dets new more
-mentions_alike past dets numbers new lists more ascend same are = record {
-  ascend = ascend (length past + 1) are.ascend;
-  mentioned = λ d. subst (HasMentions past d) (sym (same d)) (are.mentioned d);
-  noted = λ d listed. subst (λ list. Contains list (length past)) (sym (same d)) (are.noted d listed);
-  only = λ d v listed. are.only d v (subst (λ list. Contains list v) (same d) listed);
+pub mentions_of_none : (numbers : Numbers) (lists : List (List ℕ)) → All (λ list. list ≡ []) lists → AreMentions [] numbers lists
+mentions_of_none numbers lists all = record {
+  ascend = empty_ascend lists all;
+  mentioned = λ d v e at unlisted. absurd (let x : None ≡ Some e = at in cc);
+  only = λ d v listed. absurd (none (number_of numbers d) v listed);
 }
+  where
+    none : (o : Option ℕ) (v : ℕ) → Contains (option_map_or (list_at lists) o []) v → ⊥
+    none None v has = omega (arith, has.1)
+    none (Some m) v has = nothing_in lists all m v has
 
 -- ---- one more entry
 

@@ -2,6 +2,7 @@ pub mod Chains
 pub mod Filed
 pub mod Kept
 pub mod Outlines
+pub mod Packed
 pub mod Passing
 pub mod Reached
 pub mod Releases

@@ -1,13 +1,13 @@
 //! The positions of the entries that mention each determinant.
-ghost use Rattle.std.specs.Prelude.{◌≡◌, ◌≤◌, ◌∷◌, ◌++◌, [], List, IfOk, OnOk, Some, length};
+ghost use Rattle.std.specs.Prelude.{◌≡◌, ◌≤◌, ◌∷◌, ◌++◌, [], List, IfOk, OnOk, length};
 ghost use Rattle.causal_name.specs.declared.Det.{Det};
 ghost use Rattle.causal_trace.specs.declared.entry.Entry.{Entry};
 ghost use Rattle.causal_trace.specs.Limits.{max_entries};
 ghost use Rattle.causal_audit.specs.Quiet.{mentioned_by};
-ghost use Rattle.causal_audit.specs.Inside.Index.Filed.{AreMentions, lists_in, mentions_of, number_of, past_of};
+ghost use Rattle.causal_audit.specs.Inside.Index.Filed.{AreMentions, mentions_of, past_of};
 
-use crate::index::lists::add_to;
 use crate::index::numbering::Numbering;
+use crate::index::packed::PackedLists;
 use causal_name::{Det, NoMemory};
 use causal_trace::entry::Entry;
 use std::alloc::Global;
@@ -17,76 +17,108 @@ use std::slice;
 #[derive(Drop)]
 pub struct Mentions {
     pub numbers: Numbering,
-    pub lists: Vec<Vec<u32>>,
-    ghost numbered: { length lists.items ≡ length numbers },
+    pub lists: PackedLists,
+    ghost numbered: { length lists ≡ length numbers },
+}
+
+/// Determinants by their numbers, and how often each is mentioned.
+#[derive(Drop)]
+struct Counts {
+    numbers: Numbering,
+    counts: Vec<u32>,
+    ghost numbered: { length counts.items ≡ length numbers },
+}
+
+impl Counts {
+    /// No determinants, as before the first entry.
+    fn new(alloc: Global) -> Result<Counts, NoMemory> {
+        Ok(Counts {
+            numbers: Numbering::new(alloc)?,
+            counts: Vec::new(alloc),
+        })
+    }
+
+    /// Counts one more mention of a determinant, which gets a number where it has none.
+    fn count(&mut self, det: Det) -> Result<(), NoMemory> {
+        if let Some(number) = self.numbers.find(det) {
+            self.counts[number] = self.counts[number].saturating_add(1);
+            return Ok(());
+        }
+        // Room comes first, so that a refusal leaves no determinant without a count.
+        self.counts.reserve(1)?;
+        self.numbers.add(det)?;
+        self.counts.push_reserved(1);
+        Ok(())
+    }
+
+    /// Counts the mentions of one more entry.
+    fn note(&mut self, entry: &Entry) -> Result<(), NoMemory> {
+        for det in mentioned(entry) {
+            self.count(*det)?;
+        }
+        Ok(())
+    }
+
+    /// Counts the mentions of all these entries.
+    fn of(alloc: Global, entries: &[Entry]) -> Result<Counts, NoMemory> {
+        let mut counts = Counts::new(alloc)?;
+        for entry in entries {
+            counts.note(entry)?;
+        }
+        Ok(counts)
+    }
 }
 
 impl Mentions {
-    ghost use Rattle.causal_audit.specs.Inside.Index.Kept.{AreMentionsKept, AreMentionsWithKept, KeepAscending, MentionTheSame};
+    ghost use Rattle.causal_audit.specs.Inside.Index.Kept.{AreMentionsKept, AreMentionsWithKept};
 
-    /// No determinants, as before the first entry.
-    fn new(alloc: Global) -> Result<Mentions, NoMemory>
+    /// Empty lists, as before the first entry, with room for what was counted.
+    fn with_rooms(alloc: Global, counts: Counts) -> Result<Mentions, NoMemory>
         ensures { IfOk result (AreMentionsKept []) }
     {
-        Ok(Mentions {
-            numbers: Numbering::new(alloc)?,
-            lists: Vec::new(alloc),
-        })
+        let Counts { numbers, counts } = counts;
+        let lists = PackedLists::with_rooms(alloc, &counts)?;
+        Ok(Mentions { numbers, lists })
     }
 
     /// The list of a determinant.
     pub fn list(&self, det: Det) -> &[u32]
-        ensures { result.now ≡ mentions_of self.now.numbers (lists_in self.now.lists.items) det }
+        ensures { result.now ≡ mentions_of self.now.numbers self.now.lists det }
     {
         match self.numbers.find(det) {
-            Some(number) => self.lists[number].as_slice(),
+            Some(number) => self.lists.get(number),
             None => &[],
         }
     }
 
-    /// The number of a determinant's list, which is a new one where it has none.
-    fn number(&mut self, alloc: Global, det: Det) -> Result<usize, NoMemory>
-        ensures number { IfOk result (λ m. number_of self.new.numbers det ≡ Some m) }
-        ensures ascend { OnOk result (KeepAscending self.old self.new) }
-        ensures same { OnOk result (MentionTheSame self.old self.new) }
-    {
-        if let Some(number) = self.numbers.find(det) {
-            return Ok(number);
-        }
-        let number = self.lists.len();
-        // WalkBuffers comes first, so that a refusal leaves no determinant without a list.
-        self.lists.reserve(1)?;
-        self.numbers.add(det)?;
-        self.lists.push_reserved(Vec::new(alloc));
-        Ok(number)
-    }
-
-    /// Puts the position of an entry into the list of a determinant that it mentions.
-    fn add(&mut self, alloc: Global, det: Det, i: u32) -> Result<(), NoMemory>
+    /// Puts the position of an entry into the list of a determinant that it mentions. The list was counted.
+    fn add(&mut self, det: Det, i: u32) -> Result<(), NoMemory>
         ensures { OnOk result ((past : List Entry) (dets : List Det) → length past ≡ i →
             AreMentionsWithKept past dets self.old → AreMentionsWithKept past (dets ++ det ∷ []) self.new) }
     {
-        let number = self.number(alloc, det)?;
-        add_to(&mut self.lists, number, i)
+        let Some(number) = self.numbers.find(det) else {
+            return Err(NoMemory);
+        };
+        self.lists.add(number, i)
     }
 
     /// Puts the position of an entry into the lists of the determinants that it mentions.
-    fn add_each(&mut self, alloc: Global, dets: &[Det], i: u32) -> Result<(), NoMemory>
+    fn add_each(&mut self, dets: &[Det], i: u32) -> Result<(), NoMemory>
         ensures { OnOk result ((past : List Entry) → length past ≡ i →
             AreMentionsWithKept past [] self.old → AreMentionsWithKept past dets.now self.new) }
     {
         for det in dets {
-            self.add(alloc, *det, i)?;
+            self.add(*det, i)?;
         }
         Ok(())
     }
 
     /// Notes one more entry, at position i.
-    fn note(&mut self, alloc: Global, entry: &Entry, i: u32) -> Result<(), NoMemory>
+    fn note(&mut self, entry: &Entry, i: u32) -> Result<(), NoMemory>
         ensures { OnOk result ((past : List Entry) → length past ≡ i →
             AreMentionsKept past self.old → AreMentionsKept (entry.now ∷ past) self.new) }
     {
-        self.add_each(alloc, mentioned(entry), i)
+        self.add_each(mentioned(entry), i)
     }
 }
 
@@ -108,11 +140,12 @@ pub fn mentioned(entry: &Entry) -> &[Det]
 pub fn mentions_in(alloc: Global, entries: &[Entry]) -> Result<Mentions, NoMemory>
     requires { length entries.now ≤ max_entries }
     ensures { IfOk result (λ mentions.
-        AreMentions (past_of entries.now) mentions.numbers (lists_in mentions.lists.items)) }
+        AreMentions (past_of entries.now) mentions.numbers mentions.lists) }
 {
-    let mut mentions = Mentions::new(alloc)?;
+    let counts = Counts::of(alloc, entries)?;
+    let mut mentions = Mentions::with_rooms(alloc, counts)?;
     for (i, entry) in entries.iter().enumerate() {
-        mentions.note(alloc, entry, i as u32)?;
+        mentions.note(entry, i as u32)?;
     }
     Ok(mentions)
 }

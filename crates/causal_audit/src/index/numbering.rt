@@ -51,6 +51,13 @@ impl Numbering {
         })
     }
 
+    /// How many determinants have numbers.
+    pub fn len(&self) -> usize
+        ensures { result ≡ length self.now }
+    {
+        self.nodes.len()
+    }
+
     /// The number of a determinant; None where it has none.
     pub fn find(&self, det: Det) -> Option<usize>
         ensures { result ≡ number_of self.now det }

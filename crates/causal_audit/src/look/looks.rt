@@ -46,8 +46,8 @@ impl<'a> Looks<'a> {
         ensures { IfOk result (AreAllLooks run.now.trace.now.recording most end) }
     {
         let sets = reached_in(alloc, run.trace)?;
-        let mut found = Vec::with_capacity(alloc, mentions.lists.len())?;
-        for number in 0..mentions.lists.len() {
+        let mut found = Vec::with_capacity(alloc, mentions.numbers.len())?;
+        for number in 0..mentions.numbers.len() {
             let det = mentions.numbers.det(number);
             let look = Look {
                 run: *run,

@@ -1,4 +1,4 @@
-use Rattle.causal_audit.proofs.Common.{◌<◌, length, map, sym, subst, arith, past_at, past_more, past_length}
+use Rattle.causal_audit.proofs.Common.{◌<◌, length, sym, subst, arith, past_at, past_more, past_length}
 use Rattle.causal_audit.specs.Inside.Index.Filed.{AreMentions}
 use Rattle.causal_audit.proofs.index.mentions.mentions_in.Goals as goal
 
@@ -7,5 +7,5 @@ loop-i-preserved c =
     let entries = c.args.entries.now in
     let i = c.loop-i.i in
     let below : i < length entries = c.loop-i-test.true in
-    subst (λ past. AreMentions past c.note.new.self.numbers (map (λ list. list.items) c.note.new.self.lists.items)) (sym (past_more entries i c.index-entries-i.result below c.index-entries-i.is))
+    subst (λ past. AreMentions past c.note.new.self.numbers c.note.new.self.lists) (sym (past_more entries i c.index-entries-i.result below c.index-entries-i.is))
     (c.in_ok-note.ensures (past_at entries i) (past_length entries i (omega (arith, below))) c.loop-i.invariant)

@@ -1,6 +1,5 @@
 use Rattle.causal_audit.proofs.Common.{sym, subst, IsNonDecreasing}
 use Rattle.causal_audit.specs.Inside.ByClock.Changes.{AreMentionsOf, HasMentions}
-use Rattle.causal_audit.specs.Inside.Index.Filed.{lists_in}
 use Rattle.causal_audit.proofs.index.Filings.{mentions_ascend}
 use Rattle.causal_audit.proofs.tables.Tables.first_orphan.Goals as goal
 
@@ -13,7 +12,7 @@ first_orphan-requires c =
       within = rw (← c.self.view_is) at c.requires.within;
       delivery = rw (← c.self.view_is) at c.requires.delivery;
       stands = c.self.invariant.stands;
-      ascending = subst IsNonDecreasing (sym c.list-mentions.ensures) (mentions_ascend past mentions.numbers (lists_in mentions.lists.items) kept c.args.det);
+      ascending = subst IsNonDecreasing (sym c.list-mentions.ensures) (mentions_ascend past mentions.numbers mentions.lists kept c.args.det);
       mentioned = subst (HasMentions past c.args.det) (sym c.list-mentions.ensures) (kept.mentioned c.args.det);
       only = subst (AreMentionsOf past c.args.det) (sym c.list-mentions.ensures) (kept.only c.args.det);
     }

@@ -1,4 +1,4 @@
-use Rattle.causal_audit.proofs.Common.{◌≡◌, ◌≤◌, ◌∙◌, Vec, Global, ℕ, List, Some, map, subst, sym, arith, Contains, false, IsNonDecreasing, has, instant}
+use Rattle.causal_audit.proofs.Common.{◌≡◌, ◌≤◌, ◌∙◌, Some, subst, sym, arith, Contains, false, IsNonDecreasing, has, instant}
 use Rattle.causal_audit.specs.Quiet.{mentioned_by}
 use Rattle.causal_audit.specs.Inside.Group.Walk.{IsUntouchedBefore}
 use Rattle.causal_audit.specs.Inside.Group.OpenDeliveries.{RunUpTo}
@@ -6,13 +6,10 @@ use Rattle.causal_audit.proofs.index.Filings.{mentions_ascend}
 use Rattle.causal_audit.proofs.Steps.{entry_then}
 use Rattle.causal_audit.proofs.group.run_to_follow.RunToFollow.first_touched.Goals as goal
 
-abbrev positions : Vec ℕ Global → List ℕ
-positions list = list.items
-
 pub first_in-requires : goal.first_in-requires
 first_in-requires c =
     let following = c.self.inside in
-    record { ascend = subst IsNonDecreasing (sym c.list.ensures) (mentions_ascend (instant following.outline.trace.now.recording.past following.end) following.mentions.now.numbers (map positions following.mentions.now.lists.items) c.self.invariant.mentioned c.in-Some.det) }
+    record { ascend = subst IsNonDecreasing (sym c.list.ensures) (mentions_ascend (instant following.outline.trace.now.recording.past following.end) following.mentions.now.numbers following.mentions.now.lists c.self.invariant.mentioned c.in-Some.det) }
 
 pub returns-clause-first : goal.returns-clause-first
 returns-clause-first c =

@@ -1,4 +1,4 @@
-use Rattle.std.proofs.Common.{map, subst}
+use Rattle.std.proofs.Common.{subst}
 use Rattle.causal_audit.specs.Inside.Index.Filed.{AreMentionsWith}
 use Rattle.causal_audit.proofs.index.Filings.{on_ok, mentions_begun, mentions_done}
 use Rattle.causal_audit.proofs.index.mentions.Mentions.note.Goals as goal
@@ -7,8 +7,8 @@ pub returns : goal.returns
 returns c =
     on_ok c.add_each.result (λ added past long are.
     let numbers = c.add_each.new.self.numbers in
-    let lists = map (λ list. list.items) c.add_each.new.self.lists.items in
+    let lists = c.add_each.new.self.lists in
     mentions_done c.args.entry.now past numbers lists
     (subst (λ ds. AreMentionsWith past ds numbers lists) c.mentioned.ensures
-    (added past long (mentions_begun past c.args.self.now.numbers (map (λ list. list.items) c.args.self.now.lists.items) are))))
+    (added past long (mentions_begun past c.args.self.now.numbers c.args.self.now.lists are))))
     c.add_each.ensures

@@ -1,11 +1,8 @@
-use Rattle.causal_audit.proofs.Common.{ℕ, ◌≡◌, Vec, Global, List, map, ap, sym, subst, ◌∙◌, IsNonDecreasing, instant}
+use Rattle.causal_audit.proofs.Common.{◌≡◌, ap, sym, subst, ◌∙◌, IsNonDecreasing, instant}
 use Rattle.causal_audit.specs.Inside.Index.Reached.{HasReached, reached_by}
 use Rattle.causal_audit.specs.Inside.ByClock.Changes.{AreMentionsOf, HasMentions}
 use Rattle.causal_audit.proofs.index.Filings.{mentions_ascend}
 use Rattle.causal_audit.proofs.look.looks.Looks.of.Goals as goal
-
-abbrev positions : Vec ℕ Global → List ℕ
-positions list = list.items
 
 pub invariant_of-look : goal.invariant_of-look
 invariant_of-look c =
@@ -17,7 +14,7 @@ invariant_of-look c =
     record {
       within = c.requires.within;
       reaching = subst (HasReached c.args.run.now.trace.now.recording.past det.dest.0) (sym is) (c.in_ok-sets.ensures.each det.dest.0);
-      ascending = subst IsNonDecreasing (sym c.list.ensures) (mentions_ascend past mentions.numbers (map positions mentions.lists.items) c.requires.mentioned det);
+      ascending = subst IsNonDecreasing (sym c.list.ensures) (mentions_ascend past mentions.numbers mentions.lists c.requires.mentioned det);
       mentioned = subst (HasMentions past det) (sym c.list.ensures) (c.requires.mentioned.mentioned det);
       only = subst (AreMentionsOf past det) (sym c.list.ensures) (c.requires.mentioned.only det);
     }

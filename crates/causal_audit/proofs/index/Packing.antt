@@ -1,0 +1,94 @@
+-- One more position in one of the lists that stand one behind the other.
+use Rattle.causal_audit.proofs.Common.{ℕ, ◌≡◌, ◌≢◌, ◌+◌, ◌-◌, ◌<◌, ◌≤◌, inl, inr, List, [], ◌∷◌, ◌++◌, length, take, drop, map, get_or, get_or_default, set, suc, sym, ap, subst, ◌∙◌, arith, cases_lt, All, All-map, All-set, All-weaker, length-map, length-set, get_or-map, get_or-set_same, get_or-set_other, map-set}
+use Rattle.std.proofs.lemmas.List.{drop-set-add, drop-set-lt, ext_get_or, length-drop, take-set-le}
+use Rattle.std.proofs.lemmas.Bool.Decides.{eqb_tells}
+use Rattle.std.proofs.Math.Seq.{take-suc-set}
+use Rattle.std.specs.List.{slice_range}
+use Rattle.causal_audit.specs.declared.index.packed.Span.{Span}
+use Rattle.causal_audit.specs.Inside.Index.Filed.{list_at, with_added}
+use Rattle.causal_audit.specs.Inside.Index.Packed.{ArePacked, IsSpan, list_in}
+
+-- lists that end where they begin
+pub none_in : (ps : List ℕ) (size : ℕ) (spans : List Span) → All (λ (s : Span). (s.begin ≡ s.end) × (s.end ≤ size)) spans → All (λ list. list ≡ []) (map (list_in ps) spans)
+none_in ps size spans all = All-map (λ list. list ≡ []) (list_in ps) spans (All-weaker (λ (s : Span). (s.begin ≡ s.end) × (s.end ≤ size)) (λ s. list_in ps s ≡ []) (λ s h.
+    let none : s.end - s.begin ≡ 0 = omega (arith, h.0) in
+    ap (λ n. take n (drop s.begin ps)) none) spans all)
+
+-- a write outside of a list
+outside : (ps : List ℕ) (e v : ℕ) (s : Span) → (s.end ≤ e) × (s.begin ≤ s.end) → list_in (set ps e v) s ≡ list_in ps s
+outside ps e v s is =
+    let k : s.begin + (e - s.begin) ≡ e = omega (arith, is.0, is.1) in
+    ap (take (s.end - s.begin)) (ap (λ i. drop s.begin (set ps i v)) (sym k) ∙ drop-set-add s.begin ps (e - s.begin) v)
+    ∙ take-set-le (s.end - s.begin) (drop s.begin ps) (e - s.begin) v (omega (arith, is.0))
+
+-- and at its end
+at_end : (ps : List ℕ) (v : ℕ) (s : Span) → s.begin ≤ s.end → s.end < length ps → slice_range (set ps s.end v) s.begin (s.end + 1) ≡ list_in ps s ++ v ∷ []
+at_end ps v s order below =
+    let k : s.begin + (s.end - s.begin) ≡ s.end = omega (arith, order) in
+    let n : s.end + 1 - s.begin ≡ suc (s.end - s.begin) = omega (arith, order) in
+    ap (λ m. take m (drop s.begin (set ps s.end v))) n
+    ∙ ap (take (suc (s.end - s.begin))) (ap (λ i. drop s.begin (set ps i v)) (sym k) ∙ drop-set-add s.begin ps (s.end - s.begin) v)
+    ∙ take-suc-set (drop s.begin ps) (s.end - s.begin) v (omega (arith, order, below, length-drop s.begin ps))
+
+module _ (ps : List ℕ) (spans : List Span) (m v : ℕ) (s new : Span) (packed : ArePacked (length ps) spans) (there : m < length spans) (is : s ≡ get_or spans m s)
+    (begin : new.begin ≡ s.begin) (end : new.end ≡ s.end + 1) (below : s.end < length ps) (room : (j : ℕ) (d : Span) → m < j → j < length spans → s.end < (get_or spans j d).begin) where
+  here : (d : Span) → get_or spans m d ≡ s
+  here d = get_or_default spans m d s there ∙ sym is
+
+  own : IsSpan (length ps) s
+  own = subst (IsSpan (length ps)) (here s) (packed.each m s there)
+
+  -- the other lists stay
+  other : (j : ℕ) → j ≢ m → j < length spans → list_in (set ps s.end v) (get_or spans j s) ≡ list_in ps (get_or spans j s)
+  other j apart inside =
+      let x = get_or spans j s in
+      elim (cases_lt j m) [
+        | inl before ↦
+            let low : x.end ≤ s.begin = subst (λ y. x.end ≤ y.begin) (here s) (packed.apart j m s before there) in
+            outside ps s.end v x (omega (arith, low, own.order), (packed.each j s inside).order)
+        | inr after ↦ ap (take (x.end - x.begin)) (drop-set-lt x.begin ps s.end v (room j s (omega (arith, after, apart)) inside))
+      ]
+
+  longer : list_in (set ps s.end v) new ≡ list_at (map (list_in ps) spans) m ++ v ∷ []
+  longer =
+      ap (λ b. slice_range (set ps s.end v) b new.end) begin ∙ ap (slice_range (set ps s.end v) s.begin) end ∙ at_end ps v s own.order below
+      ∙ ap (λ y. list_in ps y ++ v ∷ []) (sym (here s)) ∙ ap (λ l. l ++ v ∷ []) (sym (get_or-map (list_in ps) spans m s [] there))
+
+  pub packed_more : map (list_in (set ps s.end v)) (set spans m new) ≡ with_added (map (list_in ps) spans) m v
+  packed_more =
+      let f = list_in (set ps s.end v) in
+      let list = list_at (map (list_in ps) spans) m ++ v ∷ [] in
+      let size : length (map f spans) ≡ length (map (list_in ps) spans) = omega (arith, length-map spans f, length-map spans (list_in ps)) in
+      map-set f spans m new ∙ ap (set (map f spans) m) longer
+      ∙ ext_get_or [] (set (map f spans) m list) (set (map (list_in ps) spans) m list) (omega (arith, size, length-set (map f spans) m list, length-set (map (list_in ps) spans) m list)) (λ i low.
+      let inside : i < length spans = omega (arith, low, length-set (map f spans) m list, length-map spans f) in
+      elim (eqb_tells i m) [
+        | inl same ↦
+            subst (λ k. get_or (set (map f spans) m list) k [] ≡ get_or (set (map (list_in ps) spans) m list) k []) (sym same.1)
+            (get_or-set_same (map f spans) m list [] (omega (arith, there, length-map spans f)) ∙ sym (get_or-set_same (map (list_in ps) spans) m list [] (omega (arith, there, length-map spans (list_in ps)))))
+        | inr apart ↦
+            get_or-set_other (map f spans) m i list [] apart.1 ∙ get_or-map f spans i s [] inside ∙ other i apart.1 inside
+            ∙ sym (get_or-set_other (map (list_in ps) spans) m i list [] apart.1 ∙ get_or-map (list_in ps) spans i s [] inside)
+      ])
+
+  pub packed_still : ArePacked (length (set ps s.end v)) (set spans m new)
+  packed_still = subst (λ n. ArePacked n (set spans m new)) (sym (length-set ps s.end v)) (record {
+    few = packed.few;
+    each = All-set (IsSpan (length ps)) spans m new (record { order = omega (arith, begin, end, own.order); within = omega (arith, end, below) }) packed.each;
+    apart = λ i j d low high.
+        let inside : j < length spans = omega (arith, high, length-set spans m new) in
+        elim (eqb_tells i m) [
+          | inl same ↦
+              let after : m < j = omega (arith, same.1, low) in
+              let it : get_or (set spans m new) i d ≡ new = ap (λ k. get_or (set spans m new) k d) same.1 ∙ get_or-set_same spans m new d there in
+              let to : get_or (set spans m new) j d ≡ get_or spans j d = get_or-set_other spans m j new d (λ e. omega (arith, e, after)) in
+              subst (λ x. x.end ≤ (get_or (set spans m new) j d).begin) (sym it) (subst (λ x. new.end ≤ x.begin) (sym to) (omega (arith, end, room j d after inside)))
+          | inr apart ↦ subst (λ x. x.end ≤ (get_or (set spans m new) j d).begin) (sym (get_or-set_other spans m i new d apart.1)) (elim (eqb_tells j m) [
+            | inl same ↦
+                let at : get_or (set spans m new) j d ≡ new = ap (λ k. get_or (set spans m new) k d) same.1 ∙ get_or-set_same spans m new d there in
+                let up : (get_or spans i d).end ≤ s.begin = subst (λ x. (get_or spans i d).end ≤ x.begin) (ap (λ k. get_or spans k d) same.1 ∙ here d) (packed.apart i j d low inside) in
+                subst (λ x. (get_or spans i d).end ≤ x.begin) (sym at) (omega (arith, begin, up))
+            | inr further ↦ subst (λ x. (get_or spans i d).end ≤ x.begin) (sym (get_or-set_other spans m j new d further.1)) (packed.apart i j d low inside)
+          ])
+        ];
+  })

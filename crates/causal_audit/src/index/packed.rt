@@ -1,0 +1,96 @@
+//! Numbered lists of positions, one behind the other in one vector.
+ghost use Rattle.std.specs.Prelude.{◌≡◌, ◌<◌, ◌≤◌, ℕ, [], IfOk, OnOk, length, slice_index_or};
+ghost use Rattle.std.specs.List.{All};
+ghost use Rattle.causal_audit.specs.Inside.Index.Filed.{list_at, with_added};
+ghost use Rattle.causal_audit.specs.Inside.Index.Packed.{ArePacked};
+
+use causal_name::NoMemory;
+use std::alloc::Global;
+use std::marker::Model;
+
+/// Where a list begins and ends.
+#[derive(Clone, Copy, Debug)]
+pub struct Span {
+    pub begin: u32,
+    pub end: u32,
+}
+
+/// Numbered lists of positions, each with room up to where the next one begins. They are seen as the lists. A list takes 8 bytes,
+/// and 4 for each position for which it has room.
+#[derive(Drop)]
+pub struct PackedLists {
+    positions: Vec<u32>,
+    spans: Vec<Span>,
+}
+
+impl Model for PackedLists {
+    ghost use Rattle.std.specs.Prelude.{ℕ, List, length, map};
+    ghost use Rattle.causal_audit.specs.Inside.Index.Packed.{ArePacked, list_in};
+
+    ghost Value = { List (List ℕ) };
+
+    ghost view = { λ a. map (list_in a.positions.items) a.spans.items };
+
+    ghost invariant = { λ a. ArePacked (length a.positions.items) a.spans.items };
+}
+
+/// Up to where a list has room, among so many positions.
+fn room_end(spans: &[Span], number: usize, positions: usize) -> usize
+    requires packed { ArePacked positions spans.now }
+    requires there { number < length spans.now }
+    ensures within { result ≤ positions }
+    ensures before { (j : ℕ) (s : Span) → number < j → j < length spans.now →
+        result ≤ (slice_index_or spans.now j s).begin }
+{
+    match spans.get(number + 1) {
+        Some(next) => next.begin as usize,
+        None => positions,
+    }
+}
+
+impl PackedLists {
+    /// Empty lists with room for so many positions each.
+    pub fn with_rooms(alloc: Global, rooms: &[u32]) -> Result<PackedLists, NoMemory>
+        ensures count { IfOk result (λ lists. length lists ≡ length rooms.now) }
+        ensures empty { IfOk result (λ lists. All (λ list. list ≡ []) lists) }
+    {
+        let mut spans = Vec::with_capacity(alloc, rooms.len())?;
+        let mut begin: u32 = 0;
+        for room in rooms {
+            spans.push(Span { begin, end: begin })?;
+            let Some(next) = begin.checked_add(*room) else {
+                return Err(NoMemory);
+            };
+            begin = next;
+        }
+        let positions = vec![in alloc; 0; begin as usize]?;
+        Ok(PackedLists { positions, spans })
+    }
+
+    /// The list of a number.
+    pub fn get(&self, number: usize) -> &[u32]
+        requires { number < length self.now }
+        ensures { result.now ≡ list_at self.now number }
+    {
+        let span = self.spans[number];
+        &self.positions[span.begin as usize..span.end as usize]
+    }
+
+    /// Puts a position at the end of one of the lists. A list takes no more than it has room for.
+    pub fn add(&mut self, number: usize, position: u32) -> Result<(), NoMemory>
+        requires { number < length self.old }
+        ensures added { OnOk result (self.new ≡ with_added self.old number position) }
+        ensures count { length self.new ≡ length self.old }
+    {
+        let Span { begin, end } = self.spans[number];
+        if end as usize >= room_end(&self.spans, number, self.positions.len()) {
+            return Err(NoMemory);
+        }
+        self.positions[end as usize] = position;
+        self.spans[number] = Span {
+            begin,
+            end: end + 1,
+        };
+        Ok(())
+    }
+}
