@@ -25,7 +25,7 @@ pub struct WalkBuffers {
 }
 
 impl WalkBuffers {
-    /// WalkBuffers for walks over so many entries. It takes 32 bytes for each.
+    /// Room for walks over so many entries. It takes 32 bytes for each.
     ///
     /// # Errors
     /// `NoMemory` where memory was refused.

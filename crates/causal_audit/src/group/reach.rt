@@ -64,7 +64,7 @@ fn make_so_many(rows: &mut Vec<Places>, many: usize)
 }
 
 impl ReachingDeliveries {
-    /// WalkBuffers for walks over so many entries.
+    /// Room for walks over so many entries.
     ///
     /// # Errors
     /// `NoMemory` where memory was refused.
