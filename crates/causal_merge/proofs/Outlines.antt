@@ -8,7 +8,7 @@ use Rattle.causal_text.specs.declared.kind.TextKind.TheVariants.{Form}
 use Rattle.causal_text.specs.Reading.{◌>>=◌}
 use Rattle.causal_text.specs.Shapes.{pid_at, u32_at, u64_at, det_of, dets_at, begins}
 use Rattle.causal_text.specs.Outline.{levels, fits}
-use Rattle.causal_text.proofs.Lemmas.Unfit.{or_else, last_false, split, stops, after, chain, IsPlainly-or_form, IsPlainly-pid, IsPlainly-det, IsPlainly-dets, number_bad, u64_bad, pid_bad, det_bad, dets_bad, of_line, fields, either}
+use Rattle.causal_text.proofs.Lemmas.Unfit.{process_or, number_or, or_else, last_false, split, stops, after, chain, IsPlainly-or_form, IsPlainly-pid, IsPlainly-det, IsPlainly-dets, number_bad, u64_bad, pid_bad, det_bad, dets_bad, of_line, fields, either}
 use Rattle.causal_merge.specs.declared.event.Act.{Act}
 use Rattle.causal_merge.specs.declared.event.Act.TheVariants.{Crash, Restart, Forget}
 use Rattle.causal_merge.specs.Shapes.{header_of, event_with, send_of, deliver_of, stable_of, restart_of, forget_of, heard_of, line_of}
@@ -49,19 +49,18 @@ header_bad : (d : Data) → fits levels d ≡ false → begins d (codes "recordi
 unfolding header_of
 header_bad d h is = of_line 4 (codes "recording") (λ x. header_of x ≡ Err Form) d h is (λ a b c e x bad name.
     let l : Data = array (item a (item b (item c (item e (item x no_items))))) in
-    chain (pid_at 1 l) _ (IsPlainly-pid 1 l) (or_else (fits 2 b) _ (fields (codes "recording") a _ refl bad name) (pid_bad 2 1 l b refl) (λ h2 process.
-    chain (u32_at 2 l) _ (IsPlainly-or_form _) (or_else (fits 2 c) _ h2 (number_bad (2 ^ 32) 2 2 l c refl) (λ h3 version.
-    chain (u32_at 3 l) _ (IsPlainly-or_form _) (or_else (fits 2 e) _ h3 (number_bad (2 ^ 32) 2 3 l e refl) (λ h4 processes.
-    stops (u64_at 4 l) _ (u64_bad 2 4 l x refl (last_false (fits 2 x) true refl h4)))))))))
+    process_or 1 l b _ _ refl (fields (codes "recording") a _ refl bad name) (λ h2 process.
+    number_or 2 l c _ _ refl h2 (λ h3 version. number_or 3 l e _ _ refl h3 (λ h4 processes.
+    stops (u64_at 4 l) _ (u64_bad 2 4 l x refl (last_false (fits 2 x) true refl h4))))))
 
 heard_bad : (d : Data) → fits levels d ≡ false → begins d (codes "heard") 5 ≡ true → heard_of d ≡ Err Form
 unfolding heard_of
 heard_bad d h is = of_line 4 (codes "heard") (λ x. heard_of x ≡ Err Form) d h is (λ a b c e x bad name.
     let l : Data = array (item a (item b (item c (item e (item x no_items))))) in
-    chain (pid_at 1 l) _ (IsPlainly-pid 1 l) (or_else (fits 2 b) _ (fields (codes "heard") a _ refl bad name) (pid_bad 2 1 l b refl) (λ h2 process.
+    process_or 1 l b _ _ refl (fields (codes "heard") a _ refl bad name) (λ h2 process.
     chain (u64_at 2 l) _ (IsPlainly-or_form _) (or_else (fits 2 c) _ h2 (u64_bad 2 2 l c refl) (λ h3 clock.
-    chain (pid_at 3 l) _ (IsPlainly-pid 3 l) (or_else (fits 2 e) _ h3 (pid_bad 2 3 l e refl) (λ h4 from.
-    stops (u64_at 4 l) _ (u64_bad 2 4 l x refl (last_false (fits 2 x) true refl h4)))))))))
+    process_or 3 l e _ _ refl h3 (λ h4 from.
+    stops (u64_at 4 l) _ (u64_bad 2 4 l x refl (last_false (fits 2 x) true refl h4)))))))
 
 send_bad : (d : Data) → fits levels d ≡ false → begins d (codes "send") 5 ≡ true → send_of d ≡ Err Form
 unfolding send_of
@@ -69,8 +68,8 @@ send_bad d h is = of_line 4 (codes "send") (λ x. send_of x ≡ Err Form) d h is
     let l : Data = array (item a (item b (item c (item e (item x no_items))))) in
     event_or b c _ (fields (codes "send") a _ refl bad name)
     (λ event. after (pid_at 3 l) _ (IsPlainly-pid 3 l) (λ to. after (u32_at 4 l) _ (IsPlainly-or_form _) (λ ssn. event_bad l b c _ refl refl event)))
-    (λ own. chain (pid_at 3 l) _ (IsPlainly-pid 3 l) (or_else (fits 2 e) _ own (pid_bad 2 3 l e refl) (λ h2 to.
-    stops (u32_at 4 l) _ (number_bad (2 ^ 32) 2 4 l x refl (last_false (fits 2 x) true refl h2))))))
+    (λ own. process_or 3 l e _ _ refl own (λ h2 to.
+    stops (u32_at 4 l) _ (number_bad (2 ^ 32) 2 4 l x refl (last_false (fits 2 x) true refl h2)))))
 
 deliver_bad : (d : Data) → fits levels d ≡ false → begins d (codes "deliver") 8 ≡ true → deliver_of d ≡ Err Form
 unfolding deliver_of
@@ -79,11 +78,9 @@ deliver_bad d h is = of_line 7 (codes "deliver") (λ x. deliver_of x ≡ Err For
     event_or b c _ (fields (codes "deliver") a _ refl bad name)
     (λ event. after (pid_at 3 l) _ (IsPlainly-pid 3 l) (λ source. after (u32_at 4 l) _ (IsPlainly-or_form _) (λ lane. after (u32_at 5 l) _ (IsPlainly-or_form _) (λ ssn.
     after (u32_at 6 l) _ (IsPlainly-or_form _) (λ rsn. after (dets_at 7 l) _ (IsPlainly-dets 7 l) (λ listed. event_bad l b c _ refl refl event))))))
-    (λ own. chain (pid_at 3 l) _ (IsPlainly-pid 3 l) (or_else (fits 2 e) _ own (pid_bad 2 3 l e refl) (λ h2 source.
-    chain (u32_at 4 l) _ (IsPlainly-or_form _) (or_else (fits 2 x) _ h2 (number_bad (2 ^ 32) 2 4 l x refl) (λ h3 lane.
-    chain (u32_at 5 l) _ (IsPlainly-or_form _) (or_else (fits 2 y) _ h3 (number_bad (2 ^ 32) 2 5 l y refl) (λ h4 ssn.
-    chain (u32_at 6 l) _ (IsPlainly-or_form _) (or_else (fits 2 z) _ h4 (number_bad (2 ^ 32) 2 6 l z refl) (λ h5 rsn.
-    stops (dets_at 7 l) _ (dets_bad 7 l w refl (last_false (fits 2 w) true refl h5))))))))))))
+    (λ own. process_or 3 l e _ _ refl own (λ h2 source.
+    number_or 4 l x _ _ refl h2 (λ h3 lane. number_or 5 l y _ _ refl h3 (λ h4 ssn. number_or 6 l z _ _ refl h4 (λ h5 rsn.
+    stops (dets_at 7 l) _ (dets_bad 7 l w refl (last_false (fits 2 w) true refl h5))))))))
 
 -- a value that does not fit the outline of a line is refused for its form
 pub no_line : (d : Data) → fits levels d ≡ false → line_of d ≡ Err Form

@@ -5,6 +5,7 @@ use Rattle.std.proofs.lemmas.Bool.{eqb-true}
 use Rattle.serde_json.specs.Data.{Data, number, string, array, object, Items, no_items, item}
 use Rattle.serde_json.specs.Events.{items_len}
 use Rattle.serde_json.specs.Find.{at, as_str, as_array, as_number, as_u64}
+use Rattle.causal_name.specs.declared.Pid.{Pid}
 use Rattle.causal_text.specs.declared.kind.TextKind.{TextKind}
 use Rattle.causal_text.specs.declared.kind.TextKind.TheVariants.{Form}
 use Rattle.causal_text.specs.Reading.{◌>>=◌}
@@ -132,6 +133,14 @@ u64_bad left i d x is h = ap (λ o. or_form (option_and_then as_u64 (option_and_
 pub pid_bad : (left i : ℕ) (d x : Data) → at i d ≡ Some x → fits left x ≡ false → pid_at i d ≡ Err Form
 unfolding pid_at
 pid_bad left i d x is h = stops (u8_at i d) _ (number_bad (2 ^ 8) left i d x is h)
+
+-- a process, or what goes on behind it, does not fit
+pub process_or : {B : Type 0} (i : ℕ) (d x : Data) (more : Bool) (f : Pid → Result B TextKind) → at i d ≡ Some x → (fits 2 x && more) ≡ false → (more ≡ false → (p : Pid) → f p ≡ Err Form) → (pid_at i d >>= f) ≡ Err Form
+process_or i d x more f is h go = chain (pid_at i d) f (IsPlainly-pid i d) (or_else (fits 2 x) more h (pid_bad 2 i d x is) go)
+
+-- and so a number of 32 bits
+pub number_or : {B : Type 0} (i : ℕ) (d x : Data) (more : Bool) (f : ℕ → Result B TextKind) → at i d ≡ Some x → (fits 2 x && more) ≡ false → (more ≡ false → (n : ℕ) → f n ≡ Err Form) → (u32_at i d >>= f) ≡ Err Form
+number_or i d x more f is h go = chain (u32_at i d) f (IsPlainly-or_form _) (or_else (fits 2 x) more h (number_bad (2 ^ 32) 2 i d x is) go)
 
 -- another number of items
 far : (n k : ℕ) → k < n → (n == k) ≡ false

@@ -78,10 +78,8 @@ items_fit-returns-in_err-item-clause-err t c =
 
 pub items_fit-items-preserved : goal.items_fit-items-preserved
 items_fit-items-preserved t c =
-    let l = c.items in
-    let n = l.invariant.0 in
+    let l = c.items in let n = l.invariant.0 in let done = c.in_ok-item.ensures in
     let going : (after_end_array l.reader ≡ None) × (c.take_end_array.new.self ≡ l.reader) = grind arith in
-    let done = c.in_ok-item.ensures in
     let less : length c.fits.new.reader < length l.reader = rw (← going.1) done.shorter in
     let next = turn (value c.args.depth) n l.reader c.fits.new.reader c.args.left l.count l.fit done.ok.0 (omega (arith, l.invariant.1)) going.0 (rw (← going.1) done.ok.1) in (
       n - 1,
@@ -121,12 +119,9 @@ pass_members-returns-in_err-fits-clause-err t c =
 
 pub pass_members-members-preserved : goal.pass_members-members-preserved
 pass_members-members-preserved t c =
-    let l = c.members in
-    let n = l.invariant.0 in
-    let k = c.in-Some.field-0.now in
+    let l = c.members in let n = l.invariant.0 in let k = c.in-Some.field-0.now in let done = c.in_ok-fits.ensures in
     let named : read_key l.reader ≡ Some (Some k, c.next_key.new.self) = grind arith in
     let less = read_key-shorter l.reader (Some k) c.next_key.new.self named in
-    let done = c.in_ok-fits.ensures in
     let lesser = done.shorter in (
       n - 1,
       omega (arith, l.invariant.1),
