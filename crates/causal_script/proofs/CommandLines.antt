@@ -8,8 +8,8 @@ use Rattle.causal_protocol.specs.declared.request.Request.TheVariants.{Deliver, 
 use Rattle.causal_script.specs.Spelling.{command_line, IsRequest}
 use Rattle.causal_script.specs.Faults.{IsCommandLine}
 use Rattle.causal_script.specs.Inside.Reading.{◌>>=◌, cut, number_of, process_of, delivery_of, of_process, named_request, request_of}
-use Rattle.causal_script.proofs.Cuts.{IsCut, cut_whole, cut_front}
-use Rattle.causal_script.proofs.Numbers.{number_of-decimal, decimal-number_of, process_of-decimal, decimal-process_of, decimal_lacks}
+use Rattle.causal_script.proofs.Cuts.{IsCut, cut_whole}
+use Rattle.causal_script.proofs.Numbers.{number_of-decimal, decimal-number_of, process_of-decimal, decimal-process_of, cut_number}
 
 -- where two steps of reading give something, both do
 pub bind_some : {A B : Type 0} (r : Option A) (f : A → Option B) (y : B) → (r >>= f) ≡ Some y → (x : A) × (r ≡ Some x) × (f x ≡ Some y)
@@ -109,12 +109,8 @@ says_request line r e =
 delivery_back : (q source : Pid) (ssn : ℕ) → q.0 < 2 ^ 8 → source.0 < 2 ^ 8 → ssn < 2 ^ 32 → delivery_of (decimal q.0 ++ (32 ∷ (decimal source.0 ++ (32 ∷ decimal ssn)))) ≡ Some (Deliver q source ssn)
 unfolding delivery_of
 delivery_back q source ssn a b s =
-    let first : cut 32 (decimal q.0 ++ (32 ∷ (decimal source.0 ++ (32 ∷ decimal ssn)))) ≡ Some (decimal q.0, decimal source.0 ++ (32 ∷ decimal ssn)) = cut_front 32 (decimal q.0) _ (decimal_lacks q.0 (omega arith)) in
-    let second : cut 32 (decimal source.0 ++ (32 ∷ decimal ssn)) ≡ Some (decimal source.0, decimal ssn) = cut_front 32 (decimal source.0) (decimal ssn) (decimal_lacks source.0 (omega arith)) in
-    let to = process_of-decimal q a in
-    let from = process_of-decimal source b in
-    let number = number_of-decimal 4294967295 ssn (omega arith) (omega arith) in
-    rw first (rw second (rw to (rw from (rw number refl))))
+    rw (cut_number q.0 (decimal source.0 ++ (32 ∷ decimal ssn)) (omega arith)) (rw (cut_number source.0 (decimal ssn) (omega arith))
+    (rw (process_of-decimal q a) (rw (process_of-decimal source b) (rw (number_of-decimal 4294967295 ssn (omega arith) (omega arith)) refl))))
 
 process_back : (make : Pid → Request) (p : Pid) → p.0 < 2 ^ 8 → (process_of (decimal p.0) >>= λ q. Some (make q)) ≡ Some (make p)
 process_back make p small = rw (process_of-decimal p small) refl
@@ -134,8 +130,10 @@ request_back (Forget p) h = process_back Forget p h
 pub commanded : (line : List ℕ) (r : Request) → request_of line ≡ Some r → IsCommandLine line
 commanded line r e = let says = says_request line r e in (r, says.0, says.1)
 
+-- of what a line spells, and what spells is read again, something is read
+pub none_spelled : {A : Type 0} (read : List ℕ → Option A) (spell : A → List ℕ) (line : List ℕ) (x : A) → read line ≡ None → read (spell x) ≡ Some x → line ≡ spell x → ⊥
+none_spelled read spell line x none back is = none-some x (sym none ∙ ap read is ∙ back)
+
 -- a line of which no request is read has no command
 pub not_commanded : (line : List ℕ) → request_of line ≡ None → IsCommandLine line → ⊥
-not_commanded line e h =
-    let back : request_of line ≡ Some h.0 = ap request_of h.2 ∙ request_back h.0 h.1 in
-    none-some h.0 (sym e ∙ back)
+not_commanded line e h = none_spelled request_of command_line line h.0 e (request_back h.0 h.1) h.2

@@ -1,5 +1,5 @@
 -- A number and its word.
-use Rattle.std.proofs.Common.{◌≡◌, ◌≢◌, ◌⊎◌, inl, inr, ℕ, zero, suc, ◌<◌, ◌≤◌, ◌^◌, List, [], ◌∷◌, length, get_or, Bool, true, false, cond, eqb, ltb, leb, not, Option, Some, None, Result, Ok, Err, refl, ap, sym, ◌∙◌, subst, arith, decimal}
+use Rattle.std.proofs.Common.{◌≡◌, ◌≢◌, ◌⊎◌, inl, inr, ℕ, zero, suc, ◌<◌, ◌≤◌, ◌^◌, List, [], ◌∷◌, ◌++◌, length, get_or, Bool, true, false, cond, eqb, ltb, leb, not, Option, Some, None, Result, Ok, Err, refl, ap, sym, ◌∙◌, subst, arith, decimal}
 use Rattle.std.specs.Prelude.{slice_get, ◌&&◌, nat_le}
 use Rattle.std.specs.Char.{is_ascii_digit}
 use Rattle.std.specs.Str.{all_ascii_digits}
@@ -12,8 +12,8 @@ use Rattle.std.proofs.lemmas.Str.{IsUtf8-from_ascii}
 use Rattle.std.proofs.lemmas.Fmt.{IsAscii-decimal, digits_decimal, digits_value-decimal, decimal-digits_value, decimal_nonempty, first_decimal, decimal_digit}
 use Rattle.std.proofs.lemmas.Option.{none-some, same_Some}
 use Rattle.causal_name.specs.declared.Pid.{Pid}
-use Rattle.causal_script.specs.Inside.Reading.{is_plain, number_of, process_of, count_of, ◌>>=◌}
-use Rattle.causal_script.proofs.Cuts.{Lacks}
+use Rattle.causal_script.specs.Inside.Reading.{cut, is_plain, number_of, process_of, count_of, ◌>>=◌}
+use Rattle.causal_script.proofs.Cuts.{Lacks, cut_front}
 
 -- digits spell the number that is their value
 pub own : IsNumeralModel (λ ds. all_ascii_digits ds ≡ true) (digits_value 10)
@@ -89,6 +89,10 @@ decimal_lacks n small = from (decimal n) (digits_decimal own n small) where
   from : (xs : List ℕ) → all_ascii_digits xs ≡ true → Lacks 32 xs
   from [] h = tt
   from (x ∷ xs) h = let parts = both (is_ascii_digit x) (all_ascii_digits xs) h in (digit x parts.0, from xs parts.1)
+
+-- words that begin with a number in decimal are cut behind it
+pub cut_number : (n : ℕ) (rest : List ℕ) → n < 2 ^ 64 → cut 32 (decimal n ++ (32 ∷ rest)) ≡ Some (decimal n, rest)
+cut_number n rest small = cut_front 32 (decimal n) rest (decimal_lacks n small)
 
 -- ---- a process, and how many there are
 

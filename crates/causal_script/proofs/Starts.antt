@@ -7,9 +7,9 @@ use Rattle.causal_script.specs.declared.start.Start.{Start}
 use Rattle.causal_script.specs.Spelling.{start_line_at, start_line, IsStart}
 use Rattle.causal_script.specs.Faults.{IsStartLine}
 use Rattle.causal_script.specs.Inside.Reading.{◌>>=◌, cut, number_of, count_of, numbered_start, with_param, tally_of, start_of_kind, named_start, start_of}
-use Rattle.causal_script.proofs.Cuts.{IsCut, cut_whole, cut_front}
-use Rattle.causal_script.proofs.Numbers.{number_of-decimal, decimal-number_of, count_of-decimal, decimal-count_of, decimal_lacks}
-use Rattle.causal_script.proofs.CommandLines.{bind_some, chosen}
+use Rattle.causal_script.proofs.Cuts.{IsCut, cut_whole}
+use Rattle.causal_script.proofs.Numbers.{number_of-decimal, decimal-number_of, count_of-decimal, decimal-count_of, cut_number}
+use Rattle.causal_script.proofs.CommandLines.{bind_some, chosen, none_spelled}
 
 -- ---- from the line
 
@@ -124,20 +124,12 @@ with_param_back : (kind : Kind) (n f param : ℕ) → 1 ≤ n → n ≤ 256 → 
     → with_param kind (decimal n ++ (32 ∷ (decimal f ++ (32 ∷ decimal param)))) ≡ Some (record { kind = kind; n = n; f = f; param = param })
 unfolding with_param numbered_start
 with_param_back kind n f param some few faults small =
-    let first : cut 32 (decimal n ++ (32 ∷ (decimal f ++ (32 ∷ decimal param)))) ≡ Some (decimal n, decimal f ++ (32 ∷ decimal param)) = cut_front 32 (decimal n) _ (decimal_lacks n (omega arith)) in
-    let second : cut 32 (decimal f ++ (32 ∷ decimal param)) ≡ Some (decimal f, decimal param) = cut_front 32 (decimal f) (decimal param) (decimal_lacks f (omega arith)) in
-    let a = count_of-decimal n some few in
-    let b = number_of-decimal 65535 f (omega arith) (omega arith) in
-    let c = number_of-decimal 255 param (omega arith) (omega arith) in
-    rw first (rw second (rw c (rw a (rw b refl))))
+    rw (cut_number n (decimal f ++ (32 ∷ decimal param)) (omega arith)) (rw (cut_number f (decimal param) (omega arith))
+    (rw (number_of-decimal 255 param (omega arith) (omega arith)) (rw (count_of-decimal n some few) (rw (number_of-decimal 65535 f (omega arith) (omega arith)) refl))))
 
 tally_back : (n f : ℕ) → 1 ≤ n → n ≤ 256 → f < 2 ^ 16 → tally_of (decimal n ++ (32 ∷ decimal f)) ≡ Some (record { kind = Tally; n = n; f = f; param = 0 })
 unfolding tally_of numbered_start
-tally_back n f some few faults =
-    let first : cut 32 (decimal n ++ (32 ∷ decimal f)) ≡ Some (decimal n, decimal f) = cut_front 32 (decimal n) (decimal f) (decimal_lacks n (omega arith)) in
-    let a = count_of-decimal n some few in
-    let b = number_of-decimal 65535 f (omega arith) (omega arith) in
-    rw first (rw a (rw b refl))
+tally_back n f some few faults = rw (cut_number n (decimal f) (omega arith)) (rw (count_of-decimal n some few) (rw (number_of-decimal 65535 f (omega arith) (omega arith)) refl))
 
 -- the line of a start is read as that start
 pub start_back : (s : Start) → IsStart s → start_of (start_line s) ≡ Some s
@@ -159,6 +151,4 @@ started line s e = let says = says_start line s e in (s, says.0, says.1)
 
 -- a line of which no start is read starts no script
 pub not_started : (line : List ℕ) → start_of line ≡ None → IsStartLine line → ⊥
-not_started line e h =
-    let back : start_of line ≡ Some h.0 = ap start_of h.2 ∙ start_back h.0 h.1 in
-    none-some h.0 (sym e ∙ back)
+not_started line e h = none_spelled start_of start_line line h.0 e (start_back h.0 h.1) h.2

@@ -1,122 +1,68 @@
 -- A value that does not fit the outline of a line has none of the shapes.
-use Rattle.std.proofs.Common.{◌≡◌, suc, ◌^◌, arith, true, false, Err, refl, cond}
-use Rattle.std.specs.Prelude.{◌&&◌, codes}
-use Rattle.serde_json.specs.Data.{Data, number, string, array, object, no_items, item}
-use Rattle.serde_json.specs.Events.{items_len}
+use Rattle.std.proofs.Common.{◌≡◌, ◌^◌, true, false, Err, refl}
+use Rattle.std.specs.Prelude.{ℕ, List, [], bytes_eq, codes, Ok}
+use Rattle.serde_json.specs.Data.{Data, array, no_items, item}
+use Rattle.causal_name.specs.declared.Pid.{Pid}
+use Rattle.causal_name.specs.declared.Det.{Det}
+use Rattle.causal_trace.specs.declared.entry.Entry.{Entry}
+use Rattle.causal_trace.specs.declared.entry.Entry.TheVariants.{Restart, Forget}
 use Rattle.causal_text.specs.declared.kind.TextKind.TheVariants.{Form}
+use Rattle.causal_text.specs.declared.shape.Shape.TheVariants as shape
+use Rattle.causal_text.specs.Reading.{◌>>=◌}
 use Rattle.causal_text.specs.Shapes.{pid_at, u32_at, det_of, dets_at, begins, header_of, send_of, deliver_of, stable_of, crash_of, restart_of, forget_of, end_of, shape_of}
 use Rattle.causal_text.specs.Outline.{levels, fits}
-use Rattle.causal_text.proofs.Lemmas.Unfit.{or_else, last_false, stops, chain, IsPlainly-or_form, IsPlainly-pid, number_bad, pid_bad, far, det_bad, dets_bad, wrong, right, fields, either}
+use Rattle.causal_text.proofs.Lemmas.Unfit.{process_or, number_or, last_false, stops, number_bad, pid_bad, det_bad, dets_bad, of_line, fields, either}
 
--- each of the eight is refused
-all_bad : (d : Data)
-    → (begins d (codes "trace") 3 ≡ true → header_of d ≡ Err Form)
-    → (begins d (codes "send") 4 ≡ true → send_of d ≡ Err Form)
-    → (begins d (codes "deliver") 5 ≡ true → deliver_of d ≡ Err Form)
-    → (begins d (codes "stable") 2 ≡ true → stable_of d ≡ Err Form)
-    → (begins d (codes "crash") 2 ≡ true → crash_of d ≡ Err Form)
-    → (begins d (codes "restart") 3 ≡ true → restart_of d ≡ Err Form)
-    → (begins d (codes "forget") 3 ≡ true → forget_of d ≡ Err Form)
-    → (begins d (codes "end") 2 ≡ true → end_of d ≡ Err Form) → shape_of d ≡ Err Form
-unfolding shape_of
-all_bad d h1 h2 h3 h4 h5 h6 h7 h8 =
-    let y8 = cond (begins d (codes "end") 2) (end_of d) (Err Form) in
-    let y7 = cond (begins d (codes "forget") 3) (forget_of d) y8 in
-    let y6 = cond (begins d (codes "restart") 3) (restart_of d) y7 in
-    let y5 = cond (begins d (codes "crash") 2) (crash_of d) y6 in
-    let y4 = cond (begins d (codes "stable") 2) (stable_of d) y5 in
-    let y3 = cond (begins d (codes "deliver") 5) (deliver_of d) y4 in
-    let y2 = cond (begins d (codes "send") 4) (send_of d) y3 in
-    either (begins d (codes "trace") 3) (header_of d) y2 h1 (either (begins d (codes "send") 4) (send_of d) y3 h2
-    (either (begins d (codes "deliver") 5) (deliver_of d) y4 h3 (either (begins d (codes "stable") 2) (stable_of d) y5 h4
-    (either (begins d (codes "crash") 2) (crash_of d) y6 h5 (either (begins d (codes "restart") 3) (restart_of d) y7 h6
-    (either (begins d (codes "forget") 3) (forget_of d) y8 h7 (either (begins d (codes "end") 2) (end_of d) (Err Form) h8 refl)))))))
-
-crash_bad : (a b : Data) → (fits 2 b && true) ≡ false → crash_of (array (item a (item b no_items))) ≡ Err Form
+crash_bad : (d : Data) → fits levels d ≡ false → begins d (codes "crash") 2 ≡ true → crash_of d ≡ Err Form
 unfolding crash_of
-crash_bad a b h = stops (pid_at 1 (array (item a (item b no_items)))) _ (pid_bad 2 1 (array (item a (item b no_items))) b refl (last_false (fits 2 b) true refl h))
+crash_bad d h is = of_line 1 (codes "crash") (λ x. crash_of x ≡ Err Form) d h is (λ a b bad name.
+    let l : Data = array (item a (item b no_items)) in
+    stops (pid_at 1 l) _ (pid_bad 2 1 l b refl (last_false (fits 2 b) true refl (fields (codes "crash") a _ refl bad name))))
 
-stable_bad : (a b : Data) → (fits 2 b && true) ≡ false → stable_of (array (item a (item b no_items))) ≡ Err Form
+stable_bad : (d : Data) → fits levels d ≡ false → begins d (codes "stable") 2 ≡ true → stable_of d ≡ Err Form
 unfolding stable_of
-stable_bad a b h = stops (det_of b) _ (det_bad 2 b refl (last_false (fits 2 b) true refl h))
+stable_bad d h is = of_line 1 (codes "stable") (λ x. stable_of x ≡ Err Form) d h is (λ a b bad name.
+    stops (det_of b) _ (det_bad 2 b refl (last_false (fits 2 b) true refl (fields (codes "stable") a _ refl bad name))))
 
-end_bad : (a b : Data) → (fits 2 b && true) ≡ false → end_of (array (item a (item b no_items))) ≡ Err Form
+end_bad : (d : Data) → fits levels d ≡ false → begins d (codes "end") 2 ≡ true → end_of d ≡ Err Form
 unfolding end_of
-end_bad a b h = stops (u32_at 1 (array (item a (item b no_items)))) _ (number_bad (2 ^ 32) 2 1 (array (item a (item b no_items))) b refl (last_false (fits 2 b) true refl h))
+end_bad d h is = of_line 1 (codes "end") (λ x. end_of x ≡ Err Form) d h is (λ a b bad name.
+    let l : Data = array (item a (item b no_items)) in
+    stops (u32_at 1 l) _ (number_bad (2 ^ 32) 2 1 l b refl (last_false (fits 2 b) true refl (fields (codes "end") a _ refl bad name))))
 
-header_bad : (a b c : Data) → (fits 2 b && (fits 2 c && true)) ≡ false → header_of (array (item a (item b (item c no_items)))) ≡ Err Form
+header_bad : (d : Data) → fits levels d ≡ false → begins d (codes "trace") 3 ≡ true → header_of d ≡ Err Form
 unfolding header_of
-header_bad a b c h =
-    let d : Data = array (item a (item b (item c no_items))) in
-    chain (u32_at 1 d) _ (IsPlainly-or_form _) (or_else (fits 2 b) _ h (number_bad (2 ^ 32) 2 1 d b refl) (λ h2 version.
-    stops (u32_at 2 d) _ (number_bad (2 ^ 32) 2 2 d c refl (last_false (fits 2 c) true refl h2))))
+header_bad d h is = of_line 2 (codes "trace") (λ x. header_of x ≡ Err Form) d h is (λ a b c bad name.
+    let l : Data = array (item a (item b (item c no_items))) in
+    number_or 1 l b _ _ refl (fields (codes "trace") a _ refl bad name) (λ more version.
+    stops (u32_at 2 l) _ (number_bad (2 ^ 32) 2 2 l c refl (last_false (fits 2 c) true refl more))))
 
-restart_bad : (a b c : Data) → (fits 2 b && (fits 2 c && true)) ≡ false → restart_of (array (item a (item b (item c no_items)))) ≡ Err Form
-unfolding restart_of
-restart_bad a b c h =
-    let d : Data = array (item a (item b (item c no_items))) in
-    chain (pid_at 1 d) _ (IsPlainly-pid 1 d) (or_else (fits 2 b) _ h (pid_bad 2 1 d b refl) (λ h2 who.
-    stops (dets_at 2 d) _ (dets_bad 2 d c refl (last_false (fits 2 c) true refl h2))))
+-- a process, and a list of determinants of whatever they say
+listing_bad : (name : List ℕ) (say : Pid → List Det → Entry) (d : Data) → bytes_eq [] name ≡ false → fits levels d ≡ false → begins d name 3 ≡ true
+    → (pid_at 1 d >>= λ who. dets_at 2 d >>= λ listed. Ok (shape.Entry (say who listed))) ≡ Err Form
+listing_bad name say d none h is = of_line 2 name (λ x. (pid_at 1 x >>= λ who. dets_at 2 x >>= λ listed. Ok (shape.Entry (say who listed))) ≡ Err Form) d h is (λ a b c bad begun.
+    let l : Data = array (item a (item b (item c no_items))) in
+    process_or 1 l b _ _ refl (fields name a _ none bad begun) (λ more who.
+    stops (dets_at 2 l) _ (dets_bad 2 l c refl (last_false (fits 2 c) true refl more))))
 
-forget_bad : (a b c : Data) → (fits 2 b && (fits 2 c && true)) ≡ false → forget_of (array (item a (item b (item c no_items)))) ≡ Err Form
-unfolding forget_of
-forget_bad a b c h =
-    let d : Data = array (item a (item b (item c no_items))) in
-    chain (pid_at 1 d) _ (IsPlainly-pid 1 d) (or_else (fits 2 b) _ h (pid_bad 2 1 d b refl) (λ h2 who.
-    stops (dets_at 2 d) _ (dets_bad 2 d c refl (last_false (fits 2 c) true refl h2))))
-
-send_bad : (a b c e : Data) → (fits 2 b && (fits 2 c && (fits 2 e && true))) ≡ false → send_of (array (item a (item b (item c (item e no_items))))) ≡ Err Form
+send_bad : (d : Data) → fits levels d ≡ false → begins d (codes "send") 4 ≡ true → send_of d ≡ Err Form
 unfolding send_of
-send_bad a b c e h =
-    let d : Data = array (item a (item b (item c (item e no_items)))) in
-    chain (pid_at 1 d) _ (IsPlainly-pid 1 d) (or_else (fits 2 b) _ h (pid_bad 2 1 d b refl) (λ h2 from.
-    chain (pid_at 2 d) _ (IsPlainly-pid 2 d) (or_else (fits 2 c) _ h2 (pid_bad 2 2 d c refl) (λ h3 to.
-    stops (u32_at 3 d) _ (number_bad (2 ^ 32) 2 3 d e refl (last_false (fits 2 e) true refl h3))))))
+send_bad d h is = of_line 3 (codes "send") (λ x. send_of x ≡ Err Form) d h is (λ a b c e bad name.
+    let l : Data = array (item a (item b (item c (item e no_items)))) in
+    process_or 1 l b _ _ refl (fields (codes "send") a _ refl bad name) (λ more from.
+    process_or 2 l c _ _ refl more (λ last to. stops (u32_at 3 l) _ (number_bad (2 ^ 32) 2 3 l e refl (last_false (fits 2 e) true refl last)))))
 
-deliver_bad : (a b c e x : Data) → (fits 2 b && (fits 2 c && (fits 2 e && (fits 2 x && true)))) ≡ false → deliver_of (array (item a (item b (item c (item e (item x no_items)))))) ≡ Err Form
+deliver_bad : (d : Data) → fits levels d ≡ false → begins d (codes "deliver") 5 ≡ true → deliver_of d ≡ Err Form
 unfolding deliver_of
-deliver_bad a b c e x h =
-    let d : Data = array (item a (item b (item c (item e (item x no_items))))) in
-    chain (pid_at 1 d) _ (IsPlainly-pid 1 d) (or_else (fits 2 b) _ h (pid_bad 2 1 d b refl) (λ h2 to.
-    chain (u32_at 2 d) _ (IsPlainly-or_form _) (or_else (fits 2 c) _ h2 (number_bad (2 ^ 32) 2 2 d c refl) (λ h3 send.
-    chain (u32_at 3 d) _ (IsPlainly-or_form _) (or_else (fits 2 e) _ h3 (number_bad (2 ^ 32) 2 3 d e refl) (λ h4 rsn.
-    stops (dets_at 4 d) _ (dets_bad 4 d x refl (last_false (fits 2 x) true refl h4))))))))
-
--- ---- no shape
+deliver_bad d h is = of_line 4 (codes "deliver") (λ x. deliver_of x ≡ Err Form) d h is (λ a b c e x bad name.
+    let l : Data = array (item a (item b (item c (item e (item x no_items))))) in
+    process_or 1 l b _ _ refl (fields (codes "deliver") a _ refl bad name) (λ h2 to.
+    number_or 2 l c _ _ refl h2 (λ h3 send. number_or 3 l e _ _ refl h3 (λ h4 rsn.
+    stops (dets_at 4 l) _ (dets_bad 4 l x refl (last_false (fits 2 x) true refl h4))))))
 
 -- a value that does not fit the outline of a line is refused for its form
 pub no_shape : (d : Data) → fits levels d ≡ false → shape_of d ≡ Err Form
-unfolding shape_of
-no_shape Data.null h = refl
-no_shape (Data.boolean b) h = refl
-no_shape (number n) h = refl
-no_shape (string s) h = refl
-no_shape (object ms) h = refl
-no_shape (array no_items) h = refl
-no_shape (array (item a no_items)) h =
-    let d : Data = array (item a no_items) in
-    all_bad d (wrong d (codes "trace") 3 refl) (wrong d (codes "send") 4 refl) (wrong d (codes "deliver") 5 refl) (wrong d (codes "stable") 2 refl)
-    (wrong d (codes "crash") 2 refl) (wrong d (codes "restart") 3 refl) (wrong d (codes "forget") 3 refl) (wrong d (codes "end") 2 refl)
-no_shape (array (item a (item b no_items))) h =
-    let d : Data = array (item a (item b no_items)) in
-    all_bad d (wrong d (codes "trace") 3 refl) (wrong d (codes "send") 4 refl) (wrong d (codes "deliver") 5 refl) (λ is. stable_bad a b (fields (codes "stable") a (fits 2 b && true) refl h (right d (codes "stable") 2 is)))
-    (λ is. crash_bad a b (fields (codes "crash") a (fits 2 b && true) refl h (right d (codes "crash") 2 is))) (wrong d (codes "restart") 3 refl) (wrong d (codes "forget") 3 refl) (λ is. end_bad a b (fields (codes "end") a (fits 2 b && true) refl h (right d (codes "end") 2 is)))
-no_shape (array (item a (item b (item c no_items)))) h =
-    let d : Data = array (item a (item b (item c no_items))) in
-    all_bad d (λ is. header_bad a b c (fields (codes "trace") a (fits 2 b && (fits 2 c && true)) refl h (right d (codes "trace") 3 is))) (wrong d (codes "send") 4 refl) (wrong d (codes "deliver") 5 refl) (wrong d (codes "stable") 2 refl)
-    (wrong d (codes "crash") 2 refl) (λ is. restart_bad a b c (fields (codes "restart") a (fits 2 b && (fits 2 c && true)) refl h (right d (codes "restart") 3 is))) (λ is. forget_bad a b c (fields (codes "forget") a (fits 2 b && (fits 2 c && true)) refl h (right d (codes "forget") 3 is))) (wrong d (codes "end") 2 refl)
-no_shape (array (item a (item b (item c (item e no_items))))) h =
-    let d : Data = array (item a (item b (item c (item e no_items)))) in
-    all_bad d (wrong d (codes "trace") 3 refl) (λ is. send_bad a b c e (fields (codes "send") a (fits 2 b && (fits 2 c && (fits 2 e && true))) refl h (right d (codes "send") 4 is))) (wrong d (codes "deliver") 5 refl) (wrong d (codes "stable") 2 refl)
-    (wrong d (codes "crash") 2 refl) (wrong d (codes "restart") 3 refl) (wrong d (codes "forget") 3 refl) (wrong d (codes "end") 2 refl)
-no_shape (array (item a (item b (item c (item e (item x no_items)))))) h =
-    let d : Data = array (item a (item b (item c (item e (item x no_items))))) in
-    all_bad d (wrong d (codes "trace") 3 refl) (wrong d (codes "send") 4 refl) (λ is. deliver_bad a b c e x (fields (codes "deliver") a (fits 2 b && (fits 2 c && (fits 2 e && (fits 2 x && true)))) refl h (right d (codes "deliver") 5 is))) (wrong d (codes "stable") 2 refl)
-    (wrong d (codes "crash") 2 refl) (wrong d (codes "restart") 3 refl) (wrong d (codes "forget") 3 refl) (wrong d (codes "end") 2 refl)
-no_shape (array (item a (item b (item c (item e (item x (item y ds))))))) h =
-    let d : Data = array (item a (item b (item c (item e (item x (item y ds)))))) in
-    let n = suc (suc (suc (suc (suc (suc (items_len ds)))))) in
-    let two = far n 2 (omega arith) in
-    let three = far n 3 (omega arith) in
-    all_bad d (wrong d (codes "trace") 3 three) (wrong d (codes "send") 4 (far n 4 (omega arith))) (wrong d (codes "deliver") 5 (far n 5 (omega arith))) (wrong d (codes "stable") 2 two)
-    (wrong d (codes "crash") 2 two) (wrong d (codes "restart") 3 three) (wrong d (codes "forget") 3 three) (wrong d (codes "end") 2 two)
+unfolding shape_of restart_of forget_of
+no_shape d h =
+    either _ _ _ (header_bad d h) (either _ _ _ (send_bad d h) (either _ _ _ (deliver_bad d h) (either _ _ _ (stable_bad d h)
+    (either _ _ _ (crash_bad d h) (either _ _ _ (listing_bad (codes "restart") Restart d refl h) (either _ _ _ (listing_bad (codes "forget") Forget d refl h) (either _ _ _ (end_bad d h) refl)))))))

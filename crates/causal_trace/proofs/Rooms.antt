@@ -2,6 +2,7 @@
 use Rattle.std.proofs.Common.{ℕ, zero, suc, ◌+◌, ◌-◌, ◌<◌, ◌≤◌, Vec, Global, List, [], ◌∷◌, length, get_or, set, Option, arith}
 use Rattle.std.proofs.Common.{inl, inr, ◌≡◌, sym, ap, subst, ◌∙◌, Ok, Err}
 use Rattle.std.specs.Prelude.{min, vec_len, vec_capacity, OnErr, Result}
+use Rattle.std.specs.Vec.{with_item}
 use Rattle.std.proofs.lemmas.Bool.Decides.{eqb_tells}
 use Rattle.std.proofs.lemmas.List.{get_or-set_same, get_or-set_other}
 use Rattle.std.proofs.Math.Nat.{min-le_left, min-le_right, le-min}
@@ -35,6 +36,11 @@ pub least_set : (lists : List (Vec (Option ℕ) Global)) (p other now : ℕ) (li
 least_set [] p other now list d h k l = absurd (omega (arith, h))
 least_set (first ∷ lists) zero other now list d h k l = min_falls (room first) (least_room lists other) (room list) (least_room lists now) k (least_falls lists other now l)
 least_set (first ∷ lists) (suc p) other now list d h k l = min_falls (room first) (least_room lists other) (room first) (least_room (set lists p list) now) (omega arith) (least_set lists p other now list d (omega (arith, h)) k l)
+
+-- a write into one list, and one more node, take room for one at most
+pub least_written : (lists : List (Vec (Option ℕ) Global)) (p k other now : ℕ) (found : Vec (Option ℕ) Global) (value : Option ℕ) → p < length lists → found ≡ get_or lists p found → other ≤ now + 1
+    → least_room lists other ≤ least_room (set lists p (with_item found k value)) now + 1
+least_written lists p k other now found value inside is falls = least_set lists p other now (with_item found k value) found inside (omega (arith, ap room is)) falls
 
 -- with as much room in one list
 pub least_grown : (lists : List (Vec (Option ℕ) Global)) (p other : ℕ) (list d : Vec (Option ℕ) Global) → p < length lists → room (get_or lists p d) ≤ room list → least_room lists other ≤ least_room (set lists p list) other

@@ -15,37 +15,34 @@ use Rattle.causal_trace.proofs.Lemmas.AtInstants.{det_within}
 
 -- what is counted
 
+counted_next : (own : Bool) (n : ℕ) (e : Entry) (es : List Entry) → n ≡ length es → cond own (n + 1) n ≡ length (cond own (e ∷ es) es)
+counted_next true n e es same = omega (arith, same)
+counted_next false n e es same = same
+
+-- a new lane begins with an entry that is not counted
+counted_anew : (test : Entry → Bool) (own : Bool) (n : ℕ) (e : Entry) (es : List Entry) → test e ≡ false → n ≡ length (filter test es) → cond own 0 n ≡ length (filter test (cond own (e ∷ []) (e ∷ es)))
+counted_anew test true n e es none same = rw none refl
+counted_anew test false n e es none same = rw none same
+
 -- the present lane has sent as many messages as it has sends
 pub sends_counted : SendsAreCounted
 sends_counted [] p = refl
-sends_counted (Send from to ssn ∷ past) p = elim (from.0 == p) as (λ b. cond b (sends past p + 1) (sends past p) ≡ length (cond b (Send from to ssn ∷ filter (is_send_of p) (present past p)) (filter (is_send_of p) (present past p)))) [
-  | true ↦ (let same = sends_counted past p in omega (arith, same))
-  | false ↦ sends_counted past p
-]
+sends_counted (Send from to ssn ∷ past) p = counted_next (from.0 == p) (sends past p) (Send from to ssn) (filter (is_send_of p) (present past p)) (sends_counted past p)
+sends_counted (Restart who listed ∷ past) p = counted_anew (is_send_of p) (who.0 == p) (sends past p) (Restart who listed) (present past p) refl (sends_counted past p)
 sends_counted (Deliver to send rsn listed ∷ past) p = sends_counted past p
 sends_counted (Stable d ∷ past) p = sends_counted past p
 sends_counted (Crash who ∷ past) p = sends_counted past p
 sends_counted (Forget who listed ∷ past) p = sends_counted past p
-sends_counted (Restart who listed ∷ past) p = elim (who.0 == p) as (λ b. cond b 0 (sends past p) ≡ length (filter (is_send_of p) (cond b (Restart who listed ∷ []) (Restart who listed ∷ present past p)))) [
-  | true ↦ refl
-  | false ↦ sends_counted past p
-]
 
 -- the present lane has delivered as many messages as it has deliveries
 pub deliveries_counted : DeliveriesAreCounted
 deliveries_counted [] p = refl
-deliveries_counted (Deliver to send rsn listed ∷ past) p = elim (to.0 == p) as (λ b. cond b (deliveries past p + 1) (deliveries past p) ≡ length (cond b (Deliver to send rsn listed ∷ filter (is_delivery_to p) (present past p)) (filter (is_delivery_to p) (present past p)))) [
-  | true ↦ (let same = deliveries_counted past p in omega (arith, same))
-  | false ↦ deliveries_counted past p
-]
 deliveries_counted (Send from to ssn ∷ past) p = deliveries_counted past p
+deliveries_counted (Deliver to send rsn listed ∷ past) p = counted_next (to.0 == p) (deliveries past p) (Deliver to send rsn listed) (filter (is_delivery_to p) (present past p)) (deliveries_counted past p)
 deliveries_counted (Stable d ∷ past) p = deliveries_counted past p
+deliveries_counted (Restart who listed ∷ past) p = counted_anew (is_delivery_to p) (who.0 == p) (deliveries past p) (Restart who listed) (present past p) refl (deliveries_counted past p)
 deliveries_counted (Crash who ∷ past) p = deliveries_counted past p
 deliveries_counted (Forget who listed ∷ past) p = deliveries_counted past p
-deliveries_counted (Restart who listed ∷ past) p = elim (who.0 == p) as (λ b. cond b 0 (deliveries past p) ≡ length (filter (is_delivery_to p) (cond b (Restart who listed ∷ []) (Restart who listed ∷ present past p)))) [
-  | true ↦ refl
-  | false ↦ deliveries_counted past p
-]
 
 -- what is delivered
 

@@ -2,12 +2,10 @@
 use Rattle.std.proofs.Common.{◌≡◌, ◌++◌, ◌∙◌, refl, sym, ap, ℕ, List, [], ◌∷◌, length, map, reverse, Ok, Result, append_assoc}
 use Rattle.std.proofs.lemmas.List.{map-append, reverse-append, reverse-reverse}
 use Rattle.causal_trace.specs.declared.entry.Entry.{Entry}
-use Rattle.causal_trace.specs.Rows.{Recording}
 use Rattle.causal_text.specs.declared.kind.TextKind.{TextKind}
 use Rattle.causal_text.specs.declared.shape.Shape.{Shape}
 use Rattle.causal_text.specs.declared.shape.Shape.TheVariants as shape
 use Rattle.causal_text.specs.declared.stage.Stage.TheVariants.{Within, Ended}
-use Rattle.causal_text.specs.Begun.{BeginsWith}
 use Rattle.causal_text.specs.Laws.{TextsGoOn}
 use Rattle.causal_text.specs.Lines.{lines}
 use Rattle.causal_text.specs.Pieces.{joined}

@@ -1,14 +1,16 @@
 -- What is told of the fields of a line that do not fit its outline: no line has them, of whatever kind.
-use Rattle.std.proofs.Common.{◌≡◌, ◌⊎◌, ℕ, suc, ◌-◌, ◌^◌, ◌<◌, arith, ne_eqb, List, [], Bool, true, false, Option, Some, None, Result, Ok, Err, inl, inr, refl, ap, sym, ◌∙◌, cond}
+use Rattle.std.proofs.Common.{◌≡◌, ◌⊎◌, ℕ, suc, ◌-◌, ◌^◌, ◌<◌, arith, ne_eqb, zero, List, [], Bool, true, false, Option, Some, None, Result, Ok, Err, inl, inr, refl, ap, sym, ◌∙◌, cond}
 use Rattle.std.specs.Prelude.{◌&&◌, ◌==◌, bytes_eq, option_and_then, unwrap_or}
+use Rattle.std.proofs.lemmas.Bool.{eqb-true}
 use Rattle.serde_json.specs.Data.{Data, number, string, array, object, Items, no_items, item}
 use Rattle.serde_json.specs.Events.{items_len}
 use Rattle.serde_json.specs.Find.{at, as_str, as_array, as_number, as_u64}
+use Rattle.causal_name.specs.declared.Pid.{Pid}
 use Rattle.causal_text.specs.declared.kind.TextKind.{TextKind}
 use Rattle.causal_text.specs.declared.kind.TextKind.TheVariants.{Form}
 use Rattle.causal_text.specs.Reading.{◌>>=◌}
 use Rattle.causal_text.specs.Shapes.{or_form, size, number_below, number_at, u8_at, pid_at, u32_at, u64_at, det_of, dets_of, dets_at, begins}
-use Rattle.causal_text.specs.Outline.{one_more, may_have, fits, items_fit}
+use Rattle.causal_text.specs.Outline.{levels, one_more, may_have, fits, items_fit}
 
 -- no other kind than `Form`
 abbrev pub IsPlainly : {A : Type 0} → Result A TextKind → Type 0
@@ -132,8 +134,16 @@ pub pid_bad : (left i : ℕ) (d x : Data) → at i d ≡ Some x → fits left x 
 unfolding pid_at
 pid_bad left i d x is h = stops (u8_at i d) _ (number_bad (2 ^ 8) left i d x is h)
 
+-- a process, or what goes on behind it, does not fit
+pub process_or : {B : Type 0} (i : ℕ) (d x : Data) (more : Bool) (f : Pid → Result B TextKind) → at i d ≡ Some x → (fits 2 x && more) ≡ false → (more ≡ false → (p : Pid) → f p ≡ Err Form) → (pid_at i d >>= f) ≡ Err Form
+process_or i d x more f is h go = chain (pid_at i d) f (IsPlainly-pid i d) (or_else (fits 2 x) more h (pid_bad 2 i d x is) go)
+
+-- and so a number of 32 bits
+pub number_or : {B : Type 0} (i : ℕ) (d x : Data) (more : Bool) (f : ℕ → Result B TextKind) → at i d ≡ Some x → (fits 2 x && more) ≡ false → (more ≡ false → (n : ℕ) → f n ≡ Err Form) → (u32_at i d >>= f) ≡ Err Form
+number_or i d x more f is h go = chain (u32_at i d) f (IsPlainly-or_form _) (or_else (fits 2 x) more h (number_bad (2 ^ 32) 2 i d x is) go)
+
 -- another number of items
-pub far : (n k : ℕ) → k < n → (n == k) ≡ false
+far : (n k : ℕ) → k < n → (n == k) ≡ false
 far n k less = ne_eqb n k (λ e. omega (arith, less, e))
 
 -- a determinant, and a list of these, with a part that does not fit
@@ -185,13 +195,36 @@ named name (string s) none h = refl
 named name (array ds) none h = absurd (let no : false ≡ true = sym none ∙ h in cc)
 named name (object ms) none h = absurd (let no : false ≡ true = sym none ∙ h in cc)
 
--- a line of another number of items is no line of this name
-pub wrong : {P : Type 0} (d : Data) (name : List ℕ) (n : ℕ) → (size d == n) ≡ false → begins d name n ≡ true → P
-wrong d name n differs is = absurd (let bad : false ≡ true = sym differs ∙ second_true (bytes_eq (unwrap_or (option_and_then as_str (at 0 d)) []) name) (size d == n) is in cc)
+-- a line has the name that it begins with
+abbrev pub IsNamed : List ℕ → Data → Type 0
+IsNamed name d = bytes_eq (unwrap_or (option_and_then as_str (at 0 d)) []) name ≡ true
 
--- it has the name that it begins with
-pub right : (d : Data) (name : List ℕ) (n : ℕ) → begins d name n ≡ true → bytes_eq (unwrap_or (option_and_then as_str (at 0 d)) []) name ≡ true
-right d name n is = first_true (bytes_eq (unwrap_or (option_and_then as_str (at 0 d)) []) name) (size d == n) is
+-- what is asked of n items is asked of them one by one
+abbrev pub OfEach : ℕ → (Items → Type 0) → Type 0
+OfEach zero P = P no_items
+OfEach (suc n) P = (x : Data) → OfEach n (λ xs. P (item x xs))
+
+of_each : (n : ℕ) (P : Items → Type 0) (xs : Items) → items_len xs ≡ n → OfEach n P → P xs
+of_each zero P no_items e h = h
+of_each zero P (item x xs) e h = absurd (omega (arith, e))
+of_each (suc n) P no_items e h = absurd (omega (arith, e))
+of_each (suc n) P (item x xs) e h = of_each n (λ ys. P (item x ys)) xs (omega (arith, e)) (h x)
+
+no_size : {P : Type 0} (name : List ℕ) (d : Data) (n : ℕ) → (size d == suc n) ≡ false → begins d name (suc n) ≡ true → P
+no_size name d n differs is = absurd (let bad : false ≡ true = sym differs ∙ second_true (bytes_eq (unwrap_or (option_and_then as_str (at 0 d)) []) name) (size d == suc n) is in cc)
+
+-- a line that begins with a name and does not fit is an array of so many items that has the name and does not fit
+pub of_line : (n : ℕ) (name : List ℕ) (R : Data → Type 0) (d : Data) → fits levels d ≡ false → begins d name (suc n) ≡ true
+    → OfEach (suc n) (λ xs. fits levels (array xs) ≡ false → IsNamed name (array xs) → R (array xs)) → R d
+of_line n name R (array xs) h is all =
+    of_each (suc n) (λ ys. fits levels (array ys) ≡ false → IsNamed name (array ys) → R (array ys)) xs
+    (eqb-true (items_len xs) (suc n) (second_true (bytes_eq (unwrap_or (option_and_then as_str (at 0 (array xs))) []) name) (items_len xs == suc n) is)) all
+    h (first_true (bytes_eq (unwrap_or (option_and_then as_str (at 0 (array xs))) []) name) (items_len xs == suc n) is)
+of_line n name R Data.null h is all = no_size name Data.null n (ne_eqb 0 (suc n) (λ e. omega (arith, e))) is
+of_line n name R (Data.boolean b) h is all = no_size name (Data.boolean b) n (ne_eqb 0 (suc n) (λ e. omega (arith, e))) is
+of_line n name R (number m) h is all = no_size name (number m) n (ne_eqb 0 (suc n) (λ e. omega (arith, e))) is
+of_line n name R (string s) h is all = no_size name (string s) n (ne_eqb 0 (suc n) (λ e. omega (arith, e))) is
+of_line n name R (object ms) h is all = no_size name (object ms) n (ne_eqb 0 (suc n) (λ e. omega (arith, e))) is
 
 -- what is left of a line that begins with a name
 pub fields : (name : List ℕ) (x : Data) (more : Bool) → bytes_eq [] name ≡ false → (fits 2 x && more) ≡ false → bytes_eq (unwrap_or (as_str x) []) name ≡ true → more ≡ false

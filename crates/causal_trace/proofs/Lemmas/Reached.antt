@@ -26,24 +26,29 @@ event_lane [] i p l h = absurd h
 event_lane (e ∷ past) i p l (inl h) = omega (arith, event_lane past i p l h, lane_grows e past p)
 event_lane (e ∷ past) i p l (inr h) = omega (arith, h.2, lane_grows e past p)
 
-event_old : (e : Entry) (past : List Entry) (i p l : ℕ) → i < length past → IsEventOf (e ∷ past) i p l → IsEventOf past i p l
+-- an event but the newest is one without the newest entry
+pub event_old : (e : Entry) (past : List Entry) (i p l : ℕ) → i < length past → IsEventOf (e ∷ past) i p l → IsEventOf past i p l
 event_old e past i p l below (inl h) = h
 event_old e past i p l below (inr h) = absurd (omega (arith, below, h.0))
 
-delivers_below : (past : List Entry) (j i : ℕ) → Delivers past j i → j < length past
+-- a delivery stands within the past
+pub delivers_below : (past : List Entry) (j i : ℕ) → Delivers past j i → j < length past
 delivers_below [] j i h = absurd h
 delivers_below (e ∷ past) j i (inl h) = omega (arith, delivers_below past j i h)
 delivers_below (e ∷ past) j i (inr h) = omega (arith, h.0)
 
-delivers_old : (e : Entry) (past : List Entry) (j i : ℕ) → j < length past → Delivers (e ∷ past) j i → Delivers past j i
+-- a delivery but the newest is one without the newest entry
+pub delivers_old : (e : Entry) (past : List Entry) (j i : ℕ) → j < length past → Delivers (e ∷ past) j i → Delivers past j i
 delivers_old e past j i below (inl h) = h
 delivers_old e past j i below (inr h) = absurd (omega (arith, below, h.0))
 
-precedes_before : (past : List Entry) (i j : ℕ) → AreForward past → DirectlyPrecedes past i j → i < j
+-- what precedes an event stands before it
+pub precedes_before : (past : List Entry) (i j : ℕ) → AreForward past → DirectlyPrecedes past i j → i < j
 precedes_before past i j forward (in_order p l h a b) = h
 precedes_before past i j forward (by_message h) = forward j i h
 
-precedes_old : (e : Entry) (past : List Entry) (i j : ℕ) → j < length past → DirectlyPrecedes (e ∷ past) i j → DirectlyPrecedes past i j
+-- what precedes an event but the newest does so without the newest entry
+pub precedes_old : (e : Entry) (past : List Entry) (i j : ℕ) → j < length past → DirectlyPrecedes (e ∷ past) i j → DirectlyPrecedes past i j
 precedes_old e past i j below (in_order p l h a b) = in_order p l h (event_old e past i p l (omega (arith, below, h)) a) (event_old e past j p l below b)
 precedes_old e past i j below (by_message h) = by_message (delivers_old e past j i below h)
 

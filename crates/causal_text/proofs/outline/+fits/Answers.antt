@@ -78,18 +78,14 @@ items_fit-returns-in_err-item-clause-err t c =
 
 pub items_fit-items-preserved : goal.items_fit-items-preserved
 items_fit-items-preserved t c =
-    let p = value c.args.depth in
-    let l = c.items in
-    let n = l.invariant.0 in
+    let l = c.items in let n = l.invariant.0 in let done = c.in_ok-item.ensures in
     let going : (after_end_array l.reader ≡ None) × (c.take_end_array.new.self ≡ l.reader) = grind arith in
-    let done = c.in_ok-item.ensures in
-    let r = c.fits.new.reader in
-    let less : length r < length l.reader = rw (← going.1) done.shorter in
-    let fit = ap (λ k. fits k done.ok.0) (sym c.saturating_sub.ensures) ∙ done.ok.2 in
-    let next = turn p n l.reader r c.args.left l.count l.fit done.ok.0 (omega (arith, l.invariant.1)) going.0 (rw (← going.1) done.ok.1) in (
+    let less : length c.fits.new.reader < length l.reader = rw (← going.1) done.shorter in
+    let next = turn (value c.args.depth) n l.reader c.fits.new.reader c.args.left l.count l.fit done.ok.0 (omega (arith, l.invariant.1)) going.0 (rw (← going.1) done.ok.1) in (
       n - 1,
       omega (arith, l.invariant.1),
-      l.invariant.2 ∙ next ∙ ap₂ (λ b m. parse_map (AllFit c.args.left (l.fit && b) m) (converted of_items (items p (n - 1) r))) fit (sym c.one_more-count.ensures),
+      l.invariant.2 ∙ next ∙ ap₂ (λ b m. parse_map (AllFit c.args.left (l.fit && b) m) (converted of_items (items (value c.args.depth) (n - 1) c.fits.new.reader)))
+          (ap (λ k. fits k done.ok.0) (sym c.saturating_sub.ensures) ∙ done.ok.2) (sym c.one_more-count.ensures),
       omega (arith, l.invariant.3),
     )
 
@@ -123,21 +119,14 @@ pass_members-returns-in_err-fits-clause-err t c =
 
 pub pass_members-members-preserved : goal.pass_members-members-preserved
 pass_members-members-preserved t c =
-    let p = value c.args.depth in
-    let l = c.members in
-    let n = l.invariant.0 in
-    let old = l.invariant.2 in
-    let k = c.in-Some.field-0.now in
-    let s = c.next_key.new.self in
-    let named : read_key l.reader ≡ Some (Some k, s) = grind arith in
-    let less = read_key-shorter l.reader (Some k) s named in
-    let done = c.in_ok-fits.ensures in
-    let lesser = done.shorter in
-    let d = done.ok.0 in (
+    let l = c.members in let n = l.invariant.0 in let k = c.in-Some.field-0.now in let done = c.in_ok-fits.ensures in
+    let named : read_key l.reader ≡ Some (Some k, c.next_key.new.self) = grind arith in
+    let less = read_key-shorter l.reader (Some k) c.next_key.new.self named in
+    let lesser = done.shorter in (
       n - 1,
       omega (arith, l.invariant.1),
-      put k d old,
-      l.invariant.3 ∙ member_read p old n k l.reader s c.fits.new.reader d (omega (arith, l.invariant.1)) named done.ok.1,
+      put k done.ok.0 l.invariant.2,
+      l.invariant.3 ∙ member_read (value c.args.depth) l.invariant.2 n k l.reader c.next_key.new.self c.fits.new.reader done.ok.0 (omega (arith, l.invariant.1)) named done.ok.1,
       omega (arith, l.invariant.4),
     )
 

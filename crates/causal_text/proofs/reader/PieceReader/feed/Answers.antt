@@ -1,12 +1,11 @@
-use Rattle.std.proofs.Common.{◌≡◌, ◌≢◌, None, ◌+◌, ◌<◌, ◌++◌, ◌∙◌, sym, ap, List, ℕ, true, length, Result, Ok, Err, IfOk, IfErr, append_assoc}
+use Rattle.std.proofs.Common.{◌≡◌, ◌≢◌, ◌+◌, ◌<◌, ◌++◌, ◌∙◌, sym, ap, List, ℕ, true, length, Result, Ok, Err, IfOk, IfErr, append_assoc}
 use Rattle.causal_text.specs.declared.before.Rejected.{Rejected}
 use Rattle.causal_text.specs.declared.kind.TextKind.TheVariants as kind
 use Rattle.causal_text.specs.Spelling.{IsReadAt}
 use Rattle.causal_text.specs.Pieces.{no_feed, Held, StandsFor}
-use Rattle.causal_text.specs.Inside.Kept.{IsKeptOfAll}
 use Rattle.causal_text.specs.Inside.Unfinished.{IsFaultOfAll, IsPast}
 use Rattle.std.proofs.lemmas.Result.{err_from_is_err_and}
-use Rattle.causal_text.proofs.BeforeLemmas.{kept_of_none, kept_of_piece}
+use Rattle.causal_text.proofs.BeforeLemmas.{kept_of_piece}
 use Rattle.causal_text.proofs.Feeds.{Comes, Comes-line, Comes-hold, fault_of_piece, fault_of_hold, line_of_part}
 use Rattle.causal_text.proofs.Lemmas.Told.{told}
 use Rattle.causal_text.proofs.reader.PieceReader.feed.Goals as goal
@@ -37,8 +36,7 @@ returns-in_err-reader-clause-err c =
     let p = err_from_is_err_and c.from_residual.result c.from_residual.ensures.1 in
     let i = c.loop-line.invariant in
     let some = c.in-Some.ensures.some in
-    let piece_is = i.1 ∙ ap (λ xs. i.0 ++ xs) some.1 in
-    rw (p.1, p.2) (λ other b s. rw piece_is (fault_of_piece c.args.limits.entries c.args.self c.loop-line.reader i.0 c.in-Some.line.now c.in-Some.after.now _ i.2 some.0 (told _ _ _ c.in_err-reader.ensures.value other) b s))
+    rw (p.1, p.2) (λ other b s. rw (i.1 ∙ ap (λ xs. i.0 ++ xs) some.1) (fault_of_piece c.args.limits.entries c.args.self c.loop-line.reader i.0 c.in-Some.line.now c.in-Some.after.now _ i.2 some.0 (told _ _ _ c.in_err-reader.ensures.value other) b s))
 
 lined : (most : ℕ) (h0 h : Held) (piece done left : List ℕ) (r : Result Held Rejected) → Comes most h0 done h → piece ≡ done ++ left → IfErr r (λ f. f.fault.line ≡ h.place.count + 1) → IfErr r (λ f. (b : List ℕ) → StandsFor most h0 b → IsReadAt most (b ++ piece) f.fault.line)
 lined most h0 h piece done left (Ok k) c is e = tt
@@ -53,17 +51,9 @@ returns-in_err-reader-clause-line c =
     let i = c.loop-line.invariant in
     rw (p.1, p.2) (λ b s. rw i.1 (line_of_part c.args.limits.entries c.args.self c.loop-line.reader i.0 c.loop-line.left.now b _ i.2 s c.in_err-reader.ensures.line))
 
-unkept : (most : ℕ) (h0 : Held) (piece : List ℕ) (r : Result Held Rejected) → IfErr r (λ f. f.before ≡ None) → IfErr r (λ f. (b : List ℕ) → StandsFor most h0 b → IsKeptOfAll most (b ++ piece) f)
-unkept most h0 piece (Ok k) e = tt
-unkept most h0 piece (Err f) e = λ b s. kept_of_none most (b ++ piece) f e
-
-pub returns-clause-before : goal.returns-clause-before
-returns-clause-before c = unkept c.args.limits.entries c.args.self c.args.piece.now c.hold.result c.hold.ensures.before
-
 pub returns-in_err-reader-clause-before : goal.returns-in_err-reader-clause-before
 returns-in_err-reader-clause-before c =
     let p = err_from_is_err_and c.from_residual.result c.from_residual.ensures.1 in
     let i = c.loop-line.invariant in
     let some = c.in-Some.ensures.some in
-    let piece_is = i.1 ∙ ap (λ xs. i.0 ++ xs) some.1 in
-    rw (p.1, p.2) (λ b s. rw piece_is (kept_of_piece c.args.limits.entries c.args.self c.loop-line.reader i.0 c.in-Some.line.now c.in-Some.after.now _ _ i.2 some.0 c.in_err-reader.ensures.before c.in_err-reader.ensures.line b s))
+    rw (p.1, p.2) (λ b s. rw (i.1 ∙ ap (λ xs. i.0 ++ xs) some.1) (kept_of_piece c.args.limits.entries c.args.self c.loop-line.reader i.0 c.in-Some.line.now c.in-Some.after.now _ _ i.2 some.0 c.in_err-reader.ensures.before c.in_err-reader.ensures.line b s))

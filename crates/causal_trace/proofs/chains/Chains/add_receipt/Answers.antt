@@ -1,9 +1,8 @@
-use Rattle.std.proofs.Common.{Vec, Global, Option, ℕ, ◌≡◌, ◌<◌, ◌≤◌, ◌+◌, [], List, Some, length, map, get_or, set, sym, ap, ◌∙◌, arith}
+use Rattle.std.proofs.Common.{Vec, Global, Option, ℕ, ◌≡◌, ◌<◌, [], List, Some, length, map, set, sym, ap, ◌∙◌, arith}
 use Rattle.std.specs.Prelude.{◌-◌, vec_capacity, vec_len, reverse}
 use Rattle.std.proofs.lemmas.List.{map-set, get_or-map, length-map, length-reverse}
 use Rattle.causal_trace.specs.Inside.Chains.{heads_of, with_head}
-use Rattle.std.specs.Vec.{with_item}
-use Rattle.causal_trace.proofs.Rooms.{room, least_falls, least_other, least_set, on_err}
+use Rattle.causal_trace.proofs.Rooms.{least_falls, least_other, least_written, on_err}
 use Rattle.causal_trace.proofs.chains.Chains.add_receipt.Goals as goal
 
 pub returns-in_err-push-clause-spare : goal.returns-in_err-push-clause-spare
@@ -35,25 +34,13 @@ returns-clause-heads c =
 pub returns-clause-spare : goal.returns-clause-spare
 returns-clause-spare c =
     let lists = c.self.inside.heads.items in
-    let p = c.args.message.source.0 in
-    let inside : p < length lists = omega (arith, c.requires.head.source, ap (λ s. length s.heads) c.self.view_is, length-map lists (λ list. list.items)) in
+    let inside : c.args.message.source.0 < length lists = omega (arith, c.requires.head.source, ap (λ s. length s.heads) c.self.view_is, length-map lists (λ list. list.items)) in
     let old = vec_capacity c.self.inside.nodes - vec_len c.self.inside.nodes in
     let new = vec_capacity c.push.new.self - vec_len c.push.new.self in
-    let less : room (get_or lists p c.index_mut.result.now) ≤ room c.index_mut.result.now + 1 = omega (arith, ap room c.index_mut.ensures.value) in
-    omega (arith, ap (λ s. s.spare) c.self.view_is, least_set lists p old new (with_item c.index_mut.result.now c.args.message.ssn (Some c.len-place.result)) c.index_mut.result.now inside less (omega (arith, c.in_ok-push.ensures.len, c.in_ok-push.ensures.capacity)))
+    omega (arith, ap (λ s. s.spare) c.self.view_is, least_written lists c.args.message.source.0 c.args.message.ssn old new c.index_mut.result.now (Some c.len-place.result) inside c.index_mut.ensures.value (omega (arith, c.in_ok-push.ensures.len, c.in_ok-push.ensures.capacity)))
 
 pub invariant_of-self-in_err-push : goal.invariant_of-self-in_err-push
-invariant_of-self-in_err-push c =
-    let old = vec_capacity c.self.inside.nodes - vec_len c.self.inside.nodes in
-    let new = vec_capacity c.push.new.self - vec_len c.push.new.self in
-    omega (arith, c.self.invariant, c.saturating_sub-self-inside.ensures, least_falls c.self.inside.heads.items old new (omega (arith, c.in_err-push.ensures.len, c.in_err-push.ensures.capacity)))
+invariant_of-self-in_err-push c = let kept = returns-in_err-push-clause-spare c in omega (arith, c.self.invariant, c.saturating_sub-self-inside.ensures, ap (λ s. s.spare) c.self.view_is, kept)
 
 pub invariant_of-self-2 : goal.invariant_of-self-2
-invariant_of-self-2 c =
-    let lists = c.self.inside.heads.items in
-    let p = c.args.message.source.0 in
-    let inside : p < length lists = omega (arith, c.requires.head.source, ap (λ s. length s.heads) c.self.view_is, length-map lists (λ list. list.items)) in
-    let old = vec_capacity c.self.inside.nodes - vec_len c.self.inside.nodes in
-    let new = vec_capacity c.push.new.self - vec_len c.push.new.self in
-    let less : room (get_or lists p c.index_mut.result.now) ≤ room c.index_mut.result.now + 1 = omega (arith, ap room c.index_mut.ensures.value) in
-    omega (arith, c.self.invariant, c.saturating_sub-self-inside.ensures, least_set lists p old new (with_item c.index_mut.result.now c.args.message.ssn (Some c.len-place.result)) c.index_mut.result.now inside less (omega (arith, c.in_ok-push.ensures.len, c.in_ok-push.ensures.capacity)))
+invariant_of-self-2 c = let kept = returns-clause-spare c in omega (arith, c.self.invariant, c.saturating_sub-self-inside.ensures, ap (λ s. s.spare) c.self.view_is, kept)

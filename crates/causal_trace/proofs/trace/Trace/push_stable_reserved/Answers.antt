@@ -1,4 +1,4 @@
-use Rattle.std.proofs.Common.{◌≡◌, ◌∙◌, None, ap, reverse}
+use Rattle.std.proofs.Common.{◌∙◌, ap}
 use Rattle.std.proofs.lemmas.List.{reverse-append}
 use Rattle.causal_trace.specs.declared.entry.Entry.TheVariants.{Stable}
 use Rattle.causal_trace.specs.Rows.{first_fault}
