@@ -1,9 +1,4 @@
 //! A count goes round a ring of processes, and falls by one at each.
-ghost use Rattle.std.specs.Prelude.{◌≡◌, ◌<◌, List, map};
-ghost use Rattle.causal_process.specs.declared.message.Input.{Input};
-ghost use Rattle.causal_process.specs.Kinds.{next_of, ring_reaction};
-ghost use Rattle.causal_process.specs.LawsKept.{map_each, map_in_order};
-
 use crate::message::{Input, Outgoing};
 use crate::process::Process;
 use crate::sending::{count_down, send_one};
@@ -34,6 +29,9 @@ impl Model for Ring {
 }
 
 impl Ring {
+    ghost use Rattle.std.specs.Prelude.{◌≡◌, ◌<◌};
+    ghost use Rattle.causal_process.specs.Kinds.{next_of};
+
     /// Process `me`, 0 to n - 1, of a ring of n. Process 0 starts its count at `hops`; the others start none.
     pub fn new(n: u16, me: u8, hops: u8) -> Ring
         requires { me < n }
@@ -52,6 +50,11 @@ impl Ring {
 }
 
 impl Process for Ring {
+    ghost use Rattle.std.specs.Prelude.{List, map};
+    ghost use Rattle.causal_process.specs.declared.message.Input.{Input};
+    ghost use Rattle.causal_process.specs.Kinds.{ring_reaction};
+    ghost use Rattle.causal_process.specs.LawsKept.{map_each, map_in_order};
+
     ghost answers = { λ ring. map (ring_reaction ring) };
 
     fn step(&mut self, alloc: Global, input: &Input) -> Result<Vec<Outgoing>, NoMemory> {
