@@ -1,4 +1,5 @@
 //! Two partners send a count back and forth, and it falls by one each time.
+use crate::body::first_or_zero;
 use crate::message::{Input, Outgoing};
 use crate::process::Process;
 use crate::sending::{count_down, send_one};
@@ -67,7 +68,7 @@ impl Process for Echo {
                     Ok(Vec::new(alloc))
                 }
             }
-            Input::Message { from, body } => count_down(alloc, *from, body.first_or_zero()),
+            Input::Message { from, body } => count_down(alloc, *from, first_or_zero(body)),
         }
     }
 

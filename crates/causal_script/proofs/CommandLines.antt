@@ -101,8 +101,7 @@ pub says_request : (line : List ℕ) (r : Request) → request_of line ≡ Some 
 unfolding request_of
 says_request line r e =
     let a = bind_some (cut 32 line) _ r e in
-    let parts : IsCut 32 line a.0 = cut_whole 32 line a.0 a.1 in
-    says_named a.0.0 a.0.1 line r parts.whole a.2
+    says_named a.0.0 a.0.1 line r (cut_whole 32 line a.0 a.1).whole a.2
 
 -- ---- and back
 
@@ -136,6 +135,4 @@ commanded line r e = let says = says_request line r e in (r, says.0, says.1)
 
 -- a line of which no request is read has no command
 pub not_commanded : (line : List ℕ) → request_of line ≡ None → IsCommandLine line → ⊥
-not_commanded line e h =
-    let back : request_of line ≡ Some h.0 = ap request_of h.2 ∙ request_back h.0 h.1 in
-    none-some h.0 (sym e ∙ back)
+not_commanded line e h = none-some h.0 (sym e ∙ (ap request_of h.2 ∙ request_back h.0 h.1))

@@ -115,8 +115,7 @@ pub says_start : (line : List ℕ) (s : Start) → start_of line ≡ Some s → 
 unfolding start_of
 says_start line s e =
     let a = bind_some (cut 32 line) _ s e in
-    let parts : IsCut 32 line a.0 = cut_whole 32 line a.0 a.1 in
-    says_named_start a.0.0 a.0.1 line s parts.whole a.2
+    says_named_start a.0.0 a.0.1 line s (cut_whole 32 line a.0 a.1).whole a.2
 
 -- ---- and back
 
@@ -159,6 +158,4 @@ started line s e = let says = says_start line s e in (s, says.0, says.1)
 
 -- a line of which no start is read starts no script
 pub not_started : (line : List ℕ) → start_of line ≡ None → IsStartLine line → ⊥
-not_started line e h =
-    let back : start_of line ≡ Some h.0 = ap start_of h.2 ∙ start_back h.0 h.1 in
-    none-some h.0 (sym e ∙ back)
+not_started line e h = none-some h.0 (sym e ∙ (ap start_of h.2 ∙ start_back h.0 h.1))

@@ -1,9 +1,15 @@
 -- A value that does not fit the outline of a line has none of the shapes.
-use Rattle.std.proofs.Common.{◌≡◌, suc, ◌^◌, arith, true, false, Err, refl, cond}
-use Rattle.std.specs.Prelude.{◌&&◌, codes}
+use Rattle.std.proofs.Common.{◌≡◌, suc, ◌^◌, arith, true, false, Ok, Err, refl, cond}
+use Rattle.std.specs.Prelude.{◌&&◌, List, codes}
 use Rattle.serde_json.specs.Data.{Data, number, string, array, object, no_items, item}
 use Rattle.serde_json.specs.Events.{items_len}
+use Rattle.causal_name.specs.declared.Det.{Det}
+use Rattle.causal_name.specs.declared.Pid.{Pid}
+use Rattle.causal_trace.specs.declared.entry.Entry.TheVariants.{Restart, Forget}
 use Rattle.causal_text.specs.declared.kind.TextKind.TheVariants.{Form}
+use Rattle.causal_text.specs.declared.shape.Shape.{Shape}
+use Rattle.causal_text.specs.declared.shape.Shape.TheVariants as shape
+use Rattle.causal_text.specs.Reading.{◌>>=◌}
 use Rattle.causal_text.specs.Shapes.{pid_at, u32_at, det_of, dets_at, begins, header_of, send_of, deliver_of, stable_of, crash_of, restart_of, forget_of, end_of, shape_of}
 use Rattle.causal_text.specs.Outline.{levels, fits}
 use Rattle.causal_text.proofs.Lemmas.Unfit.{or_else, last_false, stops, chain, IsPlainly-or_form, IsPlainly-pid, number_bad, pid_bad, far, det_bad, dets_bad, wrong, right, fields, either}
@@ -51,19 +57,21 @@ header_bad a b c h =
     chain (u32_at 1 d) _ (IsPlainly-or_form _) (or_else (fits 2 b) _ h (number_bad (2 ^ 32) 2 1 d b refl) (λ h2 version.
     stops (u32_at 2 d) _ (number_bad (2 ^ 32) 2 2 d c refl (last_false (fits 2 c) true refl h2))))
 
-restart_bad : (a b c : Data) → (fits 2 b && (fits 2 c && true)) ≡ false → restart_of (array (item a (item b (item c no_items)))) ≡ Err Form
-unfolding restart_of
-restart_bad a b c h =
+-- a process, and determinants that are listed
+listing_bad : (a b c : Data) (says : Pid → List Det → Shape) → (fits 2 b && (fits 2 c && true)) ≡ false
+    → (pid_at 1 (array (item a (item b (item c no_items)))) >>= λ who. dets_at 2 (array (item a (item b (item c no_items)))) >>= λ listed. Ok (says who listed)) ≡ Err Form
+listing_bad a b c says h =
     let d : Data = array (item a (item b (item c no_items))) in
     chain (pid_at 1 d) _ (IsPlainly-pid 1 d) (or_else (fits 2 b) _ h (pid_bad 2 1 d b refl) (λ h2 who.
     stops (dets_at 2 d) _ (dets_bad 2 d c refl (last_false (fits 2 c) true refl h2))))
 
+restart_bad : (a b c : Data) → (fits 2 b && (fits 2 c && true)) ≡ false → restart_of (array (item a (item b (item c no_items)))) ≡ Err Form
+unfolding restart_of
+restart_bad a b c = listing_bad a b c (λ who listed. shape.Entry (Restart who listed))
+
 forget_bad : (a b c : Data) → (fits 2 b && (fits 2 c && true)) ≡ false → forget_of (array (item a (item b (item c no_items)))) ≡ Err Form
 unfolding forget_of
-forget_bad a b c h =
-    let d : Data = array (item a (item b (item c no_items))) in
-    chain (pid_at 1 d) _ (IsPlainly-pid 1 d) (or_else (fits 2 b) _ h (pid_bad 2 1 d b refl) (λ h2 who.
-    stops (dets_at 2 d) _ (dets_bad 2 d c refl (last_false (fits 2 c) true refl h2))))
+forget_bad a b c = listing_bad a b c (λ who listed. shape.Entry (Forget who listed))
 
 send_bad : (a b c e : Data) → (fits 2 b && (fits 2 c && (fits 2 e && true))) ≡ false → send_of (array (item a (item b (item c (item e no_items))))) ≡ Err Form
 unfolding send_of

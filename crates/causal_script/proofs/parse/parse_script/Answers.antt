@@ -26,16 +26,14 @@ returns-in_err-kind-clause-err c =
 pub returns-in_err-commands-clause-err : goal.returns-in_err-commands-clause-err
 returns-in_err-commands-clause-err c =
     let p = err_from_is_err_and c.from_residual-in_err-commands.result c.from_residual-in_err-commands.ensures.1 in
-    let text = c.args.bytes.now in
-    let after = after_start text _ c.in-Some.rest.now _ _ _ c.in-Some.ensures.parts c.big_line-big.ensures (sym c.in_ok-kind.ensures) c.first_line.ensures in
-    rw (p.1, p.2) (λ other. c.in_err-commands.ensures.err other text after c.big_line-big.ensures)
+    let after = after_start c.args.bytes.now _ c.in-Some.rest.now _ _ _ c.in-Some.ensures.parts c.big_line-big.ensures (sym c.in_ok-kind.ensures) c.first_line.ensures in
+    rw (p.1, p.2) (λ other. c.in_err-commands.ensures.err other c.args.bytes.now after c.big_line-big.ensures)
 
 pub returns-in_err-commands-clause-memory : goal.returns-in_err-commands-clause-memory
 returns-in_err-commands-clause-memory c =
     let p = err_from_is_err_and c.from_residual-in_err-commands.result c.from_residual-in_err-commands.ensures.1 in
-    let text = c.args.bytes.now in
-    let after = after_start text _ c.in-Some.rest.now _ _ _ c.in-Some.ensures.parts c.big_line-big.ensures (sym c.in_ok-kind.ensures) c.first_line.ensures in
-    rw (p.1, p.2) (λ memory. c.in_err-commands.ensures.memory memory text after c.big_line-big.ensures)
+    let after = after_start c.args.bytes.now _ c.in-Some.rest.now _ _ _ c.in-Some.ensures.parts c.big_line-big.ensures (sym c.in_ok-kind.ensures) c.first_line.ensures in
+    rw (p.1, p.2) (λ memory. c.in_err-commands.ensures.memory memory c.args.bytes.now after c.big_line-big.ensures)
 
 pub returns-clause-ok : goal.returns-clause-ok
 returns-clause-ok c =

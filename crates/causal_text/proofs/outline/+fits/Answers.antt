@@ -145,5 +145,4 @@ pub pass_members-returns-clause-ok : goal.pass_members-returns-clause-ok
 pass_members-returns-clause-ok t c =
     let p = value c.args.depth in
     let l = c.members in
-    let n = l.invariant.0 in
-    (l.invariant.2, l.invariant.3 ∙ members_over p l.invariant.2 n l.reader c.next_key.new.self l.invariant.1 (grind arith))
+    (l.invariant.2, l.invariant.3 ∙ members_over p l.invariant.2 l.invariant.0 l.reader c.next_key.new.self l.invariant.1 (grind arith))

@@ -36,9 +36,8 @@ pub returns-in_err-reader-clause-err : goal.returns-in_err-reader-clause-err
 returns-in_err-reader-clause-err c =
     let p = err_from_is_err_and c.from_residual.result c.from_residual.ensures.1 in
     let i = c.loop-line.invariant in
-    let some = c.in-Some.ensures.some in
-    let piece_is = i.1 ∙ ap (λ xs. i.0 ++ xs) some.1 in
-    rw (p.1, p.2) (λ other b s. rw piece_is (fault_of_piece c.args.limits.entries c.args.self c.loop-line.reader i.0 c.in-Some.line.now c.in-Some.after.now _ i.2 some.0 (told _ _ _ c.in_err-reader.ensures.value other) b s))
+    let piece_is = i.1 ∙ ap (λ xs. i.0 ++ xs) c.in-Some.ensures.some.1 in
+    rw (p.1, p.2) (λ other b s. rw piece_is (fault_of_piece c.args.limits.entries c.args.self c.loop-line.reader i.0 c.in-Some.line.now c.in-Some.after.now _ i.2 c.in-Some.ensures.some.0 (told _ _ _ c.in_err-reader.ensures.value other) b s))
 
 lined : (most : ℕ) (h0 h : Held) (piece done left : List ℕ) (r : Result Held Rejected) → Comes most h0 done h → piece ≡ done ++ left → IfErr r (λ f. f.fault.line ≡ h.place.count + 1) → IfErr r (λ f. (b : List ℕ) → StandsFor most h0 b → IsReadAt most (b ++ piece) f.fault.line)
 lined most h0 h piece done left (Ok k) c is e = tt
@@ -64,6 +63,5 @@ pub returns-in_err-reader-clause-before : goal.returns-in_err-reader-clause-befo
 returns-in_err-reader-clause-before c =
     let p = err_from_is_err_and c.from_residual.result c.from_residual.ensures.1 in
     let i = c.loop-line.invariant in
-    let some = c.in-Some.ensures.some in
-    let piece_is = i.1 ∙ ap (λ xs. i.0 ++ xs) some.1 in
-    rw (p.1, p.2) (λ b s. rw piece_is (kept_of_piece c.args.limits.entries c.args.self c.loop-line.reader i.0 c.in-Some.line.now c.in-Some.after.now _ _ i.2 some.0 c.in_err-reader.ensures.before c.in_err-reader.ensures.line b s))
+    let piece_is = i.1 ∙ ap (λ xs. i.0 ++ xs) c.in-Some.ensures.some.1 in
+    rw (p.1, p.2) (λ b s. rw piece_is (kept_of_piece c.args.limits.entries c.args.self c.loop-line.reader i.0 c.in-Some.line.now c.in-Some.after.now _ _ i.2 c.in-Some.ensures.some.0 c.in_err-reader.ensures.before c.in_err-reader.ensures.line b s))
