@@ -12,12 +12,14 @@ meaning_text x y meaning =
 unfoldable pub key_text : ℕ → ℕ → Shape → List ℕ → List ℕ
 key_text x y shape meaning = shape_text x y shape ++ meaning_text x y meaning
 
+unfoldable pub upper_text : ℕ → List ℕ
+upper_text y =
+    key_text 20 y OpenDot (codes "send") ++ (key_text 120 y FaintDot (codes "sent again") ++ (key_text 220 y Dot (codes "delivery")
+    ++ (key_text 320 y Cross (codes "crash") ++ (key_text 420 y Ring (codes "restart") ++ key_text 520 y Square (codes "stable")))))
+
 -- two rows of shapes with what they mean
 unfoldable pub legend_text : ℕ → ℕ → List ℕ
 legend_text upper lower =
-    key_text 20 upper OpenDot (codes "send") ++ (key_text 120 upper FaintDot (codes "sent again")
-    ++ (key_text 220 upper Dot (codes "delivery") ++ (key_text 320 upper Cross (codes "crash")
-    ++ (key_text 420 upper Ring (codes "restart") ++ (key_text 520 upper Square (codes "stable")
-    ++ (key_text 20 lower Triangle (codes "forgetting") ++ (key_text 120 lower Halo (codes "chain")
+    upper_text upper ++ (key_text 20 lower Triangle (codes "forgetting") ++ (key_text 120 lower Halo (codes "chain")
     ++ (key_text 220 lower Shade (codes "crash set") ++ (key_text 320 lower Diamond (codes "holder")
-    ++ key_text 420 lower OpenDiamond (codes "orphan"))))))))))
+    ++ key_text 420 lower OpenDiamond (codes "orphan")))))

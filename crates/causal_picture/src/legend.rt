@@ -24,17 +24,24 @@ fn push_key(out: &mut String, x: u64, y: u32, shape: Shape, meaning: &str) -> Re
     push_meaning(out, x, y, meaning)
 }
 
+#[tactic(auto, unfolding(crate::specs::Legends::upper_text))]
+fn push_upper(out: &mut String, y: u32) -> Result<(), AllocError>
+    ensures { Appends result out.old out.new (legends.upper_text y) }
+{
+    push_key(out, 20, y, Shape::OpenDot, "send")?;
+    push_key(out, 120, y, Shape::FaintDot, "sent again")?;
+    push_key(out, 220, y, Shape::Dot, "delivery")?;
+    push_key(out, 320, y, Shape::Cross, "crash")?;
+    push_key(out, 420, y, Shape::Ring, "restart")?;
+    push_key(out, 520, y, Shape::Square, "stable")
+}
+
 /// Two rows of shapes with what they mean.
 #[tactic(auto, unfolding(crate::specs::Legends::legend_text))]
 pub fn push_legend(out: &mut String, upper: u32, lower: u32) -> Result<(), AllocError>
     ensures { Appends result out.old out.new (legends.legend_text upper lower) }
 {
-    push_key(out, 20, upper, Shape::OpenDot, "send")?;
-    push_key(out, 120, upper, Shape::FaintDot, "sent again")?;
-    push_key(out, 220, upper, Shape::Dot, "delivery")?;
-    push_key(out, 320, upper, Shape::Cross, "crash")?;
-    push_key(out, 420, upper, Shape::Ring, "restart")?;
-    push_key(out, 520, upper, Shape::Square, "stable")?;
+    push_upper(out, upper)?;
     push_key(out, 20, lower, Shape::Triangle, "forgetting")?;
     push_key(out, 120, lower, Shape::Halo, "chain")?;
     push_key(out, 220, lower, Shape::Shade, "crash set")?;
