@@ -106,10 +106,10 @@ fn heard_of(value: &Value) -> Result<Line, TextKind>
     ensures value { result ≡ heard_of (view value.now) }
     ensures sound { IfOk result IsSound }
 {
-    let _process = pid_at(value, 1)?;
-    let _clock = u64_at(value, 2)?;
-    let _from = pid_at(value, 3)?;
-    let _sent = u64_at(value, 4)?;
+    pid_at(value, 1)?;
+    u64_at(value, 2)?;
+    pid_at(value, 3)?;
+    u64_at(value, 4)?;
     Ok(Line::Heard)
 }
 
