@@ -33,15 +33,6 @@ use std::alloc::{AllocError, AllocFailed, Global};
 use std::marker::Model;
 use thiserror::Error;
 
-/// How many lanes a clock can begin with.
-pub const FIRST_LANES: u16 = 256;
-
-/// How many lanes can be opened later.
-pub const OPENED_LANES: u32 = 192;
-
-/// How many events a clock can have.
-pub const EVENTS: u32 = 16_777_216;
-
 /// An event of a lane. A receive also has the number of its send's event.
 #[derive(Clone, Copy, Debug, PartialEq, Eq)]
 pub struct Event {
@@ -83,6 +74,15 @@ impl<T: Drop> From<AllocFailed<T>> for ClockFault {
         ClockFault::NoMemory
     }
 }
+
+/// How many lanes a clock can begin with.
+pub const FIRST_LANES: u16 = 256;
+
+/// How many lanes can be opened later.
+pub const OPENED_LANES: u32 = 192;
+
+/// How many events a clock can have.
+pub const EVENTS: u32 = 16_777_216;
 
 /// An event, and how many events of its own lane came before it.
 #[derive(Clone, Copy)]

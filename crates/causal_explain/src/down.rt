@@ -46,10 +46,8 @@ fn down_in(alloc: Global, standings: &[Standing]) -> Result<Vec<Down>, NoMemory>
     let mut down = Vec::new(alloc);
     for (p, standing) in standings.iter().enumerate() {
         if let Some(since) = standing.since() {
-            down.push(Down {
-                process: p as u8,
-                since,
-            })?;
+            let process = p as u8;
+            down.push(Down { process, since })?;
         }
     }
     Ok(down)

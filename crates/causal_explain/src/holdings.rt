@@ -82,10 +82,8 @@ fn holdings_in(alloc: Global, standings: &[Standing]) -> Result<Vec<Holding>, No
     let mut holdings = Vec::new(alloc);
     for (p, standing) in standings.iter().enumerate() {
         if let Some(since) = standing.since() {
-            holdings.push(Holding {
-                process: p as u8,
-                since,
-            })?;
+            let process = p as u8;
+            holdings.push(Holding { process, since })?;
         }
     }
     Ok(holdings)

@@ -2,7 +2,7 @@
 ghost use Rattle.std.specs.Prelude.{◌≡◌, ◌≤◌, IfOk, OnOk};
 ghost use Rattle.serde_json.specs.View.{view};
 ghost use Rattle.causal_text.specs.Given.{Gives};
-ghost use Rattle.causal_merge.specs.Shapes.{header_with, header_of, event_with, send_of, deliver_of, stable_of, restart_of, forget_of, heard_of, line_of};
+ghost use Rattle.causal_merge.specs.Shapes.{header_with, header_of, event_with, send_of, deliver_of, stable_of, heard_of, line_of};
 ghost use Rattle.causal_merge.specs.Reading.{bytes_say, agreed, next_line, same_run, most_bytes};
 ghost use Rattle.causal_merge.specs.Inside.Gathering.{IsSound};
 
@@ -101,37 +101,19 @@ fn stable_of(value: &Value) -> Result<Line, TextKind>
     event_with(value, Act::Stable { det })
 }
 
-#[tactic(auto, unfolding(crate::specs::Shapes::restart_of))]
-fn restart_of(alloc: Global, value: &Value) -> Result<Line, TextKind>
-    ensures value { Gives result (restart_of (view value.now)) }
-    ensures sound { IfOk result IsSound }
-{
-    let listed = dets_at(alloc, value, 3)?;
-    event_with(value, Act::Restart { listed })
-}
-
-#[tactic(auto, unfolding(crate::specs::Shapes::forget_of))]
-fn forget_of(alloc: Global, value: &Value) -> Result<Line, TextKind>
-    ensures value { Gives result (forget_of (view value.now)) }
-    ensures sound { IfOk result IsSound }
-{
-    let listed = dets_at(alloc, value, 3)?;
-    event_with(value, Act::Forget { listed })
-}
-
 #[tactic(auto, unfolding(crate::specs::Shapes::heard_of))]
 fn heard_of(value: &Value) -> Result<Line, TextKind>
     ensures value { result ≡ heard_of (view value.now) }
     ensures sound { IfOk result IsSound }
 {
-    let _process = pid_at(value, 1)?;
-    let _clock = u64_at(value, 2)?;
-    let _from = pid_at(value, 3)?;
-    let _sent = u64_at(value, 4)?;
+    pid_at(value, 1)?;
+    u64_at(value, 2)?;
+    pid_at(value, 3)?;
+    u64_at(value, 4)?;
     Ok(Line::Heard)
 }
 
-#[tactic(auto, unfolding(crate::specs::Shapes::line_of))]
+#[tactic(auto, unfolding(crate::specs::Shapes::line_of, crate::specs::Shapes::restart_of, crate::specs::Shapes::forget_of))]
 fn line_of(alloc: Global, value: &Value) -> Result<Line, TextKind>
     ensures value { Gives result (line_of (view value.now)) }
     ensures sound { IfOk result IsSound }
@@ -147,9 +129,11 @@ fn line_of(alloc: Global, value: &Value) -> Result<Line, TextKind>
     } else if begins(value, "crash", 3) {
         event_with(value, Act::Crash)
     } else if begins(value, "restart", 4) {
-        restart_of(alloc, value)
+        let listed = dets_at(alloc, value, 3)?;
+        event_with(value, Act::Restart { listed })
     } else if begins(value, "forget", 4) {
-        forget_of(alloc, value)
+        let listed = dets_at(alloc, value, 3)?;
+        event_with(value, Act::Forget { listed })
     } else if begins(value, "heard", 5) {
         heard_of(value)
     } else {

@@ -40,7 +40,7 @@ unfoldable pub polyline_text : List Point → List ℕ → List ℕ
 polyline_text points stroke = codes "<polyline points='" ++ (corners_text points ++ (codes "' fill='none' " ++ (stroke ++ codes "/>\n")))
 
 -- a ring about a place
-unfoldable pub ring_text : Point → List ℕ
+abbrev pub ring_text : Point → List ℕ
 ring_text p = shape_text p.x p.y Halo
 
 abbrev pub rings_text : List Point → List ℕ

@@ -183,24 +183,8 @@ fn push_cut_label(
     )
 }
 
-/// A mark where the run is cut: a dotted line and the words.
+/// A mark where the run is cut, if it is: a dotted line and the words.
 #[tactic(auto, unfolding(crate::specs::Frames::cut_mark))]
-fn push_cut_mark(
-    out: &mut String,
-    hidden: u32,
-    side: &str,
-    x: u64,
-    anchor: &str,
-    bottom: u32,
-) -> Result<(), AllocError>
-    ensures { Appends result out.old out.new (frames.cut_mark hidden side.now x anchor.now bottom) }
-{
-    push_cut_title(out, hidden, side)?;
-    push_cut_line(out, x, bottom)?;
-    push_cut_label(out, hidden, side, x, anchor)
-}
-
-/// A mark where the run is cut, if it is.
 fn push_cut(
     out: &mut String,
     hidden: u32,
@@ -212,10 +196,11 @@ fn push_cut(
     ensures { Appends result out.old out.new (frames.cut_text hidden side.now x anchor.now bottom) }
 {
     if hidden == 0 {
-        Ok(())
-    } else {
-        push_cut_mark(out, hidden, side, x, anchor, bottom)
+        return Ok(());
     }
+    push_cut_title(out, hidden, side)?;
+    push_cut_line(out, x, bottom)?;
+    push_cut_label(out, hidden, side, x, anchor)
 }
 
 /// The marks where the run is cut: before the entries that are shown, between them and after them.

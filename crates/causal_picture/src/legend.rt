@@ -36,22 +36,15 @@ fn push_upper(out: &mut String, y: u32) -> Result<(), AllocError>
     push_key(out, 520, y, Shape::Square, "stable")
 }
 
-#[tactic(auto, unfolding(crate::specs::Legends::lower_text))]
-fn push_lower(out: &mut String, y: u32) -> Result<(), AllocError>
-    ensures { Appends result out.old out.new (legends.lower_text y) }
-{
-    push_key(out, 20, y, Shape::Triangle, "forgetting")?;
-    push_key(out, 120, y, Shape::Halo, "chain")?;
-    push_key(out, 220, y, Shape::Shade, "crash set")?;
-    push_key(out, 320, y, Shape::Diamond, "holder")?;
-    push_key(out, 420, y, Shape::OpenDiamond, "orphan")
-}
-
 /// Two rows of shapes with what they mean.
 #[tactic(auto, unfolding(crate::specs::Legends::legend_text))]
 pub fn push_legend(out: &mut String, upper: u32, lower: u32) -> Result<(), AllocError>
     ensures { Appends result out.old out.new (legends.legend_text upper lower) }
 {
     push_upper(out, upper)?;
-    push_lower(out, lower)
+    push_key(out, 20, lower, Shape::Triangle, "forgetting")?;
+    push_key(out, 120, lower, Shape::Halo, "chain")?;
+    push_key(out, 220, lower, Shape::Shade, "crash set")?;
+    push_key(out, 320, lower, Shape::Diamond, "holder")?;
+    push_key(out, 420, lower, Shape::OpenDiamond, "orphan")
 }

@@ -70,18 +70,11 @@ fn push_corners(out: &mut String, points: &[Point]) -> Result<(), AllocError>
     Ok(())
 }
 
-#[tactic(auto, unfolding(crate::specs::Overlays::ring_text))]
-fn push_ring(out: &mut String, point: &Point) -> Result<(), AllocError>
-    ensures { Appends result out.old out.new (overlays.ring_text point.now) }
-{
-    push_shape(out, point.x, point.y, Shape::Halo)
-}
-
 fn push_rings(out: &mut String, points: &[Point]) -> Result<(), AllocError>
     ensures { Appends result out.old out.new (overlays.rings_text points.now) }
 {
     for point in points {
-        push_ring(out, point)?;
+        push_shape(out, point.x, point.y, Shape::Halo)?;
     }
     Ok(())
 }

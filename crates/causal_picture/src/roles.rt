@@ -19,16 +19,14 @@ pub enum Role {
     Other,
 }
 
-impl Role {
-    /// What its name is followed by.
-    fn words(self) -> &'static str
-        ensures { result.now ≡ roles.words_of self }
-    {
-        match self {
-            Role::Orphan => ": orphan",
-            Role::Holder => ": holder",
-            Role::Other => "",
-        }
+/// What the name of a process in that role is followed by.
+fn words_of(role: Role) -> &'static str
+    ensures { result.now ≡ roles.words_of role }
+{
+    match role {
+        Role::Orphan => ": orphan",
+        Role::Holder => ": holder",
+        Role::Other => "",
     }
 }
 
@@ -93,7 +91,7 @@ fn push_process(
     let y = y_of(grid, process);
     let role = role_of(focus, process);
     push_sign(out, x, y, role)?;
-    push_name(out, x, y, process, role.words())
+    push_name(out, x, y, process, words_of(role))
 }
 
 /// All processes at the instant.

@@ -1,9 +1,5 @@
 //! Two partners send a count back and forth, and it falls by one each time.
-ghost use Rattle.std.specs.Prelude.{◌≡◌, ◌<◌, List, map};
-ghost use Rattle.causal_process.specs.declared.message.Input.{Input};
-ghost use Rattle.causal_process.specs.Kinds.{partner_of, echo_reaction};
-ghost use Rattle.causal_process.specs.LawsKept.{map_each, map_in_order};
-
+use crate::body::first_or_zero;
 use crate::message::{Input, Outgoing};
 use crate::process::Process;
 use crate::sending::{count_down, send_one};
@@ -31,6 +27,9 @@ impl Model for Echo {
 }
 
 impl Echo {
+    ghost use Rattle.std.specs.Prelude.{◌≡◌, ◌<◌};
+    ghost use Rattle.causal_process.specs.Kinds.{partner_of};
+
     /// Process `me`, 0 to n - 1, of n processes, which starts its count at `rounds`.
     pub fn new(n: u16, me: u8, rounds: u8) -> Echo
         requires { me < n }
@@ -52,6 +51,11 @@ impl Echo {
 }
 
 impl Process for Echo {
+    ghost use Rattle.std.specs.Prelude.{List, map};
+    ghost use Rattle.causal_process.specs.declared.message.Input.{Input};
+    ghost use Rattle.causal_process.specs.Kinds.{echo_reaction};
+    ghost use Rattle.causal_process.specs.LawsKept.{map_each, map_in_order};
+
     ghost answers = { λ echo. map (echo_reaction echo) };
 
     fn step(&mut self, alloc: Global, input: &Input) -> Result<Vec<Outgoing>, NoMemory> {
@@ -64,7 +68,7 @@ impl Process for Echo {
                     Ok(Vec::new(alloc))
                 }
             }
-            Input::Message { from, body } => count_down(alloc, *from, body.first_or_zero()),
+            Input::Message { from, body } => count_down(alloc, *from, first_or_zero(body)),
         }
     }
 

@@ -86,6 +86,8 @@ mod process;
 mod ring;
 /// The answers of the kinds: one message or none.
 mod sending;
+/// Values in order, which contracts see as their list.
+mod sequence;
 /// A sum that depends on the order of its deliveries.
 mod tally;
 
@@ -95,6 +97,7 @@ pub use echo::Echo;
 pub use message::{Input, Outgoing};
 pub use process::Process;
 pub use ring::Ring;
+pub use sequence::Sequence;
 pub use tally::Tally;
 
 #[cfg(test)]

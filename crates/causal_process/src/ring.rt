@@ -1,9 +1,5 @@
 //! A count goes round a ring of processes, and falls by one at each.
-ghost use Rattle.std.specs.Prelude.{◌≡◌, ◌<◌, List, map};
-ghost use Rattle.causal_process.specs.declared.message.Input.{Input};
-ghost use Rattle.causal_process.specs.Kinds.{next_of, ring_reaction};
-ghost use Rattle.causal_process.specs.LawsKept.{map_each, map_in_order};
-
+use crate::body::first_or_zero;
 use crate::message::{Input, Outgoing};
 use crate::process::Process;
 use crate::sending::{count_down, send_one};
@@ -34,6 +30,9 @@ impl Model for Ring {
 }
 
 impl Ring {
+    ghost use Rattle.causal_process.specs.Kinds.{next_of};
+    ghost use Rattle.std.specs.Prelude.{◌≡◌, ◌<◌};
+
     /// Process `me`, 0 to n - 1, of a ring of n. Process 0 starts its count at `hops`; the others start none.
     pub fn new(n: u16, me: u8, hops: u8) -> Ring
         requires { me < n }
@@ -52,6 +51,11 @@ impl Ring {
 }
 
 impl Process for Ring {
+    ghost use Rattle.causal_process.specs.Kinds.{ring_reaction};
+    ghost use Rattle.causal_process.specs.LawsKept.{map_each, map_in_order};
+    ghost use Rattle.causal_process.specs.declared.message.Input.{Input};
+    ghost use Rattle.std.specs.Prelude.{List, map};
+
     ghost answers = { λ ring. map (ring_reaction ring) };
 
     fn step(&mut self, alloc: Global, input: &Input) -> Result<Vec<Outgoing>, NoMemory> {
@@ -59,7 +63,7 @@ impl Process for Ring {
             Input::Begin if self.me == 0 => send_one(alloc, self.next(), &[self.hops]),
             Input::Begin => Ok(Vec::new(alloc)),
             Input::Message { from: _, body } => {
-                count_down(alloc, self.next(), body.first_or_zero())
+                count_down(alloc, self.next(), first_or_zero(body))
             }
         }
     }

@@ -104,49 +104,34 @@ impl Reply {
     pub fn of_delivery(answer: Result<Delivered, CoreFault>) -> Reply
         ensures { result ≡ told_delivery answer }
     {
-        match answer {
-            Ok(delivered) => Reply::Delivered(delivered),
-            Err(fault) => Reply::Refused(fault),
-        }
+        answer.map_or_else(Reply::Refused, Reply::Delivered)
     }
 
     /// What a crash that answers so tells.
     pub fn of_crash(answer: Result<u32, CoreFault>) -> Reply
         ensures { result ≡ told_crash answer }
     {
-        match answer {
-            Ok(first) => Reply::Crashed { first },
-            Err(fault) => Reply::Refused(fault),
-        }
+        answer.map_or_else(Reply::Refused, |first| Reply::Crashed { first })
     }
 
     /// What a restart that answers so tells; a refused one hands the spare back beside its fault.
     pub fn of_restart(answer: Result<Restarted, CoreFault>) -> Reply
         ensures { result ≡ told_restart (λ fault. fault) answer }
     {
-        match answer {
-            Ok(restarted) => Reply::Restarted(restarted),
-            Err(fault) => Reply::Refused(fault),
-        }
+        answer.map_or_else(Reply::Refused, Reply::Restarted)
     }
 
     /// What a flush that answers so tells.
     pub fn of_flush(answer: Result<u32, FlushFault>) -> Reply
         ensures { result ≡ told_flush answer }
     {
-        match answer {
-            Ok(count) => Reply::Flushed { count },
-            Err(fault) => Reply::FlushRefused(fault),
-        }
+        answer.map_or_else(Reply::FlushRefused, |count| Reply::Flushed { count })
     }
 
     /// What a forgetting that answers so tells.
     pub fn of_forget(answer: Result<u32, CoreFault>) -> Reply
         ensures { result ≡ told_forget answer }
     {
-        match answer {
-            Ok(count) => Reply::Forgotten { count },
-            Err(fault) => Reply::Refused(fault),
-        }
+        answer.map_or_else(Reply::Refused, |count| Reply::Forgotten { count })
     }
 }

@@ -8,16 +8,6 @@ use causal_name::{MsgName, NoMemory, Pid};
 use causal_protocol::request::CoreFault;
 use std::alloc::{AllocError, Global};
 
-fn kind_name(kind: ScriptFaultKind) -> &'static str
-    ensures { result.now ≡ kind_name kind }
-{
-    match kind {
-        ScriptFaultKind::Big => "Big",
-        ScriptFaultKind::Script => "Script",
-        ScriptFaultKind::NoMemory => "NoMemory",
-    }
-}
-
 /// The line that a fault of a script prints as, with a line feed: `fault line=3 Script`.
 ///
 /// # Errors
@@ -25,9 +15,21 @@ fn kind_name(kind: ScriptFaultKind) -> &'static str
 pub fn script_line(alloc: Global, fault: &ScriptFault) -> Result<Vec<u8>, NoMemory>
     ensures { IfOk result (λ text. text.items ≡ script_line fault.now) }
 {
-    let (line, name) = (fault.line, kind_name(fault.kind));
+    let (line, name) = (fault.line, fault.kind.name());
     let text = format!(in alloc; "fault line={line} {name}\n")?;
     Ok(text.into_bytes())
+}
+
+impl ScriptFaultKind {
+    fn name(self) -> &'static str
+        ensures { result.now ≡ kind_name self }
+    {
+        match self {
+            ScriptFaultKind::Big => "Big",
+            ScriptFaultKind::Script => "Script",
+            ScriptFaultKind::NoMemory => "NoMemory",
+        }
+    }
 }
 
 /// The line that a refused command prints as, with a line feed: `refused line=6 OverFaults`, or

@@ -1,7 +1,6 @@
 //! What a script says.
+use causal_process::Sequence;
 use causal_protocol::request::Request;
-use std::marker::Model;
-use std::vec::Vec;
 use thiserror::Error;
 
 /// The kind of the processes of a run.
@@ -20,37 +19,7 @@ pub struct Command {
 }
 
 /// Commands in order. Contracts see their list.
-#[derive(Debug, Drop)]
-pub struct Commands {
-    commands: Vec<Command>,
-}
-
-impl Model for Commands {
-    ghost use Rattle.std.specs.Prelude.{List};
-    ghost use Rattle.causal_script.specs.declared.script.Command.{Command};
-
-    ghost Value = { List Command };
-
-    ghost view = { λ a. a.commands.items };
-}
-
-impl Commands {
-    ghost use Rattle.std.specs.Prelude.{◌≡◌};
-
-    /// The list that a vector holds.
-    pub fn new(commands: Vec<Command>) -> Commands
-        ensures { result ≡ commands.items }
-    {
-        Commands { commands }
-    }
-
-    /// The commands in their order.
-    pub fn as_slice(&self) -> &[Command]
-        ensures { result.now ≡ self.now }
-    {
-        self.commands.as_slice()
-    }
-}
+pub type Commands = Sequence<Command>;
 
 /// A script: n processes of one kind, of which at most f are down at once, and the commands in their order.
 #[derive(Debug, Drop)]

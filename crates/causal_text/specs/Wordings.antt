@@ -14,15 +14,11 @@ line_at position = position + 2
 abbrev pub begun : ℕ → List ℕ → List ℕ
 begun line rest = codes "line " ++ (decimal line ++ rest)
 
--- `line 4: process 1 sends with the number 3, and its next is 1`
-abbrev pub wrong_ssn : ℕ → ℕ → ℕ → ℕ → List ℕ
-wrong_ssn line process given next =
-    begun line (codes ": process " ++ (decimal process ++ (codes " sends with the number " ++ (decimal given ++ (codes ", and its next is " ++ decimal next)))))
-
--- `line 4: process 1 delivers with the number 3, and its next is 1`
-abbrev pub wrong_rsn : ℕ → ℕ → ℕ → ℕ → List ℕ
-wrong_rsn line process given next =
-    begun line (codes ": process " ++ (decimal process ++ (codes " delivers with the number " ++ (decimal given ++ (codes ", and its next is " ++ decimal next)))))
+-- `line 4: process 1 sends with the number 3, and its next is 1`, or what else it does
+abbrev pub wrong_number : ℕ → ℕ → List ℕ → ℕ → ℕ → List ℕ
+wrong_number line process does given next =
+    begun line (codes ": process " ++ (decimal process ++ (codes " " ++ (does ++ (codes " with the number " ++ (decimal given
+    ++ (codes ", and its next is " ++ decimal next)))))))
 
 -- `line 4: there is no earlier send to process 1 at position 7, which is line 9`
 abbrev pub no_send : ℕ → ℕ → ℕ → List ℕ
@@ -49,9 +45,9 @@ wrong_count line given entries =
 
 -- what is wrong with the line of a number
 abbrev pub in_numbers : ℕ → Wrong → List ℕ
-in_numbers line (wrong.Ssn process given next) = wrong_ssn line process.0 given next
+in_numbers line (wrong.Ssn process given next) = wrong_number line process.0 (codes "sends") given next
 in_numbers line (wrong.Send position process) = no_send line position process.0
-in_numbers line (wrong.Rsn process given next) = wrong_rsn line process.0 given next
+in_numbers line (wrong.Rsn process given next) = wrong_number line process.0 (codes "delivers") given next
 in_numbers line (wrong.Again process message position) = again line process.0 message position
 in_numbers line (wrong.Undelivered det) = undelivered line det
 in_numbers line (wrong.Entries given entries) = wrong_count line given entries

@@ -15,60 +15,42 @@ use causal_trace::trace::Trace;
 pub(crate) fn sends(trace: &Trace, p: Pid) -> u32
     ensures { result ≡ past.sends trace.now.recording.past p.0 }
 {
-    sends_in(trace.entries(), p)
+    counts_in(trace.entries(), p).sends
 }
 
 /// How many messages it has delivered.
 pub(crate) fn deliveries(trace: &Trace, p: Pid) -> u32
     ensures { result ≡ past.deliveries trace.now.recording.past p.0 }
 {
-    deliveries_in(trace.entries(), p)
+    counts_in(trace.entries(), p).deliveries
 }
 
-fn sends_in(entries: &[Entry], p: Pid) -> u32
+/// What a process's present lane has sent and delivered, in numbers.
+#[derive(Clone, Copy)]
+struct Counts {
+    sends: u32,
+    deliveries: u32,
+}
+
+fn counts_in(entries: &[Entry], p: Pid) -> Counts
     requires { length entries.now ≤ max_entries }
-    ensures { result ≡ past.sends (past_at entries.now (length entries.now)) p.0 }
+    ensures sends { result.sends ≡ past.sends (past_at entries.now (length entries.now)) p.0 }
+    ensures deliveries { result.deliveries
+        ≡ past.deliveries (past_at entries.now (length entries.now)) p.0 }
 {
-    let mut sends = 0;
+    let (mut sends, mut deliveries) = (0, 0);
     for e in entries {
         match e {
-            Entry::Send { from, .. } => {
-                if from.0 == p.0 {
-                    sends += 1;
-                }
-            }
-            Entry::Restart { who, .. } => {
-                if who.0 == p.0 {
-                    sends = 0;
-                }
+            Entry::Send { from, .. } if from.0 == p.0 => sends += 1,
+            Entry::Deliver { to, .. } if to.0 == p.0 => deliveries += 1,
+            Entry::Restart { who, .. } if who.0 == p.0 => {
+                sends = 0;
+                deliveries = 0;
             }
             _ => {}
         }
     }
-    sends
-}
-
-fn deliveries_in(entries: &[Entry], p: Pid) -> u32
-    requires { length entries.now ≤ max_entries }
-    ensures { result ≡ past.deliveries (past_at entries.now (length entries.now)) p.0 }
-{
-    let mut deliveries = 0;
-    for e in entries {
-        match e {
-            Entry::Deliver { to, .. } => {
-                if to.0 == p.0 {
-                    deliveries += 1;
-                }
-            }
-            Entry::Restart { who, .. } => {
-                if who.0 == p.0 {
-                    deliveries = 0;
-                }
-            }
-            _ => {}
-        }
-    }
-    deliveries
+    Counts { sends, deliveries }
 }
 
 /// The position of the delivery of the message by the process's present lane; None where it has not delivered it.

@@ -30,13 +30,13 @@ fn in_numbers(alloc: Global, line: u32, wrong: Wrong) -> Result<String, NoMemory
             process,
             given,
             next,
-        } => wrong_ssn(alloc, line, process, given, next),
+        } => wrong_number(alloc, line, process, "sends", given, next),
         Wrong::Send { position, process } => no_send(alloc, line, position, process),
         Wrong::Rsn {
             process,
             given,
             next,
-        } => wrong_rsn(alloc, line, process, given, next),
+        } => wrong_number(alloc, line, process, "delivers", given, next),
         Wrong::Again {
             process,
             message,
@@ -54,33 +54,20 @@ fn plain(alloc: Global, fault: TextFault) -> Result<String, NoMemory>
     Ok(format!(in alloc; "line {line}: {sentence}")?)
 }
 
-fn wrong_ssn(
+fn wrong_number(
     alloc: Global,
     line: u32,
     process: Pid,
+    does: &str,
     given: u32,
     next: u32,
 ) -> Result<String, NoMemory>
-    ensures { IfOk result (λ text. string_bytes text ≡ told.wrong_ssn line process.0 given next) }
+    ensures { IfOk result (λ text. string_bytes text
+        ≡ told.wrong_number line process.0 does.now given next) }
 {
     let p = process.0;
     Ok(format!(in alloc;
-        "line {line}: process {p} sends with the number {given}, and its next is {next}"
-    )?)
-}
-
-fn wrong_rsn(
-    alloc: Global,
-    line: u32,
-    process: Pid,
-    given: u32,
-    next: u32,
-) -> Result<String, NoMemory>
-    ensures { IfOk result (λ text. string_bytes text ≡ told.wrong_rsn line process.0 given next) }
-{
-    let p = process.0;
-    Ok(format!(in alloc;
-        "line {line}: process {p} delivers with the number {given}, and its next is {next}"
+        "line {line}: process {p} {does} with the number {given}, and its next is {next}"
     )?)
 }
 

@@ -2,7 +2,7 @@
 ghost use Rattle.std.specs.Prelude.{◌≡◌};
 ghost use Rattle.serde_json.specs.View.{view};
 ghost use Rattle.causal_text.specs.Given.{Gives};
-ghost use Rattle.causal_text.specs.Shapes.{header_of, send_of, deliver_of, stable_of, crash_of, restart_of, forget_of, end_of, shape_of};
+ghost use Rattle.causal_text.specs.Shapes.{header_of, send_of, deliver_of, stable_of, end_of, shape_of};
 
 use crate::fields::{begins, det_of, dets_at, pid_at, u32_at};
 use crate::kind::TextKind;
@@ -57,38 +57,6 @@ fn stable_of(value: &Value) -> Result<Shape, TextKind>
     })
 }
 
-#[tactic(auto, unfolding(crate::specs::Shapes::crash_of))]
-fn crash_of(value: &Value) -> Result<Shape, TextKind>
-    ensures { result ≡ crash_of (view value.now) }
-{
-    let entry = Entry::Crash {
-        who: pid_at(value, 1)?,
-    };
-    Ok(Shape::Entry { entry })
-}
-
-#[tactic(auto, unfolding(crate::specs::Shapes::restart_of))]
-fn restart_of(alloc: Global, value: &Value) -> Result<Shape, TextKind>
-    ensures { Gives result (restart_of (view value.now)) }
-{
-    let entry = Entry::Restart {
-        who: pid_at(value, 1)?,
-        listed: dets_at(alloc, value, 2)?,
-    };
-    Ok(Shape::Entry { entry })
-}
-
-#[tactic(auto, unfolding(crate::specs::Shapes::forget_of))]
-fn forget_of(alloc: Global, value: &Value) -> Result<Shape, TextKind>
-    ensures { Gives result (forget_of (view value.now)) }
-{
-    let entry = Entry::Forget {
-        who: pid_at(value, 1)?,
-        listed: dets_at(alloc, value, 2)?,
-    };
-    Ok(Shape::Entry { entry })
-}
-
 #[tactic(auto, unfolding(crate::specs::Shapes::end_of))]
 fn end_of(value: &Value) -> Result<Shape, TextKind>
     ensures { result ≡ end_of (view value.now) }
@@ -99,7 +67,7 @@ fn end_of(value: &Value) -> Result<Shape, TextKind>
 }
 
 /// What the value of a line says.
-#[tactic(auto, unfolding(crate::specs::Shapes::shape_of))]
+#[tactic(auto, unfolding(crate::specs::Shapes::shape_of, crate::specs::Shapes::crash_of, crate::specs::Shapes::restart_of, crate::specs::Shapes::forget_of))]
 pub(crate) fn shape_of(alloc: Global, value: &Value) -> Result<Shape, TextKind>
     ensures { Gives result (shape_of (view value.now)) }
 {
@@ -112,11 +80,22 @@ pub(crate) fn shape_of(alloc: Global, value: &Value) -> Result<Shape, TextKind>
     } else if begins(value, "stable", 2) {
         stable_of(value)
     } else if begins(value, "crash", 2) {
-        crash_of(value)
+        let who = pid_at(value, 1)?;
+        Ok(Shape::Entry {
+            entry: Entry::Crash { who },
+        })
     } else if begins(value, "restart", 3) {
-        restart_of(alloc, value)
+        let who = pid_at(value, 1)?;
+        let listed = dets_at(alloc, value, 2)?;
+        Ok(Shape::Entry {
+            entry: Entry::Restart { who, listed },
+        })
     } else if begins(value, "forget", 3) {
-        forget_of(alloc, value)
+        let who = pid_at(value, 1)?;
+        let listed = dets_at(alloc, value, 2)?;
+        Ok(Shape::Entry {
+            entry: Entry::Forget { who, listed },
+        })
     } else if begins(value, "end", 2) {
         end_of(value)
     } else {

@@ -1,4 +1,4 @@
-use Rattle.std.proofs.Common.{◌<◌, length, subst, arith}
+use Rattle.std.proofs.Common.{subst, arith}
 use Rattle.causal_explain.specs.Inside.Standings.{TellsChange}
 use Rattle.causal_explain.proofs.StandingLemmas.{stand_unchanged, stand_changed}
 use Rattle.causal_explain.proofs.standing.note.Goals as goal
@@ -11,12 +11,10 @@ pub returns-in-Begins : goal.returns-in-Begins
 returns-in-Begins c test e past is change h =
     let q = c.in-Begins.process in
     let told = subst (TellsChange test e) c.in-Begins.is change past in
-    let within : q < length c.args.standings.now = omega arith in
-    stand_changed e past test c.args.standings.now q c.begun.result within told.1 (c.begun.ensures (test q) e past is told.0 (h q within)) h
+    stand_changed e past test c.args.standings.now q c.begun.result (omega arith) told.1 (c.begun.ensures (test q) e past is told.0 (h q (omega arith))) h
 
 pub returns-in-Ends : goal.returns-in-Ends
 returns-in-Ends c test e past is change h =
     let q = c.in-Ends.process in
     let told = subst (TellsChange test e) c.in-Ends.is change past in
-    let within : q < length c.args.standings.now = omega arith in
-    stand_changed e past test c.args.standings.now q c.ended.result within told.1 (c.ended.ensures (test q) e past is told.0 (h q within)) h
+    stand_changed e past test c.args.standings.now q c.ended.result (omega arith) told.1 (c.ended.ensures (test q) e past is told.0 (h q (omega arith))) h

@@ -6,6 +6,6 @@ use Rattle.causal_text.proofs.counts.deliveries.Goals as goal
 
 pub returns : goal.returns
 returns c =
-    c.deliveries_in.ensures
+    c.counts_in.ensures.deliveries
     ∙ ap (λ es. deliveries (past_at es (length es)) c.args.p.0) c.entries.ensures.value
     ∙ ap (λ past. deliveries past c.args.p.0) (whole c.args.trace.now.recording.past)

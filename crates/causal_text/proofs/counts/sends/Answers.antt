@@ -6,6 +6,6 @@ use Rattle.causal_text.proofs.counts.sends.Goals as goal
 
 pub returns : goal.returns
 returns c =
-    c.sends_in.ensures
+    c.counts_in.ensures.sends
     ∙ ap (λ es. sends (past_at es (length es)) c.args.p.0) c.entries.ensures.value
     ∙ ap (λ past. sends past c.args.p.0) (whole c.args.trace.now.recording.past)
