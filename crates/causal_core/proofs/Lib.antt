@@ -17,6 +17,7 @@ mod Making
 mod Members
 mod Receiving
 mod RefusedRequests
+mod Remembering
 mod Replaying
 mod Restarting
 mod Sending

@@ -8,5 +8,6 @@ pub mod Limits
 pub mod Listings
 pub mod Memories
 pub mod Namings
+pub mod Remembers
 pub mod Slots
 pub mod Stables

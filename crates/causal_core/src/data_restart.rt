@@ -1,5 +1,5 @@
 //! A restart, as far as plain data goes.
-ghost use Rattle.std.specs.Prelude.{◌≡◌, ◌≤◌, ◌<◌, length, replicate, OnOk, IfOk, IfErr, None, Some, slice_set, vec_len, nat_le, unwrap_or, ◌||◌};
+ghost use Rattle.std.specs.Prelude.{◌≡◌, ◌≤◌, ◌<◌, length, replicate, OnOk, IfOk, IfErr, None, Some, slice_set, vec_len, nat_le, unwrap_or, ◌||◌, is_some, false};
 ghost use Rattle.std.specs.FinMap as fin;
 ghost use Rattle.causal_log.specs.Logs.{chosen};
 ghost use Rattle.causal_trace.specs.Past.{restarts};
@@ -13,6 +13,8 @@ ghost use Rattle.causal_core.specs.Inside.Stables.{IsStored};
 ghost use Rattle.causal_core.specs.Inside.Gathers.{listing_fault, IsGathered, IsGatheredFor};
 ghost use Rattle.causal_core.specs.View.{sent_in, with_restart, IsReason};
 ghost use Rattle.causal_core.specs.Inside.Grown.{batches_of};
+ghost use Rattle.causal_core.specs.Inside.Remembers.{IsRemembered};
+ghost use Rattle.causal_protocol.specs.Memory.{at};
 ghost use Rattle.causal_core.specs.Inside.Memories.{memory_of, bodies_of, memories_in, bodies_in};
 
 use crate::cell::Cell;
@@ -21,6 +23,7 @@ use crate::data::{Data, is_full};
 use crate::fresh::fresh_cell;
 use crate::gathered::Gathered;
 use crate::grow::shares;
+use crate::remembered::{Remembered, remember, remembered_by};
 use crate::sends::append_sends;
 use causal_log::{Batch, Log, Stable};
 use causal_name::{Det, NoMemory, Pid};
@@ -122,17 +125,51 @@ impl Data {
         self.listing_fault(p, count_gathered(self.cells.as_slice(), store))
     }
 
+    /// What p gathers, which is remembered: as it did before, where that is what is remembered, or else anew.
+    fn recall<S: Stable>(
+        &self,
+        alloc: Global,
+        p: Pid,
+        store: &S,
+        last: &mut Option<Remembered>,
+    ) -> Result<Log, NoMemory>
+        requires stored { IsStored (S.contents store.now) self.now.run.recording.past }
+        requires down { is_some (at (memories_of self.now.run) p.0) ≡ false }
+        requires remembered { IsRemembered self.now.run last.old }
+        ensures log { IfOk result
+            (λ log. log.map ≡ gathered_log (memories_of self.now.run) (stable_of self.now.run) p) }
+        ensures remembered { IsRemembered self.now.run last.new }
+    {
+        if let Some(log) = remembered_by(last, p) {
+            return log.try_clone();
+        }
+        let mut log = self.gather(alloc, p, store)?;
+        // A copy is in order too. Where memory is refused, each has to be sorted.
+        let _ = log.sort();
+        *last = remember(&log, p);
+        Ok(log)
+    }
+
     /// The log that p would have after a restart, where the store has what is stable.
     ///
     /// # Errors
     /// Where memory was refused, what stands against the restart, and `NoMemory` where nothing does.
-    fn log_for<S: Stable>(&self, alloc: Global, p: Pid, store: &S) -> Result<Log, CoreFault>
-        requires { IsStored (S.contents store.now) self.now.run.recording.past }
+    fn log_for<S: Stable>(
+        &self,
+        alloc: Global,
+        p: Pid,
+        store: &S,
+        last: &mut Option<Remembered>,
+    ) -> Result<Log, CoreFault>
+        requires stored { IsStored (S.contents store.now) self.now.run.recording.past }
+        requires down { is_some (at (memories_of self.now.run) p.0) ≡ false }
+        requires remembered { IsRemembered self.now.run last.old }
         ensures ok { IfOk result
             (λ log. log.map ≡ gathered_log (memories_of self.now.run) (stable_of self.now.run) p) }
         ensures refused { IfErr result (IsReason self.now.run (Ask.Restart p)) }
+        ensures remembered { IsRemembered self.now.run last.new }
     {
-        match self.gather(alloc, p, store) {
+        match self.recall(alloc, p, store, last) {
             Ok(log) => Ok(log),
             Err(_) => Err(reason_or_memory(self.restart_fault(p, store))),
         }
@@ -174,20 +211,23 @@ impl Data {
         alloc: Global,
         p: Pid,
         store: &S,
+        last: &mut Option<Remembered>,
     ) -> Result<Gathered, CoreFault>
-        requires { IsStored (S.contents store.now) self.old.run.recording.past }
+        requires stored { IsStored (S.contents store.now) self.old.run.recording.past }
+        requires remembered { IsRemembered self.old.run last.old }
         ensures run { self.new.run ≡ self.old.run }
         ensures bodies { self.new.bodies ≡ self.old.bodies }
         ensures legal { OnOk result (first_fault self.old.run (Ask.Restart p) ≡ None) }
         ensures refused { IfErr result (IsReason self.old.run (Ask.Restart p)) }
         ensures gathered { IfOk result (IsGatheredFor self.old.run p) }
         ensures room { OnOk result (9 ≤ self.new.spare) }
+        ensures remembered { IsRemembered self.new.run last.new }
     {
         // Whoever lists nothing, too, is refused where entries or restarts are at their limit: nothing is gathered then.
         if let Some(fault) = self.listing_fault(p, 0) {
             return Err(fault);
         }
-        match self.log_for(alloc, p, store) {
+        match self.log_for(alloc, p, store, last) {
             Ok(log) => self.admitted(alloc, p, log),
             Err(fault) => Err(fault),
         }

@@ -109,6 +109,7 @@ impl<S: Stable> Core<S> {
             Ok(dets) => dets,
             Err(fault) => return Err(FlushFault { fault, done: 0 }),
         };
+        self.last = None;
         write_all(&mut self.held, &mut self.store, p, dets.as_slice())
     }
 }

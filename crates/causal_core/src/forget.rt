@@ -25,6 +25,7 @@ impl<S: Stable> Core<S> {
         ensures bodies { (state_of self.new).bodies ≡ (state_of self.old).bodies }
         ensures boxes { SameAnswers answers (state_of self.old).slots (state_of self.new).slots }
     {
+        self.last = None;
         self.held.forget(self.alloc, p)
     }
 }

@@ -27,6 +27,7 @@ pub mod laws;
 mod named;
 pub mod pending;
 mod receive;
+pub mod remembered;
 pub mod replay;
 pub mod restart;
 pub mod runtime;

@@ -7,6 +7,7 @@ ghost use Rattle.causal_core.specs.CoreView.{run_of, state_of, IsUnchanged};
 ghost use Rattle.causal_core.specs.Restarts.{Restarts, fault_of};
 
 use crate::boxes::{begin_box, fill_at};
+use crate::remembered::keep_for;
 use crate::runtime::Core;
 use causal_log::Stable;
 use causal_name::Pid;
@@ -26,9 +27,10 @@ impl<S: Stable> Core<S> {
     /// up and in stable storage.
     ///
     /// It costs what the logs of the up processes and stable storage have, but for logarithms, also where it is refused since
-    /// its list is too long; where entries or restarts are at their limit, or p is up, it is refused at no cost. Where memory
-    /// for the list is refused, what it would list is counted without memory: then each logged determinant is sought in the
-    /// logs before its own.
+    /// its list is too long. It costs what it lists, where p gathered last, and since then no other process has delivered,
+    /// crashed or come up, and none was told to flush or forget. Where entries or restarts are at their limit, or p is up, it is
+    /// refused at no cost. Where memory for the list is refused, what it would list is counted without memory: then each logged
+    /// determinant is sought in the logs before its own.
     ///
     /// # Errors
     /// `NoProcess`; `NotDown`; `Full` where fewer than nine entries are left, what it would list does not fit, or 192
@@ -48,12 +50,14 @@ impl<S: Stable> Core<S> {
             (IsUnchanged answers (state_of self.old) (state_of self.new)) }
         ensures spare { IfErr result (λ refused. AnswersAlike answers spare refused.spare) }
     {
-        let gathered = match self.held.prepare_restart(self.alloc, p, &self.store) {
+        let last = &mut self.last;
+        let gathered = match self.held.prepare_restart(self.alloc, p, &self.store, last) {
             Ok(gathered) => gathered,
             Err(fault) => return Err(Refused { fault, spare }),
         };
         match begin_box(&mut spare, self.alloc) {
             Ok(sends) => {
+                keep_for(&mut self.last, p);
                 fill_at(&mut self.slots, usize::from(p.0), spare);
                 Ok(self.held.finish_restart(p, gathered, sends))
             }

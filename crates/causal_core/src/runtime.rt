@@ -5,9 +5,12 @@ ghost use Rattle.causal_log.specs.Stores.{has};
 ghost use Rattle.causal_trace.specs.Past.{is_stable};
 ghost use Rattle.causal_protocol.specs.Run.{memories_of};
 ghost use Rattle.causal_protocol.specs.Runs.{IsRun};
+ghost use Rattle.std.proofs.Props.{props};
+ghost use Rattle.causal_core.specs.Inside.Remembers.{coded_map, IsRemembered};
 
 use crate::boxes::empty_at;
 use crate::data::Data;
+use crate::remembered::{Remembered, keep_for};
 use causal_log::Stable;
 use causal_name::{Det, MsgName, Pid, Slot};
 use causal_process::Process;
@@ -23,8 +26,10 @@ pub struct Core<S: Stable, B = Box<dyn Process + Send>> {
     pub(crate) held: Data,
     pub(crate) slots: Vec<Option<B>>,
     pub(crate) store: S,
+    pub(crate) last: Option<Remembered>,
     ghost filled: { map is_some slots.items ≡ map is_some (memories_of held.run) },
     ghost stored: { (d : Determinant) → has (S.contents store) d ≡ is_stable held.run.recording.past d },
+    ghost remembered: { IsRemembered held.run last } by { Prim.hlevel (props, coded_map) },
     ghost kept: { ∥ IsRun held.run ∥₁ },
 }
 
@@ -80,6 +85,7 @@ impl<S: Stable> Core<S> {
             Ok(first) => first,
             Err(fault) => return Err(fault),
         };
+        keep_for(&mut self.last, p);
         empty_at(&mut self.slots, usize::from(p.0));
         Ok(first)
     }
@@ -107,7 +113,10 @@ impl<S: Stable> Core<S> {
             Err(fault) => return Err(fault),
         };
         match self.held.give(&mut self.slots, self.alloc, q, source, ssn) {
-            Ok(sends) => Ok(self.held.finish(q, grown, sends)),
+            Ok(sends) => {
+                keep_for(&mut self.last, q);
+                Ok(self.held.finish(q, grown, sends))
+            }
             Err(_) => Err(CoreFault::NoMemory),
         }
     }

@@ -107,6 +107,7 @@ impl<S: Stable> Core<S> {
             held,
             slots,
             store,
+            last: None,
         })
     }
 }

@@ -46,6 +46,7 @@ invariant_of-self-2 g c =
     record {
       filled = c.args.self.now.filled ∙ sym (told.filled ∙ ap (λ x. map is_some (memories_of x)) same);
       stored = told.stored;
+      remembered = tt;
       kept =
           step_carried r c.write_all.new.held.run (Ask.Flush c.args.p) (told_flush c.write_all.result)
           (flush_steps r c.prepare_flush.new.self.run c.write_all.new.held.run c.args.p _ c.write_all.result same c.in-Ok.ensures.legal (c.as_slice.ensures.value ∙ c.in-Ok.ensures.dets) told.run told.ok told.part told.why)

@@ -12,5 +12,6 @@ invariant_of-self g c =
     record {
       filled = c.args.self.now.filled ∙ sym (forget_filled r next c.args.p c.forget.result c.forget.ensures.step);
       stored = λ d. c.args.self.now.stored d ∙ sym (forget_stable r next c.args.p c.forget.result c.forget.ensures.step d);
+      remembered = tt;
       kept = step_carried r next (Ask.Forget c.args.p) (told_forget c.forget.result) c.forget.ensures.step c.args.self.now.kept;
     }

@@ -1,4 +1,4 @@
-use Rattle.std.proofs.Common.{◌∙◌, ◌∷◌, Some, ap, sym, subst, arith, length, is_some, true, slice_set}
+use Rattle.std.proofs.Common.{◌∙◌, ◌∷◌, Some, refl, ap, sym, subst, arith, length, is_some, true, slice_set}
 use Rattle.std.proofs.lemmas.Grind.{common_steps}
 use Rattle.std.proofs.lemmas.List.{length-map}
 use Rattle.causal_trace.specs.declared.entry.Entry.TheVariants.{Restart}
@@ -15,6 +15,7 @@ use Rattle.causal_core.specs.View.{receivers, sent_bodies}
 use Rattle.causal_core.proofs.BoxLemmas.{elsewhere_same}
 use Rattle.causal_core.proofs.Filled.{memories_count}
 use Rattle.causal_core.proofs.RefusedRequests.{refused_restart}
+use Rattle.causal_core.proofs.Remembering.{restarted_alone}
 use Rattle.causal_core.proofs.Restarting.{restart_below, restart_filled, restart_stable}
 use Rattle.causal_core.proofs.restart.Core+S.restart.Goals as goal
 
@@ -42,6 +43,7 @@ invariant_of-self-in-Ok-begin_box g c =
     record {
       filled = bits ∙ ap (λ xs. slice_set xs p.0 true) c.args.self.now.filled ∙ sym (restart_filled r mid next p (gathered mid p) tos c.prepare_restart.ensures.run c.finish_restart.ensures.run);
       stored = λ d. c.args.self.now.stored d ∙ sym (restart_stable r mid next p (gathered mid p) tos c.prepare_restart.ensures.run c.finish_restart.ensures.run d);
+      remembered = c.keep_for.ensures mid next c.prepare_restart.ensures.remembered (restarted_alone mid mid next p (gathered mid p) tos refl c.finish_restart.ensures.run);
       kept =
           step_carried mid next (Ask.Restart p) (Told.Restarted c.finish_restart.result) c.finish_restart.ensures.step
           (subst (λ x. ∥ IsRun x ∥₁) (sym c.prepare_restart.ensures.run) c.args.self.now.kept);

@@ -1,4 +1,4 @@
-use Rattle.std.proofs.Common.{◌∙◌, ap, sym, refl, arith, map, length, is_some}
+use Rattle.std.proofs.Common.{◌∙◌, ap, sym, subst, refl, arith, map, length, is_some}
 use Rattle.std.proofs.lemmas.Grind.{common_steps}
 use Rattle.std.proofs.lemmas.List.{length-map}
 use Rattle.std.proofs.Common.{slice_set, false}
@@ -8,6 +8,8 @@ use Rattle.causal_protocol.specs.declared.request.Request.TheVariants as Ask
 use Rattle.causal_protocol.specs.declared.request.Reply.TheVariants as Told
 use Rattle.causal_protocol.proofs.Lemmas.Carried.{step_carried}
 use Rattle.causal_core.proofs.Filled.{memories_count}
+use Rattle.causal_core.specs.Inside.Remembers.{IsRemembered}
+use Rattle.causal_core.proofs.Remembering.{crash_alone}
 use Rattle.causal_core.proofs.Stepped.{crash_refused, crash_below, crash_filled, crash_stable}
 use Rattle.causal_core.proofs.runtime.Core+S.crash.Goals as goal
 
@@ -17,6 +19,7 @@ invariant_of-self g c =
     record {
       filled = c.args.self.now.filled ∙ ap (λ r. map is_some (memories_of r)) (sym same);
       stored = λ d. c.args.self.now.stored d ∙ ap (λ r. is_stable r.recording.past d) (sym same);
+      remembered = subst (λ r. IsRemembered r c.args.self.now.last) (sym same) c.args.self.now.remembered;
       kept = step_carried c.args.self.now.held.run c.crash.new.self.run (Ask.Crash c.args.p) (Told.Refused c.in-Err.fault) c.in-Err.ensures.step c.args.self.now.kept;
     }
 
@@ -44,5 +47,6 @@ invariant_of-self-2 g c =
     record {
       filled = bits ∙ ap (λ xs. slice_set xs c.args.p.0 false) c.args.self.now.filled ∙ sym (crash_filled r c.crash.new.self.run c.args.p c.in-Ok.first c.in-Ok.ensures.step);
       stored = λ d. c.args.self.now.stored d ∙ sym (crash_stable r c.crash.new.self.run c.args.p c.in-Ok.first c.in-Ok.ensures.step d);
+      remembered = c.keep_for.ensures r c.crash.new.self.run c.args.self.now.remembered (crash_alone r c.crash.new.self.run c.args.p c.in-Ok.first c.in-Ok.ensures.step);
       kept = step_carried r c.crash.new.self.run (Ask.Crash c.args.p) (Told.Crashed c.in-Ok.first) c.in-Ok.ensures.step c.args.self.now.kept;
     }

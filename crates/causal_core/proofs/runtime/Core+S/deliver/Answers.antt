@@ -16,6 +16,7 @@ use Rattle.causal_core.proofs.Stored.{store_is}
 use Rattle.causal_core.proofs.Filled.{box_there}
 use Rattle.causal_core.proofs.RefusedRequests.{refused_delivery}
 use Rattle.causal_core.proofs.Delivering.{receiver_up}
+use Rattle.causal_core.proofs.Remembering.{delivery_alone}
 use Rattle.causal_core.proofs.Stepped.{delivery_filled, delivery_stable}
 use Rattle.causal_core.proofs.runtime.Core+S.deliver.Goals as goal
 
@@ -42,6 +43,7 @@ invariant_of-self-in-Ok-give g c =
     record {
       filled = c.give.ensures.filled ∙ c.args.self.now.filled ∙ sym (delivery_filled r mid c.finish.new.self.run c.args.q own.source own.ssn (message_of own) (next_ssn (memories_of mid) c.args.q) tos same c.finish.ensures.run);
       stored = λ d. c.args.self.now.stored d ∙ sym (delivery_stable r mid c.finish.new.self.run c.args.q own.source own.ssn (message_of own) (next_ssn (memories_of mid) c.args.q) tos same c.finish.ensures.run d);
+      remembered = c.keep_for.ensures r c.finish.new.self.run c.args.self.now.remembered (delivery_alone r mid c.finish.new.self.run c.args.q own.source own.ssn (message_of own) (next_ssn (memories_of mid) c.args.q) tos same c.finish.ensures.run);
       kept = step_carried mid c.finish.new.self.run (Ask.Deliver c.args.q own.source own.ssn) (Told.Delivered c.finish.result) c.finish.ensures.step (subst (λ x. ∥ IsRun x ∥₁) (sym same) c.args.self.now.kept);
     }
 

@@ -15,6 +15,7 @@ invariant_of-result g c =
     record {
       filled = Began_filled (λ b. (goal.Process-dyn g (b.vtable, b.value)).answers b.value) c.args.boxes.items h.sends c.in-Ok-begin_all.slots.items h.began ∙ sym (all_up n _ h.sends r h.run);
       stored = none_stored n _ h.sends r _ h.run none;
+      remembered = tt;
       kept = opening_carried r (subst (λ k. Opens k k r.recording.past) (sym (ap (λ x. x.recording.processes) h.run)) h.opens) (ap (λ x. x.writers) h.run);
     }
 
