@@ -16,5 +16,3 @@ mod same;
 pub mod seat;
 pub mod shared;
 mod task;
-#[cfg(test)]
-mod tests;
