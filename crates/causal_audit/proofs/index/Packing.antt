@@ -9,9 +9,9 @@ use Rattle.causal_audit.specs.Inside.Index.Filed.{list_at, with_added}
 use Rattle.causal_audit.specs.Inside.Index.Packed.{ArePacked, IsSpan, list_in}
 
 -- lists that end where they begin
-pub none_in : (ps : List ℕ) (size : ℕ) (spans : List Span) → All (λ (s : Span). (s.begin ≡ s.end) × (s.end ≤ size)) spans → All (λ list. list ≡ []) (map (list_in ps) spans)
-none_in ps size spans all = All-map (λ list. list ≡ []) (list_in ps) spans (All-weaker (λ (s : Span). (s.begin ≡ s.end) × (s.end ≤ size)) (λ s. list_in ps s ≡ []) (λ s h.
-    let none : s.end - s.begin ≡ 0 = omega (arith, h.0) in
+pub none_in : (ps : List ℕ) (spans : List Span) → All (λ (s : Span). s.begin ≡ s.end) spans → All (λ list. list ≡ []) (map (list_in ps) spans)
+none_in ps spans all = All-map (λ list. list ≡ []) (list_in ps) spans (All-weaker (λ (s : Span). s.begin ≡ s.end) (λ s. list_in ps s ≡ []) (λ s h.
+    let none : s.end - s.begin ≡ 0 = omega (arith, h) in
     ap (λ n. take n (drop s.begin ps)) none) spans all)
 
 -- a write outside of a list
@@ -30,8 +30,8 @@ at_end ps v s order below =
     ∙ ap (take (suc (s.end - s.begin))) (ap (λ i. drop s.begin (set ps i v)) (sym k) ∙ drop-set-add s.begin ps (s.end - s.begin) v)
     ∙ take-suc-set (drop s.begin ps) (s.end - s.begin) v (omega (arith, order, below, length-drop s.begin ps))
 
-module _ (ps : List ℕ) (spans : List Span) (m v : ℕ) (s new : Span) (packed : ArePacked (length ps) spans) (there : m < length spans) (is : s ≡ get_or spans m s)
-    (begin : new.begin ≡ s.begin) (end : new.end ≡ s.end + 1) (below : s.end < length ps) (room : (j : ℕ) (d : Span) → m < j → j < length spans → s.end < (get_or spans j d).begin) where
+module _ (ps : List ℕ) (spans : List Span) (m v : ℕ) (s new : Span) (packed : ArePacked (length ps) spans) (there : m < length spans) (is : s ≡ get_or spans m s) (room : s.end < s.limit)
+    (begin : new.begin ≡ s.begin) (end : new.end ≡ s.end + 1) (limit : new.limit ≡ s.limit) where
   here : (d : Span) → get_or spans m d ≡ s
   here d = get_or_default spans m d s there ∙ sym is
 
@@ -42,16 +42,19 @@ module _ (ps : List ℕ) (spans : List Span) (m v : ℕ) (s new : Span) (packed 
   other : (j : ℕ) → j ≢ m → j < length spans → list_in (set ps s.end v) (get_or spans j s) ≡ list_in ps (get_or spans j s)
   other j apart inside =
       let x = get_or spans j s in
+      let span : IsSpan (length ps) x = packed.each j s inside in
       elim (cases_lt j m) [
         | inl before ↦
-            let low : x.end ≤ s.begin = subst (λ y. x.end ≤ y.begin) (here s) (packed.apart j m s before there) in
-            outside ps s.end v x (omega (arith, low, own.order), (packed.each j s inside).order)
-        | inr after ↦ ap (take (x.end - x.begin)) (drop-set-lt x.begin ps s.end v (room j s (omega (arith, after, apart)) inside))
+            let low : x.limit ≤ s.begin = subst (λ y. x.limit ≤ y.begin) (here s) (packed.apart j m s before there) in
+            outside ps s.end v x (omega (arith, low, own.order, span.room), span.order)
+        | inr after ↦
+            let low : s.limit ≤ x.begin = subst (λ y. y.limit ≤ x.begin) (here s) (packed.apart m j s (omega (arith, after, apart)) inside) in
+            ap (take (x.end - x.begin)) (drop-set-lt x.begin ps s.end v (omega (arith, room, low)))
       ]
 
   longer : list_in (set ps s.end v) new ≡ list_at (map (list_in ps) spans) m ++ v ∷ []
   longer =
-      ap (λ b. slice_range (set ps s.end v) b new.end) begin ∙ ap (slice_range (set ps s.end v) s.begin) end ∙ at_end ps v s own.order below
+      ap (λ b. slice_range (set ps s.end v) b new.end) begin ∙ ap (slice_range (set ps s.end v) s.begin) end ∙ at_end ps v s own.order (omega (arith, room, own.within))
       ∙ ap (λ y. list_in ps y ++ v ∷ []) (sym (here s)) ∙ ap (λ l. l ++ v ∷ []) (sym (get_or-map (list_in ps) spans m s [] there))
 
   pub packed_more : map (list_in (set ps s.end v)) (set spans m new) ≡ with_added (map (list_in ps) spans) m v
@@ -71,24 +74,16 @@ module _ (ps : List ℕ) (spans : List Span) (m v : ℕ) (s new : Span) (packed 
             ∙ sym (get_or-set_other (map (list_in ps) spans) m i list [] apart.1 ∙ get_or-map (list_in ps) spans i s [] inside)
       ])
 
+  -- what the new one has of the old one stays
+  kept : (f : Span → ℕ) → f new ≡ f s → (i : ℕ) (d : Span) → f (get_or (set spans m new) i d) ≡ f (get_or spans i d)
+  kept f same i d =
+      elim (eqb_tells i m) [
+        | inl at ↦ subst (λ k. f (get_or (set spans m new) k d) ≡ f (get_or spans k d)) (sym at.1) (ap f (get_or-set_same spans m new d there) ∙ same ∙ ap f (sym (here d)))
+        | inr apart ↦ ap f (get_or-set_other spans m i new d apart.1)
+      ]
+
   pub packed_still : ArePacked (length (set ps s.end v)) (set spans m new)
   packed_still = subst (λ n. ArePacked n (set spans m new)) (sym (length-set ps s.end v)) (record {
-    few = packed.few;
-    each = All-set (IsSpan (length ps)) spans m new (record { order = omega (arith, begin, end, own.order); within = omega (arith, end, below) }) packed.each;
-    apart = λ i j d low high.
-        let inside : j < length spans = omega (arith, high, length-set spans m new) in
-        elim (eqb_tells i m) [
-          | inl same ↦
-              let after : m < j = omega (arith, same.1, low) in
-              let it : get_or (set spans m new) i d ≡ new = ap (λ k. get_or (set spans m new) k d) same.1 ∙ get_or-set_same spans m new d there in
-              let to : get_or (set spans m new) j d ≡ get_or spans j d = get_or-set_other spans m j new d (λ e. omega (arith, e, after)) in
-              subst (λ x. x.end ≤ (get_or (set spans m new) j d).begin) (sym it) (subst (λ x. new.end ≤ x.begin) (sym to) (omega (arith, end, room j d after inside)))
-          | inr apart ↦ subst (λ x. x.end ≤ (get_or (set spans m new) j d).begin) (sym (get_or-set_other spans m i new d apart.1)) (elim (eqb_tells j m) [
-            | inl same ↦
-                let at : get_or (set spans m new) j d ≡ new = ap (λ k. get_or (set spans m new) k d) same.1 ∙ get_or-set_same spans m new d there in
-                let up : (get_or spans i d).end ≤ s.begin = subst (λ x. (get_or spans i d).end ≤ x.begin) (ap (λ k. get_or spans k d) same.1 ∙ here d) (packed.apart i j d low inside) in
-                subst (λ x. (get_or spans i d).end ≤ x.begin) (sym at) (omega (arith, begin, up))
-            | inr further ↦ subst (λ x. (get_or spans i d).end ≤ x.begin) (sym (get_or-set_other spans m j new d further.1)) (packed.apart i j d low inside)
-          ])
-        ];
+    each = All-set (IsSpan (length ps)) spans m new (record { order = omega (arith, begin, end, own.order); room = omega (arith, end, limit, room); within = omega (arith, limit, own.within) }) packed.each;
+    apart = λ i j d low high. omega (arith, kept (λ x. x.limit) limit i d, kept (λ x. x.begin) begin j d, packed.apart i j d low (omega (arith, high, length-set spans m new)));
   })

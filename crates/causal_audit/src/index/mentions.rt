@@ -30,15 +30,8 @@ struct Counts {
 }
 
 impl Counts {
-    /// No determinants, as before the first entry.
-    fn new(alloc: Global) -> Result<Counts, NoMemory> {
-        Ok(Counts {
-            numbers: Numbering::new(alloc)?,
-            counts: Vec::new(alloc),
-        })
-    }
-
     /// Counts one more mention of a determinant, which gets a number where it has none.
+    #[tactic(auto, using(crate::proofs::index::Filings::number_below))]
     fn count(&mut self, det: Det) -> Result<(), NoMemory> {
         if let Some(number) = self.numbers.find(det) {
             self.counts[number] = self.counts[number].saturating_add(1);
@@ -61,7 +54,10 @@ impl Counts {
 
     /// Counts the mentions of all these entries.
     fn of(alloc: Global, entries: &[Entry]) -> Result<Counts, NoMemory> {
-        let mut counts = Counts::new(alloc)?;
+        let mut counts = Counts {
+            numbers: Numbering::new(alloc)?,
+            counts: Vec::new(alloc),
+        };
         for entry in entries {
             counts.note(entry)?;
         }
@@ -82,6 +78,7 @@ impl Mentions {
     }
 
     /// The list of a determinant.
+    #[tactic(auto, using(crate::proofs::index::Filings::number_below))]
     pub fn list(&self, det: Det) -> &[u32]
         ensures { result.now ≡ mentions_of self.now.numbers self.now.lists det }
     {
@@ -92,6 +89,7 @@ impl Mentions {
     }
 
     /// Puts the position of an entry into the list of a determinant that it mentions. The list was counted.
+    #[tactic(auto, using(crate::proofs::index::Filings::number_below))]
     fn add(&mut self, det: Det, i: u32) -> Result<(), NoMemory>
         ensures { OnOk result ((past : List Entry) (dets : List Det) → length past ≡ i →
             AreMentionsWithKept past dets self.old → AreMentionsWithKept past (dets ++ det ∷ []) self.new) }

@@ -1,22 +1,21 @@
 //! Numbered lists of positions, one behind the other in one vector.
-ghost use Rattle.std.specs.Prelude.{◌≡◌, ◌<◌, ◌≤◌, ℕ, [], IfOk, OnOk, length, slice_index_or};
+ghost use Rattle.std.specs.Prelude.{◌≡◌, ◌<◌, [], IfOk, OnOk, length};
 ghost use Rattle.std.specs.List.{All};
 ghost use Rattle.causal_audit.specs.Inside.Index.Filed.{list_at, with_added};
-ghost use Rattle.causal_audit.specs.Inside.Index.Packed.{ArePacked};
 
 use causal_name::NoMemory;
 use std::alloc::Global;
 use std::marker::Model;
 
-/// Where a list begins and ends.
+/// Where a list begins and ends, and up to where it has room.
 #[derive(Clone, Copy, Debug)]
 pub struct Span {
     pub begin: u32,
     pub end: u32,
+    pub limit: u32,
 }
 
-/// Numbered lists of positions, each with room up to where the next one begins. They are seen as the lists. A list takes 8 bytes,
-/// and 4 for each position for which it has room.
+/// Numbered lists of positions. They are seen as the lists. A list takes 12 bytes, and 4 for each position for which it has room.
 #[derive(Drop)]
 pub struct PackedLists {
     positions: Vec<u32>,
@@ -34,20 +33,6 @@ impl Model for PackedLists {
     ghost invariant = { λ a. ArePacked (length a.positions.items) a.spans.items };
 }
 
-/// Up to where a list has room, among so many positions.
-fn room_end(spans: &[Span], number: usize, positions: usize) -> usize
-    requires packed { ArePacked positions spans.now }
-    requires there { number < length spans.now }
-    ensures within { result ≤ positions }
-    ensures before { (j : ℕ) (s : Span) → number < j → j < length spans.now →
-        result ≤ (slice_index_or spans.now j s).begin }
-{
-    match spans.get(number + 1) {
-        Some(next) => next.begin as usize,
-        None => positions,
-    }
-}
-
 impl PackedLists {
     /// Empty lists with room for so many positions each.
     pub fn with_rooms(alloc: Global, rooms: &[u32]) -> Result<PackedLists, NoMemory>
@@ -57,11 +42,15 @@ impl PackedLists {
         let mut spans = Vec::with_capacity(alloc, rooms.len())?;
         let mut begin: u32 = 0;
         for room in rooms {
-            spans.push(Span { begin, end: begin })?;
-            let Some(next) = begin.checked_add(*room) else {
+            let Some(limit) = begin.checked_add(*room) else {
                 return Err(NoMemory);
             };
-            begin = next;
+            spans.push(Span {
+                begin,
+                end: begin,
+                limit,
+            })?;
+            begin = limit;
         }
         let positions = vec![in alloc; 0; begin as usize]?;
         Ok(PackedLists { positions, spans })
@@ -82,14 +71,15 @@ impl PackedLists {
         ensures added { OnOk result (self.new ≡ with_added self.old number position) }
         ensures count { length self.new ≡ length self.old }
     {
-        let Span { begin, end } = self.spans[number];
-        if end as usize >= room_end(&self.spans, number, self.positions.len()) {
+        let Span { begin, end, limit } = self.spans[number];
+        if end >= limit {
             return Err(NoMemory);
         }
         self.positions[end as usize] = position;
         self.spans[number] = Span {
             begin,
             end: end + 1,
+            limit,
         };
         Ok(())
     }

@@ -7,13 +7,13 @@ use Rattle.causal_audit.specs.declared.index.packed.Span.{Span}
 abbrev pub list_in : List ℕ → Span → List ℕ
 list_in positions s = slice_range positions s.begin s.end
 
--- a list stands among so many positions
+-- a list and its room stand among so many positions
 pub record IsSpan (size : ℕ) (s : Span) : Type 0 where
   pub order : s.begin ≤ s.end
-  pub within : s.end ≤ size
+  pub room : s.end ≤ s.limit
+  pub within : s.limit ≤ size
 
--- each of these does, and ends before the later ones begin
+-- each of these does, and its room ends before the later ones begin
 pub record ArePacked (size : ℕ) (spans : List Span) : Type 0 where
-  pub few : size < 4294967296
   pub each : All (IsSpan size) spans
-  pub apart : (i j : ℕ) (s : Span) → i < j → j < length spans → (slice_index_or spans i s).end ≤ (slice_index_or spans j s).begin
+  pub apart : (i j : ℕ) (s : Span) → i < j → j < length spans → (slice_index_or spans i s).limit ≤ (slice_index_or spans j s).begin

@@ -3,11 +3,6 @@ use Rattle.causal_audit.specs.Inside.Index.Filed.{AreMentionsWith, number_of, wi
 use Rattle.causal_audit.proofs.index.Filings.{on_ok, number_below, mentions_more}
 use Rattle.causal_audit.proofs.index.mentions.Mentions.add.Goals as goal
 
-pub add-requires : goal.add-requires
-add-requires c =
-    let mentions = c.args.self.now in
-    omega (arith, mentions.numbered, number_below mentions.numbers c.args.det c.in-Some.number (sym c.find.ensures ∙ c.in-Some.is))
-
 pub returns : goal.returns
 returns c =
     on_ok c.add.result (λ added past dets long are.
