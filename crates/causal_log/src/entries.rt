@@ -1,5 +1,5 @@
 //! What is asked of all entries of a volatile log.
-ghost use Rattle.std.specs.Prelude.{◌≡◌, ◌<◌, ◌^◌, true, IfOk, OnOk, OnErr, length, slice_get, filter, map, not, vec_len, vec_capacity};
+ghost use Rattle.std.specs.Prelude.{◌≡◌, ◌<◌, ◌^◌, true, IfOk, OnOk, OnErr, length, filter, map, not, vec_len, vec_capacity};
 ghost use Rattle.std.specs.List.{IsDistinct};
 ghost use Rattle.std.specs.Map.{keys_of};
 ghost use Rattle.std.specs.FinMap as fin;
@@ -11,13 +11,6 @@ use crate::batch::Item;
 use crate::known::Known;
 use causal_name::{Det, NoMemory};
 use std::alloc::Global;
-
-/// The entry at a place.
-pub(crate) fn entry_at(entries: &[(Det, Known)], i: u32) -> Option<(Det, Known)>
-    ensures { result ≡ slice_get entries.now i }
-{
-    entries.get(i as usize).copied()
-}
 
 /// The determinants.
 pub(crate) fn dets(alloc: Global, entries: &[(Det, Known)]) -> Result<Vec<Det>, NoMemory>

@@ -82,7 +82,7 @@ impl Log {
         ensures { result ≡ slice_get (fin.entries self.now.map) i }
     {
         if self.sorted {
-            return entries::entry_at(self.entries.entries(), i);
+            return self.entries.entries().get(i as usize).copied();
         }
         let det = ranked(self.entries.dets(), i)?;
         self.known(det).map(|known| (det, known))
@@ -92,6 +92,9 @@ impl Log {
     pub fn dets(&self, alloc: Global) -> Result<Vec<Det>, NoMemory>
         ensures { IfOk result (λ dets. dets.items ≡ fin.keys self.now.map) }
     {
+        if self.sorted {
+            return entries::dets(alloc, self.entries.entries());
+        }
         let sorted = entries::in_order(alloc, self.entries.entries())?;
         entries::dets(alloc, sorted.as_slice())
     }
@@ -132,6 +135,7 @@ impl Log {
     {
         match &self.carried {
             Some(carried) if carried.f == f => carried.still(alloc, &self.entries),
+            _ if self.sorted => entries::carried(alloc, self.entries.entries(), f),
             _ => entries::chosen(alloc, self.entries.entries(), f),
         }
     }

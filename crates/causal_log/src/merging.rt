@@ -159,6 +159,9 @@ pub(crate) fn merged_delivery(
     requires ascending { is_ascending (dets_of delivery.now.items.now) ≡ true }
     ensures { IfOk result (λ out. out.items ≡ chosen delivery.now.f (taken delivery.now)) }
 {
+    if delivery.items.is_empty() {
+        return merged_own(alloc, kept, delivery);
+    }
     let heard = merged(alloc, kept, delivery)?;
     merged_own(alloc, heard.as_slice(), delivery)
 }

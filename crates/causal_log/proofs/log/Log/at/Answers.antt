@@ -1,4 +1,7 @@
-use Rattle.std.proofs.Common.{◌≡◌, ◌∙◌, List, Option, ℕ, ap, sym, slice_get, find, option_map, rules}
+use Rattle.std.proofs.Common.{◌≡◌, ◌∙◌, List, Option, ℕ, ap, sym, slice_get, find, option_map, rules, Bor, Some, None, refl, length}
+use Rattle.std.specs.Option.{option_copied}
+use Rattle.std.specs.Slice.{IsItemAt}
+use Rattle.std.proofs.lemmas.Option.{slice_get_past, slice_get_read}
 use Rattle.std.specs.FinMap as fin
 use Rattle.std.specs.List.{IsDistinct}
 use Rattle.std.specs.Map.{keys_of}
@@ -34,8 +37,14 @@ returns-in_err-det c =
     ∙ shown es c.dets.ensures.distinct c.args.i c.dets.result.now c.dets.ensures.dets c.ranked.result c.ranked.ensures
     ∙ ap (λ log. slice_get (fin.entries log.map) c.args.i) c.self.view_is
 
+-- what a reference to an element leads to
+got : {X : Type 0} (xs : List X) (i : ℕ) (r : Option (Bor X)) → IsItemAt xs i r → option_copied r ≡ slice_get xs i
+got xs i None h = sym (slice_get_past xs i h.3)
+got xs i (Some x) h = sym (slice_get_read xs (length xs) i x.now refl h.3.0 h.1)
+
 pub returns-then-self : goal.returns-then-self
 returns-then-self c =
-    c.entry_at.ensures
+    c.copied.ensures
+    ∙ got c.entries.result.now c.args.i c.get.result c.get.ensures.lookup
     ∙ ap (λ es. slice_get es c.args.i) (c.entries.ensures.entries ∙ sym (own_entries c.self.inside.entries.entries (c.self.invariant.ascending c.if-self.true)))
     ∙ ap (λ log. slice_get (fin.entries log.map) c.args.i) c.self.view_is
