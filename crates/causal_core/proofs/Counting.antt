@@ -41,12 +41,13 @@ logged_one log det known d =
       | false ↦ or_nothing (is_some (fin.get log d))
     ]
 
+-- where what is found in a log that learned one more is known, what is found in the log before is
+one_more : (log : LogMap) (det : Det) (known : Known) (d : Det) (found rest : Bool) → found ≡ (is_some (fin.get (learned log det known) d) || rest) → found ≡ (is_some (fin.get log d) || (same_det d det || rest))
+one_more log det known d found rest is = is ∙ ap (λ b. b || rest) (logged_one log det known d) ∙ or_assoc (is_some (fin.get log d)) (same_det d det) rest
+
 logged_all : (es : List (Det × Known)) (log : LogMap) (d : Det) → is_some (fin.get (learned_all es log) d) ≡ (is_some (fin.get log d) || list_any (λ e. same_det d e.0) es)
 logged_all [] log d = or_nothing (is_some (fin.get log d))
-logged_all (e ∷ es) log d =
-    logged_all es (learned log e.0 e.1) d
-    ∙ ap (λ b. b || list_any (λ e. same_det d e.0) es) (logged_one log e.0 e.1 d)
-    ∙ or_assoc (is_some (fin.get log d)) (same_det d e.0) (list_any (λ e. same_det d e.0) es)
+logged_all (e ∷ es) log d = one_more log e.0 e.1 d _ _ (logged_all es (learned log e.0 e.1) d)
 
 -- what all logs together have
 united_has : (ms : Memories) (log : LogMap) (d : Det) → is_some (fin.get (united_all ms log) d) ≡ (is_some (fin.get log d) || is_logged ms d)
@@ -61,18 +62,12 @@ united_has (Some m ∷ ms) log d =
 held_has : (ds : List Det) (p : Pid) (log : LogMap) (d : Det) → is_some (fin.get (held_all ds p log) d) ≡ (is_some (fin.get log d) || list_any (same_det d) ds)
 unfolding held_all
 held_has [] p log d = or_nothing (is_some (fin.get log d))
-held_has (x ∷ ds) p log d =
-    held_has ds p (learned log x (held_by p)) d
-    ∙ ap (λ b. b || list_any (same_det d) ds) (logged_one log x (held_by p) d)
-    ∙ or_assoc (is_some (fin.get log d)) (same_det d x) (list_any (same_det d) ds)
+held_has (x ∷ ds) p log d = one_more log x (held_by p) d _ _ (held_has ds p (learned log x (held_by p)) d)
 
 stable_has : (ds : List Det) (p : Pid) (log : LogMap) (d : Det) → is_some (fin.get (stable_all ds p log) d) ≡ (is_some (fin.get log d) || list_any (same_det d) ds)
 unfolding stable_all
 stable_has [] p log d = or_nothing (is_some (fin.get log d))
-stable_has (x ∷ ds) p log d =
-    stable_has ds p (learned log x (stable_and_held_by p)) d
-    ∙ ap (λ b. b || list_any (same_det d) ds) (logged_one log x (stable_and_held_by p) d)
-    ∙ or_assoc (is_some (fin.get log d)) (same_det d x) (list_any (same_det d) ds)
+stable_has (x ∷ ds) p log d = one_more log x (stable_and_held_by p) d _ _ (stable_has ds p (learned log x (stable_and_held_by p)) d)
 
 either_or : (k s : Bool) → ((k || k) || s) ≡ (s || k)
 either_or true true = refl
@@ -248,8 +243,9 @@ count_gathered ms stored p = keys_count (gathered_log ms stored p) (everything m
 
 -- a process among others
 module _ (cells : List (Option Cell)) (i : ℕ) (c : Option Cell) (h : i < length cells) (is : c ≡ get_or cells i c) where
-  pub logged_here : (d : Det) → is_logged (memories_in (drop i cells)) d ≡ (option_map_or (λ m. is_some (fin.get m.log d)) (option_map memory_of c) false || is_logged (memories_in (drop (i + 1) cells)) d)
-  logged_here d = ap (λ ms. is_logged (memories_in ms) d) (drop_more cells i c h ∙ ap (λ y. y ∷ drop (i + 1) cells) (sym is))
+  -- the rest has the determinant, or this process does
+  pub logged_here : (d : Det) (found : Bool) → found ≡ option_map_or (λ m. is_some (fin.get m.log d)) (option_map memory_of c) false → (found || is_logged (memories_in (drop (i + 1) cells)) d) ≡ is_logged (memories_in (drop i cells)) d
+  logged_here d found tells = ap (λ b. b || is_logged (memories_in (drop (i + 1) cells)) d) tells ∙ sym (ap (λ ms. is_logged (memories_in ms) d) (drop_more cells i c h ∙ ap (λ y. y ∷ drop (i + 1) cells) (sym is)))
 
   pub memories_next : memories_in (take (i + 1) cells) ≡ memories_in (take i cells) ++ option_map memory_of c ∷ []
   memories_next = ap memories_in (take_more cells i c h ∙ ap (λ y. take i cells ++ y ∷ []) (sym is)) ∙ map-append (option_map memory_of) (take i cells) (c ∷ [])

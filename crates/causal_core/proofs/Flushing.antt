@@ -1,5 +1,5 @@
 -- What a flush writes, and that it is a legal step.
-use Rattle.std.proofs.Common.{ℕ, zero, suc, ◌≡◌, ◌+◌, ◌<◌, ◌≤◌, ◌∙◌, Bool, true, false, cond, List, [], ◌∷◌, ◌++◌, length, take, map, replicate, get_or, Option, Some, None, is_some, refl, sym, ap, subst, arith}
+use Rattle.std.proofs.Common.{ℕ, zero, suc, inl, inr, ◌⊎◌, ◌≡◌, ◌+◌, ◌<◌, ◌≤◌, ◌∙◌, Bool, true, false, cond, List, [], ◌∷◌, ◌++◌, length, take, map, replicate, get_or, Option, Some, None, is_some, refl, sym, ap, subst, arith}
 use Rattle.std.specs.Prelude.{◌&&◌, not, nat_lt, unwrap_or, Result, Ok, Err, IfOk, IfErr, is_none}
 use Rattle.std.specs.List.{list_all}
 use Rattle.std.specs.Option.{option_map, option_map_or}
@@ -187,35 +187,24 @@ no_store r p h = never_store (not (nat_lt p.0 r.recording.processes)) (is_none (
 pub refusal_stores : (r : Run) (p : Pid) (fault : CoreFault) → first_fault r (Ask.Flush p) ≡ reason_of fault → fault ≡ Why.StoreFault → ⊥
 refusal_stores r p fault h is = no_store r p (h ∙ ap reason_of is)
 
-flush_reason : (r : Run) (p : Pid) (fault : CoreFault) → first_fault r (Ask.Flush p) ≡ reason_of fault → first_fault r (Ask.Flush p) ≡ flush_reason_of fault
-flush_reason r p Why.NoMemory h = h
-flush_reason r p Why.StoreFault h = absurd (no_store r p h)
-flush_reason r p Why.NoProcess h = h
-flush_reason r p Why.Down h = h
-flush_reason r p Why.NotDown h = h
-flush_reason r p Why.OverFaults h = h
-flush_reason r p (Why.MustReplay m) h = h
-flush_reason r p Why.NotAvailable h = h
-flush_reason r p Why.AlreadyDelivered h = h
-flush_reason r p Why.Full h = h
-
-nothing : (r : Run) (p : Pid) (fault : CoreFault) → first_fault r (Ask.Flush p) ≡ reason_of fault → (all : ℕ) → IsPart fault 0 all
-nothing r p Why.NoMemory h all = omega arith
-nothing r p Why.StoreFault h all = absurd (no_store r p h)
-nothing r p Why.NoProcess h all = refl
-nothing r p Why.Down h all = refl
-nothing r p Why.NotDown h all = refl
-nothing r p Why.OverFaults h all = refl
-nothing r p (Why.MustReplay m) h all = refl
-nothing r p Why.NotAvailable h all = refl
-nothing r p Why.AlreadyDelivered h all = refl
-nothing r p Why.Full h all = refl
+-- but for a fault of the store, a flush tells the reason and wrote nothing
+told_first : (fault : CoreFault) (all : ℕ) → (fault ≡ Why.StoreFault) ⊎ ((reason_of fault ≡ flush_reason_of fault) × IsPart fault 0 all)
+told_first Why.NoMemory all = inr (refl, omega arith)
+told_first Why.StoreFault all = inl refl
+told_first Why.NoProcess all = inr (refl, refl)
+told_first Why.Down all = inr (refl, refl)
+told_first Why.NotDown all = inr (refl, refl)
+told_first Why.OverFaults all = inr (refl, refl)
+told_first (Why.MustReplay m) all = inr (refl, refl)
+told_first Why.NotAvailable all = inr (refl, refl)
+told_first Why.AlreadyDelivered all = inr (refl, refl)
+told_first Why.Full all = inr (refl, refl)
 
 -- a flush that is refused is a legal step too
 pub flush_refused : (r next : Run) (p : Pid) (fault : CoreFault) → next ≡ r → first_fault r (Ask.Flush p) ≡ reason_of fault → Steps r (Ask.Flush p) (Told.FlushRefused (record { fault = fault; done = 0 })) next
 unfolding LegalStep
-flush_refused r next p fault same reason = record {
-  appended = [];
-  grown = same;
-  legal = (flush_reason r p fault reason, nothing r p fault reason (length (unwritten r p)), refl);
-}
+flush_refused r next p fault same reason =
+    elim (told_first fault (length (unwritten r p))) [
+      | inl store ↦ absurd (refusal_stores r p fault reason store)
+      | inr told ↦ record { appended = []; grown = same; legal = (reason ∙ told.0, told.1, refl) }
+    ]

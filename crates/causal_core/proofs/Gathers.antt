@@ -38,14 +38,16 @@ pub united_end : (cells : List (Option Cell)) (i : ℕ) (log : LogMap) → lengt
 unfolding united_all
 united_end cells i log h = ap (λ cs. united_all (memories_in cs) log) (drop_all i cells h)
 
-module _ (dets : List Det) (i : ℕ) (d : Det) (p : Pid) (log : LogMap) (h : i < length dets) where
-  pub held_more : held_all (drop i dets) p log ≡ held_all (drop (i + 1) dets) p (learned log (get_or dets i d) (held_by p))
+module _ (dets : List Det) (i : ℕ) (d : Det) (p : Pid) (log next : LogMap) (h : i < length dets) where
+  -- the rest is held in a log that holds the next one
+  pub held_more : next ≡ learned log (get_or dets i d) (held_by p) → held_all (drop (i + 1) dets) p next ≡ held_all (drop i dets) p log
   unfolding held_all
-  held_more = ap (λ ds. held_all ds p log) (drop_more dets i d h)
+  held_more is = ap (held_all (drop (i + 1) dets) p) is ∙ sym (ap (λ ds. held_all ds p log) (drop_more dets i d h))
 
-  pub stable_more : stable_all (drop i dets) p log ≡ stable_all (drop (i + 1) dets) p (learned log (get_or dets i d) (stable_and_held_by p))
+  -- and so what is stable
+  pub stable_more : next ≡ learned log (get_or dets i d) (stable_and_held_by p) → stable_all (drop (i + 1) dets) p next ≡ stable_all (drop i dets) p log
   unfolding stable_all
-  stable_more = ap (λ ds. stable_all ds p log) (drop_more dets i d h)
+  stable_more is = ap (stable_all (drop (i + 1) dets) p) is ∙ sym (ap (λ ds. stable_all ds p log) (drop_more dets i d h))
 
 pub held_end : (dets : List Det) (i : ℕ) (p : Pid) (log : LogMap) → length dets ≤ i → held_all (drop i dets) p log ≡ log
 unfolding held_all

@@ -1,3 +1,4 @@
+pub mod Lemmas
 mod Beginning
 mod BoxLemmas
 mod Cells

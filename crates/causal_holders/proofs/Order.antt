@@ -4,8 +4,8 @@ use Rattle.std.proofs.Common.{zero, suc, refl, arith, ap, sym, ◌∙◌, inl, i
 use Rattle.std.specs.List.{list_any, range_with_len}
 use Rattle.std.specs.List.Sorted.{IsStrictlyIncreasing}
 use Rattle.std.proofs.lemmas.List.Kept.{IsStrictlyIncreasing-filter}
-use Rattle.std.proofs.lemmas.List.Sums.{length-filter, sum_by-append}
-use Rattle.std.proofs.lemmas.List.FromFn.{length-range_with_len, get_or-range_with_len, map-range_with_len_more}
+use Rattle.std.proofs.lemmas.List.Sums.{length-filter}
+use Rattle.std.proofs.lemmas.List.FromFn.{length-range_with_len, get_or-range_with_len, sum_by-map-range_with_len_more}
 use Rattle.std.proofs.lemmas.List.{map-id}
 use Rattle.causal_name.specs.Sets.{count_below}
 use Rattle.causal_holders.proofs.Lemmas.Counting.{len_counted}
@@ -103,20 +103,11 @@ ascending-rises s = IsStrictlyIncreasing-filter (contains s) (range_with_len 0 2
     let below : k + 1 < 256 = omega (arith, h, length-range_with_len 0 256) in
     omega (arith, get_or-range_with_len 0 256 k 0 (omega (arith, below)), get_or-range_with_len 0 256 (k + 1) 0 below))
 
-range_more : (n : ℕ) → range_with_len 0 (suc n) ≡ range_with_len 0 n ++ n ∷ []
-range_more n =
-    let next : n + 1 ≡ suc n = omega arith in
-    ap (range_with_len 0) (sym next)
-    ∙ sym (map-id (range_with_len 0 (n + 1)))
-    ∙ map-range_with_len_more (λ x. x) 0 n n (omega arith)
-    ∙ ap (λ xs. xs ++ n ∷ []) (map-id (range_with_len 0 n))
-
 counted_below : (n : ℕ) (test : ℕ → Bool) → count_by test (range_with_len 0 n) ≡ count_below n test
 counted_below zero test = refl
 counted_below (suc n) test =
-    ap (count_by test) (range_more n)
-    ∙ sum_by-append _ (range_with_len 0 n) (n ∷ [])
-    ∙ omega (arith, counted_below n test)
+    let next = sum_by-map-range_with_len_more (λ k. if test k then 1 else 0) (λ k. k) 0 n n (omega arith) in
+    ap (λ k. count_by test (range_with_len 0 k)) (let same : suc n ≡ n + 1 = omega arith in same) ∙ (simp map-id at next) ∙ omega (arith, counted_below n test)
 
 -- it has each member once
 pub length-ascending : (s : FinSet nat_cmp) → AreProcesses s → length (ascending s) ≡ len s

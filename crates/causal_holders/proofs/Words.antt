@@ -104,21 +104,20 @@ or_words ws vs = bit_or (slice_index ws 0) (slice_index vs 0) ∷ bit_or (slice_
 unfoldable pub without_words : List ℕ → List ℕ → List ℕ
 without_words ws vs = bit_and (slice_index ws 0) (bit_not w64 (slice_index vs 0)) ∷ bit_and (slice_index ws 1) (bit_not w64 (slice_index vs 1)) ∷ bit_and (slice_index ws 2) (bit_not w64 (slice_index vs 2)) ∷ bit_and (slice_index ws 3) (bit_not w64 (slice_index vs 3)) ∷ []
 
+of_four : (f : ℕ → ℕ) (i : ℕ) → i < 4 → slice_index (f 0 ∷ f 1 ∷ f 2 ∷ f 3 ∷ []) i ≡ f i
+of_four f zero h = refl
+of_four f (suc zero) h = refl
+of_four f (suc (suc zero)) h = refl
+of_four f (suc (suc (suc zero))) h = refl
+of_four f (suc (suc (suc (suc i)))) h = absurd (omega arith)
+
 or_word : (ws vs : List ℕ) (i : ℕ) → i < 4 → slice_index (or_words ws vs) i ≡ bit_or (slice_index ws i) (slice_index vs i)
 unfolding or_words
-or_word ws vs zero h = refl
-or_word ws vs (suc zero) h = refl
-or_word ws vs (suc (suc zero)) h = refl
-or_word ws vs (suc (suc (suc zero))) h = refl
-or_word ws vs (suc (suc (suc (suc i)))) h = absurd (omega arith)
+or_word ws vs = of_four (λ i. bit_or (slice_index ws i) (slice_index vs i))
 
 without_word : (ws vs : List ℕ) (i : ℕ) → i < 4 → slice_index (without_words ws vs) i ≡ bit_and (slice_index ws i) (bit_not w64 (slice_index vs i))
 unfolding without_words
-without_word ws vs zero h = refl
-without_word ws vs (suc zero) h = refl
-without_word ws vs (suc (suc zero)) h = refl
-without_word ws vs (suc (suc (suc zero))) h = refl
-without_word ws vs (suc (suc (suc (suc i)))) h = absurd (omega arith)
+without_word ws vs = of_four (λ i. bit_and (slice_index ws i) (bit_not w64 (slice_index vs i)))
 
 united_bit : (x y : ℕ) (b : Bool) → (b && nat_lt 0 (max x y)) ≡ ((b && nat_lt 0 x) || (b && nat_lt 0 y))
 united_bit x y true = grind (arith, nat_tests)

@@ -16,6 +16,10 @@ pub bind_some : {A B : Type 0} (r : Option A) (f : A → Option B) (y : B) → (
 bind_some None f y e = absurd (none-some y e)
 bind_some (Some x) f y e = (x, refl, e)
 
+-- what is read behind a cut is said where it is said of the two parts
+pub behind_cut : {A P : Type 0} (line : List ℕ) (f : List ℕ × List ℕ → Option A) (y : A) → (cut 32 line >>= f) ≡ Some y → ((parts : List ℕ × List ℕ) → line ≡ parts.0 ++ 32 ∷ parts.1 → f parts ≡ Some y → P) → P
+behind_cut line f y e said = let a = bind_some (cut 32 line) f y e in said a.0 (cut_whole 32 line a.0 a.1).whole a.2
+
 -- what a choice by a name gives is given for that name, or by the other choices
 pub chosen : {A : Type 0} (name word : List ℕ) (x y : Option A) (z : A) {P : Type 0} → (name ≡ word → x ≡ Some z → P) → (y ≡ Some z → P) → cond (bytes_eq name word) x y ≡ Some z → P
 chosen name word x y z {P} this other e = by_test (bytes_eq name word) refl e where
@@ -99,10 +103,7 @@ says_named name words line r whole e =
 -- a request that is read of a line is spelled by that line
 pub says_request : (line : List ℕ) (r : Request) → request_of line ≡ Some r → Says line r
 unfolding request_of
-says_request line r e =
-    let a = bind_some (cut 32 line) _ r e in
-    let parts : IsCut 32 line a.0 = cut_whole 32 line a.0 a.1 in
-    says_named a.0.0 a.0.1 line r parts.whole a.2
+says_request line r e = behind_cut line _ r e (λ parts whole is. says_named parts.0 parts.1 line r whole is)
 
 -- ---- and back
 

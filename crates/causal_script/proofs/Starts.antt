@@ -9,7 +9,7 @@ use Rattle.causal_script.specs.Faults.{IsStartLine}
 use Rattle.causal_script.specs.Inside.Reading.{◌>>=◌, cut, number_of, count_of, numbered_start, with_param, tally_of, start_of_kind, named_start, start_of}
 use Rattle.causal_script.proofs.Cuts.{IsCut, cut_whole}
 use Rattle.causal_script.proofs.Numbers.{number_of-decimal, decimal-number_of, count_of-decimal, decimal-count_of, cut_number}
-use Rattle.causal_script.proofs.CommandLines.{bind_some, chosen, none_spelled}
+use Rattle.causal_script.proofs.CommandLines.{bind_some, behind_cut, chosen, none_spelled}
 
 -- ---- from the line
 
@@ -113,10 +113,7 @@ says_named_start name words line s whole e =
 -- a start that is read of a line is spelled by that line
 pub says_start : (line : List ℕ) (s : Start) → start_of line ≡ Some s → SaysStart line s
 unfolding start_of
-says_start line s e =
-    let a = bind_some (cut 32 line) _ s e in
-    let parts : IsCut 32 line a.0 = cut_whole 32 line a.0 a.1 in
-    says_named_start a.0.0 a.0.1 line s parts.whole a.2
+says_start line s e = behind_cut line _ s e (λ parts whole is. says_named_start parts.0 parts.1 line s whole is)
 
 -- ---- and back
 

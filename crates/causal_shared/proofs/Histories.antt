@@ -13,7 +13,8 @@ use Rattle.causal_shared.specs.declared.item.KeptSeat.{KeptSeat}
 use Rattle.causal_shared.specs.Limits.{max_items}
 use Rattle.causal_shared.specs.History.{instant, cut, IsStep, next_first, AllLegal, items_of, last_of, IsHistory, Shows, kept_after, count_at, fresh_seat, Held, Holds, Sees}
 use Rattle.causal_shared.specs.Inside.Keeping.{item_at, FitsHistory, AllKept, Keeps}
-use Rattle.causal_shared.proofs.Lists.{slice_get-append, slice_get-append_seam, slice_get-set_same, slice_get-set_other, slice_get-snoc, slice_get-last}
+use Rattle.causal_core.proofs.Lemmas.Slices.{slice_get-set_same, slice_get-set_other}
+use Rattle.causal_shared.proofs.Lists.{slice_get-append, slice_get-append_seam, slice_get-snoc, slice_get-last}
 use Rattle.causal_trace.specs.Past.{det_at}
 use Rattle.causal_protocol.specs.declared.request.Request.{Request}
 use Rattle.causal_protocol.specs.declared.request.Reply.{Reply}
@@ -124,7 +125,7 @@ FitsHistory-snoc new items item place at call = record {
 pub AllKept-snoc : (run new : Run) (items : List Item) (seats : List KeptSeat) (item : Item) (place : ℕ) → AllKept run items seats → instant run ≤ instant new → place ≡ length items → item.seat < length seats → item.call ≡ length (items_of item.seat items) → AllKept new (items ++ item ∷ []) (slice_set seats item.seat (kept_after item (instant new) place))
 AllKept-snoc run new items seats item place kept longer at inside call seat k is = elim (either_seat item.seat seat) [
   | inl same ↦ mine seat same is
-  | inr other ↦ FitsHistory-snoc_other run new items item seat k other longer (kept seat k (sym (slice_get-set_other seats item.seat seat (kept_after item (instant new) place) other) ∙ is))
+  | inr other ↦ FitsHistory-snoc_other run new items item seat k other longer (kept seat k (sym (slice_get-set_other seats item.seat seat (kept_after item (instant new) place) (λ e. other (sym e))) ∙ is))
 ]
   where
     mine : (seat : ℕ) → item.seat ≡ seat → slice_get (slice_set seats item.seat (kept_after item (instant new) place)) seat ≡ Some k → FitsHistory new (items ++ item ∷ []) seat k
@@ -187,7 +188,7 @@ Holds-is held seat count seen kept mine last all is counts sees mine_is =
 pub AllKept-seen : (run : Run) (items : List Item) (seats : List KeptSeat) (at : ℕ) (k : KeptSeat) (seen : ℕ) → at < length seats → slice_get seats at ≡ Some k → seen ≤ instant run → AllKept run items seats → AllKept run items (slice_set seats at (record k { seen = seen }))
 AllKept-seen run items seats at k seen inside is few kept seat k' found = elim (either_seat at seat) [
   | inl same ↦ mine seat same found
-  | inr other ↦ kept seat k' (sym (slice_get-set_other seats at seat (record k { seen = seen }) other) ∙ found)
+  | inr other ↦ kept seat k' (sym (slice_get-set_other seats at seat (record k { seen = seen }) (λ e. other (sym e))) ∙ found)
 ]
   where
     mine : (seat : ℕ) → at ≡ seat → slice_get (slice_set seats at (record k { seen = seen })) seat ≡ Some k' → FitsHistory run items seat k'

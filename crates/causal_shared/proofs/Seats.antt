@@ -23,6 +23,11 @@ use Rattle.causal_shared.specs.Seat.{heard, Sitting, SeatState, with_item, SeesE
 use Rattle.causal_shared.specs.Inside.Seated.{shared_of, MayCall, IsSeated, ItemSection}
 use Rattle.causal_protocol.proofs.Lemmas.Telling.{replies_tell_entries}
 
+-- what a call of the locked value asks of a seat that may make it
+pub called : (held : Held) (seat : SeatState) (first number count : ℕ) → MayCall held seat first → number ≡ seat.sitting.number → count ≡ length seat.sitting.items
+    → (number < length held.seats) × (count ≡ count_at held.seats number) × (length held.history < max_items)
+called held seat first number count may own counted = (subst (λ n. n < length held.seats) (sym own) may.inside, counted ∙ may.counted ∙ ap (count_at held.seats) (sym own), may.room)
+
 -- a seat has seen no more than there is
 pub Holds-seen : (held : Held) (seat count seen : ℕ) (last : Option Item) → Keeps held.run held.history held.seats → Holds held seat count seen last → seen ≤ instant held.run
 Holds-seen held seat count seen last keeps holds =

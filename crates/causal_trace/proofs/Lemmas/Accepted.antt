@@ -52,18 +52,17 @@ sent_within past send p h =
       | inr k ↦ absurd (false≢true (sym (ap (λ o. option_map_or (is_send_to p) o false) (entry_beyond past send k)) ∙ h))
     ]
 
-sent_before : (n : ℕ) (past : List Entry) (e : Entry) (i : ℕ) → first_fault n past e ≡ None → is_delivery_of i e ≡ true → i < length past
-sent_before n past (Send from to ssn) i h is = absurd (false≢true is)
-sent_before n past (Stable det) i h is = absurd (false≢true is)
-sent_before n past (Crash who) i h is = absurd (false≢true is)
-sent_before n past (Restart who listed) i h is = absurd (false≢true is)
-sent_before n past (Forget who listed) i h is = absurd (false≢true is)
-sent_before n past (Deliver to send rsn listed) i h is =
-    let named : send ≡ i = eqb-true send i is in
-    omega (arith, named, sent_within past send to.0 (delivers_sent n past to send rsn listed h))
+-- what is delivered was sent to some process
+pub delivery_sent : (n : ℕ) (past : List Entry) (e : Entry) (i : ℕ) → first_fault n past e ≡ None → is_delivery_of i e ≡ true → (p : ℕ) × (is_sent_to past i p ≡ true)
+delivery_sent n past (Send from to ssn) i h is = absurd (false≢true is)
+delivery_sent n past (Stable det) i h is = absurd (false≢true is)
+delivery_sent n past (Crash who) i h is = absurd (false≢true is)
+delivery_sent n past (Restart who listed) i h is = absurd (false≢true is)
+delivery_sent n past (Forget who listed) i h is = absurd (false≢true is)
+delivery_sent n past (Deliver to send rsn listed) i h is = (to.0, subst (λ x. is_sent_to past x to.0 ≡ true) (eqb-true send i is) (delivers_sent n past to send rsn listed h))
 
 -- in a well-formed trace deliveries name earlier sends
 pub accepted_forward : (n : ℕ) (past : List Entry) → AreAccepted n past → AreForward past
 accepted_forward n [] h j i d = absurd d
 accepted_forward n (e ∷ past) h j i (inl d) = accepted_forward n past h.0 j i d
-accepted_forward n (e ∷ past) h j i (inr d) = omega (arith, d.0, sent_before n past e i h.1 d.1)
+accepted_forward n (e ∷ past) h j i (inr d) = let sent = delivery_sent n past e i h.1 d.1 in omega (arith, d.0, sent_within past i sent.0 sent.1)

@@ -1,5 +1,5 @@
 -- What holds of a run holds of its instants.
-use Rattle.std.proofs.Common.{ℕ, zero, suc, inl, inr, ◌≡◌, ◌+◌, ◌-◌, ◌<◌, ◌≤◌, List, [], ◌∷◌, ◌++◌, length, take, drop, reverse, Some, None, refl, sym, ap, ◌∙◌, add-one, arith}
+use Rattle.std.proofs.Common.{ℕ, zero, suc, inl, inr, cond, ◌≡◌, ◌+◌, ◌-◌, ◌<◌, ◌≤◌, List, [], ◌∷◌, ◌++◌, length, take, drop, reverse, Some, None, refl, sym, ap, ◌∙◌, add-one, arith}
 use Rattle.std.specs.Prelude.{◌==◌}
 use Rattle.std.proofs.lemmas.List.{length-drop, length-reverse, reverse-append, reverse-reverse, drop_at, take-append-drop}
 use Rattle.std.proofs.lemmas.Bool.{cases_lt, cond-false, ne_eqb}
@@ -58,13 +58,18 @@ det_within past k d at =
       | inr h ↦ absurd (let e : None ≡ Some d = sym (det_beyond past k h) ∙ at in cc)
     ]
 
+-- what is told of an entry where it is the newest, and kept with each later one, is the same at each later instant
+pub found_then : {A : Type 0} (at : List Entry → ℕ → A) (of : List Entry → Entry → A) → ((e : Entry) (past : List Entry) (k : ℕ) → at (e ∷ past) k ≡ cond (k == length past) (of past e) (at past k))
+    → (past : List Entry) (t k : ℕ) → k < t → t ≤ length past → at (instant past t) k ≡ at past k
+found_then at of more [] t k below within = absurd (omega (arith, below, within))
+found_then at of more (e ∷ past) t k below within =
+    elim (cases_lt (length past) t) [
+      | inl h ↦ let is : t ≡ length past + 1 = omega (arith, h, within) in ap (λ u. at (instant (e ∷ past) u) k) is ∙ ap (λ x. at x k) (one_more_instant e past)
+      | inr h ↦
+          ap (λ x. at x k) (instants_stay e past t h) ∙ found_then at of more past t k below h
+          ∙ sym (more e past k ∙ cond-false (k == length past) (of past e) (at past k) (ne_eqb k (length past) (λ is. omega (arith, below, h, is))))
+    ]
+
 -- a delivery's determinant is the same at each later instant
 pub det_then : (past : List Entry) (t k : ℕ) → k < t → t ≤ length past → det_at (instant past t) k ≡ det_at past k
-det_then [] t k below within = absurd (omega (arith, below, within))
-det_then (e ∷ past) t k below within =
-    elim (cases_lt (length past) t) [
-      | inl h ↦ let is : t ≡ length past + 1 = omega (arith, h, within) in ap (λ u. det_at (instant (e ∷ past) u) k) is ∙ ap (λ x. det_at x k) (one_more_instant e past)
-      | inr h ↦
-          ap (λ x. det_at x k) (instants_stay e past t h) ∙ det_then past t k below h
-          ∙ sym (cond-false (k == length past) (det_of past e) (det_at past k) (ne_eqb k (length past) (λ is. omega (arith, below, h, is))))
-    ]
+det_then = found_then det_at det_of (λ e past k. refl)

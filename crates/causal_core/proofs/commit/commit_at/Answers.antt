@@ -1,6 +1,6 @@
 use Rattle.std.proofs.Common.{◌≡◌, ◌∙◌, ap, subst, Some, slice_get, slice_set, arith}
 use Rattle.causal_core.specs.Inside.Facts.{FitsAt}
-use Rattle.causal_core.specs.Inside.Memories.{memory_of, memories_in}
+use Rattle.causal_core.specs.Inside.Memories.{memory_at, memory_of, memories_in, room_at, room_of, rooms_in}
 use Rattle.causal_core.proofs.Fitting.{all_fit_set}
 use Rattle.causal_core.proofs.Cells.{lent_at, there, memory_there, room_there, memories_put, bodies_more}
 use Rattle.causal_core.proofs.commit.commit_at.Goals as goal
@@ -9,52 +9,39 @@ use Rattle.causal_core.proofs.commit.commit_at.Goals.{In-Some}
 found : (c : In-Some) → slice_get c.args.cells.now.items c.args.q.0 ≡ Some (Some c.in-Some.cell)
 found c = lent_at c.args.cells.now.items c.args.q.0 c.from.result c.index_mut.result.now c.in-Some.cell c.requires.up c.from.ensures c.index_mut.ensures.value c.in-Some.is
 
+memory : (c : In-Some) → memory_at (memories_in c.args.cells.now.items) c.args.q.0 ≡ memory_of c.in-Some.cell
+memory c = memory_there c.args.cells.now.items c.args.q.0 c.in-Some.cell (found c)
+
+room : (c : In-Some) → room_at (rooms_in c.args.cells.now.items) c.args.q.0 ≡ room_of c.in-Some.cell
+room c = room_there c.args.cells.now.items c.args.q.0 c.in-Some.cell (found c)
+
 pub commit-requires-clause-fit : goal.commit-requires-clause-fit
 commit-requires-clause-fit c =
     let f = found (goal.at.commit-requires-clause-fit c).In-Some in
     subst (FitsAt c.args.trace.now.recording.past c.args.q.0) (there c.args.cells.now.items c.args.q.0 c.in-Some.cell f) (c.requires.fit.each c.args.q.0 c.requires.process)
 
 pub commit-requires-clause-room : goal.commit-requires-clause-room
-commit-requires-clause-room c =
-    let f = found (goal.at.commit-requires-clause-room c).In-Some in
-    let r = ap (λ x. x.sent) (room_there c.args.cells.now.items c.args.q.0 c.in-Some.cell f) in
-    omega (arith, r, c.requires.room)
+commit-requires-clause-room c = omega (arith, ap (λ x. x.sent) (room (goal.at.commit-requires-clause-room c).In-Some), c.requires.room)
 
 pub commit-requires-clause-received : goal.commit-requires-clause-received
-commit-requires-clause-received c =
-    let f = found (goal.at.commit-requires-clause-received c).In-Some in
-    let r = ap (λ x. x.received) (room_there c.args.cells.now.items c.args.q.0 c.in-Some.cell f) in
-    omega (arith, r, c.requires.received)
+commit-requires-clause-received c = omega (arith, ap (λ x. x.received) (room (goal.at.commit-requires-clause-received c).In-Some), c.requires.received)
 
 pub commit-requires-clause-insertions : goal.commit-requires-clause-insertions
-commit-requires-clause-insertions c =
-    let f = found (goal.at.commit-requires-clause-insertions c).In-Some in
-    let r = ap (λ x. x.log) (room_there c.args.cells.now.items c.args.q.0 c.in-Some.cell f) in
-    omega (arith, r, c.requires.insertions)
+commit-requires-clause-insertions c = omega (arith, ap (λ x. x.log) (room (goal.at.commit-requires-clause-insertions c).In-Some), c.requires.insertions)
 
 pub commit-requires-clause-logged : goal.commit-requires-clause-logged
-commit-requires-clause-logged c =
-    let f = found (goal.at.commit-requires-clause-logged c).In-Some in
-    let m = memory_there c.args.cells.now.items c.args.q.0 c.in-Some.cell f in
-    rw m at c.requires.logged
+commit-requires-clause-logged c = let m = memory (goal.at.commit-requires-clause-logged c).In-Some in rw m at c.requires.logged
 
 pub commit-requires-clause-next : goal.commit-requires-clause-next
-commit-requires-clause-next c =
-    let f = found (goal.at.commit-requires-clause-next c).In-Some in
-    let m = memory_there c.args.cells.now.items c.args.q.0 c.in-Some.cell f in
-    rw m at c.requires.next
+commit-requires-clause-next c = let m = memory (goal.at.commit-requires-clause-next c).In-Some in rw m at c.requires.next
 
 pub returns-clause-recording : goal.returns-clause-recording
-returns-clause-recording c =
-    let f = found (goal.at.returns-clause-recording c).In-Some in
-    let m = memory_there c.args.cells.now.items c.args.q.0 c.in-Some.cell f in
-    rw m c.commit.ensures.recording
+returns-clause-recording c = rw (memory (goal.at.returns-clause-recording c).In-Some) c.commit.ensures.recording
 
 pub returns-clause-memories : goal.returns-clause-memories
 returns-clause-memories c =
     let f = found (goal.at.returns-clause-memories c).In-Some in
-    let m = memory_there c.args.cells.now.items c.args.q.0 c.in-Some.cell f in
-    rw (c.from.ensures, m)
+    rw (c.from.ensures, memory (goal.at.returns-clause-memories c).In-Some)
     (memories_put c.args.cells.now.items c.args.q.0 c.in-Some.cell f c.commit.new.cell ∙ ap (λ x. slice_set (memories_in c.args.cells.now.items) c.args.q.0 (Some x)) c.commit.ensures.memory)
 
 pub returns-clause-fit : goal.returns-clause-fit

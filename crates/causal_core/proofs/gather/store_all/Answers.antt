@@ -4,10 +4,7 @@ use Rattle.causal_core.proofs.Gathers.{stable_more, stable_end}
 use Rattle.causal_core.proofs.gather.store_all.Goals as goal
 
 pub loop-det-preserved : goal.loop-det-preserved
-loop-det-preserved c =
-    ap (stable_all (drop (c.loop-det.det-index + 1) c.args.dets.now) c.args.p) c.in_ok-add_stable.ensures.ok
-    ∙ sym (stable_more c.args.dets.now c.loop-det.det-index _ c.args.p c.loop-det.log.map c.loop-det-test.true)
-    ∙ c.loop-det.invariant
+loop-det-preserved c = stable_more c.args.dets.now c.loop-det.det-index _ c.args.p c.loop-det.log.map c.add_stable.new.self.map c.loop-det-test.true c.in_ok-add_stable.ensures.ok ∙ c.loop-det.invariant
 
 pub returns : goal.returns
 returns c = sym (stable_end c.args.dets.now c.loop-det.det-index c.args.p c.loop-det.log.map (omega (arith, c.loop-det-test.false))) ∙ c.loop-det.invariant

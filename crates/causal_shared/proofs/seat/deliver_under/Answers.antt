@@ -1,19 +1,10 @@
-use Rattle.std.proofs.Common.{◌∙◌, ap, sym, refl}
+use Rattle.std.proofs.Common.{◌∙◌, sym, refl}
 use Rattle.causal_protocol.specs.declared.request.Request.TheVariants as Ask
 use Rattle.causal_protocol.specs.declared.request.Reply.TheVariants as Told
-use Rattle.causal_shared.specs.History.{count_at}
 use Rattle.causal_shared.specs.Locked.{held_of}
 use Rattle.causal_shared.specs.Inside.Seated.{IsSeated}
-use Rattle.causal_shared.proofs.Seats.{never_full, not_wrong, section_heard}
+use Rattle.causal_shared.proofs.Seats.{called, never_full, not_wrong, section_heard}
 use Rattle.causal_shared.proofs.seat.deliver_under.Goals as goal
-
-pub deliver-answer-requires : goal.deliver-answer-requires
-deliver-answer-requires g c =
-    let may = c.in_ok-first.ensures.ok in
-    record { seat = rw c.number.ensures may.inside; call = c.count.ensures ∙ may.counted ∙ ap (count_at c.args.locked.now.seats.items) (sym c.number.ensures); room = may.room }
-
-pub hear-requires : goal.hear-requires
-hear-requires g c = record { few = c.in_ok-first.ensures.ok.few; spare = c.in_ok-first.ensures.ok.spare }
 
 pub returns-clause-section : goal.returns-clause-section
 returns-clause-section g c =
@@ -26,3 +17,8 @@ returns-clause-wrong g c =
 
 pub returns-clause-full : goal.returns-clause-full
 returns-clause-full g c = λ e. absurd (never_full c.deliver-answer.result (sym c.shared_answer.ensures ∙ e))
+
+pub deliver-answer-requires : goal.deliver-answer-requires
+deliver-answer-requires g c =
+    let may = called (held_of c.args.locked.now) c.begin.new.seat c.in_ok-first.first c.number.result c.count.result c.in_ok-first.ensures.ok c.number.ensures c.count.ensures in
+    record { seat = may.0; call = may.1; room = may.2 }

@@ -1,16 +1,8 @@
 use Rattle.std.proofs.Common.{◌∙◌, ap, sym, length}
 use Rattle.causal_protocol.specs.declared.request.Request.TheVariants as Ask
-use Rattle.causal_shared.specs.History.{count_at}
 use Rattle.causal_shared.specs.Locked.{held_of, ItemCall}
+use Rattle.causal_shared.proofs.Seats.{called}
 use Rattle.causal_shared.proofs.seat.restart_under.Goals as goal
-
-pub restart-answer-requires : goal.restart-answer-requires
-restart-answer-requires g c =
-    let may = c.in-Ok.ensures.ok in
-    record { seat = rw c.number.ensures may.inside; call = c.count.ensures ∙ may.counted ∙ ap (count_at c.args.locked.now.seats.items) (sym c.number.ensures); room = may.room }
-
-pub hear-requires : goal.hear-requires
-hear-requires g c = record { few = c.in-Ok.ensures.ok.few; spare = c.in-Ok.ensures.ok.spare }
 
 pub returns-clause-section : goal.returns-clause-section
 returns-clause-section g c =
@@ -18,3 +10,8 @@ returns-clause-section g c =
     let item : ItemCall (held_of c.args.locked.now) (held_of c.restart-answer.new.self) seat.number (length seat.items) (Ask.Restart c.args.p) c.restart_told.result =
     rw c.restart_told.ensures (rw (c.number.ensures, c.count.ensures) at c.restart-answer.ensures.item) in
     rw (c.restart_told.ensures, c.in_ok-answer.was, c.begin.ensures.sitting) at (c.hear.ensures (held_of c.args.locked.now) c.in-Ok.ensures.ok item)
+
+pub restart-answer-requires : goal.restart-answer-requires
+restart-answer-requires g c =
+    let may = called (held_of c.args.locked.now) c.begin.new.seat c.in-Ok.first c.number.result c.count.result c.in-Ok.ensures.ok c.number.ensures c.count.ensures in
+    record { seat = may.0; call = may.1; room = may.2 }

@@ -1,18 +1,14 @@
 use Rattle.std.proofs.Common.{◌∙◌, ap, sym}
-use Rattle.causal_shared.specs.History.{count_at}
 use Rattle.causal_shared.specs.Locked.{held_of}
 use Rattle.causal_shared.specs.Inside.Seated.{IsSeated}
 use Rattle.causal_shared.specs.Inside.Tasks.{reply_of, request_of}
-use Rattle.causal_shared.proofs.Seats.{never_full, not_wrong, section_heard}
+use Rattle.causal_shared.proofs.Seats.{called, never_full, not_wrong, section_heard}
 use Rattle.causal_shared.proofs.seat.task_under.Goals as goal
 
 pub perform-answer-requires : goal.perform-answer-requires
 perform-answer-requires g c =
-    let may = c.in_ok-first.ensures.ok in
-    record { seat = rw c.number.ensures may.inside; call = c.count.ensures ∙ may.counted ∙ ap (count_at c.args.locked.now.seats.items) (sym c.number.ensures); room = may.room }
-
-pub hear-requires : goal.hear-requires
-hear-requires g c = record { few = c.in_ok-first.ensures.ok.few; spare = c.in_ok-first.ensures.ok.spare }
+    let may = called (held_of c.args.locked.now) c.begin.new.seat c.in_ok-first.first c.number.result c.count.result c.in_ok-first.ensures.ok c.number.ensures c.count.ensures in
+    record { seat = may.0; call = may.1; room = may.2 }
 
 pub returns-clause-section : goal.returns-clause-section
 returns-clause-section g c =

@@ -78,15 +78,13 @@ other_is c here =
 
 pub returns-in-Some-other_named : goal.returns-in-Some-other_named
 returns-in-Some-other_named c =
-    let at0 = (goal.at.returns-in-Some-other_named c).After-are_processes in
-    let at1 = (goal.at.returns-in-Some-other_named c).In-Some in
+    let at0 = (goal.at.returns-in-Some-other_named c).After-are_processes in let at1 = (goal.at.returns-in-Some-other_named c).In-Some in
     let at2 = (goal.at.returns-in-Some-other_named c).After-other_named in
     sym (tell_other (run at0) (ms at0) c.args.q c.args.source c.args.ssn c.self.invariant.same (inside at1) (memory_of c.in-Some.cell.now) (up at1) c.in-Some-other_named.fault (sym (other_is at2 (up at1)) ∙ c.in-Some-other_named.is)) ∙ asked_of at0
 
 pub returns-in_default-message : goal.returns-in_default-message
 returns-in_default-message c =
-    let at0 = (goal.at.returns-in_default-message c).After-are_processes in
-    let at1 = (goal.at.returns-in_default-message c).In-Some in
+    let at0 = (goal.at.returns-in_default-message c).After-are_processes in let at1 = (goal.at.returns-in_default-message c).In-Some in
     let at2 = (goal.at.returns-in_default-message c).After-other_named in
     let absent : kept_for (ms at0) c.args.q (name c.args.source c.args.ssn) ≡ None = ap (λ xs. kept_for (memories_in xs) c.args.q (name c.args.source c.args.ssn)) (sym c.as_slice-cells.ensures.value) ∙ sym c.message.ensures ∙ ap (λ o. option_map kept_of (option_copied o)) c.in_default-message.is in
     sym (tell_absent (run at0) (ms at0) c.args.q c.args.source c.args.ssn c.self.invariant.same (inside at1) (memory_of c.in-Some.cell.now) (up at1) (sym (other_is at2 (up at1)) ∙ c.in_default-other_named.is) absent) ∙ asked_of at0
@@ -96,10 +94,8 @@ kept c = ap (λ xs. kept_for (memories_in xs) c.args.q (name c.args.source c.arg
 
 pub returns-then-has_delivered : goal.returns-then-has_delivered
 returns-then-has_delivered c =
-    let at0 = (goal.at.returns-then-has_delivered c).After-are_processes in
-    let at1 = (goal.at.returns-then-has_delivered c).In-Some in
-    let at2 = (goal.at.returns-then-has_delivered c).After-other_named in
-    let at3 = (goal.at.returns-then-has_delivered c).In-Some-message in
+    let at0 = (goal.at.returns-then-has_delivered c).After-are_processes in let at1 = (goal.at.returns-then-has_delivered c).In-Some in
+    let at2 = (goal.at.returns-then-has_delivered c).After-other_named in let at3 = (goal.at.returns-then-has_delivered c).In-Some-message in
     sym (tell_again (run at0) (ms at0) c.args.q c.args.source c.args.ssn c.self.invariant.same (inside at1) (memory_of c.in-Some.cell.now) (up at1) (sym (other_is at2 (up at1)) ∙ c.in_default-other_named.is) (kept_of c.in-Some-message.message.now) (kept at3) (sym (again at1) ∙ sym c.has_delivered.ensures ∙ c.if-has_delivered.true)) ∙ asked_of at0
 
 pub overflow_cast-own : goal.overflow_cast-own
@@ -119,18 +115,14 @@ full_is c here sent =
 
 pub returns-then-is_full : goal.returns-then-is_full
 returns-then-is_full c =
-    let at0 = (goal.at.returns-then-is_full c).After-are_processes in
-    let at1 = (goal.at.returns-then-is_full c).In-Some in
-    let at2 = (goal.at.returns-then-is_full c).After-other_named in
-    let at3 = (goal.at.returns-then-is_full c).In-Some-message in
+    let at0 = (goal.at.returns-then-is_full c).After-are_processes in let at1 = (goal.at.returns-then-is_full c).In-Some in
+    let at2 = (goal.at.returns-then-is_full c).After-other_named in let at3 = (goal.at.returns-then-is_full c).In-Some-message in
     let at4 = (goal.at.returns-then-is_full c).After-is_full in
     sym (tell_full (run at0) (ms at0) c.args.q c.args.source c.args.ssn c.self.invariant.same (inside at1) (memory_of c.in-Some.cell.now) (up at1) (sym (other_is at2 (up at1)) ∙ c.in_default-other_named.is) (kept_of c.in-Some-message.message.now) (kept at3) (sym (again at1) ∙ sym c.has_delivered.ensures ∙ c.if-has_delivered.false) true (full_is at4 (up at1) (kept at3) ∙ c.if-is_full.true)) ∙ asked_of at0
 
 pub returns : goal.returns
 returns c =
-    let at0 = (goal.at.returns c).After-are_processes in
-    let at1 = (goal.at.returns c).In-Some in
-    let at2 = (goal.at.returns c).After-other_named in
-    let at3 = (goal.at.returns c).In-Some-message in
+    let at0 = (goal.at.returns c).After-are_processes in let at1 = (goal.at.returns c).In-Some in
+    let at2 = (goal.at.returns c).After-other_named in let at3 = (goal.at.returns c).In-Some-message in
     let at4 = (goal.at.returns c).After-is_full in
     sym (tell_full (run at0) (ms at0) c.args.q c.args.source c.args.ssn c.self.invariant.same (inside at1) (memory_of c.in-Some.cell.now) (up at1) (sym (other_is at2 (up at1)) ∙ c.in_default-other_named.is) (kept_of c.in-Some-message.message.now) (kept at3) (sym (again at1) ∙ sym c.has_delivered.ensures ∙ c.if-has_delivered.false) false (full_is at4 (up at1) (kept at3) ∙ c.if-is_full.false)) ∙ asked_of at0

@@ -130,11 +130,8 @@ pub returns-clause-step : goal.returns-clause-step
 unfolding LegalStep
 returns-clause-step c =
     let at0 = (goal.at.returns-clause-step c).After-len-first in
-    let g = grown at0 in
-    let r = (state at0).run in
-    let n = c.self.inside.trace.recording.processes in
-    let source = c.args.grown.own.source in
-    let ssn = c.args.grown.own.ssn in
+    let g = grown at0 in let r = (state at0).run in let n = c.self.inside.trace.recording.processes in
+    let source = c.args.grown.own.source in let ssn = c.args.grown.own.ssn in
     let tos = receivers n c.args.sends.items in
     let number = next_ssn (memories_of r) c.args.q in
     let few = addressed_few n c.args.sends.items in

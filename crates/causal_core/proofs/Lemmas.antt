@@ -1,0 +1,2 @@
+-- What crates above may cite of this crate's proofs.
+pub mod Slices
