@@ -32,11 +32,13 @@ pub fn no_orphans_condition()
 
 /// A recorded run has one verdict for f: the first instant that is not safe, the delivery, the crash set and the orphan
 /// are determined.
+#[tactic(auto, using(crate::proofs::Lemmas::OneVerdict::one_verdict))]
 pub fn verdicts_are_one()
     ensures { VerdictsAreOne }
 {}
 
 /// A verdict that does not accept what a run begins with is the verdict of the run, however it goes on.
+#[tactic(auto, using(crate::proofs::Lemmas::Beginnings::beginnings_decide))]
 pub fn beginnings_decide()
     ensures { BeginningsDecide }
 {}
@@ -58,6 +60,7 @@ pub fn instants_agree()
 /// One more entry gives an orphan only to few deliveries that had none: those on which the receiver of a delivery newly
 /// depends, and it is then their only orphan; those whose determinant a restart does not list; those whose determinant a
 /// forgetting lists.
+#[tactic(auto, using(crate::proofs::Swept::sweep_law, crate::proofs::Swept::one_new_orphan))]
 pub fn sweep_law()
     ensures newly { SweepLaw }
     ensures receiver { OneNewOrphan }

@@ -60,18 +60,18 @@ module _ (ps : List ℕ) (spans : List Span) (m v : ℕ) (s new : Span) (packed 
   pub packed_more : map (list_in (set ps s.end v)) (set spans m new) ≡ with_added (map (list_in ps) spans) m v
   packed_more =
       let f = list_in (set ps s.end v) in
-      let list = list_at (map (list_in ps) spans) m ++ v ∷ [] in
-      let size : length (map f spans) ≡ length (map (list_in ps) spans) = omega (arith, length-map spans f, length-map spans (list_in ps)) in
+      let lists = map (list_in ps) spans in
+      let list = list_at lists m ++ v ∷ [] in
       map-set f spans m new ∙ ap (set (map f spans) m) longer
-      ∙ ext_get_or [] (set (map f spans) m list) (set (map (list_in ps) spans) m list) (omega (arith, size, length-set (map f spans) m list, length-set (map (list_in ps) spans) m list)) (λ i low.
+      ∙ ext_get_or [] (set (map f spans) m list) (set lists m list) (omega (arith, length-map spans f, length-map spans (list_in ps), length-set (map f spans) m list, length-set lists m list)) (λ i low.
       let inside : i < length spans = omega (arith, low, length-set (map f spans) m list, length-map spans f) in
       elim (eqb_tells i m) [
         | inl same ↦
-            subst (λ k. get_or (set (map f spans) m list) k [] ≡ get_or (set (map (list_in ps) spans) m list) k []) (sym same.1)
-            (get_or-set_same (map f spans) m list [] (omega (arith, there, length-map spans f)) ∙ sym (get_or-set_same (map (list_in ps) spans) m list [] (omega (arith, there, length-map spans (list_in ps)))))
+            let at : (xs : List (List ℕ)) → length xs ≡ length spans → get_or (set xs m list) i [] ≡ list = λ xs many. ap (λ k. get_or (set xs m list) k []) same.1 ∙ get_or-set_same xs m list [] (omega (arith, there, many)) in
+            at (map f spans) (length-map spans f) ∙ sym (at lists (length-map spans (list_in ps)))
         | inr apart ↦
             get_or-set_other (map f spans) m i list [] apart.1 ∙ get_or-map f spans i s [] inside ∙ other i apart.1 inside
-            ∙ sym (get_or-set_other (map (list_in ps) spans) m i list [] apart.1 ∙ get_or-map (list_in ps) spans i s [] inside)
+            ∙ sym (get_or-set_other lists m i list [] apart.1 ∙ get_or-map (list_in ps) spans i s [] inside)
       ])
 
   -- what the new one has of the old one stays

@@ -68,15 +68,6 @@ impl Counts {
 impl Mentions {
     ghost use Rattle.causal_audit.specs.Inside.Index.Kept.{AreMentionsKept, AreMentionsWithKept};
 
-    /// Empty lists, as before the first entry, with room for what was counted.
-    fn with_rooms(alloc: Global, counts: Counts) -> Result<Mentions, NoMemory>
-        ensures { IfOk result (AreMentionsKept []) }
-    {
-        let Counts { numbers, counts } = counts;
-        let lists = PackedLists::with_rooms(alloc, &counts)?;
-        Ok(Mentions { numbers, lists })
-    }
-
     /// The list of a determinant.
     #[tactic(auto, using(crate::proofs::index::Filings::number_below))]
     pub fn list(&self, det: Det) -> &[u32]
@@ -140,8 +131,9 @@ pub fn mentions_in(alloc: Global, entries: &[Entry]) -> Result<Mentions, NoMemor
     ensures { IfOk result (λ mentions.
         AreMentions (past_of entries.now) mentions.numbers mentions.lists) }
 {
-    let counts = Counts::of(alloc, entries)?;
-    let mut mentions = Mentions::with_rooms(alloc, counts)?;
+    let Counts { numbers, counts } = Counts::of(alloc, entries)?;
+    let lists = PackedLists::with_rooms(alloc, &counts)?;
+    let mut mentions = Mentions { numbers, lists };
     for (i, entry) in entries.iter().enumerate() {
         mentions.note(entry, i as u32)?;
     }

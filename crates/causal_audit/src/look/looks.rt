@@ -23,6 +23,7 @@ impl<'a> Looks<'a> {
     ghost use Rattle.causal_audit.specs.Inside.Look.Looks.{AreAllLooks, IsLookOf};
 
     /// What was found of a determinant; None where nothing mentions it.
+    #[tactic(auto, using(crate::proofs::index::Filings::number_below))]
     pub fn find(&self, det: Det) -> Option<&ThinStretches>
         ensures { IfSome result (λ thins. IsLookOf self.now det thins.now) }
     {

@@ -4,6 +4,3 @@ use Rattle.causal_workers.proofs.share.Share.judged.Goals as goal
 
 pub returns-clause-found : goal.returns-clause-found
 returns-clause-found g c = subst (λ followed. LeastOf followed c.least.result) c.requires c.least.ensures
-
-pub returns-clause-passed : goal.returns-clause-passed
-returns-clause-passed g c = c.enter.ensures

@@ -1,4 +1,4 @@
-use Rattle.causal_audit.proofs.Common.{◌≡◌, ◌+◌, ◌<◌, length, refl, sym, ap, subst, ◌∙◌, arith, length-map}
+use Rattle.causal_audit.proofs.Common.{◌<◌, length, refl, sym, ap, subst, ◌∙◌, arith, length-map}
 use Rattle.causal_audit.specs.Inside.Index.Filed.{with_added}
 use Rattle.causal_audit.specs.Inside.Index.Packed.{list_in}
 use Rattle.causal_audit.proofs.index.Packing.{packed_more, packed_still}

@@ -1,4 +1,4 @@
-use Rattle.causal_audit.proofs.Common.{ℕ, ◌≡◌, ◌<◌, ◌≤◌, length, get_or, All}
+use Rattle.causal_audit.proofs.Common.{◌≡◌, length, All}
 use Rattle.causal_audit.specs.declared.index.packed.Span.{Span}
 use Rattle.causal_audit.specs.Inside.Index.Packed.{ArePacked}
 use Rattle.causal_audit.proofs.index.packed.PackedLists.with_rooms.Given as goal

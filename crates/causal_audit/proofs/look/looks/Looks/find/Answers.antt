@@ -4,11 +4,6 @@ use Rattle.causal_audit.specs.Inside.Look.Looks.{AreThinStretches}
 use Rattle.causal_audit.proofs.index.Filings.{number_below}
 use Rattle.causal_audit.proofs.look.looks.Looks.find.Goals as goal
 
-pub index-requires : goal.index-requires
-index-requires c =
-    let looks = c.args.self.now in
-    omega (arith, looks.each, number_below looks.mentions.now.numbers c.args.det c.in-Some.number (sym c.find.ensures ∙ c.in-Some.is))
-
 pub returns-in-Some : goal.returns-in-Some
 returns-in-Some c r most end are =
     let looks = c.args.self.now in
