@@ -4,25 +4,18 @@ use Rattle.std.proofs.Common.{zero, suc, refl, arith, ap, sym, ◌∙◌, inl, i
 use Rattle.std.specs.List.{range_with_len}
 use Rattle.std.proofs.Math.Seq.{take-suc, take-length}
 use Rattle.std.proofs.lemmas.List.{map-id}
-use Rattle.std.proofs.lemmas.List.FromFn.{map-range_with_len_more}
+use Rattle.std.proofs.lemmas.List.FromFn.{sum_by-map-range_with_len_more}
 use Rattle.std.proofs.lemmas.Bool.{false≢true}
 use Rattle.std.proofs.lemmas.Bool.Decides.{eqb_tells, leb_tells}
-use Rattle.std.proofs.lemmas.List.Sums.{sum_by-append}
 use Rattle.causal_clock.specs.declared.Event.{Event}
 use Rattle.causal_clock.specs.Timeline.{lane_of, lane_length, place_of}
 use Rattle.causal_clock.specs.Precedence.{FirstReach, TellsReach, count_in_lane}
 use Rattle.causal_clock.proofs.Chains.{lane_length-more}
 
-range_more : (n : ℕ) → range_with_len 0 (suc n) ≡ range_with_len 0 n ++ n ∷ []
-range_more n =
-    let next : n + 1 ≡ suc n = omega arith in
-    ap (range_with_len 0) (sym next)
-    ∙ sym (map-id (range_with_len 0 (n + 1)))
-    ∙ map-range_with_len_more (λ x. x) 0 n n (omega arith)
-    ∙ ap (λ xs. xs ++ n ∷ []) (map-id (range_with_len 0 n))
-
 count_more : (p : ℕ → Bool) (n : ℕ) → count_by p (range_with_len 0 (suc n)) ≡ count_by p (range_with_len 0 n) + (if p n then 1 else 0)
-count_more p n = ap (count_by p) (range_more n) ∙ sum_by-append _ (range_with_len 0 n) (n ∷ []) ∙ omega arith
+count_more p n =
+    let next = sum_by-map-range_with_len_more (λ k. if p k then 1 else 0) (λ k. k) 0 n n (omega arith) in
+    ap (λ k. count_by p (range_with_len 0 k)) (let same : suc n ≡ n + 1 = omega arith in same) ∙ (simp map-id at next)
 
 lane_length-next : (es : List Event) (m lane : ℕ) → m < length es → lane_length (take (suc m) es) lane ≡ lane_length (take m es) lane + (if lane_of es m == lane then 1 else 0)
 lane_length-next es m lane h = ap (λ xs. lane_length xs lane) (take-suc es m (record { lane = 0; send = None }) h) ∙ lane_length-more (take m es) _ lane

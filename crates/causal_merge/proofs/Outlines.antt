@@ -49,8 +49,7 @@ header_bad : (d : Data) → fits levels d ≡ false → begins d (codes "recordi
 unfolding header_of
 header_bad d h is = of_line 4 (codes "recording") (λ x. header_of x ≡ Err Form) d h is (λ a b c e x bad name.
     let l : Data = array (item a (item b (item c (item e (item x no_items))))) in
-    process_or 1 l b _ _ refl (fields (codes "recording") a _ refl bad name) (λ h2 process.
-    number_or 2 l c _ _ refl h2 (λ h3 version. number_or 3 l e _ _ refl h3 (λ h4 processes.
+    process_or 1 l b _ _ refl (fields (codes "recording") a _ refl bad name) (λ h2 process. number_or 2 l c _ _ refl h2 (λ h3 version. number_or 3 l e _ _ refl h3 (λ h4 processes.
     stops (u64_at 4 l) _ (u64_bad 2 4 l x refl (last_false (fits 2 x) true refl h4))))))
 
 heard_bad : (d : Data) → fits levels d ≡ false → begins d (codes "heard") 5 ≡ true → heard_of d ≡ Err Form

@@ -1,5 +1,5 @@
 -- Boxes that answer as other values do start the same runs.
-use Rattle.std.proofs.Common.{◌≡◌, ◌∙◌, ◌+◌, ℕ, List, [], ◌∷◌, ◌++◌, map, length, Option, Some, None, sym, ap, ap₂, refl, arith}
+use Rattle.std.proofs.Common.{◌≡◌, ◌∙◌, ◌+◌, ℕ, List, [], ◌∷◌, ◌++◌, map, length, Option, Some, None, sym, ap, ap₂, refl, subst, arith}
 use Rattle.std.specs.List.{range_with_len}
 use Rattle.std.proofs.lemmas.List.{map_push, length-map}
 use Rattle.std.proofs.lemmas.List.FromFn.{map-range_with_len_more, length-map-range_with_len}
@@ -12,9 +12,12 @@ use Rattle.causal_core.specs.Boxes.{Began, box_answers, after}
 use Rattle.causal_core.specs.View.{sent_bodies}
 use Rattle.causal_core.specs.Starts.{opening, with_beginnings}
 use Rattle.causal_script.specs.declared.script.Command.{Command}
+use Rattle.causal_script.specs.declared.script.Script.{Script}
+use Rattle.causal_run.specs.declared.member.Member.{Member}
 use Rattle.causal_run.specs.declared.fault.RunFault.{RunFault}
 use Rattle.causal_run.specs.declared.fault.RunFault.TheVariants as Fault
 use Rattle.causal_run.specs.Runs.{IsStarted, IsRunFrom, Tells}
+use Rattle.causal_run.specs.Members.{IsStartOf, member_answers, members_below}
 
 -- one more box, of the next member
 pub more_members : {B C : Type 0} (of : B → C) (member : ℕ → C) (boxes more : List B) (b : B) (k : ℕ) → more ≡ boxes ++ b ∷ [] → map of boxes ≡ map member (range_with_len 0 k)
@@ -60,6 +63,12 @@ module _ {B C : Type 0} (answers : B → List Input → List (List Outgoing)) (o
     faults = is.faults;
   }
 
+-- boxes that answer as the processes of a script start its runs
+pub starts-members : {B : Type 0} (answers : B → List Input → List (List Outgoing)) (of : B → Member) → ((b : B) (inputs : List Input) → answers b inputs ≡ member_answers (of b) inputs)
+    → (script : Script) (boxes : List B) (count : ℕ) → map of boxes ≡ members_below script.kind script.n script.param count → count ≡ script.n → (r : Run) → IsStarted answers script.f boxes r → IsStartOf script r
+starts-members answers of same script boxes count is all r started =
+    subst (λ (ms : List Member). IsStarted member_answers script.f ms r) (is ∙ ap (members_below script.kind script.n script.param) all) (started-as answers member_answers of same script.f boxes r started)
+
 -- the same run from another kind of start
 pub run-as : (Is Other : Run → Type 0) → ((r : Run) → Is r → Other r) → (commands : List Command) (recording : Recording) → IsRunFrom Is commands recording → IsRunFrom Other commands recording
 run-as Is Other turn commands recording run = record { start = run.start; end = run.end; started = turn run.start run.started; performed = run.performed; recorded = run.recorded }
@@ -71,10 +80,10 @@ told-as Is Other turn commands (Fault.Refused line fault) is = record {
   command = is.command;
   after = is.after;
   split = is.split;
+  started = turn is.start is.started;
   here = is.here;
   start = is.start;
   end = is.end;
-  started = turn is.start is.started;
   performed = is.performed;
   refused = is.refused;
 }

@@ -57,8 +57,7 @@ unfolding deliver_of
 deliver_bad d h is = of_line 4 (codes "deliver") (λ x. deliver_of x ≡ Err Form) d h is (λ a b c e x bad name.
     let l : Data = array (item a (item b (item c (item e (item x no_items))))) in
     process_or 1 l b _ _ refl (fields (codes "deliver") a _ refl bad name) (λ h2 to.
-    number_or 2 l c _ _ refl h2 (λ h3 send. number_or 3 l e _ _ refl h3 (λ h4 rsn.
-    stops (dets_at 4 l) _ (dets_bad 4 l x refl (last_false (fits 2 x) true refl h4))))))
+    number_or 2 l c _ _ refl h2 (λ h3 send. number_or 3 l e _ _ refl h3 (λ h4 rsn. stops (dets_at 4 l) _ (dets_bad 4 l x refl (last_false (fits 2 x) true refl h4))))))
 
 -- a value that does not fit the outline of a line is refused for its form
 pub no_shape : (d : Data) → fits levels d ≡ false → shape_of d ≡ Err Form

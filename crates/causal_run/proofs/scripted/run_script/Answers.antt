@@ -1,11 +1,9 @@
-use Rattle.std.proofs.Common.{◌≡◌, ◌∙◌, refl, ap, subst, map, List, arith}
+use Rattle.std.proofs.Common.{◌≡◌, ◌∙◌, refl, arith}
 use Rattle.std.proofs.lemmas.Result.{IfOk-weaker, IfErr-weaker}
-use Rattle.causal_run.specs.declared.member.Member.{Member}
 use Rattle.causal_run.specs.contracts.member.Member.{the_row}
-use Rattle.causal_run.specs.Runs.{IsStarted}
-use Rattle.causal_run.specs.Members.{member_of, member_answers, members_below}
+use Rattle.causal_run.specs.Members.{member_of}
 use Rattle.causal_run.proofs.Objects.{value_of, made_of, of_each}
-use Rattle.causal_run.proofs.Starts.{started-as, run-as, told-as, more_members, as_many}
+use Rattle.causal_run.proofs.Starts.{starts-members, run-as, told-as, more_members, as_many}
 use Rattle.causal_run.proofs.scripted.run_script.Goals as goal
 
 pub loop-me-preserved : goal.loop-me-preserved
@@ -22,18 +20,10 @@ perform-requires-clause-boxes g c =
 
 pub returns-clause-run : goal.returns-clause-run
 returns-clause-run g c =
-    let script = c.args.script.now in
-    let all : c.loop-me.me ≡ script.n = omega arith in
-    let members : map (λ b. value_of b) c.loop-me.boxes.items ≡ members_below script.kind script.n script.param script.n = c.loop-me.invariant ∙ ap (members_below script.kind script.n script.param) all in
-    IfOk-weaker c.perform.result _ _ (λ trace run. run-as _ _ (λ r is.
-    subst (λ (ms : List Member). IsStarted member_answers script.f ms r) members
-    (started-as _ member_answers (λ b. value_of b) (of_each _ (λ b w inputs. refl)) script.f c.loop-me.boxes.items r is)) script.commands trace.recording run) c.perform.ensures.run
+    IfOk-weaker c.perform.result _ _ (λ trace run. run-as _ _ (starts-members _ (λ b. value_of b) (of_each _ (λ b w inputs. refl)) c.args.script.now c.loop-me.boxes.items c.loop-me.me c.loop-me.invariant (omega arith))
+    c.args.script.now.commands trace.recording run) c.perform.ensures.run
 
 pub returns-clause-refused : goal.returns-clause-refused
 returns-clause-refused g c =
-    let script = c.args.script.now in
-    let all : c.loop-me.me ≡ script.n = omega arith in
-    let members : map (λ b. value_of b) c.loop-me.boxes.items ≡ members_below script.kind script.n script.param script.n = c.loop-me.invariant ∙ ap (members_below script.kind script.n script.param) all in
-    IfErr-weaker c.perform.result _ _ (λ fault told. told-as _ _ (λ r is.
-    subst (λ (ms : List Member). IsStarted member_answers script.f ms r) members
-    (started-as _ member_answers (λ b. value_of b) (of_each _ (λ b w inputs. refl)) script.f c.loop-me.boxes.items r is)) script.commands fault told) c.perform.ensures.refused
+    IfErr-weaker c.perform.result _ _ (λ fault told. told-as _ _ (starts-members _ (λ b. value_of b) (of_each _ (λ b w inputs. refl)) c.args.script.now c.loop-me.boxes.items c.loop-me.me c.loop-me.invariant (omega arith))
+    c.args.script.now.commands fault told) c.perform.ensures.refused

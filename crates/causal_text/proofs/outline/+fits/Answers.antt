@@ -91,9 +91,7 @@ items_fit-items-preserved t c =
 
 pub items_fit-returns-clause-ok : goal.items_fit-returns-clause-ok
 items_fit-returns-clause-ok t c =
-    let p = value c.args.depth in
-    let l = c.items in
-    let n = l.invariant.0 in
+    let p = value c.args.depth in let l = c.items in let n = l.invariant.0 in
     let r = c.take_end_array.new.self in
     l.invariant.2 ∙ ap (parse_map (AllFit c.args.left l.fit l.count)) (items_over p n l.reader r l.invariant.1 (grind arith)) ∙ ap (λ b. Some (l.fit && b, r)) (sym c.may_have.ensures)
 
@@ -132,7 +130,5 @@ pass_members-members-preserved t c =
 
 pub pass_members-returns-clause-ok : goal.pass_members-returns-clause-ok
 pass_members-returns-clause-ok t c =
-    let p = value c.args.depth in
-    let l = c.members in
-    let n = l.invariant.0 in
+    let p = value c.args.depth in let l = c.members in let n = l.invariant.0 in
     (l.invariant.2, l.invariant.3 ∙ members_over p l.invariant.2 n l.reader c.next_key.new.self l.invariant.1 (grind arith))
