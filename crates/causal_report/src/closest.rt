@@ -61,8 +61,8 @@ fn push_sentence(out: &mut String, faults: u16, breach: &Breach) -> Result<(), A
     ensures { OnOk result (Adds out.old out.new (told.failure_sentence faults breach.now)) }
 {
     let line = line_at(breach.delivery);
-    let last = line_before(breach.instant);
     let orphan = breach.orphan;
+    let last = line_before(breach.instant);
     write!(
         out,
         "for f={faults} the delivery of line {line} has an orphan, process {orphan}, once line {last} is read; \

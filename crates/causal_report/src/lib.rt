@@ -21,4 +21,4 @@ pub use drawing::drawing_of;
 pub use excess::excess_text;
 pub use explained::explanation_text;
 pub use json::{ranges_object, verdict_object};
-pub use reason::reason_text;
+pub use reason::{line_with_reason, reason_text};

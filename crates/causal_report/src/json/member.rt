@@ -62,6 +62,16 @@ pub(crate) fn push_quoted(out: &mut Vec<u8>, text: &[u8]) -> Result<(), AllocErr
     out.extend_from_slice(b"\"".as_slice())
 }
 
+fn push_number(out: &mut Vec<u8>, value: &[u8]) -> Result<(), AllocError>
+    ensures { OnOk result (AddsBytes out.old out.new (told.number value.now)) }
+{
+    if value == b"-".as_slice() {
+        out.extend_from_slice(b"null".as_slice())
+    } else {
+        out.extend_from_slice(value)
+    }
+}
+
 fn push_list(out: &mut Vec<u8>, value: &[u8]) -> Result<(), AllocError>
     ensures { OnOk result (AddsBytes out.old out.new (told.list value.now)) }
 {
@@ -71,14 +81,4 @@ fn push_list(out: &mut Vec<u8>, value: &[u8]) -> Result<(), AllocError>
     out.push(b'[')?;
     out.extend_from_slice(value)?;
     out.extend_from_slice(b"]".as_slice())
-}
-
-fn push_number(out: &mut Vec<u8>, value: &[u8]) -> Result<(), AllocError>
-    ensures { OnOk result (AddsBytes out.old out.new (told.number value.now)) }
-{
-    if value == b"-".as_slice() {
-        out.extend_from_slice(b"null".as_slice())
-    } else {
-        out.extend_from_slice(value)
-    }
 }
