@@ -1,8 +1,9 @@
 -- What is known of the entries of a well-formed run.
-use Rattle.causal_audit.proofs.Common.{ℕ, ◌≡◌, ◌<◌, inl, inr, true, false, cond, List, [], ◌∷◌, length, Option, Some, None, refl, subst, arith, ◌==◌, nat_le, option_map_or, false≢true, eqb-true, nat_tests, Pid, Det, Entry, Send, Deliver, Stable, Crash, Restart, Forget, is_down, lane, restarts, listed_in, listed_by, entry_at, is_send_to, is_sent_to, det_of, det_at, first_fault, AreAccepted, actor, is_delivery_of, IsEventOf, Delivers, row_fails, delivers_sent}
+use Rattle.causal_audit.proofs.Common.{ℕ, ◌≡◌, ◌<◌, inl, inr, true, false, cond, List, [], ◌∷◌, length, Option, Some, None, refl, subst, arith, ◌==◌, nat_le, option_map_or, false≢true, eqb-true, nat_tests, Pid, Det, Entry, Send, Deliver, Stable, Crash, Restart, Forget, is_down, lane, restarts, listed_in, listed_by, entry_at, is_send_to, is_sent_to, det_of, det_at, first_fault, AreAccepted, actor, is_delivery_of, IsEventOf, Delivers, row_fails}
 use Rattle.causal_audit.specs.Numbers.{is_delivery}
 use Rattle.causal_trace.specs.Rows.{rows}
 use Rattle.causal_trace.specs.declared.fault.TraceFault.TheVariants.{NotUp, Lanes}
+use Rattle.causal_trace.proofs.Lemmas.Accepted.{delivery_sent}
 use Rattle.causal_trace.proofs.Lemmas.Formed.{within_limits, limits}
 use Rattle.causal_audit.proofs.Shown.{send_inside, deliver_inside}
 
@@ -79,21 +80,11 @@ receiver_event [] j i h = absurd h
 receiver_event (e ∷ past) j i (inl h) = let found = receiver_event past j i h in (found.0, found.1, inl found.2)
 receiver_event (e ∷ past) j i (inr h) = let found = delivering i e h.1 in (found.0, lane past found.0, inr (h.0, found.1, refl))
 
-sender_of : (n : ℕ) (past : List Entry) (e : Entry) (i : ℕ) → first_fault n past e ≡ None → is_delivery_of i e ≡ true → (p : ℕ) × (l : ℕ) × IsEventOf past i p l
-sender_of n past (Send from to ssn) i legal is = absurd (false≢true is)
-sender_of n past (Stable det) i legal is = absurd (false≢true is)
-sender_of n past (Crash who) i legal is = absurd (false≢true is)
-sender_of n past (Restart who listed) i legal is = absurd (false≢true is)
-sender_of n past (Forget who listed) i legal is = absurd (false≢true is)
-sender_of n past (Deliver to send rsn listed) i legal is =
-    let found = sent_event past send to.0 (delivers_sent n past to send rsn listed legal) in
-    (found.0, found.1, subst (λ x. IsEventOf past x found.0 found.1) (eqb-true send i is) found.2)
-
 -- and its sender
 pub sender_event : (n : ℕ) (past : List Entry) → AreAccepted n past → (j i : ℕ) → Delivers past j i → (p : ℕ) × (l : ℕ) × IsEventOf past i p l
 sender_event n [] h j i d = absurd d
 sender_event n (e ∷ past) h j i (inl d) = let found = sender_event n past h.0 j i d in (found.0, found.1, inl found.2)
-sender_event n (e ∷ past) h j i (inr d) = let found = sender_of n past e i h.1 d.1 in (found.0, found.1, inl found.2)
+sender_event n (e ∷ past) h j i (inr d) = let sent = delivery_sent n past e i h.1 d.1 in let found = sent_event past i sent.0 sent.1 in (found.0, found.1, inl found.2)
 
 -- what has a determinant is a delivery, and an event
 pub det_delivers : (past : List Entry) (e : Entry) (d : Det) → det_of past e ≡ Some d → (p : ℕ) × (actor e ≡ Some p) × (is_delivery e ≡ true)

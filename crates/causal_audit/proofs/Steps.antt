@@ -1,5 +1,6 @@
 -- From one instant of a recorded run to the next, by the entry read there.
-use Rattle.causal_audit.proofs.Common.{◌==◌, ◌⊎◌, ℕ, ◌≡◌, ◌+◌, ◌<◌, ◌≤◌, inl, inr, List, None, [], ◌∷◌, length, get_or, reverse, take, Some, sym, ap, subst, ◌∙◌, arith, nat_cmp, FinSet, empty, len, cases_lt, cond-false, cond-true, eqb_tells, entry_beyond, ne_eqb, length-reverse, take_all, count_below, Entry, instant, entry_at, is_down, Recording, IsWellFormed, past_at, entries_of, past_more, count_below-none, read_instant, accepted_then, instants_stay, one_more_instant}
+use Rattle.causal_audit.proofs.Common.{◌==◌, ◌⊎◌, ℕ, ◌≡◌, ◌+◌, ◌<◌, ◌≤◌, inl, inr, List, None, [], ◌∷◌, length, get_or, reverse, take, Some, sym, ap, subst, ◌∙◌, arith, nat_cmp, FinSet, empty, len, cases_lt, cond-false, cond-true, eqb_tells, entry_beyond, ne_eqb, length-reverse, refl, take_all, count_below, Entry, instant, entry_at, is_down, Recording, IsWellFormed, past_at, entries_of, past_more, count_below-none, read_instant, accepted_then, instants_stay, one_more_instant}
+use Rattle.causal_trace.proofs.Lemmas.AtInstants.{found_then}
 use Rattle.causal_audit.specs.Inside.DeliveryStates.{Shows}
 use Rattle.causal_audit.proofs.Between.{next_entry}
 use Rattle.causal_audit.proofs.Shown.{shows_none, down_members, counted}
@@ -48,14 +49,7 @@ entry_read r es read i e below is =
 
 -- an entry before an instant is the same at each later one
 pub entry_then : (past : List Entry) (t v : ℕ) → v < t → t ≤ length past → entry_at (instant past t) v ≡ entry_at past v
-entry_then [] t v below within = absurd (omega (arith, below, within))
-entry_then (e ∷ past) t v below within =
-    elim (cases_lt (length past) t) [
-      | inl h ↦ let is : t ≡ length past + 1 = omega (arith, h, within) in ap (λ u. entry_at (instant (e ∷ past) u) v) is ∙ ap (λ x. entry_at x v) (one_more_instant e past)
-      | inr h ↦
-          ap (λ x. entry_at x v) (instants_stay e past t h) ∙ entry_then past t v below h
-          ∙ sym (cond-false (v == length past) (Some e) (entry_at past v) (ne_eqb v (length past) (λ is. omega (arith, below, h, is))))
-    ]
+entry_then = found_then entry_at (λ past e. Some e) (λ e past k. refl)
 
 -- the first entries make an instant
 pub begins : (r : Recording) (es : List Entry) → es ≡ entries_of r → (t : ℕ) → t ≤ length r.past → past_at (take t es) (length (take t es)) ≡ instant r.past t
