@@ -96,6 +96,15 @@ impl Handle {
         Some(held.into_parts().into_box())
     }
 
+    /// Gives back what is open, if anything is.
+    pub(crate) fn close(&mut self, alloc: Global)
+        ensures { self.new.held.value ≡ None }
+    {
+        if let Some(kept) = self.take(alloc) {
+            drop(kept);
+        }
+    }
+
     /// Puts what is open from now on where nothing is.
     pub(crate) fn fill(&mut self, kept: Box<Kept>)
         requires { self.old.held.value ≡ None }

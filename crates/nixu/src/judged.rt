@@ -10,7 +10,7 @@ use causal_audit::verdict_of;
 use causal_text::{TextFault, TextKind, read_trace};
 use causal_trace::Trace;
 use causal_workers::Judged;
-use std::alloc::{AllocFailed, Global};
+use std::alloc::Global;
 
 /// Why a text got no answer.
 #[derive(Clone, Copy, Debug, PartialEq, Eq)]
@@ -28,17 +28,6 @@ impl From<causal_name::NoMemory> for Failure {
     ghost from_gives = { λ _ told. told ≡ failure.NoMemory };
 
     fn from(_refused: causal_name::NoMemory) -> Failure {
-        Failure::NoMemory
-    }
-}
-
-impl<T: Drop> From<AllocFailed<T>> for Failure {
-    ghost use Rattle.nixu.specs.declared.judged.Failure.TheVariants as failure;
-    ghost use Rattle.std.specs.Prelude.{◌≡◌};
-
-    ghost from_gives = { λ _ told. told ≡ failure.NoMemory };
-
-    fn from(_refused: AllocFailed<T>) -> Failure {
         Failure::NoMemory
     }
 }

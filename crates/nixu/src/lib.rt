@@ -20,6 +20,8 @@ mod judged;
 pub mod kept;
 /// How long a trace may be.
 mod limits;
+/// The numbers of faults.
+mod numbers;
 /// A box as its pointer.
 mod parts;
 /// Texts that come in pieces.
@@ -28,7 +30,7 @@ pub mod reader;
 pub mod recorder;
 /// What is written into a caller's buffer.
 mod room;
-/// Answers, and the numbers of faults.
+/// Answers.
 pub mod status;
 /// Entries, as C has them.
 pub mod step;

@@ -196,7 +196,5 @@ fn finish(alloc: Global, fed: FedReader, faults: &[u16], told: &mut [Summary]) -
 pub extern "C" fn nixu_reader_close(alloc: Global, reader: &mut Handle)
     ensures { reader.new.held.value ≡ None }
 {
-    if let Some(kept) = reader.take(alloc) {
-        drop(kept);
-    }
+    reader.close(alloc);
 }

@@ -11,8 +11,9 @@ use crate::audit::summary_for;
 use crate::held::Handle;
 use crate::kept::Kept;
 use crate::limits::limits_of;
+use crate::numbers::number_of;
 use crate::room::give;
-use crate::status::{CLOSED, FAULT, MISUSED, NO_MEMORY, OK, number_of};
+use crate::status::{CLOSED, FAULT, MISUSED, NO_MEMORY, OK};
 use crate::step::{Determinant, Step, entry_of};
 use crate::summary::Summary;
 use causal_name::NoMemory;
@@ -202,10 +203,7 @@ pub extern "C" fn nixu_trace_audit(
         return CLOSED;
     };
     let status = match &*kept {
-        Kept::Trace {
-            trace: recorded,
-            ..
-        } => tell(alloc, recorded, faults, told),
+        Kept::Trace { trace: so_far, .. } => tell(alloc, so_far, faults, told),
         Kept::Reader(_) => CLOSED,
     };
     trace.fill(kept);
@@ -250,10 +248,7 @@ pub extern "C" fn nixu_trace_text(
         return CLOSED;
     };
     let status = match &*kept {
-        Kept::Trace {
-            trace: recorded,
-            ..
-        } => give_text(alloc, recorded, out, needed),
+        Kept::Trace { trace: so_far, .. } => give_text(alloc, so_far, out, needed),
         Kept::Reader(_) => CLOSED,
     };
     trace.fill(kept);
@@ -280,7 +275,5 @@ fn give_text(alloc: Global, trace: &Trace, out: &mut [u8], needed: &mut usize) -
 pub extern "C" fn nixu_trace_close(alloc: Global, trace: &mut Handle)
     ensures { trace.new.held.value ≡ None }
 {
-    if let Some(kept) = trace.take(alloc) {
-        drop(kept);
-    }
+    trace.close(alloc);
 }

@@ -1,8 +1,4 @@
-//! The numbers by which a call answers, and those of the faults of a text.
-ghost use Rattle.std.specs.Prelude.{◌≡◌};
-ghost use Rattle.nixu.specs.Numbers.{kind_number};
-
-use causal_text::TextKind;
+//! The numbers by which a call answers.
 
 /// The text spells a trace, and the answer is given.
 pub const OK: u32 = 0;
@@ -19,32 +15,3 @@ pub const MISUSED: u32 = 3;
 
 /// No reader, or no trace, is open there.
 pub const CLOSED: u32 = 4;
-
-/// The number of a kind of fault, from 1 in the order of [`TextKind`]; 0 for want of memory, which is no fault of a text.
-pub(crate) fn number_of(kind: TextKind) -> u32
-    ensures { result ≡ kind_number kind }
-{
-    match kind {
-        TextKind::NoMemory => 0,
-        TextKind::After => 1,
-        TextKind::Big => 2,
-        TextKind::Syntax => 3,
-        TextKind::Form => 4,
-        TextKind::Header => 5,
-        TextKind::Version => 6,
-        TextKind::Processes => 7,
-        TextKind::TooLong => 8,
-        TextKind::NoProcess => 9,
-        TextKind::NotUp => 10,
-        TextKind::NotDown => 11,
-        TextKind::Lanes => 12,
-        TextKind::WrongSsn => 13,
-        TextKind::NoSend => 14,
-        TextKind::WrongRsn => 15,
-        TextKind::Doubled => 16,
-        TextKind::Unsorted => 17,
-        TextKind::NoDelivery => 18,
-        TextKind::Count => 19,
-        TextKind::Cut => 20,
-    }
-}

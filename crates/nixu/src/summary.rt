@@ -2,7 +2,7 @@
 ghost use Rattle.std.specs.Prelude.{◌≡◌};
 ghost use Rattle.nixu.specs.Summaries.{flags, summary_of, fault_summary};
 
-use crate::status::number_of;
+use crate::numbers::number_of;
 use causal_audit::Verdict;
 use causal_holders::Holders;
 use causal_text::TextFault;

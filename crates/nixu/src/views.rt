@@ -9,7 +9,7 @@ use crate::judged::{Failure, judged_of, trace_of};
 use crate::room::give;
 use crate::status::{FAULT, NO_MEMORY, OK};
 use causal_name::NoMemory;
-use causal_report::{drawing_of, reason_text};
+use causal_report::{drawing_of, line_with_reason};
 use causal_text::{TextFault, fault_line};
 use causal_trace::Trace;
 use causal_workers::{Judged, verdict_line};
@@ -58,21 +58,6 @@ pub extern "C" fn nixu_explain(
     show(alloc, text, faults, View::Reason, out, needed)
 }
 
-/// Gives the space-time diagram of the run with its verdict, in SVG, as [`nixu_line`] gives its line; of a text with a fault
-/// it gives no bytes, since a fault's line would be a broken picture.
-#[unsafe(no_mangle)]
-pub extern "C" fn nixu_draw(
-    alloc: Global,
-    text: &[u8],
-    faults: u16,
-    out: &mut [u8],
-    needed: &mut usize,
-) -> u32
-    ensures { Answers View.Picture text.now faults result out.old out.new needed.old needed.new }
-{
-    show(alloc, text, faults, View::Picture, out, needed)
-}
-
 fn show(
     alloc: Global,
     text: &[u8],
@@ -112,6 +97,21 @@ fn give_fault(
         }
         Err(NoMemory) => NO_MEMORY,
     }
+}
+
+/// Gives the space-time diagram of the run with its verdict, in SVG, as [`nixu_line`] gives its line; of a text with a fault
+/// it gives no bytes, since a fault's line would be a broken picture.
+#[unsafe(no_mangle)]
+pub extern "C" fn nixu_draw(
+    alloc: Global,
+    text: &[u8],
+    faults: u16,
+    out: &mut [u8],
+    needed: &mut usize,
+) -> u32
+    ensures { Answers View.Picture text.now faults result out.old out.new needed.old needed.new }
+{
+    show(alloc, text, faults, View::Picture, out, needed)
 }
 
 /// What the view shows of a fault: its line, and of that there is no picture.
@@ -158,19 +158,10 @@ fn showing(
 {
     match view {
         View::Line => verdict_line(alloc, faults, judged),
-        View::Reason => reasoned(alloc, trace, faults, judged),
+        View::Reason => {
+            let line = verdict_line(alloc, faults, judged)?;
+            line_with_reason(alloc, line, trace, faults, judged.verdict)
+        }
         View::Picture => drawing_of(alloc, trace, faults, judged.verdict),
     }
-}
-
-/// The line of a verdict, and below it why it is so.
-fn reasoned(alloc: Global, trace: &Trace, faults: u16, judged: &Judged) -> Result<Vec<u8>, NoMemory>
-    requires { IsVerdict trace.now.recording faults judged.now.verdict }
-    ensures { IfOk result
-        (λ bytes. IsShowing View.Reason trace.now.recording faults judged.now bytes.items) }
-{
-    let mut bytes = verdict_line(alloc, faults, judged)?;
-    let reason = reason_text(alloc, trace, faults, judged.verdict)?;
-    bytes.extend_from_slice(reason.as_slice())?;
-    Ok(bytes)
 }
