@@ -182,7 +182,6 @@ fn judged_whole<G: Gate + Sync, R: Threads + Wait>(
 }
 
 /// A law, of a function that does nothing: a breach that a look finds is the verdict of the whole text, where that spells a trace.
-#[tactic(auto, using(crate::proofs::EarlyLemmas::early_is_final))]
 pub fn early_is_final()
     ensures { EarlyIsFinal }
 {}

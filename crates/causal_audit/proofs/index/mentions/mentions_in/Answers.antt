@@ -8,8 +8,6 @@ loop-i-init c = mentions_of_none _ _ c.in_ok-lists.ensures.empty
 
 pub loop-i-preserved : goal.loop-i-preserved
 loop-i-preserved c =
-    let entries = c.args.entries.now in
-    let i = c.loop-i.i in
-    let below : i < length entries = c.loop-i-test.true in
-    subst (λ past. AreMentions past c.note.new.self.numbers c.note.new.self.lists) (sym (past_more entries i c.index-entries-i.result below c.index-entries-i.is))
-    (c.in_ok-note.ensures (past_at entries i) (past_length entries i (omega (arith, below))) c.loop-i.invariant)
+    let below : c.loop-i.i < length c.args.entries.now = c.loop-i-test.true in
+    subst (λ past. AreMentions past c.note.new.self.numbers c.note.new.self.lists) (sym (past_more c.args.entries.now c.loop-i.i c.index-entries-i.result below c.index-entries-i.is))
+    (c.in_ok-note.ensures (past_at c.args.entries.now c.loop-i.i) (past_length c.args.entries.now c.loop-i.i (omega (arith, below))) c.loop-i.invariant)

@@ -6,8 +6,7 @@ use Rattle.causal_audit.proofs.index.mentions.Mentions.note.Goals as goal
 pub returns : goal.returns
 returns c =
     on_ok c.add_each.result (λ added past long are.
-    let mentions = c.add_each.new.self in
-    mentions_done c.args.entry.now past mentions.numbers mentions.lists
-    (subst (λ ds. AreMentionsWith past ds mentions.numbers mentions.lists) c.mentioned.ensures
+    mentions_done c.args.entry.now past c.add_each.new.self.numbers c.add_each.new.self.lists
+    (subst (λ ds. AreMentionsWith past ds c.add_each.new.self.numbers c.add_each.new.self.lists) c.mentioned.ensures
     (added past long (mentions_begun past c.args.self.now.numbers c.args.self.now.lists are))))
     c.add_each.ensures

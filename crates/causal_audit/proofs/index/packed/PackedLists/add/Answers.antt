@@ -6,13 +6,11 @@ use Rattle.causal_audit.proofs.index.packed.PackedLists.add.Goals as goal
 
 pub returns-clause-added : goal.returns-clause-added
 returns-clause-added c =
-    let inside = c.self.inside in
-    let there : c.args.number < length inside.spans.items = omega (arith, subst (λ lists. c.args.number < length lists) (sym c.self.view_is) c.requires, length-map inside.spans.items (list_in inside.positions.items)) in
-    packed_more inside.positions.items inside.spans.items c.args.number c.args.position c.index.result.now _ c.self.invariant there c.index.ensures c.if-end-limit.false refl refl refl
+    let there : c.args.number < length c.self.inside.spans.items = omega (arith, subst (λ lists. c.args.number < length lists) (sym c.self.view_is) c.requires, length-map c.self.inside.spans.items (list_in c.self.inside.positions.items)) in
+    packed_more c.self.inside.positions.items c.self.inside.spans.items c.args.number c.args.position c.index.result.now _ c.self.invariant there c.index.ensures c.if-end-limit.false refl refl refl
     ∙ ap (λ lists. with_added lists c.args.number c.args.position) c.self.view_is
 
 pub invariant_of-self : goal.invariant_of-self
 invariant_of-self c =
-    let inside = c.self.inside in
-    let there : c.args.number < length inside.spans.items = omega (arith, subst (λ lists. c.args.number < length lists) (sym c.self.view_is) c.requires, length-map inside.spans.items (list_in inside.positions.items)) in
-    packed_still inside.positions.items inside.spans.items c.args.number c.args.position c.index.result.now _ c.self.invariant there c.index.ensures c.if-end-limit.false refl refl refl
+    let there : c.args.number < length c.self.inside.spans.items = omega (arith, subst (λ lists. c.args.number < length lists) (sym c.self.view_is) c.requires, length-map c.self.inside.spans.items (list_in c.self.inside.positions.items)) in
+    packed_still c.self.inside.positions.items c.self.inside.spans.items c.args.number c.args.position c.index.result.now _ c.self.invariant there c.index.ensures c.if-end-limit.false refl refl refl
