@@ -40,3 +40,8 @@ returns-clause-safe g c =
     let r = run_of c.in_ok-finished.finished.core in
     let opens = opened-as r history (opening_of c.in_ok-shared.shared) (run_of c.in_ok-core.core) c.in_ok-finished.ensures.opening c.in_ok-shared.ensures.recording c.in_ok-shared.ensures.faults in
     safe-as _ c.args.script.now.f c.args.boxes.items (state_of c.in_ok-core.core) r history c.into_trace.result.recording c.in_ok-core.ensures.ok opens c.in_ok-finished.ensures.safe c.into_trace.ensures
+
+pub invariant_of-finished : goal.invariant_of-finished
+invariant_of-finished g c =
+    let core = c.in_ok-finished.finished.core in
+    record { filled = core.filled; stored = core.stored; remembered = core.remembered; kept = core.kept }
