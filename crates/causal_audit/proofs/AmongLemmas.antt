@@ -6,7 +6,7 @@ use Rattle.causal_audit.specs.Numbers.{IsNumbered}
 use Rattle.causal_audit.specs.Breaches.{IsFirstBreach, LeastBreachBy}
 use Rattle.causal_audit.specs.Inside.Among.{FirstBreachBy, HasNoOrphanBy, IsLeastAmong, LeastAmongBy, horizon}
 use Rattle.causal_audit.proofs.Lemmas.NumberLemmas.{has_number}
-use Rattle.causal_audit.proofs.Numbered.{numbered_later, numbered_below, numbered_one, numbered_some}
+use Rattle.causal_audit.proofs.DeliveryNumbers.{numbered_later, numbered_below, numbered_one, numbered_some}
 
 -- what is no earlier than a is no earlier than what comes before a
 pub before_least : (a b : Breach) (k t : ℕ) → comes_before b a ≡ true → (a.instant ≤ t) × (a.instant ≡ t → a.delivery ≤ k) → (b.instant ≤ t) × (b.instant ≡ t → b.delivery ≤ k)

@@ -6,7 +6,7 @@ use Rattle.causal_audit.proofs.Shown.{inserted, removed}
 use Rattle.causal_audit.specs.Laws.{gone, IsExposed}
 use Rattle.causal_audit.specs.declared.delivery_state.DeliveryState.{DeliveryState}
 use Rattle.causal_audit.specs.Quiet.{is_turn, mentioned_by, IsQuiet, AreQuiet, Agree, InstantsAgree, OrphansAgree}
-use Rattle.causal_audit.proofs.Lemmas.Judged.{exposed, unexposed}
+use Rattle.causal_audit.proofs.Lemmas.OrphansByCounts.{exposed, unexposed}
 
 -- ==== what one more entry makes of who depends on a delivery
 

@@ -18,7 +18,7 @@ pub use Rattle.causal_name.specs.declared.Pid.{Pid}
 pub use Rattle.causal_name.specs.declared.Det.{Det}
 pub use Rattle.causal_name.specs.Names.{same_det}
 pub use Rattle.causal_name.specs.Sets.{count_below, IsWithin}
-pub use Rattle.causal_holders.proofs.Lemmas.Counting.{count_below-within, count_below-le, members_counted, count_below-none}
+pub use Rattle.causal_holders.proofs.Lemmas.MemberCounts.{count_below-within, count_below-le, members_counted, count_below-none}
 pub use Rattle.causal_trace.specs.declared.entry.Entry.{Entry}
 pub use Rattle.causal_trace.specs.declared.entry.Entry.TheVariants.{Send, Deliver, Stable, Crash, Restart, Forget}
 pub use Rattle.causal_trace.specs.Past.{instant, deliveries_in, det_at, is_down, lane, entry_at, is_stable, logs, has, restarts, listed_in, listed_by, is_send_to, is_sent_to, det_of, det_from, message_sent, message_at}
@@ -27,7 +27,7 @@ pub use Rattle.causal_trace.specs.Rows.{Recording, AreAccepted, first_fault, IsW
 pub use Rattle.causal_trace.specs.Limits.{max_entries}
 pub use Rattle.causal_trace.specs.Dependence.{actor, IsEventOf, DirectlyPrecedes, in_order, by_message, Reaches, itself, onward, Depends, is_delivery_of, Delivers}
 pub use Rattle.causal_trace.specs.Judgement.{HasOrphan, IsCrashSet, IsOrphan, IsSafe}
-pub use Rattle.causal_trace.proofs.Lemmas.Accepted.{accepted_forward, delivers_up, row_fails, delivers_sent, sent_within}
+pub use Rattle.causal_trace.proofs.Lemmas.EntryFacts.{accepted_forward, delivers_up, row_fails, delivers_sent, sent_within}
 pub use Rattle.causal_trace.proofs.Lemmas.Instants.{det_beyond, past_more, past_length, entry_beyond, past_whole}
 pub use Rattle.causal_trace.proofs.Lemmas.AtInstants.{instants_stay, one_more_instant, last_instant, accepted_then, det_then, det_within, instant_length, read_instant}
-pub use Rattle.causal_trace.proofs.Lemmas.Reached.{event_below, reaches_old, depends_restarted, reaches_begins, reaches_newest, ReachesNewest, is_newest, in_lane, through_message, event_lane}
+pub use Rattle.causal_trace.proofs.Lemmas.DependenceSteps.{event_below, reaches_old, depends_restarted, reaches_begins, reaches_newest, ReachesNewest, is_newest, in_lane, through_message, event_lane}

@@ -5,8 +5,8 @@ use Rattle.causal_audit.specs.declared.delivery_state.DeliveryState.{DeliverySta
 use Rattle.causal_audit.specs.Inside.DeliveryStates.{IsDeliveryState, IsUnheard, Shows}
 use Rattle.causal_audit.specs.Laws.{gone}
 use Rattle.causal_audit.specs.Verdicts.{IsLeastOrphan}
-use Rattle.causal_audit.proofs.look.Staying.{gone_many, gone_shown}
-use Rattle.causal_audit.proofs.Lemmas.Judged.{exposed, crash_contains, orphan_without, gone_crash, gone_orphan}
+use Rattle.causal_audit.proofs.look.CoverStays.{gone_many, gone_shown}
+use Rattle.causal_audit.proofs.Lemmas.OrphansByCounts.{exposed, crash_contains, orphan_without, gone_crash, gone_orphan}
 use Rattle.causal_audit.proofs.Legal.{event_inside}
 use Rattle.causal_audit.proofs.Shown.{shows_none, down_inside, logs_inside, parts}
 

@@ -3,8 +3,8 @@ use Rattle.causal_audit.proofs.Common.{ℕ, ◌≡◌, ◌<◌, inl, inr, true, 
 use Rattle.causal_audit.specs.Numbers.{is_delivery}
 use Rattle.causal_trace.specs.Rows.{rows}
 use Rattle.causal_trace.specs.declared.fault.TraceFault.TheVariants.{NotUp, Lanes}
-use Rattle.causal_trace.proofs.Lemmas.Accepted.{delivery_sent}
-use Rattle.causal_trace.proofs.Lemmas.Formed.{within_limits, limits}
+use Rattle.causal_trace.proofs.Lemmas.EntryFacts.{delivery_sent}
+use Rattle.causal_trace.proofs.Lemmas.WellFormed.{within_limits, limits}
 use Rattle.causal_audit.proofs.Shown.{send_inside, deliver_inside}
 
 module _ (n : ℕ) (past : List Entry) where

@@ -1,6 +1,6 @@
 -- What crates above may cite of this crate's proofs.
 pub mod Beginnings
-pub mod Judged
+pub mod OrphansByCounts
 pub mod NumberLemmas
 pub mod OneVerdict
 pub mod Parts

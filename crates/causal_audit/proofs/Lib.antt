@@ -7,8 +7,8 @@ mod Exposure
 mod HeldOutside
 mod Swept
 mod Legal
-mod Numbered
-mod Orphaned
+mod DeliveryNumbers
+mod NoOrphanSoFar
 mod Shown
 mod Steps
 mod VerdictLemmas

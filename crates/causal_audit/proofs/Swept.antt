@@ -5,8 +5,8 @@ use Rattle.causal_audit.proofs.by_clock.Link.{delivers_below}
 use Rattle.causal_audit.specs.Laws.{gone}
 use Rattle.causal_audit.specs.Lasting.{may_release}
 use Rattle.causal_audit.specs.Sweep.{MayNewlyFail, SweepLaw, OneNewOrphan}
-use Rattle.causal_audit.proofs.Lemmas.Judged.{exposed, unexposed, orphan_without}
-use Rattle.causal_audit.proofs.look.Staying.{stable_more, gone_more}
+use Rattle.causal_audit.proofs.Lemmas.OrphansByCounts.{exposed, unexposed, orphan_without}
+use Rattle.causal_audit.proofs.look.CoverStays.{stable_more, gone_more}
 use Rattle.causal_audit.proofs.Legal.{sends_up}
 
 -- ==== whether an event reaches another, and whether a process depends on a delivery, is decided

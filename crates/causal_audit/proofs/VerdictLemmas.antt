@@ -7,7 +7,7 @@ use Rattle.causal_audit.specs.Numbers.{IsNumbered}
 use Rattle.causal_audit.specs.Verdicts.{IsVerdict}
 use Rattle.causal_audit.specs.Breaches.{LeastBreach, LeastBreachBy, IsLeastBreach, FirstExcess, IsFirstExcess}
 use Rattle.causal_audit.proofs.Lemmas.NumberLemmas.{has_number}
-use Rattle.causal_audit.proofs.Numbered.{numbered_later, numbered_below}
+use Rattle.causal_audit.proofs.DeliveryNumbers.{numbered_later, numbered_below}
 
 module _ (r : Recording) (f : ℕ) where
   -- no delivery has an orphan before the instant t

@@ -1,4 +1,4 @@
 pub mod Begun
 pub mod Link
-pub mod Mirrored
-pub mod Reached
+pub mod ClockEvents
+pub mod ReachedEntries

@@ -1,3 +1,3 @@
 pub mod GroupWalk
-pub mod Reaching
-pub mod Opened
+pub mod GroupReach
+pub mod OpenPositions

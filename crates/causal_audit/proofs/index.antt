@@ -1,7 +1,7 @@
 pub mod Cursors
 pub mod Filings
-pub mod Indexed
-mod Packing
+pub mod MessageChains
+mod PackedSpans
 pub mod Reachable
 pub mod Receivers
-pub mod Turned
+pub mod DownAfterTurns

@@ -1,4 +1,4 @@
-pub mod Looked
-pub mod Staying
-pub mod Thinned
-pub mod Uncovered
+pub mod LookSteps
+pub mod CoverStays
+pub mod LookFindings
+pub mod SurveyGathers

@@ -21,7 +21,7 @@ pub fn first_excess(tables: &Tables, f: u16) -> Option<Excess>
 }
 
 /// How the delivery at position k first has an orphan, if it has one by the instant `end`.
-#[tactic(auto, using(crate::proofs::Numbered::numbered_some))]
+#[tactic(auto, using(crate::proofs::DeliveryNumbers::numbered_some))]
 fn first_breach_at(tables: &Tables, f: u16, end: u32, k: u32) -> Option<Breach>
     requires delivery { (i : ℕ) × IsNumbered tables.now.past i k }
     requires within { end ≤ length tables.now.past }

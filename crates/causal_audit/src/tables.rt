@@ -72,7 +72,7 @@ impl Tables {
     }
 
     /// How many deliveries the run has; they are numbered from 0 in their order.
-    #[tactic(auto, using(crate::proofs::Numbered::deliveries_few))]
+    #[tactic(auto, using(crate::proofs::DeliveryNumbers::deliveries_few))]
     pub fn deliveries(&self) -> u32
         ensures value { result ≡ deliveries_in self.now.past }
         ensures formed { IsWellFormed self.now }

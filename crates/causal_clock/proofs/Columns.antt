@@ -11,7 +11,7 @@ use Rattle.std.proofs.lemmas.List.{get_or-drop, length-drop, take_all}
 use Rattle.causal_clock.specs.declared.Rise.{Rise}
 use Rattle.causal_clock.specs.Rises.{rise_at, count_at, RisesStrictly}
 use Rattle.causal_clock.specs.Inside.Columns.{IsParted, IsColumn, TellsAlike, raised}
-use Rattle.causal_clock.proofs.Lemmas.Counted.{IsCountOf, rise_counts, count_risen}
+use Rattle.causal_clock.proofs.Lemmas.RiseCounts.{IsCountOf, rise_counts, count_risen}
 
 -- ---- the count at a place
 

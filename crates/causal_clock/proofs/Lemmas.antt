@@ -1,2 +1,2 @@
 -- Lemmas that other crates cite in their proofs.
-pub mod Counted
+pub mod RiseCounts

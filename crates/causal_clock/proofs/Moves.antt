@@ -17,7 +17,7 @@ use Rattle.causal_clock.specs.Inside.Lanes.{rises_in, SameColumns}
 use Rattle.causal_clock.specs.Inside.Fields.{count_told, counts_in, KeepsColumns}
 use Rattle.causal_clock.proofs.Fields.{events_in, places_in, as_many_events, as_many_places, keeps_same, keeps_open, no_events}
 use Rattle.causal_clock.proofs.Lanes.{as_many, told_was, told_same, column_here, column_elsewhere, column_was, columns_same, column_more}
-use Rattle.causal_clock.proofs.Rising.{keeps_next}
+use Rattle.causal_clock.proofs.ColumnRises.{keeps_next}
 
 abbrev pub lengths_in : List Lane → List ℕ
 lengths_in xs = map (λ x. x.events) xs

@@ -1,4 +1,4 @@
-mod Accepting
+mod SafeAccepts
 mod JsonLemmas
 mod Known
 mod MergeLemmas

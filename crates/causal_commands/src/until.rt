@@ -142,7 +142,8 @@ fn early_line(alloc: Global, f: u16, judged: &Judged) -> Result<Vec<u8>, NoMemor
 }
 
 fn read_field(alloc: Global, entries: u32) -> Result<String, AllocError>
-    ensures { IfOk result (λ field. string_bytes field ≡ codes " read=" ++ (decimal entries ++ codes "\n")) }
+    ensures { IfOk result (λ field. string_bytes field ≡
+        codes " read=" ++ (decimal entries ++ codes "\n")) }
 {
     format!(in alloc; " read={entries}\n")
 }

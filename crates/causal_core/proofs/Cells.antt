@@ -11,7 +11,7 @@ use Rattle.causal_protocol.specs.Memory.{Memory, Memories, at}
 use Rattle.causal_protocol.specs.Naming.{if_to, kept_for, name}
 use Rattle.causal_core.specs.Inside.Memories.{memory_of, memories_in, memory_at, bodies_of, bodies_in, no_room, room_of, rooms_in, room_at}
 use Rattle.causal_core.specs.View.{body_in, with_bodies}
-use Rattle.causal_core.proofs.Sending.{set_same}
+use Rattle.causal_core.proofs.RuntimeSend.{set_same}
 
 pub get-map : {X Y : Type 0} (f : X → Y) (xs : List X) (p : ℕ) → slice_get (map f xs) p ≡ option_map f (slice_get xs p)
 get-map f [] p = refl

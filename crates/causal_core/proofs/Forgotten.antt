@@ -18,7 +18,7 @@ use Rattle.causal_trace.specs.declared.entry.Entry.TheVariants.{Forget}
 use Rattle.causal_trace.specs.Past.{has, is_down, is_delivered}
 use Rattle.causal_trace.specs.Rows as Rows
 use Rattle.causal_trace.specs.Rows.{are_delivered}
-use Rattle.causal_trace.proofs.Lemmas.Formed.{formed_push}
+use Rattle.causal_trace.proofs.Lemmas.WellFormed.{formed_push}
 use Rattle.causal_protocol.specs.declared.request.Request.TheVariants as Ask
 use Rattle.causal_protocol.specs.declared.request.Reply.TheVariants as Told
 use Rattle.causal_protocol.specs.Memory.{Memory, Memories, at, changed, with_log}
@@ -28,12 +28,12 @@ use Rattle.causal_protocol.specs.Refusals.{rows, first_fault, is_full, forgettab
 use Rattle.causal_protocol.specs.Steps.{LegalStep, Steps, extended, forget_entries, told_forget}
 use Rattle.causal_protocol.specs.declared.request.CoreFault.{CoreFault}
 use Rattle.causal_trace.specs.Past.{is_stable}
-use Rattle.causal_core.proofs.Filled.{changed_up}
+use Rattle.causal_core.proofs.UpAfterStep.{changed_up}
 use Rattle.causal_core.specs.Inside.Facts.{Fits, FitsAt, AllFit, IsHeld}
-use Rattle.causal_core.proofs.Fitting.{is_of, fits_other, all_fit_set, delivered_more, placed_more}
-use Rattle.causal_core.proofs.Writing.{logged_passes}
-use Rattle.causal_core.proofs.Flushing.{all_from}
-use Rattle.causal_core.proofs.Forgetting.{forgets_marked, get_unmarked, has_marked}
+use Rattle.causal_core.proofs.MemoriesFit.{is_of, fits_other, all_fit_set, delivered_more, placed_more}
+use Rattle.causal_core.proofs.FlushWrites.{logged_passes}
+use Rattle.causal_core.proofs.FlushSteps.{all_from}
+use Rattle.causal_core.proofs.ForgetKeeps.{forgets_marked, get_unmarked, has_marked}
 use Rattle.causal_core.proofs.Legal.{row_none, when_false, there, fits_up}
 
 kept_some : (P : Known → Bool) (o : Option Known) → is_some (kept_if P o) ≡ true → is_some o ≡ true

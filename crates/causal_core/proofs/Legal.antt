@@ -12,7 +12,7 @@ use Rattle.causal_trace.specs.declared.entry.Entry.TheVariants.{Crash}
 use Rattle.causal_trace.specs.Past.{is_down}
 use Rattle.causal_trace.specs.Rows as Rows
 use Rattle.causal_trace.specs.Rows.{IsWellFormed}
-use Rattle.causal_trace.proofs.Lemmas.Formed.{formed_push, formed_short}
+use Rattle.causal_trace.proofs.Lemmas.WellFormed.{formed_push, formed_short}
 use Rattle.causal_protocol.specs.declared.request.CoreFault.{CoreFault}
 use Rattle.causal_protocol.specs.declared.request.CoreFault.TheVariants as Why
 use Rattle.causal_protocol.specs.declared.request.Request.{Request}
@@ -26,7 +26,7 @@ use Rattle.causal_protocol.specs.Refusals.{rows, first_of, first_fault, is_long,
 use Rattle.causal_protocol.specs.Steps.{reason_of, extended}
 use Rattle.causal_protocol.proofs.Lemmas.Reasons.{reason_known}
 use Rattle.causal_core.specs.Inside.Facts.{FitsAt, AllFit, IsHeld}
-use Rattle.causal_core.proofs.Fitting.{is_of, fits_other, all_fit_set}
+use Rattle.causal_core.proofs.MemoriesFit.{is_of, fits_other, all_fit_set}
 
 none_first : (row : Option CoreFault) (rest : List (Option CoreFault)) → first_of (row ∷ rest) ≡ None → (row ≡ None) × (first_of rest ≡ None)
 none_first None rest h = (refl, h)

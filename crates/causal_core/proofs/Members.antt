@@ -14,7 +14,7 @@ use Rattle.causal_protocol.specs.Memory.{Kept, Memory, Memories, at, kept_by}
 use Rattle.causal_protocol.specs.Naming.{name, if_to, kept_for, has_received}
 use Rattle.causal_core.specs.Pendings.{is_pending, names_sent, names_from, PendingAreThese}
 use Rattle.causal_core.proofs.Cells.{get_within}
-use Rattle.causal_core.proofs.Sending.{eqb_refl}
+use Rattle.causal_core.proofs.RuntimeSend.{eqb_refl}
 
 same_is : (a b : MsgName) → same_message a b ≡ true → a ≡ b
 same_is a b h =

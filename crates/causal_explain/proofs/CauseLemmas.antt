@@ -6,16 +6,16 @@ use Rattle.std.proofs.lemmas.Bool.Decides.{eqb_tells}
 use Rattle.causal_name.specs.declared.Pid.{Pid}
 use Rattle.causal_name.specs.declared.Det.{Det}
 use Rattle.causal_name.specs.Sets.{any_below, count_below}
-use Rattle.causal_holders.proofs.Lemmas.Counting.{any_below-from, count_below-none, count_below-within}
+use Rattle.causal_holders.proofs.Lemmas.MemberCounts.{any_below-from, count_below-none, count_below-within}
 use Rattle.causal_trace.specs.declared.entry.Entry.{Entry}
 use Rattle.causal_trace.specs.declared.entry.Entry.TheVariants.{Send, Deliver, Stable, Crash, Restart, Forget}
 use Rattle.causal_trace.specs.Dependence.{AreForward, actor, Depends}
 use Rattle.causal_trace.specs.Judgement.{IsCrashSet, IsOrphan, HasOrphan, IsSafe}
 use Rattle.causal_trace.specs.Past.{instant, det_at, det_of, has, is_down, lane, logs}
 use Rattle.causal_trace.specs.Rows.{AreAccepted, Recording}
-use Rattle.causal_trace.proofs.Lemmas.Accepted.{accepted_forward}
+use Rattle.causal_trace.proofs.Lemmas.EntryFacts.{accepted_forward}
 use Rattle.causal_trace.proofs.Lemmas.AtInstants.{accepted_then, instant_length}
-use Rattle.causal_trace.proofs.Lemmas.Reached.{depends_old, depends_restarted, reaches_begins}
+use Rattle.causal_trace.proofs.Lemmas.DependenceSteps.{depends_old, depends_restarted, reaches_begins}
 use Rattle.causal_audit.specs.Laws.{gone}
 use Rattle.causal_audit.specs.Sweep.{MayNewlyFail, SweepLaw, OneNewOrphan}
 use Rattle.causal_audit.specs.Verdicts.{IsVerdict}

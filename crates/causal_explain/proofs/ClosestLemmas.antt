@@ -4,7 +4,7 @@ use Rattle.std.specs.Ordering.{nat_cmp}
 use Rattle.std.specs.FinSet.{FinSet, contains, len}
 use Rattle.std.proofs.lemmas.Bool.{cases_lt}
 use Rattle.causal_name.specs.Sets.{count_below}
-use Rattle.causal_holders.proofs.Lemmas.Counting.{count_below-le, members_counted}
+use Rattle.causal_holders.proofs.Lemmas.MemberCounts.{count_below-le, members_counted}
 use Rattle.causal_trace.specs.declared.entry.Entry.{Entry}
 use Rattle.causal_trace.specs.Past.{instant, deliveries_in}
 use Rattle.causal_trace.specs.Rows.{Recording}

@@ -5,7 +5,7 @@ use Rattle.causal_trace.specs.declared.entry.Entry.{Entry}
 use Rattle.causal_trace.specs.Past.{lane}
 use Rattle.causal_trace.specs.Agree.{IsPath}
 use Rattle.causal_trace.specs.Dependence.{AreForward, actor, IsEventOf, Delivers, DirectlyPrecedes, in_order, by_message}
-use Rattle.causal_trace.proofs.Lemmas.Reached.{event_below}
+use Rattle.causal_trace.proofs.Lemmas.DependenceSteps.{event_below}
 use Rattle.causal_explain.specs.Inside.Ways.{Comes, at_once, onward, PrecedesNext}
 
 event_old : (e : Entry) (past : List Entry) (i p l : ℕ) → i < length past → IsEventOf (e ∷ past) i p l → IsEventOf past i p l

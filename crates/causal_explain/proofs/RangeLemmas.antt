@@ -3,7 +3,7 @@ use Rattle.std.proofs.Common.{ℕ, ◌≡◌, ◌<◌, ◌≤◌, ◌+◌, inl, 
 use Rattle.std.specs.Ordering.{nat_cmp}
 use Rattle.std.specs.FinSet.{FinSet, contains}
 use Rattle.std.proofs.lemmas.Bool.{cases_lt}
-use Rattle.causal_holders.proofs.Lemmas.Counting.{count_below-le}
+use Rattle.causal_holders.proofs.Lemmas.MemberCounts.{count_below-le}
 use Rattle.causal_trace.specs.Past.{instant, is_down, deliveries_in}
 use Rattle.causal_trace.specs.Rows.{Recording}
 use Rattle.causal_trace.specs.Judgement.{IsSafeTrace}

@@ -16,7 +16,7 @@ use Rattle.causal_trace.specs.State.{past_at}
 use Rattle.causal_trace.proofs.Lemmas.AtInstants.{at_instant}
 use Rattle.causal_trace.proofs.Lemmas.Instants.{instant_past}
 use Rattle.causal_trace.specs.Dependence.{AreForward, actor, DirectlyPrecedes, IsEventOf}
-use Rattle.causal_trace.proofs.Lemmas.Reached.{event_below, event_lane}
+use Rattle.causal_trace.proofs.Lemmas.DependenceSteps.{event_below, event_lane}
 use Rattle.causal_explain.specs.declared.ways.Reached.{Reached}
 use Rattle.causal_explain.specs.declared.ways.Way.{Way}
 use Rattle.causal_explain.specs.Inside.Ways.{AreNearest, AreWays, Comes, at_once, onward, IsLeast, IsWay, Nearest, PrecedesNext, TellsWay, nearer}

@@ -1,3 +1,3 @@
 -- What crates above may cite of this crate's proofs.
-pub mod Counting
+pub mod MemberCounts
 pub mod Sets

@@ -8,7 +8,7 @@ use Rattle.std.proofs.lemmas.List.Sums.{length-filter}
 use Rattle.std.proofs.lemmas.List.FromFn.{length-range_with_len, get_or-range_with_len, sum_by-map-range_with_len_more}
 use Rattle.std.proofs.lemmas.List.{map-id}
 use Rattle.causal_name.specs.Sets.{count_below}
-use Rattle.causal_holders.proofs.Lemmas.Counting.{len_counted}
+use Rattle.causal_holders.proofs.Lemmas.MemberCounts.{len_counted}
 use Rattle.std.specs.Ordering.{nat_cmp}
 use Rattle.std.specs.Cmp.{nat_cmp_total, unsigned_tied}
 use Rattle.std.specs.FinSet.{FinSet, empty, remove, contains, len, contains-empty, contains-remove}

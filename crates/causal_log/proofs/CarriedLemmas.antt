@@ -17,7 +17,7 @@ use Rattle.causal_log.specs.declared.carried.Carried.{Carried}
 use Rattle.causal_log.specs.Inside.Carried.{is_open, open_in, IsCarried, as_marked, Carries}
 use Rattle.causal_log.proofs.Lemmas.Ascents.{filter_ascends}
 use Rattle.causal_log.proofs.Lemmas.ChosenLemmas.{dets_of_items}
-use Rattle.causal_log.proofs.Lemmas.Marking.{get_marked}
+use Rattle.causal_log.proofs.Lemmas.MarkedLogs.{get_marked}
 use Rattle.causal_log.proofs.MergeLemmas.{entries_of, entry_of, carried_of, found_chosen, recognized}
 
 -- a filter of determinants leaves ascending items of what messages carry

@@ -26,7 +26,7 @@ use Rattle.causal_log.proofs.EntryLemmas.{below, get_log, same_log, own_entries,
 use Rattle.causal_log.proofs.TableLemmas.{lookup_missing}
 use Rattle.causal_log.proofs.Lemmas.Ascents.{ascending_tail, ascending_skip, first_before, filter_ascends}
 use Rattle.causal_log.proofs.Lemmas.ChosenLemmas.{chosen_ascend}
-use Rattle.causal_log.proofs.Lemmas.Learning.{get_learned}
+use Rattle.causal_log.proofs.Lemmas.KnowledgeGrows.{get_learned}
 use Rattle.causal_log.proofs.Lemmas.Searches.{any_map, before_apart, both, find_kept, kept_if, or_nothing, shown, same_turned}
 
 fewer : (a b f : ℕ) → a ≤ b → nat_le b f ≡ true → nat_le a f ≡ true

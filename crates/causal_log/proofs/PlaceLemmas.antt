@@ -25,7 +25,7 @@ use Rattle.causal_log.specs.Inside.Ranks.{has_rank}
 use Rattle.causal_log.proofs.EntryLemmas.{det_equiv, find_lookup, get_log, same_log, strict, nothing, not_itself, not_after}
 use Rattle.causal_log.proofs.IndexLemmas.{stands}
 use Rattle.causal_log.proofs.Lemmas.Ascents.{ascending_tail, ascending_skip, first_before, map_ascends}
-use Rattle.causal_log.proofs.Lemmas.Learning.{get_learned}
+use Rattle.causal_log.proofs.Lemmas.KnowledgeGrows.{get_learned}
 use Rattle.causal_log.proofs.Lemmas.Places.{place_shown}
 use Rattle.causal_log.proofs.Lemmas.Searches.{both}
 use Rattle.causal_log.proofs.Lemmas.Slots.{first_fits, none_fits}

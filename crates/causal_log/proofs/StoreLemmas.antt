@@ -10,7 +10,7 @@ use Rattle.causal_log.specs.declared.known.Known.{Known}
 use Rattle.causal_log.specs.Logs.{log_of}
 use Rattle.causal_log.specs.Stores.{set_of, has}
 use Rattle.causal_log.proofs.EntryLemmas.{get_log}
-use Rattle.causal_log.proofs.Lemmas.Storing.{has_list}
+use Rattle.causal_log.proofs.Lemmas.StoreSets.{has_list}
 
 -- what is made of something is there where that is
 pub some_of : {X Y : Type 0} (f : X → Y) (o : Option X) → is_some (option_map f o) ≡ is_some o

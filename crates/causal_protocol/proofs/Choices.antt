@@ -21,7 +21,7 @@ use Rattle.causal_log.specs.Knowledge.{nothing_known, is_carried, as_stable}
 use Rattle.causal_log.specs.Logs.{LogMap, known_of, item_of, is_chosen, chosen, stable_in, marked, mark, dets_of, unstable_in}
 use Rattle.causal_log.specs.Stores.{DetSet, with_det}
 use Rattle.causal_log.specs.Stores as store
-use Rattle.causal_log.proofs.Lemmas.Choosing.{carried, swap_first}
+use Rattle.causal_log.proofs.Lemmas.MessageItems.{carried, swap_first}
 use Rattle.causal_log.proofs.Lemmas.Searches.{any_map, any_kept, any_logged, passes}
 use Rattle.causal_protocol.specs.Gathering.{stable_set, without}
 use Rattle.causal_protocol.specs.Naming.{with_own, by_order}

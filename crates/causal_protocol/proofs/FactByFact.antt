@@ -5,7 +5,7 @@ use Rattle.causal_protocol.specs.declared.request.Request.{Request}
 use Rattle.causal_protocol.specs.Memory.{Memories}
 use Rattle.causal_protocol.specs.Run.{Run}
 use Rattle.causal_protocol.specs.Runs.{Of, IsRun, After}
-use Rattle.causal_protocol.proofs.Stepping.{steps_keep_runs}
+use Rattle.causal_protocol.proofs.StepKeeps.{steps_keep_runs}
 
 -- a fact of all runs holds after each legal step
 pub after : (IsAsked : Request → Type 0) (Fact : ℕ → ℕ → List Entry → Memories → Type 0) → ((r : Run) → IsRun r → Of Fact r) → After IsAsked Fact

@@ -1,5 +1,5 @@
 -- What crates above may cite of this crate's proofs.
-pub mod Carried
-pub mod Telling
+pub mod KeptByType
+pub mod StepAppends
 pub mod StepProps
 pub mod Reasons

@@ -12,7 +12,7 @@ use Rattle.causal_name.specs.Names.{same_pid, same_message, message_of, is_befor
 use Rattle.causal_name.specs.Sets.{count_below}
 use Rattle.causal_trace.specs.declared.entry.Entry.{Entry}
 use Rattle.causal_trace.specs.Past.{has, is_down, logs, is_stable}
-use Rattle.causal_holders.proofs.Lemmas.Counting.{count_below-same}
+use Rattle.causal_holders.proofs.Lemmas.MemberCounts.{count_below-same}
 use Rattle.causal_log.specs.Slots.{is_of_slot, first_of_slot}
 use Rattle.causal_log.specs.Stores.{dets_in}
 use Rattle.causal_protocol.specs.declared.request.CoreFault.{CoreFault}
@@ -25,7 +25,7 @@ use Rattle.causal_protocol.specs.Sight.{messages}
 use Rattle.causal_protocol.specs.Kept.{finds}
 use Rattle.causal_protocol.specs.Runs.{IsSound}
 use Rattle.causal_protocol.proofs.Places.{log_here}
-use Rattle.causal_protocol.proofs.Logging.{keys_have, stored_have}
+use Rattle.causal_protocol.proofs.LearnedLogs.{keys_have, stored_have}
 use Rattle.causal_protocol.proofs.Choices.{first_passes, first_there, stable_has}
 use Rattle.causal_protocol.proofs.Sets.{finds_survive}
 

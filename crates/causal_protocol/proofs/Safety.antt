@@ -7,7 +7,7 @@ use Rattle.causal_trace.specs.declared.entry.Entry.{Entry}
 use Rattle.causal_trace.specs.Past.{instant, is_down, logs, is_stable}
 use Rattle.causal_trace.specs.Judgement.{IsCrashSet, IsSafe, IsSafeTrace}
 use Rattle.causal_trace.specs.Dependence.{AreForward}
-use Rattle.causal_holders.proofs.Lemmas.Counting.{count_below-within}
+use Rattle.causal_holders.proofs.Lemmas.MemberCounts.{count_below-within}
 use Rattle.causal_protocol.specs.Memory.{Memories}
 use Rattle.causal_protocol.specs.Kept.{gone, IsSpread, Keeping}
 use Rattle.causal_protocol.specs.Runs.{Matches, IsSound}

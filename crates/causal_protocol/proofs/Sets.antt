@@ -4,7 +4,7 @@ use Rattle.std.specs.Prelude.{◌⊎◌}
 use Rattle.std.proofs.lemmas.Bool.{both_ways, or_cases, or_left, or_right, cases_Bool}
 use Rattle.causal_name.specs.Sets.{count_below, any_below, IsWithin}
 use Rattle.causal_name.specs.declared.Det.{Det}
-use Rattle.causal_holders.proofs.Lemmas.Counting.{count_below-within, any_below-found, any_below-from}
+use Rattle.causal_holders.proofs.Lemmas.MemberCounts.{count_below-within, any_below-found, any_below-from}
 use Rattle.causal_protocol.specs.Kept.{survives, finds, gone, IsSpread, IsTrueOf}
 use Rattle.causal_trace.specs.Past.{is_down, logs, is_stable}
 use Rattle.causal_trace.specs.declared.entry.Entry.{Entry}

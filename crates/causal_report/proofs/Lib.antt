@@ -1,1 +1,1 @@
-mod Joined
+mod ListTexts

@@ -10,7 +10,7 @@ use Rattle.causal_protocol.specs.Run.{Run}
 use Rattle.causal_protocol.specs.Steps.{LegalStep, Steps, extended, pushed, writers_of}
 use Rattle.causal_shared.specs.History.{instant, shortened, cut, since, IsStep}
 use Rattle.causal_shared.proofs.Lists.{reverse-cons, count_by-append, count_by-reverse}
-use Rattle.causal_protocol.proofs.Lemmas.Telling.{written-step, length-pushed}
+use Rattle.causal_protocol.proofs.Lemmas.StepAppends.{written-step, length-pushed}
 use Rattle.causal_protocol.specs.Telling.{is_written}
 
 pub pushed-is : (es past : List Entry) → pushed es past ≡ reverse es ++ past

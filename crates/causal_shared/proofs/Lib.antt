@@ -1,4 +1,4 @@
-mod Answered
+mod OkAnswers
 mod Lists
 mod Cuts
 mod Shown

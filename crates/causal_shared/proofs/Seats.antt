@@ -21,7 +21,7 @@ use Rattle.causal_trace.specs.Rows.{Recording}
 use Rattle.causal_shared.specs.declared.item.Snapshot.{Snapshot}
 use Rattle.causal_shared.specs.Seat.{heard, Sitting, SeatState, with_item, SeesEntries}
 use Rattle.causal_shared.specs.Inside.Seated.{shared_of, MayCall, IsSeated, ItemSection}
-use Rattle.causal_protocol.proofs.Lemmas.Telling.{replies_tell_entries}
+use Rattle.causal_protocol.proofs.Lemmas.StepAppends.{replies_tell_entries}
 
 -- what a call of the locked value asks of a seat that may make it
 pub called : (held : Held) (seat : SeatState) (first number count : ℕ) → MayCall held seat first → number ≡ seat.sitting.number → count ≡ length seat.sitting.items

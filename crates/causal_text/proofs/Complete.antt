@@ -4,7 +4,7 @@ use Rattle.std.specs.Prelude.{Result, map, sum_by}
 use Rattle.std.proofs.lemmas.Bool.{eq-eqb, le-leb, lt-leb}
 use Rattle.std.proofs.lemmas.List.Sums.{sum_by_push}
 use Rattle.causal_trace.specs.Rows.{Recording, AreAccepted, IsWithin}
-use Rattle.causal_trace.proofs.Lemmas.Formed.{within_before, next_within}
+use Rattle.causal_trace.proofs.Lemmas.WellFormed.{within_before, next_within}
 use Rattle.causal_trace.specs.State.{with_entry}
 use Rattle.causal_trace.specs.declared.entry.Entry.{Entry}
 use Rattle.causal_text.specs.declared.kind.TextKind.{TextKind}
@@ -22,7 +22,7 @@ use Rattle.causal_text.specs.Inside.LineByLine.{start, next, after_lines, ended,
 use Rattle.causal_text.specs.Stages.{opened, text_within, line_shape, within_limit, after_line}
 use Rattle.causal_text.specs.Versions.{number_of, most_processes, HasLines}
 use Rattle.causal_text.specs.Spelling.{said, LeadsTo, SpellsWithin}
-use Rattle.causal_text.proofs.Joined.{sum_by-lines}
+use Rattle.causal_text.proofs.LineBytes.{sum_by-lines}
 use Rattle.causal_text.proofs.Steps.{said_entries}
 use Rattle.causal_text.proofs.Spellings.{IsPlaceAfter-lines, IsPlaceAfter-start}
 

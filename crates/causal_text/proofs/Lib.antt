@@ -7,13 +7,13 @@ mod FedLemmas
 mod Feeds
 mod Firsts
 mod ItemCounts
-mod Joined
+mod LineBytes
 mod KeptLemmas
 mod Outlines
-mod Passed
+mod GrammarLoops
 mod Plain
 mod ReadsBack
-mod Scanned
+mod EntryCounts
 mod ShapeData
 mod Sizes
 mod Spellings

@@ -12,7 +12,7 @@ use Rattle.causal_trace.specs.declared.entry.Entry.TheVariants.{Send, Deliver, S
 use Rattle.causal_trace.specs.Past.{listed_by, listed_in}
 use Rattle.causal_trace.specs.declared.fault.TraceFault.TheVariants.{NoSend, NotDown, NoDelivery}
 use Rattle.causal_trace.specs.Rows.{Recording, rows, first_fault, AreAccepted, IsWellFormed, IsWithin}
-use Rattle.causal_trace.proofs.Lemmas.Accepted.{row_fails}
+use Rattle.causal_trace.proofs.Lemmas.EntryFacts.{row_fails}
 use Rattle.causal_trace.specs.Sizes.{DetIsSmall, DetsAreSmall, EntryIsSmall, EntriesAreSmall}
 use Rattle.causal_text.specs.declared.shape.Shape.TheVariants as shape
 use Rattle.causal_text.specs.declared.version.Version.{Version}

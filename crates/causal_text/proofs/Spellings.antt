@@ -16,7 +16,7 @@ use Rattle.causal_text.specs.Inside.LineByLine.{start, ◌at◌, next, after_lin
 use Rattle.causal_text.specs.Reading.{◌>>=◌}
 use Rattle.causal_text.specs.Stages.{line_shape, after_line}
 use Rattle.causal_text.specs.Spelling.{said, SpellsWithin, LeadsTo, IsOpen, IsFirstFaultWithin}
-use Rattle.causal_text.proofs.Joined.{sum_by-lines}
+use Rattle.causal_text.proofs.LineBytes.{sum_by-lines}
 use Rattle.causal_text.proofs.Steps.{bind_ok, Accepted-line}
 
 -- a fault stands in the first part, or in what follows it

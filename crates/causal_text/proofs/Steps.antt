@@ -19,7 +19,7 @@ use Rattle.causal_text.specs.Reading.{◌>>=◌}
 use Rattle.causal_text.specs.Stages.{opened, kind_of, text_within, line_shape, begun, admitted, follow, within_limit, after_line}
 use Rattle.causal_text.specs.Versions.{number_of, version_of, most_processes, has_line}
 use Rattle.causal_text.specs.Spelling.{said, IsSound}
-use Rattle.causal_trace.proofs.Lemmas.Formed.{rows_next, within_next, short_next}
+use Rattle.causal_trace.proofs.Lemmas.WellFormed.{rows_next, within_next, short_next}
 use Rattle.causal_trace.specs.Limits.{max_entries}
 use Rattle.causal_text.specs.Inside.LineByLine.{entries_in, lines_in}
 

@@ -1,8 +1,8 @@
 -- What crates above may cite of this crate's proofs.
 pub mod Instants
 pub mod AtInstants
-pub mod Reached
-pub mod Accepted
-pub mod Formed
-pub mod Counted
-pub mod Happened
+pub mod DependenceSteps
+pub mod EntryFacts
+pub mod WellFormed
+pub mod CountBounds
+pub mod HappensBefore

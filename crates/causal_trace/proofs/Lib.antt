@@ -1,11 +1,11 @@
 pub mod Lemmas
-mod Agreed
-mod Ascending
-mod Asked
-mod Chained
-mod Indexed
-mod Laned
+mod DefinitionsAgree
+mod AscendingLists
+mod InstantQuestions
+mod ReceiptChains
+mod TraceIndex
+mod LaneRecords
 mod Receipts
 mod Rooms
 mod Sizes
-mod Tallied
+mod LaneCounts

@@ -16,7 +16,7 @@ use Rattle.causal_trace.specs.declared.chains.Sought.TheVariants.{AsNumber, InLa
 use Rattle.causal_trace.specs.Past.{lane, message_at, det_from, is_det, is_message, is_delivered, has_delivered}
 use Rattle.causal_trace.specs.Inside.Chains.{receipts, is_sought}
 use Rattle.causal_trace.specs.Rows.{AreAccepted}
-use Rattle.causal_trace.proofs.Laned.{subject_there}
+use Rattle.causal_trace.proofs.LaneRecords.{subject_there}
 
 -- one more receipt, if it is of the message, answers like the determinant that it is of
 number_says : (a b c : Bool) (receipt : Receipt) (rest : List Receipt) (test : Receipt → Bool) (old : Bool) → test receipt ≡ c → old ≡ list_any test rest → ((a && (b && c)) || old) ≡ list_any test (cond (a && b) (receipt ∷ rest) rest)

@@ -14,9 +14,9 @@ use Rattle.causal_trace.specs.declared.fault.TraceFault.TheVariants.{NoProcess, 
 use Rattle.causal_trace.specs.Past.{restarts, entry_at, message_sent, message_at, det_from, det_of, is_det, is_delivered, sends, deliveries}
 use Rattle.causal_trace.specs.Rows.{rows, first_fault, are_delivered, are_delivered_with, AreAccepted}
 use Rattle.causal_trace.specs.Sizes.{DetIsSmall, DetsAreSmall, EntryIsSmall, EntriesAreSmall, NumbersAreSmall, LimitsAreKept}
-use Rattle.causal_trace.proofs.Lemmas.Counted.{sends_few, deliveries_few}
-use Rattle.causal_trace.proofs.Lemmas.Formed.{short_next, formed_short}
-use Rattle.causal_trace.proofs.Lemmas.Accepted.{not_false, row_fails, delivers_sent, sent_within}
+use Rattle.causal_trace.proofs.Lemmas.CountBounds.{sends_few, deliveries_few}
+use Rattle.causal_trace.proofs.Lemmas.WellFormed.{short_next, formed_short}
+use Rattle.causal_trace.proofs.Lemmas.EntryFacts.{not_false, row_fails, delivers_sent, sent_within}
 
 both : (a b : Bool) → (a && b) ≡ true → (a ≡ true) × (b ≡ true)
 both true b h = (refl, h)

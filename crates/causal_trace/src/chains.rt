@@ -99,9 +99,11 @@ impl Chains {
     pub(crate) fn add_receipt(&mut self, message: MsgName, receipt: Receipt) -> Result<(), NoMemory>
         requires head { HasHead self.old.heads message }
         requires few { length self.old.nodes < max_entries }
-        ensures heads { OnOk result (self.new.heads ≡ with_head self.old.heads message (Some (length self.old.nodes))) }
+        ensures heads { OnOk result (self.new.heads ≡
+            with_head self.old.heads message (Some (length self.old.nodes))) }
         ensures nodes { OnOk result (self.new.nodes ≡ with_receipt self.old message receipt) }
-        ensures same { OnErr result ((self.new.heads ≡ self.old.heads) × (self.new.nodes ≡ self.old.nodes)) }
+        ensures same { OnErr result ((self.new.heads ≡ self.old.heads) ×
+            (self.new.nodes ≡ self.old.nodes)) }
         ensures spare { self.old.spare ≤ self.new.spare + 1 }
         ensures full { OnErr result (self.old.spare ≡ 0) }
     {
@@ -222,7 +224,8 @@ fn copied_lists(
     lists: &[Vec<Option<u32>>],
     alloc: Global,
 ) -> Result<Vec<Vec<Option<u32>>>, NoMemory>
-    ensures { IfOk result (λ copy. map (λ list. list.items) copy.items ≡ map (λ list. list.items) lists.now) }
+    ensures { IfOk result (λ copy. map (λ list. list.items) copy.items ≡ map
+        (λ list. list.items) lists.now) }
 {
     let mut copied = Vec::new(alloc);
     for list in lists {

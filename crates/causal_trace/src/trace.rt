@@ -78,7 +78,8 @@ impl Trace {
     /// # Errors
     /// `Processes` where n is not from 1 to 256, else `NoMemory` where memory was refused.
     pub fn new(alloc: Global, n: u16) -> Result<Trace, TraceFault>
-        ensures ok { IfOk result (λ trace. IsProcessCount n × (trace.recording ≡ record { processes = n; past = [] })) }
+        ensures ok { IfOk result (λ trace. IsProcessCount n ×
+            (trace.recording ≡ record { processes = n; past = [] })) }
         ensures refused { IfErr result (IsRefusedBeginning n) }
     {
         if n == 0 || n > MAX_PROCESSES {
@@ -121,7 +122,8 @@ impl Trace {
     pub fn push_within(&mut self, limits: Limits, entry: Entry) -> Result<(), TraceFault>
         ensures legal { OnOk result (fault_within limits.entries self.old.recording entry ≡ None) }
         ensures ok { OnOk result (self.new.recording ≡ with_entry self.old.recording entry) }
-        ensures refused { IfErr result (λ fault. fault ≡ refusal_within limits.entries self.old.recording entry) }
+        ensures refused { IfErr result (λ fault. fault ≡
+            refusal_within limits.entries self.old.recording entry) }
         ensures err { OnErr result (self.new.recording ≡ self.old.recording) }
         ensures spare { self.old.spare ≤ self.new.spare + 1 }
         ensures memory { result ≡ Err TraceFault.NoMemory → self.old.spare ≡ 0 }
@@ -558,9 +560,12 @@ fn note(chains: &mut Chains, entry: &Entry, own: Option<Det>, lane: u32) -> Resu
     requires sent { IfSome (message_sent entry.now) (λ m. m.source.0 < length chains.old.heads) }
     requires delivered { IfSome own (λ d. HasHead chains.old.heads (message_of d)) }
     requires few { length chains.old.nodes < max_entries }
-    ensures heads { OnOk result (chains.new.heads ≡ heads_after (message_sent entry.now) own chains.old) }
-    ensures nodes { OnOk result (chains.new.nodes ≡ nodes_after (message_sent entry.now) own lane chains.old) }
-    ensures err { OnErr result ((chains.new.heads ≡ chains.old.heads) × (chains.new.nodes ≡ chains.old.nodes)) }
+    ensures heads { OnOk result (chains.new.heads ≡
+        heads_after (message_sent entry.now) own chains.old) }
+    ensures nodes { OnOk result (chains.new.nodes ≡
+        nodes_after (message_sent entry.now) own lane chains.old) }
+    ensures err { OnErr result ((chains.new.heads ≡ chains.old.heads) ×
+        (chains.new.nodes ≡ chains.old.nodes)) }
     ensures spare { chains.old.spare ≤ chains.new.spare + 1 }
     ensures full { OnErr result (chains.old.spare ≡ 0) }
 {

@@ -14,12 +14,12 @@ use Rattle.causal_audit.specs.Inside.Group.Walk.{AreCopied, AreCopies, AreCopies
 use Rattle.causal_audit.specs.Inside.Group.OpenDeliveries.{positions_of, IsDeliveryAt, IsOpenDelivery}
 use Rattle.causal_audit.proofs.AmongLemmas.{among_push, among_wider, among_none}
 use Rattle.causal_audit.proofs.Between.{depends_before, logs_stay, stable_stays}
-use Rattle.causal_audit.proofs.Lemmas.Judged.{exposed, gone_orphan}
+use Rattle.causal_audit.proofs.Lemmas.OrphansByCounts.{exposed, gone_orphan}
 use Rattle.causal_audit.proofs.Swept.{sweep_law, one_new_orphan}
-use Rattle.causal_audit.proofs.Orphaned.{accepted_next, first_breach_is}
-use Rattle.causal_audit.proofs.group.Reaching.{left_in, left_out, none_in, told_so}
+use Rattle.causal_audit.proofs.NoOrphanSoFar.{accepted_next, first_breach_is}
+use Rattle.causal_audit.proofs.group.GroupReach.{left_in, left_out, none_in, told_so}
 use Rattle.causal_audit.proofs.Steps.{up_to_next}
-use Rattle.causal_audit.proofs.group.Opened.{position, zero}
+use Rattle.causal_audit.proofs.group.OpenPositions.{position, zero}
 use Rattle.causal_audit.specs.declared.group.buffers.WalkBuffers.{WalkBuffers}
 use Rattle.causal_audit.specs.declared.group.reach.ReachingDeliveries.{ReachingDeliveries}
 use Rattle.causal_audit.proofs.Shown.{inserted, parts}

@@ -4,7 +4,7 @@ use Rattle.causal_audit.specs.Inside.Index.Filed.{Ascends, list_at, with_added, 
 use Rattle.causal_audit.specs.Inside.ByClock.Changes.{HasNoneUntil}
 use Rattle.causal_audit.specs.Inside.Look.Staying.{restarts_one, RestartsNone}
 use Rattle.causal_audit.specs.Spread.{IsCrashOf}
-use Rattle.causal_audit.proofs.group.Reaching.{left_out}
+use Rattle.causal_audit.proofs.group.GroupReach.{left_out}
 use Rattle.causal_audit.proofs.Steps.{entry_cases, entry_within}
 use Rattle.causal_audit.specs.Quiet.{mentioned_by}
 use Rattle.causal_audit.specs.declared.index.numbering.Node.{Node}

@@ -3,14 +3,14 @@ use Rattle.causal_audit.proofs.Common.{ℕ, ◌≡◌, ◌<◌, ◌≤◌, inl, 
 use Rattle.causal_name.specs.declared.MsgName.{MsgName}
 use Rattle.causal_audit.specs.Laws.{gone}
 use Rattle.causal_audit.specs.Spread.{StaysAlone, CoveredHasNone, StaysUntil, CrashedHasNone}
-use Rattle.causal_trace.proofs.Lemmas.Happened.{event_once}
-use Rattle.causal_audit.proofs.Lemmas.Judged.{exposed}
+use Rattle.causal_trace.proofs.Lemmas.HappensBefore.{event_once}
+use Rattle.causal_audit.proofs.Lemmas.OrphansByCounts.{exposed}
 use Rattle.causal_audit.proofs.Legal.{delivery_event, sent_is}
-use Rattle.causal_audit.proofs.Orphaned.{not_yet}
-use Rattle.causal_audit.proofs.by_clock.Reached.{reaches_whole, event_whole}
+use Rattle.causal_audit.proofs.NoOrphanSoFar.{not_yet}
+use Rattle.causal_audit.proofs.by_clock.ReachedEntries.{reaches_whole, event_whole}
 use Rattle.causal_audit.specs.Inside.Index.Spreads.{acting, process_at, AreSpreads, with_delivered, spread_at}
 use Rattle.causal_audit.proofs.by_clock.Begun.{onward_to}
-use Rattle.causal_audit.proofs.look.Staying.{entry_then}
+use Rattle.causal_audit.proofs.look.CoverStays.{entry_then}
 use Rattle.causal_audit.specs.declared.look.thin_stretches.ThinStretches.{ThinStretches}
 use Rattle.causal_audit.specs.Inside.Index.Filed.{IsFirstCrash}
 use Rattle.causal_audit.specs.Inside.Look.Looks.{IsBareAt, IsThinAt, AreThinStretches, MayBeOpen}

@@ -45,7 +45,7 @@ impl WalkBuffers {
 }
 
 /// The places of a group.
-#[tactic(auto, using(crate::proofs::group::GroupWalk::places_more, crate::proofs::group::Reaching::none_in))]
+#[tactic(auto, using(crate::proofs::group::GroupWalk::places_more, crate::proofs::group::GroupReach::none_in))]
 pub fn places_of(opened: &[OpenDelivery]) -> Places
     requires { length opened.now ≤ 256 }
     ensures { ArePlaces opened.now result }

@@ -35,7 +35,7 @@ impl Model for PackedLists {
 
 impl PackedLists {
     /// Empty lists with room for so many positions each.
-    #[tactic(auto, using(crate::proofs::index::Packing::none_in))]
+    #[tactic(auto, using(crate::proofs::index::PackedSpans::none_in))]
     pub fn with_rooms(alloc: Global, rooms: &[u32]) -> Result<PackedLists, NoMemory>
         ensures count { IfOk result (λ lists. length lists ≡ length rooms.now) }
         ensures empty { IfOk result (λ lists. All (λ list. list ≡ []) lists) }

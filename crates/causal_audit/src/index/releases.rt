@@ -20,7 +20,7 @@ fn may_release(entry: &Entry) -> bool
 }
 
 /// The position from which on no process is released, after one more entry, at position i.
-#[tactic(auto, using(crate::proofs::look::Staying::none_beyond))]
+#[tactic(auto, using(crate::proofs::look::CoverStays::none_beyond))]
 fn lasting_after(from: u32, entry: &Entry, i: u32) -> u32
     requires { i < max_entries }
     ensures { LastsAfter entry.now i from result }

@@ -1,5 +1,5 @@
 use Rattle.std.proofs.Common.{arith}
-use Rattle.causal_audit.proofs.Orphaned.{not_yet}
+use Rattle.causal_audit.proofs.NoOrphanSoFar.{not_yet}
 use Rattle.causal_audit.proofs.delivery_state.breach_at.Goals as goal
 
 pub returns-then-t-k : goal.returns-then-t-k

@@ -2,7 +2,7 @@ use Rattle.causal_audit.proofs.Common.{ℕ, length, Option, Some, None, subst, R
 use Rattle.causal_audit.specs.declared.breach.Breach.{Breach}
 use Rattle.causal_audit.specs.Breaches.{FirstBreach}
 use Rattle.causal_audit.specs.Inside.Among.{FirstBreachBy}
-use Rattle.causal_audit.proofs.Numbered.{numbered_one}
+use Rattle.causal_audit.proofs.DeliveryNumbers.{numbered_one}
 use Rattle.causal_audit.proofs.judging.first_breach.Goals as goal
 
 -- by the last instant there is no bound

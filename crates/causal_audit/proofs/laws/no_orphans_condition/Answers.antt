@@ -1,4 +1,4 @@
-use Rattle.causal_audit.proofs.Lemmas.Judged.{no_orphans}
+use Rattle.causal_audit.proofs.Lemmas.OrphansByCounts.{no_orphans}
 use Rattle.causal_audit.proofs.laws.no_orphans_condition.Goals as goal
 
 pub returns : goal.returns

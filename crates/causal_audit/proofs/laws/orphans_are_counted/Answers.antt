@@ -1,4 +1,4 @@
-use Rattle.causal_audit.proofs.Lemmas.Judged.{counted, contained, gone_is}
+use Rattle.causal_audit.proofs.Lemmas.OrphansByCounts.{counted, contained, gone_is}
 use Rattle.causal_audit.proofs.laws.orphans_are_counted.Goals as goal
 
 pub returns-clause-counted : goal.returns-clause-counted

@@ -4,8 +4,8 @@ use Rattle.causal_clock.specs.Rises.{AreRises}
 use Rattle.causal_clock.specs.Inside.Fields.{events_of, lengths_of, counts_in}
 use Rattle.causal_clock.proofs.Lanes.{column_was}
 use Rattle.causal_clock.proofs.Moves.{columns_in}
-use Rattle.causal_clock.proofs.Received.{rises_are}
-use Rattle.causal_clock.proofs.Rising.{counts_other}
+use Rattle.causal_clock.proofs.RiseReceives.{rises_are}
+use Rattle.causal_clock.proofs.ColumnRises.{counts_other}
 use Rattle.causal_clock.proofs.Clocks.rises.Goals as goal
 
 pub returns : goal.returns

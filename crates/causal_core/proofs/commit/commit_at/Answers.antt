@@ -1,7 +1,7 @@
 use Rattle.std.proofs.Common.{◌≡◌, ◌∙◌, ap, subst, Some, slice_get, slice_set, arith}
 use Rattle.causal_core.specs.Inside.Facts.{FitsAt}
 use Rattle.causal_core.specs.Inside.Memories.{memory_at, memory_of, memories_in, room_at, room_of, rooms_in}
-use Rattle.causal_core.proofs.Fitting.{all_fit_set}
+use Rattle.causal_core.proofs.MemoriesFit.{all_fit_set}
 use Rattle.causal_core.proofs.Cells.{lent_at, there, memory_there, room_there, memories_put, bodies_more}
 use Rattle.causal_core.proofs.commit.commit_at.Goals as goal
 use Rattle.causal_core.proofs.commit.commit_at.Goals.{In-Some}

@@ -2,7 +2,7 @@ use Rattle.std.proofs.Common.{◌∙◌, ◌+◌, ◌++◌, ◌∷◌, [], sym, 
 use Rattle.std.specs.Option.{option_map}
 use Rattle.std.proofs.lemmas.List.{take_all}
 use Rattle.causal_core.specs.Inside.Memories.{memory_of, memories_in}
-use Rattle.causal_core.proofs.Counting.{count_all, count_none, count_down, count_more, count_gathered, memories_next}
+use Rattle.causal_core.proofs.RestartCounts.{count_all, count_none, count_down, count_more, count_gathered, memories_next}
 use Rattle.causal_core.proofs.count.count_gathered.Goals as goal
 use Rattle.causal_core.proofs.count.count_gathered.Goals.{in-Some, in_default}
 

@@ -1,7 +1,7 @@
 use Rattle.std.proofs.Common.{◌≡◌, ◌≤◌, ◌+◌, ◌*◌, take}
 use Rattle.causal_log.specs.Stores.{count_in}
 use Rattle.causal_core.specs.Inside.Memories.{memories_in}
-use Rattle.causal_core.proofs.Counting.{count_all}
+use Rattle.causal_core.proofs.RestartCounts.{count_all}
 use Rattle.causal_core.proofs.count.count_gathered.Given as goal
 
 abbrev pub invariant-loop-i : goal.invariant-loop-i

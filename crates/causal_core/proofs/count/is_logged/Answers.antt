@@ -1,7 +1,7 @@
 use Rattle.std.proofs.Common.{◌∙◌, ◌+◌, ◌||◌, drop, sym, ap, true, false, arith}
 use Rattle.causal_core.specs.Inside.Memories.{memories_in}
 use Rattle.causal_core.specs.Inside.Gathers.{is_logged}
-use Rattle.causal_core.proofs.Counting.{logged_here, logged_end}
+use Rattle.causal_core.proofs.RestartCounts.{logged_here, logged_end}
 use Rattle.causal_core.proofs.count.is_logged.Goals as goal
 
 pub returns-then-logs : goal.returns-then-logs

@@ -1,6 +1,6 @@
 use Rattle.std.proofs.Common.{◌∙◌, ap, sym, refl, arith, length, take}
 use Rattle.causal_core.specs.Inside.Stables.{flushed}
-use Rattle.causal_core.proofs.Flushing.{flushed_one, still_up, still_logged}
+use Rattle.causal_core.proofs.FlushSteps.{flushed_one, still_up, still_logged}
 use Rattle.causal_core.proofs.flush.write_all.Goals as goal
 
 pub loop-det-preserved : goal.loop-det-preserved

@@ -1,4 +1,4 @@
-use Rattle.causal_core.proofs.Stepped.{stable_filled, stable_stored}
+use Rattle.causal_core.proofs.RunAfterStep.{stable_filled, stable_stored}
 use Rattle.causal_core.proofs.flush.write_one.Goals as goal
 
 pub returns-in-Ok-clause-stored : goal.returns-in-Ok-clause-stored

@@ -3,7 +3,7 @@ use Rattle.std.specs.List.{range_with_len}
 use Rattle.causal_protocol.specs.Naming.{name}
 use Rattle.causal_core.specs.Inside.Memories.{memories_in}
 use Rattle.causal_core.specs.Pendings.{is_pending, names_from}
-use Rattle.causal_core.proofs.Waiting.{pending_more, pending_end, sent_there}
+use Rattle.causal_core.proofs.PendingMessages.{pending_more, pending_end, sent_there}
 use Rattle.causal_core.proofs.pending.pending_among.Goals as goal
 
 pub count_sent-count-requires : goal.count_sent-count-requires

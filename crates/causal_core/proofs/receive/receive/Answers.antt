@@ -2,8 +2,8 @@ use Rattle.causal_name.specs.Names.{message_of}
 use Rattle.causal_trace.specs.declared.entry.Entry.TheVariants as Entries
 use Rattle.causal_protocol.specs.Memory.{gained}
 use Rattle.causal_core.specs.Inside.Memories.{memory_of}
-use Rattle.causal_core.proofs.Fitting.{fits_other}
-use Rattle.causal_core.proofs.Receiving.{received_fits, delivery_apart}
+use Rattle.causal_core.proofs.MemoriesFit.{fits_other}
+use Rattle.causal_core.proofs.RuntimeDelivery.{received_fits, delivery_apart}
 use Rattle.causal_core.proofs.receive.receive.Goals as goal
 
 pub push_reserved-requires-clause-legal : goal.push_reserved-requires-clause-legal

@@ -22,7 +22,7 @@ use Rattle.causal_core.specs.Inside.Commits.{keep_sends, with_sends}
 use Rattle.causal_core.specs.View.{addressed, receivers, sent_bodies}
 use Rattle.causal_core.specs.Inside.Grown.{first_batch, batches_of}
 use Rattle.causal_core.specs.Inside.Memories.{memory_of, bodies_of, keep_all}
-use Rattle.causal_core.proofs.Sending.{addressed_more, replicate_last, keep_more, sends_more, kept_length, sends_length, pushed_last, pushed_length}
+use Rattle.causal_core.proofs.RuntimeSend.{addressed_more, replicate_last, keep_more, sends_more, kept_length, sends_length, pushed_last, pushed_length}
 use Rattle.causal_core.proofs.sends.append_sends.Goals as goal
 use Rattle.causal_core.proofs.sends.append_sends.Goals.{After-send-arg-then-from-n-1}
 

@@ -2,7 +2,7 @@ use Rattle.std.proofs.Common.{arith, length}
 use Rattle.std.proofs.lemmas.Grind.{common_steps}
 use Rattle.std.proofs.lemmas.Iterator.Adapters.{YieldsList-from_vec}
 use Rattle.std.proofs.lemmas.Iterator.Consumers.{YieldsList-turn}
-use Rattle.causal_core.proofs.Beginning.{none_begun, more_begun, may_begin}
+use Rattle.causal_core.proofs.ProcessBegins.{none_begun, more_begun, may_begin}
 use Rattle.causal_core.proofs.start.begin_all.Goals as goal
 
 pub loop-process-init : goal.loop-process-init

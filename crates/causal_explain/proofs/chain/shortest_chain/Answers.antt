@@ -1,7 +1,7 @@
 use Rattle.std.proofs.Common.{◌≡◌, Some, reverse, take, subst, sym}
 use Rattle.causal_trace.specs.Dependence.{AreForward, IsEventOf}
 use Rattle.causal_trace.specs.Past.{instant, lane}
-use Rattle.causal_trace.proofs.Lemmas.Accepted.{accepted_forward}
+use Rattle.causal_trace.proofs.Lemmas.EntryFacts.{accepted_forward}
 use Rattle.causal_trace.proofs.Lemmas.AtInstants.{accepted_then}
 use Rattle.causal_explain.specs.Chains.{IsShortestChain, LeadsTo}
 use Rattle.causal_explain.specs.Inside.Ways.{Nearest}

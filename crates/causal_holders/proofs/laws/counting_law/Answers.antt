@@ -1,4 +1,4 @@
-use Rattle.causal_holders.proofs.Lemmas.Counting.{members_counted, union_members, is_subset_members}
+use Rattle.causal_holders.proofs.Lemmas.MemberCounts.{members_counted, union_members, is_subset_members}
 use Rattle.causal_holders.proofs.laws.counting_law.Goals as goal
 
 pub returns : goal.returns

@@ -1,4 +1,4 @@
-use Rattle.causal_log.proofs.Lemmas.Absorbing.{absorbed_logged, absorbed_holders, absorbed_stable, absorbed_size}
+use Rattle.causal_log.proofs.Lemmas.AbsorbKnows.{absorbed_logged, absorbed_holders, absorbed_stable, absorbed_size}
 use Rattle.causal_log.proofs.laws.absorbing_law.Goals as goal
 
 pub returns-clause-logged : goal.returns-clause-logged

@@ -1,5 +1,5 @@
 use Rattle.causal_log.proofs.Lemmas.ChosenLemmas.{chosen_ascend}
-use Rattle.causal_log.proofs.Lemmas.Choosing.{carried_dets, carried_holders, left_out}
+use Rattle.causal_log.proofs.Lemmas.MessageItems.{carried_dets, carried_holders, left_out}
 use Rattle.causal_log.proofs.laws.choosing_law.Goals as goal
 
 pub returns-clause-ascending : goal.returns-clause-ascending

@@ -1,4 +1,4 @@
-use Rattle.causal_log.proofs.Lemmas.Learning.{get_learned, size_one}
+use Rattle.causal_log.proofs.Lemmas.KnowledgeGrows.{get_learned, size_one}
 use Rattle.causal_log.proofs.laws.learning_law.Goals as goal
 
 pub returns-clause-known : goal.returns-clause-known

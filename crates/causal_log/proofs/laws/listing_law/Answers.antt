@@ -1,4 +1,4 @@
-use Rattle.causal_log.proofs.Lemmas.Listing.{keys_logged, stable_ascends, stable_listed, unstable_ascends, unstable_listed, stable_and_unstable, unmarked_keys}
+use Rattle.causal_log.proofs.Lemmas.LogLists.{keys_logged, stable_ascends, stable_listed, unstable_ascends, unstable_listed, stable_and_unstable, unmarked_keys}
 use Rattle.causal_log.proofs.laws.listing_law.Goals as goal
 
 pub returns-clause-logged : goal.returns-clause-logged

@@ -1,4 +1,4 @@
-use Rattle.causal_log.proofs.Lemmas.Marking.{get_marked, get_unmarked}
+use Rattle.causal_log.proofs.Lemmas.MarkedLogs.{get_marked, get_unmarked}
 use Rattle.causal_log.proofs.laws.marking_law.Goals as goal
 
 pub returns-clause-marked : goal.returns-clause-marked

@@ -1,5 +1,5 @@
 use Rattle.causal_log.proofs.Lemmas.Ascents.{map_ascends}
-use Rattle.causal_log.proofs.Lemmas.Storing.{listed, stored, none_stored}
+use Rattle.causal_log.proofs.Lemmas.StoreSets.{listed, stored, none_stored}
 use Rattle.causal_log.proofs.laws.storing_law.Goals as goal
 
 pub returns-clause-ascending : goal.returns-clause-ascending

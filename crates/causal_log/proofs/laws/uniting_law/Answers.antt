@@ -1,4 +1,4 @@
-use Rattle.causal_log.proofs.Lemmas.Uniting.{united_logged, united_holders, united_stable, united_size}
+use Rattle.causal_log.proofs.Lemmas.LogUnions.{united_logged, united_holders, united_stable, united_size}
 use Rattle.causal_log.proofs.laws.uniting_law.Goals as goal
 
 pub returns-clause-logged : goal.returns-clause-logged

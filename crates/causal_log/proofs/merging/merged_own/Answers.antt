@@ -2,7 +2,7 @@ use Rattle.std.proofs.Common.{◌∙◌, ◌++◌, ap}
 use Rattle.causal_name.specs.Names.{is_ascending}
 use Rattle.causal_log.specs.Logs.{learned, chosen, dets_of}
 use Rattle.causal_log.specs.Inside.Merges.{source_of, heard_of}
-use Rattle.causal_log.proofs.Lemmas.Absorbing.{absorbed_logged}
+use Rattle.causal_log.proofs.Lemmas.AbsorbKnows.{absorbed_logged}
 use Rattle.causal_log.proofs.Lemmas.ChosenLemmas.{chosen_ascend}
 use Rattle.causal_log.proofs.MergeLemmas.{cut_rest}
 use Rattle.causal_log.proofs.merging.merged_own.Goals as goal

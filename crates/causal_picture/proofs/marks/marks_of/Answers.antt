@@ -1,7 +1,7 @@
 use Rattle.std.proofs.Common.{◌≡◌, sym, ap, ◌∙◌, rules}
 use Rattle.causal_picture.specs.Marks.{mark_at, marks_of}
 use Rattle.causal_picture.proofs.Ranges.{passed-none, passed-some}
-use Rattle.causal_picture.proofs.Supplied.{each_shown}
+use Rattle.causal_picture.proofs.EntryMarks.{each_shown}
 use Rattle.causal_picture.proofs.marks.marks_of.Goals as goal
 use Rattle.causal_picture.proofs.marks.marks_of.Goals.{in-Some+in_ok-push, in_default}
 

@@ -1,4 +1,4 @@
-use Rattle.causal_protocol.proofs.Contributing.{holders_are_contributed, marks_are_contributed}
+use Rattle.causal_protocol.proofs.Contributions.{holders_are_contributed, marks_are_contributed}
 use Rattle.causal_protocol.proofs.laws.knowledge_is_contributed.Goals as goal
 
 pub returns-clause-holders : goal.returns-clause-holders

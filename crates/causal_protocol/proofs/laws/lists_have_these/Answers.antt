@@ -5,8 +5,8 @@ use Rattle.causal_protocol.specs.Naming.{own_det}
 use Rattle.causal_protocol.specs.Run.{memories_of, stable_of}
 use Rattle.causal_protocol.specs.Gathering.{gathered_log}
 use Rattle.causal_protocol.proofs.Choices.{own_have}
-use Rattle.causal_protocol.proofs.Logging.{keys_have}
-use Rattle.causal_protocol.proofs.Sounding.{gathered_survivors}
+use Rattle.causal_protocol.proofs.LearnedLogs.{keys_have}
+use Rattle.causal_protocol.proofs.SoundSteps.{gathered_survivors}
 use Rattle.causal_protocol.proofs.laws.lists_have_these.Goals as goal
 
 pub returns-clause-delivery : goal.returns-clause-delivery

@@ -1,4 +1,4 @@
-use Rattle.causal_protocol.proofs.Opening.{made_runs}
+use Rattle.causal_protocol.proofs.BeginningKeeps.{made_runs}
 use Rattle.causal_protocol.proofs.laws.made_runs_are_safe.Goals as goal
 
 pub returns-clause-safe : goal.returns-clause-safe

@@ -1,5 +1,5 @@
-use Rattle.causal_protocol.proofs.Stepping as step
-use Rattle.causal_protocol.proofs.Lemmas.Telling as tell
+use Rattle.causal_protocol.proofs.StepKeeps as step
+use Rattle.causal_protocol.proofs.Lemmas.StepAppends as tell
 use Rattle.causal_protocol.proofs.laws.replies_are_true.Goals as goal
 
 pub returns-clause-refused : goal.returns-clause-refused

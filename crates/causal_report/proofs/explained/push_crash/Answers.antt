@@ -1,7 +1,7 @@
 use Rattle.std.proofs.Common.{◌∙◌, refl, string_bytes}
 use Rattle.causal_holders.specs.Members.{ascending}
 use Rattle.causal_report.specs.Explanations.{member_line}
-use Rattle.causal_report.proofs.Joined.{written-none, written-next}
+use Rattle.causal_report.proofs.ListTexts.{written-none, written-next}
 use Rattle.causal_report.proofs.explained.push_crash.Goals as goal
 
 pub loop-process-init : goal.loop-process-init

@@ -2,7 +2,7 @@ use Rattle.std.proofs.Common.{◌≡◌, ap, sym, ◌∙◌}
 use Rattle.std.specs.Prelude.{Option, Result, Some, Ok, Err}
 use Rattle.causal_shared.specs.declared.fault.FinishFault.{FinishFault}
 use Rattle.causal_core.specs.CoreView.{run_of}
-use Rattle.causal_protocol.proofs.Lemmas.Carried.{safe_carried, single_carried}
+use Rattle.causal_protocol.proofs.Lemmas.KeptByType.{safe_carried, single_carried}
 use Rattle.causal_shared.proofs.Totals.{total_is}
 use Rattle.causal_shared.proofs.shared.settle.Goals as goal
 

@@ -3,7 +3,7 @@ use Rattle.causal_core.specs.CoreView.{run_of}
 use Rattle.causal_trace.specs.State.{TraceState}
 use Rattle.causal_shared.specs.History.{Held}
 use Rattle.causal_shared.specs.Locked.{held_of, opened_over}
-use Rattle.causal_shared.proofs.Answered.{holds, both_hold}
+use Rattle.causal_shared.proofs.OkAnswers.{holds, both_hold}
 use Rattle.causal_shared.proofs.shared.with_opening.Goals as goal
 
 pub returns-clause-locked : goal.returns-clause-locked

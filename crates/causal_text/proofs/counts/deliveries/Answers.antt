@@ -1,7 +1,7 @@
 use Rattle.std.proofs.Common.{◌∙◌, ap, length}
 use Rattle.causal_trace.specs.Past.{deliveries}
 use Rattle.causal_trace.specs.State.{past_at}
-use Rattle.causal_text.proofs.Scanned.{whole}
+use Rattle.causal_text.proofs.EntryCounts.{whole}
 use Rattle.causal_text.proofs.counts.deliveries.Goals as goal
 
 pub returns : goal.returns

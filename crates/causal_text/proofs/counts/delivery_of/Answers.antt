@@ -1,4 +1,4 @@
-use Rattle.causal_text.proofs.Scanned.{found_next}
+use Rattle.causal_text.proofs.EntryCounts.{found_next}
 use Rattle.causal_text.proofs.counts.delivery_of.Goals as goal
 
 pub loop-i-preserved : goal.loop-i-preserved

@@ -7,7 +7,7 @@ use Rattle.json.proofs.Grammar.{value_is, value-begin_array, value-begin_object,
 use Rattle.serde_json.specs.Data.{array, object, no_members, put}
 use Rattle.serde_json.specs.Read.{of_json, of_items, converted}
 use Rattle.causal_text.specs.Outline.{fits, items_fit}
-use Rattle.causal_text.proofs.Passed.{AllFit, converted-array, converted-object, item_refused, items_over, member_read, member_refused, key_refused, members_over, turn, mapped, unmapped, none_mapped, plain_read, no_value, on_err, on_err_weaker}
+use Rattle.causal_text.proofs.GrammarLoops.{AllFit, converted-array, converted-object, item_refused, items_over, member_read, member_refused, key_refused, members_over, turn, mapped, unmapped, none_mapped, plain_read, no_value, on_err, on_err_weaker}
 use Rattle.causal_text.proofs.outline.+fits.Goals as goal
 
 pub fits-returns-in_err-token-clause-err : goal.fits-returns-in_err-token-clause-err

@@ -3,7 +3,7 @@ use Rattle.json.specs.Json.{items, members, value, parse_map}
 use Rattle.serde_json.specs.Data.{Members, no_members}
 use Rattle.serde_json.specs.Read.{of_items, of_members, converted}
 use Rattle.causal_text.specs.Outline.{items_fit}
-use Rattle.causal_text.proofs.Passed.{AllFit}
+use Rattle.causal_text.proofs.GrammarLoops.{AllFit}
 use Rattle.causal_text.proofs.outline.+fits.Given as goal
 
 abbrev pub decreases-fits : goal.decreases-fits

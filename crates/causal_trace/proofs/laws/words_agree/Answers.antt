@@ -1,5 +1,5 @@
-use Rattle.causal_trace.proofs.Tallied.{sends_counted, deliveries_counted, delivered_at_position, stable_at_position}
-use Rattle.causal_trace.proofs.Agreed.{instants_prefixes, instants_stay, one_more_instant, instants_keep_places, down_last, log_last, reaches_path}
+use Rattle.causal_trace.proofs.LaneCounts.{sends_counted, deliveries_counted, delivered_at_position, stable_at_position}
+use Rattle.causal_trace.proofs.DefinitionsAgree.{instants_prefixes, instants_stay, one_more_instant, instants_keep_places, down_last, log_last, reaches_path}
 use Rattle.causal_trace.proofs.laws.words_agree.Goals as goal
 
 pub returns-clause-prefixes : goal.returns-clause-prefixes

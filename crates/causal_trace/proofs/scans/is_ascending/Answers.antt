@@ -2,7 +2,7 @@ use Rattle.std.proofs.Common.{ℕ, ◌≡◌, ◌+◌, ◌-◌, ◌<◌, ◌≤�
 use Rattle.std.specs.Prelude.{◌&&◌}
 use Rattle.causal_name.specs.declared.Det.{Det}
 use Rattle.causal_name.specs.Names.{is_before, is_ascending}
-use Rattle.causal_trace.proofs.Ascending.{ascending_more, ascending_last}
+use Rattle.causal_trace.proofs.AscendingLists.{ascending_more, ascending_last}
 use Rattle.causal_trace.proofs.scans.is_ascending.Goals as goal
 
 -- the step, at the place that the counter has passed

@@ -1,7 +1,7 @@
 use Rattle.causal_audit.proofs.Common.{◌≡◌, ◌+◌, ◌∷◌, ◌++◌, length, take, drop, arith, sym, subst, ap, ◌∙◌, length-reverse, instant, AreAccepted, accepted_then, last_instant}
 use Rattle.std.proofs.lemmas.Grind.{common_steps}
 use Rattle.causal_audit.specs.Inside.ByClock.Stands.{Mirrors, Stands}
-use Rattle.causal_audit.proofs.by_clock.Reached.{if_ok}
+use Rattle.causal_audit.proofs.by_clock.ReachedEntries.{if_ok}
 use Rattle.causal_audit.proofs.Steps.{next_state}
 use Rattle.causal_audit.proofs.by_clock.events.clocks_of.Goals as goal
 

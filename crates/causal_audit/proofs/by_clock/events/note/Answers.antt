@@ -1,5 +1,5 @@
 use Rattle.std.proofs.Common.{Err, ◌≤◌, length, arith, ap}
-use Rattle.causal_audit.proofs.by_clock.Mirrored.{room, some_lane, sender_in, receiver_in, sent_in, restarted_in, lanes_left, after_send, after_deliver, after_stable, after_crash, after_forget, after_restart, only_memory}
+use Rattle.causal_audit.proofs.by_clock.ClockEvents.{room, some_lane, sender_in, receiver_in, sent_in, restarted_in, lanes_left, after_send, after_deliver, after_stable, after_crash, after_forget, after_restart, only_memory}
 use Rattle.causal_audit.proofs.by_clock.events.note.Goals as goal
 
 pub bounds-present-from : goal.bounds-present-from

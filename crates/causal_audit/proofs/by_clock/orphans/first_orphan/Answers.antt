@@ -2,9 +2,9 @@ use Rattle.causal_audit.proofs.Common.{◌+◌, ◌<◌, length, Contains, Some,
 use Rattle.causal_audit.specs.Inside.DeliveryStates.{Shows}
 use Rattle.causal_audit.proofs.Between.{none_agrees, state_agrees}
 use Rattle.causal_audit.proofs.by_clock.Begun.{unheard_before}
-use Rattle.causal_audit.proofs.by_clock.Reached.{breach_after, seen_after, unchanged}
+use Rattle.causal_audit.proofs.by_clock.ReachedEntries.{breach_after, seen_after, unchanged}
 use Rattle.causal_audit.proofs.index.Cursors.{cursor_later}
-use Rattle.causal_audit.proofs.Orphaned.{not_yet, first_breach_is}
+use Rattle.causal_audit.proofs.NoOrphanSoFar.{not_yet, first_breach_is}
 use Rattle.causal_audit.proofs.Steps.{nobody_down, up_to_next}
 use Rattle.causal_audit.proofs.by_clock.orphans.first_orphan.Goals as goal
 

@@ -1,7 +1,7 @@
 use Rattle.causal_audit.proofs.Common.{◌≡◌, ◌∙◌, ◌<◌, length, sym, ap, subst, rules, set, nat_cmp, contains, remove, contains-empty, get_or_default}
 use Rattle.causal_audit.specs.Inside.Group.Walk.{AreCopiesAfter, copies_at, no_copies}
 use Rattle.causal_audit.proofs.group.GroupWalk.{renewed_more, HaveRenewed}
-use Rattle.causal_audit.proofs.group.Reaching.{fewer}
+use Rattle.causal_audit.proofs.group.GroupReach.{fewer}
 use Rattle.causal_audit.proofs.group.copies.renew.Goals as goal
 
 pub loop-place-smaller : goal.loop-place-smaller

@@ -1,5 +1,5 @@
 use Rattle.causal_audit.proofs.Common.{◌∙◌, sym, ap, arith, contains, empty, get_or-eq_default}
-use Rattle.causal_audit.proofs.group.Reaching.{none_in}
+use Rattle.causal_audit.proofs.group.GroupReach.{none_in}
 use Rattle.causal_audit.proofs.group.held.put_row.Goals as goal
 
 pub returns-else-i-len-clause-here : goal.returns-else-i-len-clause-here

@@ -2,7 +2,7 @@ use Rattle.causal_audit.proofs.Common.{◌≡◌, ◌≤◌, ◌∙◌, arith, i
 use Rattle.causal_audit.specs.Inside.Group.Walk.{position_at, opened_at, IsSuspected, TellsBreachOf}
 use Rattle.causal_audit.proofs.group.GroupWalk.{among_opened, asked_less, judged_over, found_next, in_or_out, judged_none, judged_more, least_in_all, none_over, suspect}
 use Rattle.causal_audit.proofs.Steps.{up_to_next}
-use Rattle.causal_audit.proofs.group.Reaching.{fewer}
+use Rattle.causal_audit.proofs.group.GroupReach.{fewer}
 use Rattle.causal_audit.proofs.group.judged.judge.Goals as goal
 
 pub loop-least-init : goal.loop-least-init

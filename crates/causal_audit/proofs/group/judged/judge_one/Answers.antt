@@ -3,8 +3,8 @@ use Rattle.causal_audit.specs.Laws.{IsExposed}
 use Rattle.causal_audit.specs.Inside.Group.Walk.{copies_at, no_copies}
 use Rattle.causal_audit.specs.Inside.DeliveryStates.{Shows}
 use Rattle.causal_audit.specs.declared.group.copies.Copies.{Copies}
-use Rattle.causal_audit.proofs.Lemmas.Judged.{exposed}
-use Rattle.causal_audit.proofs.look.Staying.{gone_many}
+use Rattle.causal_audit.proofs.Lemmas.OrphansByCounts.{exposed}
+use Rattle.causal_audit.proofs.look.CoverStays.{gone_many}
 use Rattle.causal_audit.proofs.group.judged.judge_one.Goals as goal
 
 -- what is read at the place is what stands there

@@ -1,7 +1,7 @@
 use Rattle.causal_audit.proofs.Common.{ℕ, ◌≡◌, ◌≤◌, ◌<◌, inl, inr, length, sym, ap, ◌∙◌, arith, contains, cases_lt}
 use Rattle.causal_audit.specs.Inside.Group.Walk.{position_at}
-use Rattle.causal_audit.proofs.group.Opened.{position, zero}
-use Rattle.causal_audit.proofs.group.Reaching.{none_in}
+use Rattle.causal_audit.proofs.group.OpenPositions.{position, zero}
+use Rattle.causal_audit.proofs.group.GroupReach.{none_in}
 use Rattle.causal_audit.proofs.group.GroupWalk.{own_all, passed_all, passed_more}
 use Rattle.causal_audit.proofs.group.own.own_at.Goals as goal
 

@@ -3,8 +3,8 @@ use Rattle.causal_audit.specs.Inside.Among.{LeastAmongBy}
 use Rattle.causal_audit.specs.Inside.Group.OpenDeliveries.{positions_of}
 use Rattle.causal_audit.specs.Inside.Group.Walk.{row, HasRowRoom, HasRows, IsFollowed, IsHeldBy, IsHeldSo}
 use Rattle.causal_audit.specs.declared.group.reach.ReachingDeliveries.{ReachingDeliveries}
-use Rattle.causal_audit.proofs.group.Reaching.{none_in}
-use Rattle.causal_audit.proofs.group.Opened.{zero}
+use Rattle.causal_audit.proofs.group.GroupReach.{none_in}
+use Rattle.causal_audit.proofs.group.OpenPositions.{zero}
 use Rattle.causal_audit.specs.Inside.DeliveryStates.{Shows}
 use Rattle.causal_audit.specs.declared.group.buffers.WalkBuffers.{WalkBuffers}
 use Rattle.causal_audit.proofs.group.GroupWalk.{copied_next, emptied_next, marked_next, sees_each, place_of, held_then, is_step, told_after, room_stays, none_of_all}

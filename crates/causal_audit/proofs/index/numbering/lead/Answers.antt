@@ -2,7 +2,7 @@ use Rattle.std.proofs.Common.{Vec, Global, Option, ℕ, ◌≡◌, ◌<◌, [], 
 use Rattle.std.specs.Vec.{with_item}
 use Rattle.std.proofs.lemmas.List.{map-set, get_or-map, length-map}
 use Rattle.causal_audit.specs.Inside.Index.Chains.{head_of, heads_of}
-use Rattle.causal_audit.proofs.index.Indexed.{head_leads}
+use Rattle.causal_audit.proofs.index.MessageChains.{head_leads}
 use Rattle.causal_audit.proofs.index.numbering.lead.Goals as goal
 
 pub returns-clause-heads : goal.returns-clause-heads

@@ -1,7 +1,7 @@
 use Rattle.causal_audit.proofs.Common.{Vec, Global, Option, ℕ, ◌≡◌, ◌<◌, [], List, None, length, map, get_or, refl, sym, ap, subst, ◌∙◌, arith, cond-true, eq-eqb, map-set, get_or-map, length-map, length-set}
 use Rattle.causal_audit.specs.Inside.Index.Chains.{HasHead, head_of, heads_of}
 use Rattle.causal_audit.proofs.index.Filings.{on_ok}
-use Rattle.causal_audit.proofs.index.Indexed.{head_same, heads_replaced}
+use Rattle.causal_audit.proofs.index.MessageChains.{head_same, heads_replaced}
 use Rattle.causal_audit.proofs.index.numbering.open.Goals as goal
 
 abbrev items : Vec (Option ℕ) Global → List (Option ℕ)

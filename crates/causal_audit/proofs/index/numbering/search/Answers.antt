@@ -1,7 +1,7 @@
 use Rattle.causal_audit.proofs.Common.{◌≡◌, ◌<◌, ◌+◌, cond, length, get_or, reverse, Some, None, sym, ap, subst, ◌∙◌, arith, option_map_or, cond-true, cond-false, same_det}
 use Rattle.causal_audit.specs.Inside.Index.Chains.{IsBelow, sought}
 use Rattle.causal_audit.specs.declared.index.numbering.Node.{Node}
-use Rattle.causal_audit.proofs.index.Indexed.{leads_in, below_higher, chain_ends, walk_falls}
+use Rattle.causal_audit.proofs.index.MessageChains.{leads_in, below_higher, chain_ends, walk_falls}
 use Rattle.causal_audit.proofs.index.numbering.search.Goals as goal
 use Rattle.causal_audit.proofs.index.numbering.search.Goals.{In-Some}
 

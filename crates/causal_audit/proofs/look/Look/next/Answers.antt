@@ -1,7 +1,7 @@
 use Rattle.causal_audit.proofs.Common.{◌+◌, refl, subst, arith, union}
 use Rattle.causal_audit.specs.declared.look.thin.Stretch.{Stretch}
 use Rattle.causal_audit.specs.Inside.Look.Looks.{StandsBy}
-use Rattle.causal_audit.proofs.look.Looked.{is_change, passed_to, written, onward_stop, over}
+use Rattle.causal_audit.proofs.look.LookSteps.{is_change, passed_to, written, onward_stop, over}
 use Rattle.causal_audit.proofs.look.Look.next.Goals as goal
 
 pub returns-then-last-self-clause-passed : goal.returns-then-last-self-clause-passed

@@ -2,7 +2,7 @@ use Rattle.causal_audit.proofs.Common.{◌≤◌, length, ◌∙◌, arith, inst
 use Rattle.causal_audit.proofs.by_clock.Begun.{unheard_before}
 use Rattle.causal_audit.proofs.Steps.{entry_then}
 use Rattle.causal_audit.proofs.Shown.{shows_none}
-use Rattle.causal_audit.proofs.index.Turned.{passed_down}
+use Rattle.causal_audit.proofs.index.DownAfterTurns.{passed_down}
 use Rattle.causal_audit.proofs.look.Look.start.Goals as goal
 
 pub returns-clause-stop : goal.returns-clause-stop

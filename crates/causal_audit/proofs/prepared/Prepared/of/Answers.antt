@@ -6,9 +6,9 @@ use Rattle.causal_audit.specs.declared.group.run_to_follow.OpenDelivery.{OpenDel
 use Rattle.causal_audit.specs.Parts.{AreEnough}
 use Rattle.causal_audit.specs.Lasting.{NoneReleasedFrom}
 use Rattle.causal_audit.proofs.AmongLemmas.{among_all, among_wider}
-use Rattle.causal_audit.proofs.look.Uncovered.{any_other}
+use Rattle.causal_audit.proofs.look.SurveyGathers.{any_other}
 use Rattle.causal_audit.proofs.Steps.{begins}
-use Rattle.causal_audit.proofs.group.Opened.{of_positions}
+use Rattle.causal_audit.proofs.group.OpenPositions.{of_positions}
 use Rattle.causal_audit.proofs.prepared.Prepared.of.Goals as goal
 
 pub open_deliveries_of-requires-clause-mentioned : goal.open_deliveries_of-requires-clause-mentioned

@@ -2,7 +2,7 @@ use Rattle.std.proofs.Common.{◌≡◌, ◌∙◌, sym}
 use Rattle.causal_protocol.specs.declared.request.Request.TheVariants as Ask
 use Rattle.causal_protocol.specs.Refusals.{first_fault}
 use Rattle.causal_core.proofs.Legal.{tells_reason}
-use Rattle.causal_core.proofs.Restarting.{log_listed, restart_lists}
+use Rattle.causal_core.proofs.RuntimeRestart.{log_listed, restart_lists}
 use Rattle.causal_core.proofs.data.Data.admitted.Goals as goal
 use Rattle.causal_core.proofs.data.Data.admitted.Goals.{After-listing_fault}
 

@@ -15,9 +15,9 @@ use Rattle.causal_core.specs.Inside.Gathers.{IsGathered}
 use Rattle.causal_core.specs.View.{run_from, sent_bodies, receivers}
 use Rattle.causal_core.specs.Inside.Grown.{first_batch}
 use Rattle.causal_core.specs.Inside.Memories.{memory_of, memories_in, bodies_in, keep_all}
-use Rattle.causal_core.proofs.Fitting.{all_fit_set, at-set_other}
-use Rattle.causal_core.proofs.Receiving.{chosen_all}
-use Rattle.causal_core.proofs.Beginning.{none_pass, begun_memories}
+use Rattle.causal_core.proofs.MemoriesFit.{all_fit_set, at-set_other}
+use Rattle.causal_core.proofs.RuntimeDelivery.{chosen_all}
+use Rattle.causal_core.proofs.ProcessBegins.{none_pass, begun_memories}
 use Rattle.causal_core.proofs.data.Data.begin.Goals as goal
 use Rattle.causal_core.proofs.data.Data.begin.Goals.{After-drop-fresh}
 

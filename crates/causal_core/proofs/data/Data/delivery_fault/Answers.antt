@@ -7,7 +7,7 @@ use Rattle.std.proofs.lemmas.Grind.{common_steps}
 use Rattle.std.proofs.lemmas.Bool.Decides.{nat_tests}
 use Rattle.causal_name.specs.Names.{message_of, same_message}
 use Rattle.causal_log.specs.Slots.{first_of_slot}
-use Rattle.causal_trace.proofs.Lemmas.Formed.{formed_short}
+use Rattle.causal_trace.proofs.Lemmas.WellFormed.{formed_short}
 use Rattle.causal_protocol.specs.declared.request.Request.TheVariants as Ask
 use Rattle.causal_protocol.specs.Memory.{Memories, at}
 use Rattle.causal_protocol.specs.Run.{Run, stable_of}
@@ -18,7 +18,7 @@ use Rattle.causal_protocol.specs.Refusals.{first_fault, unless, is_full}
 use Rattle.causal_core.specs.Inside.Facts.{Fits, FitsAt}
 use Rattle.causal_core.specs.View.{run_from}
 use Rattle.causal_core.specs.Inside.Memories.{memories_in, memory_of, kept_of, stored_for}
-use Rattle.causal_core.proofs.Telling.{tell_process, tell_down, tell_other, tell_absent, tell_again, tell_full, received_few, stored_here, listed_is}
+use Rattle.causal_core.proofs.DeliveryRows.{tell_process, tell_down, tell_other, tell_absent, tell_again, tell_full, received_few, stored_here, listed_is}
 use Rattle.causal_core.proofs.data.Data.delivery_fault.Goals as goal
 use Rattle.causal_core.proofs.data.Data.delivery_fault.Goals.{After-are_processes, In-Some, After-cell_at, After-other_named, In-Some-message, After-is_full}
 

@@ -23,10 +23,10 @@ use Rattle.causal_core.specs.View.{DataState, sent_in, with_delivery, run_from, 
 use Rattle.causal_core.specs.Inside.Grown.{IsGrown, carried_by, first_batch, batches_of}
 use Rattle.causal_core.specs.Inside.Memories.{HasRoom, memories_in, memory_at, log_at, bodies_in, rooms_in}
 use Rattle.causal_core.specs.View.{with_bodies}
-use Rattle.causal_core.proofs.Sending.{are_sends, receivers_below, receivers_long, addressed_few}
+use Rattle.causal_core.proofs.RuntimeSend.{are_sends, receivers_below, receivers_long, addressed_few}
 use Rattle.causal_core.proofs.Legal.{held_fit}
-use Rattle.causal_core.proofs.Delivering.{MayDeliver, may_deliver, legal, sent_name, ssn_is}
-use Rattle.causal_core.proofs.Making.{memory_here, all_delivered, chosen_delivered, same_memories}
+use Rattle.causal_core.proofs.LegalDelivery.{MayDeliver, may_deliver, legal, sent_name, ssn_is}
+use Rattle.causal_core.proofs.DeliveryMemories.{memory_here, all_delivered, chosen_delivered, same_memories}
 use Rattle.causal_core.proofs.data.Data.finish.Goals as goal
 use Rattle.causal_core.proofs.data.Data.finish.Goals.{After-len-first}
 

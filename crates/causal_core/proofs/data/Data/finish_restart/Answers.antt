@@ -21,12 +21,12 @@ use Rattle.causal_core.specs.Inside.Gathers.{IsGathered}
 use Rattle.causal_core.specs.View.{DataState, run_from, receivers}
 use Rattle.causal_core.specs.Inside.Grown.{first_batch}
 use Rattle.causal_core.specs.Inside.Memories.{memory_of, memories_in, bodies_in, rooms_in, keep_all}
-use Rattle.causal_core.proofs.Fitting.{fits_other, all_fit_set, delivered_more}
-use Rattle.causal_core.proofs.Sending.{are_sends, receivers_below, receivers_long, addressed_few}
-use Rattle.causal_core.proofs.Receiving.{chosen_all}
+use Rattle.causal_core.proofs.MemoriesFit.{fits_other, all_fit_set, delivered_more}
+use Rattle.causal_core.proofs.RuntimeSend.{are_sends, receivers_below, receivers_long, addressed_few}
+use Rattle.causal_core.proofs.RuntimeDelivery.{chosen_all}
 use Rattle.causal_core.proofs.Cells.{memories_length}
 use Rattle.causal_core.proofs.Legal.{held_fit}
-use Rattle.causal_core.proofs.Restarting.{MayRestart, may_restart, gathered_delivered, restart_legal, restart_apart, restart_fits, restart_memories}
+use Rattle.causal_core.proofs.RuntimeRestart.{MayRestart, may_restart, gathered_delivered, restart_legal, restart_apart, restart_fits, restart_memories}
 use Rattle.causal_core.proofs.data.Data.finish_restart.Goals as goal
 use Rattle.causal_core.proofs.data.Data.finish_restart.Goals.{After-len-first, After-put}
 

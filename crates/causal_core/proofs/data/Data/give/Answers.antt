@@ -6,7 +6,7 @@ use Rattle.causal_protocol.specs.Naming.{name, kept_for}
 use Rattle.causal_protocol.specs.Refusals.{first_fault}
 use Rattle.causal_core.specs.View.{run_from}
 use Rattle.causal_core.specs.Inside.Memories.{memories_in, memory_at}
-use Rattle.causal_core.proofs.Delivering.{message_there, sender_keeps}
+use Rattle.causal_core.proofs.LegalDelivery.{message_there, sender_keeps}
 use Rattle.causal_core.proofs.data.Data.give.Goals as goal
 use Rattle.causal_core.proofs.data.Data.give.Goals.{After-self}
 

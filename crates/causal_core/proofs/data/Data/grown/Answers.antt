@@ -5,7 +5,7 @@ use Rattle.std.proofs.lemmas.Grind.{common_steps}
 use Rattle.std.proofs.lemmas.Bool.{false≢true}
 use Rattle.std.proofs.lemmas.Result.{IfOk-weaker}
 use Rattle.causal_trace.specs.Past.{det_from}
-use Rattle.causal_trace.proofs.Lemmas.Formed.{formed_short}
+use Rattle.causal_trace.proofs.Lemmas.WellFormed.{formed_short}
 use Rattle.causal_protocol.specs.declared.request.Request.TheVariants as Ask
 use Rattle.causal_protocol.specs.Memory.{at}
 use Rattle.causal_protocol.specs.Naming.{name, kept_for}
@@ -13,8 +13,8 @@ use Rattle.causal_protocol.specs.Refusals.{first_fault}
 use Rattle.causal_core.specs.View.{DataState, run_from}
 use Rattle.causal_core.specs.Inside.Grown.{IsGrown}
 use Rattle.causal_core.specs.Inside.Memories.{memories_in, bodies_in, rooms_in, memory_of, kept_of}
-use Rattle.causal_core.proofs.Telling.{received_few}
-use Rattle.causal_core.proofs.Delivering.{receiver_up, receiver_below, message_there, made_grown}
+use Rattle.causal_core.proofs.DeliveryRows.{received_few}
+use Rattle.causal_core.proofs.LegalDelivery.{receiver_up, receiver_below, message_there, made_grown}
 use Rattle.causal_core.proofs.data.Data.grown.Goals as goal
 use Rattle.causal_core.proofs.data.Data.grown.Goals.{After-as_slice-cells, In-Some, In-Some-cell_at}
 

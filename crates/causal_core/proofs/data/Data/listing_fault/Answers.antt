@@ -1,7 +1,7 @@
 use Rattle.std.proofs.Common.{◌∙◌, ap, sym}
 use Rattle.causal_protocol.specs.declared.request.CoreFault.TheVariants as Why
 use Rattle.causal_protocol.specs.Refusals.{when}
-use Rattle.causal_core.proofs.Restarting.{listing_full, gathering_told}
+use Rattle.causal_core.proofs.RuntimeRestart.{listing_full, gathering_told}
 use Rattle.causal_core.proofs.data.Data.listing_fault.Goals as goal
 
 pub returns-in-Some : goal.returns-in-Some

@@ -1,10 +1,10 @@
 use Rattle.std.proofs.Common.{◌≡◌, ◌∙◌, Some, ap, sym, arith}
 use Rattle.std.specs.Option.{option_map, option_copied}
 use Rattle.std.proofs.lemmas.Grind.{common_steps}
-use Rattle.causal_trace.proofs.Lemmas.Formed.{formed_short}
+use Rattle.causal_trace.proofs.Lemmas.WellFormed.{formed_short}
 use Rattle.causal_protocol.specs.Memory.{at}
 use Rattle.causal_core.specs.Inside.Memories.{memories_in, memory_of}
-use Rattle.causal_core.proofs.Telling.{received_few}
+use Rattle.causal_core.proofs.DeliveryRows.{received_few}
 use Rattle.causal_core.proofs.Cells.{some_within}
 use Rattle.causal_core.proofs.data.Data.named.Goals as goal
 

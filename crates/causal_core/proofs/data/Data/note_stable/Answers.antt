@@ -6,7 +6,7 @@ use Rattle.causal_protocol.specs.Run.{memories_of}
 use Rattle.causal_core.specs.View.{run_from}
 use Rattle.causal_core.specs.Inside.Memories.{memories_in, log_at}
 use Rattle.causal_core.proofs.Legal.{held_fit}
-use Rattle.causal_core.proofs.Writing.{stable_may, stable_held}
+use Rattle.causal_core.proofs.FlushWrites.{stable_may, stable_held}
 use Rattle.causal_core.proofs.data.Data.note_stable.Goals as goal
 
 pub push_stable_reserved-requires-clause-legal : goal.push_stable_reserved-requires-clause-legal

@@ -2,7 +2,7 @@ use Rattle.std.proofs.Common.{[], sym, subst}
 use Rattle.causal_core.specs.Inside.Facts.{IsHeld}
 use Rattle.causal_core.specs.View.{run_from}
 use Rattle.causal_core.specs.Inside.Memories.{memories_in}
-use Rattle.causal_core.proofs.Beginning.{fresh_held}
+use Rattle.causal_core.proofs.ProcessBegins.{fresh_held}
 use Rattle.causal_core.proofs.data.Data.open.Goals as goal
 
 pub invariant_of-result : goal.invariant_of-result

@@ -2,11 +2,11 @@ use Rattle.std.proofs.Common.{◌≡◌, ◌≤◌, ◌<◌, ◌∙◌, true, ap
 use Rattle.std.specs.Prelude.{is_some, not}
 use Rattle.std.proofs.lemmas.Bool.Decides.{nat_tests}
 use Rattle.std.specs.Option.{option_map_or}
-use Rattle.causal_trace.proofs.Lemmas.Formed.{formed_short}
+use Rattle.causal_trace.proofs.Lemmas.WellFormed.{formed_short}
 use Rattle.causal_protocol.specs.Memory.{at}
 use Rattle.causal_core.specs.Inside.Memories.{memories_in}
 use Rattle.causal_core.specs.Inside.Facts.{SameReceived}
-use Rattle.causal_core.proofs.Waiting.{sent_few, received_same, some_read}
+use Rattle.causal_core.proofs.PendingMessages.{sent_few, received_same, some_read}
 use Rattle.causal_core.proofs.data.Data.pending.Goals as goal
 
 pub pending_among-requires-clause-short : goal.pending_among-requires-clause-short

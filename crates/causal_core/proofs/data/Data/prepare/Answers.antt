@@ -3,7 +3,7 @@ use Rattle.causal_protocol.specs.declared.request.Request.TheVariants as Ask
 use Rattle.causal_core.proofs.Legal.{tells_reason}
 use Rattle.std.proofs.lemmas.Grind.{common_steps}
 use Rattle.causal_protocol.specs.Naming.{name}
-use Rattle.causal_core.proofs.Delivering.{receiver_up, grown_same, listed_few, carried_listed}
+use Rattle.causal_core.proofs.LegalDelivery.{receiver_up, grown_same, listed_few, carried_listed}
 use Rattle.causal_core.proofs.data.Data.prepare.Goals as goal
 
 pub returns-in-Some-clause-refused : goal.returns-in-Some-clause-refused

@@ -2,7 +2,7 @@ use Rattle.std.proofs.Common.{◌∙◌, sym, ap, arith, length}
 use Rattle.std.proofs.lemmas.Grind.{common_steps}
 use Rattle.causal_protocol.specs.declared.request.Request.TheVariants as Ask
 use Rattle.causal_core.proofs.Legal.{tells_reason}
-use Rattle.causal_core.proofs.Flushing.{flush_short}
+use Rattle.causal_core.proofs.FlushSteps.{flush_short}
 use Rattle.causal_core.proofs.data.Data.prepare_flush.Goals as goal
 
 pub returns-in-Some-clause-refused : goal.returns-in-Some-clause-refused

@@ -1,7 +1,7 @@
 use Rattle.std.proofs.Common.{◌∙◌, sym}
 use Rattle.causal_protocol.specs.declared.request.Request.TheVariants as Ask
 use Rattle.causal_core.proofs.Legal.{tells_reason}
-use Rattle.causal_core.proofs.Restarting.{none_listed}
+use Rattle.causal_core.proofs.RuntimeRestart.{none_listed}
 use Rattle.causal_core.proofs.data.Data.prepare_restart.Goals as goal
 
 pub returns-in-Some-clause-refused : goal.returns-in-Some-clause-refused

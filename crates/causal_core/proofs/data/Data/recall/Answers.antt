@@ -1,5 +1,5 @@
 use Rattle.std.proofs.Common.{◌≡◌, ◌∙◌, IfOk, subst}
-use Rattle.causal_core.proofs.Remembering.{gathered_down, remembered_anew}
+use Rattle.causal_core.proofs.RestartMemory.{gathered_down, remembered_anew}
 use Rattle.causal_core.proofs.data.Data.recall.Goals as goal
 
 pub returns-in-Some-clause-log : goal.returns-in-Some-clause-log

@@ -1,13 +1,13 @@
 use Rattle.std.proofs.Common.{◌≡◌, ◌∙◌, ap, arith, length}
 use Rattle.std.specs.FinMap as fin
 use Rattle.causal_log.specs.Stores.{count_in}
-use Rattle.causal_trace.proofs.Lemmas.Formed.{formed_short}
+use Rattle.causal_trace.proofs.Lemmas.WellFormed.{formed_short}
 use Rattle.causal_protocol.specs.Gathering.{gathered_log}
 use Rattle.causal_protocol.specs.Run.{memories_of}
 use Rattle.causal_protocol.specs.Refusals.{gathered}
 use Rattle.causal_core.specs.Inside.Memories.{memories_in}
-use Rattle.causal_core.proofs.Stored.{store_is}
-use Rattle.causal_core.proofs.Restarting.{few_stable, restart_lists}
+use Rattle.causal_core.proofs.StoreEntries.{store_is}
+use Rattle.causal_core.proofs.RuntimeRestart.{few_stable, restart_lists}
 use Rattle.causal_core.proofs.data.Data.restart_fault.Goals as goal
 
 pub count_gathered-requires-clause-few : goal.count_gathered-requires-clause-few

@@ -5,9 +5,9 @@ use Rattle.causal_protocol.specs.declared.request.Request.TheVariants as Ask
 use Rattle.causal_protocol.specs.Memory.{at}
 use Rattle.causal_protocol.specs.Run.{memories_of}
 use Rattle.causal_protocol.specs.Steps.{told_flush}
-use Rattle.causal_protocol.proofs.Lemmas.Carried.{step_carried}
+use Rattle.causal_protocol.proofs.Lemmas.KeptByType.{step_carried}
 use Rattle.causal_core.specs.Inside.Memories.{log_at}
-use Rattle.causal_core.proofs.Flushing.{flush_up, flush_below, flush_short, flush_steps, flush_refused, refusal_stores, unwritten_logged}
+use Rattle.causal_core.proofs.FlushSteps.{flush_up, flush_below, flush_short, flush_steps, flush_refused, refusal_stores, unwritten_logged}
 use Rattle.causal_core.proofs.flush.Core+S.flush.Goals as goal
 
 pub returns-in-Err-clause-step : goal.returns-in-Err-clause-step

@@ -1,7 +1,7 @@
 use Rattle.std.proofs.Common.{◌∙◌, sym}
 use Rattle.causal_protocol.specs.declared.request.Request.TheVariants as Ask
 use Rattle.causal_protocol.specs.Steps.{told_forget}
-use Rattle.causal_protocol.proofs.Lemmas.Carried.{step_carried}
+use Rattle.causal_protocol.proofs.Lemmas.KeptByType.{step_carried}
 use Rattle.causal_core.proofs.Forgotten.{forget_filled, forget_stable}
 use Rattle.causal_core.proofs.forget.Core+S.forget.Goals as goal
 

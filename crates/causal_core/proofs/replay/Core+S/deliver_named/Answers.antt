@@ -1,7 +1,7 @@
 use Rattle.std.proofs.Common.{◌∙◌, sym, ap}
 use Rattle.std.specs.Prelude.{Ok}
 use Rattle.causal_core.specs.CoreView.{run_of, state_of}
-use Rattle.causal_core.proofs.Replaying.{redelivered, refuses_named}
+use Rattle.causal_core.proofs.ReplayDeliveries.{redelivered, refuses_named}
 use Rattle.causal_core.proofs.replay.Core+S.deliver_named.Goals as goal
 
 pub returns-in-Ok-clause-ok : goal.returns-in-Ok-clause-ok

@@ -1,7 +1,7 @@
 use Rattle.std.proofs.Common.{◌∙◌, refl, sym, arith}
 use Rattle.std.proofs.lemmas.Grind.{common_steps}
 use Rattle.causal_core.specs.CoreView.{run_of, state_of}
-use Rattle.causal_core.proofs.Replaying.{refuses_naming, replayed_nothing}
+use Rattle.causal_core.proofs.ReplayDeliveries.{refuses_naming, replayed_nothing}
 use Rattle.causal_core.proofs.replay.Core+S.replay.Goals as goal
 
 pub returns-in-Err-clause-refused : goal.returns-in-Err-clause-refused

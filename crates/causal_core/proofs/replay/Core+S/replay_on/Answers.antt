@@ -1,5 +1,5 @@
 use Rattle.causal_core.specs.CoreView.{state_of}
-use Rattle.causal_core.proofs.Replaying.{replayed_none, replayed_more, replayed_on, replayed_unnamed}
+use Rattle.causal_core.proofs.ReplayDeliveries.{replayed_none, replayed_more, replayed_on, replayed_unnamed}
 use Rattle.causal_core.proofs.replay.Core+S.replay_on.Goals as goal
 
 pub loop-count-init : goal.loop-count-init

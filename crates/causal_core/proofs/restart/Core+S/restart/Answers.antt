@@ -9,14 +9,14 @@ use Rattle.causal_protocol.specs.Run.{memories_of}
 use Rattle.causal_protocol.specs.Refusals.{gathered}
 use Rattle.causal_protocol.specs.Runs.{IsRun}
 use Rattle.causal_protocol.specs.Steps.{extended, sends_of}
-use Rattle.causal_protocol.proofs.Lemmas.Carried.{step_carried}
+use Rattle.causal_protocol.proofs.Lemmas.KeptByType.{step_carried}
 use Rattle.causal_core.specs.Boxes.{after}
 use Rattle.causal_core.specs.View.{receivers, sent_bodies}
 use Rattle.causal_core.proofs.BoxLemmas.{elsewhere_same}
-use Rattle.causal_core.proofs.Filled.{memories_count}
+use Rattle.causal_core.proofs.UpAfterStep.{memories_count}
 use Rattle.causal_core.proofs.RefusedRequests.{refused_restart}
-use Rattle.causal_core.proofs.Remembering.{restarted_alone}
-use Rattle.causal_core.proofs.Restarting.{restart_below, restart_filled, restart_stable}
+use Rattle.causal_core.proofs.RestartMemory.{restarted_alone}
+use Rattle.causal_core.proofs.RuntimeRestart.{restart_below, restart_filled, restart_stable}
 use Rattle.causal_core.proofs.restart.Core+S.restart.Goals as goal
 
 pub returns-in-Err-clause-step : goal.returns-in-Err-clause-step

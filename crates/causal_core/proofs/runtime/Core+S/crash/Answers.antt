@@ -6,11 +6,11 @@ use Rattle.causal_trace.specs.Past.{is_stable}
 use Rattle.causal_protocol.specs.Run.{memories_of}
 use Rattle.causal_protocol.specs.declared.request.Request.TheVariants as Ask
 use Rattle.causal_protocol.specs.declared.request.Reply.TheVariants as Told
-use Rattle.causal_protocol.proofs.Lemmas.Carried.{step_carried}
-use Rattle.causal_core.proofs.Filled.{memories_count}
+use Rattle.causal_protocol.proofs.Lemmas.KeptByType.{step_carried}
+use Rattle.causal_core.proofs.UpAfterStep.{memories_count}
 use Rattle.causal_core.specs.Inside.Remembers.{IsRemembered}
-use Rattle.causal_core.proofs.Remembering.{crash_alone}
-use Rattle.causal_core.proofs.Stepped.{crash_refused, crash_below, crash_filled, crash_stable}
+use Rattle.causal_core.proofs.RestartMemory.{crash_alone}
+use Rattle.causal_core.proofs.RunAfterStep.{crash_refused, crash_below, crash_filled, crash_stable}
 use Rattle.causal_core.proofs.runtime.Core+S.crash.Goals as goal
 
 pub invariant_of-self : goal.invariant_of-self

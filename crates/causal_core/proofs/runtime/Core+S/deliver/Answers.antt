@@ -6,18 +6,18 @@ use Rattle.causal_protocol.specs.declared.request.CoreFault.TheVariants as Why
 use Rattle.causal_protocol.specs.Run.{memories_of}
 use Rattle.causal_protocol.specs.Runs.{IsRun}
 use Rattle.causal_protocol.specs.declared.request.Reply.TheVariants as Told
-use Rattle.causal_protocol.proofs.Lemmas.Carried.{step_carried}
+use Rattle.causal_protocol.proofs.Lemmas.KeptByType.{step_carried}
 use Rattle.causal_protocol.specs.Naming.{name, next_ssn, own_det}
 use Rattle.causal_protocol.specs.declared.request.Request.TheVariants as Ask
 use Rattle.causal_protocol.specs.Steps.{extended, delivery_of, sends_of}
 use Rattle.causal_core.specs.View.{DataState, receivers, sent_bodies}
 use Rattle.causal_core.specs.View.{with_bodies}
-use Rattle.causal_core.proofs.Stored.{store_is}
-use Rattle.causal_core.proofs.Filled.{box_there}
+use Rattle.causal_core.proofs.StoreEntries.{store_is}
+use Rattle.causal_core.proofs.UpAfterStep.{box_there}
 use Rattle.causal_core.proofs.RefusedRequests.{refused_delivery}
-use Rattle.causal_core.proofs.Delivering.{receiver_up}
-use Rattle.causal_core.proofs.Remembering.{delivery_alone}
-use Rattle.causal_core.proofs.Stepped.{delivery_filled, delivery_stable}
+use Rattle.causal_core.proofs.LegalDelivery.{receiver_up}
+use Rattle.causal_core.proofs.RestartMemory.{delivery_alone}
+use Rattle.causal_core.proofs.RunAfterStep.{delivery_filled, delivery_stable}
 use Rattle.causal_core.proofs.runtime.Core+S.deliver.Goals as goal
 
 pub prepare-requires : goal.prepare-requires

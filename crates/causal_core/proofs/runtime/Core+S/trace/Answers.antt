@@ -1,7 +1,7 @@
 use Rattle.std.proofs.Common.{sym, subst}
 use Rattle.causal_trace.specs.Judgement.{IsSafeTrace}
 use Rattle.causal_protocol.specs.Kept.{SlotsAreSingle}
-use Rattle.causal_protocol.proofs.Lemmas.Carried.{safe_carried, single_carried}
+use Rattle.causal_protocol.proofs.Lemmas.KeptByType.{safe_carried, single_carried}
 use Rattle.causal_core.proofs.runtime.Core+S.trace.Goals as goal
 
 pub returns-clause-safe : goal.returns-clause-safe

@@ -1,9 +1,9 @@
 use Rattle.std.proofs.Common.{◌≡◌, ◌∙◌, ap, sym, subst, arith, length}
 use Rattle.std.specs.FinMap as fin
 use Rattle.causal_protocol.specs.Runs.{Opens}
-use Rattle.causal_protocol.proofs.Lemmas.Carried.{opening_carried}
+use Rattle.causal_protocol.proofs.Lemmas.KeptByType.{opening_carried}
 use Rattle.causal_core.proofs.BoxLemmas.{Began_filled}
-use Rattle.causal_core.proofs.Beginning.{all_up, none_stored}
+use Rattle.causal_core.proofs.ProcessBegins.{all_up, none_stored}
 use Rattle.causal_core.proofs.start.Core+S.start.Goals as goal
 
 pub invariant_of-result : goal.invariant_of-result

@@ -1,5 +1,5 @@
 use Rattle.std.proofs.Common.{◌∙◌, sym}
-use Rattle.causal_log.proofs.Lemmas.Storing.{with_member}
+use Rattle.causal_log.proofs.Lemmas.StoreSets.{with_member}
 use Rattle.causal_log.proofs.failing.FailingStoreStable.put.Goals as goal
 
 pub returns-then-contains-clause-ok : goal.returns-then-contains-clause-ok

@@ -5,7 +5,7 @@ use Rattle.std.proofs.lemmas.List.{length-map}
 use Rattle.causal_name.specs.Names.{is_ascending}
 use Rattle.causal_log.specs.Logs.{log_of, unmarked, stable_in, unstable_in}
 use Rattle.causal_log.proofs.Lemmas.Ascents.{filter_ascends}
-use Rattle.causal_log.proofs.Lemmas.Listing.{stable_and_unstable}
+use Rattle.causal_log.proofs.Lemmas.LogLists.{stable_and_unstable}
 use Rattle.causal_log.proofs.EntryLemmas.{own_entries}
 use Rattle.causal_log.proofs.PlaceLemmas.{in_order, same_kept, same_count, same_length}
 use Rattle.causal_log.proofs.log.Log.drop_stable.Goals as goal

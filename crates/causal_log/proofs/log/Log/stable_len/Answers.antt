@@ -1,5 +1,5 @@
 use Rattle.std.proofs.Common.{arith}
-use Rattle.causal_log.proofs.Lemmas.Listing.{stable_and_unstable}
+use Rattle.causal_log.proofs.Lemmas.LogLists.{stable_and_unstable}
 use Rattle.causal_log.proofs.log.Log.stable_len.Goals as goal
 
 pub overflow_sub-result : goal.overflow_sub-result

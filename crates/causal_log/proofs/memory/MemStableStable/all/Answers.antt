@@ -2,7 +2,7 @@ use Rattle.std.proofs.Common.{◌∙◌, ap, subst}
 use Rattle.std.specs.List.Sorted.{IsPermutation}
 use Rattle.std.specs.Map.{keys_of}
 use Rattle.causal_log.specs.Stores.{dets_in}
-use Rattle.causal_log.proofs.Lemmas.Storing.{sorted_list}
+use Rattle.causal_log.proofs.Lemmas.StoreSets.{sorted_list}
 use Rattle.causal_log.proofs.memory.MemStableStable.all.Goals as goal
 
 pub returns : goal.returns

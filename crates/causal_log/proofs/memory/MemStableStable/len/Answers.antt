@@ -1,7 +1,7 @@
 use Rattle.std.proofs.Common.{◌∙◌, length, ap, sym}
 use Rattle.std.specs.Map.{keys_of}
 use Rattle.causal_log.specs.Stores.{count_in}
-use Rattle.causal_log.proofs.Lemmas.Storing.{count_list}
+use Rattle.causal_log.proofs.Lemmas.StoreSets.{count_list}
 use Rattle.causal_log.proofs.memory.MemStableStable.len.Goals as goal
 
 pub returns : goal.returns

@@ -2,7 +2,7 @@ use Rattle.std.proofs.Common.{◌≡◌, ◌∙◌, is_some, true, false, true�
 use Rattle.std.specs.Map.{keys_of}
 use Rattle.causal_log.specs.Stores.{set_of, with_det, has}
 use Rattle.causal_log.proofs.StoreLemmas.{some_of, has_there}
-use Rattle.causal_log.proofs.Lemmas.Storing.{with_member, set_push}
+use Rattle.causal_log.proofs.Lemmas.StoreSets.{with_member, set_push}
 use Rattle.causal_log.proofs.memory.MemStableStable.put.Goals as goal
 
 pub returns-then-is_some-clause-ok : goal.returns-then-is_some-clause-ok

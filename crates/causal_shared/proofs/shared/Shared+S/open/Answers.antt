@@ -5,7 +5,7 @@ use Rattle.causal_core.specs.CoreView.{run_of}
 use Rattle.causal_shared.specs.History.{Held, instant}
 use Rattle.causal_shared.specs.Locked.{held_of, opened_over}
 use Rattle.causal_shared.specs.Seat.{AreFresh, new_sitting}
-use Rattle.causal_shared.proofs.Answered.{holds}
+use Rattle.causal_shared.proofs.OkAnswers.{holds}
 use Rattle.causal_shared.proofs.shared.Shared+S.open.Goals as goal
 
 pub returns-clause-recording : goal.returns-clause-recording

@@ -4,7 +4,7 @@ use Rattle.std.specs.List.{list_any}
 use Rattle.std.specs.Option.{option_map_or}
 use Rattle.std.proofs.lemmas.List.{reverse-reverse, length-reverse}
 use Rattle.causal_trace.specs.Inside.Chains.{IsBelow, chain, chain_of, is_sought}
-use Rattle.causal_trace.proofs.Chained.{Leads, leads_on, below_higher, chain_ends, walk_falls}
+use Rattle.causal_trace.proofs.ReceiptChains.{Leads, leads_on, below_higher, chain_ends, walk_falls}
 use Rattle.causal_trace.proofs.chains.Chains.has.Goals as goal
 use Rattle.causal_trace.proofs.chains.Chains.has.Goals.{In-Some, After-index-node}
 

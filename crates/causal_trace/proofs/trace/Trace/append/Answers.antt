@@ -8,10 +8,10 @@ use Rattle.causal_trace.specs.Bounded.{IsBounded}
 use Rattle.causal_trace.specs.Inside.Index.{lanes_after, subject, HasRoom, is_restart}
 use Rattle.causal_trace.specs.Inside.Chains.{heads_after, nodes_after, HasHead}
 use Rattle.causal_name.specs.Names.{message_of}
-use Rattle.causal_trace.proofs.Lemmas.Formed.{kept_push}
+use Rattle.causal_trace.proofs.Lemmas.WellFormed.{kept_push}
 use Rattle.causal_trace.proofs.Lemmas.Instants.{past_whole}
-use Rattle.causal_trace.proofs.Laned.{subject_there, lanes_have_room, lanes_length}
-use Rattle.causal_trace.proofs.Indexed.{det_there, own_named, sender_there, indexed_push, restarts_few, deliveries_in_few}
+use Rattle.causal_trace.proofs.LaneRecords.{subject_there, lanes_have_room, lanes_length}
+use Rattle.causal_trace.proofs.TraceIndex.{det_there, own_named, sender_there, indexed_push, restarts_few, deliveries_in_few}
 use Rattle.causal_trace.proofs.trace.Trace.append.Goals as goal
 use Rattle.causal_trace.proofs.trace.Trace.append.Goals.{After-det_of_next-own}
 

@@ -1,5 +1,5 @@
 use Rattle.std.proofs.Common.{reverse, arith}
-use Rattle.causal_trace.proofs.Indexed.{deliveries_in_few}
+use Rattle.causal_trace.proofs.TraceIndex.{deliveries_in_few}
 use Rattle.causal_trace.proofs.trace.Trace.deliveries.Goals as goal
 
 pub overflow_cast-result : goal.overflow_cast-result

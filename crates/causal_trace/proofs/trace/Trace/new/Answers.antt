@@ -1,5 +1,5 @@
 use Rattle.std.proofs.Common.{arith}
-use Rattle.causal_trace.proofs.Indexed.{indexed_none}
+use Rattle.causal_trace.proofs.TraceIndex.{indexed_none}
 use Rattle.causal_trace.proofs.trace.Trace.new.Goals as goal
 
 pub invariant_of-result : goal.invariant_of-result

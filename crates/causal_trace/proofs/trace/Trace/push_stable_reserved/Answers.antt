@@ -2,7 +2,7 @@ use Rattle.std.proofs.Common.{◌∙◌, ap}
 use Rattle.std.proofs.lemmas.List.{reverse-append}
 use Rattle.causal_trace.specs.declared.entry.Entry.TheVariants.{Stable}
 use Rattle.causal_trace.specs.Rows.{first_fault}
-use Rattle.causal_trace.proofs.Indexed.{indexed_stable}
+use Rattle.causal_trace.proofs.TraceIndex.{indexed_stable}
 use Rattle.causal_trace.proofs.trace.Trace.push_stable_reserved.Goals as goal
 
 pub invariant_of-self : goal.invariant_of-self

@@ -1,6 +1,6 @@
 use Rattle.std.proofs.Common.{◌≡◌, Some, sym, ap, ◌∙◌}
 use Rattle.causal_trace.specs.declared.fault.TraceFault.TheVariants.{NoMemory}
-use Rattle.causal_trace.proofs.Lemmas.Formed.{no_memory_within}
+use Rattle.causal_trace.proofs.Lemmas.WellFormed.{no_memory_within}
 use Rattle.causal_trace.proofs.trace.Trace.push_within.Goals as goal
 
 pub returns-in-Some-clause-memory : goal.returns-in-Some-clause-memory

@@ -1,4 +1,4 @@
-use Rattle.causal_trace.proofs.Indexed.{indexed_same}
+use Rattle.causal_trace.proofs.TraceIndex.{indexed_same}
 use Rattle.causal_trace.proofs.trace.Trace.reserve.Goals as goal
 
 pub invariant_of-self-2 : goal.invariant_of-self-2

@@ -1,4 +1,4 @@
-use Rattle.causal_trace.proofs.Indexed.{indexed_same}
+use Rattle.causal_trace.proofs.TraceIndex.{indexed_same}
 use Rattle.causal_trace.proofs.trace.Trace.try_clone.Goals as goal
 
 pub invariant_of-result : goal.invariant_of-result

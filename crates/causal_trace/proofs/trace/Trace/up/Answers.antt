@@ -2,7 +2,7 @@ use Rattle.std.proofs.Common.{◌≡◌, true, sym, ap, ◌∙◌}
 use Rattle.std.specs.Prelude.{not, ◌&&◌, nat_lt}
 use Rattle.causal_trace.specs.Past.{instant, is_down}
 use Rattle.causal_trace.specs.State.{past_at}
-use Rattle.causal_trace.proofs.Asked.{is_process, asked_instant}
+use Rattle.causal_trace.proofs.InstantQuestions.{is_process, asked_instant}
 use Rattle.causal_trace.proofs.trace.Trace.up.Goals as goal
 
 pub returns-then-p-self : goal.returns-then-p-self

@@ -1,6 +1,6 @@
 use Rattle.causal_audit.proofs.Common.{sym, subst, arith}
 use Rattle.causal_audit.specs.Inside.Group.Walk.{TellsReached}
-use Rattle.causal_audit.proofs.group.Reaching.{told_before}
+use Rattle.causal_audit.proofs.group.GroupReach.{told_before}
 use Rattle.causal_audit.proofs.group.reach.ReachingDeliveries.reaching.Goals as goal
 
 pub returns-then-position-self : goal.returns-then-position-self

@@ -1,5 +1,5 @@
 use Rattle.causal_audit.proofs.Common.{◌∙◌, sym, arith}
-use Rattle.causal_audit.proofs.group.Reaching.{seen, sent, stored, forgotten, crashed, restarted, delivered}
+use Rattle.causal_audit.proofs.group.GroupReach.{seen, sent, stored, forgotten, crashed, restarted, delivered}
 use Rattle.causal_audit.proofs.Shown.{deliver_inside}
 use Rattle.causal_audit.proofs.group.reach.ReachingDeliveries.see.Goals as goal
 

@@ -1,13 +1,13 @@
 use Rattle.causal_audit.proofs.Common.{◌≡◌, ◌∙◌, ◌≤◌, true, length, sym, subst, arith, contains, instant, is_down, logs, instant_length}
-use Rattle.causal_audit.proofs.group.Opened.{zero}
+use Rattle.causal_audit.proofs.group.OpenPositions.{zero}
 use Rattle.causal_audit.specs.Inside.Group.Walk.{AreBelow, AreCopies, TellRows, position_at}
 use Rattle.causal_audit.specs.Inside.Group.OpenDeliveries.{RunUpTo}
 use Rattle.causal_audit.specs.Inside.DeliveryStates.{Shows}
 use Rattle.causal_audit.proofs.Shown.{shows_none}
 use Rattle.causal_audit.proofs.group.GroupWalk.{begun_empty, below_made}
-use Rattle.causal_audit.proofs.group.Reaching.{begun, none_in}
+use Rattle.causal_audit.proofs.group.GroupReach.{begun, none_in}
 use Rattle.causal_audit.proofs.by_clock.Begun.{unheard_before}
-use Rattle.causal_audit.proofs.index.Turned.{passed_down}
+use Rattle.causal_audit.proofs.index.DownAfterTurns.{passed_down}
 use Rattle.causal_audit.proofs.group.run_to_follow.RunToFollow.begin.Goals as goal
 
 pub mark_all-requires-clause-none : goal.mark_all-requires-clause-none

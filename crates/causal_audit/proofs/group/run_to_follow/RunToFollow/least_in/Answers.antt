@@ -1,14 +1,14 @@
 use Rattle.causal_audit.proofs.Common.{◌≤◌, inl, length, sym, subst, arith, All, All-permutation, Contains-permutation, IsPermutation-map, IsPermutation-sym, instant, HasOrphan, instant_length}
 use Rattle.std.specs.Prelude.{IsPermutation}
 use Rattle.std.proofs.lemmas.List.Sorted.{length_permutation}
-use Rattle.causal_audit.proofs.group.Opened.{position, zero}
+use Rattle.causal_audit.proofs.group.OpenPositions.{position, zero}
 use Rattle.causal_audit.specs.Inside.Among.{LeastAmongBy}
 use Rattle.causal_audit.specs.Inside.Group.Walk.{HaveNone, position_at}
 use Rattle.causal_audit.specs.Inside.Group.OpenDeliveries.{IsDeliveryAt, IsOpenDelivery, RunUpTo, positions_of}
 use Rattle.causal_audit.specs.declared.group.run_to_follow.OpenDelivery.{OpenDelivery}
 use Rattle.causal_audit.proofs.AmongLemmas.{among_later, among_wider}
 use Rattle.causal_audit.proofs.group.GroupWalk.{place_of}
-use Rattle.causal_audit.proofs.Orphaned.{not_yet}
+use Rattle.causal_audit.proofs.NoOrphanSoFar.{not_yet}
 use Rattle.causal_audit.proofs.group.run_to_follow.RunToFollow.least_in.Goals as goal
 
 pub begin-requires-clause-few : goal.begin-requires-clause-few

@@ -2,12 +2,12 @@ use Rattle.causal_audit.proofs.Common.{◌≡◌, ◌<◌, ◌≤◌, contains, 
 use Rattle.std.specs.Slice.Iter.{chunks_rest, chunks_size}
 use Rattle.causal_audit.proofs.AmongLemmas.{among_joined, among_none, horizon_joined, horizon_within}
 use Rattle.causal_audit.proofs.group.GroupWalk.{room_within}
-use Rattle.causal_audit.proofs.group.Reaching.{none_in}
+use Rattle.causal_audit.proofs.group.GroupReach.{none_in}
 use Rattle.causal_audit.specs.Inside.Among.{LeastAmongBy, horizon}
 use Rattle.causal_audit.specs.Earlier.{earlier}
 use Rattle.causal_audit.specs.Inside.Group.OpenDeliveries.{IsDeliveryAt, IsOpenDelivery, positions_of}
 use Rattle.causal_audit.specs.declared.group.run_to_follow.OpenDelivery.{OpenDelivery}
-use Rattle.causal_audit.proofs.group.Opened.{all_left, all_right, position}
+use Rattle.causal_audit.proofs.group.OpenPositions.{all_left, all_right, position}
 use Rattle.causal_audit.proofs.group.run_to_follow.RunToFollow.least_within.Goals as goal
 
 pub loop-group-init : goal.loop-group-init

@@ -3,7 +3,7 @@ use Rattle.causal_audit.specs.Quiet.{mentioned_by}
 use Rattle.causal_audit.specs.Inside.Group.Walk.{IsMarked, row}
 use Rattle.causal_audit.specs.Inside.Index.Filed.{mentions_of}
 use Rattle.causal_audit.specs.Inside.Group.OpenDeliveries.{RunUpTo}
-use Rattle.causal_audit.proofs.look.Staying.{mentioned_listed}
+use Rattle.causal_audit.proofs.look.CoverStays.{mentioned_listed}
 use Rattle.causal_audit.proofs.Steps.{entry_then}
 use Rattle.causal_audit.proofs.group.run_to_follow.RunToFollow.mark_delivery.Goals as goal
 

@@ -1,6 +1,6 @@
 use Rattle.std.proofs.Common.{◌≡◌, ◌<◌, ◌≤◌, length, get_or, sym, subst, arith, ◌∙◌}
 use Rattle.causal_audit.proofs.Steps.{entry_read}
-use Rattle.causal_audit.proofs.index.Turned.{left_above, none_restarts, passed_one_more}
+use Rattle.causal_audit.proofs.index.DownAfterTurns.{left_above, none_restarts, passed_one_more}
 use Rattle.causal_audit.proofs.index.crashes_and_restarts.CrashesAndRestarts.next_of_many.Goals as goal
 
 pub loop-position-preserved : goal.loop-position-preserved

@@ -1,5 +1,5 @@
 use Rattle.std.proofs.Common.{ℕ, ◌<◌, ◌≤◌, ◌-◌, length, get_or}
-use Rattle.causal_audit.proofs.index.Turned.{PassNone}
+use Rattle.causal_audit.proofs.index.DownAfterTurns.{PassNone}
 use Rattle.causal_audit.proofs.index.crashes_and_restarts.CrashesAndRestarts.next_of_many.Given as goal
 
 -- those that are left are not before `from`, and those that were passed restart none of these

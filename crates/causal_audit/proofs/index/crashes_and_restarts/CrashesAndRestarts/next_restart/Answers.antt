@@ -1,5 +1,5 @@
 use Rattle.std.proofs.Common.{◌<◌, get_or, arith}
-use Rattle.causal_audit.proofs.index.Turned.{none_restarts, PassNone}
+use Rattle.causal_audit.proofs.index.DownAfterTurns.{none_restarts, PassNone}
 use Rattle.causal_audit.proofs.index.crashes_and_restarts.CrashesAndRestarts.next_restart.Goals as goal
 
 pub returns-then-are_ahead-clause-none : goal.returns-then-are_ahead-clause-none

@@ -2,7 +2,7 @@ use Rattle.causal_audit.proofs.Common.{◌≡◌, ◌∷◌, ◌+◌, ◌<◌, [
 use Rattle.causal_audit.specs.Inside.Index.Filed.{AreTurns}
 use Rattle.causal_audit.specs.Inside.DeliveryStates.{Shows}
 use Rattle.causal_audit.proofs.Shown.{shows_none}
-use Rattle.causal_audit.proofs.index.Turned.{turns_none}
+use Rattle.causal_audit.proofs.index.DownAfterTurns.{turns_none}
 use Rattle.causal_audit.proofs.index.crashes_and_restarts.CrashesAndRestarts.of.Goals as goal
 
 pub loop-i-init : goal.loop-i-init

@@ -1,5 +1,5 @@
 use Rattle.std.proofs.Common.{◌-◌, arith}
-use Rattle.causal_audit.proofs.index.Turned.{none_turned, last_turned}
+use Rattle.causal_audit.proofs.index.DownAfterTurns.{none_turned, last_turned}
 use Rattle.causal_audit.proofs.index.crashes_and_restarts.Passing.down.Goals as goal
 
 pub returns-then-self-eq0 : goal.returns-then-self-eq0

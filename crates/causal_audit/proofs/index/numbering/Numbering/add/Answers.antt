@@ -1,7 +1,7 @@
 use Rattle.causal_audit.proofs.Common.{Vec, Global, Option, ℕ, ◌≡◌, ◌∷◌, [], List, Some, cond, length, map, reverse, sym, ap, subst, ◌∙◌, arith, length-map, length-reverse, reverse-append, Det}
 use Rattle.causal_audit.specs.Inside.Index.Chains.{IsIndex, head_of, is_kin}
 use Rattle.causal_audit.specs.declared.index.numbering.Node.{Node}
-use Rattle.causal_audit.proofs.index.Indexed.{index_same, index_more}
+use Rattle.causal_audit.proofs.index.MessageChains.{index_same, index_more}
 use Rattle.causal_audit.proofs.index.numbering.Numbering.add.Goals as goal
 
 abbrev items : Vec (Option ℕ) Global → List (Option ℕ)

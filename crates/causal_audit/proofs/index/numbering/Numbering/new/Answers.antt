@@ -1,6 +1,6 @@
 use Rattle.std.proofs.Common.{[], Vec, Global, Option, ℕ, List, map, reverse, sym, ap, subst}
 use Rattle.causal_audit.specs.Inside.Index.Chains.{IsIndex}
-use Rattle.causal_audit.proofs.index.Indexed.{empty_index}
+use Rattle.causal_audit.proofs.index.MessageChains.{empty_index}
 use Rattle.causal_audit.proofs.index.numbering.Numbering.new.Goals as goal
 
 pub invariant_of-result : goal.invariant_of-result

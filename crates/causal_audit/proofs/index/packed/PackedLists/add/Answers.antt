@@ -1,7 +1,7 @@
 use Rattle.causal_audit.proofs.Common.{◌<◌, length, refl, sym, ap, subst, ◌∙◌, arith, length-map}
 use Rattle.causal_audit.specs.Inside.Index.Filed.{with_added}
 use Rattle.causal_audit.specs.Inside.Index.Packed.{list_in}
-use Rattle.causal_audit.proofs.index.Packing.{packed_more, packed_still}
+use Rattle.causal_audit.proofs.index.PackedSpans.{packed_more, packed_still}
 use Rattle.causal_audit.proofs.index.packed.PackedLists.add.Goals as goal
 
 pub returns-clause-added : goal.returns-clause-added

@@ -1,8 +1,8 @@
 use Rattle.causal_audit.proofs.Common.{◌≡◌, ◌+◌, ◌∷◌, [], Some, None, sym, ◌∙◌, subst, arith, det_at, map-append, All-push}
 use Rattle.causal_audit.specs.declared.group.run_to_follow.OpenDelivery.{OpenDelivery}
 use Rattle.causal_audit.specs.Inside.Group.OpenDeliveries.{IsOpenDelivery, positions_of, AreGathered, AreUncovered, Asked}
-use Rattle.causal_audit.proofs.look.Uncovered.{one_gathered, one_left_out}
-use Rattle.causal_audit.proofs.group.Opened.{position}
+use Rattle.causal_audit.proofs.look.SurveyGathers.{one_gathered, one_left_out}
+use Rattle.causal_audit.proofs.group.OpenPositions.{position}
 use Rattle.causal_audit.proofs.look.survey.Survey.gather.Goals as goal
 
 pub returns-in_default : goal.returns-in_default

@@ -1,7 +1,7 @@
 use Rattle.causal_audit.proofs.Common.{◌≡◌, ◌<◌, ◌≤◌, ◌-◌, length, get_or, true, false, sym, subst, arith, rules, IsPartitionPoint, IsPartitionedBy, leb-true, leb-false, IsPartitionPoint-from_clause, IsPartitionedBy-leb}
 use Rattle.std.proofs.Math.Dec.{leb}
 use Rattle.causal_audit.specs.declared.look.thin.Stretch.{Stretch}
-use Rattle.causal_audit.proofs.look.Thinned.{none_before, last_before}
+use Rattle.causal_audit.proofs.look.LookFindings.{none_before, last_before}
 use Rattle.causal_audit.proofs.look.thin_stretches.ThinStretches.last_bare.Goals as goal
 
 pub returns-then-passed-eq0-clause-last : goal.returns-then-passed-eq0-clause-last

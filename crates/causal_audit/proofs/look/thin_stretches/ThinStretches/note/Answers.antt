@@ -1,7 +1,7 @@
 use Rattle.std.proofs.Common.{ℕ, ◌≤◌, refl, subst, arith}
 use Rattle.causal_audit.specs.declared.look.thin.Standing.TheVariants.{Kept}
 use Rattle.causal_audit.specs.Inside.Look.Looks.{RulesOut}
-use Rattle.causal_audit.proofs.look.Thinned.{none_more, one_more}
+use Rattle.causal_audit.proofs.look.LookFindings.{none_more, one_more}
 use Rattle.causal_audit.proofs.look.thin_stretches.ThinStretches.note.Goals as goal
 
 pub returns-in-Kept-clause-thins : goal.returns-in-Kept-clause-thins

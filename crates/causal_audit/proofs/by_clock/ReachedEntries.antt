@@ -1,0 +1,144 @@
+-- Which entries a delivery reaches, at each instant and in the whole run, and how one is followed from change to change.
+use Rattle.causal_audit.proofs.Common.{ℕ, zero, suc, ◌≡◌, ◌-◌, ◌<◌, ◌≤◌, ◌==◌, inl, false, Result, Ok, Err, List, [], ◌∷◌, length, drop, sym, arith, inr, Bool, true, Some, refl, ap, subst, ◌∙◌, ◌+◌, get_or, Option, OnOk, ◌↔◌, ◌⊎◌, ◌||◌, Contains, false≢true, or_cases, eqb-true, eq-eqb, nat_tests, Entry, instant, det_at, lane, AreAccepted, Recording, IsWellFormed, IsEventOf, Reaches, actor, in_order, by_message, itself, onward, Depends, reaches_old, event_below, reaches_newest, ReachesNewest, is_newest, has, in_lane, through_message, accepted_forward, Pid, Det, Send, Deliver, entries_of, accepted_then, det_then, instant_length}
+use Rattle.std.specs.Result.{is_err}
+use Rattle.causal_clock.specs.declared.Event.{Event}
+use Rattle.causal_clock.specs.Precedence as clock
+use Rattle.causal_audit.proofs.Between.{reaches_more, known_already, quiet_step}
+use Rattle.causal_audit.proofs.Legal.{delivery_event}
+use Rattle.causal_audit.proofs.by_clock.Link.{clock_tells}
+use Rattle.causal_audit.specs.Inside.ByClock.Stands.{Stands}
+use Rattle.causal_audit.specs.Inside.DeliveryStates.{TellsNextReach, IsDeliveryState, IsStateAfter, BreachAt, TellsBreachAt}
+use Rattle.causal_audit.proofs.Swept.{sent_before}
+use Rattle.causal_audit.specs.declared.breach.Breach.{Breach}
+use Rattle.causal_audit.specs.declared.delivery_state.DeliveryState.{DeliveryState}
+use Rattle.causal_audit.specs.Quiet.{Agree, mentioned_by}
+use Rattle.causal_audit.specs.Inside.ByClock.Changes.{AreMentionsOf, ChangesNothing, HasMentions, HasNoneUntil}
+use Rattle.causal_audit.proofs.look.CoverStays.{mentioned_next}
+use Rattle.causal_audit.proofs.NoOrphanSoFar.{accepted_next}
+use Rattle.causal_audit.proofs.Steps.{entry_read, next_state}
+
+-- ==== a run's entries in their order, and its instants
+
+-- ---- what reaches what is the same at each instant
+
+reaches_dropped : (n m : ℕ) (past : List Entry) (i j : ℕ) → AreAccepted n past → j < length past - m → Reaches past i j → Reaches (drop m past) i j
+reaches_dropped n zero past i j formed below r = r
+reaches_dropped n (suc m) [] i j formed below r = r
+reaches_dropped n (suc m) (e ∷ past) i j formed below r =
+    reaches_dropped n m past i j formed.0 (omega (arith, below)) (reaches_old e past i (accepted_forward n (e ∷ past) formed) j (omega (arith, below)) r)
+
+reaches_kept : (m : ℕ) (past : List Entry) (i j : ℕ) → Reaches (drop m past) i j → Reaches past i j
+reaches_kept zero past i j r = r
+reaches_kept (suc m) [] i j r = r
+reaches_kept (suc m) (e ∷ past) i j r = reaches_more e past i j (reaches_kept m past i j r)
+
+pub reaches_then : (n : ℕ) (past : List Entry) (t i j : ℕ) → AreAccepted n past → t ≤ length past → j < t → Reaches past i j → Reaches (instant past t) i j
+reaches_then n past t i j formed within below r = reaches_dropped n (length past - t) past i j formed (omega (arith, within, below)) r
+
+pub reaches_whole : (past : List Entry) (t i j : ℕ) → Reaches (instant past t) i j → Reaches past i j
+reaches_whole past t i j r = reaches_kept (length past - t) past i j r
+
+event_kept : (m : ℕ) (past : List Entry) (i p l : ℕ) → IsEventOf (drop m past) i p l → IsEventOf past i p l
+event_kept zero past i p l at = at
+event_kept (suc m) [] i p l at = at
+event_kept (suc m) (e ∷ past) i p l at = inl (event_kept m past i p l at)
+
+pub event_whole : (past : List Entry) (t i p l : ℕ) → IsEventOf (instant past t) i p l → IsEventOf past i p l
+event_whole past t i p l at = event_kept (length past - t) past i p l at
+
+-- what holds where a call succeeded
+pub if_ok : {A B : Type 0} (r : Result A B) (P : Type 0) → is_err r ≡ false → OnOk r P → P
+if_ok (Ok a) P h k = k
+if_ok (Err e) P h k = absurd (false≢true (sym h))
+
+-- ==== which entries a delivery reaches, as its messages are followed
+
+-- ---- what reaches the newest entry
+
+-- an event of a process that depends on k is reached
+pub reached_after : (e : Entry) (past : List Entry) (k p : ℕ) → actor e ≡ Some p → Depends past k p → Reaches (e ∷ past) k (length past)
+reached_after e past k p of d =
+    onward (reaches_more e past k d.event d.reached)
+    (in_order p (lane past p) (event_below past d.event p (lane past p) d.present) (inl d.present) (inr (refl, of, refl)))
+
+module _ (n : ℕ) (past : List Entry) (k : ℕ) (depends : ℕ → Bool) (are : (p : ℕ) → (depends p ≡ true) ↔ Depends past k p) where
+  -- a send is reached where its process depends on k
+  pub send_tells : (d : Det) (from to : Pid) (ssn : ℕ) → AreAccepted n (Send from to ssn ∷ past) → (k ≡ length past → det_at (Send from to ssn ∷ past) k ≡ Some d)
+      → TellsNextReach past (Send from to ssn) k (depends from.0)
+  send_tells d from to ssn formed at p of =
+      let e = Send from to ssn in
+      let same : from.0 ≡ p = let x : Some from.0 ≡ Some p = of in cc in (
+        λ h. reached_after e past k p of ((are p).0 (ap depends (sym same) ∙ h)),
+        λ reach. ap depends same ∙ (are p).1 (sent_before n past k d from to ssn p formed at of (reaches_newest e past k p (length past) (accepted_forward n (e ∷ past) formed) refl of reach)),
+      )
+
+  -- a delivery is reached where it is k, where its process depends on k, or where its message's send is reached
+  pub delivery_tells : (own brings : Bool) → ((own ≡ true) ↔ (length past ≡ k)) → (to : Pid) (send rsn : ℕ) (listed : List Det) → ((brings ≡ true) ↔ Reaches past k send)
+      → AreAccepted n (Deliver to send rsn listed ∷ past) → TellsNextReach past (Deliver to send rsn listed) k (own || (depends to.0 || brings))
+  delivery_tells own brings is_own to send rsn listed is_brought formed p of = (forth, λ reach. how (reaches_newest e past k p (length past) (accepted_forward n (e ∷ past) formed) refl of reach))
+    where
+      e : Entry
+      e = Deliver to send rsn listed
+
+      same : to.0 ≡ p
+      same = let x : Some to.0 ≡ Some p = of in cc
+
+      forth : (own || (depends to.0 || brings)) ≡ true → Reaches (e ∷ past) k (length past)
+      forth h = elim (or_cases own (depends to.0 || brings) h) [
+        | inl here ↦ subst (λ x. Reaches (e ∷ past) x (length past)) (is_own.0 here) (itself p (lane past p) (inr (refl, of, refl)))
+        | inr more ↦ elim (or_cases (depends to.0) brings more) [
+          | inl known ↦ reached_after e past k p of ((are p).0 (ap depends (sym same) ∙ known))
+          | inr message ↦ onward (reaches_more e past k send (is_brought.0 message)) (by_message (inr (refl, eq-eqb send send refl)))
+        ]
+      ]
+
+      one_of : (a b c : Bool) → (a ≡ true) ⊎ ((b ≡ true) ⊎ (c ≡ true)) → (a || (b || c)) ≡ true
+      one_of a b c h = grind (arith, nat_tests)
+
+      how : ReachesNewest e past k p → (own || (depends to.0 || brings)) ≡ true
+      how (is_newest is) = one_of own (depends to.0) brings (inl (is_own.1 (sym is)))
+      how (in_lane j event reach) = one_of own (depends to.0) brings (inr (inl (ap depends same ∙ (are p).1 (known_already n past e k j p formed.1 of event reach))))
+      how (through_message j is reach) = one_of own (depends to.0) brings (inr (inr (is_brought.1 (subst (Reaches past k) (sym (eqb-true send j is)) reach))))
+
+-- ==== a delivery that is followed from change to change
+
+-- the entry at t, of which the clock tells whether the delivery reaches it, and the next mention whether it mentions the determinant
+module _ (r : Recording) (formed : IsWellFormed r) (es : List Entry) (read : es ≡ entries_of r) (events : List Event) (stands : Stands r.past events) (k : ℕ) (d : Det) (made : det_at r.past k ≡ Some d) (mentions : List ℕ) (listed : HasMentions r.past d mentions) (only : AreMentionsOf r.past d mentions)
+    (t : ℕ) (e : Entry) (is : e ≡ get_or es t e) (below : t < length r.past) (mention : ℕ) (late : t ≤ mention) (none : HasNoneUntil mentions t mention) (found : mention ≡ t → Contains mentions t) (reached : Bool) (tells : (reached ≡ true) ↔ clock.Reaches events k t) where
+  next : instant r.past (t + 1) ≡ e ∷ instant r.past t
+  next = next_state r es read t e below is
+
+  long : length (instant r.past t) ≡ t
+  long = instant_length r.past t (omega (arith, below))
+
+  told : (mention == t) ≡ has (mentioned_by e) d
+  told = mentioned_next r.past d mentions listed only t mention none t (omega arith) late found e (entry_read r es read t e below is)
+
+  clock_reached : TellsNextReach (instant r.past t) e k reached
+  clock_reached p of =
+      let from = delivery_event r.past k d made in
+      let here : IsEventOf (e ∷ instant r.past t) t p (lane (instant r.past t) p) = inr (sym long, of, refl) in
+      let event = event_whole r.past (t + 1) t p (lane (instant r.past t) p) (subst (λ past. IsEventOf past t p (lane (instant r.past t) p)) (sym next) here) in
+      let same = clock_tells r.processes r.past formed.accepted events stands k t from.0 p from.1 (lane (instant r.past t) p) from.2 event in (
+        λ h. subst (Reaches (e ∷ instant r.past t) k) (sym long) (subst (λ past. Reaches past k t) next (reaches_then r.processes r.past (t + 1) k t formed.accepted (omega (arith, below)) (omega arith) (same.0 (tells.0 h)))),
+        λ reach. tells.1 (same.1 (reaches_whole r.past (t + 1) k t (subst (λ past. Reaches past k t) (sym next) (subst (Reaches (e ∷ instant r.past t) k) long reach)))),
+      )
+
+  -- where it changes nothing, the instants before and after it agree
+  pub unchanged : (s : DeliveryState) → IsDeliveryState (instant r.past t) k d s → ChangesNothing e (mention == t) reached s.dependents → Agree (instant r.past t) (instant r.past (t + 1)) k d
+  unchanged s state nothing =
+      subst (λ past. Agree (instant r.past t) past k d) (sym next)
+      (quiet_step r.processes e (instant r.past t) k d (accepted_next r formed t e below next) (record {
+        no_turn = nothing.no_turn;
+        unmentioned = sym told ∙ nothing.unmentioned;
+        known = λ p of reach. (state.dependents p).0 (nothing.known p of ((clock_reached p of).1 reach));
+      }))
+
+  -- else what is known after it tells whether the delivery has an orphan then
+  pub seen_after : (before after : DeliveryState) → IsDeliveryState (instant r.past t) k d before → IsStateAfter e (mention == t) reached before after → IsDeliveryState (instant r.past (t + 1)) k d after
+  seen_after before after state sees =
+      subst (λ past. IsDeliveryState past k d after) (sym next) (sees r.processes (instant r.past t) k d (accepted_next r formed t e below next) told clock_reached state)
+
+pub breach_after : (r : Recording) (formed : IsWellFormed r) (f k : ℕ) (d : Det) (made : det_at r.past k ≡ Some d) (t : ℕ) (within : t ≤ length r.past) (s : DeliveryState) (found : Option Breach) → IsDeliveryState (instant r.past t) k d s → TellsBreachAt f k t s found → BreachAt r.processes f (instant r.past t) k t found
+breach_after r formed f k d made t within s found state tells =
+    tells r.processes (instant r.past t) d (accepted_then r.processes r.past t formed.accepted) (instant_length r.past t within) (λ early. det_then r.past t k early within ∙ made) state

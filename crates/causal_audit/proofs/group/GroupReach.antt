@@ -1,0 +1,257 @@
+-- Which of a few deliveries reach the entries of a walk, with one entry more.
+use Rattle.causal_audit.proofs.Common.{ℕ, ◌≡◌, ◌≢◌, ◌+◌, ◌<◌, ◌≤◌, inl, inr, Bool, true, false, cond, List, ◌∷◌, length, Some, None, entry_at, message_sent, refl, sym, ap, subst, ◌∙◌, arith, ◌↔◌, ◌⊎◌, ◌||◌, ◌&&◌, ◌==◌, not, set, nat_cmp, nat_cmp_total, FinSet, contains, empty, len, len-insert, remove, same_set, nat_cmp-IsAntisymmetric, union, difference, insert, contains-empty, contains-union, contains-difference, false≢true, and_parts, eqb-true, eq-eqb, ne_eqb, eqb_tells, nat_tests, get_or-set_same, get_or-set_other, Pid, Det, Entry, Send, Deliver, Stable, Crash, Restart, Forget, det_at, is_down, lane, AreAccepted, actor, Reaches, Depends, accepted_forward, delivers_sent, delivers_up, event_below, reaches_begins, reaches_old, depends_restarted}
+use Rattle.causal_audit.specs.declared.group.reach.ReachingDeliveries.{ReachingDeliveries}
+use Rattle.causal_audit.specs.Inside.Group.Walk.{IsNewly, TellRows, TellsReached, row}
+use Rattle.causal_audit.specs.Inside.DeliveryStates.{TellsNextReach}
+use Rattle.causal_audit.proofs.Between.{IsNoTurn, reaches_more, depends_more, depends_before}
+use Rattle.causal_audit.proofs.Legal.{sent_is}
+use Rattle.causal_audit.proofs.Steps.{entry_cases, entry_within}
+use Rattle.causal_audit.proofs.by_clock.ReachedEntries.{send_tells, delivery_tells}
+use Rattle.causal_audit.proofs.index.Receivers.{reach_later}
+use Rattle.causal_audit.proofs.Shown.{inserted, parts, removed, crash_inside, restart_inside}
+
+abbrev Sets : Type 0
+Sets = List (FinSet nat_cmp)
+
+-- nothing is in the empty set
+pub none_in : (j : ℕ) → contains {R = nat_cmp} empty j ≡ true → ⊥
+none_in j h = false≢true (sym (contains-empty nat_cmp j) ∙ h)
+
+-- what is told holds of other rows that have the same of the entries so far
+pub told_so : (past : List Entry) (start k j : ℕ) (rows now present : Sets) → ((v : ℕ) → v < length past → row now v ≡ row rows v) → TellRows past start k j rows present → TellRows past start k j now present
+told_so past start k j rows now present same told = record {
+  early = told.early;
+  behind = λ v from to ssn late at. subst (λ s. (contains s j ≡ true) ↔ Reaches past k v) (sym (same v (entry_within past v (Send from to ssn) at))) (told.behind v from to ssn late at);
+  depends = told.depends;
+}
+
+module _ (n : ℕ) (past : List Entry) (start k j : ℕ) (rows present : Sets) (told : TellRows past start k j rows present) where
+  -- ---- the rows of the sends
+
+  module _ (e : Entry) (formed : AreAccepted n (e ∷ past)) where
+    -- the rows of the older ones tell the same, and so does that of the newest entry, if it is one
+    behind_next : (now : Sets) → ((v : ℕ) → v < length past → row now v ≡ row rows v) → ((from to : Pid) (ssn : ℕ) → e ≡ Send from to ssn → (contains (row now (length past)) j ≡ true) ↔ Reaches (e ∷ past) k (length past))
+        → (v : ℕ) (from to : Pid) (ssn : ℕ) → start ≤ v → entry_at (e ∷ past) v ≡ Some (Send from to ssn) → (contains (row now v) j ≡ true) ↔ Reaches (e ∷ past) k v
+    behind_next now same newest v from to ssn late at = elim (entry_cases e past v (Send from to ssn) at) [
+      | inl old ↦
+          let low : v < length past = entry_within past v (Send from to ssn) old in
+          let before = told.behind v from to ssn late old in (
+            λ h. reaches_more e past k v (before.0 (ap (λ s. contains s j) (sym (same v low)) ∙ h)),
+            λ reach. ap (λ s. contains s j) (same v low) ∙ before.1 (reaches_old e past k (accepted_forward n (e ∷ past) formed) v low reach),
+          )
+      | inr new ↦ subst (λ x. (contains (row now x) j ≡ true) ↔ Reaches (e ∷ past) k x) (sym new.0) (newest from to ssn new.1)
+    ]
+
+    -- an entry that is no send
+    behind_same : message_sent e ≡ None → (v : ℕ) (from to : Pid) (ssn : ℕ) → start ≤ v → entry_at (e ∷ past) v ≡ Some (Send from to ssn) → (contains (row rows v) j ≡ true) ↔ Reaches (e ∷ past) k v
+    behind_same none = behind_next rows (λ v low. refl) (λ from to ssn is. absurd (let x : None ≡ Some _ = sym none ∙ ap message_sent is in cc))
+
+    -- ---- the rows of the processes
+
+    -- an entry that turns nobody, and adds nobody
+    depends_same : ((p : ℕ) → IsNoTurn e past p) → ((p : ℕ) → actor e ≡ Some p → Reaches (e ∷ past) k (length past) → Depends past k p) → (p : ℕ) → (contains (row present p) j ≡ true) ↔ Depends (e ∷ past) k p
+    depends_same no_turn known p = (
+      λ h. depends_more e past k p (no_turn p) ((told.depends p).0 h),
+      λ d. elim (depends_before n e past k p formed (no_turn p) d) [
+        | inl old ↦ (told.depends p).1 old
+        | inr new ↦ (told.depends p).1 (known p new.0 new.1)
+      ],
+    )
+
+    -- a turn of one process, on which nobody depends then
+    depends_removed : (w : ℕ) → w < length present → actor e ≡ None → ((p : ℕ) → p ≢ w → IsNoTurn e past p) → (Depends (e ∷ past) k w → ⊥) → (p : ℕ) → (contains (row (set present w empty) p) j ≡ true) ↔ Depends (e ∷ past) k p
+    depends_removed w inside none no_turn gone p =
+        elim (eqb_tells p w) [
+          | inl here ↦
+              let is : row (set present w empty) p ≡ empty = ap (row (set present w empty)) here.1 ∙ get_or-set_same present w empty empty inside in
+              (λ h. absurd (none_in j (ap (λ s. contains s j) (sym is) ∙ h)), λ d. absurd (gone (subst (Depends (e ∷ past) k) here.1 d)))
+          | inr apart ↦
+              let same : row (set present w empty) p ≡ row present p = get_or-set_other present w p empty empty apart.1 in (
+                λ h. depends_more e past k p (no_turn p apart.1) ((told.depends p).0 (ap (λ s. contains s j) (sym same) ∙ h)),
+                λ d. ap (λ s. contains s j) same ∙ (told.depends p).1 (elim (depends_before n e past k p formed (no_turn p apart.1) d) [
+                  | inl old ↦ old
+                  | inr new ↦ absurd (let x : None ≡ Some p = sym none ∙ new.0 in cc)
+                ]),
+              )
+        ]
+
+  -- ---- each entry
+
+  -- a send
+  pub sent : (d : Det) (from to : Pid) (ssn here : ℕ) → AreAccepted n (Send from to ssn ∷ past) → length past ≡ here → here < length rows → (k ≡ length past → det_at (Send from to ssn ∷ past) k ≡ Some d)
+      → TellRows (Send from to ssn ∷ past) start k j (set rows here (row present from.0)) present × IsNewly past (Send from to ssn) k j empty
+  sent d from to ssn here formed long inside at =
+      let e = Send from to ssn in
+      let hit = row present from.0 in
+      let tells : TellsNextReach past e k (contains hit j) = send_tells n past k (λ p. contains (row present p) j) told.depends d from to ssn formed at in
+      let known : (p : ℕ) → actor e ≡ Some p → Reaches (e ∷ past) k (length past) → Depends past k p = λ p of reach.
+      let same : from.0 ≡ p = let x : Some from.0 ≡ Some p = of in cc in
+      subst (Depends past k) same ((told.depends from.0).0 ((tells p of).1 reach))
+      in (
+        record {
+          early = told.early;
+          behind = behind_next e formed (set rows here hit) (λ v low. get_or-set_other rows here v hit empty (λ is. omega (arith, is, low, long)))
+              (λ from2 to2 ssn2 is. subst (λ s. (contains s j ≡ true) ↔ Reaches (e ∷ past) k (length past)) (sym (ap (row (set rows here hit)) long ∙ get_or-set_same rows here hit empty inside)) (tells from.0 refl));
+          depends = depends_same e formed (λ p. (refl, refl)) known;
+        },
+        record { sound = λ h. absurd (none_in j h); complete = λ p of reach. inr (known p of reach) },
+      )
+
+  -- an entry that is no event
+  idle : (e : Entry) → AreAccepted n (e ∷ past) → actor e ≡ None → message_sent e ≡ None → (now : Sets) → ((p : ℕ) → (contains (row now p) j ≡ true) ↔ Depends (e ∷ past) k p) → TellRows (e ∷ past) start k j rows now × IsNewly past e k j empty
+  idle e formed none unsent now depends = (
+    record { early = told.early; behind = behind_same e formed unsent; depends = depends },
+    record { sound = λ h. absurd (none_in j h); complete = λ p of. absurd (let x : None ≡ Some p = sym none ∙ of in cc) },
+  )
+
+  -- an entry of stable storage
+  pub stored : (det : Det) → AreAccepted n (Stable det ∷ past) → TellRows (Stable det ∷ past) start k j rows present × IsNewly past (Stable det) k j empty
+  stored det formed = idle (Stable det) formed refl refl present (depends_same (Stable det) formed (λ p. (refl, refl)) (λ p of. absurd (let x : None ≡ Some p = of in cc)))
+
+  -- a forgetting
+  pub forgotten : (who : Pid) (listed : List Det) → AreAccepted n (Forget who listed ∷ past) → TellRows (Forget who listed ∷ past) start k j rows present × IsNewly past (Forget who listed) k j empty
+  forgotten who listed formed = idle (Forget who listed) formed refl refl present (depends_same (Forget who listed) formed (λ p. (refl, refl)) (λ p of. absurd (let x : None ≡ Some p = of in cc)))
+
+  -- a crash
+  pub crashed : (who : Pid) → n ≤ length present → AreAccepted n (Crash who ∷ past) → TellRows (Crash who ∷ past) start k j rows (set present who.0 empty) × IsNewly past (Crash who) k j empty
+  crashed who few formed =
+      idle (Crash who) formed refl refl (set present who.0 empty)
+      (depends_removed (Crash who) formed who.0 (omega (arith, few, crash_inside n past who formed.1)) refl
+      (λ p apart. (ap (λ b. b || is_down past p) (ne_eqb who.0 p (λ h. apart (sym h))), refl))
+      (λ d. false≢true (sym d.up ∙ ap (λ b. b || is_down past who.0) (eq-eqb who.0 who.0 refl))))
+
+  -- a restart
+  pub restarted : (who : Pid) (listed : List Det) → n ≤ length present → AreAccepted n (Restart who listed ∷ past) → TellRows (Restart who listed ∷ past) start k j rows (set present who.0 empty) × IsNewly past (Restart who listed) k j empty
+  restarted who listed few formed =
+      idle (Restart who listed) formed refl refl (set present who.0 empty)
+      (depends_removed (Restart who listed) formed who.0 (omega (arith, few, restart_inside n past who listed formed.1)) refl
+      (λ p apart. let other = ne_eqb who.0 p (λ h. apart (sym h)) in (ap (λ b. not b && is_down past p) other, ap (λ b. cond b (lane past p + 1) (lane past p)) other))
+      (λ d. depends_restarted (Restart who listed) past k who.0 (ap (λ b. cond b (lane past who.0 + 1) (lane past who.0)) (eq-eqb who.0 who.0 refl)) refl d))
+
+  module _ (to : Pid) (send rsn : ℕ) (listed : List Det) (formed : AreAccepted n (Deliver to send rsn listed ∷ past)) (own : FinSet nat_cmp) (is_own : (contains own j ≡ true) ↔ (k ≡ length past)) (brought : FinSet nat_cmp)
+      (is_brought : (from to : Pid) (ssn : ℕ) → entry_at past send ≡ Some (Send from to ssn) → (contains brought j ≡ true) ↔ Reaches past k send) where
+    abbrev pub e : Entry
+    e = Deliver to send rsn listed
+
+    abbrev pub hit : FinSet nat_cmp
+    hit = union own (union (row present to.0) brought)
+
+    -- a place is among those that reach the delivery where it is its own, or by its receiver or its send
+    in_hit : contains hit j ≡ (contains own j || (contains (row present to.0) j || contains brought j))
+    in_hit = contains-union nat_cmp_total own (union (row present to.0) brought) j ∙ ap (λ b. contains own j || b) (contains-union nat_cmp_total (row present to.0) brought j)
+
+    -- these are just those that reach it
+    tells : TellsNextReach past e k (contains hit j)
+    tells =
+        let at_send = sent_is to.0 (entry_at past send) (delivers_sent n past to send rsn listed formed.1) in
+        subst (TellsNextReach past e k) (sym in_hit)
+        (delivery_tells n past k (λ p. contains (row present p) j) told.depends (contains own j) (contains brought j) (λ h. sym (is_own.0 h), λ is. is_own.1 (sym is)) to send rsn listed
+        (is_brought at_send.0 at_send.1 at_send.2 at_send.3) formed)
+
+    -- the receiver depends on what reaches the delivery
+    depends_set : to.0 < length present → (p : ℕ) → (contains (row (set present to.0 hit) p) j ≡ true) ↔ Depends (e ∷ past) k p
+    depends_set inside p =
+        elim (eqb_tells p to.0) [
+          | inl here ↦
+              let is : contains (row (set present to.0 hit) p) j ≡ contains hit j = ap (λ x. contains (row (set present to.0 hit) x) j) here.1 ∙ ap (λ s. contains s j) (get_or-set_same present to.0 hit empty inside) in
+              let up : is_down past p ≡ false = ap (is_down past) here.1 ∙ delivers_up n past to send rsn listed formed.1 in
+              let of : Some to.0 ≡ Some p = ap Some (sym here.1) in (
+                λ h. record { up = up; event = length past; present = inr (refl, of, refl); reached = (tells p of).0 (sym is ∙ h) },
+                λ d. is ∙ elim (depends_before n e past k p formed (refl, refl) d) [
+                  | inl old ↦ in_hit ∙ known (contains own j) (contains (row present to.0) j) (contains brought j) ((told.depends to.0).1 (subst (Depends past k) here.1 old))
+                  | inr new ↦ (tells p of).1 new.1
+                ],
+              )
+          | inr apart ↦
+              let same : row (set present to.0 hit) p ≡ row present p = get_or-set_other present to.0 p hit empty apart.1 in (
+                λ h. depends_more e past k p (refl, refl) ((told.depends p).0 (ap (λ s. contains s j) (sym same) ∙ h)),
+                λ d. ap (λ s. contains s j) same ∙ (told.depends p).1 (elim (depends_before n e past k p formed (refl, refl) d) [
+                  | inl old ↦ old
+                  | inr new ↦ absurd (apart.1 (let x : Some to.0 ≡ Some p = new.0 in let y : p ≡ to.0 = cc in y))
+                ]),
+              )
+        ]
+      where
+        known : (a b c : Bool) → b ≡ true → (a || (b || c)) ≡ true
+        known a b c h = grind (arith, nat_tests)
+
+    abbrev pub newly : FinSet nat_cmp
+    newly = difference hit (row present to.0)
+
+    -- a delivery
+    pub delivered : to.0 < length present → TellRows (e ∷ past) start k j rows (set present to.0 hit) × IsNewly past e k j newly
+    delivered room = (
+      record { early = told.early; behind = behind_same e formed refl; depends = depends_set room },
+      record {
+        sound = λ h. (tells to.0 refl).0 (parts (contains hit j) (contains (row present to.0) j) (sym (contains-difference nat_cmp_total hit (row present to.0) j) ∙ h)).0;
+        complete = λ p of reach.
+            let same : to.0 ≡ p = let x : Some to.0 ≡ Some p = of in cc in
+            elim (either_new (contains hit j) (contains (row present to.0) j) ((tells p of).1 reach)) [
+              | inl new ↦ inl (contains-difference nat_cmp_total hit (row present to.0) j ∙ new)
+              | inr old ↦ inr (subst (Depends past k) same ((told.depends to.0).0 old))
+            ];
+      },
+    )
+      where
+        either_new : (a b : Bool) → a ≡ true → ((a && not b) ≡ true) ⊎ (b ≡ true)
+        either_new a b h = grind (arith, nat_tests)
+
+-- what is told of an entry that is known by an equation is what a reach sees
+pub seen : (x y : Entry) (t start : ℕ) (rows present after now : Sets) (own newly : FinSet nat_cmp) → x ≡ y
+    → ((n : ℕ) (past : List Entry) (k j : ℕ) (d : Det) → n ≤ 256 → AreAccepted n (y ∷ past) → length past ≡ t → (k ≡ t → det_at (y ∷ past) k ≡ Some d) → (contains own j ≡ true) ↔ (k ≡ t)
+    → TellRows past start k j rows present → TellRows (y ∷ past) start k j after now × IsNewly past y k j newly)
+    → (n : ℕ) (past : List Entry) (k j : ℕ) (d : Det) → n ≤ 256 → AreAccepted n (x ∷ past) → length past ≡ t → (k ≡ t → det_at (x ∷ past) k ≡ Some d) → (contains own j ≡ true) ↔ (k ≡ t)
+    → TellRows past start k j rows present → TellRows (x ∷ past) start k j after now × IsNewly past x k j newly
+seen x y t start rows present after now own newly same sees n past k j d few formed long at is_own is =
+    subst (λ z. AreAccepted n (z ∷ past) → (k ≡ t → det_at (z ∷ past) k ≡ Some d) → TellRows (z ∷ past) start k j after now × IsNewly past z k j newly) (sym same)
+    (λ legal made. sees n past k j d few legal long made is_own is) formed at
+
+-- none reaches a send before the walk
+pub told_before : (reach : ReachingDeliveries) (v : ℕ) → v < reach.start → TellsReached reach v empty
+told_before reach v before n past k j from to ssn formed is at = (
+  λ h. absurd (none_in j h),
+  λ reaches. absurd (omega (arith, before, is.early, reach_later n past formed k v reaches)),
+)
+
+-- before the walk
+pub begun : (past : List Entry) (start k j : ℕ) (rows present : Sets) → length past ≡ start → start ≤ k → ((p : ℕ) → row present p ≡ empty) → TellRows past start k j rows present
+begun past start k j rows present long early none = record {
+  early = early;
+  behind = λ v from to ssn late at. absurd (omega (arith, long, late, entry_within past v (Send from to ssn) at));
+  depends = λ p. (
+    λ h. absurd (none_in j (ap (λ s. contains s j) (sym (none p)) ∙ h)),
+    λ d. absurd (omega (arith, long, early, event_below past d.event p (lane past p) d.present, reaches_begins past k d.event d.reached)),
+  );
+}
+
+-- ---- places taken out of a set one by one
+
+-- a set is smaller without one of its members
+pub fewer : (s : FinSet nat_cmp) (p : ℕ) → contains s p ≡ true → len (remove s p) < len s
+fewer s p within =
+    let more : len (insert (remove s p) p) ≡ len (remove s p) + 1 = len-insert nat_cmp_total (remove s p) p ∙ ap (λ b. cond b (len (remove s p)) (len (remove s p) + 1)) out in
+    omega (arith, more, ap len back)
+  where
+    out : contains (remove s p) p ≡ false
+    out = removed s p p ∙ ap (λ b. not b && contains s p) (eq-eqb p p refl)
+
+    either : (b c : Bool) → (b ≡ true → c ≡ true) → (b || (not b && c)) ≡ c
+    either b c h = grind (arith, nat_tests)
+
+    back : insert (remove s p) p ≡ s
+    back = same_set nat_cmp_total nat_cmp-IsAntisymmetric (insert (remove s p) p) s
+        (λ q. inserted (remove s p) p q ∙ ap (λ b. (p == q) || b) (removed s p q) ∙ either (p == q) (contains s q) (λ same. subst (λ x. contains s x ≡ true) (eqb-true p q same) within))
+
+-- what is in a set without p is in it, and is not p
+pub left_in : (s : FinSet nat_cmp) (p j : ℕ) → contains (remove s p) j ≡ true → (contains s j ≡ true) × (j ≢ p)
+left_in s p j h =
+    let parts = and_parts (not (p == j)) (contains s j) (sym (removed s p j) ∙ h) in
+    (parts.1, λ is. false≢true (sym (ap not (eq-eqb p j (sym is))) ∙ parts.0))
+
+-- what is not in it without p is p, or was not in it
+pub left_out : (s : FinSet nat_cmp) (p j : ℕ) → contains (remove s p) j ≡ false → (j ≡ p) ⊎ (contains s j ≡ false)
+left_out s p j h =
+    elim (eqb_tells p j) [
+      | inl here ↦ inl (sym here.1)
+      | inr apart ↦ inr (sym (ap (λ b. not b && contains s j) apart.0) ∙ sym (removed s p j) ∙ h)
+    ]

@@ -1,0 +1,273 @@
+-- Until when those who are down or hold a determinant are still so, and how it stands until then.
+use Rattle.causal_audit.proofs.Common.{ℕ, ◌≡◌, ◌+◌, ◌<◌, ◌≤◌, inl, inr, Bool, true, false, List, [], ◌∷◌, length, refl, sym, ap, subst, ◌∙◌, arith, Some, None, ◌||◌, ◌&&◌, ◌==◌, not, ◌↔◌, Contains, cases_lt, false≢true, ne_eqb, eqb-true, or_cases, and_parts, false_from_ne_true, or_right, eq-eqb, and_right, Det, same_det, count_below, count_below-within, members_counted, Entry, Send, Deliver, Stable, Crash, Restart, Forget, instant, is_down, is_stable, logs, has, entry_at, instant_length, det_then, accepted_then, nat_cmp_total, nat_cmp, FinSet, contains, difference, contains-difference, union, len, contains-union, Pid, AreAccepted, delivers_up, eqb_tells, nat_tests}
+use Rattle.causal_audit.specs.Laws.{gone}
+use Rattle.causal_audit.specs.Inside.Look.Looks.{IsThinAt, RulesOut, StandsBy}
+use Rattle.causal_audit.specs.Lasting.{may_release, NoneReleasedFrom, IsOver, OrphansEnd}
+use Rattle.causal_audit.proofs.Lemmas.OrphansByCounts.{exposed}
+use Rattle.causal_audit.proofs.NoOrphanSoFar.{not_yet}
+use Rattle.causal_audit.specs.Quiet.{mentioned_by}
+use Rattle.causal_audit.specs.Inside.Look.Staying.{restarts_one, GoneStay, HoldersStay, MentionsNone, RestartsNone}
+use Rattle.causal_audit.proofs.by_clock.Begun.{onward_to}
+use Rattle.causal_audit.proofs.Between.{logs_stay, next_entry}
+use Rattle.causal_audit.specs.Inside.ByClock.Changes.{HasNoneUntil, AreMentionsOf, HasMentions}
+use Rattle.std.specs.FinSet.{is_subset-contains}
+use Rattle.causal_audit.specs.Inside.Index.Reached.{HasReached}
+use Rattle.causal_audit.specs.Inside.Index.Spreads.{process_at}
+use Rattle.causal_audit.specs.Inside.DeliveryStates.{Shows}
+use Rattle.causal_audit.specs.declared.look.thin.Standing.{Standing}
+use Rattle.causal_audit.specs.declared.look.thin.Standing.TheVariants.{Kept, Thin, Bare}
+use Rattle.causal_audit.proofs.Shown.{down_inside, logs_inside}
+use Rattle.causal_audit.proofs.Steps.{entry_cases}
+
+-- ==== when a delivery has no orphan any more
+
+-- ---- what is stable stays stable
+
+pub stable_more : (e : Entry) (past : List Entry) (d : Det) → is_stable past d ≡ true → is_stable (e ∷ past) d ≡ true
+stable_more (Send from to ssn) past d h = h
+stable_more (Deliver to send rsn listed) past d h = h
+stable_more (Stable det) past d h = or_right (same_det d det) (is_stable past d) h
+stable_more (Crash who) past d h = h
+stable_more (Restart who listed) past d h = h
+stable_more (Forget who listed) past d h = h
+
+-- ---- who is down or holds a determinant stays so where none is released
+
+or_between : (a b c : Bool) → (a || b) ≡ true → (a || (c || b)) ≡ true
+or_between a b c h = grind (arith, nat_tests)
+
+or_turned : (w a b : Bool) → (a || b) ≡ true → ((w || a) || (not w && b)) ≡ true
+or_turned w a b h = grind (arith, nat_tests)
+
+pub gone_more : (e : Entry) (past : List Entry) (d : Det) (p : ℕ) → may_release e ≡ false → gone past d p ≡ true → gone (e ∷ past) d p ≡ true
+gone_more (Send from to ssn) past d p stays h = h
+gone_more (Deliver to send rsn listed) past d p stays h = or_between (is_down past p) (logs past p d) (to.0 == p && has listed d) h
+gone_more (Stable det) past d p stays h = h
+gone_more (Crash who) past d p stays h = or_turned (who.0 == p) (is_down past p) (logs past p d) h
+gone_more (Restart who listed) past d p stays h = absurd (false≢true (sym stays))
+gone_more (Forget who listed) past d p stays h = absurd (false≢true (sym stays))
+
+none_releases : (past : List Entry) (t : ℕ) → NoneReleasedFrom past t → (v : ℕ) (e : Entry) → t ≤ v → entry_at past v ≡ Some e → may_release e ≡ false
+none_releases [] t none v e late at = absurd (let x : None ≡ Some e = at in cc)
+none_releases (x ∷ past) t none v e late at = elim (entry_cases x past v e at) [
+  | inl old ↦ none_releases past t none.0 v e late old
+  | inr new ↦ ap may_release (sym new.1) ∙ none.1 (omega (arith, late, new.0))
+]
+
+-- where none is released, who is down or holds d is so at each later instant
+pub gone_lasts : (past : List Entry) (d : Det) (t u : ℕ) → NoneReleasedFrom past t → t ≤ u → u ≤ length past → (p : ℕ) → gone (instant past t) d p ≡ true → gone (instant past u) d p ≡ true
+gone_lasts past d t u none up within p =
+    onward_to (λ x. gone x d p ≡ true) past t u up within (λ v e above below at h. gone_more e (instant past v) d p (none_releases past t none v e above at) h)
+
+-- ---- the end
+
+-- so a determinant that is over is stable, or more than f are down or hold it, at each later instant
+pub over_then : (n f : ℕ) (past : List Entry) (d : Det) (t u : ℕ) → IsOver n f past t d → t ≤ u → u ≤ length past → is_stable (instant past u) d ≡ false → count_below n (gone (instant past u) d) ≤ f → ⊥
+over_then n f past d t u (inl stable) up within unstable few = false≢true (sym unstable ∙ onward_to (λ p. is_stable p d ≡ true) past t u up within (λ v e above below at h. stable_more e (instant past v) d h) stable)
+over_then n f past d t u (inr many) up within unstable few =
+    omega (arith, few, many.1, count_below-within n (gone (instant past t) d) (gone (instant past u) d) (λ p _ here. gone_lasts past d t u many.0 up within p here))
+
+pub orphans_end : OrphansEnd
+orphans_end n f past k d t u at over up within has =
+    elim (cases_lt k u) [
+      | inr ahead ↦ not_yet n f (instant past u) k (omega (arith, ahead, instant_length past u within)) has
+      | inl made ↦
+          let e = exposed n f (instant past u) k d (det_then past u k made within ∙ at) has in
+          over_then n f past d t u over up within e.unstable e.few
+    ]
+
+-- ---- from which position on none is released
+
+pub none_beyond : (past : List Entry) (t : ℕ) → length past ≤ t → NoneReleasedFrom past t
+none_beyond [] t above = tt
+none_beyond (e ∷ past) t above = (none_beyond past t (omega (arith, above)), λ low. absurd (omega (arith, above, low)))
+
+pub none_later : (past : List Entry) (t u : ℕ) → t ≤ u → NoneReleasedFrom past t → NoneReleasedFrom past u
+none_later [] t u up none = tt
+none_later (e ∷ past) t u up none = (none_later past t u up none.0, λ late. none.1 (omega (arith, up, late)))
+
+-- ==== until when those who are down or hold a determinant are still so
+
+-- ---- those who are down or hold it
+
+-- a process that restarts is none of the others
+restarts_other : (members : FinSet nat_cmp) (who : Pid) (p : ℕ) → contains members who.0 ≡ false → contains members p ≡ true → (who.0 == p) ≡ false
+restarts_other members who p out inside = ne_eqb who.0 p (λ same. false≢true (sym out ∙ ap (contains members) same ∙ inside))
+
+gone_next : (e : Entry) (past : List Entry) (d : Det) (members : FinSet nat_cmp) (p : ℕ) → has (mentioned_by e) d ≡ false → restarts_one members e ≡ false → contains members p ≡ true → gone past d p ≡ true → gone (e ∷ past) d p ≡ true
+gone_next (Send from to ssn) past d members p none out inside h = h
+gone_next (Deliver to send rsn listed) past d members p none out inside h = gone_more (Deliver to send rsn listed) past d p refl h
+gone_next (Stable det) past d members p none out inside h = h
+gone_next (Crash who) past d members p none out inside h = gone_more (Crash who) past d p refl h
+gone_next (Restart who listed) past d members p none out inside h = ap (λ b. (not b && is_down past p) || ((b && has listed d) || logs past p d)) (restarts_other members who p out inside) ∙ h
+gone_next (Forget who listed) past d members p none out inside h = ap (λ b. is_down past p || b) (sym (logs_stay (Forget who listed) past d refl none p)) ∙ h
+
+pub gone_stay : GoneStay
+gone_stay past d members t u p up within unmentioned unrestarted inside here =
+    onward_to (λ x. gone x d p ≡ true) past t u up within
+    (λ v e above below at h. gone_next e (instant past v) d members p (unmentioned v e above below at) (unrestarted v e above below at) inside h) here
+
+-- ---- those who hold it
+
+crashed_down : (w b : Bool) → not w ≡ true → b ≡ false → (w || b) ≡ false
+crashed_down w b h k = grind (arith, nat_tests)
+
+-- who holds a determinant is up
+pub holder_up : (n : ℕ) (past : List Entry) (d : Det) (p : ℕ) → AreAccepted n past → logs past p d ≡ true → is_down past p ≡ false
+holder_up n [] d p formed h = refl
+holder_up n (Send from to ssn ∷ past) d p formed h = holder_up n past d p formed.0 h
+holder_up n (Deliver to send rsn listed ∷ past) d p formed h =
+    elim (or_cases (to.0 == p && has listed d) (logs past p d) h) [
+      | inl new ↦ subst (λ q. is_down past q ≡ false) (eqb-true to.0 p (and_parts (to.0 == p) (has listed d) new).0) (delivers_up n past to send rsn listed formed.1)
+      | inr old ↦ holder_up n past d p formed.0 old
+    ]
+holder_up n (Stable det ∷ past) d p formed h = holder_up n past d p formed.0 h
+holder_up n (Crash who ∷ past) d p formed h =
+    let parts = and_parts (not (who.0 == p)) (logs past p d) h in
+    crashed_down (who.0 == p) (is_down past p) parts.0 (holder_up n past d p formed.0 parts.1)
+holder_up n (Restart who listed ∷ past) d p formed h =
+    elim (or_cases (who.0 == p && has listed d) (logs past p d) h) [
+      | inl new ↦ ap (λ b. not b && is_down past p) (and_parts (who.0 == p) (has listed d) new).0
+      | inr old ↦ and_right (not (who.0 == p)) (is_down past p) (holder_up n past d p formed.0 old)
+    ]
+holder_up n (Forget who listed ∷ past) d p formed h = holder_up n past d p formed.0 (and_parts (not (who.0 == p && has listed d)) (logs past p d) h).1
+
+up_held : (held down : Bool) → (held ≡ true → down ≡ false) → held ≡ (held && not down)
+up_held held down h = grind (arith, nat_tests)
+
+crash_held : (w was down held : Bool) → held ≡ (was && not down) → (not w && held) ≡ (was && not (w || down))
+crash_held w was down held h = grind (arith, nat_tests)
+
+restart_held : (w listed was down held : Bool) → listed ≡ false → (w ≡ true → was ≡ false) → held ≡ (was && not down) → ((w && listed) || held) ≡ (was && not (not w && down))
+restart_held w listed was down held none out h = grind (arith, nat_tests)
+
+held_next : (e : Entry) (past : List Entry) (d : Det) (members : FinSet nat_cmp) (p : ℕ) (was : Bool) → has (mentioned_by e) d ≡ false → restarts_one members e ≡ false → (was ≡ true → contains members p ≡ true)
+    → logs past p d ≡ (was && not (is_down past p)) → logs (e ∷ past) p d ≡ (was && not (is_down (e ∷ past) p))
+held_next (Send from to ssn) past d members p was none out inside h = h
+held_next (Deliver to send rsn listed) past d members p was none out inside h = sym (logs_stay (Deliver to send rsn listed) past d refl none p) ∙ h
+held_next (Stable det) past d members p was none out inside h = h
+held_next (Crash who) past d members p was none out inside h = crash_held (who.0 == p) was (is_down past p) (logs past p d) h
+held_next (Restart who listed) past d members p was none out inside h =
+    restart_held (who.0 == p) (has listed d) was (is_down past p) (logs past p d) none
+    (λ here. false_from_ne_true was (λ is. false≢true (sym out ∙ ap (contains members) (eqb-true who.0 p here) ∙ inside is))) h
+held_next (Forget who listed) past d members p was none out inside h = sym (logs_stay (Forget who listed) past d refl none p) ∙ h
+
+pub holders_stay : HoldersStay
+holders_stay n past d members t u p formed up within unmentioned unrestarted inside =
+    onward_to (λ x. logs x p d ≡ (logs (instant past t) p d && not (is_down x p))) past t u up within
+    (λ v e above below at h. held_next e (instant past v) d members p (logs (instant past t) p d) (unmentioned v e above below at) (unrestarted v e above below at) inside h)
+    (up_held (logs (instant past t) p d) (is_down (instant past t) p) (holder_up n (instant past t) d p (accepted_then n past t formed)))
+
+-- a set without another, as tests
+pub difference_shown : (s t : FinSet nat_cmp) (p : ℕ) (held down : Bool) → contains s p ≡ held → contains t p ≡ down → contains (difference s t) p ≡ (held && not down)
+difference_shown s t p held down h k = contains-difference nat_cmp_total s t p ∙ (λ i. h i && not (k i))
+
+-- the instant after an entry
+pub entry_then : (past : List Entry) (v : ℕ) (e : Entry) → v < length past → entry_at past v ≡ Some e → instant past (v + 1) ≡ e ∷ instant past v
+entry_then past v e below at =
+    let found = next_entry past v below in
+    let one : Some found.0 ≡ Some e = sym found.1 ∙ at in
+    let same : found.0 ≡ e = cc one in
+    found.2 ∙ ap (λ x. x ∷ instant past v) same
+
+-- ==== a walk over the entries that may change who is down or holds a determinant, and how the determinant stands between them
+
+-- ---- those who are down or hold a determinant, as a set
+
+module _ (n : ℕ) (past : List Entry) (d : Det) (formed : AreAccepted n past) (down holders : FinSet nat_cmp) (downs : Shows down (λ p. is_down past p)) (holds : Shows holders (λ p. logs past p d)) where
+  pub gone_shown : (q : ℕ) → contains (union down holders) q ≡ gone past d q
+  gone_shown q = contains-union nat_cmp_total down holders q ∙ (λ i. downs q i || holds q i)
+
+  pub gone_many : len (union down holders) ≡ count_below n (gone past d)
+  gone_many =
+      members_counted n (union down holders) (gone past d) (record {
+        process = λ q h.
+            elim (or_cases (is_down past q) (logs past q d) (sym (gone_shown q) ∙ h)) [
+              | inl fell ↦ down_inside n past q formed fell
+              | inr held ↦ logs_inside n past q d formed held
+            ];
+        member = λ q low. gone_shown q;
+      })
+
+-- where they keep it, and all of them are still down or hold it, it is not thin
+pub kept_still : (n most : ℕ) (past : List Entry) → AreAccepted n past → (d : Det) (t u : ℕ) (reached down holders : FinSet nat_cmp) → HasReached past d.dest.0 reached → Shows down (λ p. is_down (instant past t) p)
+    → Shows holders (λ p. logs (instant past t) p d) → StandsBy Kept most d.dest.0 reached (union down holders) → ((p : ℕ) → gone (instant past t) d p ≡ true → gone (instant past u) d p ≡ true) → IsThinAt n most past d u → ⊥
+kept_still n most past formed d t u reached down holders has downs holds (inl many) stay thin =
+    omega (
+      arith,
+      thin.few,
+      many,
+      gone_many n (instant past t) d (accepted_then n past t formed) down holders downs holds,
+      count_below-within n (gone (instant past t) d) (gone (instant past u) d) (λ p _ here. stay p here),
+    )
+kept_still n most past formed d t u reached down holders has downs holds (inr all) stay thin =
+    let left = thin.left_over in
+    let q = process_at past left.1 in
+    let here = is_subset-contains nat_cmp_total reached (union down holders) all q (has left.0 left.1 left.2 left.3) in
+    false≢true (sym left.4 ∙ stay q (sym (gone_shown n (instant past t) d (accepted_then n past t formed) down holders downs holds q) ∙ here))
+
+-- a position below the next mention is none
+pub beyond : (change mention : ℕ) → change ≤ mention → (mention == change) ≡ false → change < mention
+beyond change mention low apart =
+    elim (cases_lt change mention) [
+      | inl less ↦ less
+      | inr more ↦ absurd (false≢true (sym apart ∙ eq-eqb mention change (omega (arith, low, more))))
+    ]
+
+pub unmentioned_at : (past : List Entry) (d : Det) (mentions : List ℕ) → HasMentions past d mentions → (t next : ℕ) → HasNoneUntil mentions t next → (v : ℕ) → t ≤ v → v < next → (e : Entry) → entry_at past v ≡ Some e → has (mentioned_by e) d ≡ false
+unmentioned_at past d mentions mentioned t next none v above below e there = mentioned v e there (none v above below)
+
+-- whether an entry mentions the determinant is told by the list of its mentions
+pub mentioned_listed : (past : List Entry) (d : Det) (mentions : List ℕ) → HasMentions past d mentions → AreMentionsOf past d mentions → (v : ℕ) (e : Entry) → entry_at past v ≡ Some e → (told : Bool) → (told ≡ true) ↔ Contains mentions v → told ≡ has (mentioned_by e) d
+mentioned_listed past d mentions mentioned only v e there true same =
+    let of = only v (same.0 refl) in
+    let is : Some of.0 ≡ Some e = sym of.1 ∙ there in
+    let one : of.0 ≡ e = cc is in
+    sym (ap (λ x. has (mentioned_by x) d) (sym one) ∙ of.2)
+mentioned_listed past d mentions mentioned only v e there false same = sym (mentioned v e there (λ listed. false≢true (same.1 listed)))
+
+-- whether an entry mentions the determinant is told by the next mention
+pub mentioned_next : (past : List Entry) (d : Det) (mentions : List ℕ) → HasMentions past d mentions → AreMentionsOf past d mentions → (t next : ℕ) → HasNoneUntil mentions t next
+    → (v : ℕ) → t ≤ v → v ≤ next → (next ≡ v → Contains mentions v) → (e : Entry) → entry_at past v ≡ Some e → (next == v) ≡ has (mentioned_by e) d
+mentioned_next past d mentions mentioned only t next none v above low found e there =
+    elim (eqb_tells next v) [
+      | inl here ↦
+          let of = only v (found here.1) in
+          let is : Some of.0 ≡ Some e = sym of.1 ∙ there in
+          let same : of.0 ≡ e = cc is in
+          here.0 ∙ sym (ap (λ x. has (mentioned_by x) d) (sym same) ∙ of.2)
+      | inr apart ↦ apart.0 ∙ sym (unmentioned_at past d mentions mentioned t next none v above (beyond v next low apart.0) e there)
+    ]
+
+-- ---- until an entry mentions it or restarts one of them
+
+module _ (n : ℕ) (past : List Entry) (formed : AreAccepted n past) (d : Det) (t next : ℕ) (within : next ≤ length past) (unmentioned : MentionsNone past d t next) where
+  module _ (down holders : FinSet nat_cmp) (unrestarted : RestartsNone past (union down holders) t next) (downs : Shows down (λ p. is_down (instant past t) p)) (holds : Shows holders (λ p. logs (instant past t) p d)) where
+    legal : (u : ℕ) → AreAccepted n (instant past u)
+    legal u = accepted_then n past u formed
+
+    -- the holders that are not down then still hold it
+    pub holds_until : (u : ℕ) → t ≤ u → u ≤ next → (fell : FinSet nat_cmp) → Shows fell (λ p. is_down (instant past u) p) → Shows (difference holders fell) (λ p. logs (instant past u) p d)
+    holds_until u up low fell falls p =
+        difference_shown holders fell p (logs (instant past t) p d) (is_down (instant past u) p) (holds p) (falls p)
+        ∙ sym (holders_stay n past d (union down holders) t u p formed up (omega (arith, low, within))
+        (λ v e above below. unmentioned v e above (omega (arith, below, low))) (λ v e above below. unrestarted v e above (omega (arith, below, low)))
+        (λ held. gone_shown n (instant past t) d (legal t) down holders downs holds p ∙ or_right (is_down (instant past t) p) (logs (instant past t) p d) held))
+
+    -- and all of them are still down or hold it
+    gone_until : (u : ℕ) → t ≤ u → u ≤ next → (p : ℕ) → gone (instant past t) d p ≡ true → gone (instant past u) d p ≡ true
+    gone_until u up low p here =
+        gone_stay past d (union down holders) t u p up (omega (arith, low, within))
+        (λ v e above below. unmentioned v e above (omega (arith, below, low))) (λ v e above below. unrestarted v e above (omega (arith, below, low)))
+        (gone_shown n (instant past t) d (legal t) down holders downs holds p ∙ here) here
+
+    -- so it stands as it did
+    pub stands_until : (most : ℕ) (s : Standing) (reached : FinSet nat_cmp) → HasReached past d.dest.0 reached → StandsBy s most d.dest.0 reached (union down holders) → (u : ℕ) → t ≤ u → u ≤ next → RulesOut s n most past d u
+    stands_until most Kept reached has keep u up low = kept_still n most past formed d t u reached down holders has downs holds keep (gone_until u up low)
+    stands_until most Thin reached has here u up low = λ bare. false≢true (sym bare.receiver ∙ gone_until u up low d.dest.0 (sym (gone_shown n (instant past t) d (legal t) down holders downs holds d.dest.0) ∙ here))
+    stands_until most Bare reached has here u up low = tt
+
+-- where nothing is left to come nothing mentions it
+pub none_mention : (past : List Entry) (d : Det) (mentions : List ℕ) → HasMentions past d mentions → (t next last : ℕ) → next ≤ last → HasNoneUntil mentions t last → MentionsNone past d t next
+none_mention past d mentions mentioned t next last low none v e above below there =
+    unmentioned_at past d mentions mentioned t last none v above (omega (arith, below, low)) e there

@@ -1,0 +1,113 @@
+-- Which row of a delivery is told.
+use Rattle.std.proofs.Common.{ℕ, ◌≡◌, ◌<◌, ◌≤◌, Bool, true, false, cond, List, [], ◌∷◌, length, Option, Some, None, refl, sym, ap, subst, ◌∙◌, arith}
+use Rattle.std.specs.Prelude.{◌&&◌, not, nat_lt, is_none}
+use Rattle.std.specs.List.{list_any}
+use Rattle.std.specs.Option.{option_map, option_map_or, option_and_then}
+use Rattle.causal_name.specs.declared.Pid.{Pid}
+use Rattle.causal_name.specs.declared.MsgName.{MsgName}
+use Rattle.causal_name.specs.Names.{same_message, message_of}
+use Rattle.causal_trace.specs.declared.entry.Entry.{Entry}
+use Rattle.causal_trace.proofs.Lemmas.CountBounds.{deliveries_few}
+use Rattle.causal_protocol.specs.declared.request.CoreFault.{CoreFault}
+use Rattle.causal_protocol.specs.declared.request.CoreFault.TheVariants as Why
+use Rattle.causal_protocol.specs.declared.request.Request.TheVariants as Ask
+use Rattle.causal_protocol.specs.Memory.{Kept, Memory, Memories, at}
+use Rattle.causal_protocol.specs.Run.{Run, memories_of, stable_of}
+use Rattle.causal_name.specs.Names.{same_pid}
+use Rattle.causal_trace.specs.Past.{det_from}
+use Rattle.causal_log.specs.Logs.{dets_of}
+use Rattle.causal_log.specs.Stores.{dets_in}
+use Rattle.causal_log.specs.Slots.{first_of_slot}
+use Rattle.causal_protocol.specs.Memory.{kept_by}
+use Rattle.causal_core.specs.Inside.Memories.{stored_for}
+use Rattle.causal_protocol.specs.Naming.{name, next_rsn, next_det, named_for, if_to, kept_for, has_received, with_own, listed_for}
+use Rattle.causal_protocol.specs.Refusals.{rows, first_of, first_fault, is_full, when, unless}
+use Rattle.causal_core.specs.Inside.Facts.{Fits, FitsAt, AllFit}
+
+module _ (r : Run) (ms : Memories) (q source : Pid) (ssn : ℕ) (same : ms ≡ memories_of r) where
+  abbrev outside : Bool
+  outside = not (nat_lt q.0 r.recording.processes && nat_lt source.0 r.recording.processes)
+
+  abbrev full : Bool
+  full = is_full r 9 (length (listed_for ms q (name source ssn)))
+
+  told : Memories → List (Option CoreFault)
+  told xs =
+      when outside Why.NoProcess
+      ∷ when (is_none (at xs q.0)) Why.Down
+      ∷ unless (name source ssn) (named_for xs (stable_of r) q)
+      ∷ when (is_none (kept_for xs q (name source ssn))) Why.NotAvailable
+      ∷ when (has_received xs q (name source ssn)) Why.AlreadyDelivered
+      ∷ when (is_full r 9 (length (listed_for xs q (name source ssn)))) Why.Full
+      ∷ []
+
+  as_told : first_fault r (Ask.Deliver q source ssn) ≡ first_of (told ms)
+  unfolding rows told
+  as_told = ap (λ xs. first_of (told xs)) (sym same)
+
+  abbrev rest : Option CoreFault → Option CoreFault → Option CoreFault → Option CoreFault → Option CoreFault → Option CoreFault → Option CoreFault
+  rest a b c d e f = first_of (a ∷ b ∷ c ∷ d ∷ e ∷ f ∷ [])
+
+  pub tell_process : outside ≡ true → first_fault r (Ask.Deliver q source ssn) ≡ Some Why.NoProcess
+  unfolding told
+  tell_process h = as_told ∙ (λ i. rest (when (h i) Why.NoProcess) (when (is_none (at ms q.0)) Why.Down) (unless (name source ssn) (named_for ms (stable_of r) q)) (when (is_none (kept_for ms q (name source ssn))) Why.NotAvailable) (when (has_received ms q (name source ssn)) Why.AlreadyDelivered) (when full Why.Full))
+
+  module _ (inside : outside ≡ false) where
+    pub tell_down : at ms q.0 ≡ None → first_fault r (Ask.Deliver q source ssn) ≡ Some Why.Down
+    unfolding told
+    tell_down h =
+        as_told
+        ∙ (λ i. rest (when (inside i) Why.NoProcess) (when (is_none (h i)) Why.Down) (unless (name source ssn) (named_for ms (stable_of r) q)) (when (is_none (kept_for ms q (name source ssn))) Why.NotAvailable) (when (has_received ms q (name source ssn)) Why.AlreadyDelivered) (when full Why.Full))
+
+    module _ (m : Memory) (up : at ms q.0 ≡ Some m) where
+      abbrev other : Option CoreFault
+      other = unless (name source ssn) (option_map message_of (next_det (stable_of r) q m))
+
+      abbrev again : Bool
+      again = list_any (λ k. same_message k (name source ssn)) m.received
+
+      start : first_fault r (Ask.Deliver q source ssn) ≡ rest None None other (when (is_none (kept_for ms q (name source ssn))) Why.NotAvailable) (when again Why.AlreadyDelivered) (when full Why.Full)
+      unfolding told
+      start =
+          as_told
+          ∙ (λ i. rest (when (inside i) Why.NoProcess) (when (is_none (up i)) Why.Down) (unless (name source ssn) (option_map message_of (option_and_then (next_det (stable_of r) q) (up i)))) (when (is_none (kept_for ms q (name source ssn))) Why.NotAvailable) (when (option_map_or (λ (x : Memory). list_any (λ k. same_message k (name source ssn)) x.received) (up i) false) Why.AlreadyDelivered) (when full Why.Full))
+
+      pub tell_other : (fault : CoreFault) → other ≡ Some fault → first_fault r (Ask.Deliver q source ssn) ≡ Some fault
+      tell_other fault h = start ∙ (λ i. rest None None (h i) (when (is_none (kept_for ms q (name source ssn))) Why.NotAvailable) (when again Why.AlreadyDelivered) (when full Why.Full))
+
+      module _ (none : other ≡ None) where
+        pub tell_absent : kept_for ms q (name source ssn) ≡ None → first_fault r (Ask.Deliver q source ssn) ≡ Some Why.NotAvailable
+        tell_absent h = start ∙ (λ i. rest None None (none i) (when (is_none (h i)) Why.NotAvailable) (when again Why.AlreadyDelivered) (when full Why.Full))
+
+        module _ (k : Kept) (kept : kept_for ms q (name source ssn) ≡ Some k) where
+          pub tell_again : again ≡ true → first_fault r (Ask.Deliver q source ssn) ≡ Some Why.AlreadyDelivered
+          tell_again h = start ∙ (λ i. rest None None (none i) (when (is_none (kept i)) Why.NotAvailable) (when (h i) Why.AlreadyDelivered) (when full Why.Full))
+
+          pub tell_full : again ≡ false → (b : Bool) → full ≡ b → first_fault r (Ask.Deliver q source ssn) ≡ when b Why.Full
+          tell_full h true f = start ∙ (λ i. rest None None (none i) (when (is_none (kept i)) Why.NotAvailable) (when (h i) Why.AlreadyDelivered) (when (f i) Why.Full))
+          tell_full h false f = start ∙ (λ i. rest None None (none i) (when (is_none (kept i)) Why.NotAvailable) (when (h i) Why.AlreadyDelivered) (when (f i) Why.Full))
+
+pub received_few : (n : ℕ) (past : List Entry) (ms : Memories) (p : ℕ) (m : Memory) → AllFit n past ms → length past ≤ 16777216 → p < n → at ms p ≡ Some m → length m.received ≤ 16777216
+received_few n past ms p m fit short inside is =
+    let fits : Fits past p m = subst (FitsAt past p) is (fit.each p inside) in
+    let few = deliveries_few past p in let count = fits.count in omega (arith, few, count, short)
+
+-- what stable storage has for q's next delivery
+pub stored_here : (r : Run) (ms : Memories) (q : Pid) (m : Memory) → ms ≡ memories_of r → at ms q.0 ≡ Some m → stored_for r q ≡ first_of_slot q (length m.received) (dets_in (stable_of r))
+stored_here r ms q m same up =
+    ap (λ xs. first_of_slot q (next_rsn xs q) (dets_in (stable_of r))) (sym same)
+    ∙ ap (λ o. first_of_slot q (option_map_or (λ (x : Memory). length x.received) o 0) (dets_in (stable_of r))) up
+
+pub kept_found : (q : Pid) (o : Option Kept) (k : Kept) → if_to q o ≡ Some k → (o ≡ Some k) × (same_pid k.to q ≡ true)
+kept_found q None k h = absurd (let e : None ≡ Some k = h in cc)
+kept_found q (Some x) k h =
+    elim (same_pid x.to q) as (λ b. same_pid x.to q ≡ b → cond b (Some x) None ≡ Some k → (Some x ≡ Some k) × (same_pid k.to q ≡ true)) [
+      | true ↦ λ is e. (e, let one : x ≡ k = cc e in ap (λ (y : Kept). same_pid y.to q) (sym one) ∙ is)
+      | false ↦ λ is e. absurd (let n : None ≡ Some k = e in cc)
+    ] refl h
+
+-- what a delivery lists, by the receiver's memory and the message
+pub listed_is : (ms : Memories) (q : Pid) (n : MsgName) (m : Memory) (k : Kept) → at ms q.0 ≡ Some m → kept_for ms q n ≡ Some k → listed_for ms q n ≡ with_own (det_from q (length m.received) n) (dets_of k.batch)
+listed_is ms q n m k up kept =
+    let by : kept_by ms n ≡ Some k = (kept_found q (kept_by ms n) k kept).0 in
+    λ i. with_own (det_from q (option_map_or (λ (x : Memory). length x.received) (up i) 0) n) (dets_of (option_map_or (λ (x : Kept). x.batch) (by i) []))

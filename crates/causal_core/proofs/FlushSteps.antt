@@ -1,0 +1,210 @@
+-- What a flush writes, and that it is a legal step.
+use Rattle.std.proofs.Common.{ℕ, zero, suc, inl, inr, ◌⊎◌, ◌≡◌, ◌+◌, ◌<◌, ◌≤◌, ◌∙◌, Bool, true, false, cond, List, [], ◌∷◌, ◌++◌, length, take, map, replicate, get_or, Option, Some, None, is_some, refl, sym, ap, subst, arith}
+use Rattle.std.specs.Prelude.{◌&&◌, not, nat_lt, unwrap_or, Result, Ok, Err, IfOk, IfErr, is_none}
+use Rattle.std.specs.List.{list_all}
+use Rattle.std.specs.Option.{option_map, option_map_or}
+use Rattle.std.specs.FinMap as fin
+use Rattle.std.proofs.lemmas.Bool.{false≢true}
+use Rattle.std.proofs.lemmas.Bool.Decides.{nat_tests}
+use Rattle.std.proofs.lemmas.List.{take_more, take_all, map-append}
+use Rattle.causal_name.specs.declared.Pid.{Pid}
+use Rattle.causal_name.specs.declared.Det.{Det}
+use Rattle.causal_name.specs.Names.{same_det}
+use Rattle.causal_name.proofs.Lemmas.DetOrder.{same_itself, dets_total}
+use Rattle.causal_log.specs.declared.known.Known.{Known}
+use Rattle.causal_log.specs.Knowledge.{as_stable}
+use Rattle.causal_log.specs.Logs.{LogMap, mark, marked, unstable_in}
+use Rattle.causal_log.proofs.Lemmas.Searches.{any_kept, any_logged, passes}
+use Rattle.causal_trace.specs.declared.entry.Entry.{Entry}
+use Rattle.causal_trace.specs.declared.entry.Entry.TheVariants.{Stable}
+use Rattle.causal_trace.specs.Past.{has}
+use Rattle.causal_protocol.specs.declared.request.CoreFault.{CoreFault}
+use Rattle.causal_protocol.specs.declared.request.CoreFault.TheVariants as Why
+use Rattle.causal_protocol.specs.declared.request.FlushFault.{FlushFault}
+use Rattle.causal_protocol.specs.declared.request.Request.TheVariants as Ask
+use Rattle.causal_protocol.specs.declared.request.Reply.TheVariants as Told
+use Rattle.causal_protocol.specs.Memory.{Memory, Memories, at, changed, with_log}
+use Rattle.causal_protocol.specs.Run.{Run, memories, memories_of}
+use Rattle.causal_protocol.specs.Refusals.{rows, first_of, when, first_fault, is_long, unwritten}
+use Rattle.causal_protocol.specs.Steps.{LegalStep, Steps, IsPart, extended, reason_of, flush_reason_of, told_flush}
+use Rattle.causal_core.specs.Inside.Memories.{memory_at, log_at}
+use Rattle.causal_core.specs.Inside.Stables.{written}
+use Rattle.causal_core.proofs.MemoriesFit.{all_more, or_left, or_right}
+use Rattle.causal_core.proofs.RuntimeSend.{pushed_last}
+use Rattle.causal_core.proofs.Legal.{row_none, when_false, there}
+
+replicate_more : {X : Type 0} (es : List Entry) (e : Entry) (p : X) → replicate (length (es ++ e ∷ [])) p ≡ p ∷ replicate (length es) p
+replicate_more [] e p = refl
+replicate_more (x ∷ es) e p = ap (λ ps. p ∷ ps) (replicate_more es e p)
+
+-- one more entry of a flush
+pub flushed_more : (r : Run) (p : Pid) (es : List Entry) (e : Entry) → extended (extended r (Ask.Flush p) es) (Ask.Flush p) (e ∷ []) ≡ extended r (Ask.Flush p) (es ++ e ∷ [])
+flushed_more r p es e = λ i. record {
+  recording = record { processes = r.recording.processes; past = sym (pushed_last es e r.recording.past) i };
+  faults = r.faults;
+  writers = sym (replicate_more es e p) i ++ r.writers;
+}
+
+-- the entries of one determinant more
+pub stables_more : (dets : List Det) (i : ℕ) (d : Det) → i < length dets → map Stable (take (i + 1) dets) ≡ map Stable (take i dets) ++ Stable (get_or dets i d) ∷ []
+stables_more dets i d h = ap (map Stable) (take_more dets i d h) ∙ map-append Stable (take i dets) (get_or dets i d ∷ [])
+
+-- one more determinant written
+pub flushed_one : (r mid next : Run) (p : Pid) (dets : List Det) (i : ℕ) (d det : Det) → i < length dets → det ≡ get_or dets i d → mid ≡ extended r (Ask.Flush p) (map Stable (take i dets)) → next ≡ extended mid (Ask.Flush p) (Stable det ∷ [])
+    → next ≡ extended r (Ask.Flush p) (map Stable (take (i + 1) dets))
+flushed_one r mid next p dets i d det h is before one =
+    one
+    ∙ (λ j. extended (before j) (Ask.Flush p) (Stable (is j) ∷ []))
+    ∙ flushed_more r p (map Stable (take i dets)) (Stable (get_or dets i d))
+    ∙ ap (extended r (Ask.Flush p)) (sym (stables_more dets i d h))
+
+pub at-changed : (g : Memory → Memory) (ms : Memories) (p : ℕ) → at (changed g ms p) p ≡ option_map g (at ms p)
+at-changed g [] p = refl
+at-changed g (None ∷ ms) zero = refl
+at-changed g (Some m ∷ ms) zero = refl
+at-changed g (m ∷ ms) (suc p) = at-changed g ms p
+
+either : (b : Bool) (k : Known) (o : Option Known) → is_some o ≡ true → is_some (cond b (Some k) o) ≡ true
+either true k o h = refl
+either false k o h = h
+
+marked_by : (log : LogMap) (det d : Det) (o : Option Known) → is_some (fin.get log d) ≡ true → is_some (fin.get (mark log det o) d) ≡ true
+marked_by log det d None h = h
+marked_by log det d (Some k) h = ap is_some (fin.get-insert dets_total log det (as_stable k) d) ∙ either _ (as_stable k) (fin.get log d) h
+
+-- what is logged stays logged where one is marked
+pub marked_logged : (log : LogMap) (det d : Det) → is_some (fin.get log d) ≡ true → is_some (fin.get (marked log det) d) ≡ true
+marked_logged log det d h = marked_by log det d (fin.get log det) h
+
+all_marked : (log : LogMap) (det : Det) (ds : List Det) → list_all (λ d. is_some (fin.get log d)) ds ≡ true → list_all (λ d. is_some (fin.get (marked log det) d)) ds ≡ true
+all_marked log det ds h = all_more (λ d. is_some (fin.get log d)) (λ d. is_some (fin.get (marked log det) d)) ds (λ d was. marked_logged log det d was) h
+
+-- whether a process logs all of these
+abbrev logs_all : Option Memory → List Det → Bool
+logs_all o ds = list_all (λ d. is_some (fin.get (unwrap_or o (memory_at [] 0)).log d)) ds
+
+all_marked_at : (o : Option Memory) (det : Det) (ds : List Det) → is_some o ≡ true → logs_all o ds ≡ true → logs_all (option_map (with_log (λ log. marked log det)) o) ds ≡ true
+all_marked_at None det ds up h = absurd (false≢true up)
+all_marked_at (Some m) det ds up h = all_marked m.log det ds h
+
+some_mapped : (g : Memory → Memory) (o : Option Memory) → is_some o ≡ true → is_some (option_map g o) ≡ true
+some_mapped g None h = h
+some_mapped g (Some m) h = refl
+
+-- after a determinant was written the process is up still, and logs all that it did
+module _ (r next : Run) (p : Pid) (det : Det) (run : next ≡ extended r (Ask.Flush p) (Stable det ∷ [])) (up : is_some (at (memories_of r) p.0) ≡ true) where
+  here : at (memories_of next) p.0 ≡ option_map (with_log (λ log. marked log det)) (at (memories_of r) p.0)
+  unfolding memories
+  here = ap (λ x. at (memories_of x) p.0) run ∙ at-changed (with_log (λ log. marked log det)) (memories_of r) p.0
+
+  pub still_up : is_some (at (memories_of next) p.0) ≡ true
+  still_up = ap is_some here ∙ some_mapped (with_log (λ log. marked log det)) (at (memories_of r) p.0) up
+
+  pub still_logged : (ds : List Det) → list_all (λ d. is_some (fin.get (log_at (memories_of r) p.0) d)) ds ≡ true → list_all (λ d. is_some (fin.get (log_at (memories_of next) p.0) d)) ds ≡ true
+  still_logged ds h = ap (λ o. logs_all o ds) here ∙ all_marked_at (at (memories_of r) p.0) det ds up h
+
+-- what passes for each that a list has passes for all
+pub all_from : (P : Det → Bool) (ds : List Det) → ((d : Det) → has ds d ≡ true → P d ≡ true) → list_all P ds ≡ true
+all_from P [] h = refl
+all_from P (d ∷ ds) h = ap (λ b. b && list_all P ds) (h d (or_left _ _ (same_itself d))) ∙ all_from P ds (λ x there. h x (or_right _ _ there))
+
+swap : (a b : Bool) → (a && b) ≡ (b && a)
+swap true true = refl
+swap true false = refl
+swap false true = refl
+swap false false = refl
+
+passes_some : (P : Known → Bool) (o : Option Known) → passes P o ≡ true → is_some o ≡ true
+passes_some P None h = absurd (false≢true h)
+passes_some P (Some k) h = refl
+
+-- what a log does not know to be stable it has
+unstable_logged : (log : LogMap) (d : Det) → has (unstable_in log) d ≡ true → is_some (fin.get log d) ≡ true
+unstable_logged log d h = passes_some (λ k. not k.stable) (fin.get log d)
+    (sym (any_kept (λ e. e.0) (λ e. not e.1.stable) (same_det d) (λ e. same_det d e.0 && not e.1.stable) (λ e. swap (not e.1.stable) (same_det d e.0)) (fin.entries log) ∙ any_logged (λ k. not k.stable) d log)
+    ∙ h)
+
+unwritten_of : (o : Option Memory) → logs_all o (option_map_or (λ m. unstable_in m.log) o []) ≡ true
+unwritten_of None = refl
+unwritten_of (Some m) = all_from (λ d. is_some (fin.get m.log d)) (unstable_in m.log) (unstable_logged m.log)
+
+pub unwritten_logged : (r : Run) (p : Pid) → list_all (λ d. is_some (fin.get (log_at (memories_of r) p.0) d)) (unwritten r p) ≡ true
+unwritten_logged r p = unwritten_of (at (memories_of r) p.0)
+
+-- where nothing stands against a flush
+pub flush_up : (r : Run) (p : Pid) → first_fault r (Ask.Flush p) ≡ None → is_some (at (memories_of r) p.0) ≡ true
+unfolding rows
+flush_up r p none = ap is_some (there (at (memories_of r) p.0) (when_false _ _ (row_none (rows r (Ask.Flush p)) none 1 _ refl))).1
+
+pub flush_below : (r : Run) (p : Pid) → first_fault r (Ask.Flush p) ≡ None → p.0 < r.recording.processes
+unfolding rows
+flush_below r p none =
+    let inside : not (nat_lt p.0 r.recording.processes) ≡ false = when_false _ _ (row_none (rows r (Ask.Flush p)) none 0 _ refl) in grind (arith, nat_tests, inside)
+
+pub flush_short : (r : Run) (p : Pid) → first_fault r (Ask.Flush p) ≡ None → length r.recording.past + length (unwritten r p) ≤ 16777216
+unfolding rows
+flush_short r p none =
+    let short : is_long r (length (unwritten r p)) ≡ false = when_false _ _ (row_none (rows r (Ask.Flush p)) none 2 _ refl) in grind (arith, nat_tests, short)
+
+part : (fault : CoreFault) (done all : ℕ) → flush_reason_of fault ≡ None → done < all → IsPart fault done all
+part Why.NoMemory done all is h = omega (arith, h)
+part Why.StoreFault done all is h = h
+part Why.NoProcess done all is h = absurd (let e : Some Why.NoProcess ≡ None = is in cc)
+part Why.Down done all is h = absurd (let e : Some Why.Down ≡ None = is in cc)
+part Why.NotDown done all is h = absurd (let e : Some Why.NotDown ≡ None = is in cc)
+part Why.OverFaults done all is h = absurd (let e : Some Why.OverFaults ≡ None = is in cc)
+part (Why.MustReplay m) done all is h = absurd (let e : Some (Why.MustReplay m) ≡ None = is in cc)
+part Why.NotAvailable done all is h = absurd (let e : Some Why.NotAvailable ≡ None = is in cc)
+part Why.AlreadyDelivered done all is h = absurd (let e : Some Why.AlreadyDelivered ≡ None = is in cc)
+part Why.Full done all is h = absurd (let e : Some Why.Full ≡ None = is in cc)
+
+-- a flush that nothing stands against is a legal step
+pub flush_steps : (r mid next : Run) (p : Pid) (dets : List Det) (told : Result ℕ FlushFault) → mid ≡ r → first_fault r (Ask.Flush p) ≡ None → dets ≡ unwritten r p → next ≡ extended mid (Ask.Flush p) (map Stable (take (written told) dets))
+    → IfOk told (λ count. count ≡ length dets) → IfErr told (λ f. f.done < length dets) → IfErr told (λ f. flush_reason_of f.fault ≡ None) → Steps r (Ask.Flush p) (told_flush told) next
+unfolding LegalStep
+flush_steps r mid next p dets (Ok count) same none is run all part_of why = record {
+  appended = map Stable (take count dets);
+  grown = run ∙ ap (λ x. extended x (Ask.Flush p) (map Stable (take count dets))) same;
+  legal = (none, all ∙ ap length is, ap (map Stable) (take_all count dets (omega (arith, all)) ∙ is));
+}
+flush_steps r mid next p dets (Err f) same none is run all part_of why = record {
+  appended = map Stable (take f.done dets);
+  grown = run ∙ ap (λ x. extended x (Ask.Flush p) (map Stable (take f.done dets))) same;
+  legal = (none ∙ sym why, part f.fault f.done (length (unwritten r p)) why (subst (λ ds. f.done < length ds) is part_of), ap (λ ds. map Stable (take f.done ds)) is);
+}
+
+-- no row of a flush tells a fault of the store
+never_store : (a b c : Bool) → first_of (when a Why.NoProcess ∷ when b Why.Down ∷ when c Why.Full ∷ []) ≡ Some Why.StoreFault → ⊥
+never_store true b c h = let e : Some Why.NoProcess ≡ Some Why.StoreFault = h in cc
+never_store false true c h = let e : Some Why.Down ≡ Some Why.StoreFault = h in cc
+never_store false false true h = let e : Some Why.Full ≡ Some Why.StoreFault = h in cc
+never_store false false false h = let e : None ≡ Some Why.StoreFault = h in cc
+
+no_store : (r : Run) (p : Pid) → first_fault r (Ask.Flush p) ≡ Some Why.StoreFault → ⊥
+unfolding rows
+no_store r p h = never_store (not (nat_lt p.0 r.recording.processes)) (is_none (at (memories_of r) p.0)) (is_long r (length (unwritten r p))) h
+
+pub refusal_stores : (r : Run) (p : Pid) (fault : CoreFault) → first_fault r (Ask.Flush p) ≡ reason_of fault → fault ≡ Why.StoreFault → ⊥
+refusal_stores r p fault h is = no_store r p (h ∙ ap reason_of is)
+
+-- but for a fault of the store, a flush tells the reason and wrote nothing
+told_first : (fault : CoreFault) (all : ℕ) → (fault ≡ Why.StoreFault) ⊎ ((reason_of fault ≡ flush_reason_of fault) × IsPart fault 0 all)
+told_first Why.NoMemory all = inr (refl, omega arith)
+told_first Why.StoreFault all = inl refl
+told_first Why.NoProcess all = inr (refl, refl)
+told_first Why.Down all = inr (refl, refl)
+told_first Why.NotDown all = inr (refl, refl)
+told_first Why.OverFaults all = inr (refl, refl)
+told_first (Why.MustReplay m) all = inr (refl, refl)
+told_first Why.NotAvailable all = inr (refl, refl)
+told_first Why.AlreadyDelivered all = inr (refl, refl)
+told_first Why.Full all = inr (refl, refl)
+
+-- a flush that is refused is a legal step too
+pub flush_refused : (r next : Run) (p : Pid) (fault : CoreFault) → next ≡ r → first_fault r (Ask.Flush p) ≡ reason_of fault → Steps r (Ask.Flush p) (Told.FlushRefused (record { fault = fault; done = 0 })) next
+unfolding LegalStep
+flush_refused r next p fault same reason =
+    elim (told_first fault (length (unwritten r p))) [
+      | inl store ↦ absurd (refusal_stores r p fault reason store)
+      | inr told ↦ record { appended = []; grown = same; legal = (reason ∙ told.0, told.1, refl) }
+    ]

@@ -1,0 +1,202 @@
+-- The processes of a core begin.
+use Rattle.std.proofs.Common.{ℕ, zero, suc, ◌≡◌, ◌+◌, ◌-◌, ◌<◌, ◌≤◌, Bool, true, List, [], ◌∷◌, ◌++◌, length, map, replicate, Option, Some, None, is_some, refl, sym, ap, subst, ◌∙◌, arith, slice_set, length-append}
+use Rattle.std.specs.List.{list_all}
+use Rattle.std.specs.FinMap as fin
+use Rattle.std.proofs.lemmas.Bool.{false≢true}
+use Rattle.std.proofs.lemmas.List.{length-map, length-replicate, map-append}
+use Rattle.causal_name.specs.declared.Pid.{Pid}
+use Rattle.causal_name.specs.declared.Det.{Det}
+use Rattle.causal_name.specs.Names.{det_cmp}
+use Rattle.causal_process.specs.declared.message.Input.{Input}
+use Rattle.causal_process.specs.declared.message.Outgoing.{Outgoing}
+use Rattle.causal_log.specs.Logs.{LogMap, chosen}
+use Rattle.causal_log.specs.Stores.{DetSet, has}
+use Rattle.causal_trace.specs.declared.entry.Entry.{Entry}
+use Rattle.causal_trace.specs.Limits.{IsProcessCount}
+use Rattle.causal_trace.specs.Past.{is_stable, is_delivered}
+use Rattle.causal_protocol.specs.Memory.{Memories, fresh, at}
+use Rattle.causal_protocol.specs.Run.{Run, memories, memories_of}
+use Rattle.causal_protocol.specs.Runs.{Opens}
+use Rattle.causal_protocol.specs.Steps.{pushed, sends_of}
+use Rattle.causal_core.specs.Boxes.{Began}
+use Rattle.causal_core.specs.Inside.Facts.{Fits, FitsAt, IsHeld}
+use Rattle.causal_core.specs.Inside.Begins.{begun_by, MayBegin, Begins, HaveBegun}
+use Rattle.causal_core.specs.Starts.{with_beginning, with_beginnings, opening}
+use Rattle.causal_core.specs.View.{DataState, receivers, sent_bodies}
+use Rattle.causal_core.specs.Inside.Memories.{keep_all}
+use Rattle.causal_core.proofs.RuntimeSend.{memories_sends, are_sends, receivers_below, receivers_long, addressed_few, pushed_length, sends_length}
+use Rattle.causal_core.proofs.BoxLemmas.{Began-push}
+use Rattle.causal_core.proofs.UpAfterStep.{sends_up}
+use Rattle.causal_core.proofs.StoreEntries.{sends_unstable}
+use Rattle.causal_core.proofs.RestartCounts.{keys_have}
+use Rattle.causal_core.proofs.RuntimeRestart.{all_of}
+
+-- a log of nothing passes each test
+pub none_pass : (P : Det → Bool) (log : LogMap) → log ≡ fin.empty → list_all P (fin.keys log) ≡ true
+none_pass P log is = all_of P (fin.keys log) (λ d there. absurd (false≢true (sym (keys_have log d ∙ ap (λ m. is_some (fin.get m d)) is ∙ ap is_some (fin.get-empty det_cmp d)) ∙ there)))
+
+fits_first : (p : ℕ) → Fits [] p (fresh fin.empty)
+fits_first p = record {
+  up = refl;
+  sent = refl;
+  count = refl;
+  received = λ k. refl;
+  logged = none_pass (is_delivered []) fin.empty refl;
+  placed = λ ssn k is. absurd (let no : None ≡ Some k = is in cc);
+}
+
+at_replicate : {X : Type 0} (n p : ℕ) (x : Option X) → p < n → at (replicate n x) p ≡ x
+at_replicate zero p x h = absurd (omega (arith, h))
+at_replicate (suc n) zero x h = refl
+at_replicate (suc n) (suc p) x h = at_replicate n p x (omega (arith, h))
+
+-- what processes have before they begin fits a run in which nothing has happened
+pub fresh_held : (n f : ℕ) (ms : Memories) → IsProcessCount n → ms ≡ replicate n (Some (fresh fin.empty)) → IsHeld (opening n f []) ms
+unfolding memories
+fresh_held n f ms count is = record {
+  same = is;
+  fit = record {
+    count = ap length is ∙ length-replicate n (Some (fresh fin.empty));
+    each = λ p h. subst (FitsAt [] p) (sym (ap (λ xs. at xs p) is ∙ at_replicate n p (Some (fresh fin.empty)) h)) (fits_first p);
+  };
+  formed = record { count = count; accepted = tt };
+}
+
+-- the memories of a run in which a process begins
+module _ (r : Run) (ms : Memories) (held : IsHeld r ms) (p : Pid) (may : MayBegin p.0 r) where
+  pub begun_memories : (tos : List Pid) → slice_set ms p.0 (Some (keep_all (length r.recording.past) (chosen r.faults fin.empty) tos (fresh fin.empty))) ≡ memories r.recording.processes r.faults r.writers (pushed (sends_of p 0 tos) r.recording.past)
+  begun_memories tos =
+      memories_sends r.recording.processes r.faults r.writers r.recording.past p 0 tos ms (fresh fin.empty) held.same
+      (let process = may.process in let count = held.fit.count in omega (arith, process, count))
+      (ap (λ xs. at xs p.0) held.same ∙ may.fresh_yet)
+
+-- one more beginning
+beginnings_last : (n p : ℕ) (sends : List (List Outgoing)) (sent : List Outgoing) (past : List Entry) → with_beginnings n p (sends ++ sent ∷ []) past ≡ with_beginning n (p + length sends) sent (with_beginnings n p sends past)
+unfolding with_beginnings
+beginnings_last n p [] sent past = ap (λ k. with_beginning n k sent past) (omega arith)
+beginnings_last n p (s ∷ sends) sent past =
+    beginnings_last n (p + 1) sends sent (with_beginning n p s past)
+    ∙ ap (λ k. with_beginning n k sent (with_beginnings n (p + 1) sends (with_beginning n p s past))) (omega arith)
+
+-- it is at most eight entries
+beginning_short : (n p : ℕ) (sent : List Outgoing) (past : List Entry) → length sent ≤ 8 → length (with_beginning n p sent past) ≤ length past + 8
+beginning_short n p sent past few =
+    let q : Pid = record { 0 = p } in
+    let a = pushed_length (sends_of q 0 (receivers n sent)) past in
+    let b = sends_length q 0 (receivers n sent) in
+    let c = receivers_long n sent in
+    let d = addressed_few n sent in
+    omega (arith, a, b, c, d, few)
+
+set_after : {X : Type 0} (xs rest : List X) (x y : X) (k : ℕ) → k ≡ length xs → slice_set (xs ++ x ∷ rest) k y ≡ (xs ++ y ∷ []) ++ rest
+set_after {X = X} xs rest x y k is = ap (λ i. slice_set (xs ++ x ∷ rest) i y) is ∙ by xs
+  where
+    by : (xs : List X) → slice_set (xs ++ x ∷ rest) (length xs) y ≡ (xs ++ y ∷ []) ++ rest
+    by [] = refl
+    by (z ∷ zs) = ap (λ ws. z ∷ ws) (by zs)
+
+began_sends : {B : Type 0} (answers : B → List Input → List (List Outgoing)) (boxes : List B) (sends : List (List Outgoing)) (slots : List (Option B)) → Began answers boxes sends slots → (length sends ≡ length boxes) × (length slots ≡ length boxes)
+began_sends answers [] [] [] began = (refl, refl)
+began_sends answers (b ∷ bs) (s ∷ ss) (t ∷ ts) began = let rest = began_sends answers bs ss ts began.1 in (ap suc rest.0, ap suc rest.1)
+began_sends answers [] (s ∷ ss) ts began = absurd began
+began_sends answers [] [] (t ∷ ts) began = absurd began
+began_sends answers (x ∷ xs) [] ts began = absurd began
+began_sends answers (x ∷ xs) (s ∷ ss) [] began = absurd began
+
+module _ {B : Type 0} (answers : B → List Input → List (List Outgoing)) where
+  pub slots_long : (n f : ℕ) (boxes : List B) (slots : List (Option B)) (d : DataState) → HaveBegun answers n f boxes slots d → length slots ≡ length boxes
+  slots_long n f boxes slots d h = (began_sends answers boxes h.sends slots h.began).1
+
+  -- before any box has begun
+  pub none_begun : (n f : ℕ) (d : DataState) (slots : List (Option B)) → slots ≡ [] → d.run ≡ opening n f [] → d.bodies ≡ replicate n [] → HaveBegun answers n f [] slots d
+  unfolding with_beginnings memories
+  none_begun n f d slots empty run bodies = record {
+    sends = [];
+    began = subst (Began answers [] []) (sym empty) tt;
+    run = run;
+    bodies = bodies ∙ ap (λ k. replicate k []) (omega arith);
+    fresh_yet = λ q low high. ap (λ r. at (memories_of r) q) run ∙ at_replicate n q (Some (fresh fin.empty)) high;
+    short = let none = ap (λ r. length r.recording.past) run in omega (arith, none);
+    opens = ap (λ r. r.recording.past) run;
+  }
+
+  -- one more box has begun
+  module _ (n f : ℕ) (boxes : List B) (slots next : List (Option B)) (was is : DataState) (b : B) (h : HaveBegun answers n f boxes slots was) (one : Begins answers b slots next was is) (low : length boxes < n) where
+    longer : length (boxes ++ b ∷ []) ≡ suc (length boxes)
+    longer = let l = length-append boxes (b ∷ []) in omega (arith, l)
+
+    many : (length h.sends ≡ length boxes) × (length slots ≡ length boxes)
+    many = began_sends answers boxes h.sends slots h.began
+
+    sends : List (List Outgoing)
+    sends = h.sends ++ one.sends ∷ []
+
+    past_is : is.run.recording.past ≡ with_beginning n (length boxes) one.sends was.run.recording.past
+    past_is = ap (λ r. r.recording.past) one.told.run ∙ (λ i. with_beginning (h.run i).recording.processes (many.1 i) one.sends was.run.recording.past)
+
+    bodies_are : is.bodies ≡ map (sent_bodies n) sends ++ replicate (n - length (boxes ++ b ∷ [])) []
+    unfolding sends
+    bodies_are =
+        let y = sent_bodies n one.sends in
+        let rest : List (List (List ℕ)) = replicate (n - suc (length boxes)) [] in
+        let left : replicate (n - length boxes) [] ≡ [] ∷ rest = ap (λ k. replicate k []) (let l = low in let e : n - length boxes ≡ suc (n - suc (length boxes)) = omega (arith, l) in e) in
+        one.told.bodies
+        ∙ (λ i. slice_set (h.bodies i) (length slots) (sent_bodies (h.run i).recording.processes one.sends))
+        ∙ ap (λ xs. slice_set (map (sent_bodies n) h.sends ++ xs) (length slots) y) left
+        ∙ set_after (map (sent_bodies n) h.sends) rest [] y (length slots) (many.1 ∙ sym many.0 ∙ sym (length-map h.sends (sent_bodies n)))
+        ∙ ap (λ xs. xs ++ rest) (sym (map-append (sent_bodies n) h.sends (one.sends ∷ [])))
+        ∙ ap (λ k. map (sent_bodies n) (h.sends ++ one.sends ∷ []) ++ replicate (n - k) []) (sym longer)
+
+    pub more_begun : HaveBegun answers n f (boxes ++ b ∷ []) next is
+    unfolding sends
+    more_begun = record {
+      sends = sends;
+      began = subst (Began answers (boxes ++ b ∷ []) (h.sends ++ one.sends ∷ [])) (sym one.slots) (Began-push answers boxes h.sends slots b one.sends one.slot h.began one.box);
+      run =
+          one.told.run
+          ∙ (λ i. begun_by (h.run i) (many.1 i) one.sends)
+          ∙ ap (opening n f) (ap (λ k. with_beginning n k one.sends (with_beginnings n 0 h.sends [])) (let m = many.0 in let e : length boxes ≡ 0 + length h.sends = omega (arith, m) in e) ∙ sym (beginnings_last n 0 h.sends one.sends []));
+      bodies = bodies_are;
+      fresh_yet = λ q over high. one.told.others q (λ e. absurd (let l = longer in let m = many.1 in omega (arith, l, m, e, over))) ∙ h.fresh_yet q (let l = longer in omega (arith, l, over)) high;
+      short = let a = ap length past_is in let s = beginning_short n (length boxes) one.sends was.run.recording.past one.few in let l = longer in let m = h.short in omega (arith, a, s, l, m);
+      opens =
+          subst (λ k. Opens n k is.run.recording.past) (sym longer)
+          (was.run.recording.past, length (receivers n one.sends), sends_of (record { 0 = length boxes }) 0 (receivers n one.sends), h.opens, are_sends n (record { 0 = length boxes }) 0 (length (receivers n one.sends)) (receivers n one.sends) (receivers_below n one.sends) refl (let few = one.few in let a = addressed_few n one.sends in let b = receivers_long n one.sends in omega (arith, few, a, b)), past_is);
+    }
+
+-- who is up once all have begun, and that nothing is stable
+beginnings_up : (n f p : ℕ) (sends : List (List Outgoing)) (past : List Entry) → map is_some (memories n f [] (with_beginnings n p sends past)) ≡ map is_some (memories n f [] past)
+unfolding with_beginnings
+beginnings_up n f p [] past = refl
+beginnings_up n f p (s ∷ sends) past = beginnings_up n f (p + 1) sends (with_beginning n p s past) ∙ sends_up n f [] (record { 0 = p }) 0 (receivers n s) past
+
+up_first : (n : ℕ) → map is_some (replicate n (Some (fresh fin.empty))) ≡ replicate n true
+up_first zero = refl
+up_first (suc n) = ap (λ bits. true ∷ bits) (up_first n)
+
+pub all_up : (n f : ℕ) (sends : List (List Outgoing)) (r : Run) → r ≡ opening n f (with_beginnings n 0 sends []) → map is_some (memories_of r) ≡ replicate n true
+unfolding memories
+all_up n f sends r is = ap (λ x. map is_some (memories_of x)) is ∙ beginnings_up n f 0 sends [] ∙ up_first n
+
+beginnings_unstable : (n p : ℕ) (sends : List (List Outgoing)) (past : List Entry) (d : Det) → is_stable (with_beginnings n p sends past) d ≡ is_stable past d
+unfolding with_beginnings
+beginnings_unstable n p [] past d = refl
+beginnings_unstable n p (s ∷ sends) past d = beginnings_unstable n (p + 1) sends (with_beginning n p s past) d ∙ sends_unstable (record { 0 = p }) 0 (receivers n s) past d
+
+pub none_stored : (n f : ℕ) (sends : List (List Outgoing)) (r : Run) (s : DetSet) → r ≡ opening n f (with_beginnings n 0 sends []) → s ≡ fin.empty → (d : Det) → has s d ≡ is_stable r.recording.past d
+none_stored n f sends r s is none d =
+    ap (λ m. has m d) none ∙ ap is_some (fin.get-empty det_cmp d)
+    ∙ sym (ap (λ x. is_stable x.recording.past d) is ∙ beginnings_unstable n 0 sends [] d)
+
+-- the next box may begin
+pub may_begin : {B : Type 0} (answers : B → List Input → List (List Outgoing)) (n f : ℕ) (boxes : List B) (slots : List (Option B)) (d : DataState) → HaveBegun answers n f boxes slots d → length boxes < n → n ≤ 256 → MayBegin (length slots) d.run
+may_begin answers n f boxes slots d h low few =
+    let long = slots_long answers n f boxes slots d h in
+    let count = ap (λ r. r.recording.processes) h.run in
+    let short = h.short in
+    record {
+      process = omega (arith, long, count, low);
+      number = omega (arith, count, few);
+      fresh_yet = h.fresh_yet (length slots) (omega (arith, long)) (omega (arith, long, low));
+      short = omega (arith, short, low, few);
+    }

@@ -1,0 +1,407 @@
+-- What logs tell after they learned.
+use Rattle.std.proofs.Common.{ℕ, zero, suc, ◌≡◌, ◌<◌, inl, inr, Bool, true, false, ◌&&◌, ◌||◌, List, [], ◌∷◌, map, length, Option, Some, None, is_some, unwrap_or, refl, sym, ap, ◌∙◌, arith}
+use Rattle.std.specs.Prelude.{◌==◌, ◌⊎◌}
+use Rattle.std.specs.List.{list_any}
+use Rattle.std.specs.Cmp.{nat_cmp_total}
+use Rattle.std.specs.Ordering.{nat_cmp, eq_by_cmp}
+use Rattle.std.specs.FinMap as fin
+use Rattle.std.specs.FinSet as set
+use Rattle.std.proofs.lemmas.Bool.{false≢true, both_ways, or_cases, or_left, or_right, and_from, and_parts, eqb-true, eq-eqb}
+use Rattle.causal_name.specs.declared.Pid.{Pid}
+use Rattle.causal_name.specs.declared.Det.{Det}
+use Rattle.causal_name.specs.Names.{det_cmp, same_det}
+use Rattle.causal_name.proofs.Lemmas.DetOrder.{det_ties, same_is, same_itself, nat_ties}
+use Rattle.causal_trace.specs.Past.{has}
+use Rattle.causal_log.specs.declared.known.Known.{Known}
+use Rattle.causal_log.specs.declared.batch.Item.{Item}
+use Rattle.causal_log.specs.Knowledge.{nothing_known, held_by, stable_and_held_by, joined, told}
+use Rattle.causal_log.specs.Logs.{LogMap, known_of, learned, learned_all, absorbed, united}
+use Rattle.causal_log.specs.Stores.{DetSet, dets_in}
+use Rattle.causal_log.specs.Stores as store
+use Rattle.causal_log.proofs.Lemmas.KnowledgeGrows.{logged_all, known_all, holds_either, stable_either, told_dets, told_holders, told_stable}
+use Rattle.causal_log.proofs.Lemmas.Searches.{any_map, any_logged, any_dets, passes}
+use Rattle.causal_protocol.specs.Memory.{Memories, gained}
+use Rattle.causal_protocol.specs.Gathering.{united_all, held_all, stable_all, known_together, gathered_log}
+use Rattle.causal_protocol.specs.Contributions.{TellsHolder}
+use Rattle.causal_protocol.specs.Sight.{log_at, has_entry, tells_holder, tells_stable, has_logged, knows, marks, has_item, item_holder}
+
+-- what is known of nothing, and by one process
+pub none_holds : (d : Det) (q : ℕ) → tells_holder d q fin.empty ≡ false
+none_holds d q = ap (λ o. set.contains (unwrap_or o nothing_known).holders q) (fin.get-empty det_cmp d) ∙ set.contains-empty nat_cmp q
+
+-- an empty log knows nothing to be stable
+pub none_stable : (d : Det) → tells_stable d fin.empty ≡ false
+none_stable d = ap (λ o. (unwrap_or o nothing_known).stable) (fin.get-empty det_cmp d)
+
+-- an empty log has no determinant
+pub none_entry : (d : Det) → has_entry d fin.empty ≡ false
+none_entry d = ap is_some (fin.get-empty det_cmp d)
+
+-- who is told to hold a determinant has it told in an entry
+pub entry_of_holder : (log : LogMap) (d : Det) (q : ℕ) → tells_holder d q log ≡ true → has_entry d log ≡ true
+entry_of_holder log d q h = by (fin.get log d) h
+  where
+    by : (o : Option Known) → set.contains (unwrap_or o nothing_known).holders q ≡ true → is_some o ≡ true
+    by None h = absurd (both_ways _ (set.contains-empty nat_cmp q) h)
+    by (Some k) h = refl
+
+-- and so has what is told to be stable
+pub entry_of_mark : (log : LogMap) (d : Det) → tells_stable d log ≡ true → has_entry d log ≡ true
+entry_of_mark log d h = by (fin.get log d) h
+  where
+    by : (o : Option Known) → (unwrap_or o nothing_known).stable ≡ true → is_some o ≡ true
+    by None h = absurd (false≢true h)
+    by (Some k) h = refl
+
+-- an item that names a holder is an item
+pub item_of_holder : (d : Det) (q : ℕ) (items : List Item) → item_holder d q items ≡ true → has_item d items ≡ true
+item_of_holder d q [] h = absurd (false≢true h)
+item_of_holder d q (item ∷ items) h =
+    elim (or_cases (same_det d item.det && set.contains item.holders q) (item_holder d q items) h) [
+      | inl one ↦ or_left _ _ (and_parts (same_det d item.det) (set.contains item.holders q) one).0
+      | inr more ↦ or_right _ _ (item_of_holder d q items more)
+    ]
+
+pub alone_holds : (p q : ℕ) → set.contains (set.insert (set.empty {R = nat_cmp}) p) q ≡ true → q ≡ p
+alone_holds p q h =
+    elim (or_cases (eq_by_cmp nat_cmp q p) (set.contains (set.empty {R = nat_cmp}) q) (sym (set.contains-insert nat_cmp_total set.empty p q) ∙ h)) [
+      | inl is ↦ eqb-true q p (nat_ties q p ∙ is)
+      | inr none ↦ absurd (both_ways _ (set.contains-empty nat_cmp q) none)
+    ]
+
+pub itself_holds : (p : ℕ) → set.contains (set.insert (set.empty {R = nat_cmp}) p) p ≡ true
+itself_holds p = set.contains-insert nat_cmp_total set.empty p p ∙ or_left _ _ (sym (nat_ties p p) ∙ eq-eqb p p refl)
+
+-- one entry more or known better
+module _ (log : LogMap) (own : Det) (k : Known) (d : Det) where
+  pub one_entry : has_entry d (learned log own k) ≡ (has_entry d log || (same_det d own || false))
+  one_entry = logged_all ((own, k) ∷ []) log d
+
+  pub one_holder : (q : ℕ) → tells_holder d q (learned log own k) ≡ (tells_holder d q log || ((same_det d own && set.contains k.holders q) || false))
+  one_holder q = known_all (λ k. set.contains k.holders q) (holds_either q) ((own, k) ∷ []) log d
+
+  pub one_stable : tells_stable d (learned log own k) ≡ (tells_stable d log || ((same_det d own && k.stable) || false))
+  one_stable = known_all (λ k. k.stable) stable_either ((own, k) ∷ []) log d
+
+-- a delivery's gains
+module _ (batch : List Item) (own : Det) (log : LogMap) (d : Det) where
+  abbrev absorbs : LogMap
+  absorbs = absorbed batch own.source own.dest log
+
+  or_lone : (a b c : Bool) → ((a || b) || (c || false)) ≡ (a || (c || b))
+  or_lone true b c = refl
+  or_lone false true true = refl
+  or_lone false true false = refl
+  or_lone false false true = refl
+  or_lone false false false = refl
+
+  -- after a delivery the log has its own determinant and what the message carries, too
+  pub gained_entry : has_entry d (gained batch own log) ≡ (has_entry d log || (same_det d own || has_item d batch))
+  gained_entry =
+      one_entry absorbs own (held_by own.dest) d
+      ∙ ap (λ b. b || (same_det d own || false)) (logged_all (map (told own.source own.dest) batch) log d ∙ ap (λ b. has_entry d log || b) (told_dets own.source own.dest d batch))
+      ∙ or_lone (has_entry d log) (has_item d batch) (same_det d own)
+
+  -- what an item with these holders and two more tells
+  abbrev tells_item : ℕ → Item → Bool
+  tells_item q item = same_det d item.det && (set.contains item.holders q || (q == own.source.0 || q == own.dest.0))
+
+  gained_known : (q : ℕ) → tells_holder d q (gained batch own log) ≡ ((tells_holder d q log || list_any (tells_item q) batch) || ((same_det d own && set.contains (held_by own.dest).holders q) || false))
+  gained_known q =
+      one_holder absorbs own (held_by own.dest) d q
+      ∙ ap (λ b. b || ((same_det d own && set.contains (held_by own.dest).holders q) || false)) (known_all (λ k. set.contains k.holders q) (holds_either q) (map (told own.source own.dest) batch) log d ∙ ap (λ b. tells_holder d q log || b) (told_holders own.source own.dest d q batch))
+
+  item_split : (q : ℕ) (items : List Item) → list_any (tells_item q) items ≡ true → (item_holder d q items ≡ true) ⊎ ((has_item d items ≡ true) × ((q ≡ own.source.0) ⊎ (q ≡ own.dest.0)))
+  item_split q [] h = absurd (false≢true h)
+  item_split q (item ∷ items) h =
+      elim (or_cases (tells_item q item) (list_any (tells_item q) items) h) [
+        | inl one ↦
+            let parts = and_parts (same_det d item.det) (set.contains item.holders q || (q == own.source.0 || q == own.dest.0)) one in
+            elim (or_cases (set.contains item.holders q) (q == own.source.0 || q == own.dest.0) parts.1) [
+              | inl named ↦ inl (or_left _ _ (and_from _ _ parts.0 named))
+              | inr ends ↦ inr (or_left _ _ parts.0, elim (or_cases (q == own.source.0) (q == own.dest.0) ends) [ inl is ↦ inl (eqb-true q own.source.0 is) | inr is ↦ inr (eqb-true q own.dest.0 is) ])
+            ]
+        | inr more ↦ elim (item_split q items more) [
+          | inl named ↦ inl (or_right _ _ named)
+          | inr ends ↦ inr (or_right _ _ ends.0, ends.1)
+        ]
+      ]
+
+  item_named : (q : ℕ) (items : List Item) → item_holder d q items ≡ true → list_any (tells_item q) items ≡ true
+  item_named q [] h = absurd (false≢true h)
+  item_named q (item ∷ items) h =
+      elim (or_cases (same_det d item.det && set.contains item.holders q) (item_holder d q items) h) [
+        | inl one ↦ let parts = and_parts (same_det d item.det) (set.contains item.holders q) one in or_left _ _ (and_from _ _ parts.0 (or_left _ _ parts.1))
+        | inr more ↦ or_right _ _ (item_named q items more)
+      ]
+
+  -- an item that comes tells that both ends of its message hold it
+  item_at : (q : ℕ) → (q == own.source.0 || q == own.dest.0) ≡ true → (items : List Item) → has_item d items ≡ true → list_any (tells_item q) items ≡ true
+  item_at q end [] h = absurd (false≢true h)
+  item_at q end (item ∷ items) h =
+      elim (or_cases (same_det d item.det) (has_item d items) h) [
+        | inl one ↦ or_left _ _ (and_from _ _ one (or_right _ _ end))
+        | inr more ↦ or_right _ _ (item_at q end items more)
+      ]
+
+  item_sent : (items : List Item) → has_item d items ≡ true → list_any (tells_item own.source.0) items ≡ true
+  item_sent = item_at own.source.0 (or_left _ _ (eq-eqb own.source.0 own.source.0 refl))
+
+  item_received : (items : List Item) → has_item d items ≡ true → list_any (tells_item own.dest.0) items ≡ true
+  item_received = item_at own.dest.0 (or_right _ _ (eq-eqb own.dest.0 own.dest.0 refl))
+
+  -- who is told to hold it was before, or the message says so, or is its sender or receiver; or it is the receiver's own
+  pub gained_holder : (q : ℕ) → tells_holder d q (gained batch own log) ≡ true
+      → (tells_holder d q log ≡ true) ⊎ ((item_holder d q batch ≡ true) ⊎ (((has_item d batch ≡ true) × ((q ≡ own.source.0) ⊎ (q ≡ own.dest.0))) ⊎ ((d ≡ own) × (q ≡ own.dest.0))))
+  gained_holder q h =
+      elim (or_cases (tells_holder d q log || list_any (tells_item q) batch) ((same_det d own && set.contains (held_by own.dest).holders q) || false) (sym (gained_known q) ∙ h)) [
+        | inl before ↦ elim (or_cases (tells_holder d q log) (list_any (tells_item q) batch) before) [
+          | inl old ↦ inl old
+          | inr item ↦ elim (item_split q batch item) [ inl named ↦ inr (inl named) | inr ends ↦ inr (inr (inl ends)) ]
+        ]
+        | inr mine ↦ elim (or_cases (same_det d own && set.contains (held_by own.dest).holders q) false mine) [
+          | inl one ↦ let parts = and_parts (same_det d own) (set.contains (held_by own.dest).holders q) one in inr (inr (inr (same_is d own parts.0, alone_holds own.dest.0 q parts.1)))
+          | inr none ↦ absurd (false≢true none)
+        ]
+      ]
+
+  -- the receiver is told that it holds what it had, if it knew so, and what it gained
+  pub gained_old : (q : ℕ) → tells_holder d q log ≡ true → tells_holder d q (gained batch own log) ≡ true
+  gained_old q h = gained_known q ∙ or_left _ _ (or_left _ _ h)
+
+  -- the receiver is known to hold what a delivery brings
+  pub gained_new : (same_det d own || has_item d batch) ≡ true → tells_holder d own.dest.0 (gained batch own log) ≡ true
+  gained_new h =
+      gained_known own.dest.0
+      ∙ elim (or_cases (same_det d own) (has_item d batch) h) [
+        | inl mine ↦ or_right _ _ (or_left _ _ (and_from _ _ mine (itself_holds own.dest.0)))
+        | inr item ↦ or_left _ _ (or_right _ _ (item_received batch item))
+      ]
+
+  -- whom the message tells to hold it is told so
+  pub gained_told : (q : ℕ) → TellsHolder batch own d q → tells_holder d q (gained batch own log) ≡ true
+  gained_told q (inl named) = gained_known q ∙ or_left _ _ (or_right _ _ (item_named q batch named))
+  gained_told q (inr (inl ends)) =
+      elim ends.1 [
+        | inl is ↦ ap (λ x. tells_holder d x (gained batch own log)) is ∙ gained_known own.source.0 ∙ or_left _ _ (or_right _ _ (item_sent batch ends.0))
+        | inr is ↦ ap (λ x. tells_holder d x (gained batch own log)) is ∙ gained_new (or_right _ _ ends.0)
+      ]
+  gained_told q (inr (inr mine)) =
+      ap (λ x. tells_holder d x (gained batch own log)) mine.1 ∙ gained_new (or_left _ _ (ap (same_det d) (sym mine.0) ∙ same_itself d))
+
+  -- what is told to be stable is so still
+  pub gained_still : tells_stable d log ≡ true → tells_stable d (gained batch own log) ≡ true
+  gained_still h =
+      one_stable absorbs own (held_by own.dest) d
+      ∙ or_left _ _ (known_all (λ k. k.stable) stable_either (map (told own.source own.dest) batch) log d ∙ or_left _ _ h)
+
+  -- by a delivery nothing new is known to be stable
+  pub gained_stable : tells_stable d (gained batch own log) ≡ true → tells_stable d log ≡ true
+  gained_stable h =
+      elim (or_cases (tells_stable d absorbs) ((same_det d own && false) || false) (sym (one_stable absorbs own (held_by own.dest) d) ∙ h)) [
+        | inl before ↦ elim (or_cases (tells_stable d log) (list_any (λ e. same_det d e.0 && e.1.stable) (map (told own.source own.dest) batch)) (sym (known_all (λ k. k.stable) stable_either (map (told own.source own.dest) batch) log d) ∙ before)) [
+          | inl old ↦ old
+          | inr none ↦ absurd (both_ways _ (told_stable own.source own.dest d batch) none)
+        ]
+        | inr mine ↦ elim (or_cases (same_det d own && false) false mine) [
+          | inl one ↦ absurd (false≢true (and_parts (same_det d own) false one).1)
+          | inr none ↦ absurd (false≢true none)
+        ]
+      ]
+
+-- a property of a log that two logs have together where either has it, and that the empty one has not
+module _ (tells : LogMap → Bool) (either : (log other : LogMap) → tells (united log other) ≡ (tells log || tells other)) (lacks : tells fin.empty ≡ false) where
+  pub united_found : (ms : Memories) (log : LogMap) → tells (united_all ms log) ≡ true → (tells log ≡ true) ⊎ ((r : ℕ) × (r < length ms) × (tells (log_at ms r) ≡ true))
+  unfolding united_all log_at
+  united_found [] log h = inl h
+  united_found (None ∷ ms) log h =
+      elim (united_found ms log h) [
+        | inl old ↦ inl old
+        | inr some ↦ inr (suc some.0, omega (arith, some.1), some.2)
+      ]
+  united_found (Some m ∷ ms) log h =
+      elim (united_found ms (united log m.log) h) [
+        | inl old ↦ elim (or_cases (tells log) (tells m.log) (sym (either log m.log) ∙ old)) [
+          | inl first ↦ inl first
+          | inr here ↦ inr (zero, omega arith, here)
+        ]
+        | inr some ↦ inr (suc some.0, omega (arith, some.1), some.2)
+      ]
+
+  pub united_first : (ms : Memories) (log : LogMap) → tells log ≡ true → tells (united_all ms log) ≡ true
+  unfolding united_all
+  united_first [] log h = h
+  united_first (None ∷ ms) log h = united_first ms log h
+  united_first (Some m ∷ ms) log h = united_first ms (united log m.log) (either log m.log ∙ or_left _ _ h)
+
+  pub united_each : (ms : Memories) (log : LogMap) (r : ℕ) → tells (log_at ms r) ≡ true → tells (united_all ms log) ≡ true
+  unfolding united_all log_at
+  united_each [] log r h = absurd (both_ways _ lacks h)
+  united_each (None ∷ ms) log zero h = absurd (both_ways _ lacks h)
+  united_each (None ∷ ms) log (suc r) h = united_each ms log r h
+  united_each (Some m ∷ ms) log zero h = united_first ms (united log m.log) (either log m.log ∙ or_right _ _ h)
+  united_each (Some m ∷ ms) log (suc r) h = united_each ms (united log m.log) r h
+
+-- the three properties
+pub entry_either : (d : Det) (log other : LogMap) → has_entry d (united log other) ≡ (has_entry d log || has_entry d other)
+entry_either d log other = logged_all (fin.entries other) log d ∙ ap (λ b. has_entry d log || b) (any_dets d other)
+
+known_passes : (P : Known → Bool) → P nothing_known ≡ false → (o : Option Known) → passes P o ≡ P (unwrap_or o nothing_known)
+known_passes P lacks None = sym lacks
+known_passes P lacks (Some known) = refl
+
+pub holder_either : (d : Det) (q : ℕ) (log other : LogMap) → tells_holder d q (united log other) ≡ (tells_holder d q log || tells_holder d q other)
+holder_either d q log other =
+    known_all (λ k. set.contains k.holders q) (holds_either q) (fin.entries other) log d
+    ∙ ap (λ b. tells_holder d q log || b) (any_logged (λ k. set.contains k.holders q) d other ∙ known_passes (λ k. set.contains k.holders q) (set.contains-empty nat_cmp q) (fin.get other d))
+
+pub mark_either : (d : Det) (log other : LogMap) → tells_stable d (united log other) ≡ (tells_stable d log || tells_stable d other)
+mark_either d log other =
+    known_all (λ k. k.stable) stable_either (fin.entries other) log d
+    ∙ ap (λ b. tells_stable d log || b) (any_logged (λ k. k.stable) d other ∙ known_passes (λ k. k.stable) refl (fin.get other d))
+
+-- a log in which p holds these
+held_is : (ds : List Det) (p : Pid) (log : LogMap) → held_all ds p log ≡ learned_all (map (λ d. (d, held_by p)) ds) log
+unfolding held_all
+held_is [] p log = refl
+held_is (d ∷ ds) p log = held_is ds p (learned log d (held_by p))
+
+stable_is : (ds : List Det) (p : Pid) (log : LogMap) → stable_all ds p log ≡ learned_all (map (λ d. (d, stable_and_held_by p)) ds) log
+unfolding stable_all
+stable_is [] p log = refl
+stable_is (d ∷ ds) p log = stable_is ds p (learned log d (stable_and_held_by p))
+
+any_of : (d : Det) (g : Det → Bool) (ds : List Det) → list_any (λ x. same_det d x && g x) ds ≡ true → (has ds d ≡ true) × (g d ≡ true)
+any_of d g [] h = absurd (false≢true h)
+any_of d g (x ∷ ds) h =
+    elim (or_cases (same_det d x && g x) (list_any (λ x. same_det d x && g x) ds) h) [
+      | inl one ↦ let parts = and_parts (same_det d x) (g x) one in (or_left _ _ parts.0, ap g (same_is d x parts.0) ∙ parts.1)
+      | inr more ↦ let rest = any_of d g ds more in (or_right _ _ rest.0, rest.1)
+    ]
+
+any_for : (d : Det) (g : Det → Bool) (ds : List Det) → has ds d ≡ true → g d ≡ true → list_any (λ x. same_det d x && g x) ds ≡ true
+any_for d g [] h k = absurd (false≢true h)
+any_for d g (x ∷ ds) h k =
+    elim (or_cases (same_det d x) (has ds d) h) [
+      | inl is ↦ or_left _ _ (and_from _ _ is (ap g (sym (same_is d x is)) ∙ k))
+      | inr more ↦ or_right _ _ (any_for d g ds more k)
+    ]
+
+-- the keys of a log, and the members of a store
+pub keys_have : (m : LogMap) (d : Det) → has (fin.keys m) d ≡ has_entry d m
+keys_have m d = any_map (λ e. e.0) (same_det d) (λ e. same_det d e.0) (λ x. refl) (fin.entries m) ∙ any_dets d m
+
+-- a set and the list of its members have the same determinants
+pub stored_have : (s : DetSet) (d : Det) → has (dets_in s) d ≡ store.has s d
+stored_have s d = ties d (dets_in s) ∙ sym (fin.contains_key-keys s d)
+  where
+    ties : (q : Det) (ds : List Det) → list_any (same_det q) ds ≡ list_any (eq_by_cmp det_cmp q) ds
+    ties q [] = refl
+    ties q (d ∷ ds) = λ i. det_ties q d i || ties q ds i
+
+-- these are learned of p, each the same
+module _ (p : Pid) (k : Known) (d : Det) where
+  abbrev each : List Det → List (Det × Known)
+  each ds = map (λ x. (x, k)) ds
+
+  each_entry : (ds : List Det) (log : LogMap) → has_entry d (learned_all (each ds) log) ≡ (has_entry d log || has ds d)
+  each_entry ds log = logged_all (each ds) log d ∙ ap (λ b. has_entry d log || b) (any_map (λ x. (x, k)) (λ e. same_det d e.0) (same_det d) (λ x. refl) ds)
+
+  each_known : (has : Known → Bool) (either : (one other : Known) → has (joined one other) ≡ (has one || has other)) (ds : List Det) (log : LogMap)
+      → has (known_of (learned_all (each ds) log) d) ≡ (has (known_of log d) || list_any (λ x. same_det d x && has k) ds)
+  each_known has either ds log = known_all has either (each ds) log d ∙ ap (λ b. has (known_of log d) || b) (any_map (λ x. (x, k)) (λ e. same_det d e.0 && has e.1) (λ x. same_det d x && has k) (λ x. refl) ds)
+
+-- what a log tells that has gathered what up processes and stable storage have
+module _ (ms : Memories) (stored : DetSet) (p : Pid) (d : Det) where
+  abbrev together : LogMap
+  together = known_together ms
+
+  abbrev held : LogMap
+  held = held_all (fin.keys together) p together
+
+  abbrev gathered : LogMap
+  gathered = gathered_log ms stored p
+
+  held_entry : has_entry d held ≡ (has_entry d together || has (fin.keys together) d)
+  held_entry = ap (has_entry d) (held_is (fin.keys together) p together) ∙ each_entry p (held_by p) d (fin.keys together) together
+
+  all_entry : has_entry d gathered ≡ (has_entry d held || has (dets_in stored) d)
+  all_entry = ap (has_entry d) (stable_is (dets_in stored) p held) ∙ each_entry p (stable_and_held_by p) d (dets_in stored) held
+
+  held_known : (tells : Known → Bool) (either : (one other : Known) → tells (joined one other) ≡ (tells one || tells other)) → tells (known_of held d) ≡ (tells (known_of together d) || list_any (λ x. same_det d x && tells (held_by p)) (fin.keys together))
+  held_known tells either = ap (λ log. tells (known_of log d)) (held_is (fin.keys together) p together) ∙ each_known p (held_by p) d tells either (fin.keys together) together
+
+  all_known : (tells : Known → Bool) (either : (one other : Known) → tells (joined one other) ≡ (tells one || tells other)) → tells (known_of gathered d) ≡ (tells (known_of held d) || list_any (λ x. same_det d x && tells (stable_and_held_by p)) (dets_in stored))
+  all_known tells either = ap (λ log. tells (known_of log d)) (stable_is (dets_in stored) p held) ∙ each_known p (stable_and_held_by p) d tells either (dets_in stored) held
+
+  together_entry : has_entry d together ≡ true → (r : ℕ) × (r < length ms) × (has_logged ms r d ≡ true)
+  together_entry h = elim (united_found (has_entry d) (entry_either d) (none_entry d) ms fin.empty h) [ inl none ↦ absurd (both_ways _ (none_entry d) none) | inr some ↦ some ]
+
+  -- what is gathered is stored, or a process that is up logs it
+  pub gathered_found : has_entry d gathered ≡ true → (store.has stored d ≡ true) ⊎ ((r : ℕ) × (r < length ms) × (has_logged ms r d ≡ true))
+  gathered_found h =
+      elim (or_cases (has_entry d held) (has (dets_in stored) d) (sym all_entry ∙ h)) [
+        | inl log ↦ elim (or_cases (has_entry d together) (has (fin.keys together) d) (sym held_entry ∙ log)) [
+          | inl one ↦ inr (together_entry one)
+          | inr one ↦ inr (together_entry (sym (keys_have together d) ∙ one))
+        ]
+        | inr member ↦ inl (sym (stored_have stored d) ∙ member)
+      ]
+
+  -- what is stored is gathered
+  pub gathered_stored : store.has stored d ≡ true → has_entry d gathered ≡ true
+  gathered_stored h = all_entry ∙ or_right _ _ (stored_have stored d ∙ h)
+
+  -- what a process that is up logs is gathered
+  pub gathered_logged : (r : ℕ) → has_logged ms r d ≡ true → has_entry d gathered ≡ true
+  gathered_logged r h = all_entry ∙ or_left _ _ (held_entry ∙ or_left _ _ (united_each (has_entry d) (entry_either d) (none_entry d) ms fin.empty r h))
+
+  -- of what is gathered a known holder is p itself, or a process that is up knew of it
+  pub gathered_holder : (q : ℕ) → tells_holder d q gathered ≡ true → (q ≡ p.0) ⊎ ((r : ℕ) × (r < length ms) × (knows ms r d q ≡ true))
+  gathered_holder q h =
+      elim (or_cases (tells_holder d q held) (list_any (λ x. same_det d x && set.contains (stable_and_held_by p).holders q) (dets_in stored)) (sym (all_known (λ k. set.contains k.holders q) (holds_either q)) ∙ h)) [
+        | inl log ↦ elim (or_cases (tells_holder d q together) (list_any (λ x. same_det d x && set.contains (held_by p).holders q) (fin.keys together)) (sym (held_known (λ k. set.contains k.holders q) (holds_either q)) ∙ log)) [
+          | inl one ↦ inr (elim (united_found (tells_holder d q) (holder_either d q) (none_holds d q) ms fin.empty one) [ inl none ↦ absurd (both_ways _ (none_holds d q) none) | inr some ↦ some ])
+          | inr mine ↦ inl (alone_holds p.0 q (any_of d (λ x. set.contains (held_by p).holders q) (fin.keys together) mine).1)
+        ]
+        | inr mine ↦ inl (alone_holds p.0 q (any_of d (λ x. set.contains (stable_and_held_by p).holders q) (dets_in stored) mine).1)
+      ]
+
+  -- holders of which a process that is up knew are known in what is gathered
+  pub gathered_known : (r q : ℕ) → knows ms r d q ≡ true → tells_holder d q gathered ≡ true
+  gathered_known r q h =
+      all_known (λ k. set.contains k.holders q) (holds_either q)
+      ∙ or_left _ _ (held_known (λ k. set.contains k.holders q) (holds_either q) ∙ or_left _ _ (united_each (tells_holder d q) (holder_either d q) (none_holds d q) ms fin.empty r h))
+
+  -- what a process that is up knew to be stable is known so in what is gathered
+  pub gathered_marks : (r : ℕ) → marks ms r d ≡ true → tells_stable d gathered ≡ true
+  gathered_marks r h =
+      all_known (λ k. k.stable) stable_either
+      ∙ or_left _ _ (held_known (λ k. k.stable) stable_either ∙ or_left _ _ (united_each (tells_stable d) (mark_either d) (none_stable d) ms fin.empty r h))
+
+  -- what is stored is known to be stable in what is gathered
+  pub stored_marks : store.has stored d ≡ true → tells_stable d gathered ≡ true
+  stored_marks h = all_known (λ k. k.stable) stable_either ∙ or_right _ _ (any_for d (λ x. true) (dets_in stored) (stored_have stored d ∙ h) refl)
+
+  -- p is known to hold all that is gathered
+  pub gathered_itself : has_entry d gathered ≡ true → tells_holder d p.0 gathered ≡ true
+  gathered_itself h =
+      all_known (λ k. set.contains k.holders p.0) (holds_either p.0)
+      ∙ elim (or_cases (has_entry d held) (has (dets_in stored) d) (sym all_entry ∙ h)) [
+        | inl log ↦ or_left _ _ (held_known (λ k. set.contains k.holders p.0) (holds_either p.0) ∙ or_right _ _ (any_for d (λ x. set.contains (held_by p).holders p.0) (fin.keys together) (elim (or_cases (has_entry d together) (has (fin.keys together) d) (sym held_entry ∙ log)) [
+          | inl one ↦ keys_have together d ∙ one
+          | inr one ↦ one
+        ]) (itself_holds p.0)))
+        | inr member ↦ or_right _ _ (any_for d (λ x. set.contains (stable_and_held_by p).holders p.0) (dets_in stored) member (itself_holds p.0))
+      ]
+
+  -- what is gathered as stable is stored, or a process that is up knew it so
+  pub gathered_mark : tells_stable d gathered ≡ true → (store.has stored d ≡ true) ⊎ ((r : ℕ) × (r < length ms) × (marks ms r d ≡ true))
+  gathered_mark h =
+      elim (or_cases (tells_stable d held) (list_any (λ x. same_det d x && true) (dets_in stored)) (sym (all_known (λ k. k.stable) stable_either) ∙ h)) [
+        | inl log ↦ elim (or_cases (tells_stable d together) (list_any (λ x. same_det d x && false) (fin.keys together)) (sym (held_known (λ k. k.stable) stable_either) ∙ log)) [
+          | inl one ↦ inr (elim (united_found (tells_stable d) (mark_either d) (none_stable d) ms fin.empty one) [ inl none ↦ absurd (both_ways _ (none_stable d) none) | inr some ↦ some ])
+          | inr none ↦ absurd (false≢true (any_of d (λ x. false) (fin.keys together) none).1)
+        ]
+        | inr member ↦ inl (sym (stored_have stored d) ∙ (any_of d (λ x. true) (dets_in stored) member).0)
+      ]

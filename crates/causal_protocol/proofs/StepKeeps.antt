@@ -1,0 +1,258 @@
+-- Each legal step keeps what a run keeps.
+use Rattle.std.proofs.Common.{ℕ, zero, suc, ◌≡◌, ◌+◌, ◌<◌, inl, inr, true, not, ◌&&◌, ◌||◌, nat_lt, nat_le, List, [], ◌∷◌, ◌++◌, length, map, take, drop, replicate, slice_set, Option, Some, None, is_some, is_none, refl, sym, ap, subst, ◌∙◌, arith}
+use Rattle.std.specs.Prelude.{◌==◌}
+use Rattle.std.specs.List.{filter_map}
+use Rattle.std.specs.Option.{option_map, option_map_or}
+use Rattle.std.specs.FinMap as fin
+use Rattle.std.proofs.lemmas.Bool.{false≢true, or_cases, or_left, or_right, and_parts, cond-true, cond-false, ltb-true, leb-false}
+use Rattle.std.proofs.lemmas.Bool.Decides.{eqb_tells}
+use Rattle.causal_name.specs.declared.Pid.{Pid}
+use Rattle.causal_name.specs.declared.MsgName.{MsgName}
+use Rattle.causal_name.specs.declared.Det.{Det}
+use Rattle.causal_name.specs.Names.{same_det, message_of}
+use Rattle.causal_name.proofs.Lemmas.DetOrder.{same_itself}
+use Rattle.causal_trace.specs.declared.entry.Entry.{Entry}
+use Rattle.causal_trace.specs.declared.entry.Entry.TheVariants.{Send, Deliver, Stable, Crash, Restart}
+use Rattle.causal_trace.specs.Past.{has, message_at}
+use Rattle.causal_log.specs.Logs.{stable_in, marked, dets_of, unstable_in}
+use Rattle.causal_protocol.specs.declared.request.CoreFault.{CoreFault}
+use Rattle.causal_protocol.specs.declared.request.CoreFault.TheVariants as Why
+use Rattle.causal_protocol.specs.declared.request.Request.{Request}
+use Rattle.causal_protocol.specs.declared.request.Request.TheVariants as Ask
+use Rattle.causal_protocol.specs.declared.request.Reply.{Reply}
+use Rattle.causal_protocol.specs.declared.request.Reply.TheVariants as Told
+use Rattle.causal_protocol.specs.Memory.{Kept, Memory, Memories, at, changed, fresh, with_sent, with_received, with_log, kept_by, batch_of}
+use Rattle.causal_protocol.specs.Gathering.{stable_set, gathered_log}
+use Rattle.causal_protocol.specs.Run.{Run, receive, memories, memories_of, stable_of}
+use Rattle.causal_protocol.specs.Naming.{name, named_for, kept_for, send_of, next_rsn, next_ssn, own_det, listed_for}
+use Rattle.causal_protocol.specs.Refusals.{when, unless, rows, first_fault, gathered, unwritten, forgettable, count_down}
+use Rattle.causal_protocol.specs.Steps.{pushed, extended, receiver_of, sends_of, AreSends, delivery_of, forget_entries, LegalStep, flush_reason_of, IsPart}
+use Rattle.causal_protocol.specs.Sight.{tells_stable, has_logged, marks, has_item}
+use Rattle.causal_protocol.specs.Kept.{finds}
+use Rattle.causal_protocol.specs.Runs.{IsSound, IsRun, StepsKeepRuns, RefusalsChangeNothing}
+use Rattle.causal_protocol.proofs.Places.{at_set, at_within, log_here}
+use Rattle.causal_protocol.proofs.LearnedLogs.{keys_have}
+use Rattle.causal_protocol.proofs.Choices.{own_have, items_have, unstable_logged, stable_have, marked_entry}
+use Rattle.causal_protocol.proofs.Refusals.{first_none, when_none, not_not, is_there, is_missing, kept_for-is, kept_message, only_named, down_counted}
+use Rattle.causal_protocol.proofs.SoundSteps.{send_sound, was_sent, delivery_sound, stable_sound, forget_sound, crash_sound, restart_sound}
+
+-- what a state keeps, with the memories that the run makes
+abbrev pub IsKept : ℕ → ℕ → List Pid → List Entry → Type 0
+IsKept n f writers past = IsSound n f past (memories n f writers past)
+
+set_here : {X : Type 0} (xs : List (Option X)) (w : ℕ) (x : Option X) → w < length xs → at (slice_set xs w x) w ≡ x
+set_here xs w x low = at_set xs w x w low ∙ elim (eqb_tells w w) [ inl is ↦ cond-true (w == w) x (at xs w) is.0 | inr other ↦ absurd (other.1 refl) ]
+
+set_other : {X : Type 0} (xs : List (Option X)) (w : ℕ) (x : Option X) (p : ℕ) → w < length xs → (w ≡ p → ⊥) → at (slice_set xs w x) p ≡ at xs p
+set_other xs w x p low away = at_set xs w x p low ∙ elim (eqb_tells w p) [ inl is ↦ absurd (away is.1) | inr other ↦ cond-false (w == p) x (at xs p) other.0 ]
+
+length_more : {X : Type 0} (xs : List X) (x : X) → length (xs ++ x ∷ []) ≡ length xs + 1
+length_more [] x = refl
+length_more (y ∷ xs) x = omega (arith, length_more xs x)
+
+-- sends of an up process, one after the other
+sends_kept : (n f : ℕ) (writers : List Pid) (past : List Entry) (q : Pid) (ssn : ℕ) (tos : List Pid) (m : Memory) → at (memories n f writers past) q.0 ≡ Some m → q.0 < n → ssn ≡ length m.sent → IsKept n f writers past
+    → IsKept n f writers (pushed (sends_of q ssn tos) past) × ((p : ℕ) → (q.0 ≡ p → ⊥) → at (memories n f writers (pushed (sends_of q ssn tos) past)) p ≡ at (memories n f writers past) p)
+unfolding memories sends_of
+sends_kept n f writers past q ssn [] m here low is s = (s, λ p away. refl)
+sends_kept n f writers past q ssn (to ∷ tos) m here low is s =
+    let ms = memories n f writers past in
+    let bound : q.0 < length ms = at_within ms q.0 m here in
+    let next : IsSound n f (Send q to ssn ∷ past) (changed (with_sent f to (length past)) ms q.0) = subst (λ x. IsSound n f (Send q to x ∷ past) (changed (with_sent f to (length past)) ms q.0)) (sym is) (send_sound n f past ms q to m here low s) in
+    let there : at (changed (with_sent f to (length past)) ms q.0) q.0 ≡ Some (with_sent f to (length past) m) = set_here ms q.0 (option_map (with_sent f to (length past)) (at ms q.0)) bound ∙ ap (option_map (with_sent f to (length past))) here in
+    let rest = sends_kept n f writers (Send q to ssn ∷ past) q (ssn + 1) tos (with_sent f to (length past) m) there low (ap (λ x. x + 1) is ∙ sym (length_more m.sent _)) next in
+    (rest.0, λ p away. rest.1 p away ∙ set_other ms q.0 (option_map (with_sent f to (length past)) (at ms q.0)) p bound away)
+
+-- the same, as a step tells them
+pub are_sends_kept : (n f : ℕ) (writers : List Pid) (past : List Entry) (q : Pid) (ssn number : ℕ) (entries : List Entry) (m : Memory) → AreSends n q ssn number entries → at (memories n f writers past) q.0 ≡ Some m → q.0 < n → ssn ≡ length m.sent → IsKept n f writers past
+    → IsKept n f writers (pushed entries past) × ((p : ℕ) → (q.0 ≡ p → ⊥) → at (memories n f writers (pushed entries past)) p ≡ at (memories n f writers past) p)
+are_sends_kept n f writers past q ssn number entries m sends here low is s =
+    subst (λ es. IsKept n f writers (pushed es past) × ((p : ℕ) → (q.0 ≡ p → ⊥) → at (memories n f writers (pushed es past)) p ≡ at (memories n f writers past) p)) (sym sends.sends) (sends_kept n f writers past q ssn (filter_map receiver_of entries) m here low is s)
+
+-- stable entries of a flush, one after the other
+flush_kept : (n f : ℕ) (writers : List Pid) (past : List Entry) (p : Pid) (ds : List Det) (m : Memory) → at (memories n f writers past) p.0 ≡ Some m → p.0 < n → ((d : Det) → has ds d ≡ true → has_logged (memories n f writers past) p.0 d ≡ true) → IsKept n f writers past
+    → IsKept n f (replicate (length (map Stable ds)) p ++ writers) (pushed (map Stable ds) past)
+unfolding memories
+flush_kept n f writers past p [] m here low logged s = s
+flush_kept n f writers past p (d ∷ ds) m here low logged s =
+    let ms = memories n f writers past in
+    let bound : p.0 < length ms = at_within ms p.0 m here in
+    let next : IsKept n f (p ∷ writers) (Stable d ∷ past) = stable_sound n f past ms p m d here low (logged d (or_left _ _ (same_itself d))) s in
+    let there : at (memories n f (p ∷ writers) (Stable d ∷ past)) p.0 ≡ Some (with_log (λ log. marked log d) m) = set_here ms p.0 (option_map (with_log (λ log. marked log d)) (at ms p.0)) bound ∙ ap (option_map (with_log (λ log. marked log d))) here in
+    let still : (x : Det) → has ds x ≡ true → has_logged (memories n f (p ∷ writers) (Stable d ∷ past)) p.0 x ≡ true = λ x h.
+    ap (λ log. is_some (fin.get log x)) (log_here (memories n f (p ∷ writers) (Stable d ∷ past)) p.0 (with_log (λ log. marked log d) m) there)
+    ∙ marked_entry m.log d x
+    ∙ ap (λ log. is_some (fin.get log x)) (sym (log_here ms p.0 m here))
+    ∙ logged x (or_right _ _ h) in
+    subst (λ ws. IsKept n f ws (pushed (map Stable ds) (Stable d ∷ past))) (slide (length (map Stable ds)) p writers) (flush_kept n f (p ∷ writers) (Stable d ∷ past) p ds (with_log (λ log. marked log d) m) there low still next)
+  where
+    slide : (k : ℕ) (p : Pid) (ws : List Pid) → replicate k p ++ (p ∷ ws) ≡ p ∷ (replicate k p ++ ws)
+    slide zero p ws = refl
+    slide (suc k) p ws = ap (λ xs. p ∷ xs) (slide k p ws)
+
+has_taken : (k : ℕ) (ds : List Det) (d : Det) → has (take k ds) d ≡ true → has ds d ≡ true
+has_taken zero ds d h = absurd (false≢true h)
+has_taken (suc k) [] d h = absurd (false≢true h)
+has_taken (suc k) (x ∷ ds) d h = elim (or_cases (same_det d x) (has (take k ds) d) h) [ inl is ↦ or_left _ _ is | inr more ↦ or_right _ _ (has_taken k ds d more) ]
+
+module _ (r : Run) (s : IsRun r) where
+  abbrev n : ℕ
+  n = r.recording.processes
+
+  abbrev past : List Entry
+  past = r.recording.past
+
+  abbrev ms : Memories
+  ms = memories_of r
+
+  delivers : (q source : Pid) (ssn first : ℕ) (det : Det) (number : ℕ) (appended : List Entry) → first_fault r (Ask.Deliver q source ssn) ≡ None → appended ≡ delivery_of r q (name source ssn) ∷ drop 1 appended → AreSends n q (next_ssn ms q) number (drop 1 appended) → IsRun (extended r (Ask.Deliver q source ssn) appended)
+  unfolding rows memories
+  delivers q source ssn first det number appended none is sends =
+      let asked : MsgName = name source ssn in
+      let row1 = first_none (when (not (nat_lt q.0 n && nat_lt source.0 n)) Why.NoProcess) _ none in
+      let row2 = first_none (when (is_none (at ms q.0)) Why.Down) _ row1.1 in
+      let row3 = first_none (unless asked (named_for ms (stable_of r) q)) _ row2.1 in
+      let row4 = first_none (when (is_none (kept_for ms q asked)) Why.NotAvailable) _ row3.1 in
+      let low = and_parts (nat_lt q.0 n) (nat_lt source.0 n) (not_not _ (when_none _ Why.NoProcess row1.0)) in
+      let up = is_there (at ms q.0) (when_none _ Why.Down row2.0) in
+      let kept = is_there (kept_for ms q asked) (when_none _ Why.NotAvailable row4.0) in
+      let by = kept_for-is ms q asked kept.0 kept.1 in
+      subst (λ es. IsKept n r.faults r.writers (pushed es past)) (sym is) (then_sends up.0 kept.0 (ltb-true q.0 n low.0) (ltb-true source.0 n low.1) up.1 by row3.0)
+    where
+      then_sends : (m : Memory) (k : Kept) → q.0 < n → source.0 < n → at ms q.0 ≡ Some m → kept_by ms (name source ssn) ≡ Some k → unless (name source ssn) (named_for ms (stable_of r) q) ≡ None → IsKept n r.faults r.writers (pushed (drop 1 appended) (delivery_of r q (name source ssn) ∷ past))
+      then_sends m k low from here by only =
+          let asked : MsgName = name source ssn in
+          let found = kept_message ms asked k by in
+          let place : next_rsn ms q ≡ length m.received = ap (λ o. option_map_or (λ m. length m.received) o 0) here in
+          let named : (d : Det) → finds past q.0 d ≡ true → d.dest ≡ q → d.rsn ≡ next_rsn ms q → message_of d ≡ asked = λ d found dest rsn. only_named n r.faults past ms q m here low s asked only d found dest (rsn ∙ place) in
+          let lists : (d : Det) → has (listed_for ms q asked) d ≡ (same_det d (own_det ms q asked) || has_item d k.batch) = λ d.
+          own_have (own_det ms q asked) (dets_of (batch_of ms asked)) d
+          ∙ ap (λ b. same_det d (own_det ms q asked) || b) (items_have (batch_of ms asked) d ∙ ap (λ o. has_item d (option_map_or (λ k. k.batch) o [])) by) in
+          let sound = delivery_sound n r.faults past ms q (next_rsn ms q) asked m k (listed_for ms q asked) here low from found named lists s in
+          let sent = was_sent n r.faults past ms q (next_rsn ms q) asked m k (listed_for ms q asked) here low from found named lists s in
+          let given : receive ms q (next_rsn ms q) (message_at past (send_of ms asked)) ≡ changed (with_received k.batch (own_det ms q asked)) ms q.0 =
+          ap (λ o. receive ms q (next_rsn ms q) (message_at past (option_map_or (λ k. k.send) o 0))) by
+          ∙ ap (receive ms q (next_rsn ms q)) sent
+          ∙ ap (λ o. changed (with_received (option_map_or (λ k. k.batch) o []) (own_det ms q asked)) ms q.0) by in
+          let next : IsKept n r.faults r.writers (delivery_of r q asked ∷ past) =
+          subst (λ x. IsSound n r.faults (delivery_of r q asked ∷ past) x) (sym given)
+          (subst (λ x. IsSound n r.faults (Deliver q x (next_rsn ms q) (listed_for ms q asked) ∷ past) (changed (with_received k.batch (own_det ms q asked)) ms q.0)) (ap (λ o. option_map_or (λ k. k.send) o 0) (sym by)) sound) in
+          let bound : q.0 < length ms = at_within ms q.0 m here in
+          let there : at (memories n r.faults r.writers (delivery_of r q asked ∷ past)) q.0 ≡ Some (with_received k.batch (own_det ms q asked) m) =
+          ap (λ x. at x q.0) given ∙ set_here ms q.0 (option_map (with_received k.batch (own_det ms q asked)) (at ms q.0)) bound ∙ ap (option_map (with_received k.batch (own_det ms q asked))) here in
+          (are_sends_kept n r.faults r.writers (delivery_of r q asked ∷ past) q (next_ssn ms q) number (drop 1 appended) (with_received k.batch (own_det ms q asked) m) sends there low (ap (λ o. option_map_or (λ m. length m.sent) o 0) here) next).0
+
+  crashes : (p : Pid) (appended : List Entry) → first_fault r (Ask.Crash p) ≡ None → appended ≡ Crash p ∷ [] → IsRun (extended r (Ask.Crash p) appended)
+  unfolding rows memories
+  crashes p appended none is =
+      let row1 = first_none (when (not (nat_lt p.0 n)) Why.NoProcess) _ none in
+      let row2 = first_none (when (is_none (at ms p.0)) Why.Down) _ row1.1 in
+      let row3 = first_none (when (nat_le r.faults (count_down r)) Why.OverFaults) _ row2.1 in
+      let low = ltb-true p.0 n (not_not _ (when_none _ Why.NoProcess row1.0)) in
+      let few : count_down r < r.faults = leb-false r.faults (count_down r) (when_none _ Why.OverFaults row3.0) in
+      subst (λ es. IsKept n r.faults r.writers (pushed es past)) (sym is) (crash_sound n r.faults past ms p low (subst (λ x. x < r.faults) (down_counted n past ms s.fit.count s.fit.state) few) s)
+
+  restarts_kept : (p : Pid) (number : ℕ) (appended : List Entry) → first_fault r (Ask.Restart p) ≡ None → appended ≡ Restart p (gathered r p) ∷ drop 1 appended → AreSends n p 0 number (drop 1 appended) → IsRun (extended r (Ask.Restart p) appended)
+  unfolding rows memories
+  restarts_kept p number appended none is sends =
+      let row1 = first_none (when (not (nat_lt p.0 n)) Why.NoProcess) _ none in
+      let row2 = first_none (when (is_some (at ms p.0)) Why.NotDown) _ row1.1 in
+      let low = ltb-true p.0 n (not_not _ (when_none _ Why.NoProcess row1.0)) in
+      let down = is_missing (at ms p.0) (when_none _ Why.NotDown row2.0) in
+      let bound : p.0 < length ms = omega (arith, low, s.fit.count) in
+      let next : IsKept n r.faults r.writers (Restart p (gathered r p) ∷ past) = restart_sound n r.faults past ms p (gathered r p) low down (λ d. keys_have (gathered_log ms (stable_set past) p) d) s in
+      let there : at (memories n r.faults r.writers (Restart p (gathered r p) ∷ past)) p.0 ≡ Some (fresh (gathered_log ms (stable_set past) p)) = set_here ms p.0 (Some (fresh (gathered_log ms (stable_set past) p))) bound in
+      subst (λ es. IsKept n r.faults r.writers (pushed es past)) (sym is) (are_sends_kept n r.faults r.writers (Restart p (gathered r p) ∷ past) p 0 number (drop 1 appended) (fresh (gathered_log ms (stable_set past) p)) sends there low refl next).0
+
+  flushes : (p : Pid) (ds : List Det) (appended : List Entry) → first_fault r (Ask.Flush p) ≡ None → ((d : Det) → has ds d ≡ true → has (unwritten r p) d ≡ true) → appended ≡ map Stable ds → IsRun (extended r (Ask.Flush p) appended)
+  unfolding rows
+  flushes p ds appended none within is =
+      let row1 = first_none (when (not (nat_lt p.0 n)) Why.NoProcess) _ none in
+      let row2 = first_none (when (is_none (at ms p.0)) Why.Down) _ row1.1 in
+      let low = ltb-true p.0 n (not_not _ (when_none _ Why.NoProcess row1.0)) in
+      let up = is_there (at ms p.0) (when_none _ Why.Down row2.0) in
+      let logged : (d : Det) → has ds d ≡ true → has_logged ms p.0 d ≡ true = λ d h.
+      ap (λ log. is_some (fin.get log d)) (log_here ms p.0 up.0 up.1)
+      ∙ unstable_logged up.0.log d (sym (ap (λ o. has (option_map_or (λ m. unstable_in m.log) o []) d) up.1) ∙ within d h) in
+      subst (λ es. IsKept n r.faults (replicate (length es) p ++ r.writers) (pushed es past)) (sym is) (flush_kept n r.faults r.writers past p ds up.0 up.1 low logged s)
+
+  forgets : (p : Pid) (appended : List Entry) → first_fault r (Ask.Forget p) ≡ None → appended ≡ forget_entries p (forgettable r p) → IsRun (extended r (Ask.Forget p) appended)
+  unfolding rows memories
+  forgets p appended none is =
+      let row1 = first_none (when (not (nat_lt p.0 n)) Why.NoProcess) _ none in
+      let row2 = first_none (when (is_none (at ms p.0)) Why.Down) _ row1.1 in
+      let low = ltb-true p.0 n (not_not _ (when_none _ Why.NoProcess row1.0)) in
+      let up = is_there (at ms p.0) (when_none _ Why.Down row2.0) in
+      let known : (d : Det) → has (forgettable r p) d ≡ true → marks ms p.0 d ≡ true = λ d h.
+      ap (λ log. (tells_stable d log)) (log_here ms p.0 up.0 up.1)
+      ∙ sym (stable_have up.0.log d)
+      ∙ (sym (ap (λ o. has (option_map_or (λ m. stable_in m.log) o []) d) up.1) ∙ h) in
+      subst (λ es. IsKept n r.faults r.writers (pushed es past)) (sym is) (by_list (forgettable r p) low up.0 up.1 known)
+    where
+      by_list : (ds : List Det) → p.0 < n → (m : Memory) → at ms p.0 ≡ Some m → ((d : Det) → has ds d ≡ true → marks ms p.0 d ≡ true) → IsKept n r.faults r.writers (pushed (forget_entries p ds) past)
+      by_list [] low m here known = s
+      by_list (d ∷ ds) low m here known = forget_sound n r.faults past ms p m (d ∷ ds) here low known s
+
+  nothing_appended : (request : Request) (appended : List Entry) → appended ≡ [] → IsRun (extended r request appended)
+  nothing_appended request appended is = subst (λ es. IsRun (extended r request es)) (sym is) (by request)
+    where
+      by : (request : Request) → IsRun (extended r request [])
+      by (Ask.Deliver q source ssn) = s
+      by (Ask.Crash p) = s
+      by (Ask.Restart p) = s
+      by (Ask.Flush p) = s
+      by (Ask.Forget p) = s
+
+none_written : (fault reason : CoreFault) (done all : ℕ) → flush_reason_of fault ≡ Some reason → IsPart fault done all → done ≡ 0
+none_written Why.NoMemory reason done all is part = absurd (let e : None ≡ Some reason = is in cc)
+none_written Why.StoreFault reason done all is part = absurd (let e : None ≡ Some reason = is in cc)
+none_written Why.NoProcess reason done all is part = part
+none_written Why.Down reason done all is part = part
+none_written Why.NotDown reason done all is part = part
+none_written Why.OverFaults reason done all is part = part
+none_written (Why.MustReplay m) reason done all is part = part
+none_written Why.NotAvailable reason done all is part = part
+none_written Why.AlreadyDelivered reason done all is part = part
+none_written Why.Full reason done all is part = part
+
+legal_kept : (r : Run) (request : Request) (reply : Reply) (appended : List Entry) → LegalStep r request reply appended → IsRun r → IsRun (extended r request appended)
+unfolding LegalStep
+legal_kept r (Ask.Deliver q source ssn) (Told.Delivered d) appended h s = delivers r s q source ssn d.first d.det d.sends appended h.0 h.3 h.4
+legal_kept r (Ask.Deliver q source ssn) (Told.Refused fault) appended h s = nothing_appended r s (Ask.Deliver q source ssn) appended h.1
+legal_kept r (Ask.Crash p) (Told.Crashed first) appended h s = crashes r s p appended h.0 h.2
+legal_kept r (Ask.Crash p) (Told.Refused fault) appended h s = nothing_appended r s (Ask.Crash p) appended h.1
+legal_kept r (Ask.Restart p) (Told.Restarted d) appended h s = restarts_kept r s p d.sends appended h.0 h.3 h.4
+legal_kept r (Ask.Restart p) (Told.Refused fault) appended h s = nothing_appended r s (Ask.Restart p) appended h.1
+legal_kept r (Ask.Flush p) (Told.Flushed count) appended h s = flushes r s p (unwritten r p) appended h.0 (λ d x. x) h.2
+legal_kept r (Ask.Flush p) (Told.FlushRefused f) appended h s = by (flush_reason_of f.fault) refl
+  where
+    by : (reason : Option CoreFault) → flush_reason_of f.fault ≡ reason → IsRun (extended r (Ask.Flush p) appended)
+    by None is = flushes r s p (take f.done (unwritten r p)) appended (h.0 ∙ is) (has_taken f.done (unwritten r p)) h.2
+    by (Some fault) is =
+        nothing_appended r s (Ask.Flush p) appended (h.2 ∙ ap (λ k. map Stable (take k (unwritten r p))) (none_written f.fault fault f.done (length (unwritten r p)) is h.1))
+legal_kept r (Ask.Forget p) (Told.Forgotten count) appended h s = forgets r s p appended h.0 h.2
+legal_kept r (Ask.Forget p) (Told.Refused fault) appended h s = nothing_appended r s (Ask.Forget p) appended h.1
+legal_kept r request reply appended h s = absurd h
+
+-- each legal step keeps what a run keeps
+pub steps_keep_runs : StepsKeepRuns
+steps_keep_runs old new request reply step s = subst IsRun (sym step.grown) (legal_kept old request reply step.appended step.legal s)
+
+-- a refusal, but a flush that stopped part way, leaves the run as it was
+pub refusals_change_nothing : RefusalsChangeNothing
+unfolding LegalStep
+refusals_change_nothing old new request fault step = step.grown ∙ ap (extended old request) (nothing old request fault step.appended step.legal) ∙ same request
+  where
+    nothing : (r : Run) (request : Request) (fault : CoreFault) (appended : List Entry) → LegalStep r request (Told.Refused fault) appended → appended ≡ []
+    nothing r (Ask.Deliver q source ssn) fault appended h = h.1
+    nothing r (Ask.Crash p) fault appended h = h.1
+    nothing r (Ask.Restart p) fault appended h = h.1
+    nothing r (Ask.Flush p) fault appended h = absurd h
+    nothing r (Ask.Forget p) fault appended h = h.1
+
+    same : (request : Request) → extended old request [] ≡ old
+    same (Ask.Deliver q source ssn) = refl
+    same (Ask.Crash p) = refl
+    same (Ask.Restart p) = refl
+    same (Ask.Flush p) = refl
+    same (Ask.Forget p) = refl

@@ -1,0 +1,113 @@
+-- The definitions say what their words say.
+use Rattle.std.proofs.Common.{ℕ, ◌≡◌, ◌-◌, Bool, true, false, cond, List, [], ◌∷◌, ◌++◌, length, take, drop, reverse, Some, None, refl, sym, ap, subst, ◌∙◌, arith}
+use Rattle.std.specs.Prelude.{◌||◌, not, ◌&&◌, ◌==◌}
+use Rattle.std.specs.List.{find}
+use Rattle.std.specs.Option.{option_map_or}
+use Rattle.std.proofs.lemmas.List.{reverse-append, length-reverse, length-drop, drop_at, take-append-drop}
+use Rattle.std.proofs.lemmas.Option.{slice_get-get_or}
+use Rattle.std.proofs.lemmas.Bool.{false≢true, and_parts, eqb-true}
+use Rattle.causal_name.specs.declared.Pid.{Pid}
+use Rattle.causal_name.specs.declared.Det.{Det}
+use Rattle.causal_trace.specs.declared.entry.Entry.{Entry}
+use Rattle.causal_trace.specs.declared.entry.Entry.TheVariants.{Send, Deliver, Stable, Crash, Restart, Forget}
+use Rattle.causal_trace.specs.Past.{has, is_down, logs}
+use Rattle.causal_trace.specs.Dependence.{DirectlyPrecedes, Reaches, itself, onward, IsEventOf}
+use Rattle.causal_trace.specs.Agree.{InstantsArePrefixes, InstantsStay, OneMoreInstant, InstantsKeepPlaces, is_crash, is_turn_of, DownIsLastTurn, lists, is_forgetting, present, LogIsLastListing, IsPath, ReachesByPath}
+use Rattle.causal_trace.proofs.Lemmas.Instants.{entry_there}
+use Rattle.causal_trace.proofs.Lemmas.AtInstants as at
+use Rattle.causal_trace.proofs.Lemmas.EntryFacts.{delivers_up, restarts_down}
+
+-- instants
+
+-- the instant t of a run is what its first t entries make
+pub instants_prefixes : InstantsArePrefixes
+instants_prefixes entries t within =
+    let split : reverse entries ≡ reverse (drop t entries) ++ reverse (take t entries) = ap reverse (sym (take-append-drop t entries)) ∙ reverse-append (take t entries) (drop t entries) in
+    ap (λ x. drop (length (reverse entries) - t) x) split
+    ∙ drop_at (reverse (drop t entries)) (reverse (take t entries)) (length (reverse entries) - t) (length-reverse (drop t entries) ∙ length-drop t entries ∙ ap (λ n. n - t) (sym (length-reverse entries)))
+
+-- one more entry leaves the instants that there were
+pub instants_stay : InstantsStay
+instants_stay e past t within = at.instants_stay e past t within
+
+-- one more entry makes one more instant, which is the state with it
+pub one_more_instant : OneMoreInstant
+one_more_instant e past = at.one_more_instant e past
+
+-- at an instant, the entry at each position is the run's
+pub instants_keep_places : InstantsKeepPlaces
+instants_keep_places entries t k within below =
+    let any : Entry = Crash (record { 0 = 0 }) in
+    entry_there entries t k any within below ∙ sym (slice_get-get_or entries k any (omega (arith, within, below)))
+
+-- who is down
+
+-- a process is down where its last crash or restart is a crash
+pub down_last : DownIsLastTurn
+down_last [] p = refl
+down_last (Send from to ssn ∷ past) p = down_last past p
+down_last (Deliver to send rsn listed ∷ past) p = down_last past p
+down_last (Stable d ∷ past) p = down_last past p
+down_last (Forget who listed ∷ past) p = down_last past p
+down_last (Crash who ∷ past) p = elim (who.0 == p) as (λ b. (b || is_down past p) ≡ option_map_or is_crash (cond b (Some (Crash who)) (find (is_turn_of p) past)) false) [ true ↦ refl | false ↦ down_last past p ]
+down_last (Restart who listed ∷ past) p = elim (who.0 == p) as (λ b. (not b && is_down past p) ≡ option_map_or is_crash (cond b (Some (Restart who listed)) (find (is_turn_of p) past)) false) [ true ↦ refl | false ↦ down_last past p ]
+
+-- a path
+
+path_more : (past : List Entry) (i : ℕ) (over : List ℕ) (j k : ℕ) → IsPath past i over j → DirectlyPrecedes past j k → IsPath past i (over ++ k ∷ []) k
+path_more past i [] j k h d = (subst (λ x. DirectlyPrecedes past x k) (sym h) d, refl)
+path_more past i (m ∷ over) j k h d = (h.0, path_more past m over j k h.1 d)
+
+by_path : (past : List Entry) (i j : ℕ) → Reaches past i j → ((p : ℕ) × (l : ℕ) × IsEventOf past i p l) × ((over : List ℕ) × IsPath past i over j)
+by_path past i j (itself p l at) = ((p, l, at), ([], refl))
+by_path past i k (onward {j = j} r d) = let before = by_path past i j r in (before.0, (before.1.0 ++ k ∷ [], path_more past i before.1.0 j k before.1.1 d))
+
+along : (past : List Entry) (i k : ℕ) (over : List ℕ) (j : ℕ) → Reaches past i k → IsPath past k over j → Reaches past i j
+along past i k [] j r h = subst (λ x. Reaches past i x) h r
+along past i k (m ∷ over) j r h = along past i m over j (onward r h.0) h.1
+
+-- i reaches j where a list of events leads there, each of which directly precedes the next
+pub reaches_path : ReachesByPath
+reaches_path past i j = (by_path past i j, λ h. along past i i h.1.0 j (itself h.0.0 h.0.1 h.0.2) h.1.1)
+
+-- what is in a log
+
+at_true : (a b : Bool) → b ≡ false → true ≡ (not b && true)
+at_true a true h = absurd (false≢true (sym h))
+at_true a false h = refl
+
+never : (a : Bool) → false ≡ (a && false)
+never true = refl
+never false = refl
+
+-- a process that was down has what its restart lists
+fresh : (who : Pid) (listed : List Det) (past : List Entry) (p : ℕ) (d : Det) → logs past p d ≡ (not (is_down past p) && option_map_or (λ e. not (is_forgetting e)) (find (lists p d) (present past p)) false) → is_down past who.0 ≡ true → (who.0 == p) ≡ true → (has listed d || logs past p d) ≡ option_map_or (λ e. not (is_forgetting e)) (cond (who.0 == p && has listed d) (Some (Restart who listed)) None) false
+fresh who listed past p d before down at =
+    let gone : logs past p d ≡ false = before ∙ ap (λ b. not b && option_map_or (λ e. not (is_forgetting e)) (find (lists p d) (present past p)) false) (subst (λ x. is_down past x ≡ true) (eqb-true who.0 p at) down) in
+    rw (gone, at) (elim (has listed d) as (λ b. (b || false) ≡ option_map_or (λ e. not (is_forgetting e)) (cond b (Some (Restart who listed)) None) false) [ true ↦ refl | false ↦ refl ])
+
+-- a process that is up logs d where the last entry of its lane that lists d is no forgetting
+pub log_last : LogIsLastListing
+log_last n [] p d t = refl
+log_last n (Send from to ssn ∷ past) p d t = log_last n past p d t.0
+log_last n (Stable x ∷ past) p d t = log_last n past p d t.0
+log_last n (Deliver to send rsn listed ∷ past) p d t =
+    elim (to.0 == p && has listed d) as (λ b. (to.0 == p && has listed d) ≡ b → (b || logs past p d) ≡ (not (is_down past p) && option_map_or (λ e. not (is_forgetting e)) (cond b (Some (Deliver to send rsn listed)) (find (lists p d) (present past p))) false)) [
+      | true ↦ λ at. at_true true (is_down past p) (subst (λ x. is_down past x ≡ false) (eqb-true to.0 p (and_parts (to.0 == p) (has listed d) at).0) (delivers_up n past to send rsn listed t.1))
+      | false ↦ λ _. log_last n past p d t.0
+    ] refl
+log_last n (Crash who ∷ past) p d t =
+    elim (who.0 == p) as (λ b. (not b && logs past p d) ≡ (not (b || is_down past p) && option_map_or (λ e. not (is_forgetting e)) (find (lists p d) (present past p)) false)) [
+      | true ↦ refl
+      | false ↦ log_last n past p d t.0
+    ]
+log_last n (Restart who listed ∷ past) p d t =
+    elim (who.0 == p) as (λ b. (who.0 == p) ≡ b → ((b && has listed d) || logs past p d) ≡ (not (not b && is_down past p) && option_map_or (λ e. not (is_forgetting e)) (find (lists p d) (cond b (Restart who listed ∷ []) (Restart who listed ∷ present past p))) false)) [
+      | true ↦ λ at. fresh who listed past p d (log_last n past p d t.0) (restarts_down n past who listed t.1) at
+      | false ↦ λ at. log_last n past p d t.0 ∙ ap (λ b. not (is_down past p) && option_map_or (λ e. not (is_forgetting e)) (cond (b && has listed d) (Some (Restart who listed)) (find (lists p d) (present past p))) false) (sym at)
+    ] refl
+log_last n (Forget who listed ∷ past) p d t =
+    elim (who.0 == p && has listed d) as (λ b. (not b && logs past p d) ≡ (not (is_down past p) && option_map_or (λ e. not (is_forgetting e)) (cond b (Some (Forget who listed)) (find (lists p d) (present past p))) false)) [
+      | true ↦ never (not (is_down past p))
+      | false ↦ log_last n past p d t.0
+    ]

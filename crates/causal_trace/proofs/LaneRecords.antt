@@ -1,0 +1,97 @@
+-- What a trace remembers of each process, with one more entry.
+use Rattle.std.proofs.Common.{ℕ, suc, ◌≡◌, ◌+◌, ◌<◌, ◌≤◌, inl, inr, Bool, true, false, cond, ◌==◌, List, [], ◌∷◌, length, get_or, set, Option, Some, None, refl, sym, ap, subst, ◌∙◌, arith}
+use Rattle.std.specs.Prelude.{◌||◌, ◌&&◌, not, nat_lt, IfSome, All, replicate}
+use Rattle.std.specs.Option.{option_map_or}
+use Rattle.std.proofs.lemmas.Bool.Decides.{nat_tests, eqb_tells}
+use Rattle.std.proofs.lemmas.List.{get_or-set_same, get_or-set_other, length-set, length-replicate, get_or-replicate}
+use Rattle.causal_name.specs.declared.Pid.{Pid}
+use Rattle.causal_trace.specs.declared.entry.Entry.{Entry}
+use Rattle.causal_trace.specs.declared.entry.Entry.TheVariants.{Send, Deliver, Stable, Crash, Restart, Forget}
+use Rattle.causal_trace.specs.declared.fault.TraceFault.TheVariants.{NoProcess}
+use Rattle.causal_trace.specs.declared.lanes.Lane.{Lane}
+use Rattle.causal_trace.specs.Past.{is_down, lane, sends, deliveries}
+use Rattle.causal_trace.specs.Rows.{rows, first_fault}
+use Rattle.causal_trace.specs.Inside.Index.{lane_of, fresh, lane_after, subject, lanes_after, lanes_after_of, ArePresentLanes, HasRoom}
+use Rattle.causal_trace.proofs.Lemmas.EntryFacts.{row_fails}
+use Rattle.causal_trace.proofs.Lemmas.CountBounds.{sends_few, deliveries_few}
+
+abbrev is_of : ℕ → Entry → Bool
+is_of p e = option_map_or (λ q. q.0 == p) (subject e) false
+
+-- only the lane of the entry's process changes
+pub lane_of_next : (e : Entry) (past : List Entry) (p : ℕ) → lane_of (e ∷ past) p ≡ cond (is_of p e) (lane_after e (lane_of past p)) (lane_of past p)
+lane_of_next (Send from to ssn) past p = elim (from.0 == p) as (λ b. record { down = is_down past p; restarts = lane past p; sends = cond b (sends past p + 1) (sends past p); deliveries = deliveries past p } ≡ cond b (lane_after (Send from to ssn) (lane_of past p)) (lane_of past p)) [ true ↦ refl | false ↦ refl ]
+lane_of_next (Deliver to send rsn listed) past p = elim (to.0 == p) as (λ b. record { down = is_down past p; restarts = lane past p; sends = sends past p; deliveries = cond b (deliveries past p + 1) (deliveries past p) } ≡ cond b (lane_after (Deliver to send rsn listed) (lane_of past p)) (lane_of past p)) [ true ↦ refl | false ↦ refl ]
+lane_of_next (Stable det) past p = refl
+lane_of_next (Crash who) past p = elim (who.0 == p) as (λ b. record { down = b || is_down past p; restarts = lane past p; sends = sends past p; deliveries = deliveries past p } ≡ cond b (lane_after (Crash who) (lane_of past p)) (lane_of past p)) [ true ↦ refl | false ↦ refl ]
+lane_of_next (Restart who listed) past p = elim (who.0 == p) as (λ b. record { down = not b && is_down past p; restarts = cond b (lane past p + 1) (lane past p); sends = cond b 0 (sends past p); deliveries = cond b 0 (deliveries past p) } ≡ cond b (lane_after (Restart who listed) (lane_of past p)) (lane_of past p)) [ true ↦ refl | false ↦ refl ]
+lane_of_next (Forget who listed) past p = elim (who.0 == p) as (λ b. lane_of past p ≡ cond b (lane_of past p) (lane_of past p)) [ true ↦ refl | false ↦ refl ]
+
+lanes_at : (subj : Option Pid) (n : ℕ) (e : Entry) (past : List Entry) (lanes : List Lane) → ArePresentLanes n past lanes → (p : ℕ) (d : Lane) → p < n → get_or (lanes_after_of subj e lanes) p d ≡ cond (option_map_or (λ q. q.0 == p) subj false) (lane_after e (lane_of past p)) (lane_of past p)
+lanes_at None n e past lanes are p d h = are.each p d h
+lanes_at (Some q) n e past lanes are p d h =
+    elim (eqb_tells q.0 p) [
+      | inl k ↦
+          let at : get_or (set lanes p (lane_after e (get_or lanes p fresh))) p d ≡ lane_after e (get_or lanes p fresh) = get_or-set_same lanes p (lane_after e (get_or lanes p fresh)) d (omega (arith, are.count)) in
+          ap (λ x. get_or (set lanes x (lane_after e (get_or lanes x fresh))) p d) k.1
+          ∙ at
+          ∙ ap (lane_after e) (are.each p fresh h)
+          ∙ ap (λ b. cond b (lane_after e (lane_of past p)) (lane_of past p)) (sym k.0)
+      | inr k ↦
+          get_or-set_other lanes q.0 p (lane_after e (get_or lanes q.0 fresh)) d (λ same. k.1 (sym same))
+          ∙ are.each p d h
+          ∙ ap (λ b. cond b (lane_after e (lane_of past p)) (lane_of past p)) (sym k.0)
+    ]
+
+-- an entry leaves as many lanes as there were
+pub lanes_length : (subj : Option Pid) (e : Entry) (lanes : List Lane) → length (lanes_after_of subj e lanes) ≡ length lanes
+lanes_length None e lanes = refl
+lanes_length (Some q) e lanes = length-set lanes q.0 _
+
+-- the lanes after an entry are those of the past with it
+pub lanes_push : (n : ℕ) (e : Entry) (past : List Entry) (lanes : List Lane) → ArePresentLanes n past lanes → ArePresentLanes n (e ∷ past) (lanes_after e lanes)
+lanes_push n e past lanes are = record {
+  count = lanes_length (subject e) e lanes ∙ are.count;
+  each = λ p d h. lanes_at (subject e) n e past lanes are p d h ∙ sym (lane_of_next e past p);
+}
+
+lane_few : (past : List Entry) (p : ℕ) → lane past p ≤ length past
+lane_few [] p = omega arith
+lane_few (Restart who listed ∷ past) p = elim (who.0 == p) as (λ b. cond b (lane past p + 1) (lane past p) ≤ suc (length past)) [ true ↦ omega (arith, lane_few past p) | false ↦ omega (arith, lane_few past p) ]
+lane_few (Send from to ssn ∷ past) p = omega (arith, lane_few past p)
+lane_few (Deliver to send rsn listed ∷ past) p = omega (arith, lane_few past p)
+lane_few (Stable det ∷ past) p = omega (arith, lane_few past p)
+lane_few (Crash who ∷ past) p = omega (arith, lane_few past p)
+lane_few (Forget who listed ∷ past) p = omega (arith, lane_few past p)
+
+-- no count is above the number of entries
+lane_has_room : (past : List Entry) (p : ℕ) → length past < 16777216 → HasRoom (lane_of past p)
+lane_has_room past p h = record {
+  restarts = omega (arith, h, lane_few past p);
+  sends = omega (arith, h, sends_few past p);
+  deliveries = omega (arith, h, deliveries_few past p);
+}
+
+-- while a run is below the limit of entries, each lane's counts have room for one more
+pub lanes_have_room : (n : ℕ) (past : List Entry) (lanes : List Lane) → ArePresentLanes n past lanes → length past < 16777216 → All HasRoom lanes
+lanes_have_room n past lanes are short k d below = subst HasRoom (sym (are.each k d (omega (arith, are.count, below)))) (lane_has_room past k short)
+
+below_count : (a n : ℕ) → not (nat_lt a n) ≡ false → a < n
+below_count a n h = grind (arith, nat_tests)
+
+below_counts : (a b n : ℕ) → not (nat_lt a n && nat_lt b n) ≡ false → a < n
+below_counts a b n h = grind (arith, nat_tests)
+
+-- the process of an entry that may come next is there
+pub subject_there : (n : ℕ) (past : List Entry) (e : Entry) → first_fault n past e ≡ None → IfSome (subject e) (λ p. p.0 < n)
+unfolding rows
+subject_there n past (Send from to ssn) h = below_counts from.0 to.0 n (row_fails (rows n past (Send from to ssn)) h 1 (not (nat_lt from.0 n && nat_lt to.0 n), NoProcess) refl)
+subject_there n past (Deliver to send rsn listed) h = below_count to.0 n (row_fails (rows n past (Deliver to send rsn listed)) h 1 (not (nat_lt to.0 n), NoProcess) refl)
+subject_there n past (Stable det) h = tt
+subject_there n past (Crash who) h = below_count who.0 n (row_fails (rows n past (Crash who)) h 1 (not (nat_lt who.0 n), NoProcess) refl)
+subject_there n past (Restart who listed) h = below_count who.0 n (row_fails (rows n past (Restart who listed)) h 1 (not (nat_lt who.0 n), NoProcess) refl)
+subject_there n past (Forget who listed) h = below_count who.0 n (row_fails (rows n past (Forget who listed)) h 1 (not (nat_lt who.0 n), NoProcess) refl)
+
+-- before any entry the present lane of each process is a fresh one
+pub no_lanes : (n : ℕ) → ArePresentLanes n [] (replicate n fresh)
+no_lanes n = record { count = length-replicate n fresh; each = λ p d h. get_or-replicate n p fresh d h }

@@ -1,0 +1,230 @@
+-- What a trace remembers beside its entries, with one more entry.
+use Rattle.std.proofs.Common.{ℕ, zero, suc, ◌≡◌, ◌+◌, ◌<◌, ◌≤◌, inl, inr, Bool, true, false, cond, ◌==◌, List, [], ◌∷◌, length, get_or, set, Some, None, refl, sym, ap, subst, ◌∙◌, arith}
+use Rattle.std.specs.Prelude.{not, replicate, IfSome}
+use Rattle.std.specs.Option.{option_map, option_map_or, option_and_then}
+use Rattle.std.proofs.lemmas.Bool.{false≢true, eqb-true}
+use Rattle.std.proofs.lemmas.Bool.Decides.{eqb_tells}
+use Rattle.std.proofs.lemmas.List.{length-set, length-replicate}
+use Rattle.causal_name.specs.Names.{same_message, message_of}
+use Rattle.causal_name.specs.declared.Pid.{Pid}
+use Rattle.causal_name.specs.declared.MsgName.{MsgName}
+use Rattle.causal_name.specs.declared.Det.{Det}
+use Rattle.causal_trace.specs.declared.entry.Entry.{Entry}
+use Rattle.causal_trace.specs.declared.entry.Entry.TheVariants.{Send, Deliver, Stable, Crash, Restart, Forget}
+use Rattle.causal_trace.specs.declared.fault.TraceFault.TheVariants.{WrongSsn}
+use Rattle.causal_trace.specs.declared.lanes.Lane.{Lane}
+use Rattle.causal_trace.specs.Limits.{IsProcessCount}
+use Rattle.causal_trace.specs.Past.{listed_by, lane, sends, restarts, deliveries_in, entry_at, is_send_to, message_sent, message_at, det_from, det_of, is_message}
+use Rattle.causal_trace.specs.Rows.{Recording, rows, first_fault}
+use Rattle.causal_trace.specs.State.{with_entry}
+use Rattle.causal_trace.specs.Bounded.{IsBounded}
+use Rattle.causal_trace.specs.Inside.Index.{ArePresentLanes, AreChains, HasHeads, fresh, lanes_after, IsIndexed, is_restart}
+use Rattle.causal_trace.specs.Inside.Chains.{Heads, HasHead, ChainsState, IsBelow, chain, head_of, heads_of, heads_after, nodes_after, opened, receipts, with_head, with_message}
+use Rattle.causal_trace.proofs.ReceiptChains.{head_keeps, head_lengths, linked_message, linked_receipt, message_keeps, message_leads, message_longer, message_there, receipt_leads}
+use Rattle.causal_trace.proofs.Lemmas.EntryFacts.{delivers_sent, not_false, row_fails}
+use Rattle.causal_trace.proofs.Lemmas.WellFormed.{kept_push}
+use Rattle.causal_trace.proofs.LaneRecords.{lanes_push, subject_there, no_lanes}
+
+-- the count of restarts, with one more entry
+restarted_push : (e : Entry) (past : List Entry) (n : ℕ) → n ≡ restarts past → n + cond (is_restart e) 1 0 ≡ restarts (e ∷ past)
+restarted_push (Restart who listed) past n h = ap (λ k. k + 1) h
+restarted_push (Send from to ssn) past n h = omega (arith, h)
+restarted_push (Deliver to send rsn listed) past n h = omega (arith, h)
+restarted_push (Stable det) past n h = omega (arith, h)
+restarted_push (Crash who) past n h = omega (arith, h)
+restarted_push (Forget who listed) past n h = omega (arith, h)
+
+-- a run has no more restarts than entries
+pub restarts_few : (past : List Entry) → restarts past ≤ length past
+restarts_few [] = omega arith
+restarts_few (Restart who listed ∷ past) = omega (arith, restarts_few past)
+restarts_few (Send from to ssn ∷ past) = omega (arith, restarts_few past)
+restarts_few (Deliver to send rsn listed ∷ past) = omega (arith, restarts_few past)
+restarts_few (Stable det ∷ past) = omega (arith, restarts_few past)
+restarts_few (Crash who ∷ past) = omega (arith, restarts_few past)
+restarts_few (Forget who listed ∷ past) = omega (arith, restarts_few past)
+
+-- a run has no more deliveries than entries
+pub deliveries_in_few : (past : List Entry) → deliveries_in past ≤ length past
+deliveries_in_few [] = omega arith
+deliveries_in_few (Deliver to send rsn listed ∷ past) = omega (arith, deliveries_in_few past)
+deliveries_in_few (Send from to ssn ∷ past) = omega (arith, deliveries_in_few past)
+deliveries_in_few (Restart who listed ∷ past) = omega (arith, deliveries_in_few past)
+deliveries_in_few (Stable det ∷ past) = omega (arith, deliveries_in_few past)
+deliveries_in_few (Crash who ∷ past) = omega (arith, deliveries_in_few past)
+deliveries_in_few (Forget who listed ∷ past) = omega (arith, deliveries_in_few past)
+
+-- the receiver of a delivery that may come next is there
+pub det_there : (n : ℕ) (past : List Entry) (e : Entry) → first_fault n past e ≡ None → IfSome (det_of past e) (λ d. d.dest.0 < n)
+det_there n past (Send from to ssn) h = tt
+det_there n past (Stable det) h = tt
+det_there n past (Crash who) h = tt
+det_there n past (Restart who listed) h = tt
+det_there n past (Forget who listed) h = tt
+det_there n past (Deliver to send rsn listed) h =
+    let there : to.0 < n = subject_there n past (Deliver to send rsn listed) h in
+    elim (message_at past send) as (λ o. IfSome (option_map (det_from to rsn) o) (λ d. d.dest.0 < n)) [ None ↦ tt | Some m ↦ there ]
+
+sends_one : (e : Entry) (p : ℕ) → is_send_to p e ≡ true → (m : MsgName) × (message_sent e ≡ Some m)
+sends_one (Send from to ssn) p h = (record { source = from; ssn = ssn }, refl)
+sends_one (Deliver to send rsn listed) p h = absurd (false≢true h)
+sends_one (Stable det) p h = absurd (false≢true h)
+sends_one (Crash who) p h = absurd (false≢true h)
+sends_one (Restart who listed) p h = absurd (false≢true h)
+sends_one (Forget who listed) p h = absurd (false≢true h)
+
+-- a delivery that may come next has a message
+pub delivers_message : (n : ℕ) (past : List Entry) (to : Pid) (send rsn : ℕ) (listed : List Det) → first_fault n past (Deliver to send rsn listed) ≡ None → (m : MsgName) × (message_at past send ≡ Some m)
+delivers_message n past to send rsn listed h =
+    elim (entry_at past send) as (λ o. option_map_or (is_send_to to.0) o false ≡ true → (m : MsgName) × (option_and_then message_sent o ≡ Some m)) [
+      | None ↦ λ k. absurd (false≢true k)
+      | Some e ↦ λ k. sends_one e to.0 k
+    ] (delivers_sent n past to send rsn listed h)
+
+-- the number of a send that may come next is the next one of its sender
+numbered_next : (n : ℕ) (past : List Entry) (from to : Pid) (ssn : ℕ) → first_fault n past (Send from to ssn) ≡ None → ssn ≡ sends past from.0
+unfolding rows
+numbered_next n past from to ssn h = eqb-true ssn (sends past from.0) (not_false (ssn == sends past from.0) (row_fails (rows n past (Send from to ssn)) h 3 (not (ssn == sends past from.0), WrongSsn) refl))
+
+named_push : (e : Entry) (past : List Entry) (heads : Heads) → IfSome (message_sent e) (HasHead heads) → HasHeads past heads → HasHeads (e ∷ past) heads
+named_push e past heads own older k = elim (k == length past) as (λ b. IfSome (option_and_then message_sent (cond b (Some e) (entry_at past k))) (HasHead heads)) [ true ↦ own | false ↦ older k ]
+
+named_grown : (past : List Entry) (heads new : Heads) → ((m : MsgName) → HasHead heads m → HasHead new m) → HasHeads past heads → HasHeads past new
+named_grown past heads new grown older k =
+    elim (message_at past k) as (λ o. IfSome o (HasHead heads) → IfSome o (HasHead new)) [ None ↦ λ _. tt | Some m ↦ grown m ] (older k)
+
+has_own : (past : List Entry) (heads : Heads) (send : ℕ) (m : MsgName) → message_at past send ≡ Some m → HasHeads past heads → HasHead heads m
+has_own past heads send m at older = subst (λ o. IfSome o (HasHead heads)) at (older send)
+
+sent_next : (from p s l : ℕ) → (from ≡ p → s + 1 ≤ l) → s ≤ l → cond (from == p) (s + 1) s ≤ l
+sent_next from p s l own other =
+    elim (eqb_tells from p) [
+      | inl is ↦ subst (λ b. cond b (s + 1) s ≤ l) (sym is.0) (own is.1)
+      | inr not ↦ subst (λ b. cond b (s + 1) s ≤ l) (sym not.0) other
+    ]
+
+begun_anew : (b : Bool) (s l : ℕ) → s ≤ l → cond b 0 s ≤ l
+begun_anew true s l h = omega arith
+begun_anew false s l h = h
+
+module _ (n : ℕ) (past : List Entry) (c : ChainsState) (are : AreChains n past c.heads c.nodes) where
+  -- with a send
+  chains_sent : (from to : Pid) (ssn : ℕ) → from.0 < n → ssn ≡ sends past from.0 → AreChains n (Send from to ssn ∷ past) (with_message c.heads (record { source = from; ssn = ssn })) c.nodes
+  chains_sent from to ssn below is =
+      let m : MsgName = record { source = from; ssn = ssn } in
+      let low : from.0 < length c.heads = omega (arith, below, are.count) in
+      let there : HasHead (with_message c.heads m) m = message_there c.heads m low (omega (arith, is, are.sent from.0 below)) in
+      record {
+        count = length-set c.heads from.0 (opened (heads_of c.heads from.0) ssn) ∙ are.count;
+        linked = linked_message c.heads c.nodes m low are.linked;
+        counted = are.counted;
+        sent = λ p h. sent_next from.0 p (sends past p) (length (heads_of (with_message c.heads m) p)) (λ same. subst (λ q. sends past q + 1 ≤ length (heads_of (with_message c.heads m) q)) same (omega (arith, is, there.ssn))) (omega (arith, are.sent p h, message_longer c.heads m p low));
+        named = named_push (Send from to ssn) past (with_message c.heads m) there (named_grown past c.heads (with_message c.heads m) (λ q has. message_keeps c.heads m q low has) are.named);
+        each = λ q. ap (chain c.nodes) (message_leads c.heads m q low) ∙ are.each q;
+      }
+
+  -- with a delivery
+  chains_delivered : (to : Pid) (send rsn l : ℕ) (listed : List Det) (m : MsgName) → message_at past send ≡ Some m → l ≡ lane past to.0 → AreChains n (Deliver to send rsn listed ∷ past) (with_head c.heads m (Some (length c.nodes))) (record { receipt = record { dest = to; lane = l; rsn = rsn }; next = head_of c.heads m } ∷ c.nodes)
+  chains_delivered to send rsn l listed m at is =
+      let has : HasHead c.heads m = has_own past c.heads send m at are.named in
+      let heads = with_head c.heads m (Some (length c.nodes)) in
+      record {
+        count = length-set c.heads m.source.0 (set (heads_of c.heads m.source.0) m.ssn (Some (length c.nodes))) ∙ are.count;
+        linked = linked_receipt c.heads c.nodes m (record { dest = to; lane = l; rsn = rsn }) has are.linked;
+        counted = omega (arith, are.counted);
+        sent = λ p h. omega (arith, are.sent p h, head_lengths c.heads m p (Some (length c.nodes)) has.source);
+        named = named_push (Deliver to send rsn listed) past heads tt (named_grown past c.heads heads (λ q h. head_keeps c.heads m q (Some (length c.nodes)) has.source h) are.named);
+        each = λ q.
+            receipt_leads c.heads c.nodes m q (record { dest = to; lane = l; rsn = rsn }) has are.linked
+            ∙ ap (λ rs. cond (same_message m q) (record { dest = to; lane = l; rsn = rsn } ∷ rs) rs) (are.each q)
+            ∙ ap (λ k. cond (same_message m q) (record { dest = to; lane = k; rsn = rsn } ∷ receipts past q) (receipts past q)) is
+            ∙ ap (λ o. cond (is_message o q) (record { dest = to; lane = lane past to.0; rsn = rsn } ∷ receipts past q) (receipts past q)) (sym at);
+      }
+
+  -- what a trace remembers of the deliveries, with one more entry
+  pub chains_push : (e : Entry) (l : ℕ) → first_fault n past e ≡ None → ((d : Det) → det_of past e ≡ Some d → l ≡ lane past d.dest.0) → AreChains n (e ∷ past) (heads_after (message_sent e) (det_of past e) c) (nodes_after (message_sent e) (det_of past e) l c)
+  chains_push (Send from to ssn) l next at = chains_sent from to ssn (subject_there n past (Send from to ssn) next) (numbered_next n past from to ssn next)
+  chains_push (Deliver to send rsn listed) l next at =
+      let own = delivers_message n past to send rsn listed next in
+      subst (λ o. AreChains n (Deliver to send rsn listed ∷ past) (heads_after None (option_map (det_from to rsn) o) c) (nodes_after None (option_map (det_from to rsn) o) l c)) (sym own.1)
+      (chains_delivered to send rsn l listed own.0 own.1 (at (det_from to rsn own.0) (ap (option_map (det_from to rsn)) own.1)))
+  chains_push (Stable det) l next at = record { count = are.count; linked = are.linked; counted = are.counted; sent = are.sent; named = named_push (Stable det) past c.heads tt are.named; each = are.each }
+  chains_push (Crash who) l next at = record { count = are.count; linked = are.linked; counted = are.counted; sent = are.sent; named = named_push (Crash who) past c.heads tt are.named; each = are.each }
+  chains_push (Forget who listed) l next at = record { count = are.count; linked = are.linked; counted = are.counted; sent = are.sent; named = named_push (Forget who listed) past c.heads tt are.named; each = are.each }
+  chains_push (Restart who listed) l next at = record {
+    count = are.count;
+    linked = are.linked;
+    counted = are.counted;
+    sent = λ p h. begun_anew (who.0 == p) (sends past p) (length (heads_of c.heads p)) (are.sent p h);
+    named = named_push (Restart who listed) past c.heads tt are.named;
+    each = are.each;
+  }
+
+no_heads : (n p : ℕ) → heads_of (replicate n []) p ≡ []
+no_heads zero p = refl
+no_heads (suc n) zero = refl
+no_heads (suc n) (suc p) = no_heads n p
+
+-- at first nothing is remembered
+pub indexed_none : (n : ℕ) (lanes : List Lane) (c : ChainsState) → IsProcessCount n → lanes ≡ replicate n fresh → c.heads ≡ replicate n [] → c.nodes ≡ [] → IsIndexed (record { processes = n; past = [] }) 0 0 lanes c
+indexed_none n lanes c count all_fresh no_chains no_nodes = record {
+  kept = record { formed = record { count = count; accepted = tt }; short = omega arith; counted = refl; within = omega arith };
+  restarted = refl;
+  lanes = subst (λ ls. ArePresentLanes n [] ls) (sym all_fresh) (no_lanes n);
+  chains = subst (λ heads. AreChains n [] heads c.nodes) (sym no_chains) (subst (λ nodes. AreChains n [] (replicate n []) nodes) (sym no_nodes) (record {
+    count = length-replicate n [];
+    linked = record { heads_lead = λ m. subst (λ list. IsBelow (get_or list m.ssn None) 0) (sym (no_heads n m.source.0)) tt; nodes_lead = tt };
+    counted = refl;
+    sent = λ p h. omega arith;
+    named = λ k. tt;
+    each = λ m. refl;
+  }));
+}
+
+-- what is remembered of the past with one more entry
+pub indexed_push : (r : Recording) (e : Entry) (listed restarted l : ℕ) (lanes : List Lane) (c new : ChainsState) → IsIndexed r listed restarted lanes c → first_fault r.processes r.past e ≡ None → ((d : Det) → det_of r.past e ≡ Some d → l ≡ lane r.past d.dest.0) → new.heads ≡ heads_after (message_sent e) (det_of r.past e) c → new.nodes ≡ nodes_after (message_sent e) (det_of r.past e) l c → IsIndexed (with_entry r e) (listed + length (listed_by e)) (restarted + cond (is_restart e) 1 0) (lanes_after e lanes) new
+indexed_push r e listed restarted l lanes c new was next at heads nodes = record {
+  kept = kept_push r e listed was.kept next;
+  restarted = restarted_push e r.past restarted was.restarted;
+  lanes = lanes_push r.processes e r.past lanes was.lanes;
+  chains = subst (λ h. AreChains r.processes (e ∷ r.past) h new.nodes) (sym heads) (subst (λ ns. AreChains r.processes (e ∷ r.past) (heads_after (message_sent e) (det_of r.past e) c) ns) (sym nodes) (chains_push r.processes r.past c was.chains e l next at));
+}
+
+-- a stable entry changes nothing of it
+pub indexed_stable : (r : Recording) (det : Det) (listed restarted : ℕ) (lanes : List Lane) (c : ChainsState) → IsIndexed r listed restarted lanes c → first_fault r.processes r.past (Stable det) ≡ None → IsIndexed (with_entry r (Stable det)) listed restarted lanes c
+indexed_stable r det listed restarted lanes c was next =
+    let none_listed : listed + 0 ≡ listed = omega arith in
+    record {
+      kept = subst (λ k. IsBounded (with_entry r (Stable det)) k) none_listed (kept_push r (Stable det) listed was.kept next);
+      restarted = was.restarted;
+      lanes = lanes_push r.processes (Stable det) r.past lanes was.lanes;
+      chains = chains_push r.processes r.past c was.chains (Stable det) 0 next (λ d h. absurd (let e : None ≡ Some d = h in cc));
+    }
+
+-- chains with the same heads and nodes serve as well
+pub indexed_same : (r : Recording) (listed restarted : ℕ) (lanes : List Lane) (c new : ChainsState) → IsIndexed r listed restarted lanes c → new.heads ≡ c.heads → new.nodes ≡ c.nodes → IsIndexed r listed restarted lanes new
+indexed_same r listed restarted lanes c new was heads nodes = record {
+  kept = was.kept;
+  restarted = was.restarted;
+  lanes = was.lanes;
+  chains = subst (λ h. AreChains r.processes r.past h new.nodes) (sym heads) (subst (λ ns. AreChains r.processes r.past c.heads ns) (sym nodes) was.chains);
+}
+
+-- the sender of a send that may come next is there
+pub sender_there : (n : ℕ) (past : List Entry) (e : Entry) → first_fault n past e ≡ None → IfSome (message_sent e) (λ m. m.source.0 < n)
+sender_there n past (Send from to ssn) h = subject_there n past (Send from to ssn) h
+sender_there n past (Deliver to send rsn listed) h = tt
+sender_there n past (Stable det) h = tt
+sender_there n past (Crash who) h = tt
+sender_there n past (Restart who listed) h = tt
+sender_there n past (Forget who listed) h = tt
+
+-- the message of a delivery has a head
+pub own_named : (past : List Entry) (e : Entry) (heads : Heads) → HasHeads past heads → IfSome (det_of past e) (λ d. HasHead heads (message_of d))
+own_named past (Send from to ssn) heads named = tt
+own_named past (Stable det) heads named = tt
+own_named past (Crash who) heads named = tt
+own_named past (Restart who listed) heads named = tt
+own_named past (Forget who listed) heads named = tt
+own_named past (Deliver to send rsn listed) heads named =
+    elim (message_at past send) as (λ o. IfSome o (HasHead heads) → IfSome (option_map (det_from to rsn) o) (λ d. HasHead heads (message_of d))) [ None ↦ λ _. tt | Some m ↦ λ has. has ] (named send)
