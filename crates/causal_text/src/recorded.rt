@@ -1,12 +1,12 @@
 //! A trace of which clauses see the recording alone: what the lines of a text determine.
-ghost use Rattle.std.specs.Prelude.{◌≡◌, length, None, IfOk, IfErr, OnOk, OnErr};
+ghost use Rattle.std.specs.Prelude.{◌≡◌, length, None, IfOk, IfErr, IfSome, OnOk, OnErr};
 ghost use Rattle.causal_trace.specs.Limits.{IsProcessCount};
 ghost use Rattle.causal_trace.specs.Rows.{fault_within, refusal_within, IsRefusedBeginning, IsWellFormed};
 ghost use Rattle.causal_trace.specs.State.{with_entry};
 ghost use Rattle.causal_text.specs.Stages.{opened};
 
 use causal_trace::entry::Entry;
-use causal_trace::fault::TraceFault;
+use causal_trace::fault::{RefusedEntry, TraceFault};
 use causal_trace::limits::Limits;
 use causal_trace::trace::Trace;
 use std::alloc::Global;
@@ -38,15 +38,16 @@ impl Recorded {
         })
     }
 
-    /// Takes one more entry, where nothing stands against it within the limits; else it stays as it was.
-    pub(crate) fn push(&mut self, limits: Limits, entry: Entry) -> Result<(), TraceFault>
+    /// Takes one more entry, where nothing stands against it within the limits; else it stays as it was, and gives it back.
+    pub(crate) fn offer(&mut self, limits: Limits, entry: Entry) -> Result<(), RefusedEntry>
         ensures legal { OnOk result (fault_within limits.entries self.old entry ≡ None) }
         ensures ok { OnOk result (self.new ≡ with_entry self.old entry) }
         ensures refused { IfErr result
-            (λ fault. fault ≡ refusal_within limits.entries self.old entry) }
+            (λ refused. refused.fault ≡ refusal_within limits.entries self.old entry) }
+        ensures back { IfErr result (λ refused. IfSome refused.entry (λ same. same ≡ entry)) }
         ensures stays { OnErr result (self.new ≡ self.old) }
     {
-        self.trace.push_within(limits, entry)
+        self.trace.offer(limits, entry)
     }
 
     /// How many entries there are.

@@ -1,7 +1,7 @@
 //! What the lines so far have said, and what one more line adds.
-ghost use Rattle.std.specs.Prelude.{◌≡◌, ◌≤◌, None, Ok, Some, IfErr, IfSome, OnOk};
+ghost use Rattle.std.specs.Prelude.{◌≡◌, ◌≤◌, None, IfErr, IfSome, OnOk};
 ghost use Rattle.causal_text.specs.Given.{Gives};
-ghost use Rattle.causal_text.specs.Inside.Kept.{GivesFollowed, GivesRefused, IsGoingOn, IsKeptAt};
+ghost use Rattle.causal_text.specs.Inside.Kept.{GivesRefused, IsKeptAt, IsKeptBefore};
 ghost use Rattle.causal_text.specs.Stages.{text_within, longest_text, line_shape, begun, follow, after_line};
 ghost use Rattle.causal_text.specs.Versions.{version_of};
 
@@ -13,7 +13,7 @@ use crate::recorded::Recorded;
 use crate::shape::{Shape, shape_of};
 use crate::version::Version;
 use causal_trace::entry::Entry;
-use causal_trace::fault::TraceFault;
+use causal_trace::fault::{RefusedEntry, TraceFault};
 use causal_trace::limits::Limits;
 use std::alloc::Global;
 
@@ -86,11 +86,31 @@ fn begun(alloc: Global, number: u32, processes: u32) -> Result<Stage, TextKind>
     Ok(Stage::Within { version, trace })
 }
 
-/// What stands against what a line says, and the trace of the lines before it, where that goes on.
+/// Why a line is refused, and what stands before it, where a trace does that goes on and the line has one of the shapes.
 #[derive(Drop)]
-struct Unfollowed {
-    kind: TextKind,
-    trace: Option<Recorded>,
+pub(crate) struct Refused {
+    pub kind: TextKind,
+    pub before: Option<Before>,
+}
+
+fn alone(kind: TextKind) -> Refused
+    ensures kind { result.kind ≡ kind }
+    ensures before { result.before ≡ None }
+{
+    Refused { kind, before: None }
+}
+
+// with the trace of the lines before it, and what it says
+fn after(trace: Recorded, says: Shape, kind: TextKind) -> Refused
+    ensures kind { result.kind ≡ kind }
+    ensures before { IfSome result.before
+        (λ at. (at.trace.recording ≡ trace) × (at.says ≡ says)) }
+{
+    let trace = trace.into_trace();
+    Refused {
+        kind,
+        before: Some(Before { trace, says }),
+    }
 }
 
 // the first line
@@ -109,23 +129,21 @@ fn admitted(
     version: Version,
     mut trace: Recorded,
     entry: Entry,
-) -> Result<Stage, Unfollowed>
-    ensures value { GivesFollowed result
+) -> Result<Stage, Refused>
+    ensures value { GivesRefused result
         (follow limits.entries (Stage.Within version trace) (Shape.Entry entry)) }
-    ensures trace { IfErr result (λ unfollowed. unfollowed.trace ≡ Some trace) }
+    ensures before { IfErr result (λ refused.
+        IsKeptBefore (Stage.Within version trace) (Shape.Entry entry) refused.before) }
 {
     if !version.has_line(&entry) {
-        return Err(Unfollowed {
-            kind: TextKind::Form,
-            trace: Some(trace),
-        });
+        return Err(after(trace, Shape::Entry { entry }, TextKind::Form));
     }
-    match trace.push(limits, entry) {
+    match trace.offer(limits, entry) {
         Ok(()) => Ok(Stage::Within { version, trace }),
-        Err(fault) => Err(Unfollowed {
-            kind: TextKind::from(fault),
-            trace: Some(trace),
-        }),
+        Err(RefusedEntry { fault, entry: None }) => Err(alone(TextKind::from(fault))),
+        Err(RefusedEntry { fault, entry: Some(entry) }) => {
+            Err(after(trace, Shape::Entry { entry }, TextKind::from(fault)))
+        }
     }
 }
 
@@ -135,74 +153,37 @@ fn going_on(
     version: Version,
     trace: Recorded,
     shape: Shape,
-) -> Result<Stage, Unfollowed>
-    ensures value { GivesFollowed result
+) -> Result<Stage, Refused>
+    ensures value { GivesRefused result
         (follow limits.entries (Stage.Within version trace) shape) }
-    ensures trace { IfErr result (λ unfollowed. unfollowed.trace ≡ Some trace) }
+    ensures before { IfErr result
+        (λ refused. IsKeptBefore (Stage.Within version trace) shape refused.before) }
 {
     match shape {
-        Shape::Header { .. } => Err(Unfollowed {
-            kind: TextKind::Header,
-            trace: Some(trace),
-        }),
+        Shape::Header { .. } => Err(after(trace, shape, TextKind::Header)),
         Shape::Entry { entry } => admitted(limits, version, trace, entry),
         Shape::End { entries } => {
             if entries == trace.len() {
                 Ok(Stage::Ended { version, trace })
             } else {
-                Err(Unfollowed {
-                    kind: TextKind::Count,
-                    trace: Some(trace),
-                })
+                Err(after(trace, shape, TextKind::Count))
             }
         }
     }
 }
 
-fn follow(alloc: Global, limits: Limits, stage: Stage, shape: Shape) -> Result<Stage, Unfollowed>
-    ensures value { GivesFollowed result (follow limits.entries stage shape) }
-    ensures trace { IfErr result (λ unfollowed. IfSome unfollowed.trace (IsGoingOn stage)) }
+fn follow(alloc: Global, limits: Limits, stage: Stage, shape: Shape) -> Result<Stage, Refused>
+    ensures value { GivesRefused result (follow limits.entries stage shape) }
+    ensures before { IfErr result (λ refused. IsKeptBefore stage shape refused.before) }
 {
     match stage {
         Stage::Opening => match opening(alloc, limits, shape) {
             Ok(begun) => Ok(begun),
-            Err(kind) => Err(Unfollowed { kind, trace: None }),
+            Err(kind) => Err(alone(kind)),
         },
         Stage::Within { version, trace } => going_on(limits, version, trace, shape),
-        Stage::Ended { .. } => Err(Unfollowed {
-            kind: TextKind::After,
-            trace: None,
-        }),
+        Stage::Ended { .. } => Err(alone(TextKind::After)),
     }
-}
-
-/// Why a line is refused, and what stands before it, where a trace does that goes on and the line has one of the shapes.
-#[derive(Drop)]
-pub(crate) struct Refused {
-    pub kind: TextKind,
-    pub before: Option<Before>,
-}
-
-fn alone(kind: TextKind) -> Refused
-    ensures kind { result.kind ≡ kind }
-    ensures before { result.before ≡ None }
-{
-    Refused { kind, before: None }
-}
-
-/// What stands before a line. It reads the line once more, since what it said is gone with the refusal.
-fn before_of(alloc: Global, trace: Option<Recorded>, line: &[u8]) -> Option<Before>
-    ensures { IfSome result
-        (λ at. (trace ≡ Some at.trace.recording) × (line_shape line.now ≡ Ok at.says)) }
-{
-    let trace = trace?;
-    let Ok(says) = line_shape(alloc, line) else {
-        return None;
-    };
-    Some(Before {
-        trace: trace.into_trace(),
-        says,
-    })
 }
 
 /// Takes the next line, which goes up to byte number `end` of the text.
@@ -229,11 +210,5 @@ pub(crate) fn after_line(
         Ok(shape) => shape,
         Err(kind) => return Err(alone(kind)),
     };
-    match follow(alloc, limits, stage, shape) {
-        Ok(stage) => Ok(stage),
-        Err(unfollowed) => Err(Refused {
-            kind: unfollowed.kind,
-            before: before_of(alloc, unfollowed.trace, line),
-        }),
-    }
+    follow(alloc, limits, stage, shape)
 }

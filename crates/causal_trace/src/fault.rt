@@ -1,4 +1,5 @@
 //! Why an entry, or a whole trace, is refused.
+use crate::entry::Entry;
 use causal_name::NoMemory;
 use std::alloc::AllocFailed;
 use thiserror::Error;
@@ -46,6 +47,14 @@ pub enum TraceFault {
     /// Memory was asked for and refused.
     #[error("no memory")]
     NoMemory,
+}
+
+/// An entry that a trace did not take.
+#[derive(Drop)]
+pub struct RefusedEntry {
+    pub fault: TraceFault,
+    /// The entry as it was offered; None where memory was refused.
+    pub entry: Option<Entry>,
 }
 
 impl From<NoMemory> for TraceFault {

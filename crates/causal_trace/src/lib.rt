@@ -20,5 +20,5 @@ mod scans;
 pub mod trace;
 
 pub use entry::{Dets, Entry};
-pub use fault::TraceFault;
+pub use fault::{RefusedEntry, TraceFault};
 pub use trace::Trace;

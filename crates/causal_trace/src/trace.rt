@@ -8,7 +8,7 @@ ghost use Rattle.causal_trace.specs.Inside.Chains.{HasHead, heads_after, nodes_a
 
 use crate::chains::{Chains, Receipt, Sought};
 use crate::entry::{Dets, Entry};
-use crate::fault::TraceFault;
+use crate::fault::{RefusedEntry, TraceFault};
 use crate::lanes::{Lane, copied_entries, copied_lanes, fresh_lanes, note_lane, restarts_in};
 use crate::limits::{DEFAULT_LIMITS, Limits, MAX_ENTRIES, MAX_LISTED, MAX_PROCESSES, MAX_RESTARTS};
 use crate::scans;
@@ -128,11 +128,40 @@ impl Trace {
         ensures spare { self.old.spare ≤ self.new.spare + 1 }
         ensures memory { result ≡ Err TraceFault.NoMemory → self.old.spare ≡ 0 }
     {
-        if let Some(fault) = self.fault_within(limits, &entry) {
-            return Err(fault);
+        match self.offer(limits, entry) {
+            Ok(()) => Ok(()),
+            Err(refused) => Err(refused.fault),
         }
-        self.append(entry)?;
-        Ok(())
+    }
+
+    /// Adds the entry at the end as `push_within` does. One against which something stands comes back with that.
+    ///
+    /// # Errors
+    /// Those of `push_within`.
+    pub fn offer(&mut self, limits: Limits, entry: Entry) -> Result<(), RefusedEntry>
+        ensures legal { OnOk result (fault_within limits.entries self.old.recording entry ≡ None) }
+        ensures ok { OnOk result (self.new.recording ≡ with_entry self.old.recording entry) }
+        ensures refused { IfErr result (λ refused. refused.fault ≡
+            refusal_within limits.entries self.old.recording entry) }
+        ensures back { IfErr result (λ refused. IfSome refused.entry (λ same. same ≡ entry)) }
+        ensures err { OnErr result (self.new.recording ≡ self.old.recording) }
+        ensures spare { self.old.spare ≤ self.new.spare + 1 }
+        ensures memory { IfErr result (λ refused. refused.fault ≡ TraceFault.NoMemory →
+            self.old.spare ≡ 0) }
+    {
+        if let Some(fault) = self.fault_within(limits, &entry) {
+            return Err(RefusedEntry {
+                fault,
+                entry: Some(entry),
+            });
+        }
+        match self.append(entry) {
+            Ok(()) => Ok(()),
+            Err(NoMemory) => Err(RefusedEntry {
+                fault: TraceFault::NoMemory,
+                entry: None,
+            }),
+        }
     }
 
     /// Adds an entry against which no row stands, where there is room for it: it takes no memory and refuses nothing.

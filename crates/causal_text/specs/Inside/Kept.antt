@@ -5,20 +5,16 @@ use Rattle.causal_text.specs.declared.before.Before.{Before}
 use Rattle.causal_text.specs.declared.before.Rejected.{Rejected}
 use Rattle.causal_text.specs.declared.kind.TextKind.{TextKind}
 use Rattle.causal_text.specs.declared.kind.TextFault.{TextFault}
+use Rattle.causal_text.specs.declared.shape.Shape.{Shape}
 use Rattle.causal_text.specs.declared.stage.Refused.{Refused}
 use Rattle.causal_text.specs.declared.stage.Stage.{Stage}
 use Rattle.causal_text.specs.declared.stage.Stage.TheVariants.{Within}
-use Rattle.causal_text.specs.declared.stage.Unfollowed.{Unfollowed}
 use Rattle.causal_text.specs.declared.version.Version.{Version}
 use Rattle.causal_text.specs.Before.{StandsBeforeWithin, IsKeptWithin}
 use Rattle.causal_text.specs.Given.{IsFaultGiven}
 use Rattle.causal_text.specs.Stages.{line_shape}
 
 -- what reading gives, or want of memory, where more comes with a fault
-abbrev pub GivesFollowed : Result Stage Unfollowed → Result Stage TextKind → Type 0
-GivesFollowed (Ok stage) read = read ≡ Ok stage
-GivesFollowed (Err unfollowed) read = IsFaultGiven unfollowed.kind unfollowed.kind read
-
 abbrev pub GivesRefused : Result Stage Refused → Result Stage TextKind → Type 0
 GivesRefused (Ok stage) read = read ≡ Ok stage
 GivesRefused (Err refused) read = IsFaultGiven refused.kind refused.kind read
@@ -32,6 +28,9 @@ abbrev pub IsGoingOn : Stage → Recording → Type 0
 IsGoingOn stage r = (version : Version) × (stage ≡ Within version r)
 
 -- what is kept, if anything is, is the trace of the lines that led to the stage, and what this line says
+abbrev pub IsKeptBefore : Stage → Shape → Option Before → Type 0
+IsKeptBefore stage says kept = IfSome kept (λ at. IsGoingOn stage at.trace.recording × (at.says ≡ says))
+
 abbrev pub IsKeptAt : Stage → List ℕ → Option Before → Type 0
 IsKeptAt stage line kept = IfSome kept (λ at. IsGoingOn stage at.trace.recording × (line_shape line ≡ Ok at.says))
 

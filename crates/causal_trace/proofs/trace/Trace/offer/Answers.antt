@@ -1,7 +1,7 @@
 use Rattle.std.proofs.Common.{◌≡◌, Some, sym, ap, ◌∙◌}
 use Rattle.causal_trace.specs.declared.fault.TraceFault.TheVariants.{NoMemory}
 use Rattle.causal_trace.proofs.Lemmas.WellFormed.{no_memory_within}
-use Rattle.causal_trace.proofs.trace.Trace.push_within.Goals as goal
+use Rattle.causal_trace.proofs.trace.Trace.offer.Goals as goal
 
 pub returns-in-Some-clause-memory : goal.returns-in-Some-clause-memory
 returns-in-Some-clause-memory c = λ told.
