@@ -221,7 +221,8 @@ fn least_joined<'t, R: Threads>(
     first: Option<Breach>,
     started: Vec<Started<'t>>,
 ) -> Option<Breach>
-    ensures { (followed : Followed) (to : ℕ) → Covers followed first started.entry.items to → Tells followed 0 to result }
+    ensures { (followed : Followed) (to : ℕ) → Covers followed first started.entry.items to →
+        Tells followed 0 to result }
 {
     let mut least = first;
     for handle in started {

@@ -68,7 +68,8 @@ pub fn audit_text<G: Gate + Sync, R: Threads + Wait>(
 ) -> Result<Judged, AuditTextFault>
     requires { (1 ≤ workers) × (workers ≤ 64) }
     ensures ok { IfOk result (IsJudgement bytes.now f) }
-    ensures only { IfOk result (λ judged. (other : Judged) → IsJudgement bytes.now f other → other ≡ judged) }
+    ensures only { IfOk result (λ judged. (other : Judged) → IsJudgement bytes.now f other →
+        other ≡ judged) }
     ensures err { IfErr result (IsFaultOf bytes.now) }
     ensures alone { result ≡ Err (AuditTextFault.Audit AuditFault.NoWorker) → 2 ≤ workers }
 {
@@ -92,7 +93,8 @@ pub fn judge_trace<G: Gate + Sync, R: Threads + Wait>(
     requires { (1 ≤ workers) × (workers ≤ 64) }
     ensures verdict { IfOk result (λ judged. IsVerdict trace.now.recording f judged.verdict) }
     ensures entries { IfOk result (λ judged. judged.entries ≡ length trace.now.recording.past) }
-    ensures deliveries { IfOk result (λ judged. judged.deliveries ≡ deliveries_in trace.now.recording.past) }
+    ensures deliveries { IfOk result (λ judged. judged.deliveries ≡
+        deliveries_in trace.now.recording.past) }
     ensures alone { result ≡ Err AuditFault.NoWorker → 2 ≤ workers }
 {
     match audit(rt, alloc, trace, f, workers, gate) {

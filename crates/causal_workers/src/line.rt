@@ -59,7 +59,8 @@ fn orphan_line(
     crash: Holders,
     orphan: u8,
 ) -> Result<String, AllocError>
-    ensures { IfOk result (λ line. string_bytes line ≡ lines.orphan_line f instant delivery crash orphan) }
+    ensures { IfOk result (λ line. string_bytes line ≡
+        lines.orphan_line f instant delivery crash orphan) }
 {
     let crash = set_text(alloc, crash)?;
     format!(in alloc;
@@ -77,7 +78,8 @@ fn set_text(alloc: Global, processes: Holders) -> Result<String, AllocError>
 
 /// Numbers joined by commas; `-` where there is none.
 fn joined(alloc: Global, numbers: &[String]) -> Result<String, AllocError>
-    ensures { IfOk result (λ line. JoinsNumbers (map string_bytes numbers.now) (string_bytes line)) }
+    ensures { IfOk result
+        (λ line. JoinsNumbers (map string_bytes numbers.now) (string_bytes line)) }
 {
     if numbers.is_empty() {
         format!(in alloc; "-")
@@ -88,7 +90,8 @@ fn joined(alloc: Global, numbers: &[String]) -> Result<String, AllocError>
 
 /// The numbers of the processes of a set, ascending.
 fn decimals(alloc: Global, processes: Holders) -> Result<Vec<String>, AllocError>
-    ensures { IfOk result (λ numbers. map string_bytes numbers.items ≡ map decimal (ascending processes)) }
+    ensures { IfOk result (λ numbers. map string_bytes numbers.items ≡
+        map decimal (ascending processes)) }
 {
     let mut numbers = Vec::new(alloc);
     for process in processes.iter() {
