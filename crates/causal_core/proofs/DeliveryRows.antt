@@ -87,6 +87,7 @@ module _ (r : Run) (ms : Memories) (q source : Pid) (ssn : ℕ) (same : ms ≡ m
           tell_full h true f = start ∙ (λ i. rest None None (none i) (when (is_none (kept i)) Why.NotAvailable) (when (h i) Why.AlreadyDelivered) (when (f i) Why.Full))
           tell_full h false f = start ∙ (λ i. rest None None (none i) (when (is_none (kept i)) Why.NotAvailable) (when (h i) Why.AlreadyDelivered) (when (f i) Why.Full))
 
+-- an up process has received no more messages than a trace may have entries
 pub received_few : (n : ℕ) (past : List Entry) (ms : Memories) (p : ℕ) (m : Memory) → AllFit n past ms → length past ≤ 16777216 → p < n → at ms p ≡ Some m → length m.received ≤ 16777216
 received_few n past ms p m fit short inside is =
     let fits : Fits past p m = subst (FitsAt past p) is (fit.each p inside) in
@@ -98,6 +99,7 @@ stored_here r ms q m same up =
     ap (λ xs. first_of_slot q (next_rsn xs q) (dets_in (stable_of r))) (sym same)
     ∙ ap (λ o. first_of_slot q (option_map_or (λ (x : Memory). length x.received) o 0) (dets_in (stable_of r))) up
 
+-- a message that is kept for q is kept, and goes to q
 pub kept_found : (q : Pid) (o : Option Kept) (k : Kept) → if_to q o ≡ Some k → (o ≡ Some k) × (same_pid k.to q ≡ true)
 kept_found q None k h = absurd (let e : None ≡ Some k = h in cc)
 kept_found q (Some x) k h =

@@ -42,12 +42,14 @@ module _ (n : ℕ) (s : FinSet nat_cmp) (test : ℕ → Bool) (m : HasMembers n 
     ];
   }
 
+-- among no processes the empty set has just those that pass
 pub none_in : (s : FinSet nat_cmp) (test : ℕ → Bool) → s ≡ empty → HasMembers 0 s test
 none_in s test is = record {
   process = λ p h. absurd (false≢true (sym (contains-empty nat_cmp p) ∙ (sym (ap (λ t. contains t p) is) ∙ h)));
   member = λ p h. absurd (omega (arith, h));
 }
 
+-- where the opposite of a bit tells whether there is a cell, the bit tells whether there is none
 pub none_told : (c : Option Cell) (b : Bool) → is_some c ≡ not b → is_none c ≡ b
 none_told None true h = refl
 none_told None false h = sym h

@@ -30,9 +30,11 @@ pub refused_reason : (r next : Run) (q : Pid) (m : MsgName) (fault : CoreFault) 
 unfolding LegalStep
 refused_reason r next q m fault s = s.legal.0
 
+-- where m is named, what its delivery is refused for is what q's next one is refused for
 pub refuses_named : (r next : Run) (q : Pid) (m : MsgName) (fault : CoreFault) → naming r q ≡ Ok (Some m) → Steps r (Ask.Deliver q m.source m.ssn) (Told.Refused fault) next → RefusesNamed r q fault
 refuses_named r next q m fault named step = subst (IsRefused r q fault) (sym named) (refused_reason r next q m fault step)
 
+-- where naming is refused, q's next delivery is refused for the same
 pub refuses_naming : (r : Run) (q : Pid) (fault : CoreFault) → naming r q ≡ Err fault → RefusesNamed r q fault
 refuses_naming r q fault named = subst (IsRefused r q fault) (sym named) refl
 

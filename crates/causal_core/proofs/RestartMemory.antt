@@ -82,6 +82,7 @@ module _ (r mid next : Run) (p : Pid) (listed : List Det) (tos : List Pid) (same
     stable = ap stable_of run ∙ restart_stored p 0 tos listed mid.recording.past ∙ ap stable_of same;
   }
 
+-- a crash changes the memory of its process alone, and stores nothing
 pub crash_alone : (r next : Run) (p : Pid) (first : ℕ) → Steps r (Ask.Crash p) (Told.Crashed first) next → ChangesAlone p r next
 unfolding memories stable_set
 crash_alone r next p first s = record {
@@ -89,6 +90,7 @@ crash_alone r next p first s = record {
   stable = ap stable_of (crash_done r next p first s);
 }
 
+-- what was gathered for a process that is down may be remembered: it is what that process would gather
 pub remembered_anew : (r : Run) (p : Pid) (log : LogMap) (last : Option Remembered) → is_some (at (memories_of r) p.0) ≡ false → log ≡ gathered_log (memories_of r) (stable_of r) p → IfSome last (λ l. (l.by ≡ p) × (l.log.map ≡ log)) → IsRemembered r last
 remembered_anew r p log None down is made = tt
 remembered_anew r p log (Some l) down is made = made.1 ∙ is ∙ sym (gathered_down r p down) ∙ ap (gathered_by r) (sym made.0)
