@@ -10,6 +10,7 @@ use Rattle.causal_audit.proofs.Lemmas.OrphansByCounts.{exposed, crash_contains, 
 use Rattle.causal_audit.proofs.Legal.{event_inside}
 use Rattle.causal_audit.proofs.Shown.{shows_none, down_inside, logs_inside, parts}
 
+-- while nobody has heard of a delivery, who is down is all that is known of it
 pub state_begun : (past : List Entry) (k : ℕ) (d : Det) (down : FinSet nat_cmp) → Shows down (λ p. is_down past p) → IsUnheard past k d → IsDeliveryState past k d (record { down = down; holders = empty; stable = false; dependents = empty })
 state_begun past k d down shown none = record {
   down = shown;

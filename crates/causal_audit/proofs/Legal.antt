@@ -33,6 +33,7 @@ module _ (n : ℕ) (past : List Entry) where
   pub entry_short : (e : Entry) → first_fault n past e ≡ None → length past < 16777216
   entry_short e legal = omega (arith, (limits (length past) (listed_in past) (length (listed_by e)) (within_limits n past e legal)).0)
 
+-- the process of each event is one of the run
 pub event_inside : (n : ℕ) (past : List Entry) → AreAccepted n past → (i p l : ℕ) → IsEventOf past i p l → p < n
 event_inside n [] h i p l at = absurd at
 event_inside n (e ∷ past) h i p l (inl at) = event_inside n past h.0 i p l at

@@ -12,6 +12,7 @@ module _ (r : Recording) (formed : IsWellFormed r) (t : ℕ) (x : Entry) (below 
   pub accepted_next : AreAccepted r.processes (x ∷ instant r.past t)
   accepted_next = subst (AreAccepted r.processes) next (accepted_then r.processes r.past (t + 1) formed.accepted)
 
+-- where a delivery had no orphan up to an instant and has one at the next, that is its first breach
 pub first_breach_is : (r : Recording) (f k t : ℕ) (b : Breach) → t < length r.past → ((u : ℕ) → u ≤ t → HasOrphan r.processes f (instant r.past u) k → ⊥) → b.instant ≡ t + 1 → b.delivery ≡ k
     → IsLeastOrphan r.processes f (instant r.past (t + 1)) k b.crash b.orphan → IsFirstBreach r f k b
 first_breach_is r f k t b below before instant_is delivery least = record {

@@ -11,6 +11,7 @@ use Rattle.causal_audit.specs.Inside.Look.Staying.{restarts_one, RestartsNone}
 use Rattle.causal_audit.proofs.by_clock.Begun.{down_stays}
 use Rattle.causal_audit.proofs.Steps.{nobody_down}
 
+-- before the first entry there are no crashes and restarts
 pub turns_none : AreTurns [] [] []
 turns_none = record {
   ascends = record { ascending = λ i j d low high. absurd (omega (arith, high)); below = λ i d low. absurd (omega (arith, low)) };
