@@ -76,6 +76,7 @@ pub kept_from : (ms : Memories) (q source : Pid) (ssn : ℕ) (sender : Option Me
 kept_from ms q source ssn sender is = ap (λ o. if_to q (option_and_then (λ (m : Memory). slice_get m.sent ssn) o)) (sym is)
 
 module _ (cells : List (Option Cell)) (p : ℕ) (cell : Cell) (found : slice_get cells p ≡ Some (Some cell)) where
+  -- what a process has is what its cell has
   pub there : at (memories_in cells) p ≡ Some (memory_of cell)
   there = ap (λ o. option_and_then (λ x. x) o) (get-map (option_map memory_of) cells p ∙ ap (option_map (option_map memory_of)) found)
 

@@ -17,6 +17,7 @@ contains_more : (s : FinSet nat_cmp) (n q : ℕ) → contains (insert s n) q ≡
 contains_more s n q = contains-insert nat_cmp_total s n q ∙ ap (λ t. t || contains s q) (unsigned_tied q n)
 
 module _ (n : ℕ) (s : FinSet nat_cmp) (test : ℕ → Bool) (m : HasMembers n s test) where
+  -- a process that passes is put in
   pub one_in : test n ≡ true → HasMembers (n + 1) (insert s n) test
   one_in is = record {
     process = λ p h. elim (eqb_tells p n) [
@@ -33,6 +34,7 @@ module _ (n : ℕ) (s : FinSet nat_cmp) (test : ℕ → Bool) (m : HasMembers n 
   outside p is false e = refl
   outside p is true e = let below = m.process p e in absurd (omega (arith, below, is))
 
+  -- one that does not is left out
   pub one_out : test n ≡ false → HasMembers (n + 1) s test
   one_out is = record {
     process = λ p h. let below = m.process p h in omega (arith, below);

@@ -177,6 +177,7 @@ module _ (r : Run) (q source : Pid) (ssn : ℕ) (d : MayDeliver r q source ssn) 
   abbrev pub listed : List Det
   listed = listed_for (memories_of r) q (name source ssn)
 
+  -- the numbers, the send and the batch, by the receiver's memory and the kept message
   pub rsn_is : next_rsn (memories_of r) q ≡ length d.memory.received
   rsn_is = ap (λ o. option_map_or (λ (x : Memory). length x.received) o 0) d.memory_is
 

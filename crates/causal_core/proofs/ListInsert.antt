@@ -55,12 +55,15 @@ module _ (own d : Det) (rest : List Det) where
   unfolding with_own
   step_is = refl
 
+  -- where the own determinant is less, it comes first
   pub less_is : det_cmp own d ≡ Less → with_own own (d ∷ rest) ≡ own ∷ d ∷ rest
   less_is h = step_is ∙ ap (λ o. by_order o (own ∷ d ∷ rest) (d ∷ rest) (d ∷ with_own own rest)) h
 
+  -- where it is there, nothing is added
   pub equal_is : det_cmp own d ≡ Equal → with_own own (d ∷ rest) ≡ d ∷ rest
   equal_is h = step_is ∙ ap (λ o. by_order o (own ∷ d ∷ rest) (d ∷ rest) (d ∷ with_own own rest)) h
 
+  -- where it is greater, it comes later
   pub greater_is : det_cmp own d ≡ Greater → with_own own (d ∷ rest) ≡ d ∷ with_own own rest
   greater_is h = step_is ∙ ap (λ o. by_order o (own ∷ d ∷ rest) (d ∷ rest) (d ∷ with_own own rest)) h
 

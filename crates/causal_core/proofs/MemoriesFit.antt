@@ -90,6 +90,7 @@ module _ (e : Entry) (past : List Entry) where
   entry_older i x h =
       cond-false (i == length past) (Some e) (entry_at past i) (ne_eqb i (length past) (λ is. let none : None ≡ Some x = sym (entry_beyond past i (omega (arith, is))) ∙ h in cc)) ∙ h
 
+  -- a kept message still stands where it was sent
   pub placed_more : (p ssn : ℕ) (k : Kept) → IsPlaced past p ssn k → IsPlaced (e ∷ past) p ssn k
   placed_more p ssn k is = record {
     source = is.source;

@@ -31,6 +31,7 @@ module _ (ms : Memories) (q : Pid) (cells : List (Option Cell)) (p : ℕ) (c : O
       ∙ ap (λ xs. names ++ xs) (sym (filter-append (is_pending ms q) (names_sent p (option_map memory_of c)) (names_from (p + 1) (memories_in (drop (p + 1) cells)))))
       ∙ ap (λ xs. names ++ filter (is_pending ms q) (names_from p xs)) (sym here)
 
+  -- how many messages a process keeps is told by its cell
   pub sent_there : option_map_or (λ m. length m.sent) (at (memories_in cells) p) 0 ≡ option_map_or (λ m. length m.sent) (option_map memory_of c) 0
   sent_there =
       ap (λ o. option_map_or (λ m. length m.sent) (option_and_then (λ x. x) o) 0) (get-map (option_map memory_of) cells p ∙ ap (option_map (option_map memory_of)) (read_at cells p c c h is refl))

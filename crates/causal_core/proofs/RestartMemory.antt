@@ -63,6 +63,7 @@ unfolding stable_set
 restart_stored p ssn tos listed past = sends_stored p ssn tos (Restart p listed ∷ past)
 
 module _ (r mid next : Run) (q source : Pid) (ssn : ℕ) (m : MsgName) (k : ℕ) (tos : List Pid) (same : mid ≡ r) (run : next ≡ extended mid (Ask.Deliver q source ssn) (delivery_of mid q m ∷ sends_of q k tos)) where
+  -- a delivery and its sends change the memory of the receiver alone, and store nothing
   pub delivery_alone : ChangesAlone q r next
   delivery_alone = record {
     others =
@@ -73,6 +74,7 @@ module _ (r mid next : Run) (q source : Pid) (ssn : ℕ) (m : MsgName) (k : ℕ)
   }
 
 module _ (r mid next : Run) (p : Pid) (listed : List Det) (tos : List Pid) (same : mid ≡ r) (run : next ≡ extended mid (Ask.Restart p) (Restart p listed ∷ sends_of p 0 tos)) where
+  -- and so do a restart and its sends, of the process that comes up
   pub restarted_alone : ChangesAlone p r next
   restarted_alone = record {
     others =
