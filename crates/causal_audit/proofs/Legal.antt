@@ -8,6 +8,7 @@ use Rattle.causal_trace.proofs.Lemmas.WellFormed.{within_limits, limits}
 use Rattle.causal_audit.proofs.Shown.{send_inside, deliver_inside}
 
 module _ (n : ℕ) (past : List Entry) where
+  -- who sends is up
   pub sends_up : (from to : Pid) (ssn : ℕ) → first_fault n past (Send from to ssn) ≡ None → is_down past from.0 ≡ false
   unfolding rows
   sends_up from to ssn legal = row_fails (rows n past (Send from to ssn)) legal 2 (is_down past from.0, NotUp) refl

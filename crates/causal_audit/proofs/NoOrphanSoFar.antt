@@ -9,6 +9,7 @@ pub not_yet : (n f : ℕ) (past : List Entry) (k : ℕ) → length past ≤ k �
 not_yet n f past k above has = let e : None ≡ Some has.is_orphan.det = sym (det_beyond past k above) ∙ has.is_orphan.delivered in cc
 
 module _ (r : Recording) (formed : IsWellFormed r) (t : ℕ) (x : Entry) (below : t < length r.past) (next : instant r.past (t + 1) ≡ x ∷ instant r.past t) where
+  -- each next entry of a well-formed run is accepted
   pub accepted_next : AreAccepted r.processes (x ∷ instant r.past t)
   accepted_next = subst (AreAccepted r.processes) next (accepted_then r.processes r.past (t + 1) formed.accepted)
 

@@ -31,6 +31,7 @@ not_and_true : (a b : Bool) → b ≡ true → not a ≡ not (a && b)
 not_and_true a b h = ap not (and_true a b h)
 
 module _ (s : FinSet nat_cmp) (test : ℕ → Bool) (shown : Shows s test) (p : ℕ) where
+  -- a set that shows a test shows it with p put in, or taken out
   pub shows_with : Shows (insert s p) (λ q. (p == q) || test q)
   shows_with q = inserted s p q ∙ ap (λ b. (p == q) || b) (shown q)
 

@@ -6,6 +6,7 @@ use Rattle.causal_audit.proofs.Between.{next_entry}
 use Rattle.causal_audit.proofs.Shown.{shows_none, down_members, counted}
 
 module _ (r : Recording) (es : List Entry) (read : es ≡ entries_of r) where
+  -- as many entries were read as the run has
   pub how_many : length es ≡ length r.past
   how_many = ap length read ∙ length-reverse r.past
 

@@ -302,6 +302,7 @@ held_crash who old new others here past j d so q h =
 module _ (r : Recording) (opened : List OpenDelivery) (start : ℕ) (room : WalkBuffers) (t : ℕ) (e : Entry) (own new_ones : FinSet nat_cmp) (followed : IsFollowed r opened start t room) (formed : IsWellFormed r) (below : t < length r.past)
     (next : instant r.past (t + 1) ≡ e ∷ instant r.past t) (taken new : ReachingDeliveries) (same : ((v : ℕ) → (v ≡ t → ⊥) → row taken.rows.items v ≡ row room.reach.rows.items v) × (taken.start ≡ room.reach.start) × (taken.present.items ≡ room.reach.present.items))
     (is_own : IsOwn opened t own) (sees : SeesReach e t own taken new new_ones) where
+  -- what was seen of the entry is so for each delivery
   pub sees_each : (j : ℕ) (d : Det) → j < length opened → det_at r.past (position_at opened j) ≡ Some d
       → IsReach (e ∷ instant r.past t) (position_at opened j) j new × IsNewly (instant r.past t) e (position_at opened j) j new_ones
   sees_each j d low at =

@@ -325,6 +325,7 @@ module _ (n : ℕ) (past : List Entry) (formed : AreAccepted n past) (whose : �
   after : (j s : ℕ) → Delivers past j s → s < j
   after j s = accepted_forward n past formed j s
 
+  -- before any entry has been noted
   pub spreads_begun : (i : ℕ) (spreads outs : List ℕ) → i ≡ length past → length spreads ≡ length past → AreSpreadsFrom past whose i spreads outs
   spreads_begun i spreads outs end count = record {
     count = count;
@@ -385,6 +386,7 @@ module _ (n : ℕ) (past : List Entry) (formed : AreAccepted n past) (whose : �
               omega (arith, get_or-set_other outs lane (whose s) first 0 apart.1, before.outs s j (omega (arith, up, other)) delivers)
         ]
 
+    -- and with one more
     pub spreads_next : AreSpreadsFrom past whose i (slice_set noted i first) (slice_set outs lane first)
     spreads_next = record {
       count = length-set noted i first ∙ long;
