@@ -222,6 +222,7 @@ pub record IsLeastBelow (r : Recording) (f end i : ℕ) (found : Option Breach) 
   pub each : (j k : ℕ) → j < i → IsNumbered r.past j k → Contains positions k
   pub least : LeastAmongBy r f end positions found
 
+-- the earlier of that and the first breach of the delivery of number i is the least below i + 1
 pub below_more : (r : Recording) (f end i k : ℕ) (one other : Option Breach) → IsNumbered r.past i k → IsLeastBelow r f end i one → FirstBreachBy r f end k other → IsLeastBelow r f end (i + 1) (earlier one other)
 below_more r f end i k one other here so_far next = record {
   positions = so_far.positions ++ k ∷ [];
@@ -234,6 +235,7 @@ below_more r f end i k one other here so_far next = record {
   least = among_push r f end so_far.positions k one other so_far.least next;
 }
 
+-- that of all deliveries is the least breach by the bound
 pub below_all : (r : Recording) (f end : ℕ) (found : Option Breach) → AreAccepted r.processes r.past → end ≤ length r.past → IsLeastBelow r f end (deliveries_in r.past) found → LeastBreachBy r f end 0 (deliveries_in r.past) found
 below_all r f end found formed within all =
     among_all r f end all.positions found formed within (λ k d at. let n = has_number r.past k d at in inl (all.each n.0 k n.1 n.2)) all.least

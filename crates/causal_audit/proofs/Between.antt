@@ -16,6 +16,7 @@ precedes_more : (e : Entry) (past : List Entry) (i j : ℕ) → DirectlyPrecedes
 precedes_more e past i j (in_order p l less a b) = in_order p l less (inl a) (inl b)
 precedes_more e past i j (by_message h) = by_message (inl h)
 
+-- what an entry reaches grows with the run
 pub reaches_more : (e : Entry) (past : List Entry) (i j : ℕ) → Reaches past i j → Reaches (e ∷ past) i j
 reaches_more e past i j (itself p l at) = itself p l (inl at)
 reaches_more e past i k (onward {j} r d) = onward (reaches_more e past i j r) (precedes_more e past j k d)
@@ -24,6 +25,7 @@ reaches_more e past i k (onward {j} r d) = onward (reaches_more e past i j r) (p
 abbrev pub IsNoTurn : Entry → List Entry → ℕ → Type 0
 IsNoTurn e past p = (is_down (e ∷ past) p ≡ is_down past p) × (lane (e ∷ past) p ≡ lane past p)
 
+-- what a process depends on grows with the run while it neither crashes nor restarts
 pub depends_more : (e : Entry) (past : List Entry) (k p : ℕ) → IsNoTurn e past p → Depends past k p → Depends (e ∷ past) k p
 depends_more e past k p same d = record {
   up = same.0 ∙ d.up;
@@ -148,6 +150,7 @@ module _ (n : ℕ) (x : Entry) (past : List Entry) (k : ℕ) (formed : AreAccept
 
 -- ---- a quiet entry changes nothing
 
+-- an entry that is no crash and no restart leaves who is down, and in which lane each process is
 pub no_turn_stays : (e : Entry) (past : List Entry) → is_turn e ≡ false → (p : ℕ) → IsNoTurn e past p
 no_turn_stays (Send from to ssn) past h p = (refl, refl)
 no_turn_stays (Deliver to send rsn listed) past h p = (refl, refl)
@@ -165,6 +168,7 @@ and_unlisted w l b h = grind (arith, nat_tests)
 or_false : (a b : Bool) → (a || false) ≡ false → b ≡ (a || b)
 or_false a b h = grind (arith, nat_tests)
 
+-- and who logs a determinant that it does not mention
 pub logs_stay : (e : Entry) (past : List Entry) (d : Det) → is_turn e ≡ false → has (mentioned_by e) d ≡ false → (p : ℕ) → logs past p d ≡ logs (e ∷ past) p d
 logs_stay (Send from to ssn) past d h l p = refl
 logs_stay (Deliver to send rsn listed) past d h l p = or_unlisted (to.0 == p) (has listed d) (logs past p d) l
@@ -173,6 +177,7 @@ logs_stay (Crash who) past d h l p = absurd (false≢true (sym h))
 logs_stay (Restart who listed) past d h l p = absurd (false≢true (sym h))
 logs_stay (Forget who listed) past d h l p = and_unlisted (who.0 == p) (has listed d) (logs past p d) l
 
+-- and whether that is stable
 pub stable_stays : (e : Entry) (past : List Entry) (d : Det) → has (mentioned_by e) d ≡ false → is_stable past d ≡ is_stable (e ∷ past) d
 stable_stays (Send from to ssn) past d l = refl
 stable_stays (Deliver to send rsn listed) past d l = refl
@@ -181,6 +186,7 @@ stable_stays (Crash who) past d l = refl
 stable_stays (Restart who listed) past d l = refl
 stable_stays (Forget who listed) past d l = refl
 
+-- so where it is quiet, the states before and after it agree
 pub quiet_step : (n : ℕ) (e : Entry) (past : List Entry) (k : ℕ) (d : Det) → AreAccepted n (e ∷ past) → IsQuiet past e k d → Agree past (e ∷ past) k d
 quiet_step n e past k d formed quiet = record {
   down = λ p. sym (no_turn_stays e past quiet.no_turn p).0;
@@ -250,6 +256,7 @@ agree_for n past k d t (suc more) formed within quiet =
     (agree_for n past k d t more formed (omega (arith, within)) (λ v e above below at. quiet v e above (omega (arith, below)) at))
     (agree_next n past k d (t + more) formed (omega (arith, within)) (λ e at. quiet (t + more) e (omega arith) (omega arith) at)))
 
+-- the instants between which each entry is quiet agree
 pub instants_agree : InstantsAgree
 instants_agree n past k d t u formed up within quiet =
     let same : t + (u - t) ≡ u = omega (arith, up) in
@@ -268,6 +275,7 @@ exposed_agrees n f one other k d a e =
       without = sym (a.logged e.orphan) ∙ e.without;
     }
 
+-- so a delivery that is made has an orphan at both or at neither
 pub orphans_agree : OrphansAgree
 orphans_agree n f past k d t u formed at made up within quiet =
     let a = instants_agree n past k d t u formed up within quiet in

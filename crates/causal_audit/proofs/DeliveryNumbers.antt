@@ -4,6 +4,7 @@ use Rattle.causal_audit.specs.Numbers.{is_delivery, IsNumbered}
 use Rattle.causal_audit.proofs.index.Receivers.{delivered}
 use Rattle.causal_audit.proofs.Lemmas.NumberLemmas.{no_fewer, one_more}
 
+-- a run has no more deliveries than entries
 pub deliveries_few : (past : List Entry) → deliveries_in past ≤ length past
 deliveries_few [] = omega arith
 deliveries_few (Send from to ssn ∷ past) = omega (arith, deliveries_few past)
@@ -13,6 +14,7 @@ deliveries_few (Crash who ∷ past) = omega (arith, deliveries_few past)
 deliveries_few (Restart who listed ∷ past) = omega (arith, deliveries_few past)
 deliveries_few (Forget who listed ∷ past) = omega (arith, deliveries_few past)
 
+-- the number of a delivery is below how many there are
 pub numbered_below : (past : List Entry) (i k : ℕ) → IsNumbered past i k → i < deliveries_in past
 numbered_below [] i k n = absurd n
 numbered_below (e ∷ past) i k (inl n) = omega (arith, numbered_below past i k n, no_fewer e past)

@@ -10,6 +10,7 @@ use Rattle.causal_audit.proofs.Lemmas.OrphansByCounts.{exposed, crash_contains, 
 use Rattle.causal_audit.proofs.Legal.{event_inside}
 use Rattle.causal_audit.proofs.Shown.{shows_none, down_inside, logs_inside, parts}
 
+-- while nobody has heard of a delivery, who is down is all that is known of it
 pub state_begun : (past : List Entry) (k : ℕ) (d : Det) (down : FinSet nat_cmp) → Shows down (λ p. is_down past p) → IsUnheard past k d → IsDeliveryState past k d (record { down = down; holders = empty; stable = false; dependents = empty })
 state_begun past k d down shown none = record {
   down = shown;
@@ -51,14 +52,17 @@ module _ (n f : ℕ) (past : List Entry) (k : ℕ) (d : Det) (formed : AreAccept
       let both = parts (contains s.dependents p) (contains s.holders p) (sym (contains-difference nat_cmp_total s.dependents s.holders p) ∙ h) in
       ((state.dependents p).0 both.0, sym (state.holders p) ∙ both.1)
 
+  -- where more than f are down or hold the determinant, there is no orphan
   pub not_many : f < len crash → HasOrphan n f past k → ⊥
   not_many many has = omega (arith, many, crash_counted, (exposed n f past k d at has).few)
 
+  -- nor where each dependent holds it
   pub not_none : unheld ≡ empty → HasOrphan n f past k → ⊥
   not_none none has =
       let e = exposed n f past k d at has in
       false≢true (sym (contains-empty nat_cmp e.orphan) ∙ ap (λ x. contains x e.orphan) (sym none) ∙ unheld_is e.orphan e.depends e.without)
 
+  -- else the least dependent that does not is the least orphan
   pub least_orphan_is : s.stable ≡ false → len crash ≤ f → (p : ℕ) → IsLeast unheld p → IsLeastOrphan n f past k crash p
   least_orphan_is unstable few p least =
       let here = unheld_parts p least.0 in

@@ -8,6 +8,7 @@ use Rattle.causal_trace.proofs.Lemmas.WellFormed.{within_limits, limits}
 use Rattle.causal_audit.proofs.Shown.{send_inside, deliver_inside}
 
 module _ (n : ℕ) (past : List Entry) where
+  -- who sends is up
   pub sends_up : (from to : Pid) (ssn : ℕ) → first_fault n past (Send from to ssn) ≡ None → is_down past from.0 ≡ false
   unfolding rows
   sends_up from to ssn legal = row_fails (rows n past (Send from to ssn)) legal 2 (is_down past from.0, NotUp) refl
@@ -33,6 +34,7 @@ module _ (n : ℕ) (past : List Entry) where
   pub entry_short : (e : Entry) → first_fault n past e ≡ None → length past < 16777216
   entry_short e legal = omega (arith, (limits (length past) (listed_in past) (length (listed_by e)) (within_limits n past e legal)).0)
 
+-- the process of each event is one of the run
 pub event_inside : (n : ℕ) (past : List Entry) → AreAccepted n past → (i p l : ℕ) → IsEventOf past i p l → p < n
 event_inside n [] h i p l at = absurd at
 event_inside n (e ∷ past) h i p l (inl at) = event_inside n past h.0 i p l at

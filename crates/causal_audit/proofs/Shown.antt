@@ -12,9 +12,11 @@ same_number p q =
       | inr h ↦ h.0 ∙ sym (elim (eqb_tells p q) [ inl k ↦ absurd (h.1 (sym k.1)) | inr k ↦ k.0 ])
     ]
 
+-- a set with p put in has p and its members
 pub inserted : (s : FinSet nat_cmp) (p q : ℕ) → contains (insert s p) q ≡ ((p == q) || contains s q)
 inserted s p q = contains-insert nat_cmp_total s p q ∙ ap (λ b. b || contains s q) (unsigned_tied q p ∙ same_number p q)
 
+-- and with p taken out it has the others
 pub removed : (s : FinSet nat_cmp) (p q : ℕ) → contains (remove s p) q ≡ (not (p == q) && contains s q)
 removed s p q = contains-remove nat_cmp_total s p q ∙ ap (λ b. not b && contains s q) (unsigned_tied q p ∙ same_number p q)
 
@@ -29,6 +31,7 @@ not_and_true : (a b : Bool) → b ≡ true → not a ≡ not (a && b)
 not_and_true a b h = ap not (and_true a b h)
 
 module _ (s : FinSet nat_cmp) (test : ℕ → Bool) (shown : Shows s test) (p : ℕ) where
+  -- a set that shows a test shows it with p put in, or taken out
   pub shows_with : Shows (insert s p) (λ q. (p == q) || test q)
   shows_with q = inserted s p q ∙ ap (λ b. (p == q) || b) (shown q)
 
@@ -43,6 +46,7 @@ module _ (s : FinSet nat_cmp) (test : ℕ → Bool) (shown : Shows s test) (p : 
     pub shows_forgotten : more ≡ true → Shows (remove s p) (λ q. not ((p == q) && more) && test q)
     shows_forgotten is q = shows_without q ∙ ap (λ b. b && test q) (not_and_true (p == q) more is)
 
+-- where nothing passes a test, the empty set shows it
 pub shows_none : (test : ℕ → Bool) → ((p : ℕ) → test p ≡ false) → Shows empty test
 shows_none test none p = contains-empty nat_cmp p ∙ sym (none p)
 
@@ -54,6 +58,7 @@ below p n h = elim (cases_lt p n) [ inl k ↦ k | inr k ↦ absurd (false≢true
 below_both : (p q n : ℕ) → not (nat_lt p n && nat_lt q n) ≡ false → p < n
 below_both p q n h = elim (cases_lt p n) [ inl k ↦ k | inr k ↦ absurd (false≢true (sym h ∙ ap (λ b. not (b && nat_lt q n)) (le-ltb p n k))) ]
 
+-- whoever crashes, restarts, delivers or sends is a process of the run
 pub crash_inside : (n : ℕ) (past : List Entry) (who : Pid) → first_fault n past (Crash who) ≡ None → who.0 < n
 unfolding rows
 crash_inside n past who legal = below who.0 n (row_fails (rows n past (Crash who)) legal 1 (not (nat_lt who.0 n), NoProcess) refl)
@@ -98,5 +103,6 @@ logs_inside n (Forget who listed ∷ past) p d a h = logs_inside n past p d a.0 
 pub down_members : (n : ℕ) (past : List Entry) (s : FinSet nat_cmp) → AreAccepted n past → Shows s (λ p. is_down past p) → HasMembers n s (is_down past)
 down_members n past s a shown = record { process = λ p h. down_inside n past p a (sym (shown p) ∙ h); member = λ p low. shown p }
 
+-- a set of just those that pass has as many members as pass
 pub counted : (n : ℕ) (s : FinSet nat_cmp) (test : ℕ → Bool) → HasMembers n s test → len s ≡ count_below n test
 counted n s test m = members_counted n s test (record { process = m.process; member = m.member })

@@ -6,6 +6,7 @@ use Rattle.causal_audit.proofs.Between.{next_entry}
 use Rattle.causal_audit.proofs.Shown.{shows_none, down_members, counted}
 
 module _ (r : Recording) (es : List Entry) (read : es ≡ entries_of r) where
+  -- as many entries were read as the run has
   pub how_many : length es ≡ length r.past
   how_many = ap length read ∙ length-reverse r.past
 
@@ -17,6 +18,7 @@ module _ (r : Recording) (es : List Entry) (read : es ≡ entries_of r) where
   next_state t e inside is =
       sym (state_at (t + 1) (omega (arith, inside))) ∙ past_more es t e (omega (arith, inside, how_many)) is ∙ ap (λ p. e ∷ p) (state_at t (omega (arith, inside)))
 
+-- at the first instant there is no entry, so nobody is down
 pub no_entry : (past : List Entry) → instant past 0 ≡ []
 no_entry past = sym (read_instant past 0 (omega arith))
 
@@ -27,11 +29,13 @@ nobody_down past = shows_none (λ p. is_down (instant past 0) p) (λ p. ap (λ x
 pub down_count : (r : Recording) → IsWellFormed r → (t : ℕ) (s : FinSet nat_cmp) → Shows s (λ p. is_down (instant r.past t) p) → len s ≡ count_below r.processes (is_down (instant r.past t))
 down_count r formed t s shown = counted r.processes s (is_down (instant r.past t)) (down_members r.processes (instant r.past t) s (accepted_then r.processes r.past t formed.accepted) shown)
 
+-- so at the first instant no more than f are down
 pub few_at_first : (r : Recording) (f u : ℕ) → u ≤ 0 → count_below r.processes (is_down (instant r.past u)) ≤ f
 few_at_first r f u h =
     let at : u ≡ 0 = omega (arith, h) in
     omega (arith, count_below-none r.processes (is_down (instant r.past u)) (λ p low. ap (λ t. is_down (instant r.past t) p) at ∙ ap (λ x. is_down x p) (no_entry r.past)))
 
+-- what holds at each instant up to t, and at the next, holds at each up to that one
 pub up_to_next : (P : ℕ → Type 0) (t : ℕ) → ((u : ℕ) → u ≤ t → P u) → P (t + 1) → (u : ℕ) → u ≤ t + 1 → P u
 up_to_next P t before here u h =
     elim (cases_lt u (t + 1)) [

@@ -147,6 +147,7 @@ module _ (n f : ℕ) (e : Entry) (past : List Entry) (k : ℕ) (d : Det) (at : d
 
 -- ---- a send
 
+-- a send that a delivery reaches is of a process that depended on it before
 pub sent_before : (n : ℕ) (past : List Entry) (k : ℕ) (d : Det) (from to : Pid) (ssn p : ℕ) → AreAccepted n (Send from to ssn ∷ past) → (k ≡ length past → det_at (Send from to ssn ∷ past) k ≡ Some d)
     → actor (Send from to ssn) ≡ Some p → ReachesNewest (Send from to ssn) past k p → Depends past k p
 sent_before n past k d from to ssn p formed at who (is_newest is) = absurd (let e : None ≡ Some d = det_newest n 0 (Send from to ssn) past k d (at is) is in cc)
@@ -253,6 +254,7 @@ receives n f past k d to send rsn listed formed at orphaned =
 
 -- ---- the laws
 
+-- after one more entry a delivery has an orphan only if it had one before, or may newly have one
 pub sweep_law : SweepLaw
 sweep_law n f (Send from to ssn) past k d formed at orphaned = inl (sent n f past k d from to ssn formed at orphaned)
 sweep_law n f (Deliver to send rsn listed) past k d formed at orphaned = receives n f past k d to send rsn listed formed at orphaned
@@ -269,6 +271,7 @@ sweep_law n f (Forget who listed) past k d formed at orphaned =
       | false ↦ λ miss. inl (forgotten n f past k d who listed formed at miss orphaned)
     ] refl
 
+-- what comes to have one by a delivery has only the receiver as its orphan
 pub one_new_orphan : OneNewOrphan
 one_new_orphan n f past k d to send rsn listed p formed at orphaned never orphan =
     let e = Deliver to send rsn listed in

@@ -29,29 +29,35 @@ module _ (r : Recording) (f : ℕ) where
       let n = number_of u k within has in
       none n.0 k u (omega arith) n.1 n.2 within has
 
+  -- where no delivery has an orphan by an instant, none has one before the next
   pub no_orphan_by : (end : ℕ) → LeastBreachBy r f end 0 (deliveries_in r.past) None → (t : ℕ) → t ≤ end + 1 → NoOrphanBefore t
   no_orphan_by end none t low u early within k has =
       let n = number_of u k within has in
       none n.0 k u (omega arith) n.1 n.2 (omega (arith, early, low)) has
 
+  -- nor before the instant of the least breach
   pub no_orphan_before : (b : Breach) → IsLeastBreach r f 0 (deliveries_in r.past) b → (t : ℕ) → t ≤ b.instant → NoOrphanBefore t
   no_orphan_before b least t low u early within k has =
       let n = number_of u k within has in
       let later = least.least n.0 k u (omega arith) n.1 n.2 within has in
       omega (arith, later.0, early, low)
 
+  -- where there is no excess, at most f are down at each instant
   pub few_ever : FirstExcess r f None → (t : ℕ) → FewBefore t
   few_ever none t u early within = none u within
 
+  -- and before the first excess
   pub few_before : (x : Excess) → IsFirstExcess r f x → (t : ℕ) → t ≤ x.instant → FewBefore t
   few_before x first t low u early within = first.before u (omega (arith, early, low))
 
   safe_before : (t u : ℕ) → NoOrphanBefore t → FewBefore t → u < t → u ≤ length r.past → IsSafe r.processes f (instant r.past u)
   safe_before t u orphans few early within = record { few_down = few u early within; no_orphan = orphans u early within }
 
+  -- with no breach and no excess the verdict accepts
   pub accepted : LeastBreach r f 0 (deliveries_in r.past) None → FirstExcess r f None → IsVerdict r f Accept
   accepted none few = λ t within. safe_before (t + 1) t (no_orphan_ever none (t + 1)) (few_ever few (t + 1)) (omega arith) within
 
+  -- the first excess is the verdict, where no orphan comes before it
   pub exceeded : (x : Excess) → IsFirstExcess r f x → NoOrphanBefore x.instant → IsVerdict r f (Exceeded x.instant x.down)
   exceeded x first orphans = (
     record {
@@ -62,6 +68,7 @@ module _ (r : Recording) (f : ℕ) where
     first.excess,
   )
 
+  -- the least breach is, where no excess comes by its instant
   pub orphaned : (b : Breach) → IsLeastBreach r f 0 (deliveries_in r.past) b → FewBefore (b.instant + 1) → IsVerdict r f (Orphan b.instant b.delivery b.crash b.orphan)
   orphaned b least few =
       let here = least.first.least in

@@ -13,11 +13,13 @@ use Rattle.causal_core.specs.Inside.Memories.{memory_of, memories_in, memory_at,
 use Rattle.causal_core.specs.View.{body_in, with_bodies}
 use Rattle.causal_core.proofs.RuntimeSend.{set_same}
 
+-- to read a mapped list is to map what is read
 pub get-map : {X Y : Type 0} (f : X → Y) (xs : List X) (p : ℕ) → slice_get (map f xs) p ≡ option_map f (slice_get xs p)
 get-map f [] p = refl
 get-map f (x ∷ xs) zero = refl
 get-map f (x ∷ xs) (suc p) = get-map f xs p
 
+-- to map a list in which an element was written is to write what f makes of that element
 pub map-set : {X Y : Type 0} (f : X → Y) (xs : List X) (i : ℕ) (x : X) → map f (slice_set xs i x) ≡ slice_set (map f xs) i (f x)
 map-set f [] i x = refl
 map-set f (y ∷ ys) zero x = refl
@@ -33,6 +35,7 @@ set_read [] i x h = refl
 set_read (y ∷ ys) zero x h = let e : Some y ≡ Some x = h in ap (λ z. z ∷ ys) (sym (let is : y ≡ x = cc e in is))
 set_read (y ∷ ys) (suc i) x h = ap (λ zs. y ∷ zs) (set_read ys i x h)
 
+-- what is read stands within the list
 pub get_within : {X : Type 0} (xs : List X) (i : ℕ) (x : X) → slice_get xs i ≡ Some x → i < length xs
 get_within [] i x h = absurd (let e : None ≡ Some x = h in cc)
 get_within (y ∷ ys) zero x h = omega arith
@@ -46,6 +49,7 @@ read_at xs i x y h is same = slice_get_read xs (length xs) i x refl h is ∙ ap 
 pub body_read : (kept : List Message) (ssn : ℕ) (m : Message) → ssn < length kept → m ≡ get_or kept ssn m → body_in (map (λ m. m.body) kept) ssn ≡ m.body
 body_read kept ssn m h is = ap (λ o. unwrap_or o []) (get-map (λ m. m.body) kept ssn ∙ ap (option_map (λ m. m.body)) (slice_get_read kept (length kept) ssn m refl h is))
 
+-- there are as many memories as cells
 pub memories_length : (cells : List (Option Cell)) → length (memories_in cells) ≡ length cells
 memories_length [] = refl
 memories_length (c ∷ cells) = ap suc (memories_length cells)
@@ -61,6 +65,7 @@ lent_at cells p i slot cell up is value some =
     let h = up_within cells p up in
     rw is at (read_at cells i slot (Some cell) (omega (arith, h, is)) value some)
 
+-- where a process remembers something, it is one of the run
 pub some_within : (ms : Memories) (p : ℕ) (m : Memory) → at ms p ≡ Some m → p < length ms
 some_within [] p m h = absurd (let e : None ≡ Some m = h in cc)
 some_within (x ∷ ms) zero m h = omega arith
@@ -71,6 +76,7 @@ pub kept_from : (ms : Memories) (q source : Pid) (ssn : ℕ) (sender : Option Me
 kept_from ms q source ssn sender is = ap (λ o. if_to q (option_and_then (λ (m : Memory). slice_get m.sent ssn) o)) (sym is)
 
 module _ (cells : List (Option Cell)) (p : ℕ) (cell : Cell) (found : slice_get cells p ≡ Some (Some cell)) where
+  -- what a process has is what its cell has
   pub there : at (memories_in cells) p ≡ Some (memory_of cell)
   there = ap (λ o. option_and_then (λ x. x) o) (get-map (option_map memory_of) cells p ∙ ap (option_map (option_map memory_of)) found)
 

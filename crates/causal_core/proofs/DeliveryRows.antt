@@ -48,11 +48,13 @@ module _ (r : Run) (ms : Memories) (q source : Pid) (ssn : ℕ) (same : ms ≡ m
   abbrev rest : Option CoreFault → Option CoreFault → Option CoreFault → Option CoreFault → Option CoreFault → Option CoreFault → Option CoreFault
   rest a b c d e f = first_of (a ∷ b ∷ c ∷ d ∷ e ∷ f ∷ [])
 
+  -- a process that is not of the run is told first
   pub tell_process : outside ≡ true → first_fault r (Ask.Deliver q source ssn) ≡ Some Why.NoProcess
   unfolding told
   tell_process h = as_told ∙ (λ i. rest (when (h i) Why.NoProcess) (when (is_none (at ms q.0)) Why.Down) (unless (name source ssn) (named_for ms (stable_of r) q)) (when (is_none (kept_for ms q (name source ssn))) Why.NotAvailable) (when (has_received ms q (name source ssn)) Why.AlreadyDelivered) (when full Why.Full))
 
   module _ (inside : outside ≡ false) where
+    -- then that the receiver is down
     pub tell_down : at ms q.0 ≡ None → first_fault r (Ask.Deliver q source ssn) ≡ Some Why.Down
     unfolding told
     tell_down h =
@@ -72,21 +74,26 @@ module _ (r : Run) (ms : Memories) (q source : Pid) (ssn : ℕ) (same : ms ≡ m
           as_told
           ∙ (λ i. rest (when (inside i) Why.NoProcess) (when (is_none (up i)) Why.Down) (unless (name source ssn) (option_map message_of (option_and_then (next_det (stable_of r) q) (up i)))) (when (is_none (kept_for ms q (name source ssn))) Why.NotAvailable) (when (option_map_or (λ (x : Memory). list_any (λ k. same_message k (name source ssn)) x.received) (up i) false) Why.AlreadyDelivered) (when full Why.Full))
 
+      -- then that another message is named
       pub tell_other : (fault : CoreFault) → other ≡ Some fault → first_fault r (Ask.Deliver q source ssn) ≡ Some fault
       tell_other fault h = start ∙ (λ i. rest None None (h i) (when (is_none (kept_for ms q (name source ssn))) Why.NotAvailable) (when again Why.AlreadyDelivered) (when full Why.Full))
 
       module _ (none : other ≡ None) where
+        -- then that the message is not kept for it
         pub tell_absent : kept_for ms q (name source ssn) ≡ None → first_fault r (Ask.Deliver q source ssn) ≡ Some Why.NotAvailable
         tell_absent h = start ∙ (λ i. rest None None (none i) (when (is_none (h i)) Why.NotAvailable) (when again Why.AlreadyDelivered) (when full Why.Full))
 
         module _ (k : Kept) (kept : kept_for ms q (name source ssn) ≡ Some k) where
+          -- then that it has received the message
           pub tell_again : again ≡ true → first_fault r (Ask.Deliver q source ssn) ≡ Some Why.AlreadyDelivered
           tell_again h = start ∙ (λ i. rest None None (none i) (when (is_none (kept i)) Why.NotAvailable) (when (h i) Why.AlreadyDelivered) (when full Why.Full))
 
+          -- and last that there is no room
           pub tell_full : again ≡ false → (b : Bool) → full ≡ b → first_fault r (Ask.Deliver q source ssn) ≡ when b Why.Full
           tell_full h true f = start ∙ (λ i. rest None None (none i) (when (is_none (kept i)) Why.NotAvailable) (when (h i) Why.AlreadyDelivered) (when (f i) Why.Full))
           tell_full h false f = start ∙ (λ i. rest None None (none i) (when (is_none (kept i)) Why.NotAvailable) (when (h i) Why.AlreadyDelivered) (when (f i) Why.Full))
 
+-- an up process has received no more messages than a trace may have entries
 pub received_few : (n : ℕ) (past : List Entry) (ms : Memories) (p : ℕ) (m : Memory) → AllFit n past ms → length past ≤ 16777216 → p < n → at ms p ≡ Some m → length m.received ≤ 16777216
 received_few n past ms p m fit short inside is =
     let fits : Fits past p m = subst (FitsAt past p) is (fit.each p inside) in
@@ -98,6 +105,7 @@ stored_here r ms q m same up =
     ap (λ xs. first_of_slot q (next_rsn xs q) (dets_in (stable_of r))) (sym same)
     ∙ ap (λ o. first_of_slot q (option_map_or (λ (x : Memory). length x.received) o 0) (dets_in (stable_of r))) up
 
+-- a message that is kept for q is kept, and goes to q
 pub kept_found : (q : Pid) (o : Option Kept) (k : Kept) → if_to q o ≡ Some k → (o ≡ Some k) × (same_pid k.to q ≡ true)
 kept_found q None k h = absurd (let e : None ≡ Some k = h in cc)
 kept_found q (Some x) k h =

@@ -17,6 +17,7 @@ contains_more : (s : FinSet nat_cmp) (n q : ℕ) → contains (insert s n) q ≡
 contains_more s n q = contains-insert nat_cmp_total s n q ∙ ap (λ t. t || contains s q) (unsigned_tied q n)
 
 module _ (n : ℕ) (s : FinSet nat_cmp) (test : ℕ → Bool) (m : HasMembers n s test) where
+  -- a process that passes is put in
   pub one_in : test n ≡ true → HasMembers (n + 1) (insert s n) test
   one_in is = record {
     process = λ p h. elim (eqb_tells p n) [
@@ -33,6 +34,7 @@ module _ (n : ℕ) (s : FinSet nat_cmp) (test : ℕ → Bool) (m : HasMembers n 
   outside p is false e = refl
   outside p is true e = let below = m.process p e in absurd (omega (arith, below, is))
 
+  -- one that does not is left out
   pub one_out : test n ≡ false → HasMembers (n + 1) s test
   one_out is = record {
     process = λ p h. let below = m.process p h in omega (arith, below);
@@ -42,12 +44,14 @@ module _ (n : ℕ) (s : FinSet nat_cmp) (test : ℕ → Bool) (m : HasMembers n 
     ];
   }
 
+-- among no processes the empty set has just those that pass
 pub none_in : (s : FinSet nat_cmp) (test : ℕ → Bool) → s ≡ empty → HasMembers 0 s test
 none_in s test is = record {
   process = λ p h. absurd (false≢true (sym (contains-empty nat_cmp p) ∙ (sym (ap (λ t. contains t p) is) ∙ h)));
   member = λ p h. absurd (omega (arith, h));
 }
 
+-- where the opposite of a bit tells whether there is a cell, the bit tells whether there is none
 pub none_told : (c : Option Cell) (b : Bool) → is_some c ≡ not b → is_none c ≡ b
 none_told None true h = refl
 none_told None false h = sym h

@@ -128,19 +128,22 @@ unwritten_of : (o : Option Memory) → logs_all o (option_map_or (λ m. unstable
 unwritten_of None = refl
 unwritten_of (Some m) = all_from (λ d. is_some (fin.get m.log d)) (unstable_in m.log) (unstable_logged m.log)
 
+-- what a flush has to write is logged
 pub unwritten_logged : (r : Run) (p : Pid) → list_all (λ d. is_some (fin.get (log_at (memories_of r) p.0) d)) (unwritten r p) ≡ true
 unwritten_logged r p = unwritten_of (at (memories_of r) p.0)
 
--- where nothing stands against a flush
+-- where nothing stands against a flush, its process is up
 pub flush_up : (r : Run) (p : Pid) → first_fault r (Ask.Flush p) ≡ None → is_some (at (memories_of r) p.0) ≡ true
 unfolding rows
 flush_up r p none = ap is_some (there (at (memories_of r) p.0) (when_false _ _ (row_none (rows r (Ask.Flush p)) none 1 _ refl))).1
 
+-- its process is one of the run
 pub flush_below : (r : Run) (p : Pid) → first_fault r (Ask.Flush p) ≡ None → p.0 < r.recording.processes
 unfolding rows
 flush_below r p none =
     let inside : not (nat_lt p.0 r.recording.processes) ≡ false = when_false _ _ (row_none (rows r (Ask.Flush p)) none 0 _ refl) in grind (arith, nat_tests, inside)
 
+-- and the trace has room for an entry of each determinant that it has to write
 pub flush_short : (r : Run) (p : Pid) → first_fault r (Ask.Flush p) ≡ None → length r.recording.past + length (unwritten r p) ≤ 16777216
 unfolding rows
 flush_short r p none =
@@ -184,6 +187,7 @@ no_store : (r : Run) (p : Pid) → first_fault r (Ask.Flush p) ≡ Some Why.Stor
 unfolding rows
 no_store r p h = never_store (not (nat_lt p.0 r.recording.processes)) (is_none (at (memories_of r) p.0)) (is_long r (length (unwritten r p))) h
 
+-- a flush that is refused before it writes is not refused for a fault of the store
 pub refusal_stores : (r : Run) (p : Pid) (fault : CoreFault) → first_fault r (Ask.Flush p) ≡ reason_of fault → fault ≡ Why.StoreFault → ⊥
 refusal_stores r p fault h is = no_store r p (h ∙ ap reason_of is)
 

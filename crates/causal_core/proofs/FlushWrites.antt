@@ -84,6 +84,7 @@ stable_may r p det fit process up logged short formed =
     stable_legal r.recording.processes r.recording.past p.0 det m.0 (subst (FitsAt r.recording.past p.0) m.1 (fit.each p.0 process))
     (ap (λ o. is_some (fin.get (unwrap_or o (memory_at [] 0)).log det)) (sym m.1) ∙ logged) short (formed_short r.recording formed).listed
 
+-- once p has marked the determinant, the memories are those of the run with its stable entry
 pub stable_held : (r : Run) (ms : Memories) (p : Pid) (det : Det) → IsHeld r ms → p.0 < r.recording.processes → Rows.first_fault r.recording.processes r.recording.past (Stable det) ≡ None → IsHeld (extended r (Ask.Flush p) (Stable det ∷ [])) (changed (with_log (λ log. marked log det)) ms p.0)
 unfolding memories
 stable_held r ms p det held process next = record {

@@ -17,6 +17,7 @@ swap true false = refl
 swap false true = refl
 swap false false = refl
 
+-- a determinant is among the stable ones of a log just where the log has it and knows it to be stable
 pub has_marked : (log : LogMap) (d : Det) → has (stable_in log) d ≡ passes (λ k. k.stable) (fin.get log d)
 has_marked log d =
     any_kept (λ e. e.0) (λ e. e.1.stable) (same_det d) (λ e. same_det d e.0 && e.1.stable) (λ e. swap e.1.stable (same_det d e.0)) (fin.entries log)
@@ -25,6 +26,7 @@ has_marked log d =
 get_without : (log : LogMap) (ds : List Det) (d : Det) → fin.get (without ds log) d ≡ cond (not (has ds d)) (fin.get log d) None
 get_without log ds d = fin.get-retain_keys log (λ x. not (has ds x)) d (λ x t. ap (λ y. not (has ds y)) (sym (exact_dets d x t)))
 
+-- of each determinant the unmarked part of a log has what the log has, if that is not known to be stable
 pub get_unmarked : (log : LogMap) (d : Det) → fin.get (unmarked log) d ≡ kept_if (λ k. not k.stable) (fin.get log d)
 get_unmarked log d =
     fin.get-from_entries dets_total _ d
@@ -35,6 +37,7 @@ left : (o : Option Known) → cond (not (passes (λ k. k.stable) o)) o None ≡ 
 left None = refl
 left (Some k) = refl
 
+-- a log without what it knows to be stable is its unmarked part
 pub forgets_marked : (log : LogMap) → without (stable_in log) log ≡ unmarked log
 forgets_marked log = fin.same_map dets_total exact_dets _ _ (λ d.
     get_without log (stable_in log) d

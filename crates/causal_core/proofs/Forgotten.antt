@@ -80,6 +80,7 @@ same_change (Some m) = ap (λ l. Some (record { log = l; sent = m.sent; received
 forget_apart : (q : ℕ) (p : Pid) (listed : List Det) → q ≢ p.0 → is_of q (Forget p listed) ≡ false
 forget_apart q p listed h = grind (arith, nat_tests, h)
 
+-- once p has dropped what is marked, the memories are those of the run with its forgetting
 pub forgotten_held : (r : Run) (ms : Memories) (p : Pid) (listed : List Det) → IsHeld r ms → p.0 < r.recording.processes → listed ≡ forgettable r p → Rows.first_fault r.recording.processes r.recording.past (Forget p listed) ≡ None → IsHeld (extended r (Ask.Forget p) (Forget p listed ∷ [])) (changed (with_log unmarked) ms p.0)
 unfolding memories
 forgotten_held r ms p listed held process is next = record {
@@ -137,6 +138,7 @@ forgot_nothing r next p listed same none is empty = record {
     nothing [] h = refl
     nothing (d ∷ ds) h = absurd (omega (arith, h))
 
+-- where there is something to forget, one entry that lists all of it makes a legal step
 pub forgot : (r mid next : Run) (p : Pid) (listed : List Det) (count : ℕ) → mid ≡ r → first_fault r (Ask.Forget p) ≡ None → listed ≡ forgettable r p → 1 ≤ length listed → count ≡ length listed → next ≡ extended mid (Ask.Forget p) (Forget p listed ∷ []) → Steps r (Ask.Forget p) (Told.Forgotten count) next
 unfolding LegalStep
 forgot r mid next p listed count same none is some number run = record {

@@ -34,6 +34,7 @@ module _ (cells : List (Option Cell)) (i : ℕ) (c : Option Cell) (h : i < lengt
   unfolding united_one
   united_down down = ap (λ ms. united_all ms log) here ∙ united_cons (option_map memory_of c) _ log ∙ ap (λ o. united_all (memories_in (drop (i + 1) cells)) (united_one (option_map memory_of o) log)) down
 
+-- past the last process there is no log to unite with
 pub united_end : (cells : List (Option Cell)) (i : ℕ) (log : LogMap) → length cells ≤ i → united_all (memories_in (drop i cells)) log ≡ log
 unfolding united_all
 united_end cells i log h = ap (λ cs. united_all (memories_in cs) log) (drop_all i cells h)
@@ -49,10 +50,12 @@ module _ (dets : List Det) (i : ℕ) (d : Det) (p : Pid) (log next : LogMap) (h 
   unfolding stable_all
   stable_more is = ap (stable_all (drop (i + 1) dets) p) is ∙ sym (ap (λ ds. stable_all ds p log) (drop_more dets i d h))
 
+-- past the last determinant there is nothing more to hold
 pub held_end : (dets : List Det) (i : ℕ) (p : Pid) (log : LogMap) → length dets ≤ i → held_all (drop i dets) p log ≡ log
 unfolding held_all
 held_end dets i p log h = ap (λ ds. held_all ds p log) (drop_all i dets h)
 
+-- and nothing more that is stable
 pub stable_end : (dets : List Det) (i : ℕ) (p : Pid) (log : LogMap) → length dets ≤ i → stable_all (drop i dets) p log ≡ log
 unfolding stable_all
 stable_end dets i p log h = ap (λ ds. stable_all ds p log) (drop_all i dets h)

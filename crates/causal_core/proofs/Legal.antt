@@ -38,6 +38,7 @@ row_none [] h k row at = absurd (let e : None ≡ Some row = at in cc)
 row_none (first ∷ rest) h zero row at = let is : first ≡ row = cc at in sym is ∙ (none_first first rest h).0
 row_none (first ∷ rest) h (suc k) row at = row_none rest (none_first first rest h).1 k row at
 
+-- where a row tells nothing, its test fails
 pub when_false : (test : Bool) (fault : CoreFault) → when test fault ≡ None → test ≡ false
 when_false true fault h = absurd (let e : Some fault ≡ None = h in cc)
 when_false false fault h = refl
@@ -115,9 +116,11 @@ pub there : (o : Option Memory) → is_none o ≡ false → (m : Memory) × (o �
 there None h = absurd (false≢true (sym h))
 there (Some m) h = (m, refl)
 
+-- what the run makes each process remember fits the entries, where it is what is held
 pub held_fit : (r : Run) (ms : Memories) → IsHeld r ms → AllFit r.recording.processes r.recording.past (memories_of r)
 held_fit r ms held = subst (AllFit r.recording.processes r.recording.past) held.same held.fit
 
+-- a process whose memory fits the entries is not down in them
 pub fits_up : (past : List Entry) (p : ℕ) (m : Option Memory) → FitsAt past p m → is_none m ≡ false → is_down past p ≡ false
 fits_up past p (Some m) fits h = fits.up
 fits_up past p None fits h = absurd (false≢true (sym h))
@@ -141,6 +144,7 @@ same_then n b = grind (arith, nat_tests)
 crash_apart : (q : ℕ) (p : Pid) → q ≢ p.0 → is_of q (Crash p) ≡ false
 crash_apart q p h = grind (arith, nat_tests, h)
 
+-- once p's memory is gone, the memories are those of the run with its crash
 pub crash_held : (r : Run) (ms : Memories) (p : Pid) → IsHeld r ms → p.0 < r.recording.processes → Rows.first_fault r.recording.processes r.recording.past (Crash p) ≡ None → IsHeld (extended r (Ask.Crash p) (Crash p ∷ [])) (slice_set ms p.0 None)
 unfolding memories
 crash_held r ms p held process next = record {

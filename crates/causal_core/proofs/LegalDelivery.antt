@@ -60,6 +60,7 @@ of_sender n (Some m) k h = (m, refl, h)
 fits_at : (past : List Entry) (p : ℕ) (o : Option Memory) (m : Memory) → FitsAt past p o → o ≡ Some m → Fits past p m
 fits_at past p o m fit is = subst (FitsAt past p) is fit
 
+-- where nothing stands against a delivery, its receiver is up, and its message is kept and was not received
 pub may_deliver : (r : Run) (q source : Pid) (ssn : ℕ) → AllFit r.recording.processes r.recording.past (memories_of r) → first_fault r (Ask.Deliver q source ssn) ≡ None → MayDeliver r q source ssn
 unfolding rows
 may_deliver r q source ssn fit none =
@@ -87,11 +88,12 @@ may_deliver r q source ssn fit none =
       long = when_false _ _ (row_none told none 5 _ refl);
     }
 
--- the receiver is up, and the message at hand
+-- where nothing stands against a delivery, the receiver is up
 pub receiver_up : (r : Run) (q source : Pid) (ssn : ℕ) → first_fault r (Ask.Deliver q source ssn) ≡ None → is_some (at (memories_of r) q.0) ≡ true
 unfolding rows
 receiver_up r q source ssn none = ap is_some (there (at (memories_of r) q.0) (when_false _ _ (row_none (rows r (Ask.Deliver q source ssn)) none 1 _ refl))).1
 
+-- and the message at hand
 pub message_there : (r : Run) (q source : Pid) (ssn : ℕ) → first_fault r (Ask.Deliver q source ssn) ≡ None → is_none (kept_for (memories_of r) q (name source ssn)) ≡ false
 unfolding rows
 message_there r q source ssn none = when_false _ _ (row_none (rows r (Ask.Deliver q source ssn)) none 3 _ refl)
@@ -104,6 +106,7 @@ kept_within q sent ssn h = by (slice_get sent ssn) refl h
     by None is h = absurd (false≢true (sym h))
     by (Some k) is h = get_within sent ssn k is
 
+-- the sender of a message that is kept for q is up, and keeps more messages than the number of this one
 pub sender_keeps : (ms : Memories) (q source : Pid) (ssn : ℕ) → is_none (kept_for ms q (name source ssn)) ≡ false
     → (is_some (at ms source.0) ≡ true) × (ssn < length (memory_at ms source.0).sent)
 sender_keeps ms q source ssn h =
@@ -112,6 +115,7 @@ sender_keeps ms q source ssn h =
       | Some m ↦ λ k. (refl, kept_within q m.sent ssn k)
     ] h
 
+-- where nothing stands against a delivery, the receiver is a process of the run
 pub receiver_below : (r : Run) (q source : Pid) (ssn : ℕ) → first_fault r (Ask.Deliver q source ssn) ≡ None → q.0 < r.recording.processes
 unfolding rows
 receiver_below r q source ssn none =
@@ -148,12 +152,13 @@ grown_same a b q m g run h = record {
   shares = h.shares ∙ ap (λ r. replicate 8 (chosen r.faults (gained (carried_by g) g.own (log_at (memories_of r) q.0)))) (sym run);
 }
 
--- what a delivery lists is within the limit, and has all that the message carries
+-- what a delivery lists is within the limit
 pub listed_few : (r : Run) (q source : Pid) (ssn : ℕ) → first_fault r (Ask.Deliver q source ssn) ≡ None → length (listed_for (memories_of r) q (name source ssn)) ≤ 268435456
 unfolding rows
 listed_few r q source ssn none =
     let long : is_full r 9 (length (listed_for (memories_of r) q (name source ssn))) ≡ false = when_false _ _ (row_none (rows r (Ask.Deliver q source ssn)) none 5 _ refl) in grind (arith, nat_tests, long)
 
+-- and is no less than what the message carries
 pub carried_listed : (d : DataState) (q : Pid) (m : MsgName) (g : Grown) → IsGrown d q m g → length (carried_by g) ≤ length g.listed.items
 carried_listed d q m g h =
     let longer = with_longer (own_det (memories_of d.run) q m) (dets_of (batch_of (memories_of d.run) m)) in
@@ -172,6 +177,7 @@ module _ (r : Run) (q source : Pid) (ssn : ℕ) (d : MayDeliver r q source ssn) 
   abbrev pub listed : List Det
   listed = listed_for (memories_of r) q (name source ssn)
 
+  -- the numbers, the send and the batch, by the receiver's memory and the kept message
   pub rsn_is : next_rsn (memories_of r) q ≡ length d.memory.received
   rsn_is = ap (λ o. option_map_or (λ (x : Memory). length x.received) o 0) d.memory_is
 

@@ -14,6 +14,7 @@ use Rattle.causal_log.proofs.Lemmas.Ascents.{ascending_tail}
 use Rattle.causal_protocol.specs.Naming.{with_own, by_order}
 use Rattle.causal_core.proofs.MemoriesFit.{and_both}
 
+-- what holds of the own determinant and of all that are listed holds of the list with it
 pub with_all : (P : Det → Bool) (own : Det) (ds : List Det) → P own ≡ true → list_all P ds ≡ true → list_all P (with_own own ds) ≡ true
 unfolding with_own
 with_all P own [] is h = ap (λ b. b && true) is
@@ -38,6 +39,7 @@ below own d (e ∷ es) low was rest =
       | Greater ↦ λ r. ap (λ b. b && is_ascending (e ∷ with_own own es)) two.0 ∙ r
     ] rest
 
+-- a list that ascends still does with the own determinant in it
 pub with_ascending : (own : Det) (ds : List Det) → is_ascending ds ≡ true → is_ascending (with_own own ds) ≡ true
 unfolding with_own
 with_ascending own [] h = refl
@@ -53,15 +55,19 @@ module _ (own d : Det) (rest : List Det) where
   unfolding with_own
   step_is = refl
 
+  -- where the own determinant is less, it comes first
   pub less_is : det_cmp own d ≡ Less → with_own own (d ∷ rest) ≡ own ∷ d ∷ rest
   less_is h = step_is ∙ ap (λ o. by_order o (own ∷ d ∷ rest) (d ∷ rest) (d ∷ with_own own rest)) h
 
+  -- where it is there, nothing is added
   pub equal_is : det_cmp own d ≡ Equal → with_own own (d ∷ rest) ≡ d ∷ rest
   equal_is h = step_is ∙ ap (λ o. by_order o (own ∷ d ∷ rest) (d ∷ rest) (d ∷ with_own own rest)) h
 
+  -- where it is greater, it comes later
   pub greater_is : det_cmp own d ≡ Greater → with_own own (d ∷ rest) ≡ d ∷ with_own own rest
   greater_is h = step_is ∙ ap (λ o. by_order o (own ∷ d ∷ rest) (d ∷ rest) (d ∷ with_own own rest)) h
 
+-- into an empty list the own determinant comes alone
 pub with_end : (own : Det) → with_own own [] ≡ own ∷ []
 unfolding with_own
 with_end own = refl
@@ -83,9 +89,11 @@ module _ (own : Det) (items : List Item) (i : ℕ) (x : Item) (h : i < length it
   pub greater_here : det_cmp own x.det ≡ Greater → length (with_own own (dets_of (drop i items))) ≡ 1 + length (with_own own (dets_of (drop (i + 1) items)))
   greater_here is = ap (λ ds. length (with_own own ds)) here ∙ ap length (greater_is own _ (dets_of (drop (i + 1) items)) is) ∙ omega arith
 
+-- past the last item only the own determinant is left to list
 pub end_here : (own : Det) (items : List Item) (i : ℕ) → length items ≤ i → length (with_own own (dets_of (drop i items))) ≡ 1
 end_here own items i h = ap (λ xs. length (with_own own (dets_of xs))) (drop_all i items h) ∙ ap length (with_end own)
 
+-- no list is shorter with the own determinant in it
 pub with_longer : (own : Det) (ds : List Det) → length ds ≤ length (with_own own ds)
 unfolding with_own
 with_longer own [] = omega arith

@@ -59,14 +59,17 @@ module _ (past : List Entry) (p : ℕ) where
   received_other (Restart who listed) h k = ap (λ b. not b && has_delivered past p k) h
   received_other (Forget who listed) h k = refl
 
+-- where one test holds, that or another does
 pub or_left : (a b : Bool) → a ≡ true → (a || b) ≡ true
 or_left true b h = refl
 or_left false b h = absurd (false≢true h)
 
+-- and so where the other holds
 pub or_right : (a b : Bool) → b ≡ true → (a || b) ≡ true
 or_right true b h = refl
 or_right false b h = h
 
+-- where both hold, each does
 pub and_both : (a b : Bool) → (a && b) ≡ true → (a ≡ true) × (b ≡ true)
 and_both true b h = (refl, h)
 and_both false b h = absurd (false≢true h)
@@ -87,6 +90,7 @@ module _ (e : Entry) (past : List Entry) where
   entry_older i x h =
       cond-false (i == length past) (Some e) (entry_at past i) (ne_eqb i (length past) (λ is. let none : None ≡ Some x = sym (entry_beyond past i (omega (arith, is))) ∙ h in cc)) ∙ h
 
+  -- a kept message still stands where it was sent
   pub placed_more : (p ssn : ℕ) (k : Kept) → IsPlaced past p ssn k → IsPlaced (e ∷ past) p ssn k
   placed_more p ssn k is = record {
     source = is.source;
@@ -108,11 +112,13 @@ module _ (e : Entry) (past : List Entry) where
     placed = λ ssn k is. placed_more p ssn k (fits.placed ssn k is);
   }
 
+-- at the place of a write there is what was written
 pub at-set_same : {X : Type 0} (xs : List (Option X)) (p : ℕ) (x : Option X) → p < length xs → at (slice_set xs p x) p ≡ x
 at-set_same [] p x h = absurd (omega (arith, h))
 at-set_same (y ∷ ys) zero x h = refl
 at-set_same (y ∷ ys) (suc p) x h = at-set_same ys p x (omega (arith, h))
 
+-- at each other place there is what was there before
 pub at-set_other : {X : Type 0} (xs : List (Option X)) (p q : ℕ) (x : Option X) → q ≢ p → at (slice_set xs p x) q ≡ at xs q
 at-set_other [] p q x h = refl
 at-set_other (y ∷ ys) zero zero x h = absurd (h refl)
@@ -120,6 +126,7 @@ at-set_other (y ∷ ys) zero (suc q) x h = refl
 at-set_other (y ∷ ys) (suc p) zero x h = refl
 at-set_other (y ∷ ys) (suc p) (suc q) x h = at-set_other ys p q x (λ e. h (ap suc e))
 
+-- a list is as long after a write as before
 pub length-slice_set : {X : Type 0} (xs : List X) (p : ℕ) (x : X) → length (slice_set xs p x) ≡ length xs
 length-slice_set [] p x = refl
 length-slice_set (y ∷ ys) zero x = refl

@@ -31,10 +31,12 @@ module _ (ms : Memories) (q : Pid) (cells : List (Option Cell)) (p : ℕ) (c : O
       ∙ ap (λ xs. names ++ xs) (sym (filter-append (is_pending ms q) (names_sent p (option_map memory_of c)) (names_from (p + 1) (memories_in (drop (p + 1) cells)))))
       ∙ ap (λ xs. names ++ filter (is_pending ms q) (names_from p xs)) (sym here)
 
+  -- how many messages a process keeps is told by its cell
   pub sent_there : option_map_or (λ m. length m.sent) (at (memories_in cells) p) 0 ≡ option_map_or (λ m. length m.sent) (option_map memory_of c) 0
   sent_there =
       ap (λ o. option_map_or (λ m. length m.sent) (option_and_then (λ x. x) o) 0) (get-map (option_map memory_of) cells p ∙ ap (option_map (option_map memory_of)) (read_at cells p c c h is refl))
 
+-- past the last process no more messages are pending
 pub pending_end : (ms : Memories) (q : Pid) (cells : List (Option Cell)) (p : ℕ) (names : List MsgName) → length cells ≤ p → names ++ filter (is_pending ms q) (names_from p (memories_in (drop p cells))) ≡ names
 pending_end ms q cells p names h = ap (λ cs. names ++ filter (is_pending ms q) (names_from p (memories_in cs))) (drop_all p cells h) ∙ append-nil names
 
@@ -48,6 +50,7 @@ beyond [] p h = refl
 beyond (m ∷ ms) zero h = absurd (omega (arith, h))
 beyond (m ∷ ms) (suc p) h = beyond ms p (omega (arith, h))
 
+-- no process keeps more messages than a trace may have entries
 pub sent_few : (n : ℕ) (past : List Entry) (ms : Memories) (p : ℕ) → AllFit n past ms → length past ≤ 16777216 → option_map_or (λ m. length m.sent) (at ms p) 0 ≤ 16777216
 sent_few n past ms p fit short = elim (cases_lt p n) [
   | inl h ↦ sent_fits past p (at ms p) (fit.each p h) short

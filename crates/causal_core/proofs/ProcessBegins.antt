@@ -164,7 +164,6 @@ module _ {B : Type 0} (answers : B → List Input → List (List Outgoing)) wher
           (was.run.recording.past, length (receivers n one.sends), sends_of (record { 0 = length boxes }) 0 (receivers n one.sends), h.opens, are_sends n (record { 0 = length boxes }) 0 (length (receivers n one.sends)) (receivers n one.sends) (receivers_below n one.sends) refl (let few = one.few in let a = addressed_few n one.sends in let b = receivers_long n one.sends in omega (arith, few, a, b)), past_is);
     }
 
--- who is up once all have begun, and that nothing is stable
 beginnings_up : (n f p : ℕ) (sends : List (List Outgoing)) (past : List Entry) → map is_some (memories n f [] (with_beginnings n p sends past)) ≡ map is_some (memories n f [] past)
 unfolding with_beginnings
 beginnings_up n f p [] past = refl
@@ -174,6 +173,7 @@ up_first : (n : ℕ) → map is_some (replicate n (Some (fresh fin.empty))) ≡ 
 up_first zero = refl
 up_first (suc n) = ap (λ bits. true ∷ bits) (up_first n)
 
+-- once all have begun, each process is up
 pub all_up : (n f : ℕ) (sends : List (List Outgoing)) (r : Run) → r ≡ opening n f (with_beginnings n 0 sends []) → map is_some (memories_of r) ≡ replicate n true
 unfolding memories
 all_up n f sends r is = ap (λ x. map is_some (memories_of x)) is ∙ beginnings_up n f 0 sends [] ∙ up_first n
@@ -183,6 +183,7 @@ unfolding with_beginnings
 beginnings_unstable n p [] past d = refl
 beginnings_unstable n p (s ∷ sends) past d = beginnings_unstable n (p + 1) sends (with_beginning n p s past) d ∙ sends_unstable (record { 0 = p }) 0 (receivers n s) past d
 
+-- and nothing is stable, so an empty store has just that
 pub none_stored : (n f : ℕ) (sends : List (List Outgoing)) (r : Run) (s : DetSet) → r ≡ opening n f (with_beginnings n 0 sends []) → s ≡ fin.empty → (d : Det) → has s d ≡ is_stable r.recording.past d
 none_stored n f sends r s is none d =
     ap (λ m. has m d) none ∙ ap is_some (fin.get-empty det_cmp d)

@@ -30,13 +30,16 @@ pub refused_reason : (r next : Run) (q : Pid) (m : MsgName) (fault : CoreFault) 
 unfolding LegalStep
 refused_reason r next q m fault s = s.legal.0
 
+-- where m is named, what its delivery is refused for is what q's next one is refused for
 pub refuses_named : (r next : Run) (q : Pid) (m : MsgName) (fault : CoreFault) → naming r q ≡ Ok (Some m) → Steps r (Ask.Deliver q m.source m.ssn) (Told.Refused fault) next → RefusesNamed r q fault
 refuses_named r next q m fault named step = subst (IsRefused r q fault) (sym named) (refused_reason r next q m fault step)
 
+-- where naming is refused, q's next delivery is refused for the same
 pub refuses_naming : (r : Run) (q : Pid) (fault : CoreFault) → naming r q ≡ Err fault → RefusesNamed r q fault
 refuses_naming r q fault named = subst (IsRefused r q fault) (sym named) refl
 
 module _ {B : Type 0} (answers : B → List Input → List (List Outgoing)) (p : Pid) where
+  -- a delivery of the message that is named is one of a replay
   pub redelivered : (m : MsgName) (d : Delivered) (old new : CoreState B) → naming old.run p ≡ Ok (Some m) → Steps old.run (Ask.Deliver p m.source m.ssn) (Told.Delivered d) new.run → Delivers answers p m.source m.ssn old new → Redelivered answers p (Some d) old new
   redelivered m d old new named step delivers =
       let here : m ≡ message_of d.det = told_message old.run new.run p m d step in
@@ -77,6 +80,7 @@ module _ {B : Type 0} (answers : B → List Input → List (List Outgoing)) (p :
   replays_on [] old mid new r u = unchanged_twice old mid new r u
   replays_on (x ∷ xs) old mid new r u = (r.0, r.1, redelivered_on r.0 mid new x r.2 u)
 
+  -- where nothing was delivered, the replay is of no deliveries
   pub replayed_none : (s : CoreState B) → Replayed answers p 0 s s
   replayed_none s = record {
     deliveries = [];
@@ -100,6 +104,7 @@ module _ {B : Type 0} (answers : B → List Input → List (List Outgoing)) (p :
         others = λ q inputs apart. one.1.delivers.others q inputs apart ∙ r.others q inputs apart;
       }
 
+  -- a replay stays one where nothing changes after it
   pub replayed_on : (count : ℕ) (old mid new : CoreState B) → Replayed answers p count old mid → IsUnchanged answers mid new → Replayed answers p count old new
   replayed_on count old mid new r u = record {
     deliveries = r.deliveries;

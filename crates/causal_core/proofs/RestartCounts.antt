@@ -175,10 +175,12 @@ every_down (Some k ∷ ms) s = every_down ms (with_all (fin.keys k.log) s)
 pub count_all : Memories → DetSet → ℕ
 count_all ms s = count_in (everything ms s)
 
+-- without logs these are the members of the set
 pub count_none : (s : DetSet) → count_all [] s ≡ count_in s
 unfolding count_all everything
 count_none s = refl
 
+-- a process that is down adds none
 pub count_down : (ms : Memories) (s : DetSet) → count_all (ms ++ None ∷ []) s ≡ count_all ms s
 unfolding count_all
 count_down ms s = ap count_in (every_down ms s)
@@ -250,5 +252,6 @@ module _ (cells : List (Option Cell)) (i : ℕ) (c : Option Cell) (h : i < lengt
   pub memories_next : memories_in (take (i + 1) cells) ≡ memories_in (take i cells) ++ option_map memory_of c ∷ []
   memories_next = ap memories_in (take_more cells i c h ∙ ap (λ y. take i cells ++ y ∷ []) (sym is)) ∙ map-append (option_map memory_of) (take i cells) (c ∷ [])
 
+-- past the last process no log is left that has it
 pub logged_end : (cells : List (Option Cell)) (i : ℕ) (d : Det) → length cells ≤ i → is_logged (memories_in (drop i cells)) d ≡ false
 logged_end cells i d h = ap (λ cs. is_logged (memories_in cs) d) (drop_all i cells h)

@@ -63,6 +63,7 @@ unfolding stable_set
 restart_stored p ssn tos listed past = sends_stored p ssn tos (Restart p listed ∷ past)
 
 module _ (r mid next : Run) (q source : Pid) (ssn : ℕ) (m : MsgName) (k : ℕ) (tos : List Pid) (same : mid ≡ r) (run : next ≡ extended mid (Ask.Deliver q source ssn) (delivery_of mid q m ∷ sends_of q k tos)) where
+  -- a delivery and its sends change the memory of the receiver alone, and store nothing
   pub delivery_alone : ChangesAlone q r next
   delivery_alone = record {
     others =
@@ -73,6 +74,7 @@ module _ (r mid next : Run) (q source : Pid) (ssn : ℕ) (m : MsgName) (k : ℕ)
   }
 
 module _ (r mid next : Run) (p : Pid) (listed : List Det) (tos : List Pid) (same : mid ≡ r) (run : next ≡ extended mid (Ask.Restart p) (Restart p listed ∷ sends_of p 0 tos)) where
+  -- and so do a restart and its sends, of the process that comes up
   pub restarted_alone : ChangesAlone p r next
   restarted_alone = record {
     others =
@@ -82,6 +84,7 @@ module _ (r mid next : Run) (p : Pid) (listed : List Det) (tos : List Pid) (same
     stable = ap stable_of run ∙ restart_stored p 0 tos listed mid.recording.past ∙ ap stable_of same;
   }
 
+-- a crash changes the memory of its process alone, and stores nothing
 pub crash_alone : (r next : Run) (p : Pid) (first : ℕ) → Steps r (Ask.Crash p) (Told.Crashed first) next → ChangesAlone p r next
 unfolding memories stable_set
 crash_alone r next p first s = record {
@@ -89,6 +92,7 @@ crash_alone r next p first s = record {
   stable = ap stable_of (crash_done r next p first s);
 }
 
+-- what was gathered for a process that is down may be remembered: it is what that process would gather
 pub remembered_anew : (r : Run) (p : Pid) (log : LogMap) (last : Option Remembered) → is_some (at (memories_of r) p.0) ≡ false → log ≡ gathered_log (memories_of r) (stable_of r) p → IfSome last (λ l. (l.by ≡ p) × (l.log.map ≡ log)) → IsRemembered r last
 remembered_anew r p log None down is made = tt
 remembered_anew r p log (Some l) down is made = made.1 ∙ is ∙ sym (gathered_down r p down) ∙ ap (gathered_by r) (sym made.0)

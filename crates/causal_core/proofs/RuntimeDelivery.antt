@@ -114,5 +114,6 @@ received_fits past q send rsn name listed log m sent fit logged =
       placed = λ ssn k is. placed_more e past q.0 ssn k (fit.placed ssn k is);
     }
 
+-- a delivery is an entry of its receiver alone
 pub delivery_apart : (q : ℕ) (to : Pid) (send rsn : ℕ) (listed : List Det) → q ≢ to.0 → is_of q (Deliver to send rsn listed) ≡ false
 delivery_apart q to send rsn listed h = grind (arith, nat_tests, h)

@@ -114,6 +114,7 @@ fits_down : (past : List Entry) (p : ℕ) (m : Option Memory) → FitsAt past p 
 fits_down past p None fits h = fits
 fits_down past p (Some m) fits h = absurd (false≢true (sym h))
 
+-- a restart that nothing stands against is of a process that is down, and there is room for it
 pub may_restart : (r : Run) (p : Pid) → AllFit r.recording.processes r.recording.past (memories_of r) → first_fault r (Ask.Restart p) ≡ None → MayRestart r p
 unfolding rows
 may_restart r p fit none =
@@ -142,6 +143,7 @@ restart_legal r p may delivered =
     let ascends : is_ascending (gathered r p) ≡ true = map_ascends (gathered_log (memories_of r) (stable_of r) p) in
     grind (arith, nat_tests, process, down, long, listed, lanes, ascends, delivered)
 
+-- a restart is an entry of its process alone
 pub restart_apart : (q : ℕ) (p : Pid) (listed : List Det) → q ≢ p.0 → is_of q (Restart p listed) ≡ false
 restart_apart q p listed h = grind (arith, nat_tests, h)
 
@@ -234,6 +236,7 @@ pub gathering_told : (r : Run) (p : Pid) (listed : ℕ) (fault : CoreFault) → 
 gathering_told r p listed fault h =
     two_told (when (not (nat_lt p.0 r.recording.processes)) Why.NoProcess) (when (is_some (at (memories_of r) p.0)) Why.NotDown) (when (is_full r 9 listed || nat_le 192 (restarts r.recording.past)) Why.Full) fault h
 
+-- where nothing stands against a restart, its process is one of the run
 pub restart_below : (r : Run) (p : Pid) → first_fault r (Ask.Restart p) ≡ None → p.0 < r.recording.processes
 unfolding rows
 restart_below r p none =

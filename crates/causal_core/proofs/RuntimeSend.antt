@@ -25,9 +25,11 @@ use Rattle.causal_core.specs.View.{addressed, receivers}
 use Rattle.causal_core.specs.Inside.Memories.{keep_all}
 use Rattle.causal_core.proofs.MemoriesFit.{is_of, length-slice_set, delivered_more, placed_more, at-set_same}
 
+-- the test for equal numbers passes a number and itself
 pub eqb_refl : (n : ℕ) → (n == n) ≡ true
 eqb_refl n = grind (arith, nat_tests)
 
+-- where there is room, the trace has nothing against the next send of an up process
 pub send_legal : (n : ℕ) (past : List Entry) (q to : Pid) (m : Memory) → q.0 < n → to.0 < n → Fits past q.0 m → length past < 16777216 → listed_in past ≤ 268435456 → Rows.first_fault n past (Send q to (length m.sent)) ≡ None
 unfolding Rows.rows
 send_legal n past q to m from process fit short within =
@@ -74,14 +76,17 @@ send_fits past q to batch m fit ascending delivered =
           ];
     }
 
+-- a send is an entry of its sender alone
 pub send_apart : (q : ℕ) (from to : Pid) (ssn : ℕ) → q ≢ from.0 → is_of q (Send from to ssn) ≡ false
 send_apart q from to ssn h = grind (arith, nat_tests, h)
 
+-- to write what is there changes nothing
 pub set_same : {X : Type 0} (xs : List (Option X)) (p : ℕ) (x : X) → at xs p ≡ Some x → slice_set xs p (Some x) ≡ xs
 set_same [] p x h = refl
 set_same (y ∷ ys) zero x h = ap (λ z. z ∷ ys) (sym h)
 set_same (y ∷ ys) (suc p) x h = ap (λ zs. y ∷ zs) (set_same ys p x h)
 
+-- of two writes to a place the later one counts
 pub set_twice : {X : Type 0} (xs : List X) (p : ℕ) (x y : X) → slice_set (slice_set xs p x) p y ≡ slice_set xs p y
 set_twice [] p x y = refl
 set_twice (z ∷ zs) zero x y = refl
@@ -109,6 +114,7 @@ pub pushed_last : (es : List Entry) (e : Entry) (past : List Entry) → pushed (
 pushed_last [] e past = refl
 pushed_last (x ∷ es) e past = pushed_last es e (x ∷ past)
 
+-- the past grows by as many entries as are appended
 pub pushed_length : (es past : List Entry) → length (pushed es past) ≡ length es + length past
 pushed_length [] past = omega arith
 pushed_length (e ∷ es) past = let rest = pushed_length es (e ∷ past) in omega (arith, rest)
@@ -122,12 +128,14 @@ addressed_more n (t ∷ ts) s =
       | false ↦ addressed_more n ts s
     ]
 
+-- no more sends go to processes than a step makes
 pub addressed_few : (n : ℕ) (sends : List Outgoing) → length (addressed n sends) ≤ length sends
 addressed_few n [] = omega arith
 addressed_few n (s ∷ ss) =
     let rest = addressed_few n ss in
     elim (nat_lt s.to.0 n) as (λ b. length (cond b (s ∷ addressed n ss) (addressed n ss)) ≤ suc (length ss)) [ true ↦ omega (arith, rest) | false ↦ omega (arith, rest) ]
 
+-- each send to a process has one receiver
 pub receivers_long : (n : ℕ) (sends : List Outgoing) → length (receivers n sends) ≡ length (addressed n sends)
 receivers_long n sends = length-map (addressed n sends) (λ s. s.to)
 
@@ -154,22 +162,26 @@ replicate_last (suc (suc k)) b (y ∷ ys) x h =
     let rest = replicate_last (suc k) b ys x tail in
     (suc rest.0, ap suc rest.1, (λ i. back i ∷ rest.2 i), rest.3)
 
+-- the message of one more send is kept last, with the entry that comes after theirs
 pub keep_more : (send : ℕ) (batch : List Item) (tos : List Pid) (to : Pid) (m : Memory) → keep_all send batch (tos ++ to ∷ []) m ≡ keeping to (send + length tos) batch (keep_all send batch tos m)
 unfolding keep_all
 keep_more send batch [] to m = ap (λ k. keeping to k batch m) (omega arith)
 keep_more send batch (x ∷ xs) to m = keep_more (send + 1) batch xs to (keeping x send batch m) ∙ ap (λ k. keeping to k batch (keep_all (send + 1) batch xs (keeping x send batch m))) (omega arith)
 
+-- one more send comes last, with the number that comes after theirs
 pub sends_more : (q : Pid) (ssn : ℕ) (tos : List Pid) (to : Pid) → sends_of q ssn (tos ++ to ∷ []) ≡ sends_of q ssn tos ++ Send q to (ssn + length tos) ∷ []
 unfolding sends_of
 sends_more q ssn [] to = ap (λ k. Send q to k ∷ []) (omega arith)
 sends_more q ssn (x ∷ xs) to = ap (λ es. Send q x ssn ∷ es) (sends_more q (ssn + 1) xs to ∙ ap (λ k. sends_of q (ssn + 1) xs ++ Send q to k ∷ []) (omega arith))
 
+-- a process then keeps one message more for each receiver
 pub kept_length : (send : ℕ) (batch : List Item) (tos : List Pid) (m : Memory) → length (keep_all send batch tos m).sent ≡ length m.sent + length tos
 unfolding keep_all
 kept_length send batch [] m = omega arith
 kept_length send batch (x ∷ xs) m =
     let rest = kept_length (send + 1) batch xs (keeping x send batch m) in let more = length-append m.sent (record { to = x; send = send; batch = batch } ∷ []) in omega (arith, rest, more)
 
+-- there is one send for each receiver
 pub sends_length : (q : Pid) (ssn : ℕ) (tos : List Pid) → length (sends_of q ssn tos) ≡ length tos
 unfolding sends_of
 sends_length q ssn [] = refl

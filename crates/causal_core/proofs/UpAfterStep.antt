@@ -23,6 +23,7 @@ changed_up g (None ∷ ms) zero = refl
 changed_up g (Some m ∷ ms) zero = refl
 changed_up g (m ∷ ms) (suc p) = ap (λ bits. is_some m ∷ bits) (changed_up g ms p)
 
+-- sends leave who is up
 pub sends_up : (n f : ℕ) (writers : List Pid) (q : Pid) (ssn : ℕ) (tos : List Pid) (past : List Entry) → map is_some (memories n f writers (pushed (sends_of q ssn tos) past)) ≡ map is_some (memories n f writers past)
 unfolding memories sends_of
 sends_up n f writers q ssn [] past = refl

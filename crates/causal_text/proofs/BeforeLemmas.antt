@@ -42,6 +42,7 @@ split_complete most h b line more s complete =
     ∙ ap (λ xs. s.complete ++ lines xs) (sym (append_assoc h.rest line more))
     ∙ ap (λ ls. s.complete ++ ls) (lines_complete (h.rest ++ line) more (IsComplete-append h.rest line s.unfinished complete))
 
+-- what is kept with a line that has come whole stands before it, however the text goes on
 pub kept_of : (most : ℕ) (h : Held) (b line : List ℕ) (number : ℕ) (kept : Option Before) → StandsFor most h b → IsComplete line → IsKeptAt h.place.stage (h.rest ++ line) kept → number ≡ h.place.count + 1
     → IfSome kept (λ at. (more : List ℕ) → StandsBeforeWithin most ((b ++ line) ++ more) number at.trace.recording at.says)
 kept_of most h b line number None s complete k is = tt

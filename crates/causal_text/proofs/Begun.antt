@@ -169,12 +169,14 @@ no_more most h b tail l ls r f s split bad x = told (either most h b tail r s x)
 regrouped : (most : ℕ) (b part more : List ℕ) (r : Recording) → BeginsWith most ((b ++ part) ++ more) r → BeginsWith most (b ++ (part ++ more)) r
 regrouped most b part more r x = subst (λ text. BeginsWith most text r) (append_assoc b part more) x
 
+-- where the rest of a line completes one with a fault, the text begins with no more than before
 pub no_more_line : (most : ℕ) (h : Held) (b line more : List ℕ) (r : Recording) (f : TextFault) → StandsFor most h b → IsComplete line → next most h.place (h.rest ++ line) ≡ Err f → BeginsWith most ((b ++ line) ++ more) r → BeginsWith most b r
 no_more_line most h b line more r f s complete bad x =
     let split : lines (h.rest ++ (line ++ more)) ≡ (h.rest ++ line) ∷ lines more =
     ap lines (sym (append_assoc h.rest line more)) ∙ lines_complete (h.rest ++ line) more (IsComplete-append h.rest line s.unfinished complete) in
     no_more most h b (line ++ more) (h.rest ++ line) (lines more) r f s split bad (regrouped most b line more r x)
 
+-- and where a part of an unfinished line has one, however the line goes on
 pub no_more_part : (most : ℕ) (h : Held) (b part more : List ℕ) (r : Recording) (f : TextFault) → StandsFor most h b → no_feed (h.rest ++ part) ≡ true → 0 < length (h.rest ++ part)
     → IsPast most (record { place = h.place; rest = h.rest ++ part }) f → BeginsWith most ((b ++ part) ++ more) r → BeginsWith most b r
 no_more_part most h b part more r f s none some past x = from (h.rest ++ part) refl some none where
@@ -193,6 +195,7 @@ nothing [] rest more each is = refl
 nothing (l ∷ ls) rest more each is = absurd (let none : 0 ≡ length (((l ++ joined ls) ++ rest) ++ more) = ap length is in
     omega (arith, none, length-append ((l ++ joined ls) ++ rest) more, length-append (l ++ joined ls) rest, length-append l (joined ls), ap length each.0.2, length-append each.0.0 (10 ∷ [])))
 
+-- where nothing was read, no recording was said
 pub none_begins : (most : ℕ) (r : Recording) → BeginsWith most [] r → ⊥
 none_begins most r x =
     let c = x.3 in
@@ -203,6 +206,7 @@ none_begins most r x =
 
 -- ---- the trace so far
 
+-- the trace of the stage is what the complete lines say
 pub trace_says : {T : Type 0} (o : Option T) (run : T → Recording) (n : ℕ) (h : Held) → IfSome o (λ t. IsGoingOn h.place.stage (run t))
     → IfSome o (λ t. (most : ℕ) (b : List ℕ) → WasFed most (record { most = n; state = state.Reading h }) b → SaysSoFar most b (run t))
 trace_says None run n h going = tt
@@ -216,6 +220,7 @@ trace_says (Some t) run n h going = λ most b fed. record {
   reaches = subst (λ (s : Stage). LeadsTo most fed.1.0.complete s) going.1 fed.1.0.place_is.reaches;
 }
 
+-- and they say no other
 pub trace_only : {T : Type 0} (o : Option T) (run : T → Recording) (n : ℕ) (h : Held) → IfSome o (λ t. IsGoingOn h.place.stage (run t))
     → IfSome o (λ t. (most : ℕ) (b : List ℕ) (r : Recording) → WasFed most (record { most = n; state = state.Reading h }) b → SaysSoFar most b r → run t ≡ r)
 trace_only None run n h going = tt
@@ -223,6 +228,7 @@ trace_only (Some t) run n h going = λ most b r fed says.
     let same : Within going.0 (run t) ≡ Within says.version r = sym going.1 ∙ says_stage most h b r fed.1.0 says in
     cc
 
+-- where the stage has no trace, they say none
 pub trace_none : {T : Type 0} (o : Option T) (n : ℕ) (h : Held) → IfNone o ((r : Recording) → IsGoingOn h.place.stage r → ⊥)
     → IfNone o ((most : ℕ) (b : List ℕ) (r : Recording) → WasFed most (record { most = n; state = state.Reading h }) b → SaysSoFar most b r → ⊥)
 trace_none None n h none = λ most b r fed says. none r (says.version, says_stage most h b r fed.1.0 says)

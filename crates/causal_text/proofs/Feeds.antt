@@ -89,6 +89,7 @@ AreComplete-append (k ∷ ls) l h c = (h.0, AreComplete-append ls l h.1 c)
 pub IsComplete-append : (xs l : List ℕ) → no_feed xs ≡ true → IsComplete l → IsComplete (xs ++ l)
 IsComplete-append xs l h c = (xs ++ c.0, no_feed-append xs c.0 h c.1, ap (λ ys. xs ++ ys) c.2 ∙ sym (append_assoc xs c.0 (10 ∷ [])))
 
+-- once a line is complete and has no fault, the place after it stands for all the bytes
 pub StandsFor-complete : (most : ℕ) (h : Held) (b line : List ℕ) (p : Place) → StandsFor most h b → IsComplete line → next most h.place (h.rest ++ line) ≡ Ok p → StandsFor most (record { place = p; rest = [] }) (b ++ line)
 StandsFor-complete most h b line p s c taken =
     let l = h.rest ++ line in
@@ -101,6 +102,7 @@ StandsFor-complete most h b line p s c taken =
       place_is = after;
     }
 
+-- a part with no line feed is held, and nothing else changes
 pub StandsFor-hold : (most : ℕ) (h : Held) (b part : List ℕ) → StandsFor most h b → no_feed part ≡ true → StandsFor most (record { place = h.place; rest = h.rest ++ part }) (b ++ part)
 StandsFor-hold most h b part s none = record {
   complete = s.complete;
@@ -117,6 +119,7 @@ reading_from most h b more s =
     ∙ ap (after_lines most start) (lines_joined s.complete (h.rest ++ more) s.each)
     ∙ after_lines-append most start h.place s.complete (lines (h.rest ++ more)) (after_lines-place most s.complete h.place s.place_is)
 
+-- the fault of a complete line is that of the text, however it goes on
 pub fault_of_complete : (most : ℕ) (h : Held) (b line : List ℕ) (f : TextFault) → StandsFor most h b → IsComplete line → next most h.place (h.rest ++ line) ≡ Err f → IsFaultOfAll most (b ++ line) f
 fault_of_complete most h b line f s c e more =
     let same : after_lines most start (lines ((b ++ line) ++ more)) ≡ Err f =
@@ -125,6 +128,7 @@ fault_of_complete most h b line f s c e more =
     ∙ ap (after_lines most h.place) (lines_complete (h.rest ++ line) more (IsComplete-append h.rest line s.unfinished c)) ∙ rw e refl in
     ap (λ (r : Result Place TextFault). r >>= λ p. ended p p.stage) same
 
+-- and so is one that an unfinished line has, however it goes on
 pub fault_of_grown : (most : ℕ) (h : Held) (b : List ℕ) (f : TextFault) → StandsFor most h b → 0 < length h.rest → ((m : List ℕ) → next most h.place (h.rest ++ m) ≡ Err f) → IsFaultOfAll most b f
 fault_of_grown most h b f s some e more = from h.rest some s.unfinished e (reading_from most h b more s) where
   from : (xs : List ℕ) → 0 < length xs → no_feed xs ≡ true → ((m : List ℕ) → next most h.place (xs ++ m) ≡ Err f) → after_lines most start (lines (b ++ more)) ≡ after_lines most h.place (lines (xs ++ more)) → reading most (b ++ more) ≡ Err f
@@ -143,12 +147,14 @@ Comes most h0 done h1 = (b : List ℕ) → StandsFor most h0 b → StandsFor mos
 regrouped : (most : ℕ) (h : Held) (b done more : List ℕ) → StandsFor most h ((b ++ done) ++ more) → StandsFor most h (b ++ (done ++ more))
 regrouped most h b done more s = subst (λ (xs : List ℕ). StandsFor most h xs) (append_assoc b done more) s
 
+-- where a line was taken in, there is a place after it, and nothing is held there
 pub with_line_ok : (most : ℕ) (h h1 : Held) (line : List ℕ) → with_line most h line ≡ Ok h1 → (p : Place) × (next most h.place (h.rest ++ line) ≡ Ok p) × (record { place = p; rest = [] } ≡ h1)
 with_line_ok most h h1 line e = parts (next most h.place (h.rest ++ line)) e where
   parts : (r : Result Place TextFault) → (r >>= λ p. Ok (record { place = p; rest = [] })) ≡ Ok h1 → (p : Place) × (r ≡ Ok p) × (record { place = p; rest = [] } ≡ h1)
   parts (Ok p) e = (p, refl, cc)
   parts (Err f) e = absurd (let no : Err f ≡ Ok h1 = e in cc)
 
+-- where it was not, its fault is that of the line
 pub with_line_err : (most : ℕ) (h : Held) (line : List ℕ) (f : TextFault) → with_line most h line ≡ Err f → next most h.place (h.rest ++ line) ≡ Err f
 with_line_err most h line f e = parts (next most h.place (h.rest ++ line)) e where
   parts : (r : Result Place TextFault) → ◌>>=◌ {B = Held} r (λ p. Ok (record { place = p; rest = [] })) ≡ Err f → r ≡ Err f

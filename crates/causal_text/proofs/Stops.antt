@@ -22,6 +22,7 @@ use Rattle.causal_text.proofs.StreamLemmas.{read_more}
 
 -- ---- it is read
 
+-- once the rest of a line has come without a fault, the bytes with it are read
 pub line_read : (n most : ℕ) (h k : Held) (b line : List ℕ) → n ≡ most → IsComplete line → with_line n h line ≡ Ok k → HasReadWithin most (state.Reading h) b → HasReadWithin most (state.Reading k) (b ++ line)
 line_read n most h k b line same complete is = subst (λ (m : ℕ). HasReadWithin m (state.Reading h) b → HasReadWithin m (state.Reading k) (b ++ line)) same read where
   read : HasReadWithin n (state.Reading h) b → HasReadWithin n (state.Reading k) (b ++ line)
@@ -30,6 +31,7 @@ line_read n most h k b line same complete is = subst (λ (m : ℕ). HasReadWithi
       subst (λ (x : Held). HasReadWithin n (state.Reading x) (b ++ line)) p.2
       (read_more n (record { place = p.0; rest = [] }) (b ++ line) (StandsFor-complete n h b line p.0 s.0 complete p.1) (λ few. omega (arith, few)))
 
+-- and so with a part that has no line feed, where there is room to hold it
 pub part_read : (n most : ℕ) (h k : Held) (b part : List ℕ) → n ≡ most → no_feed part ≡ true → k ≡ record { place = h.place; rest = h.rest ++ part } → HasRoom n k → HasReadWithin most (state.Reading h) b → HasReadWithin most (state.Reading k) (b ++ part)
 part_read n most h k b part same none is room = subst (λ (m : ℕ). HasReadWithin m (state.Reading h) b → HasReadWithin m (state.Reading k) (b ++ part)) same
     (λ s. read_more n k (b ++ part) (subst (λ (x : Held). StandsFor n x (b ++ part)) (sym is) (StandsFor-hold n h b part s.0 none)) room)
@@ -48,6 +50,7 @@ rejected_so most h b part more rejected s first line kept = record {
   then None k = tt
   then (Some at) k = k more
 
+-- where the rest of a line is refused, the text stops there
 pub line_stops : (n most : ℕ) (h : Held) (b line : List ℕ) (rejected : Rejected) → n ≡ most → IsComplete line → IsFaultGiven rejected.fault.kind rejected.fault (with_line n h line)
     → rejected.fault.line ≡ h.place.count + 1 → IsKeptAt h.place.stage (h.rest ++ line) rejected.before → HasReadWithin most (state.Reading h) b → StopsAt most b line rejected
 line_stops n most h b line rejected same complete given at kept = subst (λ (m : ℕ). HasReadWithin m (state.Reading h) b → StopsAt m b line rejected) same stops where
@@ -59,6 +62,7 @@ line_stops n most h b line rejected same complete given at kept = subst (λ (m :
         no_more = λ other more r x. no_more_line n h b line more r rejected.fault s.0 complete (bad other) x;
       }
 
+-- and so where a part of a line is refused, however the line goes on
 pub part_stops : (n most : ℕ) (h : Held) (b part : List ℕ) (rejected : Rejected) → n ≡ most → no_feed part ≡ true
     → (rejected.fault.kind ≢ NoMemory → (0 < length (h.rest ++ part)) × IsPast n (record { place = h.place; rest = h.rest ++ part }) rejected.fault)
     → rejected.fault.line ≡ h.place.count + 1 → rejected.before ≡ None → HasReadWithin most (state.Reading h) b → StopsAt most b part rejected
@@ -74,6 +78,7 @@ part_stops n most h b part rejected same none past at kept = subst (λ (m : ℕ)
 
 -- ---- the text has ended
 
+-- what is refused at the end of the text is a rejection of the whole text
 pub end_stops : (n most : ℕ) (h : Held) (b : List ℕ) (rejected : Rejected) → n ≡ most → IsFaultGiven rejected.fault.kind rejected.fault (ending n h)
     → (rejected.fault.kind ≡ NoMemory → rejected.fault.line ≡ h.place.count + 1) → (StandsFor n h b → IsKeptWithin n b rejected) → HasReadWithin most (state.Reading h) b → IsRejectionWithin most b rejected
 end_stops n most h b rejected same given at kept = subst (λ (m : ℕ). HasReadWithin m (state.Reading h) b → IsRejectionWithin m b rejected) same (λ s. record {

@@ -48,6 +48,7 @@ few_read most (state.Reading held) read has = has.1
 few_read most (state.Ended r) read has = has.within
 few_read most state.Failed read has = absurd has
 
+-- a breach that a look finds is a verdict on each whole run whose text begins so
 pub early_is_final : EarlyIsFinal
 early_is_final most text f judged whole early spells =
     let b = early.breach in
@@ -75,6 +76,7 @@ going_on (Some text) (Some rest) (Some left) read piece P before last p =
 
 -- ---- one more part of a piece
 
+-- what is left of a piece begins with its next line or part
 pub piece_is : (piece done line left after : List ℕ) → piece ≡ done ++ left → left ≡ line ++ after → piece ≡ done ++ (line ++ after)
 piece_is piece done line left after whole split = whole ∙ ap (λ xs. done ++ xs) split
 

@@ -7,6 +7,7 @@ module _ (n f : ℕ) (past : List Entry) (k : ℕ) (d : Det) (at : det_at past k
   same_det : (crash : ℕ → Bool) (p : ℕ) → (o : IsOrphan n past k crash p) → o.det ≡ d
   same_det crash p o = let e : Some o.det ≡ Some d = sym o.delivered ∙ at in cc
 
+  -- a crash set under which there is an orphan has all who are down or hold the determinant
   pub crash_contains : (crash : ℕ → Bool) (p : ℕ) → IsCrashSet n f past crash → IsOrphan n past k crash p → IsWithin n (gone past d) crash
   crash_contains crash p may orphan q below out =
       true_from_ne_false (crash q) (λ alive.
@@ -22,6 +23,7 @@ module _ (n f : ℕ) (past : List Entry) (k : ℕ) (d : Det) (at : det_at past k
     ap (λ e. logs past p e) (sym (same_det crash p o)) ∙ o.lost p o.process o.survives,
   )
 
+  -- a delivery that has an orphan is exposed
   pub exposed : HasOrphan n f past k → IsExposed n f past k d
   exposed has =
       let o = has.is_orphan in
@@ -35,6 +37,7 @@ module _ (n f : ℕ) (past : List Entry) (k : ℕ) (d : Det) (at : det_at past k
         without = without.1;
       }
 
+  -- those who are down or hold the determinant are a crash set, where they are few
   pub gone_crash : count_below n (gone past d) ≤ f → IsCrashSet n f past (gone past d)
   gone_crash few = record { down = λ q below down. or_left (is_down past q) (logs past q d) down; few = few }
 
@@ -50,6 +53,7 @@ module _ (n f : ℕ) (past : List Entry) (k : ℕ) (d : Det) (at : det_at past k
     lost = λ q _ alive. (or_parts (is_down past q) (logs past q d) alive).1;
   }
 
+  -- and one that is exposed has an orphan
   pub unexposed : IsExposed n f past k d → HasOrphan n f past k
   unexposed e = record {
     crash = gone past d;

@@ -19,6 +19,7 @@ module _ (P : List Entry → Type 0) (past : List Entry) (s : ℕ) where
       (step (s + more) found.0 (omega arith) (omega arith) found.1
       (onward_for more (omega (arith, within)) (λ v e above below at. step v e above (omega (arith, below)) at) here)))
 
+  -- what holds at an instant, and stays with each entry up to a later one, holds there
   pub onward_to : (t : ℕ) → s ≤ t → t ≤ length past → ((v : ℕ) (e : Entry) → s ≤ v → v < t → entry_at past v ≡ Some e → P (instant past v) → P (e ∷ instant past v)) → P (instant past s) → P (instant past t)
   onward_to t up within step here =
       let same : s + (t - s) ≡ t = omega (arith, up) in

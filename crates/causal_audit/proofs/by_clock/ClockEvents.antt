@@ -276,6 +276,7 @@ module _ (n : ℕ) (past : List Entry) (x : Entry) (c : Timeline) (present : Lis
   pub after_restart : (who : Pid) (listed : List Det) → x ≡ Restart who listed → Mirrors n (x ∷ past) (with_event (record c { lanes = c.lanes + 1; opened = c.opened + 1 }) (record { lane = c.lanes; send = None })) (slice_set present who.0 c.lanes)
   after_restart who listed is = noted _ _ (Restart who listed) is (λ legal. mirrors_restart n past c present who listed (record { lane = c.lanes; send = None }) m (restart_inside n past who listed legal.1) (omega arith) refl)
 
+-- a fault of the clock that is not want of lanes is want of memory
 pub only_memory : (e : ClockFault) → (e ≡ ClockLanes → ⊥) → e ≡ ClockNoMemory
 only_memory ClockLanes h = absurd (h refl)
 only_memory ClockNoMemory h = refl

@@ -6,6 +6,7 @@ use Rattle.causal_clock.specs.Precedence as clock
 use Rattle.causal_audit.specs.Inside.ByClock.Stands.{Stands}
 use Rattle.causal_audit.proofs.Legal.{sender_event, receiver_event}
 
+-- what delivers a message is an entry of the run
 pub delivers_below : (past : List Entry) (j i : ℕ) → Delivers past j i → j < length past
 delivers_below past j i h = let into = receiver_event past j i h in event_below past j into.0 into.1 into.2
 

@@ -43,6 +43,7 @@ event_kept zero past i p l at = at
 event_kept (suc m) [] i p l at = at
 event_kept (suc m) (e ∷ past) i p l at = inl (event_kept m past i p l at)
 
+-- an event at an instant is one of the run
 pub event_whole : (past : List Entry) (t i p l : ℕ) → IsEventOf (instant past t) i p l → IsEventOf past i p l
 event_whole past t i p l at = event_kept (length past - t) past i p l at
 
@@ -139,6 +140,7 @@ module _ (r : Recording) (formed : IsWellFormed r) (es : List Entry) (read : es 
   seen_after before after state sees =
       subst (λ past. IsDeliveryState past k d after) (sym next) (sees r.processes (instant r.past t) k d (accepted_next r formed t e below next) told clock_reached state)
 
+-- what the state at an instant tells of an orphan is so there
 pub breach_after : (r : Recording) (formed : IsWellFormed r) (f k : ℕ) (d : Det) (made : det_at r.past k ≡ Some d) (t : ℕ) (within : t ≤ length r.past) (s : DeliveryState) (found : Option Breach) → IsDeliveryState (instant r.past t) k d s → TellsBreachAt f k t s found → BreachAt r.processes f (instant r.past t) k t found
 breach_after r formed f k d made t within s found state tells =
     tells r.processes (instant r.past t) d (accepted_then r.processes r.past t formed.accepted) (instant_length r.past t within) (λ early. det_then r.past t k early within ∙ made) state

@@ -77,6 +77,7 @@ pub record HaveRenewed (e : Entry) (mentioned places rest : FinSet nat_cmp) (old
   pub ahead : (j : ℕ) → contains rest j ≡ true → copies_at now j ≡ copies_at old j
   pub others : (j : ℕ) → contains places j ≡ false → copies_at now j ≡ copies_at old j
 
+-- once one of the places left is renewed, it is left no longer
 pub renewed_more : (e : Entry) (mentioned places rest : FinSet nat_cmp) (old mid : List Copies) (p : ℕ) (here : Copies) → contains rest p ≡ true → p < length mid
     → HaveRenewed e mentioned places rest old mid → AreCopiesAfter e (contains mentioned p) (copies_at mid p) here
     → HaveRenewed e mentioned places (remove rest p) old (set mid p here)
@@ -174,6 +175,7 @@ pub record HaveJudged (r : Recording) (f : ℕ) (opened : List OpenDelivery) (t 
   pub each : (j : ℕ) → contains places j ≡ true → contains rest j ≡ false → Contains done (position_at opened j)
   pub found : LeastAmongBy r f (t + 1) done least
 
+-- while all places are left, no breach has been found
 pub judged_none : (r : Recording) (f : ℕ) (opened : List OpenDelivery) (t : ℕ) (places : FinSet nat_cmp) → HaveJudged r f opened t places places None
 judged_none r f opened t places = record {
   left = λ j h. h;
@@ -183,6 +185,7 @@ judged_none r f opened t places = record {
   found = among_none r f (t + 1);
 }
 
+-- once one of the places left is judged, it is left no longer, and its breach counts
 pub judged_more : (r : Recording) (f : ℕ) (opened : List OpenDelivery) (t : ℕ) (places rest : FinSet nat_cmp) (least found : Option Breach) (p : ℕ) → contains rest p ≡ true → HaveJudged r f opened t places rest least
     → Contains (positions_of opened) (position_at opened p) → FirstBreachBy r f (t + 1) (position_at opened p) found → HaveJudged r f opened t places (remove rest p) (earlier least found)
 judged_more r f opened t places rest least found p within so_far among first = record {
@@ -201,6 +204,7 @@ judged_more r f opened t places rest least found p within so_far among first = r
 
 -- ---- all of them
 
+-- a place is in a set, or it is not
 pub in_or_out : (s : FinSet nat_cmp) (j : ℕ) → (contains s j ≡ true) ⊎ (contains s j ≡ false)
 in_or_out s j = cases_Bool (contains s j)
 
@@ -258,6 +262,7 @@ module _ (old new : List (FinSet nat_cmp)) (p : ℕ) (places : FinSet nat_cmp) (
     | inr apart ↦ inr (apart.0, so q (subst (λ s. contains s j ≡ true) (others q (λ e. apart.1 (sym e))) h))
   ]
 
+-- after a delivery its receiver is known to hold what it was, and what is listed
 pub held_delivery : (to : Pid) (send rsn : ℕ) (listed : List Det) (mentioned : FinSet nat_cmp) (old new : List (FinSet nat_cmp)) → ((i : ℕ) → (i ≡ to.0 → ⊥) → row new i ≡ row old i)
     → ((j : ℕ) → contains (row new to.0) j ≡ true → contains (union (row old to.0) mentioned) j ≡ true)
     → (past : List Entry) (j : ℕ) (d : Det) → contains mentioned j ≡ has listed d → IsHeldSo past j d old → IsHeldSo (Deliver to send rsn listed ∷ past) j d new
@@ -270,6 +275,7 @@ held_delivery to send rsn listed mentioned old new others here past j d says so 
       | inr other ↦ or_right ((to.0 == q) && has listed d) (logs past q d) other.1
     ]
 
+-- after a forgetting its process is known to hold what it was, but for what is listed
 pub held_forget : (who : Pid) (listed : List Det) (mentioned : FinSet nat_cmp) (old new : List (FinSet nat_cmp)) → ((i : ℕ) → (i ≡ who.0 → ⊥) → row new i ≡ row old i)
     → ((j : ℕ) → contains (row new who.0) j ≡ true → contains (difference (row old who.0) mentioned) j ≡ true)
     → (past : List Entry) (j : ℕ) (d : Det) → contains mentioned j ≡ has listed d → IsHeldSo past j d old → IsHeldSo (Forget who listed ∷ past) j d new
@@ -281,6 +287,7 @@ held_forget who listed mentioned old new others here past j d says so q h =
       | inr other ↦ not_first (who.0 == q) (has listed d) (logs past q d) other.0 other.1
     ]
 
+-- after a crash its process is known to hold nothing
 pub held_crash : (who : Pid) (old new : List (FinSet nat_cmp)) → ((i : ℕ) → (i ≡ who.0 → ⊥) → row new i ≡ row old i)
     → ((j : ℕ) → contains (row new who.0) j ≡ true → contains {R = nat_cmp} empty j ≡ true)
     → (past : List Entry) (j : ℕ) (d : Det) → IsHeldSo past j d old → IsHeldSo (Crash who ∷ past) j d new
@@ -295,6 +302,7 @@ held_crash who old new others here past j d so q h =
 module _ (r : Recording) (opened : List OpenDelivery) (start : ℕ) (room : WalkBuffers) (t : ℕ) (e : Entry) (own new_ones : FinSet nat_cmp) (followed : IsFollowed r opened start t room) (formed : IsWellFormed r) (below : t < length r.past)
     (next : instant r.past (t + 1) ≡ e ∷ instant r.past t) (taken new : ReachingDeliveries) (same : ((v : ℕ) → (v ≡ t → ⊥) → row taken.rows.items v ≡ row room.reach.rows.items v) × (taken.start ≡ room.reach.start) × (taken.present.items ≡ room.reach.present.items))
     (is_own : IsOwn opened t own) (sees : SeesReach e t own taken new new_ones) where
+  -- what was seen of the entry is so for each delivery
   pub sees_each : (j : ℕ) (d : Det) → j < length opened → det_at r.past (position_at opened j) ≡ Some d
       → IsReach (e ∷ instant r.past t) (position_at opened j) j new × IsNewly (instant r.past t) e (position_at opened j) j new_ones
   sees_each j d low at =
@@ -337,6 +345,7 @@ emptied_next past t e old new here others emptied below v j x early there none h
   | inr apart ↦ below v j x (let ne : v ≡ t → ⊥ = apart.1 in omega (arith, early, ne)) there none (ap (λ s. contains s j) (sym (others v apart.1)) ∙ h)
 ]
 
+-- rows that are marked from t on are so from the next instant on, where only the row of t changes
 pub marked_next : (past : List Entry) (opened : List OpenDelivery) (t : ℕ) (old new : Sets) → length new ≡ length old → ((v : ℕ) → (v ≡ t → ⊥) → row new v ≡ row old v) → AreMarked past t opened (length opened) old
     → AreMarked past (t + 1) opened (length opened) new
 marked_next past opened t old new count others marked j low v d e late inside at there none =
@@ -432,6 +441,7 @@ pub record HavePassed (opened : List OpenDelivery) (t before passed : ℕ) (own 
   pub own_are : (j : ℕ) → (contains own j ≡ true) ↔ ((before ≤ j) × (j < passed))
   pub stand : (j : ℕ) → before ≤ j → j < passed → position_at opened j ≡ t
 
+-- a delivery that stands at t is passed too
 pub passed_more : (opened : List OpenDelivery) (t before passed : ℕ) (own : FinSet nat_cmp) → HavePassed opened t before passed own → passed < length opened → position_at opened passed ≡ t
     → HavePassed opened t before (passed + 1) (insert own passed)
 passed_more opened t before passed own have low here = record {
@@ -477,6 +487,7 @@ module _ (opened : List OpenDelivery) (t before passed : ℕ) (own : FinSet nat_
 
 -- ---- one place into one row
 
+-- a place that is inserted into a row is in that row, and nothing else changes
 pub put_in : (rows : Sets) (place r : ℕ) → r < length rows → IsPut place r rows (set rows r (insert (row rows r) place))
 put_in rows place r inside i j low =
     elim (eqb_tells i r) [

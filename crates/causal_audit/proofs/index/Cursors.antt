@@ -8,6 +8,7 @@ use Rattle.causal_audit.specs.Inside.ByClock.Changes.{HasNoneUntil, IsCursor}
 abbrev pub AreBelow : List ℕ → ℕ → ℕ → Type 0
 AreBelow list passed from = (i v : ℕ) → i < passed → get_or list i v < from
 
+-- what stands before the place of a number in a list is below it
 pub passed_at : (list : List ℕ) (from i : ℕ) → IsPartitionPoint (λ y. ltb y from ≡ true) (λ y. ltb y from ≡ false) list i → AreBelow list i from
 passed_at list from i point j v low = ltb-true (get_or list j v) from (point.0 j v (omega arith) low)
 

@@ -11,6 +11,7 @@ use Rattle.causal_audit.specs.Inside.Look.Staying.{restarts_one, RestartsNone}
 use Rattle.causal_audit.proofs.by_clock.Begun.{down_stays}
 use Rattle.causal_audit.proofs.Steps.{nobody_down}
 
+-- before the first entry there are no crashes and restarts
 pub turns_none : AreTurns [] [] []
 turns_none = record {
   ascends = record { ascending = λ i j d low high. absurd (omega (arith, high)); below = λ i d low. absurd (omega (arith, low)) };
@@ -32,10 +33,12 @@ module _ (past : List Entry) (list : List ℕ) (downs : List (FinSet nat_cmp)) (
         | inr ahead ↦ let high : t ≤ get_or list listed.0 v = point.1 listed.0 v ahead listed.1 in omega (arith, high, listed.2, early)
       ])
 
+  -- before the first of them nobody is down
   pub none_turned : passed ≡ 0 → Shows empty (λ p. is_down (instant past t) p)
   none_turned is p =
       nobody_down past p ∙ down_stays past 0 t (omega arith) within (no_turn 0 (λ i low. absurd (omega (arith, low, is)))) p
 
+  -- else those are that were after the last one
   pub last_turned : (j : ℕ) → passed ≡ j + 1 → (s : FinSet nat_cmp) → s ≡ get_or downs j s → Shows s (λ p. is_down (instant past t) p)
   last_turned j is s value p =
       let there : j < length list = omega (arith, is, inside) in
@@ -62,6 +65,7 @@ PassNone past list members from passed =
     (i : ℕ) (e : Entry) → i < passed → from ≤ get_or list i 0 → entry_at past (get_or list i 0) ≡ Some e → restarts_one members e ≡ false
 
 module _ (past : List Entry) (list : List ℕ) (downs : List (FinSet nat_cmp)) (are : AreTurns past list downs) (members : FinSet nat_cmp) (from passed : ℕ) (none : PassNone past list members from passed) where
+  -- so none of these processes restarts before what is left
   pub none_restarts : (u : ℕ) → ((i v : ℕ) → passed ≤ i → i < length list → u ≤ get_or list i v) → RestartsNone past members from u
   none_restarts u rest v e late early at =
       false_from_ne_true (restarts_one members e) (λ is.
@@ -73,11 +77,13 @@ module _ (past : List Entry) (list : List ℕ) (downs : List (FinSet nat_cmp)) (
       ])) ∙ restarts_turn members e is))
 
   module _ (x : ℕ) (there : passed < length list) (is : x ≡ get_or list passed x) where
+    -- nothing that is left comes before the next one
     pub left_above : (i v : ℕ) → passed ≤ i → i < length list → x ≤ get_or list i v
     left_above i v ahead inside =
         let up : get_or list passed v ≤ get_or list i v = are.ascends.ascending passed i v ahead inside in
         omega (arith, up, is, get_or_default list passed x v there)
 
+    -- an entry that restarts none of these is passed too
     pub passed_one_more : (e : Entry) → entry_at past x ≡ Some e → restarts_one members e ≡ false → PassNone past list members from (passed + 1)
     passed_one_more e at not_one i y low late here =
         elim (cases_lt i passed) [

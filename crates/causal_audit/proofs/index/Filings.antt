@@ -72,6 +72,7 @@ nothing_in lists all m v has =
       | inr beyond ↦ let is : list_at lists m ≡ [] = get_or-eq_default lists [] beyond in omega (arith, has.1, ap length is)
     ]
 
+-- what follows from what a success promises, it promises too
 pub on_ok : {A E P Q : Type 0} (r : Result A E) → (P → Q) → OnOk r P → OnOk r Q
 on_ok (Ok x) f h = f h
 on_ok (Err e) f h = tt
@@ -121,6 +122,7 @@ module _ (restarts : Bool) (e : Entry) (past : List Entry) (lists : List (List �
 
 -- ---- before the first entry
 
+-- empty lists are those of no entries
 pub turns_of_none : (restarts : Bool) (lists : List (List ℕ)) → All (λ list. list ≡ []) lists → AreTurnsOf restarts [] lists
 turns_of_none restarts lists all = record {
   ascend = empty_ascend lists all;
@@ -142,6 +144,7 @@ crash_from past p v (Deliver to send rsn listed) at is = absurd (false≢true is
 crash_from past p v (Stable det) at is = absurd (false≢true is)
 crash_from past p v (Forget who listed) at is = absurd (false≢true is)
 
+-- the first position after k in the list of a process is its first crash after k
 pub first_crash_is : (past : List Entry) (lists : List (List ℕ)) (p k end c : ℕ) → AreTurnsOf false past lists → k + 1 ≤ c → c ≤ end → HasNoneUntil (list_at lists p) (k + 1) c → (c < end → Contains (list_at lists p) c) → IsFirstCrash past p k end c
 first_crash_is past lists p k end c are after within none found = record {
   within = within;
@@ -157,6 +160,7 @@ abbrev pub RestNone : List (List ℕ) → FinSet nat_cmp → FinSet nat_cmp → 
 RestNone lists members rest from next =
     (p : ℕ) → contains members p ≡ true → contains rest p ≡ false → HasNoneUntil (list_at lists p) from next
 
+-- with one more asked, which does not restart before `nearer`, none of those asked does
 pub rest_less : (lists : List (List ℕ)) (members rest : FinSet nat_cmp) (from next nearer p : ℕ) → nearer ≤ next → HasNoneUntil (list_at lists p) from nearer → RestNone lists members rest from next → RestNone lists members (remove rest p) from nearer
 rest_less lists members rest from next nearer p low here none q member out =
     elim (left_out rest p q out) [
@@ -258,6 +262,7 @@ cases_of (Some j) lists m v w there has =
       | inr new ↦ inr (ap (λ x. Some x) new.0, new.1)
     ]
 
+-- once one more determinant of the next entry is noted, its list has the position of that
 pub mentions_more : (past : List Entry) (dets : List Det) (numbers : Numbers) (lists : List (List ℕ)) (det : Det) (m : ℕ) → number_of numbers det ≡ Some m → m < length lists → AreMentionsWith past dets numbers lists → AreMentionsWith past (dets ++ det ∷ []) numbers (with_added lists m (length past))
 mentions_more past dets numbers lists det m at there are =
     record {
@@ -280,6 +285,7 @@ mentions_more past dets numbers lists det m at there are =
 
 -- ---- before the first entry
 
+-- empty lists are those of no entries
 pub mentions_of_none : (numbers : Numbers) (lists : List (List ℕ)) → All (λ list. list ≡ []) lists → AreMentions [] numbers lists
 mentions_of_none numbers lists all = record {
   ascend = empty_ascend lists all;
@@ -293,6 +299,7 @@ mentions_of_none numbers lists all = record {
 
 -- ---- one more entry
 
+-- before the determinants of the next entry are noted, the lists are those of the run
 pub mentions_begun : (past : List Entry) (numbers : Numbers) (lists : List (List ℕ)) → AreMentions past numbers lists → AreMentionsWith past [] numbers lists
 mentions_begun past numbers lists are = record {
   ascend = ascend_weaker (length past) (length past + 1) lists (omega arith) are.ascend;
@@ -301,6 +308,7 @@ mentions_begun past numbers lists are = record {
   only = λ d v listed. inl (are.only d v listed);
 }
 
+-- once they all are, the lists are those of the run with it
 pub mentions_done : (e : Entry) (past : List Entry) (numbers : Numbers) (lists : List (List ℕ)) → AreMentionsWith past (mentioned_by e) numbers lists → AreMentions (e ∷ past) numbers lists
 mentions_done e past numbers lists are = record {
   ascend = let more : length past + 1 ≡ length (e ∷ past) = omega arith in subst (λ n. All (Ascends n) lists) more are.ascend;
@@ -320,6 +328,7 @@ mentions_done e past numbers lists are = record {
   ];
 }
 
+-- the positions of the entries that mention a determinant ascend
 pub mentions_ascend : (past : List Entry) (numbers : Numbers) (lists : List (List ℕ)) → AreMentions past numbers lists → (d : Det) → IsNonDecreasing (mentions_of numbers lists d)
 mentions_ascend past numbers lists are d = list_of (number_of numbers d)
   where

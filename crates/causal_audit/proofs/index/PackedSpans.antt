@@ -57,6 +57,7 @@ module _ (ps : List ℕ) (spans : List Span) (m v : ℕ) (s new : Span) (packed 
       ap (λ b. slice_range (set ps s.end v) b new.end) begin ∙ ap (slice_range (set ps s.end v) s.begin) end ∙ at_end ps v s own.order (omega (arith, room, own.within))
       ∙ ap (λ y. list_in ps y ++ v ∷ []) (sym (here s)) ∙ ap (λ l. l ++ v ∷ []) (sym (get_or-map (list_in ps) spans m s [] there))
 
+  -- the lists are those with the position added
   pub packed_more : map (list_in (set ps s.end v)) (set spans m new) ≡ with_added (map (list_in ps) spans) m v
   packed_more =
       let f = list_in (set ps s.end v) in
@@ -82,6 +83,7 @@ module _ (ps : List ℕ) (spans : List Span) (m v : ℕ) (s new : Span) (packed 
         | inr apart ↦ ap f (get_or-set_other spans m i new d apart.1)
       ]
 
+  -- and they are packed still
   pub packed_still : ArePacked (length (set ps s.end v)) (set spans m new)
   packed_still = subst (λ n. ArePacked n (set spans m new)) (sym (length-set ps s.end v)) (record {
     each = All-set (IsSpan (length ps)) spans m new (record { order = omega (arith, begin, end, own.order); room = omega (arith, end, limit, room); within = omega (arith, limit, own.within) }) packed.each;

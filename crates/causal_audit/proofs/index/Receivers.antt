@@ -118,6 +118,7 @@ process_of_event (e ∷ past) i p l (inl old) =
     process_older e past i (event_below past i p l old) ∙ process_of_event past i p l old
 process_of_event (e ∷ past) i p l (inr new) = ap (λ o. option_map_or acting o 0) (cond-true (i == length past) (Some e) (entry_at past i) (eq-eqb i (length past) new.0)) ∙ acting_is e p new.1
 
+-- the process of a position is that of the entry there
 pub process_is : (past : List Entry) (i : ℕ) (e : Entry) → entry_at past i ≡ Some e → process_at past i ≡ acting e
 process_is past i e at = ap (λ o. option_map_or acting o 0) at
 
@@ -189,6 +190,7 @@ fell_more (Restart who listed) past p l h =
     low (inr late) = omega (arith, late)
 fell_more (Forget who listed) past p l h = h
 
+-- such a delivery has no dependent any more
 pub crashed : CrashedHasNone
 crashed n past k d spread c u q formed at stays crash after before low within depends =
     let then = instant past (c + 1) in
@@ -301,6 +303,7 @@ noted_here (Crash who) i list s is there = absurd (false≢true is)
 noted_here (Restart who listed) i list s is there = absurd (false≢true is)
 noted_here (Forget who listed) i list s is there = absurd (false≢true is)
 
+-- what an entry notes adds no place
 pub noted_length : (e : Entry) (i : ℕ) (list : List ℕ) → length (with_delivered e i list) ≡ length list
 noted_length (Send from to ssn) i list = refl
 noted_length (Deliver to send rsn listed) i list = length-set list send i
@@ -322,6 +325,7 @@ module _ (n : ℕ) (past : List Entry) (formed : AreAccepted n past) (whose : �
   after : (j s : ℕ) → Delivers past j s → s < j
   after j s = accepted_forward n past formed j s
 
+  -- before any entry has been noted
   pub spreads_begun : (i : ℕ) (spreads outs : List ℕ) → i ≡ length past → length spreads ≡ length past → AreSpreadsFrom past whose i spreads outs
   spreads_begun i spreads outs end count = record {
     count = count;
@@ -382,6 +386,7 @@ module _ (n : ℕ) (past : List Entry) (formed : AreAccepted n past) (whose : �
               omega (arith, get_or-set_other outs lane (whose s) first 0 apart.1, before.outs s j (omega (arith, up, other)) delivers)
         ]
 
+    -- and with one more
     pub spreads_next : AreSpreadsFrom past whose i (slice_set noted i first) (slice_set outs lane first)
     spreads_next = record {
       count = length-set noted i first ∙ long;

@@ -67,6 +67,7 @@ over_then n f past d t u (inl stable) up within unstable few = false≢true (sym
 over_then n f past d t u (inr many) up within unstable few =
     omega (arith, few, many.1, count_below-within n (gone (instant past t) d) (gone (instant past u) d) (λ p _ here. gone_lasts past d t u many.0 up within p here))
 
+-- so no delivery with such a determinant has an orphan at a later instant
 pub orphans_end : OrphansEnd
 orphans_end n f past k d t u at over up within has =
     elim (cases_lt k u) [
@@ -78,10 +79,12 @@ orphans_end n f past k d t u at over up within has =
 
 -- ---- from which position on none is released
 
+-- none is released after the last entry
 pub none_beyond : (past : List Entry) (t : ℕ) → length past ≤ t → NoneReleasedFrom past t
 none_beyond [] t above = tt
 none_beyond (e ∷ past) t above = (none_beyond past t (omega (arith, above)), λ low. absurd (omega (arith, above, low)))
 
+-- and where none is from a position on, none is from a later one on
 pub none_later : (past : List Entry) (t u : ℕ) → t ≤ u → NoneReleasedFrom past t → NoneReleasedFrom past u
 none_later [] t u up none = tt
 none_later (e ∷ past) t u up none = (none_later past t u up none.0, λ late. none.1 (omega (arith, up, late)))

@@ -98,12 +98,14 @@ module _ (look : Look) (t next : ℕ) (s : Stretch) (passed : IsPassed look t ne
 -- ---- the last instant up to a bound
 
 module _ (xs : List Stretch) (bound passed : ℕ) (point : IsPartitionPoint (λ (s : Stretch). s.first ≤ bound) (λ (s : Stretch). bound < s.first) xs passed) where
+  -- no instant up to the bound is in a stretch, where none begins by it
   pub none_before : passed ≡ 0 → (u : ℕ) → u ≤ bound → IsInOne xs u → ⊥
   none_before none u low one =
       let ahead : bound < (get_or xs one.1.0 one.0).first = point.1 one.1.0 one.0 (omega (arith, none)) one.1.1 in
       let at : (get_or xs one.1.0 one.0).first ≡ one.0.first = cc (one.1.2) in
       omega (arith, ahead, at, one.2, low)
 
+  -- else each that is comes by the end of the last stretch that begins by it
   pub last_before : AreRising xs → 0 < passed → passed ≤ length xs → (x : Stretch) → x ≡ get_or xs (passed - 1) x → (u : ℕ) → u ≤ bound → IsInOne xs u → u ≤ min x.last bound
   last_before rising some inside x is u low one =
       elim (cases_lt one.1.0 passed) [
