@@ -1,14 +1,11 @@
 -- What is read of all entries.
-use Rattle.std.proofs.Common.{◌≡◌, ◌<◌, ◌+◌, ◌∙◌, ℕ, List, ◌∷◌, length, get_or, Option, Some, None, refl, ap, sym, subst, arith}
-use Rattle.std.specs.Option.{option_map}
+use Rattle.std.proofs.Common.{◌≡◌, ◌<◌, ◌+◌, ◌∙◌, ℕ, List, ◌∷◌, length, get_or, Option, ap, sym, subst, arith}
 use Rattle.causal_name.specs.declared.MsgName.{MsgName}
-use Rattle.causal_name.specs.declared.Pid.{Pid}
 use Rattle.std.specs.Prelude.{reverse}
 use Rattle.std.proofs.lemmas.List.{reverse-reverse}
 use Rattle.causal_trace.specs.declared.entry.Entry.{Entry}
-use Rattle.causal_trace.specs.Past.{det_from, det_of, det_at, is_message, message_at}
+use Rattle.causal_trace.specs.Past.{det_of, det_at}
 use Rattle.causal_text.specs.Deliveries.{delivered_at}
-use Rattle.causal_text.specs.Inside.Messages.{is_of}
 use Rattle.causal_name.specs.declared.Det.{Det}
 use Rattle.causal_trace.specs.State.{past_at}
 use Rattle.causal_trace.proofs.Lemmas.Instants.{past_more, past_length, past_whole, det_there}
@@ -21,13 +18,6 @@ whole past = past_whole (reverse past) ∙ reverse-reverse past
 pub own_at : (past : List Entry) (i : ℕ) (e : Entry) → i < length (reverse past) → e ≡ get_or (reverse past) i e → det_at past i ≡ det_of (past_at (reverse past) i) e
 own_at past i e below is =
     ap (λ (p : List Entry). det_at p i) (sym (whole past)) ∙ det_there (reverse past) (length (reverse past)) i e (omega arith) below ∙ ap (det_of (past_at (reverse past) i)) (sym is)
-
--- whether a delivery is that of a message is told by its determinant
-pub message_told : (past : List Entry) (to : Pid) (send rsn : ℕ) (m : MsgName) → is_of (option_map (det_from to rsn) (message_at past send)) m ≡ is_message (message_at past send) m
-message_told past to send rsn m = elim (message_at past send) as (λ o. is_of (option_map (det_from to rsn) o) m ≡ is_message o m) [
-  | None ↦ refl
-  | Some k ↦ refl
-]
 
 -- where a message was delivered, after one more entry
 pub found_next : (past es : List Entry) (i : ℕ) (e : Entry) (p : ℕ) (m : MsgName) (found next : Option ℕ) (own : Option Det) → es ≡ reverse past → i < length es → e ≡ get_or es i e

@@ -1,5 +1,5 @@
 -- What looks at a text find, as more of it comes.
-use Rattle.std.proofs.Common.{◌≡◌, ◌++◌, ◌⊎◌, ◌≤◌, inl, inr, ℕ, List, true, length, append_assoc, append-nil, sym, ap, subst, ◌∙◌, take, [], Option, Some, None}
+use Rattle.std.proofs.Common.{◌≡◌, ◌++◌, ◌⊎◌, inl, inr, ℕ, List, true, length, append_assoc, append-nil, sym, ap, subst, ◌∙◌, take, [], Option, Some, None}
 use Rattle.std.specs.Prelude.{IfSome}
 use Rattle.std.specs.Io.KnownBytes.{Consumes, IsAtEnd}
 use Rattle.causal_trace.specs.Judgement.{IsSafeTrace}
@@ -8,10 +8,6 @@ use Rattle.causal_text.specs.declared.before.Rejected.{Rejected}
 use Rattle.causal_text.specs.declared.kept.Unread.TheVariants as unread
 use Rattle.causal_text.specs.Begun.{BeginsWith, SaysSoFar, StopsAt}
 use Rattle.causal_text.specs.Pieces.{IsComplete}
-use Rattle.causal_text.specs.Stages.{text_within}
-use Rattle.causal_text.specs.Streams.{HasReadWithin}
-use Rattle.causal_text.specs.declared.stream.State.{State}
-use Rattle.causal_text.specs.declared.stream.State.TheVariants as state
 use Rattle.causal_text.proofs.Lemmas.GoesOn.{texts_go_on}
 use Rattle.causal_audit.proofs.Lemmas.Beginnings.{beginnings_decide}
 use Rattle.causal_workers.specs.Early.{EarlyIsFinal, FindsNoBreach, IsBreachSoFar, IsEarly, TellsUnjudged, is_look}
@@ -41,12 +37,6 @@ early_in most b done line after more f judged none complete breach = record {
   none = none;
   breach = breach;
 }
-
--- so many bytes were read at most
-pub few_read : (most : ℕ) (s : State) (read : List ℕ) → HasReadWithin most s read → length read ≤ text_within most
-few_read most (state.Reading held) read has = has.1
-few_read most (state.Ended r) read has = has.within
-few_read most state.Failed read has = absurd has
 
 -- a breach that a look finds is a verdict on each whole run whose text begins so
 pub early_is_final : EarlyIsFinal

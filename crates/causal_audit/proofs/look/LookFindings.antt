@@ -5,10 +5,6 @@ use Rattle.causal_audit.specs.declared.look.thin.Stretch.{Stretch}
 use Rattle.causal_audit.specs.declared.look.thin_stretches.ThinStretches.{ThinStretches}
 use Rattle.causal_audit.specs.Inside.Look.Looks.{IsPassed, IsBareAt, IsThinAt, AreFound, AreRising, IsInOne}
 
--- where nothing is looked at nothing is found
-pub none_rising : AreRising []
-none_rising = record { firsts = λ i j d low high. absurd (omega (arith, high)); lasts = λ i j d low high. absurd (omega (arith, high)) }
-
 -- ---- one stretch more
 
 module _ (look : Look) (t next : ℕ) (s : Stretch) (passed : IsPassed look t next s) (old new : ThinStretches) (same : new.from ≡ old.from) (found : AreFound look t old) where
