@@ -5,11 +5,17 @@
 //! through once there is some.
 #![tactic(auto)]
 
+/// The calls of a core.
 mod cores;
+/// A trace that is read and judged.
 mod readings;
+/// The processes of the runs: a ring of three.
 mod rings;
+/// A script that is run.
 mod scripts;
+/// The calls of a shared runtime, by one seat.
 mod seats;
+/// What is told of each call: what came of it on standard output, and that it was refused on standard error.
 mod told;
 
 use std::alloc::Global;

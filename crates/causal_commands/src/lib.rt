@@ -12,19 +12,33 @@
 
 /// What the runtime has recorded, audited.
 pub mod accepted;
+/// What is said of a text that is no trace, in words.
 pub mod complaints;
+/// How a run of the program ends.
 pub mod ended;
+/// What a script may have where a line is none of it.
 pub mod hint;
+/// The program's work of answering as JSON, over any reader and writer.
 pub mod json;
+/// From the text of a trace to its verdict.
 pub mod judged;
+/// The merge of the recordings of a run, over any reader and writer.
 pub mod merging;
+/// A stream that notes with which error it failed, so that the reason can be told.
 pub mod noted;
+/// The program's work of telling for which numbers of faults a run is safe, over any reader and writer.
 pub mod range;
+/// Bytes from a reader, up to so many: the text of a script, or recordings.
 pub mod reading;
+/// What more there is to say of a text that is no trace.
 pub mod remark;
+/// The run of a script, over any reader and writer.
 pub mod script;
+/// The program's work of showing why a verdict is so, over any reader and writer: as text, or as a picture.
 pub mod shown;
+/// The program's work over any reader and writer.
 pub mod stream;
+/// The work of `audit` that ends at the first breach that it finds, over any reader and writer.
 pub mod until;
 
 pub use accepted::audited;

@@ -22,7 +22,8 @@ pub(crate) struct Carried {
 impl Carried {
     /// The items that messages still carry.
     pub(crate) fn still(&self, alloc: Global, entries: &Table) -> Result<Vec<Item>, NoMemory>
-        ensures { IfOk result (λ items. items.items ≡ still_carried self.now (log_of entries.now.entries)) }
+        ensures { IfOk result (λ items. items.items ≡
+            still_carried self.now (log_of entries.now.entries)) }
     {
         let items = self.batch.as_slice();
         if !self.is_marked {

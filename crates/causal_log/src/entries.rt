@@ -21,7 +21,8 @@ pub(crate) fn dets(alloc: Global, entries: &[(Det, Known)]) -> Result<Vec<Det>, 
 
 /// The determinants that are known to be stable.
 pub(crate) fn stable_dets(alloc: Global, entries: &[(Det, Known)]) -> Result<Vec<Det>, NoMemory>
-    ensures { IfOk result (λ dets. dets.items ≡ map (λ e. e.0) (filter (λ e. e.1.stable) entries.now)) }
+    ensures { IfOk result (λ dets. dets.items ≡
+        map (λ e. e.0) (filter (λ e. e.1.stable) entries.now)) }
 {
     let stable = entries.iter().filter(|(_, known)| known.stable);
     Ok(stable.map(|(det, _)| *det).collect(alloc)?)
@@ -29,7 +30,8 @@ pub(crate) fn stable_dets(alloc: Global, entries: &[(Det, Known)]) -> Result<Vec
 
 /// The other determinants.
 pub(crate) fn unstable_dets(alloc: Global, entries: &[(Det, Known)]) -> Result<Vec<Det>, NoMemory>
-    ensures { IfOk result (λ dets. dets.items ≡ map (λ e. e.0) (filter (λ e. not e.1.stable) entries.now)) }
+    ensures { IfOk result (λ dets. dets.items ≡
+        map (λ e. e.0) (filter (λ e. not e.1.stable) entries.now)) }
 {
     let unstable = entries.iter().filter(|(_, known)| !known.stable);
     Ok(unstable.map(|(det, _)| *det).collect(alloc)?)
@@ -49,7 +51,8 @@ pub(crate) fn carried(
     entries: &[(Det, Known)],
     f: u16,
 ) -> Result<Vec<Item>, NoMemory>
-    ensures { IfOk result (λ items. items.items ≡ map item_of (filter (λ e. is_carried f e.1) entries.now)) }
+    ensures { IfOk result (λ items. items.items ≡
+        map item_of (filter (λ e. is_carried f e.1) entries.now)) }
 {
     let carried = entries.iter().filter(|(_, known)| known.is_carried(f));
     let items = carried.map(|(det, known)| Item {

@@ -37,7 +37,8 @@ pub fn absorbing_law()
         items) }
     ensures stable { (items : List Item) (from me : Pid) (log : LogMap) (det : Det) →
         (known_of (absorbed items from me log) det).stable ≡ (known_of log det).stable }
-    ensures size { (items : List Item) (from me : Pid) (log : LogMap) → is_ascending (dets_of items) ≡ true →
+    ensures size { (items : List Item) (from me : Pid) (log : LogMap) →
+        is_ascending (dets_of items) ≡ true →
         fin.len (absorbed items from me log) ≡ fin.len log + length (unknown_to log (dets_of items)) }
 {}
 
@@ -90,9 +91,11 @@ pub fn places_law()
 /// a mark; the others ascend, and are just those that are logged without one. Together they are all, and the others are what
 /// is left once the stable ones are taken out.
 pub fn listing_law()
-    ensures logged { (log : LogMap) (det : Det) → list_any (same_det det) (fin.keys log) ≡ is_some (fin.get log det) }
+    ensures logged { (log : LogMap) (det : Det) →
+        list_any (same_det det) (fin.keys log) ≡ is_some (fin.get log det) }
     ensures stable_ascends { (log : LogMap) → is_ascending (stable_in log) ≡ true }
-    ensures stable { (log : LogMap) (det : Det) → list_any (same_det det) (stable_in log) ≡ (known_of log det).stable }
+    ensures stable { (log : LogMap) (det : Det) →
+        list_any (same_det det) (stable_in log) ≡ (known_of log det).stable }
     ensures unstable_ascends { (log : LogMap) → is_ascending (unstable_in log) ≡ true }
     ensures unstable { (log : LogMap) (det : Det) →
         list_any (same_det det) (unstable_in log) ≡ (is_some (fin.get log det) && not (known_of log det).stable) }
@@ -102,12 +105,15 @@ pub fn listing_law()
 
 /// The first determinant of a slot in an ascending list is the least one of that slot.
 pub fn slot_law()
-    ensures fills { (dest : Pid) (rsn : ℕ) (dets : List Det) (least : Det) → first_of_slot dest rsn dets ≡ Some least →
+    ensures fills { (dest : Pid) (rsn : ℕ) (dets : List Det) (least : Det) →
+        first_of_slot dest rsn dets ≡ Some least →
         (is_of_slot dest rsn least ≡ true) × (list_any (same_det least) dets ≡ true) }
-    ensures least { (dest : Pid) (rsn : ℕ) (dets : List Det) (least det : Det) → is_ascending dets ≡ true →
+    ensures least { (dest : Pid) (rsn : ℕ) (dets : List Det) (least det : Det) →
+        is_ascending dets ≡ true →
         first_of_slot dest rsn dets ≡ Some least → list_any (same_det det) dets ≡ true →
         is_of_slot dest rsn det ≡ true → (least ≡ det) ⊎ (is_before least det ≡ true) }
-    ensures none { (dest : Pid) (rsn : ℕ) (dets : List Det) (det : Det) → first_of_slot dest rsn dets ≡ None →
+    ensures none { (dest : Pid) (rsn : ℕ) (dets : List Det) (det : Det) →
+        first_of_slot dest rsn dets ≡ None →
         list_any (same_det det) dets ≡ true → is_of_slot dest rsn det ≡ false }
 {}
 
@@ -116,6 +122,7 @@ pub fn slot_law()
 pub fn storing_law()
     ensures ascending { (s : DetSet) → is_ascending (dets_in s) ≡ true }
     ensures listed { (s : DetSet) (det : Det) → has s det ≡ list_any (same_det det) (dets_in s) }
-    ensures stored { (s : DetSet) (det other : Det) → has (with_det s det) other ≡ (same_det other det || has s other) }
+    ensures stored { (s : DetSet) (det other : Det) →
+        has (with_det s det) other ≡ (same_det other det || has s other) }
     ensures empty { (s : DetSet) → count_in s ≡ 0 → s ≡ fin.empty }
 {}

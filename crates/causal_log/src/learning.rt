@@ -23,7 +23,8 @@ pub(crate) fn learn(entries: &mut Table, det: Det, heard: Known)
 /// Learns what the items of a message from one process tell another, in room made before.
 pub(crate) fn learn_items(entries: &mut Table, items: &[Item], from: Pid, me: Pid)
     requires room { length items.now ≤ entries.old.spare }
-    ensures learned { log_of entries.new.entries ≡ absorbed items.now from me (log_of entries.old.entries) }
+    ensures learned { log_of entries.new.entries ≡
+        absorbed items.now from me (log_of entries.old.entries) }
     ensures spare { entries.old.spare ≤ entries.new.spare + length items.now }
 {
     for item in items {
@@ -35,7 +36,8 @@ pub(crate) fn learn_items(entries: &mut Table, items: &[Item], from: Pid, me: Pi
 /// Learns what other entries say, in room made before.
 pub(crate) fn learn_entries(entries: &mut Table, others: &[(Det, Known)])
     requires room { length others.now ≤ entries.old.spare }
-    ensures learned { log_of entries.new.entries ≡ learned_all others.now (log_of entries.old.entries) }
+    ensures learned { log_of entries.new.entries ≡
+        learned_all others.now (log_of entries.old.entries) }
     ensures spare { entries.old.spare ≤ entries.new.spare + length others.now }
 {
     for (det, heard) in others {

@@ -29,26 +29,37 @@
 //!
 //! A store that keeps a list of its members, in whatever order, takes `set_of` of the list as its contents; the lemmas of
 //! `proofs/Lemmas/Storing.antt` prove its answers. One that wraps another store passes on that one's contents, and adds its own
-//! faults. `MemStable` is an example of the first, `FailingStore` of the second.
+//! faults. `MemStable` is an example of the first, `FailingStore` in `causal_runtime_testing` of the second.
 #![tactic(auto)]
 
+/// What a message carries.
 mod batch;
+/// What messages carry, kept beside a log.
 mod carried;
+/// What is asked of all entries of a volatile log.
 mod entries;
-mod failing;
+/// Where the entries of a log stand.
 mod index;
+/// What a process knows of a determinant.
 mod known;
+/// Laws of logs, piggybacks and stable storage, in plain words.
 pub mod laws;
+/// What a log learns of determinants.
 mod learning;
+/// The volatile log of a process.
 mod log;
+/// Stable storage in memory, for programs that need no device.
 mod memory;
+/// What messages will carry once a delivery is taken in, worked out beside the log.
 mod merging;
+/// What is asked of determinants in no order: the least of a slot, and which one so many come before.
 mod ranks;
+/// Stable storage.
 mod stable;
+/// Entries of determinants in the order in which they came, each found by its slot.
 mod table;
 
 pub use batch::{Batch, Item};
-pub use failing::FailingStore;
 pub use known::Known;
 pub use log::Log;
 pub use memory::MemStable;

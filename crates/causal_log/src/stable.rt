@@ -33,7 +33,8 @@ pub trait Stable: Drop {
         ensures err { OnErr result (contents self.new ≡ contents self.old) }
         ensures device { result ≡ Err PutFault.Device → faults self.new ≡ faults self.old + 1 }
         ensures kept { faults self.old ≤ faults self.new }
-        ensures member { KeepsMember det (contents self.old) (contents self.new) (faults self.old) (faults self.new) };
+        ensures member { KeepsMember det
+        (contents self.old) (contents self.new) (faults self.old) (faults self.new) };
 
     /// Whether a determinant is in the set.
     fn contains(&self, det: Det) -> bool

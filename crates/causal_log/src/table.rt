@@ -90,8 +90,10 @@ impl Table {
 
     /// The place of a determinant's entry, and what is known of it.
     pub(crate) fn find(&self, det: Det) -> Option<(usize, Known)>
-        ensures known { option_map (λ found. found.1) result ≡ fin.get (log_of self.now.entries) det }
-        ensures place { IfSome result (λ found. slice_get self.now.entries found.0 ≡ Some (det, found.1)) }
+        ensures known { option_map (λ found. found.1) result ≡
+            fin.get (log_of self.now.entries) det }
+        ensures place { IfSome result (λ found. slice_get self.now.entries found.0 ≡
+            Some (det, found.1)) }
         ensures within { IfSome result (λ found. found.0 < length self.now.entries) }
     {
         let heads = self.heads.as_slice();
@@ -119,7 +121,8 @@ impl Table {
     /// Changes what is known of the determinant at a place.
     pub(crate) fn set(&mut self, place: usize, known: Known)
         requires { place < length self.old.entries }
-        ensures put { (det : Det) (was : Known) → slice_get self.old.entries place ≡ Some (det, was) →
+        ensures put { (det : Det) (was : Known) →
+            slice_get self.old.entries place ≡ Some (det, was) →
             log_of self.new.entries ≡ fin.insert (log_of self.old.entries) det known }
         ensures keys { keys_of self.new.entries ≡ keys_of self.old.entries }
         ensures spare { self.new.spare ≡ self.old.spare }

@@ -100,7 +100,9 @@ pub use ring::Ring;
 pub use sequence::Sequence;
 pub use tally::Tally;
 
+/// The process of the crate's documentation, compiled and proved.
 #[cfg(test)]
 mod example;
+/// The tests of the kinds of process.
 #[cfg(test)]
 mod tests;

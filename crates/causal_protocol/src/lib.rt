@@ -5,6 +5,9 @@
 //! theorem. [`request`] has the requests, replies and faults that a runtime hands on.
 #![tactic(auto)]
 
+/// Laws over the definitions.
 pub mod laws;
+/// How long a run that a core makes may be.
 pub mod limits;
+/// What is asked of the runtime, and what it tells.
 pub mod request;

@@ -1,7 +1,10 @@
 //! What the program's commands write, and how they end, where readers and writers give and take little, or fail. What they answer to
 //! given texts are rows for the built program (`examples/commands/`).
+/// What the program writes to recordings, and how it ends, where readers and writers give and take little, or fail.
 mod merging;
+/// What the program prints for a script, and how it ends, where readers and writers give and take little, or fail.
 mod running;
+/// What the program shows of a verdict, where a reader and a writer fail.
 mod showing;
 
 use causal_commands::{Ended, audit_stream};

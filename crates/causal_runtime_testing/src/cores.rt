@@ -1,16 +1,21 @@
 //! What is told between a crash and the end of its replay, faults of memory and of stores, and the limit on entries, on cores of the
 //! kinds of process that come with the runtime.
+use crate::failing::FailingStore;
 use crate::runtime::*;
 use causal_core::{Core, CoreFault, Delivered, FlushFault, Reply, Restarted, StartFault};
-use causal_log::{FailingStore, MemStable};
+use causal_log::MemStable;
 use causal_name::{NoMemory, Pid};
 use causal_process::Ring;
 use causal_testing::{Fields, det};
 use std::alloc::Global;
 
+/// Processes for tests: one that sends all that it may, and one whose memory is refused once.
 pub(crate) mod doubles;
+/// How a core begins or does not, and what is left where memory or the store failed.
 mod faults;
+/// A trace that runs full.
 mod limits;
+/// What is told between a crash and the end of its replay.
 mod recovery;
 
 /// Cores here have a store that may fail, also where it never does, so that one function owns all of them.

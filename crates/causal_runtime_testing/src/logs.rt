@@ -1,6 +1,7 @@
 //! Each call once, on values worked out by hand: logs and the batches that they choose, and the two stores.
+use crate::failing::FailingStore;
 use causal_holders::Holders;
-use causal_log::{Batch, FailingStore, Item, Known, Log, MemStable, PutFault, Stable};
+use causal_log::{Batch, Item, Known, Log, MemStable, PutFault, Stable};
 use causal_name::{Det, MsgName, Pid, Slot};
 use causal_testing::{Fields, det};
 use std::alloc::Global;

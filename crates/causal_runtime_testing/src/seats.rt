@@ -12,10 +12,15 @@ use causal_shared::shared::{Finished, Shared, finish};
 use std::alloc::Global;
 use std::sync::Wait;
 
+/// What single calls answer, and what the seats then know.
 mod calls;
+/// A process that is refused memory once.
 mod doubles;
+/// A history that takes no further item.
 mod full;
+/// Eight seats on eight threads that ask for what comes up.
 mod random;
+/// Two seats on two threads, neither of which gets on without the other.
 mod threads;
 
 /// A core of these processes, for f failures.

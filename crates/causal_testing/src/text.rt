@@ -3,7 +3,9 @@ use causal_text::{read_trace, text_of};
 use causal_trace::trace::Trace;
 use std::alloc::Global;
 
+/// Texts that are read by limits which the caller sets.
 mod limits;
+/// Texts that come from a reader, and go to a writer.
 mod streams;
 
 /// Whether a trace is the ring's, pushed entry by entry.

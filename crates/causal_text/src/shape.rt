@@ -1,4 +1,5 @@
 //! From a JSON value to what a line says.
+/// The shapes of a line.
 mod whole;
 
 use causal_trace::entry::Entry;

@@ -13,9 +13,13 @@ ghost use Rattle.causal_commands.specs.Endings.{status_of};
 ghost use Rattle.causal_commands.specs.Json.{HasFewWorkers};
 ghost use Rattle.causal_tool.specs.Words.{HasWorkers};
 
+/// What the help of each command says after its options.
 mod helps;
+/// What is said of recordings.
 mod merging;
+/// A stream that tells a person at a terminal how far the reading of a long text has come.
 mod watched;
+/// The command line.
 mod words;
 
 use crate::merging::complain_of_recordings;

@@ -7,11 +7,17 @@
 //! [`verdict_line`] prints what they answer.
 #![tactic(auto)]
 
+/// The audit of a trace by workers.
 pub mod divided;
+/// The verdict on the text of a source as soon as a look at what was read finds a breach, without reading on.
 pub mod early;
+/// What each worker passes before it begins.
 pub mod gate;
+/// From a text to the verdict on the trace that it spells.
 pub mod judged;
+/// How a verdict prints.
 pub mod line;
+/// The work of one worker.
 mod share;
 
 pub use divided::{AuditFault, audit};

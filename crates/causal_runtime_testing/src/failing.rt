@@ -1,13 +1,12 @@
-//! Stable storage with a fault, for tests.
+//! Stable storage whose device fails once.
 ghost use Rattle.std.specs.Prelude.{◌≡◌, Some};
 ghost use Rattle.std.specs.FinMap as fin;
 
-use crate::memory::MemStable;
-use crate::stable::{PutFault, Stable};
+use causal_log::{MemStable, PutFault, Stable};
 use causal_name::{Det, NoMemory, Slot};
 use std::alloc::Global;
 
-/// Stable storage in memory whose device fails once, for tests of what a fault leaves.
+/// Stable storage in memory whose device fails once.
 #[derive(Debug, Drop)]
 pub struct FailingStore {
     /// What it has stored.
@@ -21,7 +20,8 @@ pub struct FailingStore {
 impl FailingStore {
     /// With no member. Its device takes this many determinants, fails at the next one, and takes all from then on.
     pub fn new(alloc: Global, before_fault: u64) -> FailingStore
-        ensures { result ≡ record { store = fin.empty; before_fault = Some before_fault; failures = 0 } }
+        ensures { result ≡
+            record { store = fin.empty; before_fault = Some before_fault; failures = 0 } }
     {
         FailingStore {
             store: MemStable::new(alloc),
@@ -37,17 +37,16 @@ impl Stable for FailingStore {
     ghost faults = { λ store. store.failures };
 
     fn put(&mut self, det: Det) -> Result<(), PutFault> {
-        if self.store.contains(det) {
-            return Ok(());
-        }
-        match self.before_fault {
-            Some(0) => {
-                self.before_fault = None;
-                self.failures += 1;
-                return Err(PutFault::Device);
+        if !self.store.contains(det) {
+            match self.before_fault {
+                Some(0) => {
+                    self.before_fault = None;
+                    self.failures += 1;
+                    return Err(PutFault::Device);
+                }
+                Some(left) => self.before_fault = Some(left - 1),
+                None => {}
             }
-            Some(left) => self.before_fault = Some(left - 1),
-            None => {}
         }
         self.store.put(det)
     }
