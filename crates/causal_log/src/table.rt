@@ -19,8 +19,9 @@ use causal_name::{Det, NoMemory, Slot};
 use std::alloc::Global;
 use std::marker::Model;
 
-/// The fewest heads of a table with entries.
-const FEWEST_HEADS: usize = 2048;
+/// The fewest heads of a table with room for as many entries at most, and of one with more, or with crowded heads.
+const FEW: usize = 128;
+const MANY: usize = 2048;
 
 /// How far a turn is from the one before: far enough that what shared a head is spread over many.
 const TURN: u8 = 37;
@@ -160,9 +161,10 @@ impl Table {
             return Err(NoMemory);
         }
         let before = self.dets.capacity();
-        self.entries.reserve(more)?;
         self.dets.reserve(more)?;
-        self.older.reserve(more)?;
+        let room = self.dets.capacity().min(u32::MAX as usize) - self.dets.len();
+        self.entries.reserve(room)?;
+        self.older.reserve(room)?;
         // more than half of the entries came to a head that led to another one already
         let is_crowded = before < self.dets.capacity()
             && self.older.iter().filter(|place| place.is_some()).count() > self.older.len() / 2;
@@ -174,7 +176,7 @@ impl Table {
             &mut self.turn,
             is_crowded,
         )?;
-        self.room = more;
+        self.room = room;
         Ok(())
     }
 
@@ -252,8 +254,8 @@ fn widen(
     if least == heads.len() && !is_turned {
         return Ok(());
     }
-    let count = least.max(FEWEST_HEADS).checked_next_power_of_two();
-    let count = count.ok_or(NoMemory)?;
+    let fewest = if least <= FEW && !is_turned { FEW } else { MANY };
+    let count = least.max(fewest).checked_next_power_of_two().ok_or(NoMemory)?;
     heads.resize(count, None)?;
     if is_turned {
         *turn = turn.wrapping_add(TURN);

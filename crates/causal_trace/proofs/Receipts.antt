@@ -1,5 +1,5 @@
 -- The receipts of a message tell who delivered it, and in which lane.
-use Rattle.std.proofs.Common.{ℕ, ◌≡◌, ◌+◌, ◌<◌, ◌≤◌, inl, inr, Bool, true, false, cond, ◌==◌, List, [], ◌∷◌, Some, None, refl, sym, ap, ◌∙◌, arith}
+use Rattle.std.proofs.Common.{ℕ, ◌≡◌, ◌+◌, ◌<◌, ◌≤◌, inl, inr, Bool, true, false, cond, ◌==◌, List, [], ◌∷◌, Some, None, refl, sym, ap, subst, ◌∙◌, arith}
 use Rattle.std.specs.Prelude.{◌||◌, ◌&&◌, not}
 use Rattle.std.specs.Option.{option_map}
 use Rattle.std.specs.List.{list_any}
@@ -12,9 +12,9 @@ use Rattle.causal_name.specs.declared.Det.{Det}
 use Rattle.causal_trace.specs.declared.entry.Entry.{Entry}
 use Rattle.causal_trace.specs.declared.entry.Entry.TheVariants.{Send, Deliver, Stable, Crash, Restart, Forget}
 use Rattle.causal_trace.specs.declared.chains.Receipt.{Receipt}
-use Rattle.causal_trace.specs.declared.chains.Sought.TheVariants.{AsNumber, InLane}
+use Rattle.causal_trace.specs.declared.chains.Sought.TheVariants.{AsNumber}
 use Rattle.causal_trace.specs.Past.{lane, message_at, det_from, is_det, is_message, is_delivered, has_delivered}
-use Rattle.causal_trace.specs.Inside.Chains.{receipts, is_sought}
+use Rattle.causal_trace.specs.Inside.Chains.{receipts, is_newest_in, is_sought}
 use Rattle.causal_trace.specs.Rows.{AreAccepted}
 use Rattle.causal_trace.proofs.LaneRecords.{subject_there}
 
@@ -39,24 +39,29 @@ delivered_told (Deliver to send rsn listed ∷ past) d =
       | Some k ↦ number_says (same_pid k.source d.source) (k.ssn == d.ssn) (same_pid to d.dest && rsn == d.rsn) receipt (receipts past (message_of d)) (is_sought d.dest (AsNumber d.rsn)) (is_delivered past d) refl (delivered_told past d)
     ]
 
--- a lane above another is not it
-apart : (q p lane_of_q lane_of_p l : ℕ) → (q ≡ p → lane_of_q ≡ lane_of_p) → lane_of_p < l → ((q == p) && (lane_of_q == l)) ≡ false
-apart q p lq lp l same h =
-    elim (eqb_tells q p) [
-      | inl is ↦ ap (λ b. b && (lq == l)) is.0 ∙ ne_eqb lq l (λ e. omega (arith, e, same is.1, h))
-      | inr other ↦ ap (λ b. b && (lq == l)) other.0
-    ]
+-- the newest receipt, with one more receipt if it is of the message
+newest_more : (b : Bool) (receipt : Receipt) (rest : List Receipt) (p : Pid) (l : ℕ) → is_newest_in p l (cond b (receipt ∷ rest) rest) ≡ cond (same_pid receipt.dest p && b) (receipt.lane == l) (is_newest_in p l rest)
+newest_more true receipt rest p l =
+    elim (receipt.dest.0 == p.0) as (λ a. cond a (receipt.lane == l) (is_newest_in p l rest) ≡ cond (a && true) (receipt.lane == l) (is_newest_in p l rest)) [ true ↦ refl | false ↦ refl ]
+newest_more false receipt rest p l =
+    elim (receipt.dest.0 == p.0) as (λ a. is_newest_in p l rest ≡ cond (a && false) (receipt.lane == l) (is_newest_in p l rest)) [ true ↦ refl | false ↦ refl ]
 
-not_yet : (b : Bool) (receipt : Receipt) (rest : List Receipt) (test : Receipt → Bool) → test receipt ≡ false → list_any test rest ≡ false → list_any test (cond b (receipt ∷ rest) rest) ≡ false
-not_yet true receipt rest test none before = ap (λ x. x || list_any test rest) none ∙ before
-not_yet false receipt rest test none before = before
+-- a lane above another is not it
+apart : (q p lane_of_q lane_of_p l : ℕ) (b rest : Bool) → (q ≡ p → lane_of_q ≡ lane_of_p) → lane_of_p < l → rest ≡ false → cond ((q == p) && b) (lane_of_q == l) rest ≡ false
+apart q p lq lp l b rest same h none =
+    elim (eqb_tells q p) [
+      | inl is ↦
+          subst (λ a. cond (a && b) (lq == l) rest ≡ false) (sym is.0)
+          (elim b as (λ c. cond (true && c) (lq == l) rest ≡ false) [ true ↦ ne_eqb lq l (λ e. omega (arith, e, same is.1, h)) | false ↦ none ])
+      | inr other ↦ subst (λ a. cond (a && b) (lq == l) rest ≡ false) (sym other.0) none
+    ]
 
 lane_below : (who past_lane l : ℕ) (b : Bool) → cond b (past_lane + 1) past_lane < l → past_lane < l
 lane_below who n l true h = omega (arith, h)
 lane_below who n l false h = h
 
 -- no receipt is of a lane that is yet to come
-pub none_ahead : (past : List Entry) (m : MsgName) (p : Pid) (l : ℕ) → lane past p.0 < l → list_any (is_sought p (InLane l)) (receipts past m) ≡ false
+none_ahead : (past : List Entry) (m : MsgName) (p : Pid) (l : ℕ) → lane past p.0 < l → is_newest_in p l (receipts past m) ≡ false
 none_ahead [] m p l h = refl
 none_ahead (Send from to ssn ∷ past) m p l h = none_ahead past m p l h
 none_ahead (Stable x ∷ past) m p l h = none_ahead past m p l h
@@ -64,36 +69,34 @@ none_ahead (Crash who ∷ past) m p l h = none_ahead past m p l h
 none_ahead (Forget who listed ∷ past) m p l h = none_ahead past m p l h
 none_ahead (Restart who listed ∷ past) m p l h = none_ahead past m p l (lane_below who.0 (lane past p.0) l (who.0 == p.0) h)
 none_ahead (Deliver to send rsn listed ∷ past) m p l h =
-    not_yet (is_message (message_at past send) m) (record { dest = to; lane = lane past to.0; rsn = rsn }) (receipts past m) (is_sought p (InLane l)) (apart to.0 p.0 (lane past to.0) (lane past p.0) l (ap (lane past)) h) (none_ahead past m p l h)
+    newest_more (is_message (message_at past send) m) (record { dest = to; lane = lane past to.0; rsn = rsn }) (receipts past m) p l
+    ∙ apart to.0 p.0 (lane past to.0) (lane past p.0) l (is_message (message_at past send) m) (is_newest_in p l (receipts past m)) (ap (lane past)) h (none_ahead past m p l h)
 
 -- one more receipt, if it is of the message, answers like the delivery in the present lane
-lane_says : (q p lane_of_q lane_of_p : ℕ) (b : Bool) (receipt : Receipt) (rest : List Receipt) (test : Receipt → Bool) (old : Bool) → (q ≡ p → lane_of_q ≡ lane_of_p) → test receipt ≡ ((q == p) && (lane_of_q == lane_of_p)) → old ≡ list_any test rest → (((q == p) && b) || old) ≡ list_any test (cond b (receipt ∷ rest) rest)
-lane_says q p lq lp false receipt rest test old same is was = elim (q == p) as (λ a. ((a && false) || old) ≡ list_any test rest) [ true ↦ was | false ↦ was ]
-lane_says q p lq lp true receipt rest test old same is was =
+lane_says : (q p lane_of_q lane_of_p : ℕ) (b old rest : Bool) → (q ≡ p → lane_of_q ≡ lane_of_p) → old ≡ rest → (((q == p) && b) || old) ≡ cond ((q == p) && b) (lane_of_q == lane_of_p) rest
+lane_says q p lq lp b old rest same was =
     elim (eqb_tells q p) [
-      | inl k ↦
-          ap (λ a. (a && true) || old) k.0
-          ∙ ap (λ a. a || list_any test rest) (sym (is ∙ ap (λ a. a && (lq == lp)) k.0 ∙ eq-eqb lq lp (same k.1)))
-      | inr k ↦
-          ap (λ a. (a && true) || old) k.0
-          ∙ was
-          ∙ ap (λ a. a || list_any test rest) (sym (is ∙ ap (λ a. a && (lq == lp)) k.0))
+      | inl is ↦
+          subst (λ a. ((a && b) || old) ≡ cond (a && b) (lq == lp) rest) (sym is.0)
+          (elim b as (λ c. ((true && c) || old) ≡ cond (true && c) (lq == lp) rest) [ true ↦ sym (eq-eqb lq lp (same is.1)) | false ↦ was ])
+      | inr other ↦ subst (λ a. ((a && b) || old) ≡ cond (a && b) (lq == lp) rest) (sym other.0) was
     ]
 
--- a process's present lane has delivered a message where the message has a receipt by the process in this lane
-pub received_told : (past : List Entry) (p : Pid) (m : MsgName) → has_delivered past p.0 m ≡ list_any (is_sought p (InLane (lane past p.0))) (receipts past m)
+-- a process's present lane has delivered a message where the process's newest receipt of it is of this lane
+pub received_told : (past : List Entry) (p : Pid) (m : MsgName) → has_delivered past p.0 m ≡ is_newest_in p (lane past p.0) (receipts past m)
 received_told [] p m = refl
 received_told (Send from to ssn ∷ past) p m = received_told past p m
 received_told (Stable x ∷ past) p m = received_told past p m
 received_told (Crash who ∷ past) p m = received_told past p m
 received_told (Forget who listed ∷ past) p m = received_told past p m
 received_told (Restart who listed ∷ past) p m =
-    elim (who.0 == p.0) as (λ b. (not b && has_delivered past p.0 m) ≡ list_any (is_sought p (InLane (cond b (lane past p.0 + 1) (lane past p.0)))) (receipts past m)) [
+    elim (who.0 == p.0) as (λ b. (not b && has_delivered past p.0 m) ≡ is_newest_in p (cond b (lane past p.0 + 1) (lane past p.0)) (receipts past m)) [
       | true ↦ sym (none_ahead past m p (lane past p.0 + 1) (omega arith))
       | false ↦ received_told past p m
     ]
 received_told (Deliver to send rsn listed ∷ past) p m =
-    lane_says to.0 p.0 (lane past to.0) (lane past p.0) (is_message (message_at past send) m) (record { dest = to; lane = lane past to.0; rsn = rsn }) (receipts past m) (is_sought p (InLane (lane past p.0))) (has_delivered past p.0 m) (ap (lane past)) refl (received_told past p m)
+    lane_says to.0 p.0 (lane past to.0) (lane past p.0) (is_message (message_at past send) m) (has_delivered past p.0 m) (is_newest_in p (lane past p.0) (receipts past m)) (ap (lane past)) (received_told past p m)
+    ∙ sym (newest_more (is_message (message_at past send) m) (record { dest = to; lane = lane past to.0; rsn = rsn }) (receipts past m) p (lane past p.0))
 
 -- no process that is not there has delivered a message
 pub received_there : (n : ℕ) (past : List Entry) (p : ℕ) (m : MsgName) → AreAccepted n past → n ≤ p → has_delivered past p m ≡ false

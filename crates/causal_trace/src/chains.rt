@@ -2,7 +2,7 @@
 ghost use Rattle.std.specs.Prelude.{◌≡◌, ◌<◌, ◌≤◌, ◌+◌, ℕ, [], length, map, replicate, Some, IfOk, OnOk, OnErr, vec_len};
 ghost use Rattle.std.specs.List.{list_any};
 ghost use Rattle.causal_trace.specs.Limits.{max_entries};
-ghost use Rattle.causal_trace.specs.Inside.Chains.{chain_of, head_of, is_sought, least_room, with_head, with_message, with_receipt, AreLinked, HasHead};
+ghost use Rattle.causal_trace.specs.Inside.Chains.{chain_of, head_of, is_newest_in, is_sought, least_room, with_head, with_message, with_receipt, AreLinked, HasHead};
 
 use causal_name::{MsgName, NoMemory, Pid};
 use std::alloc::Global;
@@ -26,11 +26,10 @@ pub(crate) struct Node {
     pub next: Option<u32>,
 }
 
-/// Which delivery by a process is sought: that of a number, in whatever lane, or that in a lane.
+/// Which delivery by a process is sought: that of a number, in whatever lane.
 #[derive(Clone, Copy, Debug)]
 pub(crate) enum Sought {
     AsNumber(u32),
-    InLane(u32),
 }
 
 /// The receipts of each message. Each process has a list of heads by the numbers of its sends; a head leads to the
@@ -131,6 +130,22 @@ impl Chains {
         false
     }
 
+    /// Whether the process's newest receipt of the message is of this lane. Older ones are of older lanes.
+    pub(crate) fn is_newest_in(&self, message: MsgName, dest: Pid, lane: u32) -> bool
+        requires { AreLinked self.now.heads self.now.nodes }
+        ensures { result ≡ is_newest_in dest lane (chain_of self.now message) }
+    {
+        let mut place = self.head(message);
+        while let Some(k) = place {
+            let node = self.nodes[k as usize];
+            if node.receipt.dest == dest {
+                return node.receipt.lane == lane;
+            }
+            place = node.next;
+        }
+        false
+    }
+
     /// The place of the newest receipt of the message.
     fn head(&self, message: MsgName) -> Option<u32>
         ensures { result ≡ head_of self.now.heads message }
@@ -191,7 +206,6 @@ fn is_sought(dest: Pid, sought: Sought, receipt: Receipt) -> bool
 {
     match sought {
         Sought::AsNumber(rsn) => receipt.dest == dest && receipt.rsn == rsn,
-        Sought::InLane(lane) => receipt.dest == dest && receipt.lane == lane,
     }
 }
 

@@ -345,7 +345,7 @@ impl Trace {
             return false;
         }
         let lane = self.present_lane(p).restarts;
-        self.chains.has(message, p, Sought::InLane(lane))
+        self.chains.is_newest_in(message, p, lane)
     }
 
     /// An equal trace.

@@ -13,7 +13,7 @@ use Rattle.causal_trace.specs.declared.entry.Entry.TheVariants.{Deliver}
 use Rattle.causal_trace.specs.declared.chains.Receipt.{Receipt}
 use Rattle.causal_trace.specs.declared.chains.Node.{Node}
 use Rattle.causal_trace.specs.declared.chains.Sought.{Sought}
-use Rattle.causal_trace.specs.declared.chains.Sought.TheVariants.{AsNumber, InLane}
+use Rattle.causal_trace.specs.declared.chains.Sought.TheVariants.{AsNumber}
 use Rattle.causal_trace.specs.Past.{is_message, lane, message_at}
 
 -- the heads of each process, by the numbers of its sends
@@ -79,7 +79,11 @@ with_receipt c m receipt = record { receipt = receipt; next = head_of c.heads m 
 -- whether a receipt is what is sought of a process
 abbrev pub is_sought : Pid → Sought → Receipt → Bool
 is_sought dest (AsNumber rsn) receipt = same_pid receipt.dest dest && receipt.rsn == rsn
-is_sought dest (InLane lane) receipt = same_pid receipt.dest dest && receipt.lane == lane
+
+-- whether a process's newest receipt is of a lane
+abbrev pub is_newest_in : Pid → ℕ → List Receipt → Bool
+is_newest_in dest l [] = false
+is_newest_in dest l (receipt ∷ older) = if same_pid receipt.dest dest then receipt.lane == l else is_newest_in dest l older
 
 -- how many more heads each list has room for, or nodes the array
 abbrev pub least_room : List (Vec (Option ℕ) Global) → ℕ → ℕ

@@ -1,8 +1,6 @@
 use Rattle.std.proofs.Common.{reverse, sym, ap, ◌∙◌, arith}
-use Rattle.std.specs.List.{list_any}
-use Rattle.causal_trace.specs.declared.chains.Sought.TheVariants.{InLane}
 use Rattle.causal_trace.specs.Past.{has_delivered, lane}
-use Rattle.causal_trace.specs.Inside.Chains.{is_sought, chain_of}
+use Rattle.causal_trace.specs.Inside.Chains.{is_newest_in, chain_of}
 use Rattle.causal_trace.proofs.Receipts.{received_told, received_there}
 use Rattle.causal_trace.proofs.trace.Trace.has_delivered.Goals as goal
 
@@ -15,8 +13,8 @@ pub returns : goal.returns
 returns c =
     let p = c.args.p in
     let m = c.args.message in
-    c.has.ensures
-    ∙ ap (λ l. list_any (is_sought p (InLane l)) (chain_of c.self.inside.chains m)) (ap (λ l. l.restarts) c.present_lane-lane.ensures ∙ ap (λ s. lane s.recording.past p.0) (sym c.self.view_is))
-    ∙ ap (list_any (is_sought p (InLane (lane (reverse c.self.inside.entries.items) p.0)))) (c.self.invariant.chains.each m)
+    c.is_newest_in.ensures
+    ∙ ap (λ l. is_newest_in p l (chain_of c.self.inside.chains m)) (ap (λ l. l.restarts) c.present_lane-lane.ensures ∙ ap (λ s. lane s.recording.past p.0) (sym c.self.view_is))
+    ∙ ap (is_newest_in p (lane (reverse c.self.inside.entries.items) p.0)) (c.self.invariant.chains.each m)
     ∙ sym (received_told (reverse c.self.inside.entries.items) p m)
     ∙ ap (λ s. has_delivered s.recording.past p.0 m) c.self.view_is
