@@ -2,9 +2,10 @@
 ghost use Rattle.std.specs.Prelude.{◌≡◌, ◌<◌, ◌≤◌, ◌+◌, ℕ, [], length, map, replicate, Some, IfOk, OnOk, OnErr, vec_len};
 ghost use Rattle.std.specs.List.{list_any};
 ghost use Rattle.causal_trace.specs.Limits.{max_entries};
-ghost use Rattle.causal_trace.specs.Inside.Chains.{chain_of, head_of, is_sought, least_room, with_head, with_message, with_receipt, AreLinked, HasHead};
+ghost use Rattle.causal_name.specs.Names.{message_of};
+ghost use Rattle.causal_trace.specs.Inside.Chains.{chain_of, head_of, is_of, is_sought, least_room, place_of, with_head, with_message, with_receipt, AreLinked, HasHead};
 
-use causal_name::{MsgName, NoMemory, Pid};
+use causal_name::{Det, MsgName, NoMemory, Pid};
 use std::alloc::Global;
 use std::marker::Model;
 
@@ -131,6 +132,22 @@ impl Chains {
         false
     }
 
+    /// The place of the newest receipt with this determinant.
+    pub(crate) fn find(&self, det: Det) -> Option<u32>
+        requires { AreLinked self.now.heads self.now.nodes }
+        ensures { result ≡ place_of det self.now.nodes (head_of self.now.heads (message_of det)) }
+    {
+        let mut place = self.head(det.message());
+        while let Some(k) = place {
+            let node = self.nodes[k as usize];
+            if is_of(det, node.receipt) {
+                return Some(k);
+            }
+            place = node.next;
+        }
+        None
+    }
+
     /// The place of the newest receipt of the message.
     fn head(&self, message: MsgName) -> Option<u32>
         ensures { result ≡ head_of self.now.heads message }
@@ -193,6 +210,13 @@ fn is_sought(dest: Pid, sought: Sought, receipt: Receipt) -> bool
         Sought::AsNumber(rsn) => receipt.dest == dest && receipt.rsn == rsn,
         Sought::InLane(lane) => receipt.dest == dest && receipt.lane == lane,
     }
+}
+
+/// Whether a receipt of a determinant's message is of a delivery with the determinant.
+fn is_of(det: Det, receipt: Receipt) -> bool
+    ensures { result ≡ is_of det receipt }
+{
+    receipt.dest == det.dest && receipt.rsn == det.rsn
 }
 
 /// So many empty lists.

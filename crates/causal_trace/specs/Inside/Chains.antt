@@ -81,6 +81,18 @@ abbrev pub is_sought : Pid → Sought → Receipt → Bool
 is_sought dest (AsNumber rsn) receipt = same_pid receipt.dest dest && receipt.rsn == rsn
 is_sought dest (InLane lane) receipt = same_pid receipt.dest dest && receipt.lane == lane
 
+-- whether a receipt is of a delivery with this determinant, where it is of its message
+abbrev pub is_of : Det → Receipt → Bool
+is_of d receipt = same_pid receipt.dest d.dest && receipt.rsn == d.rsn
+
+-- the place of the newest such receipt, from a place on
+abbrev pub place_of : Det → List Node → Option ℕ → Option ℕ
+place_of d [] at = None
+place_of d (node ∷ older) at =
+    if option_map_or (λ k. k == length older) at false
+    then (if is_of d node.receipt then Some (length older) else place_of d older node.next)
+    else place_of d older at
+
 -- how many more heads each list has room for, or nodes the array
 abbrev pub least_room : List (Vec (Option ℕ) Global) → ℕ → ℕ
 least_room [] room = room
