@@ -1,6 +1,5 @@
 pub mod Cursors
 pub mod Filings
-pub mod MessageChains
 mod PackedSpans
 pub mod Reachable
 pub mod Receivers

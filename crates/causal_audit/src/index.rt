@@ -8,8 +8,6 @@ pub mod cursor;
 pub mod lists;
 /// Which entries mention each determinant.
 pub mod mentions;
-/// The numbers of determinants.
-pub mod numbering;
 /// Lists of positions in one vector.
 pub mod packed;
 /// What tells who is down at an instant.

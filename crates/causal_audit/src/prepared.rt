@@ -60,14 +60,14 @@ impl Prepared {
         let entries = trace.entries();
         let lasting_from = lasting_from(entries);
         let turns = CrashesAndRestarts::of(alloc, entries)?;
-        let mentions = mentions_in(alloc, &entries[..end as usize])?;
+        let mentions = mentions_in(alloc, trace, end)?;
         let outline = Outline {
             trace,
             lasting_from,
             turns: &turns,
         };
         let mut opened = open_deliveries_of(alloc, outline, &mentions, f, end)?;
-        put_in_order(trace, &mentions, &mut opened)?;
+        put_in_order(trace, &mut opened)?;
         Ok(Prepared {
             run,
             lasting_from,

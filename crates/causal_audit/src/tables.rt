@@ -52,7 +52,7 @@ impl Tables {
         let entries = trace.entries();
         let positions = positions_of(alloc, entries)?;
         let clocks = clocks_of(alloc, trace)?;
-        let mentions = mentions_in(alloc, entries)?;
+        let mentions = mentions_in(alloc, trace, trace.len())?;
         let trace = trace.try_clone()?;
         Ok(Tables {
             trace,
@@ -109,7 +109,7 @@ impl Tables {
         requires within { end ≤ length self.now.past }
         ensures { FirstBreachBy self.now f end k result }
     {
-        let mentions = self.mentions.list(det);
+        let mentions = self.mentions.list(&self.trace, det);
         first_orphan(&self.trace, &self.clocks, mentions, f, end, k, det)
     }
 }

@@ -3,6 +3,7 @@ mod DefinitionsAgree
 mod AscendingLists
 mod InstantQuestions
 mod ReceiptChains
+mod DeliveryPlaces
 mod TraceIndex
 mod LaneRecords
 mod Receipts

@@ -34,14 +34,14 @@ pub record Leads (nodes : List Node) (node : Node) (k : ℕ) : Type 0 where
   pub down : IsBelow node.next k
 
 -- the newest node stands at the end
-node_newest : (node : Node) (older : List Node) (k : ℕ) (d : Node) → k ≡ length older → get_or (reverse (node ∷ older)) k d ≡ node
+pub node_newest : (node : Node) (older : List Node) (k : ℕ) (d : Node) → k ≡ length older → get_or (reverse (node ∷ older)) k d ≡ node
 node_newest node older k d is =
     ap (λ xs. get_or xs k d) (reverse-append (node ∷ []) older)
     ∙ ap (λ i. get_or (reverse older ++ node ∷ []) i d) (is ∙ sym (length-reverse older))
     ∙ get_or-append_seam (reverse older) node [] d
 
 -- older nodes stay where they are
-node_older : (node : Node) (older : List Node) (k : ℕ) (d : Node) → k < length older → get_or (reverse (node ∷ older)) k d ≡ get_or (reverse older) k d
+pub node_older : (node : Node) (older : List Node) (k : ℕ) (d : Node) → k < length older → get_or (reverse (node ∷ older)) k d ≡ get_or (reverse older) k d
 node_older node older k d h =
     ap (λ xs. get_or xs k d) (reverse-append (node ∷ []) older)
     ∙ get_or_append_left (reverse older) (node ∷ []) d k (omega (arith, h, length-reverse older))
@@ -198,7 +198,8 @@ linked_receipt heads nodes m receipt has linked = record {
   nodes_lead = (linked.heads_lead m, linked.nodes_lead);
 }
 
-one_head : (heads : Heads) (m q : MsgName) → same_message m q ≡ true → head_of heads m ≡ head_of heads q
+-- names of one message have one head
+pub one_head : (heads : Heads) (m q : MsgName) → same_message m q ≡ true → head_of heads m ≡ head_of heads q
 one_head heads m q same =
     let parts = and_parts (m.source.0 == q.source.0) (m.ssn == q.ssn) same in
     ap (λ p. get_or (heads_of heads p) m.ssn None) (eqb-true m.source.0 q.source.0 parts.0)

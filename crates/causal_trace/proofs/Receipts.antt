@@ -1,43 +1,18 @@
 -- The receipts of a message tell who delivered it, and in which lane.
-use Rattle.std.proofs.Common.{ℕ, ◌≡◌, ◌+◌, ◌<◌, ◌≤◌, inl, inr, Bool, true, false, cond, ◌==◌, List, [], ◌∷◌, Some, None, refl, sym, ap, subst, ◌∙◌, arith}
+use Rattle.std.proofs.Common.{ℕ, ◌≡◌, ◌+◌, ◌<◌, ◌≤◌, inl, inr, Bool, true, false, cond, ◌==◌, List, [], ◌∷◌, refl, sym, ap, subst, ◌∙◌, arith}
 use Rattle.std.specs.Prelude.{◌||◌, ◌&&◌, not}
-use Rattle.std.specs.Option.{option_map}
-use Rattle.std.specs.List.{list_any}
 use Rattle.std.proofs.lemmas.Bool.{ne_eqb, eq-eqb}
 use Rattle.std.proofs.lemmas.Bool.Decides.{eqb_tells}
-use Rattle.causal_name.specs.Names.{same_pid, message_of}
+use Rattle.causal_name.specs.Names.{same_pid}
 use Rattle.causal_name.specs.declared.Pid.{Pid}
 use Rattle.causal_name.specs.declared.MsgName.{MsgName}
-use Rattle.causal_name.specs.declared.Det.{Det}
 use Rattle.causal_trace.specs.declared.entry.Entry.{Entry}
 use Rattle.causal_trace.specs.declared.entry.Entry.TheVariants.{Send, Deliver, Stable, Crash, Restart, Forget}
 use Rattle.causal_trace.specs.declared.chains.Receipt.{Receipt}
-use Rattle.causal_trace.specs.declared.chains.Sought.TheVariants.{AsNumber}
-use Rattle.causal_trace.specs.Past.{lane, message_at, det_from, is_det, is_message, is_delivered, has_delivered}
-use Rattle.causal_trace.specs.Inside.Chains.{receipts, is_newest_in, is_sought}
+use Rattle.causal_trace.specs.Past.{lane, message_at, is_message, has_delivered}
+use Rattle.causal_trace.specs.Inside.Chains.{receipts, is_newest_in}
 use Rattle.causal_trace.specs.Rows.{AreAccepted}
 use Rattle.causal_trace.proofs.LaneRecords.{subject_there}
-
--- one more receipt, if it is of the message, answers like the determinant that it is of
-number_says : (a b c : Bool) (receipt : Receipt) (rest : List Receipt) (test : Receipt → Bool) (old : Bool) → test receipt ≡ c → old ≡ list_any test rest → ((a && (b && c)) || old) ≡ list_any test (cond (a && b) (receipt ∷ rest) rest)
-number_says true true c receipt rest test old is was = ap (λ x. x || old) (sym is) ∙ ap (λ x. test receipt || x) was
-number_says true false c receipt rest test old is was = was
-number_says false b c receipt rest test old is was = was
-
--- a determinant is that of a delivery so far where its message has a receipt by its receiver, as this number
-pub delivered_told : (past : List Entry) (d : Det) → is_delivered past d ≡ list_any (is_sought d.dest (AsNumber d.rsn)) (receipts past (message_of d))
-delivered_told [] d = refl
-delivered_told (Send from to ssn ∷ past) d = delivered_told past d
-delivered_told (Stable x ∷ past) d = delivered_told past d
-delivered_told (Crash who ∷ past) d = delivered_told past d
-delivered_told (Restart who listed ∷ past) d = delivered_told past d
-delivered_told (Forget who listed ∷ past) d = delivered_told past d
-delivered_told (Deliver to send rsn listed ∷ past) d =
-    let receipt : Receipt = record { dest = to; lane = lane past to.0; rsn = rsn } in
-    elim (message_at past send) as (λ o. (is_det (option_map (det_from to rsn) o) d || is_delivered past d) ≡ list_any (is_sought d.dest (AsNumber d.rsn)) (cond (is_message o (message_of d)) (receipt ∷ receipts past (message_of d)) (receipts past (message_of d)))) [
-      | None ↦ delivered_told past d
-      | Some k ↦ number_says (same_pid k.source d.source) (k.ssn == d.ssn) (same_pid to d.dest && rsn == d.rsn) receipt (receipts past (message_of d)) (is_sought d.dest (AsNumber d.rsn)) (is_delivered past d) refl (delivered_told past d)
-    ]
 
 -- the newest receipt, with one more receipt if it is of the message
 newest_more : (b : Bool) (receipt : Receipt) (rest : List Receipt) (p : Pid) (l : ℕ) → is_newest_in p l (cond b (receipt ∷ rest) rest) ≡ cond (same_pid receipt.dest p && b) (receipt.lane == l) (is_newest_in p l rest)

@@ -1,11 +1,11 @@
 -- What a trace remembers beside its entries, with one more entry.
 use Rattle.std.proofs.Common.{ℕ, zero, suc, ◌≡◌, ◌+◌, ◌<◌, ◌≤◌, inl, inr, Bool, true, false, cond, ◌==◌, List, [], ◌∷◌, length, get_or, set, Some, None, refl, sym, ap, subst, ◌∙◌, arith}
-use Rattle.std.specs.Prelude.{not, replicate, IfSome}
+use Rattle.std.specs.Prelude.{◌&&◌, not, replicate, IfSome}
 use Rattle.std.specs.Option.{option_map, option_map_or, option_and_then}
 use Rattle.std.proofs.lemmas.Bool.{false≢true, eqb-true}
 use Rattle.std.proofs.lemmas.Bool.Decides.{eqb_tells}
 use Rattle.std.proofs.lemmas.List.{length-set, length-replicate}
-use Rattle.causal_name.specs.Names.{same_message, message_of}
+use Rattle.causal_name.specs.Names.{same_det, same_message, message_of}
 use Rattle.causal_name.specs.declared.Pid.{Pid}
 use Rattle.causal_name.specs.declared.MsgName.{MsgName}
 use Rattle.causal_name.specs.declared.Det.{Det}
@@ -15,12 +15,14 @@ use Rattle.causal_trace.specs.declared.fault.TraceFault.TheVariants.{WrongSsn}
 use Rattle.causal_trace.specs.declared.lanes.Lane.{Lane}
 use Rattle.causal_trace.specs.Limits.{IsProcessCount}
 use Rattle.causal_trace.specs.Past.{listed_by, lane, sends, restarts, deliveries_in, entry_at, is_send_to, message_sent, message_at, det_from, det_of, is_message}
+use Rattle.causal_trace.specs.Numbers.{delivered_dets, number_of}
 use Rattle.causal_trace.specs.Rows.{Recording, rows, first_fault}
 use Rattle.causal_trace.specs.State.{with_entry}
 use Rattle.causal_trace.specs.Bounded.{IsBounded}
 use Rattle.causal_trace.specs.Inside.Index.{ArePresentLanes, AreChains, HasHeads, fresh, lanes_after, IsIndexed, is_restart}
-use Rattle.causal_trace.specs.Inside.Chains.{Heads, HasHead, ChainsState, IsBelow, chain, head_of, heads_of, heads_after, nodes_after, opened, receipts, with_head, with_message}
+use Rattle.causal_trace.specs.Inside.Chains.{Heads, HasHead, ChainsState, IsBelow, chain, head_of, heads_of, heads_after, is_of, nodes_after, opened, place_of, receipts, with_head, with_message}
 use Rattle.causal_trace.proofs.ReceiptChains.{head_keeps, head_lengths, linked_message, linked_receipt, message_keeps, message_leads, message_longer, message_there, receipt_leads}
+use Rattle.causal_trace.proofs.DeliveryPlaces.{receipt_placed}
 use Rattle.causal_trace.proofs.Lemmas.EntryFacts.{delivers_sent, not_false, row_fails}
 use Rattle.causal_trace.proofs.Lemmas.WellFormed.{kept_push}
 use Rattle.causal_trace.proofs.LaneRecords.{lanes_push, subject_there, no_lanes}
@@ -107,6 +109,10 @@ begun_anew : (b : Bool) (s l : ℕ) → s ≤ l → cond b 0 s ≤ l
 begun_anew true s l h = omega arith
 begun_anew false s l h = h
 
+and_and : (a b c : Bool) → ((a && b) && c) ≡ (a && (b && c))
+and_and true b c = refl
+and_and false b c = refl
+
 module _ (n : ℕ) (past : List Entry) (c : ChainsState) (are : AreChains n past c.heads c.nodes) where
   -- with a send
   chains_sent : (from to : Pid) (ssn : ℕ) → from.0 < n → ssn ≡ sends past from.0 → AreChains n (Send from to ssn ∷ past) (with_message c.heads (record { source = from; ssn = ssn })) c.nodes
@@ -121,6 +127,8 @@ module _ (n : ℕ) (past : List Entry) (c : ChainsState) (are : AreChains n past
         sent = λ p h. sent_next from.0 p (sends past p) (length (heads_of (with_message c.heads m) p)) (λ same. subst (λ q. sends past q + 1 ≤ length (heads_of (with_message c.heads m) q)) same (omega (arith, is, there.ssn))) (omega (arith, are.sent p h, message_longer c.heads m p low));
         named = named_push (Send from to ssn) past (with_message c.heads m) there (named_grown past c.heads (with_message c.heads m) (λ q has. message_keeps c.heads m q low has) are.named);
         each = λ q. ap (chain c.nodes) (message_leads c.heads m q low) ∙ are.each q;
+        numbered = are.numbered;
+        placed = λ d. ap (place_of d c.nodes) (message_leads c.heads m (message_of d) low) ∙ are.placed d;
       }
 
   -- with a delivery
@@ -139,6 +147,13 @@ module _ (n : ℕ) (past : List Entry) (c : ChainsState) (are : AreChains n past
             ∙ ap (λ rs. cond (same_message m q) (record { dest = to; lane = l; rsn = rsn } ∷ rs) rs) (are.each q)
             ∙ ap (λ k. cond (same_message m q) (record { dest = to; lane = k; rsn = rsn } ∷ receipts past q) (receipts past q)) is
             ∙ ap (λ o. cond (is_message o q) (record { dest = to; lane = lane past to.0; rsn = rsn } ∷ receipts past q) (receipts past q)) (sym at);
+        numbered = ap suc are.numbered ∙ ap (λ o. length (option_map_or (λ d. d ∷ delivered_dets past) (option_map (det_from to rsn) o) (delivered_dets past))) (sym at);
+        placed = λ d.
+            receipt_placed c.heads c.nodes m d (record { dest = to; lane = l; rsn = rsn }) has are.linked
+            ∙ ap (λ o. cond (same_message m (message_of d) && is_of d (record { dest = to; lane = l; rsn = rsn })) (Some (length c.nodes)) o) (are.placed d)
+            ∙ ap (λ b. cond b (Some (length c.nodes)) (number_of (delivered_dets past) d)) (and_and (m.source.0 == d.source.0) (m.ssn == d.ssn) (to.0 == d.dest.0 && rsn == d.rsn))
+            ∙ ap (λ n. cond (same_det (det_from to rsn m) d) (Some n) (number_of (delivered_dets past) d)) are.numbered
+            ∙ ap (λ o. number_of (option_map_or (λ x. x ∷ delivered_dets past) (option_map (det_from to rsn) o) (delivered_dets past)) d) (sym at);
       }
 
   -- what a trace remembers of the deliveries, with one more entry
@@ -148,9 +163,9 @@ module _ (n : ℕ) (past : List Entry) (c : ChainsState) (are : AreChains n past
       let own = delivers_message n past to send rsn listed next in
       subst (λ o. AreChains n (Deliver to send rsn listed ∷ past) (heads_after None (option_map (det_from to rsn) o) c) (nodes_after None (option_map (det_from to rsn) o) l c)) (sym own.1)
       (chains_delivered to send rsn l listed own.0 own.1 (at (det_from to rsn own.0) (ap (option_map (det_from to rsn)) own.1)))
-  chains_push (Stable det) l next at = record { count = are.count; linked = are.linked; counted = are.counted; sent = are.sent; named = named_push (Stable det) past c.heads tt are.named; each = are.each }
-  chains_push (Crash who) l next at = record { count = are.count; linked = are.linked; counted = are.counted; sent = are.sent; named = named_push (Crash who) past c.heads tt are.named; each = are.each }
-  chains_push (Forget who listed) l next at = record { count = are.count; linked = are.linked; counted = are.counted; sent = are.sent; named = named_push (Forget who listed) past c.heads tt are.named; each = are.each }
+  chains_push (Stable det) l next at = record { count = are.count; linked = are.linked; counted = are.counted; sent = are.sent; named = named_push (Stable det) past c.heads tt are.named; each = are.each; numbered = are.numbered; placed = are.placed }
+  chains_push (Crash who) l next at = record { count = are.count; linked = are.linked; counted = are.counted; sent = are.sent; named = named_push (Crash who) past c.heads tt are.named; each = are.each; numbered = are.numbered; placed = are.placed }
+  chains_push (Forget who listed) l next at = record { count = are.count; linked = are.linked; counted = are.counted; sent = are.sent; named = named_push (Forget who listed) past c.heads tt are.named; each = are.each; numbered = are.numbered; placed = are.placed }
   chains_push (Restart who listed) l next at = record {
     count = are.count;
     linked = are.linked;
@@ -158,6 +173,8 @@ module _ (n : ℕ) (past : List Entry) (c : ChainsState) (are : AreChains n past
     sent = λ p h. begun_anew (who.0 == p) (sends past p) (length (heads_of c.heads p)) (are.sent p h);
     named = named_push (Restart who listed) past c.heads tt are.named;
     each = are.each;
+    numbered = are.numbered;
+    placed = are.placed;
   }
 
 no_heads : (n p : ℕ) → heads_of (replicate n []) p ≡ []
@@ -178,6 +195,8 @@ indexed_none n lanes c count all_fresh no_chains no_nodes = record {
     sent = λ p h. omega arith;
     named = λ k. tt;
     each = λ m. refl;
+    numbered = refl;
+    placed = λ d. refl;
   }));
 }
 

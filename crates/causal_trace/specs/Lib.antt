@@ -1,6 +1,7 @@
 pub mod Bounded
 pub mod Inside
 pub mod Limits
+pub mod Numbers
 pub mod Past
 pub mod Rows
 pub mod Sizes

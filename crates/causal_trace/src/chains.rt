@@ -1,10 +1,10 @@
 //! The deliveries of each message, in chains, so that no input makes a search long.
 ghost use Rattle.std.specs.Prelude.{◌≡◌, ◌<◌, ◌≤◌, ◌+◌, ℕ, [], length, map, replicate, Some, IfOk, OnOk, OnErr, vec_len};
-ghost use Rattle.std.specs.List.{list_any};
 ghost use Rattle.causal_trace.specs.Limits.{max_entries};
-ghost use Rattle.causal_trace.specs.Inside.Chains.{chain_of, head_of, is_newest_in, is_sought, least_room, with_head, with_message, with_receipt, AreLinked, HasHead};
+ghost use Rattle.causal_name.specs.Names.{message_of};
+ghost use Rattle.causal_trace.specs.Inside.Chains.{chain_of, head_of, is_newest_in, is_of, least_room, place_of, with_head, with_message, with_receipt, AreLinked, HasHead};
 
-use causal_name::{MsgName, NoMemory, Pid};
+use causal_name::{Det, MsgName, NoMemory, Pid};
 use std::alloc::Global;
 use std::marker::Model;
 
@@ -24,12 +24,6 @@ pub(crate) struct Receipt {
 pub(crate) struct Node {
     pub receipt: Receipt,
     pub next: Option<u32>,
-}
-
-/// Which delivery by a process is sought: that of a number, in whatever lane.
-#[derive(Clone, Copy, Debug)]
-pub(crate) enum Sought {
-    AsNumber(u32),
 }
 
 /// The receipts of each message. Each process has a list of heads by the numbers of its sends; a head leads to the
@@ -114,22 +108,6 @@ impl Chains {
         Ok(())
     }
 
-    /// Whether the process has a receipt of the message that is sought.
-    pub(crate) fn has(&self, message: MsgName, dest: Pid, sought: Sought) -> bool
-        requires { AreLinked self.now.heads self.now.nodes }
-        ensures { result ≡ list_any (is_sought dest sought) (chain_of self.now message) }
-    {
-        let mut place = self.head(message);
-        while let Some(k) = place {
-            let node = self.nodes[k as usize];
-            if is_sought(dest, sought, node.receipt) {
-                return true;
-            }
-            place = node.next;
-        }
-        false
-    }
-
     /// Whether the process's newest receipt of the message is of this lane. Older ones are of older lanes.
     pub(crate) fn is_newest_in(&self, message: MsgName, dest: Pid, lane: u32) -> bool
         requires { AreLinked self.now.heads self.now.nodes }
@@ -144,6 +122,22 @@ impl Chains {
             place = node.next;
         }
         false
+    }
+
+    /// The place of the newest receipt with this determinant.
+    pub(crate) fn find(&self, det: Det) -> Option<u32>
+        requires { AreLinked self.now.heads self.now.nodes }
+        ensures { result ≡ place_of det self.now.nodes (head_of self.now.heads (message_of det)) }
+    {
+        let mut place = self.head(det.message());
+        while let Some(k) = place {
+            let node = self.nodes[k as usize];
+            if is_of(det, node.receipt) {
+                return Some(k);
+            }
+            place = node.next;
+        }
+        None
     }
 
     /// The place of the newest receipt of the message.
@@ -200,13 +194,11 @@ impl Chains {
     }
 }
 
-/// Whether a receipt is what is sought of the process.
-fn is_sought(dest: Pid, sought: Sought, receipt: Receipt) -> bool
-    ensures { result ≡ is_sought dest sought receipt }
+/// Whether a receipt of a determinant's message is of a delivery with the determinant.
+fn is_of(det: Det, receipt: Receipt) -> bool
+    ensures { result ≡ is_of det receipt }
 {
-    match sought {
-        Sought::AsNumber(rsn) => receipt.dest == dest && receipt.rsn == rsn,
-    }
+    receipt.dest == det.dest && receipt.rsn == det.rsn
 }
 
 /// So many empty lists.

@@ -6,7 +6,7 @@ ghost use Rattle.causal_trace.specs.Limits.{max_entries};
 ghost use Rattle.causal_trace.specs.Past.{message_sent};
 ghost use Rattle.causal_trace.specs.Inside.Chains.{HasHead, heads_after, nodes_after};
 
-use crate::chains::{Chains, Receipt, Sought};
+use crate::chains::{Chains, Receipt};
 use crate::entry::{Dets, Entry};
 use crate::fault::{RefusedEntry, TraceFault};
 use crate::lanes::{Lane, copied_entries, copied_lanes, fresh_lanes, note_lane, restarts_in};
@@ -69,6 +69,7 @@ impl Trace {
     ghost use Rattle.causal_trace.specs.Limits.{max_listed, max_restarts, IsProcessCount};
     ghost use Rattle.causal_name.specs.declared.Det.{Det};
     ghost use Rattle.causal_trace.specs.Past.{lane, entry_at, listed_in, restarts, deliveries_in, det_at, is_delivered, has_delivered};
+    ghost use Rattle.causal_trace.specs.Numbers.{delivered_dets, number_of};
     ghost use Rattle.causal_trace.specs.Rows.{fault_by_rows, fault_within, fault_next, refusal_within, refusal_next, IsRefusedBeginning, passes, passes_limit, are_delivered, are_delivered_with, IsWellFormed};
     ghost use Rattle.causal_trace.specs.Inside.Index.{lane_of};
     ghost use Rattle.causal_trace.specs.State.{entries_of, with_entry, is_up_at, lane_at};
@@ -314,6 +315,15 @@ impl Trace {
         self.chains.len() as u32
     }
 
+    /// Which of the trace's deliveries, counted from 0, is the newest with this determinant; None where none has it. It
+    /// takes at most one step for each lane that delivered the message.
+    pub fn delivery_of(&self, det: Det) -> Option<u32>
+        ensures value { result ≡ number_of (delivered_dets self.now.recording.past) det }
+        ensures below { IfSome result (λ i. i < deliveries_in self.now.recording.past) }
+    {
+        self.chains.find(det)
+    }
+
     /// Whether the process is up after the first t entries; no number that is not below `processes` is. It reads these
     /// entries: whoever asks at each instant goes over `entries` instead.
     pub fn up(&self, t: u32, p: Pid) -> bool
@@ -390,8 +400,7 @@ impl Trace {
     fn is_delivered(&self, det: Det) -> bool
         ensures { result ≡ is_delivered self.now.recording.past det }
     {
-        self.chains
-            .has(det.message(), det.dest, Sought::AsNumber(det.rsn))
+        self.delivery_of(det).is_some()
     }
 
     /// Whether each determinant is that of a delivery so far.

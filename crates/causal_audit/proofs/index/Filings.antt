@@ -1,13 +1,15 @@
 -- The lists of positions that are kept of a run: one more position, and one more entry.
-use Rattle.causal_audit.proofs.Common.{ℕ, ◌≡◌, ◌≢◌, ◌+◌, ◌-◌, ◌<◌, ◌≤◌, inl, inr, true, false, Result, Ok, Err, List, [], ◌∷◌, ◌++◌, length, get_or, Option, Some, None, refl, sym, ap, subst, ◌∙◌, arith, Bool, map, reverse, ◌⊎◌, OnOk, Contains, ◌==◌, ◌&&◌, ◌||◌, option_map_or, All, get_or-eq_default, get_or-append, cases_lt, false≢true, cond-true, cond-false, false_from_ne_true, eqb-true, eq-eqb, ne_eqb, and_parts, or_cases, cases_Bool, or_left, or_right, eqb_tells, nat_tests, get_or-set_same, get_or-set_other, get_or_past, length-map, length-reverse, reverse-append, All-push, All-set, All-get_or, All-weaker, Contains-append_left, Contains-push, Contains-push_cases, IsNonDecreasingBy-push, Entry, entry_at, has, nat_cmp, FinSet, contains, empty, remove, contains-empty, IsNonDecreasing, Send, Deliver, Stable, Crash, Restart, Forget, entry_beyond, get_or-append_seam, Det, same_det}
-use Rattle.causal_audit.specs.Inside.Index.Filed.{Ascends, list_at, with_added, AreMentions, AreMentionsWith, Numbers, mentions_of, number_of, AreTurnsOf, IsFirstCrash, is_turn_of}
+use Rattle.causal_audit.proofs.Common.{ℕ, ◌≡◌, ◌≢◌, ◌+◌, ◌-◌, ◌<◌, ◌≤◌, inl, inr, true, false, Result, Ok, Err, List, [], ◌∷◌, ◌++◌, length, get_or, Option, Some, None, refl, sym, ap, subst, ◌∙◌, arith, Bool, ◌⊎◌, OnOk, Contains, ◌==◌, ◌&&◌, ◌||◌, option_map_or, All, get_or-eq_default, cases_lt, false≢true, cond-true, cond-false, false_from_ne_true, eqb-true, eq-eqb, ne_eqb, and_parts, or_cases, cases_Bool, or_left, or_right, eqb_tells, nat_tests, get_or-set_same, get_or-set_other, get_or_past, All-push, All-set, All-get_or, All-weaker, Contains-append_left, Contains-push, Contains-push_cases, IsNonDecreasingBy-push, Entry, entry_at, has, nat_cmp, FinSet, contains, empty, remove, contains-empty, IsNonDecreasing, Send, Deliver, Stable, Crash, Restart, Forget, entry_beyond, Det, same_det}
+use Rattle.causal_audit.specs.Inside.Index.Filed.{Ascends, list_at, with_added, AreMentions, AreMentionsWith, mentions_of, AreTurnsOf, IsFirstCrash, is_turn_of}
 use Rattle.causal_audit.specs.Inside.ByClock.Changes.{HasNoneUntil}
 use Rattle.causal_audit.specs.Inside.Look.Staying.{restarts_one, RestartsNone}
 use Rattle.causal_audit.specs.Spread.{IsCrashOf}
 use Rattle.causal_audit.proofs.group.GroupReach.{left_out}
 use Rattle.causal_audit.proofs.Steps.{entry_cases, entry_within}
 use Rattle.causal_audit.specs.Quiet.{mentioned_by}
-use Rattle.causal_audit.specs.declared.index.numbering.Node.{Node}
+use Rattle.std.specs.Prelude.{IfSome}
+use Rattle.causal_trace.specs.Numbers.{number_of}
+use Rattle.causal_trace.proofs.Lemmas.DeliveryNumbers.{number_below}
 
 -- ==== the lists of positions that tables keep: one more position, and one more entry
 
@@ -201,26 +203,18 @@ same_is x y h =
 
 -- ---- numbers
 
--- a number is below how many there are
-pub number_below : (numbers : Numbers) (d : Det) (m : ℕ) → number_of numbers d ≡ Some m → m < length numbers
-number_below [] d m at = absurd (let x : None ≡ Some m = at in cc)
-number_below (x ∷ older) d m at =
-    elim (cases_Bool (same_det x d)) [
-      | inl same ↦
-          let is : Some (length older) ≡ Some m = sym (cond-true (same_det x d) (Some (length older)) (number_of older d) same) ∙ at in
-          let it : length older ≡ m = cc is in
-          omega (arith, it)
-      | inr other ↦ omega (arith, number_below older d m (sym (cond-false (same_det x d) (Some (length older)) (number_of older d) other) ∙ at))
-    ]
+-- a number that is found is below a bound, where all are
+pub found_below : (o : Option ℕ) (n m : ℕ) → IfSome o (λ i. i < n) → o ≡ Some m → m < n
+found_below o n m all is = subst (λ x. IfSome x (λ i. i < n)) is all
 
-newest_below : (x : Det) (older : Numbers) (c d : Det) (m : ℕ) → same_det x c ≡ true → same_det x d ≡ false → number_of (x ∷ older) c ≡ Some m → number_of (x ∷ older) d ≡ Some m → ⊥
+newest_below : (x : Det) (older : List Det) (c d : Det) (m : ℕ) → same_det x c ≡ true → same_det x d ≡ false → number_of (x ∷ older) c ≡ Some m → number_of (x ∷ older) d ≡ Some m → ⊥
 newest_below x older c d m same other at to =
     let is : Some (length older) ≡ Some m = sym (cond-true (same_det x c) (Some (length older)) (number_of older c) same) ∙ at in
     let it : length older ≡ m = cc is in
-    omega (arith, it, number_below older d m (sym (cond-false (same_det x d) (Some (length older)) (number_of older d) other) ∙ to))
+    omega (arith, it, found_below (number_of older d) (length older) m (number_below older d) (sym (cond-false (same_det x d) (Some (length older)) (number_of older d) other) ∙ to))
 
 -- only one determinant has each number
-pub numbers_apart : (numbers : Numbers) (c d : Det) (m : ℕ) → number_of numbers c ≡ Some m → number_of numbers d ≡ Some m → same_det c d ≡ true
+pub numbers_apart : (numbers : List Det) (c d : Det) (m : ℕ) → number_of numbers c ≡ Some m → number_of numbers d ≡ Some m → same_det c d ≡ true
 numbers_apart [] c d m at to = absurd (let x : None ≡ Some m = at in cc)
 numbers_apart (x ∷ older) c d m at to =
     elim (cases_Bool (same_det x c)) [
@@ -263,7 +257,7 @@ cases_of (Some j) lists m v w there has =
     ]
 
 -- once one more determinant of the next entry is noted, its list has the position of that
-pub mentions_more : (past : List Entry) (dets : List Det) (numbers : Numbers) (lists : List (List ℕ)) (det : Det) (m : ℕ) → number_of numbers det ≡ Some m → m < length lists → AreMentionsWith past dets numbers lists → AreMentionsWith past (dets ++ det ∷ []) numbers (with_added lists m (length past))
+pub mentions_more : (past : List Entry) (dets numbers : List Det) (lists : List (List ℕ)) (det : Det) (m : ℕ) → number_of numbers det ≡ Some m → m < length lists → AreMentionsWith past dets numbers lists → AreMentionsWith past (dets ++ det ∷ []) numbers (with_added lists m (length past))
 mentions_more past dets numbers lists det m at there are =
     record {
       ascend = added_ascend lists m (length past) there are.ascend;
@@ -286,7 +280,7 @@ mentions_more past dets numbers lists det m at there are =
 -- ---- before the first entry
 
 -- empty lists are those of no entries
-pub mentions_of_none : (numbers : Numbers) (lists : List (List ℕ)) → All (λ list. list ≡ []) lists → AreMentions [] numbers lists
+pub mentions_of_none : (numbers : List Det) (lists : List (List ℕ)) → All (λ list. list ≡ []) lists → AreMentions [] numbers lists
 mentions_of_none numbers lists all = record {
   ascend = empty_ascend lists all;
   mentioned = λ d v e at unlisted. absurd (let x : None ≡ Some e = at in cc);
@@ -300,7 +294,7 @@ mentions_of_none numbers lists all = record {
 -- ---- one more entry
 
 -- before the determinants of the next entry are noted, the lists are those of the run
-pub mentions_begun : (past : List Entry) (numbers : Numbers) (lists : List (List ℕ)) → AreMentions past numbers lists → AreMentionsWith past [] numbers lists
+pub mentions_begun : (past : List Entry) (numbers : List Det) (lists : List (List ℕ)) → AreMentions past numbers lists → AreMentionsWith past [] numbers lists
 mentions_begun past numbers lists are = record {
   ascend = ascend_weaker (length past) (length past + 1) lists (omega arith) are.ascend;
   mentioned = are.mentioned;
@@ -309,7 +303,7 @@ mentions_begun past numbers lists are = record {
 }
 
 -- once they all are, the lists are those of the run with it
-pub mentions_done : (e : Entry) (past : List Entry) (numbers : Numbers) (lists : List (List ℕ)) → AreMentionsWith past (mentioned_by e) numbers lists → AreMentions (e ∷ past) numbers lists
+pub mentions_done : (e : Entry) (past : List Entry) (numbers : List Det) (lists : List (List ℕ)) → AreMentionsWith past (mentioned_by e) numbers lists → AreMentions (e ∷ past) numbers lists
 mentions_done e past numbers lists are = record {
   ascend = let more : length past + 1 ≡ length (e ∷ past) = omega arith in subst (λ n. All (Ascends n) lists) more are.ascend;
   mentioned = λ d v x at unlisted. elim (eqb_tells v (length past)) [
@@ -329,7 +323,7 @@ mentions_done e past numbers lists are = record {
 }
 
 -- the positions of the entries that mention a determinant ascend
-pub mentions_ascend : (past : List Entry) (numbers : Numbers) (lists : List (List ℕ)) → AreMentions past numbers lists → (d : Det) → IsNonDecreasing (mentions_of numbers lists d)
+pub mentions_ascend : (past : List Entry) (numbers : List Det) (lists : List (List ℕ)) → AreMentions past numbers lists → (d : Det) → IsNonDecreasing (mentions_of numbers lists d)
 mentions_ascend past numbers lists are d = list_of (number_of numbers d)
   where
     list_of : (o : Option ℕ) → IsNonDecreasing (option_map_or (list_at lists) o [])
@@ -339,26 +333,3 @@ mentions_ascend past numbers lists are d = list_of (number_of numbers d)
           | inl inside ↦ (are.ascend m [] inside).ascending
           | inr beyond ↦ subst IsNonDecreasing (sym (get_or_past lists m [] beyond)) (λ i j x low high. absurd (omega (arith, high)))
         ]
-
--- ==== the determinant of a number
-
-abbrev dets : List Node → List Det
-dets nodes = map (λ (node : Node). node.det) nodes
-
--- the node of a number has the determinant that is found by it; nodes stand here with the newest first
-pub node_of : (nodes : List Node) (d : Det) (m : ℕ) (x : Node) → number_of (dets nodes) d ≡ Some m → (get_or (reverse nodes) m x).det ≡ d
-node_of [] d m x at = absurd (let e : None ≡ Some m = at in cc)
-node_of (node ∷ older) d m x at =
-    elim (cases_Bool (same_det node.det d)) [
-      | inl same ↦
-          let is : Some (length (dets older)) ≡ Some m = sym (cond-true (same_det node.det d) (Some (length (dets older))) (number_of (dets older) d) same) ∙ at in
-          let last : length (dets older) ≡ m = cc is in
-          let here : m ≡ length (reverse older) = omega (arith, last, length-map older (λ (node : Node). node.det), length-reverse older) in
-          ap (λ (y : Node). y.det) (ap (λ i. get_or (reverse (node ∷ older)) i x) here ∙ ap (λ xs. get_or xs (length (reverse older)) x) (reverse-append (node ∷ []) older) ∙ get_or-append_seam (reverse older) node [] x)
-          ∙ same_is node.det d same
-      | inr other ↦
-          let old = sym (cond-false (same_det node.det d) (Some (length (dets older))) (number_of (dets older) d) other) ∙ at in
-          let inside : m < length (reverse older) = omega (arith, number_below (dets older) d m old, length-map older (λ (node : Node). node.det), length-reverse older) in
-          ap (λ (y : Node). y.det) (ap (λ xs. get_or xs m x) (reverse-append (node ∷ []) older) ∙ get_or-append (reverse older) (node ∷ []) x m inside)
-          ∙ node_of older d m x old
-    ]

@@ -1,9 +1,13 @@
 -- What a look finds, stretch by stretch, and what it tells of a delivery.
-use Rattle.causal_audit.proofs.Common.{ℕ, ◌≡◌, ◌-◌, ◌<◌, ◌≤◌, inl, inr, List, [], ◌∷◌, ◌++◌, length, get_or, sym, subst, arith, ◌⊎◌, min, All, IsPartitionPoint, cases_lt, get_or_default, All-push, All-weaker, Contains-append_left, Contains-push, IsNonDecreasingBy-push, Entry}
+use Rattle.causal_audit.proofs.Common.{ℕ, ◌≡◌, ◌+◌, ◌-◌, ◌<◌, ◌≤◌, inl, inr, List, [], ◌∷◌, ◌++◌, length, get_or, sym, subst, arith, ◌⊎◌, min, All, IsPartitionPoint, cases_lt, get_or_default, All-push, All-weaker, Contains-append_left, Contains-push, IsNonDecreasingBy-push, Entry, Det, Recording, Option, Some, None, zero, suc, refl, ap, ◌∙◌, replicate, get_or-set_same, get_or-set_other, eqb_tells, set}
+use Rattle.causal_trace.specs.Numbers.{delivered_dets, number_of}
+use Rattle.causal_audit.proofs.index.Filings.{numbers_apart, same_is}
+use Rattle.std.specs.Prelude.{IfSome}
 use Rattle.causal_audit.specs.declared.look.Look.{Look}
+use Rattle.causal_audit.specs.declared.look.looks.Looks.{Looks}
 use Rattle.causal_audit.specs.declared.look.thin.Stretch.{Stretch}
 use Rattle.causal_audit.specs.declared.look.thin_stretches.ThinStretches.{ThinStretches}
-use Rattle.causal_audit.specs.Inside.Look.Looks.{IsPassed, IsBareAt, IsThinAt, AreFound, AreRising, IsInOne}
+use Rattle.causal_audit.specs.Inside.Look.Looks.{IsPassed, IsBareAt, IsThinAt, AreFound, AreLooks, AreRising, AreThinStretches, IsInOne, IsLookOf}
 
 -- ---- one stretch more
 
@@ -115,3 +119,41 @@ module _ (xs : List Stretch) (bound passed : ℕ) (point : IsPartitionPoint (λ 
             let at : (get_or xs one.1.0 one.0).first ≡ one.0.first = cc (one.1.2) in
             absurd (omega (arith, ahead, at, one.2, low))
       ]
+
+-- ---- the looks at all determinants
+
+abbrev no_look : Option ThinStretches
+no_look = None
+
+none_at : (count i : ℕ) → get_or (replicate count no_look) i no_look ≡ no_look
+none_at zero i = refl
+none_at (suc count) zero = refl
+none_at (suc count) (suc i) = none_at count i
+
+-- nothing is found yet
+pub none_looked : (r : Recording) (most end count : ℕ) (found : List (Option ThinStretches)) → found ≡ replicate count None → AreLooks r most end found
+none_looked r most end count found none d i thins at there =
+    let is : no_look ≡ Some thins = sym (ap (λ xs. get_or xs i None) none ∙ none_at count i) ∙ there in
+    absurd (cc is)
+
+-- one more look
+pub one_looked : (look : Look) (number : ℕ) (thins : ThinStretches) (found : List (Option ThinStretches)) → number < length found
+    → number_of (delivered_dets look.run.trace.now.recording.past) look.det ≡ Some number → AreFound look (look.end + 1) thins
+    → AreLooks look.run.trace.now.recording look.most look.end found → AreLooks look.run.trace.now.recording look.most look.end (set found number (Some thins))
+one_looked look number thins found there at is before d i x to here =
+    let r = look.run.trace.now.recording in
+    elim (eqb_tells i number) [
+      | inl same ↦
+          let one : Some thins ≡ Some x = sym (get_or-set_same found number (Some thins) None there) ∙ ap (λ j. get_or (set found number (Some thins)) j None) (sym same.1) ∙ here in
+          let found_is : thins ≡ x = cc one in
+          let det : look.det ≡ d = same_is look.det d (numbers_apart (delivered_dets r.past) look.det d i (at ∙ ap Some (sym same.1)) to) in
+          subst (λ e. AreThinStretches r.processes look.most r.past e (look.end + 1) x) det (subst (λ y. AreFound look (look.end + 1) y) found_is is)
+      | inr apart ↦ before d i x to (sym (get_or-set_other found number i (Some thins) None apart.1) ∙ here)
+    ]
+
+-- what was found of a determinant
+pub look_found : (looks : Looks) (d : Det) (number : ℕ) (o : Option ThinStretches) → number < length looks.found.items → number_of (delivered_dets looks.trace.now.recording.past) d ≡ Some number → o ≡ get_or looks.found.items number o → IfSome o (IsLookOf looks d)
+look_found looks d number None there at is = tt
+look_found looks d number (Some thins) there at is = λ r most end are.
+    are.found d number thins (subst (λ (x : Recording). number_of (delivered_dets x.past) d ≡ Some number) are.run at)
+    (get_or_default looks.found.items number None (Some thins) there ∙ sym is)

@@ -1,4 +1,3 @@
-pub mod Chains
 pub mod Filed
 pub mod Kept
 pub mod Outlines

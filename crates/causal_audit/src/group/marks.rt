@@ -63,7 +63,7 @@ impl RunToFollow<'_> {
         let Some(det) = self.outline.trace.det_at(delivery.position) else {
             return first;
         };
-        first_in(self.mentions.list(det), first)
+        first_in(self.mentions.list(self.outline.trace, det), first)
     }
 
     /// The first of the deliveries of a group and of the mentions of their determinants, or a bound, if that is less.
@@ -90,7 +90,7 @@ impl RunToFollow<'_> {
         ensures marked { IsMarked self.now.run.past 0 place delivery rows.new.items }
     {
         if let Some(det) = self.outline.trace.det_at(delivery.position) {
-            mark(rows, place, self.mentions.list(det));
+            mark(rows, place, self.mentions.list(self.outline.trace, det));
         }
     }
 

@@ -2,112 +2,99 @@
 ghost use Rattle.std.specs.Prelude.{◌≡◌, ◌≤◌, ◌∷◌, ◌++◌, [], List, IfOk, OnOk, length};
 ghost use Rattle.causal_name.specs.declared.Det.{Det};
 ghost use Rattle.causal_trace.specs.declared.entry.Entry.{Entry};
-ghost use Rattle.causal_trace.specs.Limits.{max_entries};
+ghost use Rattle.causal_trace.specs.Numbers.{delivered_dets};
+ghost use Rattle.causal_trace.specs.Past.{deliveries_in, instant};
 ghost use Rattle.causal_audit.specs.Quiet.{mentioned_by};
-ghost use Rattle.causal_audit.specs.Inside.Index.Filed.{AreMentions, mentions_of, past_of};
+ghost use Rattle.causal_audit.specs.Inside.Index.Filed.{mentions_of};
+ghost use Rattle.causal_audit.specs.Inside.Index.Kept.{AreMentionsKept};
 
-use crate::index::numbering::Numbering;
 use crate::index::packed::PackedLists;
 use causal_name::{Det, NoMemory};
 use causal_trace::entry::Entry;
+use causal_trace::trace::Trace;
 use std::alloc::Global;
 use std::slice;
 
-/// Lists of positions, and the determinants by the numbers of their lists.
+/// Lists of positions, by the numbers of a trace's deliveries. The newest delivery with a determinant has those of its mentions.
 #[derive(Drop)]
 pub struct Mentions {
-    pub numbers: Numbering,
     pub lists: PackedLists,
-    ghost numbered: { length lists ≡ length numbers },
 }
 
-/// Determinants by their numbers, and how often each is mentioned.
-#[derive(Drop)]
-struct Counts {
-    numbers: Numbering,
-    counts: Vec<u32>,
-    ghost numbered: { length counts.items ≡ length numbers },
+/// Counts the mentions of one more entry, by the numbers of the deliveries.
+fn count(counts: &mut Vec<u32>, trace: &Trace, entry: &Entry)
+    requires { length counts.old.items ≡ deliveries_in trace.now.recording.past }
+    ensures { length counts.new.items ≡ deliveries_in trace.now.recording.past }
+{
+    for det in mentioned(entry) {
+        if let Some(number) = trace.delivery_of(*det) {
+            let number = number as usize;
+            counts[number] = counts[number].saturating_add(1);
+        }
+    }
 }
 
-impl Counts {
-    /// Counts one more mention of a determinant, which gets a number where it has none.
-    #[tactic(auto, using(crate::proofs::index::Filings::number_below))]
-    fn count(&mut self, det: Det) -> Result<(), NoMemory> {
-        if let Some(number) = self.numbers.find(det) {
-            self.counts[number] = self.counts[number].saturating_add(1);
-            return Ok(());
-        }
-        // Room comes first, so that a refusal leaves no determinant without a count.
-        self.counts.reserve(1)?;
-        self.numbers.add(det)?;
-        self.counts.push_reserved(1);
-        Ok(())
+/// How often these entries mention the determinant of each delivery.
+fn counts_of(alloc: Global, trace: &Trace, entries: &[Entry]) -> Result<Vec<u32>, NoMemory>
+    ensures { IfOk result (λ counts. length counts.items ≡ deliveries_in trace.now.recording.past) }
+{
+    let mut counts = vec![in alloc; 0; trace.deliveries() as usize]?;
+    for entry in entries {
+        count(&mut counts, trace, entry);
     }
-
-    /// Counts the mentions of one more entry.
-    fn note(&mut self, entry: &Entry) -> Result<(), NoMemory> {
-        for det in mentioned(entry) {
-            self.count(*det)?;
-        }
-        Ok(())
-    }
-
-    /// Counts the mentions of all these entries.
-    fn of(alloc: Global, entries: &[Entry]) -> Result<Counts, NoMemory> {
-        let mut counts = Counts {
-            numbers: Numbering::new(alloc)?,
-            counts: Vec::new(alloc),
-        };
-        for entry in entries {
-            counts.note(entry)?;
-        }
-        Ok(counts)
-    }
+    Ok(counts)
 }
 
 impl Mentions {
-    ghost use Rattle.causal_audit.specs.Inside.Index.Kept.{AreMentionsKept, AreMentionsWithKept};
+    ghost use Rattle.causal_audit.specs.Inside.Index.Kept.{AreMentionsWithKept};
 
-    /// The list of a determinant.
-    #[tactic(auto, using(crate::proofs::index::Filings::number_below))]
-    pub fn list(&self, det: Det) -> &[u32]
-        ensures { result.now ≡ mentions_of self.now.numbers self.now.lists det }
+    /// The list of a determinant, by the trace that they are of.
+    pub fn list(&self, trace: &Trace, det: Det) -> &[u32]
+        ensures { result.now ≡ mentions_of (delivered_dets trace.now.recording.past) self.now.lists det }
     {
-        match self.numbers.find(det) {
-            Some(number) => self.lists.get(number),
+        match trace.delivery_of(det) {
+            Some(number) => self.lists.get(number as usize),
             None => &[],
         }
     }
 
     /// Puts the position of an entry into the list of a determinant that it mentions. The list was counted.
-    #[tactic(auto, using(crate::proofs::index::Filings::number_below))]
-    fn add(&mut self, det: Det, i: u32) -> Result<(), NoMemory>
-        ensures { OnOk result ((past : List Entry) (dets : List Det) → length past ≡ i →
-            AreMentionsWithKept past dets self.old → AreMentionsWithKept past (dets ++ det ∷ []) self.new) }
+    fn add(&mut self, trace: &Trace, det: Det, i: u32) -> Result<(), NoMemory>
+        requires { length self.old.lists ≡ deliveries_in trace.now.recording.past }
+        ensures count { length self.new.lists ≡ length self.old.lists }
+        ensures added { OnOk result ((past : List Entry) (dets : List Det) → length past ≡ i →
+            AreMentionsWithKept trace.now.recording.past past dets self.old →
+            AreMentionsWithKept trace.now.recording.past past (dets ++ det ∷ []) self.new) }
     {
-        let Some(number) = self.numbers.find(det) else {
+        let Some(number) = trace.delivery_of(det) else {
             return Err(NoMemory);
         };
-        self.lists.add(number, i)
+        self.lists.add(number as usize, i)
     }
 
     /// Puts the position of an entry into the lists of the determinants that it mentions.
-    fn add_each(&mut self, dets: &[Det], i: u32) -> Result<(), NoMemory>
-        ensures { OnOk result ((past : List Entry) → length past ≡ i →
-            AreMentionsWithKept past [] self.old → AreMentionsWithKept past dets.now self.new) }
+    fn add_each(&mut self, trace: &Trace, dets: &[Det], i: u32) -> Result<(), NoMemory>
+        requires { length self.old.lists ≡ deliveries_in trace.now.recording.past }
+        ensures count { length self.new.lists ≡ length self.old.lists }
+        ensures added { OnOk result ((past : List Entry) → length past ≡ i →
+            AreMentionsWithKept trace.now.recording.past past [] self.old →
+            AreMentionsWithKept trace.now.recording.past past dets.now self.new) }
     {
         for det in dets {
-            self.add(*det, i)?;
+            self.add(trace, *det, i)?;
         }
         Ok(())
     }
 
     /// Notes one more entry, at position i.
-    fn note(&mut self, entry: &Entry, i: u32) -> Result<(), NoMemory>
-        ensures { OnOk result ((past : List Entry) → length past ≡ i →
-            AreMentionsKept past self.old → AreMentionsKept (entry.now ∷ past) self.new) }
+    fn note(&mut self, trace: &Trace, entry: &Entry, i: u32) -> Result<(), NoMemory>
+        requires { length self.old.lists ≡ deliveries_in trace.now.recording.past }
+        ensures count { length self.new.lists ≡ length self.old.lists }
+        ensures noted { OnOk result ((past : List Entry) → length past ≡ i →
+            AreMentionsKept trace.now.recording.past past self.old →
+            AreMentionsKept trace.now.recording.past (entry.now ∷ past) self.new) }
     {
-        self.add_each(mentioned(entry), i)
+        self.add_each(trace, mentioned(entry), i)
     }
 }
 
@@ -125,17 +112,18 @@ pub fn mentioned(entry: &Entry) -> &[Det]
     }
 }
 
-/// The positions of the entries that mention each determinant, in order.
-pub fn mentions_in(alloc: Global, entries: &[Entry]) -> Result<Mentions, NoMemory>
-    requires { length entries.now ≤ max_entries }
-    ensures { IfOk result (λ mentions.
-        AreMentions (past_of entries.now) mentions.numbers mentions.lists) }
+/// The positions of the entries before the instant `end` that mention each determinant, in order.
+pub fn mentions_in(alloc: Global, trace: &Trace, end: u32) -> Result<Mentions, NoMemory>
+    requires { end ≤ length trace.now.recording.past }
+    ensures { IfOk result (λ mentions. AreMentionsKept trace.now.recording.past
+        (instant trace.now.recording.past end) mentions) }
 {
-    let Counts { numbers, counts } = Counts::of(alloc, entries)?;
+    let entries = &trace.entries()[..end as usize];
+    let counts = counts_of(alloc, trace, entries)?;
     let lists = PackedLists::with_rooms(alloc, &counts)?;
-    let mut mentions = Mentions { numbers, lists };
+    let mut mentions = Mentions { lists };
     for (i, entry) in entries.iter().enumerate() {
-        mentions.note(entry, i as u32)?;
+        mentions.note(trace, entry, i as u32)?;
     }
     Ok(mentions)
 }

@@ -57,13 +57,14 @@ impl PackedLists {
         Ok(PackedLists { positions, spans })
     }
 
-    /// The list of a number.
+    /// The list of a number; an empty one where there is none.
     pub fn get(&self, number: usize) -> &[u32]
-        requires { number < length self.now }
         ensures { result.now ≡ list_at self.now number }
     {
-        let span = self.spans[number];
-        &self.positions[span.begin as usize..span.end as usize]
+        match self.spans.get(number) {
+            Some(span) => &self.positions[span.begin as usize..span.end as usize],
+            None => &[],
+        }
     }
 
     /// Puts a position at the end of one of the lists. A list takes no more than it has room for.

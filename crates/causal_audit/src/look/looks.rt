@@ -1,6 +1,6 @@
 //! One look at each determinant that is mentioned.
-ghost use Rattle.std.specs.Prelude.{◌≡◌, ◌≤◌, IfOk, IfSome, length};
-ghost use Rattle.causal_trace.specs.Past.{instant};
+ghost use Rattle.std.specs.Prelude.{◌≡◌, ◌≤◌, ℕ, None, IfOk, IfSome, OnOk, length, replicate};
+ghost use Rattle.causal_trace.specs.Past.{deliveries_in, instant};
 ghost use Rattle.causal_audit.specs.Inside.Index.Kept.{AreMentionsKept};
 
 use crate::index::mentions::Mentions;
@@ -9,26 +9,26 @@ use crate::index::reached::{reached_by, reached_in};
 use crate::look::Look;
 use crate::look::thin_stretches::ThinStretches;
 use causal_name::{Det, NoMemory};
+use causal_trace::trace::Trace;
 use std::alloc::Global;
 
-/// What the looks found, by the numbers of the determinants.
+/// What the looks found, by the numbers of the trace's deliveries.
 #[derive(Drop)]
 pub struct Looks<'a> {
-    pub mentions: &'a Mentions,
-    pub found: Vec<ThinStretches>,
-    ghost each: { length found.items ≡ length mentions.now.numbers },
+    pub trace: &'a Trace,
+    pub found: Vec<Option<ThinStretches>>,
+    ghost each: { length found.items ≡ deliveries_in trace.now.recording.past },
 }
 
 impl<'a> Looks<'a> {
     ghost use Rattle.causal_audit.specs.Inside.Look.Looks.{AreAllLooks, IsLookOf};
 
     /// What was found of a determinant; None where nothing mentions it.
-    #[tactic(auto, using(crate::proofs::index::Filings::number_below))]
     pub fn find(&self, det: Det) -> Option<&ThinStretches>
         ensures { IfSome result (λ thins. IsLookOf self.now det thins.now) }
     {
-        match self.mentions.numbers.find(det) {
-            Some(number) => Some(&self.found[number]),
+        match self.trace.delivery_of(det) {
+            Some(number) => self.found[number as usize].as_ref(),
             None => None,
         }
     }
@@ -38,28 +38,68 @@ impl<'a> Looks<'a> {
     pub fn of(
         alloc: Global,
         run: &Outline<'a>,
-        mentions: &'a Mentions,
+        mentions: &Mentions,
         most: u16,
         end: u32,
     ) -> Result<Looks<'a>, NoMemory>
         requires within { end ≤ length run.now.trace.now.recording.past }
-        requires mentioned { AreMentionsKept (instant run.now.trace.now.recording.past end) mentions.now }
+        requires mentioned { AreMentionsKept run.now.trace.now.recording.past
+            (instant run.now.trace.now.recording.past end) mentions.now }
         ensures { IfOk result (AreAllLooks run.now.trace.now.recording most end) }
     {
-        let sets = reached_in(alloc, run.trace)?;
-        let mut found = Vec::with_capacity(alloc, mentions.numbers.len())?;
-        for number in 0..mentions.numbers.len() {
-            let det = mentions.numbers.det(number);
+        let trace = run.trace;
+        let sets = reached_in(alloc, trace)?;
+        let mut found = none_yet(alloc, trace.deliveries())?;
+        for k in 0..end {
+            let Some(det) = trace.det_at(k) else {
+                continue;
+            };
             let look = Look {
                 run: *run,
-                mentions: mentions.list(det),
+                mentions: mentions.list(trace, det),
                 det,
                 reached: reached_by(&sets, det.dest.0),
                 most,
                 end,
             };
-            found.push(ThinStretches::of(alloc, &look)?)?;
+            look.take_in(alloc, &mut found)?;
         }
-        Ok(Looks { mentions, found })
+        Ok(Looks { trace, found })
+    }
+}
+
+/// Nothing is found of so many yet.
+fn none_yet(alloc: Global, count: u32) -> Result<Vec<Option<ThinStretches>>, NoMemory>
+    ensures { IfOk result (λ found. found.items ≡ replicate count None) }
+{
+    let mut found = Vec::with_capacity(alloc, count as usize)?;
+    for _ in 0..count {
+        found.push(None)?;
+    }
+    Ok(found)
+}
+
+impl Look<'_> {
+    ghost use Rattle.causal_audit.specs.Inside.Look.Looks.{AreLooks};
+
+    /// Takes in what the look finds, where something mentions the determinant and it was not looked at.
+    fn take_in(&self, alloc: Global, found: &mut Vec<Option<ThinStretches>>) -> Result<(), NoMemory>
+        requires { length found.old.items ≡ deliveries_in self.now.run.trace.now.recording.past }
+        ensures count { length found.new.items ≡ length found.old.items }
+        ensures found { OnOk result
+            (AreLooks self.now.run.trace.now.recording self.now.most self.now.end found.old.items →
+            AreLooks self.now.run.trace.now.recording self.now.most self.now.end found.new.items) }
+    {
+        if self.mentions.is_empty() {
+            return Ok(());
+        }
+        let Some(number) = self.run.trace.delivery_of(self.det) else {
+            return Ok(());
+        };
+        if found[number as usize].is_some() {
+            return Ok(());
+        }
+        found[number as usize] = Some(ThinStretches::of(alloc, self)?);
+        Ok(())
     }
 }

@@ -112,7 +112,8 @@ pub fn open_deliveries_of(
     end: u32,
 ) -> Result<Vec<OpenDelivery>, NoMemory>
     requires within { end ≤ length outline.trace.now.recording.past }
-    requires mentioned { AreMentionsKept (instant outline.trace.now.recording.past end) mentions.now }
+    requires mentioned { AreMentionsKept outline.trace.now.recording.past
+        (instant outline.trace.now.recording.past end) mentions.now }
     ensures { IfOk result (λ opened. AreGathered (asked_of outline.entry.trace.now.recording f end) end opened.items) }
 {
     let entries = outline.trace.entries();

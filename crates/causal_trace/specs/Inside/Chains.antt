@@ -12,8 +12,6 @@ use Rattle.causal_trace.specs.declared.entry.Entry.{Entry}
 use Rattle.causal_trace.specs.declared.entry.Entry.TheVariants.{Deliver}
 use Rattle.causal_trace.specs.declared.chains.Receipt.{Receipt}
 use Rattle.causal_trace.specs.declared.chains.Node.{Node}
-use Rattle.causal_trace.specs.declared.chains.Sought.{Sought}
-use Rattle.causal_trace.specs.declared.chains.Sought.TheVariants.{AsNumber}
 use Rattle.causal_trace.specs.Past.{is_message, lane, message_at}
 
 -- the heads of each process, by the numbers of its sends
@@ -76,14 +74,22 @@ with_head heads m at = slice_set heads m.source.0 (slice_set (heads_of heads m.s
 abbrev pub with_receipt : ChainsState → MsgName → Receipt → List Node
 with_receipt c m receipt = record { receipt = receipt; next = head_of c.heads m } ∷ c.nodes
 
--- whether a receipt is what is sought of a process
-abbrev pub is_sought : Pid → Sought → Receipt → Bool
-is_sought dest (AsNumber rsn) receipt = same_pid receipt.dest dest && receipt.rsn == rsn
-
 -- whether a process's newest receipt is of a lane
 abbrev pub is_newest_in : Pid → ℕ → List Receipt → Bool
 is_newest_in dest l [] = false
 is_newest_in dest l (receipt ∷ older) = if same_pid receipt.dest dest then receipt.lane == l else is_newest_in dest l older
+
+-- whether a receipt is of a delivery with this determinant, where it is of its message
+abbrev pub is_of : Det → Receipt → Bool
+is_of d receipt = same_pid receipt.dest d.dest && receipt.rsn == d.rsn
+
+-- the place of the newest such receipt, from a place on
+abbrev pub place_of : Det → List Node → Option ℕ → Option ℕ
+place_of d [] at = None
+place_of d (node ∷ older) at =
+    if option_map_or (λ k. k == length older) at false
+    then (if is_of d node.receipt then Some (length older) else place_of d older node.next)
+    else place_of d older at
 
 -- how many more heads each list has room for, or nodes the array
 abbrev pub least_room : List (Vec (Option ℕ) Global) → ℕ → ℕ

@@ -3,14 +3,17 @@
 use Rattle.std.specs.Prelude.{◌≡◌, ℕ, ◌+◌, ◌<◌, ◌≤◌, Bool, true, false, List, length, slice_index_or, slice_set, Option, Some, None, IfSome}
 use Rattle.causal_name.specs.declared.Pid.{Pid}
 use Rattle.causal_name.specs.declared.MsgName.{MsgName}
+use Rattle.causal_name.specs.declared.Det.{Det}
+use Rattle.causal_name.specs.Names.{message_of}
 use Rattle.causal_trace.specs.declared.entry.Entry.{Entry}
 use Rattle.causal_trace.specs.declared.entry.Entry.TheVariants.{Send, Deliver, Stable, Crash, Restart, Forget}
 use Rattle.causal_trace.specs.declared.lanes.Lane.{Lane}
 use Rattle.causal_trace.specs.Limits.{max_entries}
 use Rattle.causal_trace.specs.Past.{is_down, lane, sends, deliveries, restarts, deliveries_in, message_at}
+use Rattle.causal_trace.specs.Numbers.{delivered_dets, number_of}
 use Rattle.causal_trace.specs.Rows.{Recording}
 use Rattle.causal_trace.specs.Bounded.{IsBounded}
-use Rattle.causal_trace.specs.Inside.Chains.{Heads, AreLinked, HasHead, ChainsState, chain, head_of, heads_of, receipts}
+use Rattle.causal_trace.specs.Inside.Chains.{Heads, AreLinked, HasHead, ChainsState, chain, head_of, heads_of, place_of, receipts}
 use Rattle.causal_trace.specs.declared.chains.Node.{Node}
 
 -- p's present lane
@@ -69,6 +72,8 @@ pub record AreChains (n : ℕ) (past : List Entry) (heads : Heads) (nodes : List
   pub sent : (p : ℕ) → p < n → sends past p ≤ length (heads_of heads p)
   pub named : HasHeads past heads
   pub each : (m : MsgName) → chain nodes (head_of heads m) ≡ receipts past m
+  pub numbered : length nodes ≡ length (delivered_dets past)
+  pub placed : (d : Det) → place_of d nodes (head_of heads (message_of d)) ≡ number_of (delivered_dets past) d
 
 -- a recording with what is remembered of it
 pub record IsIndexed (r : Recording) (n_listed n_restarts : ℕ) (by_process : List Lane) (by_message : ChainsState) : Type 0 where

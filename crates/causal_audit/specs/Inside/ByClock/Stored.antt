@@ -13,4 +13,4 @@ pub record AreTables (r : Recording) (positions : List ℕ) (events : List Event
   pub short : length r.past ≤ max_entries
   pub numbered : ArePositions r.past positions
   pub stands : Stands r.past events
-  pub mentioned : AreMentionsKept r.past mentions
+  pub mentioned : AreMentionsKept r.past r.past mentions

@@ -41,14 +41,14 @@ pub record RunUpTo : Type 0 where
 -- for each determinant the positions before that instant are known at which it is mentioned
 pub record IsRunUpTo (s : RunUpTo) (mentions : Mentions) : Type 0 where
   pub within : s.end ≤ length s.run.past
-  pub mentioned : AreMentionsKept (instant s.run.past s.end) mentions
+  pub mentioned : AreMentionsKept s.run.past (instant s.run.past s.end) mentions
 
 -- a run is prepared for its audit: where no process is released any more, who is down, what mentions each determinant before
 -- the instant `end`, and the deliveries that are followed
 pub record IsPrepared (r : Recording) (f end lasting_from : ℕ) (turns : CrashesAndRestarts) (mentions : Mentions) (opened : List OpenDelivery) : Type 0 where
   pub lasting : NoneReleasedFrom r.past lasting_from
   pub turned : AreTurnsKept r.past turns
-  pub mentioned : AreMentionsKept (instant r.past end) mentions
+  pub mentioned : AreMentionsKept r.past (instant r.past end) mentions
   pub followed : AreOpenDeliveries r f end opened
 
 -- which run a survey is of, for which f, and up to which instant it asks
@@ -65,7 +65,7 @@ pub record IsSurvey (r : Recording) (end : ℕ) (mentions : Mentions) (crashes :
   pub formed : IsWellFormed r
   pub within : end ≤ length r.past
   pub short : length r.past ≤ max_entries
-  pub mentioned : AreMentionsKept (instant r.past end) mentions
+  pub mentioned : AreMentionsKept r.past (instant r.past end) mentions
   pub crashed : AreTurnsOf false r.past (lists_in crashes.lists.items)
   pub staying : AreSpreads r.past (process_at r.past) stays
 

@@ -1,11 +1,12 @@
 -- The lists of positions that are kept of a run.
-use Rattle.std.specs.Prelude.{◌≡◌, ℕ, ◌+◌, ◌<◌, ◌≤◌, ◌⊎◌, true, if◌then◌else◌, List, [], ◌∷◌, ◌++◌, length, map, Option, Some, None, slice_set, slice_index_or, Contains, ◌&&◌, ◌==◌, not, Bool, false, MatchOption}
-use Rattle.causal_audit.specs.Inside.Common.{All, IsNonDecreasing, option_map_or, nat_cmp, FinSet, Det, same_det, Entry, entry_at, has, instant, is_down, past_at, Crash, Restart}
+use Rattle.std.specs.Prelude.{◌≡◌, ℕ, ◌+◌, ◌<◌, ◌≤◌, ◌⊎◌, true, List, [], ◌∷◌, ◌++◌, length, map, Option, Some, slice_set, slice_index_or, Contains, ◌&&◌, ◌==◌, not, Bool, false, MatchOption}
+use Rattle.causal_audit.specs.Inside.Common.{All, IsNonDecreasing, option_map_or, nat_cmp, FinSet, Det, Entry, entry_at, has, instant, is_down, past_at, Crash, Restart}
 use Rattle.std.specs.Global.{Vec}
 use Rattle.causal_audit.specs.Inside.ByClock.Changes.{AreMentionsOf, HasMentions, HasTurns}
 use Rattle.causal_audit.specs.Quiet.{mentioned_by}
 use Rattle.causal_audit.specs.Inside.DeliveryStates.{Shows}
 use Rattle.causal_audit.specs.Spread.{IsCrashOf}
+use Rattle.causal_trace.specs.Numbers.{number_of}
 
 -- a list ascends, and has only numbers below a bound
 pub record Ascends (bound : ℕ) (list : List ℕ) : Type 0 where
@@ -35,31 +36,22 @@ pub record AreTurns (past : List Entry) (list : List ℕ) (downs : List (FinSet 
   pub counted : length downs ≡ length list
   pub shown : (i : ℕ) (s : FinSet nat_cmp) → i < length list → Shows (slice_index_or downs i s) (λ p. is_down (instant past (slice_index_or list i 0 + 1)) p)
 
--- determinants that have numbers, the newest first
-abbrev pub Numbers : Type 0
-Numbers = List Det
-
--- the number of a determinant: how many were numbered before it
-abbrev pub number_of : Numbers → Det → Option ℕ
-number_of [] d = None
-number_of (det ∷ older) d = if same_det det d then Some (length older) else number_of older d
-
--- the list of a determinant
-abbrev pub mentions_of : Numbers → List (List ℕ) → Det → List ℕ
-mentions_of numbers lists d = option_map_or (list_at lists) (number_of numbers d) []
+-- the list of a determinant, where lists stand by the numbers of deliveries that have these
+abbrev pub mentions_of : List Det → List (List ℕ) → Det → List ℕ
+mentions_of delivered lists d = option_map_or (list_at lists) (number_of delivered d) []
 
 -- for each determinant the positions of the entries that mention it, and no others
-pub record AreMentions (past : List Entry) (numbers : Numbers) (lists : List (List ℕ)) : Type 0 where
+pub record AreMentions (past : List Entry) (delivered : List Det) (lists : List (List ℕ)) : Type 0 where
   pub ascend : All (Ascends (length past)) lists
-  pub mentioned : (d : Det) → HasMentions past d (mentions_of numbers lists d)
-  pub only : (d : Det) → AreMentionsOf past d (mentions_of numbers lists d)
+  pub mentioned : (d : Det) → HasMentions past d (mentions_of delivered lists d)
+  pub only : (d : Det) → AreMentionsOf past d (mentions_of delivered lists d)
 
 -- the same, and these determinants have the next position too
-pub record AreMentionsWith (past : List Entry) (dets : List Det) (numbers : Numbers) (lists : List (List ℕ)) : Type 0 where
+pub record AreMentionsWith (past : List Entry) (dets delivered : List Det) (lists : List (List ℕ)) : Type 0 where
   pub ascend : All (Ascends (length past + 1)) lists
-  pub mentioned : (d : Det) → HasMentions past d (mentions_of numbers lists d)
-  pub noted : (d : Det) → has dets d ≡ true → Contains (mentions_of numbers lists d) (length past)
-  pub only : (d : Det) (v : ℕ) → Contains (mentions_of numbers lists d) v → ((e : Entry) × (entry_at past v ≡ Some e) × (has (mentioned_by e) d ≡ true)) ⊎ ((v ≡ length past) × (has dets d ≡ true))
+  pub mentioned : (d : Det) → HasMentions past d (mentions_of delivered lists d)
+  pub noted : (d : Det) → has dets d ≡ true → Contains (mentions_of delivered lists d) (length past)
+  pub only : (d : Det) (v : ℕ) → Contains (mentions_of delivered lists d) v → ((e : Entry) × (entry_at past v ≡ Some e) × (has (mentioned_by e) d ≡ true)) ⊎ ((v ≡ length past) × (has dets d ≡ true))
 
 -- whether an entry restarts this process, where restarts are meant, or else crashes it
 abbrev pub is_turn_of : Bool → ℕ → Entry → Bool

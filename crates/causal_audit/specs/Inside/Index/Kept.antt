@@ -1,5 +1,6 @@
 -- What is kept of turns and of mentions, told of the values that keep it.
 use Rattle.std.specs.Prelude.{true, List}
+use Rattle.causal_trace.specs.Numbers.{delivered_dets}
 use Rattle.causal_audit.specs.Inside.Common.{Det, Entry}
 use Rattle.causal_audit.specs.declared.index.mentions.Mentions.{Mentions}
 use Rattle.causal_audit.specs.declared.index.crashes_and_restarts.CrashesAndRestarts.{CrashesAndRestarts}
@@ -10,10 +11,11 @@ pub record AreTurnsKept (past : List Entry) (turns : CrashesAndRestarts) : Type 
   pub turned : AreTurns past turns.positions.items turns.downs.items
   pub restarted : AreTurnsOf true past (lists_in turns.restarts.lists.items)
 
--- for each determinant the positions of the entries that mention it are kept, and no others
-abbrev pub AreMentionsKept : List Entry → Mentions → Type 0
-AreMentionsKept past mentions = AreMentions past mentions.numbers mentions.lists
+-- for each determinant the positions of the entries of a past that mention it are kept, and no others, by the deliveries of the
+-- whole run
+abbrev pub AreMentionsKept : List Entry → List Entry → Mentions → Type 0
+AreMentionsKept whole past mentions = AreMentions past (delivered_dets whole) mentions.lists
 
 -- the same, and these determinants have the next position too
-abbrev pub AreMentionsWithKept : List Entry → List Det → Mentions → Type 0
-AreMentionsWithKept past dets mentions = AreMentionsWith past dets mentions.numbers mentions.lists
+abbrev pub AreMentionsWithKept : List Entry → List Entry → List Det → Mentions → Type 0
+AreMentionsWithKept whole past dets mentions = AreMentionsWith past dets (delivered_dets whole) mentions.lists

@@ -1,5 +1,5 @@
 -- Where a look at a determinant stands, how the determinant stands then, and what all looks found.
-use Rattle.std.specs.Prelude.{◌≡◌, ℕ, ◌<◌, ◌≤◌, true, false, List, ◌+◌, ◌⊎◌, Contains, length, Some, slice_index_or}
+use Rattle.std.specs.Prelude.{◌≡◌, ℕ, ◌<◌, ◌≤◌, true, false, List, ◌+◌, ◌⊎◌, Contains, Option, Some, None, slice_index_or}
 use Rattle.causal_audit.specs.Inside.Common.{nat_cmp, FinSet, contains, len, union, Det, Entry, instant, is_stable, is_down, logs, All, IsNonDecreasingBy, Recording, Reaches}
 use Rattle.std.specs.FinSet.{is_subset}
 use Rattle.causal_name.specs.Sets.{count_below}
@@ -13,7 +13,7 @@ use Rattle.causal_audit.specs.declared.look.Look.{Look}
 use Rattle.causal_audit.specs.declared.look.LookPosition.{LookPosition}
 use Rattle.causal_audit.specs.declared.look.thin.Stretch.{Stretch}
 use Rattle.causal_audit.specs.declared.look.thin_stretches.ThinStretches.{ThinStretches}
-use Rattle.causal_audit.specs.Inside.Index.Filed.{Numbers, number_of}
+use Rattle.causal_trace.specs.Numbers.{delivered_dets, number_of}
 use Rattle.causal_audit.specs.declared.look.looks.Looks.{Looks}
 
 -- d is not stable at the instant u, at most so many processes are down or hold it, and one that its receiver reaches neither is
@@ -94,15 +94,16 @@ pub record MayBeOpen (thins : ThinStretches) (k spread crash u : ℕ) : Type 0 w
   pub thin : u ≤ thins.last
   pub left : (spread < u) ⊎ ((u ≤ crash) × IsInOne thins.bare.items u)
 
--- for each determinant of a number below m it was found by that number where it is thin up to the instant `end`
-abbrev pub AreLooksBelow : Recording → ℕ → ℕ → Numbers → ℕ → List ThinStretches → Type 0
-AreLooksBelow r most end numbers m found =
-    (d : Det) (i : ℕ) (x : ThinStretches) → i < m → number_of numbers d ≡ Some i
-    → AreThinStretches r.processes most r.past d (end + 1) (slice_index_or found i x)
+-- what was found by the number of a determinant's newest delivery is where it is thin up to the instant `end`
+abbrev pub AreLooks : Recording → ℕ → ℕ → List (Option ThinStretches) → Type 0
+AreLooks r most end found =
+    (d : Det) (i : ℕ) (thins : ThinStretches) → number_of (delivered_dets r.past) d ≡ Some i → slice_index_or found i None ≡ Some thins
+    → AreThinStretches r.processes most r.past d (end + 1) thins
 
--- for each determinant that is mentioned
+-- it was found of this run
 pub record AreAllLooks (r : Recording) (most end : ℕ) (looks : Looks) : Type 0 where
-  pub found : AreLooksBelow r most end looks.mentions.now.numbers (length looks.found.items) looks.found.items
+  pub run : looks.trace.now.recording ≡ r
+  pub found : AreLooks r most end looks.found.items
 
 -- this was found of the determinant
 abbrev pub IsLookOf : Looks → Det → ThinStretches → Type 0

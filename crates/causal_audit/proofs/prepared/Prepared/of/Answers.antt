@@ -1,21 +1,14 @@
 use Rattle.causal_audit.proofs.Common.{◌≡◌, inl, length, reverse, ap, subst, ◌∙◌, reverse-reverse, All-permutation, Contains-permutation, IsPermutation-map, IsPermutation-sym, past_at, past_whole}
 use Rattle.std.specs.Prelude.{IsPermutation}
-use Rattle.causal_audit.specs.Inside.Index.Kept.{AreMentionsKept, AreTurnsKept}
+use Rattle.causal_audit.specs.Inside.Index.Kept.{AreTurnsKept}
 use Rattle.causal_audit.specs.Inside.Group.OpenDeliveries.{IsDeliveryAt, IsPrepared, IsOpenDelivery, positions_of}
 use Rattle.causal_audit.specs.declared.group.run_to_follow.OpenDelivery.{OpenDelivery}
 use Rattle.causal_audit.specs.Parts.{AreEnough}
 use Rattle.causal_audit.specs.Lasting.{NoneReleasedFrom}
 use Rattle.causal_audit.proofs.AmongLemmas.{among_all, among_wider}
 use Rattle.causal_audit.proofs.look.SurveyGathers.{any_other}
-use Rattle.causal_audit.proofs.Steps.{begins}
 use Rattle.causal_audit.proofs.group.OpenPositions.{of_positions}
 use Rattle.causal_audit.proofs.prepared.Prepared.of.Goals as goal
-
-pub open_deliveries_of-requires-clause-mentioned : goal.open_deliveries_of-requires-clause-mentioned
-open_deliveries_of-requires-clause-mentioned c =
-    let entries = c.entries-entries.result.now in
-    let past = c.args.trace.now.recording.past in
-    subst (λ p. AreMentionsKept p c.in_ok-mentions.mentions) (begins c.args.trace.now.recording entries c.entries-entries.ensures.value c.args.end c.requires) c.in_ok-mentions.ensures
 
 pub invariant_of-result : goal.invariant_of-result
 invariant_of-result c =
@@ -30,7 +23,7 @@ invariant_of-result c =
     let prepared : IsPrepared r c.args.f c.args.end c.lasting_from-lasting_from.result c.in_ok-turns.turns c.in_ok-mentions.mentions opened = record {
       lasting = subst (λ p. NoneReleasedFrom p c.lasting_from-lasting_from.result) whole c.lasting_from-lasting_from.ensures;
       turned = subst (λ p. AreTurnsKept p c.in_ok-turns.turns) whole c.in_ok-turns.ensures;
-      mentioned = subst (λ p. AreMentionsKept p c.in_ok-mentions.mentions) (begins r entries c.entries-entries.ensures.value c.args.end c.requires) c.in_ok-mentions.ensures;
+      mentioned = c.in_ok-mentions.ensures;
       followed = record {
         within = c.requires;
         deliveries = All-permutation (λ (delivery : OpenDelivery). IsDeliveryAt past delivery.position) gathered opened moved (of_positions (IsDeliveryAt past) gathered all.uncovered.deliveries);

@@ -1,4 +1,5 @@
 use Rattle.causal_audit.proofs.Common.{◌≡◌, ◌≤◌, ◌∙◌, Some, subst, sym, arith, Contains, false, IsNonDecreasing, has, instant}
+use Rattle.causal_trace.specs.Numbers.{delivered_dets}
 use Rattle.causal_audit.specs.Quiet.{mentioned_by}
 use Rattle.causal_audit.specs.Inside.Group.Walk.{IsUntouchedBefore}
 use Rattle.causal_audit.specs.Inside.Group.OpenDeliveries.{RunUpTo}
@@ -9,7 +10,8 @@ use Rattle.causal_audit.proofs.group.run_to_follow.RunToFollow.first_touched.Goa
 pub first_in-requires : goal.first_in-requires
 first_in-requires c =
     let following = c.self.inside in
-    record { ascend = subst IsNonDecreasing (sym c.list.ensures) (mentions_ascend (instant following.outline.trace.now.recording.past following.end) following.mentions.now.numbers following.mentions.now.lists c.self.invariant.mentioned c.in-Some.det) }
+    let past = following.outline.trace.now.recording.past in
+    record { ascend = subst IsNonDecreasing (sym c.list.ensures) (mentions_ascend (instant past following.end) (delivered_dets past) following.mentions.now.lists c.self.invariant.mentioned c.in-Some.det) }
 
 pub returns-clause-first : goal.returns-clause-first
 returns-clause-first c =

@@ -1,4 +1,5 @@
 use Rattle.causal_audit.proofs.Common.{◌≡◌, ◌∙◌, ◌<◌, entry_at, inl, inr, length, Some, refl, subst, sym, arith, Contains, contains, has, instant}
+use Rattle.causal_trace.specs.Numbers.{delivered_dets}
 use Rattle.causal_audit.specs.Quiet.{mentioned_by}
 use Rattle.causal_audit.specs.Inside.Group.Walk.{IsMarked, row}
 use Rattle.causal_audit.specs.Inside.Index.Filed.{mentions_of}
@@ -13,7 +14,7 @@ returns-in-Some-clause-marked c =
     let past = following.outline.trace.now.recording.past in
     let rows = c.mark.new.rows.items in
     let det = c.in-Some.det in
-    let list = mentions_of following.mentions.now.numbers following.mentions.now.lists det in
+    let list = mentions_of (delivered_dets past) following.mentions.now.lists det in
     subst (λ (s : RunUpTo). IsMarked s.run.past 0 c.args.place c.args.delivery rows) c.self.view_is (λ i d e late inside at there none.
     let one : Some det ≡ Some d = c.in-Some.ensures ∙ at in
     let same : det ≡ d = cc one in

@@ -1,20 +1,29 @@
-use Rattle.causal_audit.proofs.Common.{◌≡◌, ap, sym, subst, ◌∙◌, IsNonDecreasing, instant}
+use Rattle.causal_audit.proofs.Common.{◌≡◌, ap, sym, subst, ◌∙◌, None, length, length-replicate, IsNonDecreasing, instant}
+use Rattle.causal_trace.specs.Numbers.{delivered_dets}
 use Rattle.causal_audit.specs.Inside.Index.Reached.{HasReached, reached_by}
 use Rattle.causal_audit.specs.Inside.ByClock.Changes.{AreMentionsOf, HasMentions}
 use Rattle.causal_audit.proofs.index.Filings.{mentions_ascend}
+use Rattle.causal_audit.proofs.look.LookFindings.{none_looked}
 use Rattle.causal_audit.proofs.look.looks.Looks.of.Goals as goal
+
+pub loop-k-init : goal.loop-k-init
+loop-k-init c = record {
+  count = ap length c.in_ok-found.ensures ∙ length-replicate _ None ∙ c.deliveries.ensures;
+  found = none_looked _ _ _ _ _ c.in_ok-found.ensures;
+}
 
 pub invariant_of-look : goal.invariant_of-look
 invariant_of-look c =
-    let past = instant c.args.run.now.trace.now.recording.past c.args.end in
+    let whole = c.args.run.now.trace.now.recording.past in
+    let past = instant whole c.args.end in
     let mentions = c.args.mentions.now in
-    let det = c.det-det.result in
+    let det = c.in-Some.det in
     let is : c.reached_by.result ≡ reached_by c.in_ok-sets.sets.items det.dest.0 =
     c.reached_by.ensures ∙ ap (λ xs. reached_by xs det.dest.0) c.deref.ensures.value in
     record {
       within = c.requires.within;
-      reaching = subst (HasReached c.args.run.now.trace.now.recording.past det.dest.0) (sym is) (c.in_ok-sets.ensures.each det.dest.0);
-      ascending = subst IsNonDecreasing (sym c.list.ensures) (mentions_ascend past mentions.numbers mentions.lists c.requires.mentioned det);
+      reaching = subst (HasReached whole det.dest.0) (sym is) (c.in_ok-sets.ensures.each det.dest.0);
+      ascending = subst IsNonDecreasing (sym c.list.ensures) (mentions_ascend past (delivered_dets whole) mentions.lists c.requires.mentioned det);
       mentioned = subst (HasMentions past det) (sym c.list.ensures) (c.requires.mentioned.mentioned det);
       only = subst (AreMentionsOf past det) (sym c.list.ensures) (c.requires.mentioned.only det);
     }

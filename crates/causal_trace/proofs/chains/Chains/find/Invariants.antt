@@ -1,14 +1,14 @@
 use Rattle.std.proofs.Common.{◌≡◌, ◌+◌, length}
-use Rattle.std.specs.List.{list_any}
 use Rattle.std.specs.Option.{option_map_or}
-use Rattle.causal_trace.specs.Inside.Chains.{IsBelow, chain, chain_of, is_sought}
-use Rattle.causal_trace.proofs.chains.Chains.has.Given as goal
+use Rattle.causal_name.specs.Names.{message_of}
+use Rattle.causal_trace.specs.Inside.Chains.{IsBelow, head_of, place_of}
+use Rattle.causal_trace.proofs.chains.Chains.find.Given as goal
 
 -- what is sought is in the rest of the chain, if anywhere
 abbrev pub invariant-loop-place : goal.invariant-loop-place
 invariant-loop-place l = record {
   inside : IsBelow l.place (length l.self.nodes);
-  rest : list_any (is_sought l.dest l.sought) (chain_of l.self l.fn.message) ≡ list_any (is_sought l.dest l.sought) (chain l.self.nodes l.place);
+  rest : place_of l.det l.self.nodes (head_of l.self.heads (message_of l.det)) ≡ place_of l.det l.self.nodes l.place;
 }
 
 -- each node leads to an older one
