@@ -171,16 +171,6 @@ module _ (r : Recording) (f : ℕ) where
   horizon_within end positions None none = omega arith
   horizon_within end positions (Some b) one = one.0
 
-  -- the horizon of two answers is that of the second by that of the first
-  not_later : (end : ℕ) (a b : Breach) (x : Bool) → comes_before b a ≡ x → horizon end (if x then Some b else Some a) ≤ b.instant
-  not_later end a b true h = omega arith
-  not_later end a b false h = grind (arith, nat_tests)
-
-  pub horizon_joined : (end : ℕ) (one other : Option Breach) → horizon end (earlier one other) ≤ horizon (horizon end one) other
-  horizon_joined end None other = omega arith
-  horizon_joined end (Some a) None = omega arith
-  horizon_joined end (Some a) (Some b) = not_later end a b (comes_before b a) refl
-
   -- Where each other delivery has no orphan by then, it is the least of all.
   pub among_all : (end : ℕ) (positions : List ℕ) (found : Option Breach) → AreAccepted r.processes r.past → end ≤ length r.past
       → ((k : ℕ) (d : Det) → det_at r.past k ≡ Some d → Contains positions k ⊎ HasNoOrphanBy r f k end)

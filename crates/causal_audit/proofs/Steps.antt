@@ -1,5 +1,5 @@
 -- From one instant of a recorded run to the next, by the entry read there.
-use Rattle.causal_audit.proofs.Common.{◌==◌, ◌⊎◌, ℕ, ◌≡◌, ◌+◌, ◌<◌, ◌≤◌, inl, inr, List, None, [], ◌∷◌, length, get_or, reverse, take, Some, sym, ap, subst, ◌∙◌, arith, nat_cmp, FinSet, empty, len, cases_lt, cond-false, cond-true, eqb_tells, entry_beyond, ne_eqb, length-reverse, refl, take_all, count_below, Entry, instant, entry_at, is_down, Recording, IsWellFormed, past_at, entries_of, past_more, count_below-none, read_instant, accepted_then, instants_stay, one_more_instant}
+use Rattle.causal_audit.proofs.Common.{◌==◌, ◌⊎◌, ℕ, ◌≡◌, ◌+◌, ◌<◌, ◌≤◌, inl, inr, List, None, [], ◌∷◌, length, get_or, reverse, take, Some, sym, ap, subst, ◌∙◌, arith, nat_cmp, FinSet, empty, len, cases_lt, cond-false, cond-true, eqb_tells, entry_beyond, length-reverse, refl, take_all, count_below, Entry, instant, entry_at, is_down, Recording, IsWellFormed, past_at, entries_of, past_more, count_below-none, read_instant, accepted_then}
 use Rattle.causal_trace.proofs.Lemmas.AtInstants.{found_then}
 use Rattle.causal_audit.specs.Inside.DeliveryStates.{Shows}
 use Rattle.causal_audit.proofs.Between.{next_entry}

@@ -32,8 +32,8 @@ pub fn least_by(alloc: Global, trace: &Trace, f: u16, end: u32) -> Result<Option
     ensures { IfOk result (LeastBreachBy trace.now.recording f end 0 (deliveries_in trace.now.recording.past)) }
 {
     let prepared = Prepared::of(alloc, trace, f, end)?;
-    let mut whole = prepared.part(alloc, trace, 0, prepared.followed())?;
-    Ok(whole.least())
+    let whole = prepared.part(trace, 0, prepared.followed());
+    whole.least(alloc)
 }
 
 /// How many of the first entries are looked at before the others, up to the instant `end`.

@@ -3,7 +3,6 @@ ghost use Rattle.std.specs.Prelude.{◌≡◌, ◌≤◌, IfOk, length};
 ghost use Rattle.causal_audit.specs.Parts.{AreEnough, LeastOf, part_of};
 
 use crate::breach::Breach;
-use crate::group::buffers::WalkBuffers;
 use crate::group::ordered::put_in_order;
 use crate::group::run_to_follow::{OpenDelivery, RunToFollow};
 use crate::index::crashes_and_restarts::CrashesAndRestarts;
@@ -87,21 +86,11 @@ impl Prepared {
     }
 
     /// Those of them from place `from` on and below place `to`. The trace is the one that was prepared.
-    ///
-    /// # Errors
-    /// `NoMemory` where the memory to follow them was refused: 32 bytes for each entry up to the end.
-    pub fn part<'a>(
-        &'a self,
-        alloc: Global,
-        trace: &'a Trace,
-        from: usize,
-        to: usize,
-    ) -> Result<Part<'a>, NoMemory>
+    pub fn part<'a>(&'a self, trace: &'a Trace, from: usize, to: usize) -> Part<'a>
         requires same { trace.now.recording ≡ self.now.run }
         requires places { (from ≤ to) × (to ≤ length self.now.positions) }
-        ensures { IfOk result (λ part. part ≡ part_of self.now from to) }
+        ensures { result ≡ part_of self.now from to }
     {
-        let room = WalkBuffers::new(alloc, self.end)?;
         let outline = Outline {
             trace,
             lasting_from: self.lasting_from,
@@ -112,46 +101,47 @@ impl Prepared {
             mentions: &self.mentions,
             end: self.end,
         };
-        Ok(Part {
+        Part {
             following,
             f: self.f,
             end: self.end,
             opened: &self.opened[from..to],
-            room,
-        })
+        }
     }
 }
 
-/// Some of the deliveries of a prepared run that are followed, with the memory that this takes. It is seen as these deliveries.
+/// Some of the deliveries of a prepared run that are followed. It is seen as these deliveries.
 #[derive(Drop)]
 pub struct Part<'a> {
     following: RunToFollow<'a>,
     f: u16,
     end: u32,
     opened: &'a [OpenDelivery],
-    room: WalkBuffers,
 }
 
 impl<'a> Model for Part<'a> {
     ghost use Rattle.causal_audit.specs.Parts.{Followed};
     ghost use Rattle.std.specs.Prelude.{◌≤◌};
-    ghost use Rattle.causal_audit.specs.Inside.Group.Walk.{HasBuffers};
     ghost use Rattle.causal_audit.specs.Inside.Group.OpenDeliveries.{AreOpenDeliveries, positions_of};
 
     ghost Value = { Followed };
 
     ghost view = { λ a. record { run = a.following.run; f = a.f; end = a.end; positions = positions_of a.opened.now } };
 
-    ghost invariant = { λ a. AreOpenDeliveries a.following.run a.f a.end a.opened.now × (a.end ≤ a.following.end) × HasBuffers a.end a.room };
+    ghost invariant = { λ a. AreOpenDeliveries a.following.run a.f a.end a.opened.now × (a.end ≤ a.following.end) };
 }
 
 impl Part<'_> {
     /// The least breach of these deliveries, by instant and then by position, if it comes by the instant up to which the run is
-    /// prepared; None where none of them has an orphan by then. It takes no memory.
-    pub fn least(&mut self) -> Option<Breach>
-        ensures { LeastOf self.old result }
+    /// prepared; None where none of them has an orphan by then. It takes 32 bytes of memory for each entry of the longest walk that
+    /// follows some of them, and 32 kB, and gives them back.
+    ///
+    /// # Errors
+    /// `NoMemory` where memory was refused.
+    pub fn least(&self, alloc: Global) -> Result<Option<Breach>, NoMemory>
+        ensures { IfOk result (LeastOf self.now) }
     {
         self.following
-            .least_within(self.f, self.end, self.opened, &mut self.room)
+            .least_within(alloc, self.f, self.end, self.opened)
     }
 }

@@ -4,10 +4,10 @@ ghost use Rattle.std.specs.Bool.{OnTrue};
 ghost use Rattle.causal_audit.specs.Parts.{Followed, LeastOf};
 ghost use Rattle.causal_audit.specs.Verdicts.{IsVerdict};
 ghost use Rattle.causal_workers.specs.Judgements.{IsOnlyVerdict};
-ghost use Rattle.causal_workers.specs.Inside.Shares.{AreTasksAfter, Covers, FollowsAfter, IsFirstShare, IsPartOf, IsReady, Tells};
+ghost use Rattle.causal_workers.specs.Inside.Shares.{Covers, FollowsAfter, IsFirstOf, IsFirstShare, Tells};
 
 use crate::gate::Gate;
-use crate::share::{Share, Started, Task};
+use crate::share::{Answer, Share, Started};
 use causal_audit::{
     Breach, GROUP, Prepared, Verdict, decided, earlier, first_excess_in, horizon_in,
 };
@@ -47,7 +47,7 @@ impl From<NoMemory> for AuditFault {
 /// follows.
 ///
 /// # Errors
-/// `NoMemory` where memory was refused: all is taken before the first worker is started.
+/// `NoMemory` where memory was refused, be it to one of the workers, after all ended.
 /// `NoWorker` where a worker could not be started, after those that were started ended; never with one worker.
 #[tactic(auto, using(causal_audit::proofs::Lemmas::OneVerdict::one_verdict))]
 pub fn audit<G: Gate + Sync, R: Threads + Wait>(
@@ -96,8 +96,7 @@ fn least_of_all<G: Gate + Sync, R: Threads + Wait>(
     )
 }
 
-/// Starts all workers but the first, does the first share itself, and joins them. All memory is taken before the first worker
-/// is started.
+/// Starts all workers but the first, does the first share itself, and joins them.
 fn least_in<'s, 't: 's, 'g: 's, E, G: Gate + Sync, R: Threads>(
     rt: &R,
     scope: &Scope<'s, E>,
@@ -120,82 +119,50 @@ fn least_in<'s, 't: 's, 'g: 's, E, G: Gate + Sync, R: Threads>(
         from: 0,
         to: share_end(0, prepared.followed(), workers),
     };
-    let first = task_of(alloc, trace, own)?;
-    let tasks = tasks_after(alloc, trace, own, workers)?;
-    if !all_started(scope, &mut started, own, tasks, gate) {
+    if !all_started(scope, &mut started, alloc, trace, own, workers, gate) {
         join_all(rt, started);
         return Err(AuditFault::NoWorker);
     }
-    let Task { share, mut part } = first;
-    let least = share.judged(&mut part, 0, gate);
-    Ok(least_joined(rt, least, started))
+    let first = own.judged(alloc, trace, 0, gate);
+    let least = least_joined(rt, first, started)?;
+    Ok(least)
 }
 
-/// The task of a share.
-fn task_of<'t>(alloc: Global, trace: &'t Trace, share: Share<'t>) -> Result<Task<'t>, NoMemory>
-    requires same { trace.now.recording ≡ share.prepared.now.run }
-    requires inside { (share.from ≤ share.to) × (share.to ≤ length share.prepared.now.positions) }
-    ensures share { IfOk result (λ task. task.share ≡ share.entry) }
-    ensures ready { IfOk result IsReady }
-{
-    let Share { prepared, from, to } = share;
-    let part = prepared.part(alloc, trace, from, to)?;
-    Ok(Task { share, part })
-}
-
-/// The tasks of the workers from 1 on, of what follows `own`.
-fn tasks_after<'t>(
+/// Starts the workers from 1 on, for what follows `own`, and says whether all could be started.
+fn all_started<'s, 't: 's, 'g: 's, E, G: Gate + Sync>(
+    scope: &Scope<'s, E>,
+    started: &mut Vec<Started<'t>>,
     alloc: Global,
     trace: &'t Trace,
     own: Share<'t>,
     workers: u32,
-) -> Result<Vec<Task<'t>>, NoMemory>
+    gate: &'g G,
+) -> bool
     requires workers { (1 ≤ workers) × (workers ≤ 64) }
+    requires capacity { (started.old.items ≡ []) × (workers ≤ vec_capacity started.old + 1) }
     requires same { trace.now.recording ≡ own.prepared.now.run }
     requires own { IsFirstShare workers own }
-    ensures tasks { IfOk result (λ tasks. AreTasksAfter own.entry tasks.items) }
-    ensures count { IfOk result (λ tasks. length tasks.items + 1 ≡ workers) }
+    ensures shares { OnTrue result (FollowsAfter own.entry started.new.items) }
+    ensures alone { workers ≡ 1 → result ≡ true }
 {
     let Share { prepared, .. } = own;
     let all = prepared.followed();
-    let mut tasks = Vec::new(alloc);
     let mut from = own.to;
     for worker in 1..workers {
         let to = share_end(from, all, workers - worker);
         let share = Share { prepared, from, to };
-        tasks.push(task_of(alloc, trace, share)?)?;
-        from = to;
-    }
-    Ok(tasks)
-}
-
-/// Starts a worker for each task, the first with the number 1, and says whether all could be started.
-fn all_started<'s, 't: 's, 'g: 's, E, G: Gate + Sync>(
-    scope: &Scope<'s, E>,
-    started: &mut Vec<Started<'t>>,
-    own: Share<'t>,
-    tasks: Vec<Task<'t>>,
-    gate: &'g G,
-) -> bool
-    requires capacity { (started.old.items ≡ []) × (length tasks.items ≤ vec_capacity started.old) }
-    requires few { length tasks.items ≤ 63 }
-    requires tasks { AreTasksAfter own tasks.items }
-    ensures shares { OnTrue result (FollowsAfter own.entry started.new.items) }
-    ensures alone { tasks.entry.items ≡ [] → result ≡ true }
-{
-    for task in tasks {
-        let Task { share, mut part } = task;
-        let worker = started.len() as u32 + 1;
-        let work = move || -> Option<Breach>
-            requires { IsPartOf share part }
+        let work = move || -> Answer
+            requires same { trace.now.recording ≡ share.prepared.now.run }
+            requires inside { (share.from ≤ share.to) × (share.to ≤ length share.prepared.now.positions) }
             ensures { Tells share.entry.prepared.now share.entry.from share.entry.to result }
-        { share.judged(&mut part, worker, gate) };
+        { share.judged(alloc, trace, worker, gate) };
         let Ok(handle) = scope.spawn_with(share, work) else {
             return false;
         };
         if started.push(handle).is_err() {
             unreachable!()
         }
+        from = to;
     }
     true
 }
@@ -215,18 +182,21 @@ fn share_end(from: usize, all: usize, left: u32) -> usize
     from + rest.min(groups.saturating_mul(GROUP))
 }
 
+/// The one of two answers that comes first, where memory sufficed for both.
+fn first_of(one: Answer, other: Answer) -> Answer
+    ensures { IsFirstOf one other result }
+{
+    Ok(earlier(one?, other?))
+}
+
 /// Joins the workers, and gives the one of all answers that comes first.
-fn least_joined<'t, R: Threads>(
-    rt: &R,
-    first: Option<Breach>,
-    started: Vec<Started<'t>>,
-) -> Option<Breach>
+fn least_joined<'t, R: Threads>(rt: &R, first: Answer, started: Vec<Started<'t>>) -> Answer
     ensures { (followed : Followed) (to : ℕ) → Covers followed first started.entry.items to →
         Tells followed 0 to result }
 {
     let mut least = first;
     for handle in started {
-        least = earlier(least, handle.join(rt));
+        least = first_of(least, handle.join(rt));
     }
     least
 }

@@ -1,7 +1,7 @@
 -- Which of a few deliveries reach the entries of a walk, with one entry more.
-use Rattle.causal_audit.proofs.Common.{ℕ, ◌≡◌, ◌≢◌, ◌+◌, ◌<◌, ◌≤◌, inl, inr, Bool, true, false, cond, List, ◌∷◌, length, Some, None, entry_at, message_sent, refl, sym, ap, subst, ◌∙◌, arith, ◌↔◌, ◌⊎◌, ◌||◌, ◌&&◌, ◌==◌, not, set, nat_cmp, nat_cmp_total, FinSet, contains, empty, len, len-insert, remove, same_set, nat_cmp-IsAntisymmetric, union, difference, insert, contains-empty, contains-union, contains-difference, false≢true, and_parts, eqb-true, eq-eqb, ne_eqb, eqb_tells, nat_tests, get_or-set_same, get_or-set_other, Pid, Det, Entry, Send, Deliver, Stable, Crash, Restart, Forget, det_at, is_down, lane, AreAccepted, actor, Reaches, Depends, accepted_forward, delivers_sent, delivers_up, event_below, reaches_begins, reaches_old, depends_restarted}
+use Rattle.causal_audit.proofs.Common.{ℕ, ◌≡◌, ◌≢◌, ◌+◌, ◌-◌, ◌<◌, ◌≤◌, inl, inr, Bool, true, false, cond, List, ◌∷◌, length, Some, None, entry_at, message_sent, refl, sym, ap, subst, ◌∙◌, arith, ◌↔◌, ◌⊎◌, ◌||◌, ◌&&◌, ◌==◌, not, set, nat_cmp, nat_cmp_total, FinSet, contains, empty, len, len-insert, remove, same_set, nat_cmp-IsAntisymmetric, union, difference, insert, contains-empty, contains-union, contains-difference, false≢true, and_parts, eqb-true, eq-eqb, ne_eqb, eqb_tells, nat_tests, get_or-set_same, get_or-set_other, Pid, Det, Entry, Send, Deliver, Stable, Crash, Restart, Forget, det_at, is_down, lane, AreAccepted, actor, Reaches, Depends, accepted_forward, delivers_sent, delivers_up, event_below, reaches_begins, reaches_old, depends_restarted}
 use Rattle.causal_audit.specs.declared.group.reach.ReachingDeliveries.{ReachingDeliveries}
-use Rattle.causal_audit.specs.Inside.Group.Walk.{IsNewly, TellRows, TellsReached, row}
+use Rattle.causal_audit.specs.Inside.Group.Walk.{HasRow, IsNewly, TellRows, TellsReached, row, row_of}
 use Rattle.causal_audit.specs.Inside.DeliveryStates.{TellsNextReach}
 use Rattle.causal_audit.proofs.Between.{IsNoTurn, reaches_more, depends_more, depends_before}
 use Rattle.causal_audit.proofs.Legal.{sent_is}
@@ -17,34 +17,26 @@ Sets = List (FinSet nat_cmp)
 pub none_in : (j : ℕ) → contains {R = nat_cmp} empty j ≡ true → ⊥
 none_in j h = false≢true (sym (contains-empty nat_cmp j) ∙ h)
 
--- what is told holds of other rows that have the same of the entries so far
-pub told_so : (past : List Entry) (start k j : ℕ) (rows now present : Sets) → ((v : ℕ) → v < length past → row now v ≡ row rows v) → TellRows past start k j rows present → TellRows past start k j now present
-told_so past start k j rows now present same told = record {
-  early = told.early;
-  behind = λ v from to ssn late at. subst (λ s. (contains s j ≡ true) ↔ Reaches past k v) (sym (same v (entry_within past v (Send from to ssn) at))) (told.behind v from to ssn late at);
-  depends = told.depends;
-}
-
 module _ (n : ℕ) (past : List Entry) (start k j : ℕ) (rows present : Sets) (told : TellRows past start k j rows present) where
   -- ---- the rows of the sends
 
   module _ (e : Entry) (formed : AreAccepted n (e ∷ past)) where
     -- the rows of the older ones tell the same, and so does that of the newest entry, if it is one
-    behind_next : (now : Sets) → ((v : ℕ) → v < length past → row now v ≡ row rows v) → ((from to : Pid) (ssn : ℕ) → e ≡ Send from to ssn → (contains (row now (length past)) j ≡ true) ↔ Reaches (e ∷ past) k (length past))
-        → (v : ℕ) (from to : Pid) (ssn : ℕ) → start ≤ v → entry_at (e ∷ past) v ≡ Some (Send from to ssn) → (contains (row now v) j ≡ true) ↔ Reaches (e ∷ past) k v
+    behind_next : (now : Sets) → ((v : ℕ) → start ≤ v → v < length past → row_of start now v ≡ row_of start rows v) → ((from to : Pid) (ssn : ℕ) → e ≡ Send from to ssn → (contains (row_of start now (length past)) j ≡ true) ↔ Reaches (e ∷ past) k (length past))
+        → (v : ℕ) (from to : Pid) (ssn : ℕ) → start ≤ v → entry_at (e ∷ past) v ≡ Some (Send from to ssn) → (contains (row_of start now v) j ≡ true) ↔ Reaches (e ∷ past) k v
     behind_next now same newest v from to ssn late at = elim (entry_cases e past v (Send from to ssn) at) [
       | inl old ↦
           let low : v < length past = entry_within past v (Send from to ssn) old in
           let before = told.behind v from to ssn late old in (
-            λ h. reaches_more e past k v (before.0 (ap (λ s. contains s j) (sym (same v low)) ∙ h)),
-            λ reach. ap (λ s. contains s j) (same v low) ∙ before.1 (reaches_old e past k (accepted_forward n (e ∷ past) formed) v low reach),
+            λ h. reaches_more e past k v (before.0 (ap (λ s. contains s j) (sym (same v late low)) ∙ h)),
+            λ reach. ap (λ s. contains s j) (same v late low) ∙ before.1 (reaches_old e past k (accepted_forward n (e ∷ past) formed) v low reach),
           )
-      | inr new ↦ subst (λ x. (contains (row now x) j ≡ true) ↔ Reaches (e ∷ past) k x) (sym new.0) (newest from to ssn new.1)
+      | inr new ↦ subst (λ x. (contains (row_of start now x) j ≡ true) ↔ Reaches (e ∷ past) k x) (sym new.0) (newest from to ssn new.1)
     ]
 
     -- an entry that is no send
-    behind_same : message_sent e ≡ None → (v : ℕ) (from to : Pid) (ssn : ℕ) → start ≤ v → entry_at (e ∷ past) v ≡ Some (Send from to ssn) → (contains (row rows v) j ≡ true) ↔ Reaches (e ∷ past) k v
-    behind_same none = behind_next rows (λ v low. refl) (λ from to ssn is. absurd (let x : None ≡ Some _ = sym none ∙ ap message_sent is in cc))
+    behind_same : message_sent e ≡ None → (v : ℕ) (from to : Pid) (ssn : ℕ) → start ≤ v → entry_at (e ∷ past) v ≡ Some (Send from to ssn) → (contains (row_of start rows v) j ≡ true) ↔ Reaches (e ∷ past) k v
+    behind_same none = behind_next rows (λ v late low. refl) (λ from to ssn is. absurd (let x : None ≡ Some _ = sym none ∙ ap message_sent is in cc))
 
     -- ---- the rows of the processes
 
@@ -78,8 +70,8 @@ module _ (n : ℕ) (past : List Entry) (start k j : ℕ) (rows present : Sets) (
   -- ---- each entry
 
   -- a send
-  pub sent : (d : Det) (from to : Pid) (ssn here : ℕ) → AreAccepted n (Send from to ssn ∷ past) → length past ≡ here → here < length rows → (k ≡ length past → det_at (Send from to ssn ∷ past) k ≡ Some d)
-      → TellRows (Send from to ssn ∷ past) start k j (set rows here (row present from.0)) present × IsNewly past (Send from to ssn) k j empty
+  pub sent : (d : Det) (from to : Pid) (ssn here : ℕ) → AreAccepted n (Send from to ssn ∷ past) → length past ≡ here → HasRow start rows here → (k ≡ length past → det_at (Send from to ssn ∷ past) k ≡ Some d)
+      → TellRows (Send from to ssn ∷ past) start k j (set rows (here - start) (row present from.0)) present × IsNewly past (Send from to ssn) k j empty
   sent d from to ssn here formed long inside at =
       let e = Send from to ssn in
       let hit = row present from.0 in
@@ -90,8 +82,8 @@ module _ (n : ℕ) (past : List Entry) (start k j : ℕ) (rows present : Sets) (
       in (
         record {
           early = told.early;
-          behind = behind_next e formed (set rows here hit) (λ v low. get_or-set_other rows here v hit empty (λ is. omega (arith, is, low, long)))
-              (λ from2 to2 ssn2 is. subst (λ s. (contains s j ≡ true) ↔ Reaches (e ∷ past) k (length past)) (sym (ap (row (set rows here hit)) long ∙ get_or-set_same rows here hit empty inside)) (tells from.0 refl));
+          behind = behind_next e formed (set rows (here - start) hit) (λ v late low. get_or-set_other rows (here - start) (v - start) hit empty (λ is. omega (arith, is, late, low, long, inside.0)))
+              (λ from2 to2 ssn2 is. subst (λ s. (contains s j ≡ true) ↔ Reaches (e ∷ past) k (length past)) (sym (ap (row_of start (set rows (here - start) hit)) long ∙ get_or-set_same rows (here - start) hit empty (omega (arith, inside.0, inside.1)))) (tells from.0 refl));
           depends = depends_same e formed (λ p. (refl, refl)) known;
         },
         record { sound = λ h. absurd (none_in j h); complete = λ p of reach. inr (known p of reach) },

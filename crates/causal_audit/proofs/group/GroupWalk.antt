@@ -1,5 +1,5 @@
 -- A walk over the entries for the deliveries of a group.
-use Rattle.causal_audit.proofs.Common.{ℕ, All, cases_lt, ◌≡◌, ◌+◌, ◌++◌, ◌<◌, inl, inr, Bool, true, false, List, [], ◌∷◌, length, Option, Some, None, refl, sym, ap, subst, ◌∙◌, arith, ◌≤◌, ◌⊎◌, Contains, ◌&&◌, ◌==◌, not, ◌↔◌, ◌||◌, nat_cmp, FinSet, contains, remove, empty, union, difference, contains-empty, contains-union, contains-difference, insert, or_cases, or_left, or_right, false≢true, false_from_ne_true, eqb-true, eq-eqb, and_from, cases_Bool, Contains-push, Contains-push_cases, Contains-append_left, Contains-get_or, length-map, length-set, get_or-map, get_or-set_same, get_or-set_other, Det, Entry, instant, det_at, has, logs, entry_at, message_sent, Recording, AreAccepted, IsWellFormed, Depends, HasOrphan, accepted_then, det_then, det_within, instant_length, nat_cmp_total, eqb_tells, nat_tests, Pid, Deliver, Crash, Restart, Forget, Send, Stable, max_entries, set}
+use Rattle.causal_audit.proofs.Common.{ℕ, All, cases_lt, ◌≡◌, ◌+◌, ◌-◌, ◌++◌, ◌<◌, inl, inr, Bool, true, false, List, [], ◌∷◌, length, Option, Some, None, refl, sym, ap, subst, ◌∙◌, arith, ◌≤◌, ◌⊎◌, Contains, ◌&&◌, ◌==◌, not, ◌↔◌, ◌||◌, nat_cmp, FinSet, contains, remove, empty, union, difference, contains-empty, contains-union, contains-difference, insert, or_cases, or_left, or_right, false≢true, false_from_ne_true, eqb-true, eq-eqb, and_from, cases_Bool, Contains-push, Contains-push_cases, Contains-append_left, Contains-get_or, length-map, length-set, get_or-map, get_or-set_same, get_or-set_other, Det, Entry, instant, det_at, has, logs, entry_at, message_sent, Recording, AreAccepted, IsWellFormed, Depends, HasOrphan, accepted_then, det_then, det_within, instant_length, nat_cmp_total, eqb_tells, nat_tests, Pid, Deliver, Crash, Restart, Forget, Send, Stable, max_entries, set}
 use Rattle.causal_audit.specs.declared.breach.Breach.{Breach}
 use Rattle.causal_audit.specs.declared.group.copies.Copies.{Copies}
 use Rattle.causal_audit.specs.declared.group.suspects.Step.{Step}
@@ -10,14 +10,14 @@ use Rattle.causal_audit.specs.Sweep.{MayNewlyFail}
 use Rattle.causal_audit.specs.Quiet.{is_turn, mentioned_by}
 use Rattle.causal_audit.specs.Inside.Among.{FirstBreachBy, HasNoOrphanBy, LeastAmongBy}
 use Rattle.causal_audit.specs.Inside.DeliveryStates.{BreachAt}
-use Rattle.causal_audit.specs.Inside.Group.Walk.{AreCopied, AreCopies, AreCopiesAfter, copies_at, no_copies, AreHeldBefore, IsLacked, IsSuspected, TellsBreachOf, IsStep, position_at, HasBuffers, AreAsked, HaveNone, IsFollowed, ArePlaces, IsNewly, row, HasRowRoom, IsReach, SeesReach, IsPut, opened_at, IsHeldSo, IsDeliveredTo, IsHeldBy, ArePassed, IsOwn, IsTold, TellRows, AreBelow, AreMarked, IsUntouchedBefore}
+use Rattle.causal_audit.specs.Inside.Group.Walk.{AreCopied, AreCopies, AreCopiesAfter, copies_at, no_copies, AreHeldBefore, IsLacked, IsSuspected, TellsBreachOf, IsStep, position_at, AreAsked, HasRow, HaveNone, IsFollowed, ArePlaces, IsNewly, row, row_of, IsReach, SeesReach, IsPut, opened_at, IsHeldSo, IsDeliveredTo, IsHeldBy, ArePassed, IsOwn, IsTold, AreMarked}
 use Rattle.causal_audit.specs.Inside.Group.OpenDeliveries.{positions_of, IsDeliveryAt, IsOpenDelivery}
 use Rattle.causal_audit.proofs.AmongLemmas.{among_push, among_wider, among_none}
 use Rattle.causal_audit.proofs.Between.{depends_before, logs_stay, stable_stays}
 use Rattle.causal_audit.proofs.Lemmas.OrphansByCounts.{exposed, gone_orphan}
 use Rattle.causal_audit.proofs.Swept.{sweep_law, one_new_orphan}
 use Rattle.causal_audit.proofs.NoOrphanSoFar.{accepted_next, first_breach_is}
-use Rattle.causal_audit.proofs.group.GroupReach.{left_in, left_out, none_in, told_so}
+use Rattle.causal_audit.proofs.group.GroupReach.{left_in, left_out, none_in}
 use Rattle.causal_audit.proofs.Steps.{up_to_next}
 use Rattle.causal_audit.proofs.group.OpenPositions.{position, zero}
 use Rattle.causal_audit.specs.declared.group.buffers.WalkBuffers.{WalkBuffers}
@@ -300,17 +300,14 @@ held_crash who old new others here past j d so q h =
 -- ==== a walk over the entries for the deliveries of a group
 
 module _ (r : Recording) (opened : List OpenDelivery) (start : ℕ) (room : WalkBuffers) (t : ℕ) (e : Entry) (own new_ones : FinSet nat_cmp) (followed : IsFollowed r opened start t room) (formed : IsWellFormed r) (below : t < length r.past)
-    (next : instant r.past (t + 1) ≡ e ∷ instant r.past t) (taken new : ReachingDeliveries) (same : ((v : ℕ) → (v ≡ t → ⊥) → row taken.rows.items v ≡ row room.reach.rows.items v) × (taken.start ≡ room.reach.start) × (taken.present.items ≡ room.reach.present.items))
-    (is_own : IsOwn opened t own) (sees : SeesReach e t own taken new new_ones) where
+    (next : instant r.past (t + 1) ≡ e ∷ instant r.past t) (new : ReachingDeliveries) (is_own : IsOwn opened t own) (sees : SeesReach e t own room.reach new new_ones) where
   -- what was seen of the entry is so for each delivery
   pub sees_each : (j : ℕ) (d : Det) → j < length opened → det_at r.past (position_at opened j) ≡ Some d
       → IsReach (e ∷ instant r.past t) (position_at opened j) j new × IsNewly (instant r.past t) e (position_at opened j) j new_ones
   sees_each j d low at =
       let k = position_at opened j in
       sees r.processes (instant r.past t) k j d formed.count.1 (accepted_next r formed t e below next) (instant_length r.past t (omega (arith, below)))
-      (λ here. ap (λ past. det_at past k) (sym next) ∙ det_then r.past (t + 1) k (omega (arith, here)) (omega (arith, below)) ∙ at) (λ h. ((is_own j).0 h).1, λ here. (is_own j).1 (low, here))
-      (subst (λ s. TellRows (instant r.past t) s k j taken.rows.items taken.present.items) (sym same.1) (subst (λ rows. TellRows (instant r.past t) room.reach.start k j taken.rows.items rows) (sym same.2)
-      (told_so (instant r.past t) room.reach.start k j room.reach.rows.items taken.rows.items room.reach.present.items (λ v early. same.0 v (λ is. omega (arith, is, early, instant_length r.past t (omega (arith, below))))) (followed.told j d low at))))
+      (λ here. ap (λ past. det_at past k) (sym next) ∙ det_then r.past (t + 1) k (omega (arith, here)) (omega (arith, below)) ∙ at) (λ h. ((is_own j).0 h).1, λ here. (is_own j).1 (low, here)) (followed.told j d low at)
 
   -- the deliveries reach the entries so far
   pub told_after : (j : ℕ) (d : Det) → j < length opened → det_at r.past (position_at opened j) ≡ Some d → IsReach (instant r.past (t + 1)) (position_at opened j) j new
@@ -325,51 +322,25 @@ held_then (Crash who) past rows places j d by so h = none_in j (subst (λ s. con
 held_then (Restart who listed) past rows places j d by so h = none_in j (subst (λ s. contains s j ≡ true) by h)
 held_then (Forget who listed) past rows places j d by so h = none_in j (subst (λ s. contains s j ≡ true) by h)
 
--- the row of an entry tells which determinants it mentions
-mentions_here : (x : Entry) (t j : ℕ) (rows : Sets) (places : FinSet nat_cmp) (d : Det) → IsTold x t rows places → (message_sent x ≡ None → contains (row rows t) j ≡ has (mentioned_by x) d) → contains places j ≡ has (mentioned_by x) d
-mentions_here (Send from to ssn) t j rows places d told marked = ap (λ s. contains s j) told ∙ contains-empty nat_cmp j
-mentions_here (Deliver to send rsn listed) t j rows places d told marked = ap (λ s. contains s j) told ∙ marked refl
-mentions_here (Stable det) t j rows places d told marked = ap (λ s. contains s j) told ∙ marked refl
-mentions_here (Crash who) t j rows places d told marked = ap (λ s. contains s j) told ∙ marked refl
-mentions_here (Restart who listed) t j rows places d told marked = ap (λ s. contains s j) told ∙ marked refl
-mentions_here (Forget who listed) t j rows places d told marked = ap (λ s. contains s j) told ∙ marked refl
-
--- with the entry at t read, and its row emptied, the rows before are empty but for sends, and those from then on as they were
-pub emptied_next : (past : List Entry) (t : ℕ) (e : Entry) (old new : Sets) → entry_at past t ≡ Some e → ((v : ℕ) → (v ≡ t → ⊥) → row new v ≡ row old v) → (message_sent e ≡ None → row new t ≡ empty)
-    → AreBelow past t 0 old → AreBelow past (t + 1) 0 new
-emptied_next past t e old new here others emptied below v j x early there none h = elim (eqb_tells v t) [
-  | inl is ↦
-      let one : Some x ≡ Some e = sym there ∙ ap (entry_at past) is.1 ∙ here in
-      let same : x ≡ e = cc one in
-      absurd (none_in j (ap (λ s. contains s j) (sym (emptied (ap message_sent (sym same) ∙ none))) ∙ ap (λ u. contains (row new u) j) (sym is.1) ∙ h))
-  | inr apart ↦ below v j x (let ne : v ≡ t → ⊥ = apart.1 in omega (arith, early, ne)) there none (ap (λ s. contains s j) (sym (others v apart.1)) ∙ h)
-]
+-- an entry's row tells which determinants it mentions
+mentions_here : (x : Entry) (j : ℕ) (here places : FinSet nat_cmp) (d : Det) → IsTold x here places → (message_sent x ≡ None → contains here j ≡ has (mentioned_by x) d) → contains places j ≡ has (mentioned_by x) d
+mentions_here (Send from to ssn) j here places d told marked = ap (λ s. contains s j) told ∙ contains-empty nat_cmp j
+mentions_here (Deliver to send rsn listed) j here places d told marked = ap (λ s. contains s j) told ∙ marked refl
+mentions_here (Stable det) j here places d told marked = ap (λ s. contains s j) told ∙ marked refl
+mentions_here (Crash who) j here places d told marked = ap (λ s. contains s j) told ∙ marked refl
+mentions_here (Restart who listed) j here places d told marked = ap (λ s. contains s j) told ∙ marked refl
+mentions_here (Forget who listed) j here places d told marked = ap (λ s. contains s j) told ∙ marked refl
 
 -- rows that are marked from t on are so from the next instant on, where only the row of t changes
-pub marked_next : (past : List Entry) (opened : List OpenDelivery) (t : ℕ) (old new : Sets) → length new ≡ length old → ((v : ℕ) → (v ≡ t → ⊥) → row new v ≡ row old v) → AreMarked past t opened (length opened) old
-    → AreMarked past (t + 1) opened (length opened) new
-marked_next past opened t old new count others marked j low v d e late inside at there none =
-    ap (λ s. contains s j) (others v (λ is. omega (arith, is, late))) ∙ marked j low v d e (omega (arith, late)) (omega (arith, inside, count)) at there none
-
--- rows that are as before, or empty
-pub below_made : (past : List Entry) (to count : ℕ) (old new : Sets) → ((v : ℕ) → (row new v ≡ row old v) ⊎ (row new v ≡ empty)) → AreBelow past to count old → AreBelow past to count new
-below_made past to count old new are below v j e early there none h = elim (are v) [
-  | inl same ↦ below v j e early there none (ap (λ s. contains s j) (sym same) ∙ h)
-  | inr gone ↦ absurd (none_in j (ap (λ s. contains s j) (sym gone) ∙ h))
-]
-
--- before the walk no entry mentions a determinant of the group
-pub begun_empty : (past : List Entry) (start : ℕ) (opened : List OpenDelivery) (rows : Sets) → start ≤ length rows → AreBelow past (length rows) (length opened) rows → AreMarked past 0 opened (length opened) rows
-    → All (IsUntouchedBefore past start) opened → All (λ (delivery : OpenDelivery). IsDeliveryAt past delivery.position) opened → AreBelow past start 0 rows
-begun_empty past start opened rows within below marked untouched made v j e early there none h =
-    let low = below v j e (omega (arith, early, within)) there none h in
-    let det = made j zero low in
-    absurd (false≢true (sym ((untouched j zero low).unmentioned det.0 det.1 v e (omega arith) early there) ∙ sym (marked j low v det.0 e (omega arith) (omega (arith, early, within)) det.1 there none) ∙ h))
+pub marked_next : (past : List Entry) (start : ℕ) (opened : List OpenDelivery) (t : ℕ) (old new : Sets) → length new ≡ length old → ((i : ℕ) → t < start + i → row new i ≡ row old i) → AreMarked past start t opened (length opened) old
+    → AreMarked past start (t + 1) opened (length opened) new
+marked_next past start opened t old new count later marked j low i d e late inside at there none =
+    ap (λ s. contains s j) (later i (omega (arith, late))) ∙ marked j low i d e (omega (arith, late)) (omega (arith, inside, count)) at there none
 
 -- what a step is told
 pub is_step : (r : Recording) (opened : List OpenDelivery) (start : ℕ) (room : WalkBuffers) (s : Step) → IsFollowed r opened start s.t room → IsWellFormed r → s.t < length r.past → instant r.past (s.t + 1) ≡ s.entry.now ∷ instant r.past s.t
     → ((j : ℕ) (d : Det) → j < length opened → det_at r.past (position_at opened j) ≡ Some d → IsNewly (instant r.past s.t) s.entry.now (position_at opened j) j s.newly)
-    → length r.past ≤ max_entries → s.t < length room.reach.rows.items → IsTold s.entry.now s.t room.reach.rows.items s.mentioned → entry_at r.past s.t ≡ Some s.entry.now
+    → length r.past ≤ max_entries → HasRow start room.reach.rows.items s.t → IsTold s.entry.now (row_of start room.reach.rows.items s.t) s.mentioned → entry_at r.past s.t ≡ Some s.entry.now
     → ((j : ℕ) → j < length opened → IsDeliveryAt r.past (position_at opened j)) → IsStep r opened s
 is_step r opened start room s followed formed below next newly short inside told there made = record {
   formed = formed;
@@ -378,18 +349,7 @@ is_step r opened start room s followed formed below next newly short inside told
   next = next;
   made = made;
   newly = newly;
-  mentioned = λ j d low at. mentions_here s.entry.now s.t j room.reach.rows.items s.mentioned d told (followed.marked j low s.t d s.entry.now (omega arith) inside at there);
-}
-
--- the room stays
-pub room_stays : (old new : WalkBuffers) → ((entries : ℕ) → HasRowRoom entries old.reach → HasRowRoom entries new.reach) → length new.copies.items ≡ length old.copies.items → (entries : ℕ) → HasBuffers entries old → HasBuffers entries new
-room_stays old new rows copies entries was = record { reach = rows entries was.reach; copies = copies ∙ was.copies }
-
--- where there is room for so many entries there is room for fewer
-pub room_within : (many few : ℕ) (room : WalkBuffers) → few ≤ many → HasBuffers many room → HasBuffers few room
-room_within many few room low is = record {
-  reach = record { rows = omega (arith, low, is.reach.rows); present = is.reach.present };
-  copies = is.copies;
+  mentioned = λ j d low at. mentions_here s.entry.now j (row_of start room.reach.rows.items s.t) s.mentioned d told (let here : start + (s.t - start) ≡ s.t = omega (arith, inside.0) in followed.marked j low (s.t - start) d s.entry.now (omega (arith, here)) (omega (arith, inside.0, inside.1)) at (ap (entry_at r.past) here ∙ there));
 }
 
 -- where none is the least there is none
@@ -488,15 +448,15 @@ module _ (opened : List OpenDelivery) (t before passed : ℕ) (own : FinSet nat_
 -- ---- one place into one row
 
 -- a place that is inserted into a row is in that row, and nothing else changes
-pub put_in : (rows : Sets) (place r : ℕ) → r < length rows → IsPut place r rows (set rows r (insert (row rows r) place))
-put_in rows place r inside i j low =
+pub put_in : (rows : Sets) (start place r position : ℕ) → start + r ≡ position → r < length rows → IsPut start place position rows (set rows r (insert (row rows r) place))
+put_in rows start place r position is inside i j low =
     elim (eqb_tells i r) [
       | inl here ↦
           let same : contains (row (set rows r (insert (row rows r) place)) i) j ≡ ((place == j) || contains (row rows i) j) =
           ap (λ x. contains (row (set rows r (insert (row rows r) place)) x) j) here.1 ∙ ap (λ s. contains s j) (get_or-set_same rows r (insert (row rows r) place) empty inside) ∙ inserted (row rows r) place j
           ∙ ap (λ x. (place == j) || contains (row rows x) j) (sym here.1) in (
             λ h. elim (or_cases (place == j) (contains (row rows i) j) (sym same ∙ h)) [
-              | inl now ↦ inr (sym (eqb-true place j now), here.1)
+              | inl now ↦ inr (sym (eqb-true place j now), omega (arith, here.1, is))
               | inr old ↦ inl old
             ],
             λ h. same ∙ elim h [
@@ -509,9 +469,7 @@ put_in rows place r inside i j low =
             λ h. inl (ap (λ s. contains s j) (sym same) ∙ h),
             λ h. elim h [
               | inl old ↦ ap (λ s. contains s j) same ∙ old
-              | inr new ↦ absurd (apart.1 new.1)
+              | inr new ↦ absurd (apart.1 (omega (arith, new.1, is)))
             ],
           )
     ]
-
--- ---- one position more

@@ -1,8 +1,7 @@
-//! The memory of a walk over the entries for a group of deliveries, which is made once for all groups.
-ghost use Rattle.std.specs.Prelude.{◌≤◌, ℕ, IfOk, length};
+//! The memory of a walk over the entries for a group of deliveries.
+ghost use Rattle.std.specs.Prelude.{◌≤◌, IfOk, OnOk, length};
 ghost use Rattle.std.specs.List.{All};
-ghost use Rattle.causal_audit.specs.Inside.Group.OpenDeliveries.{IsDeliveryAt};
-ghost use Rattle.causal_audit.specs.Inside.Group.Walk.{AreBelow, ArePlaces, HasBuffers, HasRowsFor, IsFollowed, IsUntouchedBefore};
+ghost use Rattle.causal_audit.specs.Inside.Group.Walk.{ArePlaces, HasBuffers, HasRowsFor, IsFollowed, IsUntouchedBefore};
 
 use crate::group::Places;
 use crate::group::copies::{Copies, forget_all, no_copies};
@@ -25,14 +24,14 @@ pub struct WalkBuffers {
 }
 
 impl WalkBuffers {
-    /// Room for walks over so many entries. It takes 32 bytes for each.
+    /// What a walk keeps, but for the rows of its entries. It takes 32 kB.
     ///
     /// # Errors
     /// `NoMemory` where memory was refused.
-    pub fn new(alloc: Global, entries: u32) -> Result<WalkBuffers, NoMemory>
-        ensures { IfOk result (HasBuffers entries) }
+    pub fn new(alloc: Global) -> Result<WalkBuffers, NoMemory>
+        ensures { IfOk result HasBuffers }
     {
-        let reach = ReachingDeliveries::new(alloc, entries)?;
+        let reach = ReachingDeliveries::new(alloc)?;
         let held = vec![in alloc; Places::none(); PROCESSES as usize]?;
         let copies = vec![in alloc; no_copies(); GROUP]?;
         Ok(WalkBuffers {
@@ -58,25 +57,31 @@ pub fn places_of(opened: &[OpenDelivery]) -> Places
 }
 
 impl RunToFollow<'_> {
-    /// Makes a room ready for a walk from `start` up to `end`, before which nothing touches a delivery of the group. The walks
-    /// before it have left only rows of sends. It takes time as the mentions of the determinants, and as the entries of which no walk
-    /// has come so far.
-    pub fn begin(&self, room: &mut WalkBuffers, start: u32, end: u32, opened: &[OpenDelivery])
+    /// Makes a room ready for a walk from `start` up to `end`, before which nothing touches a delivery of the group. It takes time as
+    /// the mentions of the determinants, and as the entries of the walk, and memory as these.
+    ///
+    /// # Errors
+    /// `NoMemory` where memory was refused.
+    pub fn begin(
+        &self,
+        room: &mut WalkBuffers,
+        start: u32,
+        end: u32,
+        opened: &[OpenDelivery],
+    ) -> Result<(), NoMemory>
         requires few { length opened.now ≤ 256 }
         requires ordered { start ≤ end }
         requires within { end ≤ self.now.end }
         requires from { All (IsUntouchedBefore self.now.run.past start) opened.now }
-        requires room { HasBuffers end room.old }
-        requires deliveries { All (λ delivery. IsDeliveryAt self.now.run.past delivery.position) opened.now }
-        requires emptied { AreBelow self.now.run.past end 0 room.old.reach.rows.items }
-        ensures room { (entries : ℕ) → HasBuffers entries room.old → HasBuffers entries room.new }
-        ensures rows { HasRowsFor start end room.new }
-        ensures begun { IsFollowed self.now.run opened.now start start room.new }
+        requires room { HasBuffers room.old }
+        ensures rows { OnOk result (HasRowsFor start end room.new) }
+        ensures begun { OnOk result (IsFollowed self.now.run opened.now start start room.new) }
     {
-        room.reach.begin(start, end);
-        self.mark_all(&mut room.reach.rows, opened);
+        room.reach.begin(start, end)?;
+        self.mark_all(&mut room.reach.rows, start, opened);
         clear(&mut room.held);
         forget_all(&mut room.copies);
         room.down = self.outline.turns.from(start).down();
+        Ok(())
     }
 }

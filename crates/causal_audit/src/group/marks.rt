@@ -1,10 +1,9 @@
 //! Which entries of a walk mention the determinants of the deliveries of a group.
-ghost use Rattle.std.specs.Prelude.{◌≡◌, ◌≤◌, ◌<◌, ◌↔◌, ℕ, None, true, length, vec_capacity};
+ghost use Rattle.std.specs.Prelude.{◌≡◌, ◌≤◌, ◌<◌, ◌+◌, ◌↔◌, ℕ, true, length};
 ghost use Rattle.std.specs.FinSet as set;
 ghost use Rattle.std.specs.List.{All};
 ghost use Rattle.std.specs.List.Sorted.{IsNonDecreasing};
 ghost use Rattle.causal_audit.specs.Inside.ByClock.Changes.{HasNoneUntil};
-ghost use Rattle.causal_trace.specs.Past.{message_sent};
 ghost use Rattle.causal_audit.specs.Inside.Group.Walk.{AreBelow, AreMarked, HaveMarked, IsUntouchedBefore, IsMarked, IsTold, row};
 
 use crate::group::Places;
@@ -13,31 +12,23 @@ use crate::group::run_to_follow::{OpenDelivery, RunToFollow};
 use causal_trace::entry::Entry;
 
 /// Puts a place into the rows of the entries at these positions.
-fn mark(rows: &mut Vec<Places>, place: u8, positions: &[u32])
+fn mark(rows: &mut Vec<Places>, start: u32, place: u8, positions: &[u32])
     ensures count { length rows.new.items ≡ length rows.old.items }
-    ensures room { vec_capacity rows.new ≡ vec_capacity rows.old }
-    ensures marked { HaveMarked place positions.now rows.old.items rows.new.items }
+    ensures marked { HaveMarked start place positions.now rows.old.items rows.new.items }
 {
     for position in positions {
-        put(rows, place, *position);
+        put(rows, start, place, *position);
     }
 }
 
-/// The places whose determinants the entry at position t mentions, by its row, which is emptied; none for a send, whose row is left.
-pub fn take(rows: &mut Vec<Places>, entry: &Entry, t: u32) -> Places
-    requires { t < length rows.old.items }
-    ensures count { length rows.new.items ≡ length rows.old.items }
-    ensures room { vec_capacity rows.new ≡ vec_capacity rows.old }
-    ensures told { IsTold entry.now t rows.old.items result }
-    ensures others { (i : ℕ) → (i ≡ t → ⊥) → row rows.new.items i ≡ row rows.old.items i }
-    ensures emptied { message_sent entry.now ≡ None → row rows.new.items t ≡ set.empty }
+/// The places whose determinants an entry mentions, by its row; none for a send.
+pub fn mentioned_in(row: Places, entry: &Entry) -> Places
+    ensures { IsTold entry.now row result }
 {
-    if let Entry::Send { .. } = entry {
-        return Places::none();
+    match entry {
+        Entry::Send { .. } => Places::none(),
+        _ => row,
     }
-    let mentioned = rows[t as usize];
-    rows[t as usize] = Places::none();
-    mentioned
 }
 
 /// The first of ascending positions, or a bound, if that is less.
@@ -80,32 +71,29 @@ impl RunToFollow<'_> {
     }
 
     /// Puts a place into the rows of the entries that mention the determinant of its delivery.
-    fn mark_delivery(&self, rows: &mut Vec<Places>, place: u8, delivery: OpenDelivery)
-        requires within { length rows.old.items ≤ self.now.end }
-        requires fresh { AreBelow self.now.run.past (length rows.old.items) place rows.old.items }
+    fn mark_delivery(&self, rows: &mut Vec<Places>, start: u32, place: u8, delivery: OpenDelivery)
+        requires within { start + length rows.old.items ≤ self.now.end }
+        requires fresh { AreBelow place rows.old.items }
         ensures count { length rows.new.items ≡ length rows.old.items }
-        ensures room { vec_capacity rows.new ≡ vec_capacity rows.old }
         ensures others { (i j : ℕ) → i < length rows.old.items → (j ≡ place → ⊥) →
             (set.contains (row rows.new.items i) j ≡ true) ↔ (set.contains (row rows.old.items i) j ≡ true) }
-        ensures marked { IsMarked self.now.run.past 0 place delivery rows.new.items }
+        ensures marked { IsMarked self.now.run.past start start place delivery rows.new.items }
     {
         if let Some(det) = self.outline.trace.det_at(delivery.position) {
-            mark(rows, place, self.mentions.list(self.outline.trace, det));
+            mark(rows, start, place, self.mentions.list(self.outline.trace, det));
         }
     }
 
     /// Puts the place of each delivery of a group into the rows of the entries that mention its determinant.
-    pub fn mark_all(&self, rows: &mut Vec<Places>, opened: &[OpenDelivery])
+    pub fn mark_all(&self, rows: &mut Vec<Places>, start: u32, opened: &[OpenDelivery])
         requires few { length opened.now ≤ 256 }
-        requires within { length rows.old.items ≤ self.now.end }
-        requires none { AreBelow self.now.run.past (length rows.old.items) 0 rows.old.items }
+        requires within { start + length rows.old.items ≤ self.now.end }
+        requires none { AreBelow 0 rows.old.items }
         ensures count { length rows.new.items ≡ length rows.old.items }
-        ensures room { vec_capacity rows.new ≡ vec_capacity rows.old }
-        ensures marked { AreMarked self.now.run.past 0 opened.now (length opened.now) rows.new.items }
-        ensures below { AreBelow self.now.run.past (length rows.old.items) (length opened.now) rows.new.items }
+        ensures marked { AreMarked self.now.run.past start start opened.now (length opened.now) rows.new.items }
     {
         for (place, delivery) in opened.iter().enumerate() {
-            self.mark_delivery(rows, place as u8, *delivery);
+            self.mark_delivery(rows, start, place as u8, *delivery);
         }
     }
 }

@@ -1,8 +1,7 @@
 //! On which of a few deliveries the processes depend, and which of them reach the sends, all by one walk over the entries.
-ghost use Rattle.std.specs.Prelude.{◌≡◌, ◌≤◌, ◌⊎◌, ℕ, None, IfOk, length, vec_capacity};
+ghost use Rattle.std.specs.Prelude.{◌≡◌, ◌≤◌, ◌<◌, ◌+◌, ℕ, IfOk, OnOk, length};
 ghost use Rattle.std.specs.FinSet as set;
-ghost use Rattle.causal_trace.specs.Past.{message_sent};
-ghost use Rattle.causal_audit.specs.Inside.Group.Walk.{HasRowOf, HasRowRoom, HasRows, IsPut, SeesReach, TellsReached, row};
+ghost use Rattle.causal_audit.specs.Inside.Group.Walk.{HasRowOf, HasRows, IsPut, SeesReach, TellsReached, row};
 
 use crate::group::Places;
 use causal_holders::PROCESSES;
@@ -11,8 +10,8 @@ use causal_trace::entry::Entry;
 use std::alloc::Global;
 
 /// Of at most 256 deliveries, by their places, in a walk from the entry at `start` on: for each process on which of them its
-/// present lane depends, and a row for each entry of the run. That of a send which the walk has read tells which of them reach it.
-/// That of an entry which is still to be read, and no send, tells whose determinants it mentions.
+/// present lane depends, and a row for each entry of the walk. That of a send which was read tells which of them reach it. That of any
+/// other entry tells whose determinants it mentions.
 #[derive(Drop)]
 pub struct ReachingDeliveries {
     pub start: u32,
@@ -30,13 +29,15 @@ pub fn set_at(rows: &[Places], i: usize) -> Places
     }
 }
 
-/// Puts a place into the row of the entry at a position, where it has one.
-pub fn put(rows: &mut Vec<Places>, place: u8, position: u32)
+/// Puts a place into the row of the entry at a position of a walk from `start` on, where it has one.
+pub fn put(rows: &mut Vec<Places>, start: u32, place: u8, position: u32)
     ensures count { length rows.new.items ≡ length rows.old.items }
-    ensures room { vec_capacity rows.new ≡ vec_capacity rows.old }
-    ensures put { IsPut place position rows.old.items rows.new.items }
+    ensures put { IsPut start place position rows.old.items rows.new.items }
 {
-    let i = position as usize;
+    if position < start {
+        return;
+    }
+    let i = (position - start) as usize;
     if i < rows.len() {
         rows[i].insert(place);
     }
@@ -51,52 +52,41 @@ pub fn clear(rows: &mut Vec<Places>)
     rows.fill(Places::none());
 }
 
-/// Makes so many rows of these, for which there is room. New ones are empty.
-fn make_so_many(rows: &mut Vec<Places>, many: usize)
-    requires { many ≤ vec_capacity rows.old }
-    ensures count { length rows.new.items ≡ many }
-    ensures room { vec_capacity rows.old ≤ vec_capacity rows.new }
-    ensures rows { (i : ℕ) → (row rows.new.items i ≡ row rows.old.items i) ⊎ (row rows.new.items i ≡ set.empty) }
-{
-    if rows.resize(many, Places::none()).is_err() {
-        unreachable!()
-    }
-}
-
 impl ReachingDeliveries {
-    /// Room for walks over so many entries.
+    /// No rows, but for those of the processes.
     ///
     /// # Errors
     /// `NoMemory` where memory was refused.
-    pub fn new(alloc: Global, entries: u32) -> Result<ReachingDeliveries, NoMemory>
-        ensures { IfOk result (HasRowRoom entries) }
+    pub fn new(alloc: Global) -> Result<ReachingDeliveries, NoMemory>
+        ensures { IfOk result (λ reach. length reach.present.items ≡ 256) }
     {
         Ok(ReachingDeliveries {
             start: 0,
-            rows: Vec::with_capacity(alloc, entries as usize)?,
+            rows: Vec::new(alloc),
             present: vec![in alloc; Places::none(); PROCESSES as usize]?,
         })
     }
 
-    /// No rows of entries, as before the first walk.
-    pub fn forget(&mut self)
-        ensures room { (entries : ℕ) → HasRowRoom entries self.old → HasRowRoom entries self.new }
-        ensures none { (i : ℕ) → row self.new.rows.items i ≡ set.empty }
+    /// Where no entry was read of a walk from `start` up to `end`, and no process depends on any delivery. All rows are empty. It takes
+    /// 32 bytes for each entry of the longest walk so far.
+    ///
+    /// # Errors
+    /// `NoMemory` where memory was refused.
+    pub fn begin(&mut self, start: u32, end: u32) -> Result<(), NoMemory>
+        requires ordered { start ≤ end }
+        requires present { length self.old.present.items ≡ 256 }
+        ensures present { length self.new.present.items ≡ 256 }
+        ensures rows { OnOk result (HasRows start end self.new) }
+        ensures empty { OnOk result ((i : ℕ) → row self.new.rows.items i ≡ set.empty) }
+        ensures none { OnOk result ((p : ℕ) → row self.new.present.items p ≡ set.empty) }
     {
+        let many = (end - start) as usize;
         self.rows.clear();
-    }
-
-    /// Where no entry was read of a walk from `start` up to `end`, and no process depends on any delivery.
-    pub fn begin(&mut self, start: u32, end: u32)
-        requires room { HasRowRoom end self.old }
-        ensures rows { HasRows start end self.new }
-        ensures room { (entries : ℕ) → HasRowRoom entries self.old → HasRowRoom entries self.new }
-        ensures same { (i : ℕ) → (row self.new.rows.items i ≡ row self.old.rows.items i) ⊎ (row self.new.rows.items i ≡ set.empty) }
-        ensures none { (p : ℕ) → row self.new.present.items p ≡ set.empty }
-    {
-        make_so_many(&mut self.rows, end as usize);
+        self.rows.reserve_exact(many)?;
+        self.rows.resize(many, Places::none())?;
         clear(&mut self.present);
         self.start = start;
+        Ok(())
     }
 
     /// Which of the deliveries reach the send at a position that was read. None reaches one before the walk.
@@ -106,7 +96,7 @@ impl ReachingDeliveries {
         if position < self.start {
             return Places::none();
         }
-        set_at(&self.rows, position as usize)
+        set_at(&self.rows, (position - self.start) as usize)
     }
 
     /// Takes in the entry at position t, which is that of the deliveries of these places, and tells which of the deliveries newly
@@ -114,14 +104,12 @@ impl ReachingDeliveries {
     pub fn see(&mut self, entry: &Entry, t: u32, own: Places) -> Places
         requires row { HasRowOf t self.old }
         ensures rows { (start end : ℕ) → HasRows start end self.old → HasRows start end self.new }
-        ensures room { (entries : ℕ) → HasRowRoom entries self.old → HasRowRoom entries self.new }
-        ensures others { (i : ℕ) → (i ≡ t → ⊥) → row self.new.rows.items i ≡ row self.old.rows.items i }
-        ensures unsent { message_sent entry.now ≡ None → self.new.rows.items ≡ self.old.rows.items }
+        ensures later { (i : ℕ) → t < self.old.start + i → row self.new.rows.items i ≡ row self.old.rows.items i }
         ensures sees { SeesReach entry.now t own self.old self.new result }
     {
         match entry {
             Entry::Send { from, .. } => {
-                self.rows[t as usize] = set_at(&self.present, usize::from(from.0));
+                self.rows[(t - self.start) as usize] = set_at(&self.present, usize::from(from.0));
                 Places::none()
             }
             Entry::Deliver { to, send, .. } => {

@@ -1,8 +1,8 @@
 //! The least breach of the deliveries of a group, by one walk over the entries.
-ghost use Rattle.std.specs.Prelude.{◌≤◌, ℕ, length};
+ghost use Rattle.std.specs.Prelude.{◌≤◌, IfOk, OnOk, length};
 ghost use Rattle.std.specs.List.{All};
-ghost use Rattle.causal_audit.specs.Inside.Among.{LeastAmongBy, horizon};
-ghost use Rattle.causal_audit.specs.Inside.Group.Walk.{AreBelow, HasBuffers, HasRowsFor, HaveNone, IsFollowed, IsUntouchedBefore};
+ghost use Rattle.causal_audit.specs.Inside.Among.{LeastAmongBy};
+ghost use Rattle.causal_audit.specs.Inside.Group.Walk.{HasBuffers, HasRowsFor, HaveNone, IsFollowed, IsUntouchedBefore};
 ghost use Rattle.causal_audit.specs.Inside.Group.OpenDeliveries.{AreInOrder, IsDeliveryAt, IsOpenDelivery, positions_of};
 
 use crate::breach::{Breach, earlier, horizon};
@@ -11,11 +11,13 @@ use crate::group::buffers::{WalkBuffers, places_of};
 use crate::group::copies::{renew, touched};
 use crate::group::held::{held_by, hold};
 use crate::group::judged::judge;
-use crate::group::marks::take;
+use crate::group::marks::mentioned_in;
 use crate::group::own::{by_position, own_at};
 use crate::group::run_to_follow::{NO_DELIVERY, OpenDelivery, RunToFollow, last_of};
 use crate::group::suspects::Step;
+use causal_name::NoMemory;
 use causal_trace::trace::Trace;
+use std::alloc::Global;
 
 /// How many deliveries are followed by one walk.
 pub const GROUP: usize = 256;
@@ -40,8 +42,7 @@ fn follow(
     requires none { HaveNone trace.now.recording f opened.now start }
     requires order { AreInOrder opened.now }
     requires untouched { All (IsUntouchedBefore trace.now.recording.past start) opened.now }
-    ensures room { (entries : ℕ) → HasBuffers entries room.old → HasBuffers entries room.new }
-    ensures emptied { (to : ℕ) → AreBelow trace.now.recording.past (horizon to result) 0 room.new.reach.rows.items }
+    ensures room { HasBuffers room.new }
     ensures found { LeastAmongBy trace.now.recording f end (positions_of opened.now) result }
 {
     let entries = trace.entries();
@@ -51,7 +52,7 @@ fn follow(
     for t in start..end {
         let entry = &entries[t as usize];
         let own = own_at(opened, &mut passed, t);
-        let mentioned = take(&mut room.reach.rows, entry, t);
+        let mentioned = mentioned_in(room.reach.rows[(t - start) as usize], entry);
         let newly = room.reach.see(entry, t, own);
         let step = Step {
             entry,
@@ -74,29 +75,30 @@ fn follow(
 impl RunToFollow<'_> {
     /// The least breach of the deliveries of a group, if it comes by the instant `end`: a walk from the first of them, or an
     /// earlier mention of one of their determinants, up to the last instant at which one may have an orphan.
+    ///
+    /// # Errors
+    /// `NoMemory` where memory was refused.
     fn least_in(
         &self,
         f: u16,
         end: u32,
         opened: &[OpenDelivery],
         room: &mut WalkBuffers,
-    ) -> Option<Breach>
+    ) -> Result<Option<Breach>, NoMemory>
         requires within { end ≤ self.now.end }
         requires few { length opened.now ≤ 256 }
         requires deliveries { All (λ delivery. IsDeliveryAt self.now.run.past delivery.position) opened.now }
         requires opened { All (IsOpenDelivery self.now.run f end) opened.now }
-        requires room { HasBuffers end room.old }
-        requires emptied { AreBelow self.now.run.past end 0 room.old.reach.rows.items }
-        ensures room { (entries : ℕ) → HasBuffers entries room.old → HasBuffers entries room.new }
-        ensures emptied { AreBelow self.now.run.past (horizon end result) 0 room.new.reach.rows.items }
-        ensures found { LeastAmongBy self.now.run f end (positions_of opened.now) result }
+        requires room { HasBuffers room.old }
+        ensures room { OnOk result (HasBuffers room.new) }
+        ensures found { IfOk result (LeastAmongBy self.now.run f end (positions_of opened.now)) }
     {
         let mut table = [NO_DELIVERY; GROUP];
         let group = by_position(&mut table, opened);
         let last = last_of(group, end);
         let start = self.start_of(group, last);
-        self.begin(room, start, last, group);
-        follow(self.outline.trace, f, start, last, group, room)
+        self.begin(room, start, last, group)?;
+        Ok(follow(self.outline.trace, f, start, last, group, room))
     }
 
     /// The least breach, by instant and then by position, of these deliveries, if it comes by the instant
@@ -104,27 +106,29 @@ impl RunToFollow<'_> {
     ///
     /// They are followed in groups of 256: for each the entries are walked once, and no further than a breach that was found.
     /// An entry of a walk takes time as the determinants of the group that it newly mentions and the deliveries that may newly
-    /// have an orphan; a crash and a restart as all of them, a restart and a forgetting as the processes. No memory is taken.
+    /// have an orphan; a crash and a restart as all of them, a restart and a forgetting as the processes. It takes 32 bytes of memory
+    /// for each entry of the longest walk.
+    ///
+    /// # Errors
+    /// `NoMemory` where memory was refused.
     pub fn least_within(
         &self,
+        alloc: Global,
         f: u16,
         end: u32,
         opened: &[OpenDelivery],
-        room: &mut WalkBuffers,
-    ) -> Option<Breach>
+    ) -> Result<Option<Breach>, NoMemory>
         requires within { end ≤ self.now.end }
         requires deliveries { All (λ delivery. IsDeliveryAt self.now.run.past delivery.position) opened.now }
         requires opened { All (IsOpenDelivery self.now.run f end) opened.now }
-        requires room { HasBuffers end room.old }
-        ensures room { (entries : ℕ) → HasBuffers entries room.old → HasBuffers entries room.new }
-        ensures found { LeastAmongBy self.now.run f end (positions_of opened.now) result }
+        ensures { IfOk result (LeastAmongBy self.now.run f end (positions_of opened.now)) }
     {
+        let mut room = WalkBuffers::new(alloc)?;
         let mut least = None;
-        room.reach.forget();
         for group in opened.chunks(GROUP) {
-            let found = self.least_in(f, horizon(end, &least), group, room);
+            let found = self.least_in(f, horizon(end, &least), group, &mut room)?;
             least = earlier(least, found);
         }
-        least
+        Ok(least)
     }
 }

@@ -1,26 +1,27 @@
 -- The shares of the workers.
-use Rattle.std.specs.Prelude.{◌≡◌, ◌≤◌, ℕ, List, [], ◌∷◌, length, Option}
+use Rattle.std.specs.Prelude.{◌≡◌, ◌≤◌, ℕ, List, [], ◌∷◌, length, Option, Result, Ok, IfOk}
 use Rattle.std.specs.declared.thread.PromisedHandle.{PromisedHandle}
+use Rattle.causal_name.specs.declared.NoMemory.{NoMemory}
 use Rattle.causal_audit.specs.declared.breach.Breach.{Breach}
+use Rattle.causal_audit.specs.Earlier.{earlier}
 use Rattle.causal_audit.specs.Parts.{Followed, LeastOf, part_of}
 use Rattle.causal_workers.specs.declared.share.Share.{Share}
-use Rattle.causal_workers.specs.declared.share.Task.{Task}
+
+-- what comes of a share
+abbrev pub Answer : Type 0
+Answer = Result (Option Breach) NoMemory
 
 -- a worker that was started, with its share
 abbrev pub Started : Type 0
-Started = PromisedHandle (Option Breach) Share
+Started = PromisedHandle Answer Share
 
--- this is the least breach of the deliveries from place `from` on and below place `to`
-abbrev pub Tells : Followed → ℕ → ℕ → Option Breach → Type 0
-Tells followed from to found = LeastOf (part_of followed from to) found
+-- where memory sufficed this is the least breach of the deliveries from place `from` on and below place `to`
+abbrev pub Tells : Followed → ℕ → ℕ → Answer → Type 0
+Tells followed from to found = IfOk found (LeastOf (part_of followed from to))
 
--- the part has the deliveries of the share
-abbrev pub IsPartOf : Share → Followed → Type 0
-IsPartOf share part = part ≡ part_of share.prepared.now share.from share.to
-
--- the task has the part of its share
-abbrev pub IsReady : Task → Type 0
-IsReady task = IsPartOf task.share task.part
+-- where memory sufficed for both answers this is the one that comes first
+abbrev pub IsFirstOf : Answer → Answer → Answer → Type 0
+IsFirstOf one other result = IfOk result (λ least. (a b : Option Breach) × (one ≡ Ok a) × (other ≡ Ok b) × (least ≡ earlier a b))
 
 -- the share is of the deliveries from place `from` on
 pub record IsShare (followed : Followed) (from : ℕ) (share : Share) : Type 0 where
@@ -35,16 +36,7 @@ pub record IsFirstShare (workers : ℕ) (share : Share) : Type 0 where
   pub inside : share.to ≤ length share.prepared.now.positions
   pub alone : workers ≡ 1 → share.to ≡ length share.prepared.now.positions
 
--- the shares follow one another, from place `from` up to place `to`, and each has its part
-abbrev pub AreTasks : Followed → ℕ → List Task → ℕ → Type 0
-AreTasks followed from [] to = from ≡ to
-AreTasks followed from (task ∷ tasks) to = IsShare followed from task.share × IsReady task × AreTasks followed task.share.to tasks to
-
--- they are of all that comes after this one
-abbrev pub AreTasksAfter : Share → List Task → Type 0
-AreTasksAfter own tasks = AreTasks own.prepared.now own.to tasks (length own.prepared.now.positions)
-
--- the workers' shares follow one another in the same way
+-- the workers' shares follow one another, from place `from` up to place `to`
 abbrev pub Follows : Followed → ℕ → List Started → ℕ → Type 0
 Follows followed from [] to = from ≡ to
 Follows followed from (w ∷ ws) to = IsShare followed from w.promise × Follows followed w.promise.to ws to
@@ -54,5 +46,5 @@ abbrev pub FollowsAfter : Share → List Started → Type 0
 FollowsAfter own started = Follows own.prepared.now own.to started (length own.prepared.now.positions)
 
 -- `first` tells of the deliveries below some place, and the workers' shares go on from there to `to`
-abbrev pub Covers : Followed → Option Breach → List Started → ℕ → Type 0
+abbrev pub Covers : Followed → Answer → List Started → ℕ → Type 0
 Covers followed first ws to = (mid : ℕ) × Tells followed 0 mid first × Follows followed mid ws to

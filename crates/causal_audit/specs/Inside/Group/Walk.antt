@@ -1,5 +1,5 @@
 -- What is known of the deliveries of a group, by their places, in one walk over the entries.
-use Rattle.std.specs.Prelude.{◌≡◌, ℕ, ◌+◌, ◌<◌, ◌≤◌, ◌↔◌, ◌⊎◌, Bool, true, false, List, ◌∷◌, length, Option, Some, None, slice_index_or, vec_capacity, Contains}
+use Rattle.std.specs.Prelude.{◌≡◌, ℕ, ◌+◌, ◌-◌, ◌<◌, ◌≤◌, ◌↔◌, ◌⊎◌, Bool, true, false, List, ◌∷◌, length, Option, Some, None, slice_index_or, Contains}
 use Rattle.causal_audit.specs.Inside.Common.{nat_cmp, FinSet, contains, empty, Det, Entry, det_at, has, logs, is_stable, is_down, instant, entry_at, message_sent, Pid, Send, AreAccepted, Recording, IsWellFormed, actor, Reaches, Depends, Deliver, Restart, Forget, max_entries}
 use Rattle.causal_audit.specs.declared.group.reach.ReachingDeliveries.{ReachingDeliveries}
 use Rattle.causal_audit.specs.declared.group.run_to_follow.OpenDelivery.{OpenDelivery}
@@ -17,6 +17,14 @@ use Rattle.causal_audit.specs.declared.group.copies.Copies.{Copies}
 abbrev pub row : List (FinSet nat_cmp) → ℕ → FinSet nat_cmp
 row rows i = slice_index_or rows i empty
 
+-- in a walk from `start` on, the row of the entry at position v
+abbrev pub row_of : ℕ → List (FinSet nat_cmp) → ℕ → FinSet nat_cmp
+row_of start rows v = row rows (v - start)
+
+-- that entry has one
+abbrev pub HasRow : ℕ → List (FinSet nat_cmp) → ℕ → Type 0
+HasRow start rows v = (start ≤ v) × (v < start + length rows)
+
 -- the delivery at a place; where there is none, one that is over before the first instant
 abbrev pub opened_at : List OpenDelivery → ℕ → OpenDelivery
 opened_at opened j = slice_index_or opened j (record { position = 0; until = 0 })
@@ -30,17 +38,17 @@ position_at opened j = (opened_at opened j).position
 pub record TellRows (past : List Entry) (start k j : ℕ) (rows present : List (FinSet nat_cmp)) : Type 0 where
   pub early : start ≤ k
   pub behind : (v : ℕ) (from to : Pid) (ssn : ℕ) → start ≤ v → entry_at past v ≡ Some (Send from to ssn)
-      → (contains (row rows v) j ≡ true) ↔ Reaches past k v
+      → (contains (row_of start rows v) j ≡ true) ↔ Reaches past k v
   pub depends : (p : ℕ) → (contains (row present p) j ≡ true) ↔ Depends past k p
 
 abbrev pub IsReach : List Entry → ℕ → ℕ → ReachingDeliveries → Type 0
 IsReach past k j reach = TellRows past reach.start k j reach.rows.items reach.present.items
 
 -- in the row of the entry at a position, if there is one, the place is in now
-abbrev pub IsPut : ℕ → ℕ → List (FinSet nat_cmp) → List (FinSet nat_cmp) → Type 0
-IsPut place position old new =
-    (v j : ℕ) → v < length old
-    → (contains (row new v) j ≡ true) ↔ ((contains (row old v) j ≡ true) ⊎ ((j ≡ place) × (v ≡ position)))
+abbrev pub IsPut : ℕ → ℕ → ℕ → List (FinSet nat_cmp) → List (FinSet nat_cmp) → Type 0
+IsPut start place position old new =
+    (i j : ℕ) → i < length old
+    → (contains (row new i) j ≡ true) ↔ ((contains (row old i) j ≡ true) ⊎ ((j ≡ place) × (start + i ≡ position)))
 
 -- the set has just the places of the delivery at t
 abbrev pub IsOwn : List OpenDelivery → ℕ → FinSet nat_cmp → Type 0
@@ -51,20 +59,15 @@ pub record ArePassed (opened : List OpenDelivery) (t passed : ℕ) : Type 0 wher
   pub inside : passed ≤ length opened
   pub earlier : (j : ℕ) → j < length opened → (j < passed) ↔ (position_at opened j < t)
 
--- there is room for the rows of so many entries, and a row for each process
-pub record HasRowRoom (entries : ℕ) (reach : ReachingDeliveries) : Type 0 where
-  pub rows : entries ≤ vec_capacity reach.rows
-  pub present : length reach.present.items ≡ 256
-
--- a walk begins at the first of these entries, and there is a row for each entry before its end, and for each process
+-- a walk begins at the first of these entries, and there is a row for each of its entries, and for each process
 pub record HasRows (first end : ℕ) (reach : ReachingDeliveries) : Type 0 where
   pub start : reach.start ≡ first
-  pub rows : length reach.rows.items ≡ end
+  pub rows : first + length reach.rows.items ≡ end
   pub present : length reach.present.items ≡ 256
 
 -- there is a row for the entry at t, and for each process
 pub record HasRowOf (t : ℕ) (reach : ReachingDeliveries) : Type 0 where
-  pub row : t < length reach.rows.items
+  pub row : HasRow reach.start reach.rows.items t
   pub present : length reach.present.items ≡ 256
 
 -- of the send at v the set tells which of the deliveries reach it
@@ -86,15 +89,14 @@ SeesReach e t own old new newly =
     → (k ≡ t → det_at (e ∷ past) k ≡ Some d) → (contains own j ≡ true) ↔ (k ≡ t)
     → IsReach past k j old → IsReach (e ∷ past) k j new × IsNewly past e k j newly
 
--- the places in the row of the entry at t; none for a send
-abbrev pub IsTold : Entry → ℕ → List (FinSet nat_cmp) → FinSet nat_cmp → Type 0
-IsTold (Send from to ssn) t rows places = places ≡ empty
-IsTold _ t rows places = places ≡ row rows t
+-- the places in an entry's row; none for a send
+abbrev pub IsTold : Entry → FinSet nat_cmp → FinSet nat_cmp → Type 0
+IsTold (Send from to ssn) places told = told ≡ empty
+IsTold _ places told = told ≡ places
 
--- the rows of the entries before `to` that are no sends have only places below `count`
-abbrev pub AreBelow : List Entry → ℕ → ℕ → List (FinSet nat_cmp) → Type 0
-AreBelow past to count rows =
-    (v j : ℕ) (e : Entry) → v < to → entry_at past v ≡ Some e → message_sent e ≡ None → contains (row rows v) j ≡ true → j < count
+-- the rows have only places below `count`
+abbrev pub AreBelow : ℕ → List (FinSet nat_cmp) → Type 0
+AreBelow count rows = (i j : ℕ) → i < length rows → contains (row rows i) j ≡ true → j < count
 
 -- the places in the row of a delivery's receiver; none for any other entry
 abbrev pub IsHeldBy : Entry → List (FinSet nat_cmp) → FinSet nat_cmp → Type 0
@@ -122,20 +124,20 @@ pub record IsUntouchedBefore (past : List Entry) (start : ℕ) (delivery : OpenD
   pub unmentioned : (d : Det) → det_at past delivery.position ≡ Some d → MentionsNone past d 0 start
 
 -- in the rows of the entries at these positions, if there are such, the place is in now
-abbrev pub HaveMarked : ℕ → List ℕ → List (FinSet nat_cmp) → List (FinSet nat_cmp) → Type 0
-HaveMarked place positions old new =
-    (v j : ℕ) → v < length old
-    → (contains (row new v) j ≡ true) ↔ ((contains (row old v) j ≡ true) ⊎ ((j ≡ place) × Contains positions v))
+abbrev pub HaveMarked : ℕ → ℕ → List ℕ → List (FinSet nat_cmp) → List (FinSet nat_cmp) → Type 0
+HaveMarked start place positions old new =
+    (i j : ℕ) → i < length old
+    → (contains (row new i) j ≡ true) ↔ ((contains (row old i) j ≡ true) ⊎ ((j ≡ place) × Contains positions (start + i)))
 
 -- from an instant on the row of each entry that is no send has the place where it mentions the determinant of the delivery's delivery
-abbrev pub IsMarked : List Entry → ℕ → ℕ → OpenDelivery → List (FinSet nat_cmp) → Type 0
-IsMarked past t place delivery rows =
-    (v : ℕ) (d : Det) (e : Entry) → t ≤ v → v < length rows → det_at past delivery.position ≡ Some d → entry_at past v ≡ Some e
-    → message_sent e ≡ None → contains (row rows v) place ≡ has (mentioned_by e) d
+abbrev pub IsMarked : List Entry → ℕ → ℕ → ℕ → OpenDelivery → List (FinSet nat_cmp) → Type 0
+IsMarked past start t place delivery rows =
+    (i : ℕ) (d : Det) (e : Entry) → t ≤ start + i → i < length rows → det_at past delivery.position ≡ Some d → entry_at past (start + i) ≡ Some e
+    → message_sent e ≡ None → contains (row rows i) place ≡ has (mentioned_by e) d
 
 -- and so it is for the first `count` places
-abbrev pub AreMarked : List Entry → ℕ → List OpenDelivery → ℕ → List (FinSet nat_cmp) → Type 0
-AreMarked past t opened count rows = (j : ℕ) → j < count → IsMarked past t j (opened_at opened j) rows
+abbrev pub AreMarked : List Entry → ℕ → ℕ → List OpenDelivery → ℕ → List (FinSet nat_cmp) → Type 0
+AreMarked past start t opened count rows = (j : ℕ) → j < count → IsMarked past start t j (opened_at opened j) rows
 
 -- these are the copies of the determinant d
 pub record AreCopies (past : List Entry) (d : Det) (copies : Copies) : Type 0 where
@@ -209,9 +211,9 @@ pub record AreAsked (opened : List OpenDelivery) (t : ℕ) (asked : FinSet nat_c
 abbrev pub ArePlaces : List OpenDelivery → FinSet nat_cmp → Type 0
 ArePlaces opened all = (j : ℕ) → (contains all j ≡ true) ↔ (j < length opened)
 
--- there is room for walks over so many entries, and at each place for copies
-pub record HasBuffers (entries : ℕ) (room : WalkBuffers) : Type 0 where
-  pub reach : HasRowRoom entries room.reach
+-- there is a row for each process, and at each place there are copies
+pub record HasBuffers (room : WalkBuffers) : Type 0 where
+  pub present : length room.reach.present.items ≡ 256
   pub copies : length room.copies.items ≡ 256
 
 -- there is a row for each entry of a walk from `start` up to `end`, and at each place there are copies
@@ -224,8 +226,7 @@ pub record IsFollowed (r : Recording) (opened : List OpenDelivery) (start t : �
   pub start_is : room.reach.start ≡ start
   pub told : (j : ℕ) (d : Det) → j < length opened → det_at r.past (position_at opened j) ≡ Some d
       → IsReach (instant r.past t) (position_at opened j) j room.reach
-  pub marked : AreMarked r.past t opened (length opened) room.reach.rows.items
-  pub emptied : AreBelow r.past t 0 room.reach.rows.items
+  pub marked : AreMarked r.past start t opened (length opened) room.reach.rows.items
   pub copied : AreCopied r opened t room.copies.items
   pub held : AreHeld r opened t room.held.items
   pub down : Shows room.down (λ p. is_down (instant r.past t) p)

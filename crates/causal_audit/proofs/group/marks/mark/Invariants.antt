@@ -1,4 +1,4 @@
-use Rattle.causal_audit.proofs.Common.{◌≡◌, length, take, vec_capacity}
+use Rattle.causal_audit.proofs.Common.{◌≡◌, length, take}
 use Rattle.causal_audit.specs.Inside.Group.Walk.{HaveMarked}
 use Rattle.causal_audit.proofs.group.marks.mark.Given as goal
 
@@ -6,6 +6,5 @@ use Rattle.causal_audit.proofs.group.marks.mark.Given as goal
 abbrev pub invariant-loop-position : goal.invariant-loop-position
 invariant-loop-position l = record {
   count : length l.rows.items ≡ length l.fn.rows.items;
-  room : vec_capacity l.rows ≡ vec_capacity l.fn.rows;
-  marked : HaveMarked l.place (take l.position-index l.positions) l.fn.rows.items l.rows.items;
+  marked : HaveMarked l.start l.place (take l.position-index l.positions) l.fn.rows.items l.rows.items;
 }

@@ -1,31 +1,19 @@
-use Rattle.causal_audit.proofs.Common.{Vec, Global, FinSet, nat_cmp, vec_capacity, ℕ, ◌≡◌, inl, inr, contains, empty, cases_lt, get_or-eq_default, ◌∙◌, ◌+◌, ◌<◌, length, refl, sym, ap, subst, arith, instant, is_down, HasOrphan}
+use Rattle.causal_audit.proofs.Common.{ℕ, ◌≡◌, empty, get_or_default, ◌∙◌, ◌+◌, ◌-◌, ◌<◌, length, sym, subst, arith, instant, is_down, HasOrphan}
 use Rattle.causal_audit.specs.Inside.Among.{LeastAmongBy}
 use Rattle.causal_audit.specs.Inside.Group.OpenDeliveries.{positions_of}
-use Rattle.causal_audit.specs.Inside.Group.Walk.{row, HasRowRoom, HasRows, IsFollowed, IsHeldBy, IsHeldSo}
-use Rattle.causal_audit.specs.declared.group.reach.ReachingDeliveries.{ReachingDeliveries}
-use Rattle.causal_audit.proofs.group.GroupReach.{none_in}
+use Rattle.causal_audit.specs.Inside.Group.Walk.{HasRow, IsFollowed, IsHeldBy, IsHeldSo, IsTold, row}
 use Rattle.causal_audit.proofs.group.OpenPositions.{zero}
 use Rattle.causal_audit.specs.Inside.DeliveryStates.{Shows}
 use Rattle.causal_audit.specs.declared.group.buffers.WalkBuffers.{WalkBuffers}
-use Rattle.causal_audit.proofs.group.GroupWalk.{copied_next, emptied_next, marked_next, sees_each, place_of, held_then, is_step, told_after, room_stays, none_of_all}
+use Rattle.causal_audit.proofs.group.GroupWalk.{copied_next, marked_next, sees_each, place_of, held_then, is_step, told_after, none_of_all}
 use Rattle.causal_audit.proofs.Steps.{next_state, entry_read}
 use Rattle.causal_audit.proofs.group.walk.follow.Goals as goal
-
--- with other rows, of which there are as many
-abbrev with_rows : ReachingDeliveries → Vec (FinSet nat_cmp) Global → ReachingDeliveries
-with_rows reach rows = record { start = reach.start; rows = rows; present = reach.present }
-
-has_rows : (start end : ℕ) (reach : ReachingDeliveries) (rows : Vec (FinSet nat_cmp) Global) → length rows.items ≡ length reach.rows.items → HasRows start end reach → HasRows start end (with_rows reach rows)
-has_rows start end reach rows count has = record { start = has.start; rows = count ∙ has.rows; present = has.present }
-
-stays : (reach new : ReachingDeliveries) (rows : Vec (FinSet nat_cmp) Global) → vec_capacity rows ≡ vec_capacity reach.rows → ((entries : ℕ) → HasRowRoom entries (with_rows reach rows) → HasRowRoom entries new) → (entries : ℕ) → HasRowRoom entries reach → HasRowRoom entries new
-stays reach new rows room more entries has = more entries (record { rows = omega (arith, room, has.rows); present = has.present })
 
 pub judge-requires-clause-opened : goal.judge-requires-clause-opened
 judge-requires-clause-opened c k delivery low u from within = c.requires.opened k delivery low u from (omega (arith, within, c.loop-t-test.true))
 
 pub judge-requires-clause-present : goal.judge-requires-clause-present
-judge-requires-clause-present c = (c.see-newly.ensures.rows c.args.start c.args.end (has_rows c.args.start c.args.end c.loop-t.room.reach c.take-mentioned.new.rows c.take-mentioned.ensures.count c.loop-t.invariant.rows.reach)).present
+judge-requires-clause-present c = (c.see-newly.ensures.rows c.args.start c.args.end c.loop-t.invariant.rows.reach).present
 
 pub judge-requires-clause-step : goal.judge-requires-clause-step
 judge-requires-clause-step c =
@@ -36,10 +24,12 @@ judge-requires-clause-step c =
     let formed = c.entries-entries.ensures.formed in
     let below : t < length r.past = omega (arith, c.loop-t-test.true, c.requires.within) in
     let next = next_state r c.entries-entries.result.now c.entries-entries.ensures.value t x below c.index-entries-t.is in
+    let here : HasRow c.args.start c.loop-t.room.reach.rows.items t = (i.from, omega (arith, i.rows.reach.rows, c.loop-t-test.true)) in
     is_step r c.args.opened.now c.args.start c.loop-t.room _ i.followed formed below next
-    (λ j d low at. (sees_each r c.args.opened.now c.args.start c.loop-t.room t x c.own_at-own.result c.see-newly.result i.followed formed below next (with_rows c.loop-t.room.reach c.take-mentioned.new.rows) c.see-newly.new.self (c.take-mentioned.ensures.others, refl, refl) c.own_at-own.ensures.own
+    (λ j d low at. (sees_each r c.args.opened.now c.args.start c.loop-t.room t x c.own_at-own.result c.see-newly.result i.followed formed below next c.see-newly.new.self c.own_at-own.ensures.own
     c.see-newly.ensures.sees j d low at).1)
-    c.entries-entries.ensures.few (omega (arith, i.rows.reach.rows, c.loop-t-test.true)) c.take-mentioned.ensures.told
+    c.entries-entries.ensures.few here
+    (subst (λ places. IsTold x places c.mentioned_in-mentioned.result) (c.index.ensures ∙ get_or_default c.loop-t.room.reach.rows.items (t - c.args.start) c.index.result.now empty (omega (arith, here.0, here.1))) c.mentioned_in-mentioned.ensures)
     (entry_read r c.entries-entries.result.now c.entries-entries.ensures.value t x below c.index-entries-t.is) (λ j low. c.requires.deliveries j zero low)
 
 pub judge-requires-clause-followed : goal.judge-requires-clause-followed
@@ -50,19 +40,16 @@ judge-requires-clause-followed c =
     let i = c.loop-t.invariant in
     let x = c.index-entries-t.result in
     let step = judge-requires-clause-step c in
-    let rows = c.see-newly.ensures.rows c.args.start c.args.end (has_rows c.args.start c.args.end c.loop-t.room.reach c.take-mentioned.new.rows c.take-mentioned.ensures.count c.loop-t.invariant.rows.reach) in
+    let rows = c.see-newly.ensures.rows c.args.start c.args.end c.loop-t.invariant.rows.reach in
     let by = subst (λ rows. IsHeldBy x rows c.held_by-held.result) c.deref.ensures.value c.held_by-held.ensures in
     let room : WalkBuffers = record { reach = c.see-newly.new.self; held = c.hold.new.held; copies = c.renew.new.copies; down = c.down_after-room.result } in
-    let others : (v : ℕ) → (v ≡ t → ⊥) → row c.see-newly.new.self.rows.items v ≡ row c.loop-t.room.reach.rows.items v = λ v apart. c.see-newly.ensures.others v apart ∙ c.take-mentioned.ensures.others v apart in
     subst (λ start. IsFollowed r opened start (t + 1) room) (sym rows.start) (record {
       start_is = rows.start;
       told =
-          told_after r opened c.args.start c.loop-t.room t x c.own_at-own.result c.see-newly.result i.followed c.entries-entries.ensures.formed step.below step.next (with_rows c.loop-t.room.reach c.take-mentioned.new.rows) c.see-newly.new.self (c.take-mentioned.ensures.others, refl, refl)
+          told_after r opened c.args.start c.loop-t.room t x c.own_at-own.result c.see-newly.result i.followed c.entries-entries.ensures.formed step.below step.next c.see-newly.new.self
           c.own_at-own.ensures.own c.see-newly.ensures.sees;
-      marked = marked_next r.past opened t c.loop-t.room.reach.rows.items c.see-newly.new.self.rows.items (rows.rows ∙ sym i.rows.reach.rows) others i.followed.marked;
-      emptied =
-          emptied_next r.past t x c.loop-t.room.reach.rows.items c.see-newly.new.self.rows.items (entry_read r c.entries-entries.result.now c.entries-entries.ensures.value t x step.below c.index-entries-t.is) others
-          (λ none. ap (λ rows. row rows t) (c.see-newly.ensures.unsent none) ∙ c.take-mentioned.ensures.emptied none) i.followed.emptied;
+      marked = marked_next r.past c.args.start opened t c.loop-t.room.reach.rows.items c.see-newly.new.self.rows.items (omega (arith, rows.rows, i.rows.reach.rows))
+          (subst (λ start. (i : ℕ) → t < start + i → row c.see-newly.new.self.rows.items i ≡ row c.loop-t.room.reach.rows.items i) i.rows.reach.start c.see-newly.ensures.later) i.followed.marked;
       copied =
           copied_next r opened _ step c.places_of-all.result c.held_by-held.result c.touched-places.result c.loop-t.room.copies.items c.renew.new.copies.items c.places_of-all.ensures
           (λ j d low at h. held_then x (instant r.past t) c.loop-t.room.held.items c.held_by-held.result j d by (i.followed.held j d low at) h)
@@ -71,20 +58,16 @@ judge-requires-clause-followed c =
       down = subst (λ past. Shows c.down_after-room.result (λ p. is_down past p)) (sym step.next) (c.down_after-room.ensures (instant r.past t) i.followed.down);
     })
 
-pub returns-in-Some-clause-room : goal.returns-in-Some-clause-room
-returns-in-Some-clause-room c entries has =
-    room_stays c.loop-t.room _ (stays c.loop-t.room.reach c.see-newly.new.self c.take-mentioned.new.rows c.take-mentioned.ensures.room c.see-newly.ensures.room) c.renew.ensures.count entries (c.loop-t.invariant.room entries has)
-
 pub loop-t-preserved : goal.loop-t-preserved
 loop-t-preserved c =
     let r = c.args.trace.now.recording in
     let opened = c.args.opened.now in
     let t = c.loop-t.t in
     let i = c.loop-t.invariant in
-    let rows = c.see-newly.ensures.rows c.args.start c.args.end (has_rows c.args.start c.args.end c.loop-t.room.reach c.take-mentioned.new.rows c.take-mentioned.ensures.count c.loop-t.invariant.rows.reach) in
+    let rows = c.see-newly.ensures.rows c.args.start c.args.end c.loop-t.invariant.rows.reach in
     let room : WalkBuffers = record { reach = c.see-newly.new.self; held = c.hold.new.held; copies = c.renew.new.copies; down = c.down_after-room.result } in
     record {
-      room = λ entries has. room_stays c.loop-t.room _ (stays c.loop-t.room.reach c.see-newly.new.self c.take-mentioned.new.rows c.take-mentioned.ensures.room c.see-newly.ensures.room) c.renew.ensures.count entries (i.room entries has);
+      from = omega (arith, i.from);
       rows = record { reach = rows; copies = c.renew.ensures.count ∙ i.rows.copies };
       followed = subst (λ start. IsFollowed r opened start (t + 1) room) rows.start c.judge.ensures.followed;
       asked = c.judge.ensures.asked;
@@ -98,8 +81,5 @@ returns-clause-found c k t listed within has =
     let at = place_of c.args.opened.now k listed in
     c.loop-t.invariant.none at.0 at.1 t (omega (arith, within, c.loop-t-test.false)) (subst (HasOrphan r.processes c.args.f (instant r.past t)) (sym at.2) has)
 
-pub returns-clause-emptied : goal.returns-clause-emptied
-returns-clause-emptied c to v j e early there none h = elim (cases_lt v c.loop-t.t) [
-  | inl low ↦ c.loop-t.invariant.followed.emptied v j e low there none h
-  | inr beyond ↦ absurd (none_in j (ap (λ s. contains s j) (sym (get_or-eq_default c.loop-t.room.reach.rows.items empty (omega (arith, beyond, c.loop-t-test.false, c.loop-t.invariant.rows.reach.rows)))) ∙ h))
-]
+pub returns-in-Some-clause-room : goal.returns-in-Some-clause-room
+returns-in-Some-clause-room c = record { present = (c.see-newly.ensures.rows c.args.start c.args.end c.loop-t.invariant.rows.reach).present; copies = c.renew.ensures.count ∙ c.loop-t.invariant.rows.copies }

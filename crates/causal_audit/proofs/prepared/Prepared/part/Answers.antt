@@ -24,7 +24,6 @@ invariant_of-result c =
       subst (λ (x : Recording). AreOpenDeliveries x s.f s.end (take many (drop from c.deref.result.now))) same
           (subst (λ list. AreOpenDeliveries r s.f s.end (take many (drop from list))) (sym c.deref.ensures.value) part),
       omega arith,
-      c.in_ok-room.ensures,
     )
 
 pub returns : goal.returns

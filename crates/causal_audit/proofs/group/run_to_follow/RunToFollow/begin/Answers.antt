@@ -1,20 +1,16 @@
-use Rattle.causal_audit.proofs.Common.{◌≡◌, ◌∙◌, ◌≤◌, true, length, sym, subst, arith, contains, instant, is_down, logs, instant_length}
+use Rattle.causal_audit.proofs.Common.{◌≡◌, ◌∙◌, ◌≤◌, true, length, ap, sym, subst, arith, contains, instant, is_down, logs, instant_length}
 use Rattle.causal_audit.proofs.group.OpenPositions.{zero}
-use Rattle.causal_audit.specs.Inside.Group.Walk.{AreBelow, AreCopies, TellRows, position_at}
+use Rattle.causal_audit.specs.Inside.Group.Walk.{AreCopies, TellRows, position_at}
 use Rattle.causal_audit.specs.Inside.Group.OpenDeliveries.{RunUpTo}
 use Rattle.causal_audit.specs.Inside.DeliveryStates.{Shows}
 use Rattle.causal_audit.proofs.Shown.{shows_none}
-use Rattle.causal_audit.proofs.group.GroupWalk.{begun_empty, below_made}
 use Rattle.causal_audit.proofs.group.GroupReach.{begun, none_in}
 use Rattle.causal_audit.proofs.by_clock.Begun.{unheard_before}
 use Rattle.causal_audit.proofs.index.DownAfterTurns.{passed_down}
 use Rattle.causal_audit.proofs.group.run_to_follow.RunToFollow.begin.Goals as goal
 
 pub mark_all-requires-clause-none : goal.mark_all-requires-clause-none
-mark_all-requires-clause-none c =
-    let past = c.args.self.now.run.past in
-    let rows = c.begin.new.self.rows.items in
-    subst (λ m. AreBelow past m 0 rows) (sym c.begin.ensures.rows.rows) (below_made past c.args.end 0 c.args.room.now.reach.rows.items rows c.begin.ensures.same c.requires.emptied)
+mark_all-requires-clause-none c i j inside h = absurd (none_in j (ap (λ s. contains s j) (sym (c.in_ok-begin.ensures.empty i)) ∙ h))
 
 pub returns-clause-begun : goal.returns-clause-begun
 returns-clause-begun c =
@@ -27,19 +23,15 @@ returns-clause-begun c =
     let inside : c.args.end ≤ c.self.inside.end = subst (λ (s : RunUpTo). c.args.end ≤ s.end) (sym c.self.view_is) c.requires.within in
     let within : start ≤ length run.past = omega (arith, c.requires.ordered, inside, c.self.invariant.within) in
     let rows = c.mark_all.new.rows.items in
-    let many : length rows ≡ c.args.end = c.mark_all.ensures.count ∙ c.begin.ensures.rows.rows in
     let early : start ≤ length r.past = subst (λ (s : RunUpTo). start ≤ length s.run.past) c.self.view_is within in
     let shown : Shows c.down-room.result (λ p. is_down (instant r.past start) p) =
     subst (λ (s : RunUpTo). Shows c.down-room.result (λ p. is_down (instant s.run.past start) p)) c.self.view_is (c.down-room.ensures run.past start within walk.0 walk.1) in
     record {
-      start_is = c.begin.ensures.rows.start;
+      start_is = c.in_ok-begin.ensures.rows.start;
       told = λ j d low at.
-          subst (λ s. TellRows (instant r.past start) s (position_at opened j) j rows c.begin.new.self.present.items) (sym c.begin.ensures.rows.start)
-          (begun (instant r.past start) start (position_at opened j) j rows c.begin.new.self.present.items (instant_length r.past start early) (c.requires.from j zero low).made c.begin.ensures.none);
-      marked = λ j low v d e late. c.mark_all.ensures.marked j low v d e (omega arith);
-      emptied =
-          begun_empty r.past start opened rows (omega (arith, c.requires.ordered, many)) (subst (λ m. AreBelow r.past m (length opened) rows) (sym c.mark_all.ensures.count) c.mark_all.ensures.below) c.mark_all.ensures.marked c.requires.from
-          c.requires.deliveries;
+          subst (λ s. TellRows (instant r.past start) s (position_at opened j) j rows c.begin.new.self.present.items) (sym c.in_ok-begin.ensures.rows.start)
+          (begun (instant r.past start) start (position_at opened j) j rows c.begin.new.self.present.items (instant_length r.past start early) (c.requires.from j zero low).made c.in_ok-begin.ensures.none);
+      marked = c.mark_all.ensures.marked;
       copied = λ j d low at.
           let untouched = c.requires.from j zero low in
           let none = unheard_before r.past (position_at opened j) d start (untouched.unmentioned d at) untouched.made early in

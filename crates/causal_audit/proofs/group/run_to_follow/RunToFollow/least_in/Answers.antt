@@ -14,10 +14,6 @@ use Rattle.causal_audit.proofs.group.run_to_follow.RunToFollow.least_in.Goals as
 pub begin-requires-clause-few : goal.begin-requires-clause-few
 begin-requires-clause-few c = omega (arith, length_permutation c.args.opened.now c.by_position-group.result.now c.by_position-group.ensures.same, c.requires.few)
 
-pub begin-requires-clause-deliveries : goal.begin-requires-clause-deliveries
-begin-requires-clause-deliveries c =
-    All-permutation (λ (delivery : OpenDelivery). IsDeliveryAt c.args.self.now.run.past delivery.position) c.args.opened.now c.by_position-group.result.now c.by_position-group.ensures.same c.requires.deliveries
-
 pub follow-requires-clause-few : goal.follow-requires-clause-few
 follow-requires-clause-few c = omega (arith, length_permutation c.args.opened.now c.by_position-group.result.now c.by_position-group.ensures.same, c.requires.few)
 

@@ -1,9 +1,7 @@
-use Rattle.causal_audit.proofs.Common.{◌≡◌, ◌<◌, ◌≤◌, contains, ◌++◌, [], List, sym, ap, subst, ◌∙◌, append_assoc, append-nil, arith, map-append, nil_from_length, All}
+use Rattle.causal_audit.proofs.Common.{◌≡◌, ◌++◌, [], List, sym, ap, subst, ◌∙◌, append_assoc, append-nil, arith, map-append, nil_from_length, All}
 use Rattle.std.specs.Slice.Iter.{chunks_rest, chunks_size}
-use Rattle.causal_audit.proofs.AmongLemmas.{among_joined, among_none, horizon_joined, horizon_within}
-use Rattle.causal_audit.proofs.group.GroupWalk.{room_within}
-use Rattle.causal_audit.proofs.group.GroupReach.{none_in}
-use Rattle.causal_audit.specs.Inside.Among.{LeastAmongBy, horizon}
+use Rattle.causal_audit.proofs.AmongLemmas.{among_joined, among_none, horizon_within}
+use Rattle.causal_audit.specs.Inside.Among.{LeastAmongBy}
 use Rattle.causal_audit.specs.Earlier.{earlier}
 use Rattle.causal_audit.specs.Inside.Group.OpenDeliveries.{IsDeliveryAt, IsOpenDelivery, positions_of}
 use Rattle.causal_audit.specs.declared.group.run_to_follow.OpenDelivery.{OpenDelivery}
@@ -22,27 +20,20 @@ loop-group-init c =
       size = size;
       deliveries = subst (All (λ (delivery : OpenDelivery). IsDeliveryAt r.past delivery.position)) (sym rest) c.requires.deliveries;
       none_later = subst (All (IsOpenDelivery r c.args.f c.args.end)) (sym rest) c.requires.opened;
-      room = λ entries has. record { reach = c.forget.ensures.room entries has.reach; copies = has.copies };
-      emptied = λ v j e early there none h. absurd (none_in j (ap (λ s. contains s j) (sym (c.forget.ensures.none v)) ∙ h));
+      room = c.in_ok-room.ensures;
       least = ([], rest, among_none r c.args.f c.args.end);
     }
 
-pub least_in-found-requires-clause-opened : goal.least_in-found-requires-clause-opened
-least_in-found-requires-clause-opened c k delivery below u from before =
+pub least_in-requires-clause-opened : goal.least_in-requires-clause-opened
+least_in-requires-clause-opened c k delivery below u from before =
     let bound = horizon_within c.args.self.now.run c.args.f c.args.end (positions_of c.loop-group.invariant.least.0) c.loop-group.least c.loop-group.invariant.least.2 in
     let over = IsOpenDelivery c.args.self.now.run c.args.f c.args.end in
     all_left over c.in-Some.group.now (chunks_rest c.next.new.self) (subst (All over) c.in-Some.ensures.steps.1.0 c.loop-group.invariant.none_later) k delivery below u from (omega (arith, before, c.horizon.ensures, bound))
 
-pub least_in-found-requires-clause-deliveries : goal.least_in-found-requires-clause-deliveries
-least_in-found-requires-clause-deliveries c =
+pub least_in-requires-clause-deliveries : goal.least_in-requires-clause-deliveries
+least_in-requires-clause-deliveries c =
     let of : OpenDelivery → Type 0 = λ delivery. IsDeliveryAt c.args.self.now.run.past delivery.position in
     all_left of c.in-Some.group.now (chunks_rest c.next.new.self) (subst (All of) c.in-Some.ensures.steps.1.0 c.loop-group.invariant.deliveries)
-
-pub least_in-found-requires-clause-room : goal.least_in-found-requires-clause-room
-least_in-found-requires-clause-room c =
-    let i = c.loop-group.invariant in
-    let bound = horizon_within c.args.self.now.run c.args.f c.args.end (positions_of i.least.0) c.loop-group.least i.least.2 in
-    room_within c.args.end c.horizon.result c.loop-group.room (omega (arith, c.horizon.ensures, bound)) (i.room c.args.end c.requires.room)
 
 pub loop-group-preserved : goal.loop-group-preserved
 loop-group-preserved c =
@@ -61,23 +52,18 @@ loop-group-preserved c =
       size = size;
       deliveries = all_right (λ (delivery : OpenDelivery). IsDeliveryAt r.past delivery.position) group later (subst (All (λ (delivery : OpenDelivery). IsDeliveryAt r.past delivery.position)) parts invariant.deliveries);
       none_later = all_right (IsOpenDelivery r f end) group later (subst (All (IsOpenDelivery r f end)) parts invariant.none_later);
-      room = λ entries has. c.least_in-found.ensures.room entries (invariant.room entries has);
-      emptied = λ v j e early.
-          let found = c.least_in-found.result in
-          let low : v < horizon end (earlier c.loop-group.least found) = subst (λ x. v < horizon end x) c.earlier-least.ensures early in
-          let bound = subst (λ x. horizon end (earlier c.loop-group.least found) ≤ horizon x found) (sym c.horizon.ensures) (horizon_joined r f end c.loop-group.least found) in
-          c.least_in-found.ensures.emptied v j e (omega (arith, low, bound));
+      room = c.in_ok-found.ensures.room;
       least = (
         done ++ group,
         append_assoc done group later ∙ ap (λ (list : List OpenDelivery). done ++ list) (sym parts) ∙ invariant.least.1,
         subst (LeastAmongBy r f end (positions_of (done ++ group))) (sym c.earlier-least.ensures)
-            (subst (λ list. LeastAmongBy r f end list (earlier c.loop-group.least c.least_in-found.result)) (sym (map-append position done group))
-            (among_joined r f end c.horizon.result (positions_of done) (positions_of group) c.loop-group.least c.least_in-found.result c.horizon.ensures invariant.least.2 c.least_in-found.ensures.found)),
+            (subst (λ list. LeastAmongBy r f end list (earlier c.loop-group.least c.in_ok-found.found)) (sym (map-append position done group))
+            (among_joined r f end c.horizon.result (positions_of done) (positions_of group) c.loop-group.least c.in_ok-found.found c.horizon.ensures invariant.least.2 c.in_ok-found.ensures.found)),
       );
     }
 
-pub returns-clause-found : goal.returns-clause-found
-returns-clause-found c =
+pub returns : goal.returns
+returns c =
     let r = c.args.self.now.run in
     let invariant = c.loop-group.invariant in
     let done = invariant.least.0 in

@@ -1,7 +1,7 @@
-use Rattle.causal_audit.proofs.Common.{ℕ, ◌≡◌, ◌++◌, List, All}
+use Rattle.causal_audit.proofs.Common.{◌≡◌, ◌++◌, List, All}
 use Rattle.std.specs.Slice.Iter.{chunks_rest, chunks_size}
-use Rattle.causal_audit.specs.Inside.Among.{LeastAmongBy, horizon}
-use Rattle.causal_audit.specs.Inside.Group.Walk.{AreBelow, HasBuffers}
+use Rattle.causal_audit.specs.Inside.Among.{LeastAmongBy}
+use Rattle.causal_audit.specs.Inside.Group.Walk.{HasBuffers}
 use Rattle.causal_audit.specs.declared.group.run_to_follow.OpenDelivery.{OpenDelivery}
 use Rattle.causal_audit.specs.Inside.Group.OpenDeliveries.{IsDeliveryAt, IsOpenDelivery, positions_of}
 use Rattle.causal_audit.proofs.group.run_to_follow.RunToFollow.least_within.Given as goal
@@ -14,7 +14,6 @@ invariant-loop-group l = record {
   size : chunks_size l.group-iterator ≡ 256;
   deliveries : All (λ (delivery : OpenDelivery). IsDeliveryAt l.self.run.past delivery.position) (chunks_rest l.group-iterator);
   none_later : All (IsOpenDelivery l.self.run l.f l.end) (chunks_rest l.group-iterator);
-  room : (entries : ℕ) → HasBuffers entries l.fn.room → HasBuffers entries l.room;
-  emptied : AreBelow l.self.run.past (horizon l.end l.least) 0 l.room.reach.rows.items;
+  room : HasBuffers l.room;
   least : (done : List OpenDelivery) × (done ++ chunks_rest l.group-iterator ≡ l.opened) × LeastAmongBy l.self.run l.f l.end (positions_of done) l.least;
 }
