@@ -1,5 +1,6 @@
 //! One look at each determinant that is mentioned.
-ghost use Rattle.std.specs.Prelude.{◌≡◌, ◌≤◌, ℕ, None, IfOk, IfSome, OnOk, length, replicate};
+ghost use Rattle.std.specs.Prelude.{◌≡◌, ◌≤◌, ◌<◌, Some, None, IfOk, IfSome, OnOk, length, replicate};
+ghost use Rattle.causal_trace.specs.Numbers.{delivered_dets, number_of};
 ghost use Rattle.causal_trace.specs.Past.{deliveries_in, instant};
 ghost use Rattle.causal_audit.specs.Inside.Index.Kept.{AreMentionsKept};
 
@@ -54,15 +55,18 @@ impl<'a> Looks<'a> {
             let Some(det) = trace.det_at(k) else {
                 continue;
             };
+            let Some(number) = trace.delivery_of(det) else {
+                continue;
+            };
             let look = Look {
                 run: *run,
-                mentions: mentions.list(trace, det),
+                mentions: mentions.lists.get(number as usize),
                 det,
                 reached: reached_by(&sets, det.dest.0),
                 most,
                 end,
             };
-            look.take_in(alloc, &mut found)?;
+            look.take_in(alloc, number as usize, &mut found)?;
         }
         Ok(Looks { trace, found })
     }
@@ -83,23 +87,24 @@ impl Look<'_> {
     ghost use Rattle.causal_audit.specs.Inside.Look.Looks.{AreLooks};
 
     /// Takes in what the look finds, where something mentions the determinant and it was not looked at.
-    fn take_in(&self, alloc: Global, found: &mut Vec<Option<ThinStretches>>) -> Result<(), NoMemory>
-        requires { length found.old.items ≡ deliveries_in self.now.run.trace.now.recording.past }
+    #[tactic(auto, using(crate::proofs::look::LookFindings::one_looked))]
+    fn take_in(
+        &self,
+        alloc: Global,
+        number: usize,
+        found: &mut Vec<Option<ThinStretches>>,
+    ) -> Result<(), NoMemory>
+        requires number { number_of (delivered_dets self.now.run.trace.now.recording.past) self.now.det ≡ Some number }
+        requires there { number < length found.old.items }
         ensures count { length found.new.items ≡ length found.old.items }
         ensures found { OnOk result
             (AreLooks self.now.run.trace.now.recording self.now.most self.now.end found.old.items →
             AreLooks self.now.run.trace.now.recording self.now.most self.now.end found.new.items) }
     {
-        if self.mentions.is_empty() {
+        if self.mentions.is_empty() || found[number].is_some() {
             return Ok(());
         }
-        let Some(number) = self.run.trace.delivery_of(self.det) else {
-            return Ok(());
-        };
-        if found[number as usize].is_some() {
-            return Ok(());
-        }
-        found[number as usize] = Some(ThinStretches::of(alloc, self)?);
+        found[number] = Some(ThinStretches::of(alloc, self)?);
         Ok(())
     }
 }

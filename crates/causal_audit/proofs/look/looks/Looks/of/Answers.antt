@@ -1,5 +1,6 @@
-use Rattle.causal_audit.proofs.Common.{◌≡◌, ap, sym, subst, ◌∙◌, None, length, length-replicate, IsNonDecreasing, instant}
+use Rattle.causal_audit.proofs.Common.{◌≡◌, ap, sym, subst, ◌∙◌, [], None, length, length-replicate, IsNonDecreasing, instant, option_map_or}
 use Rattle.causal_trace.specs.Numbers.{delivered_dets}
+use Rattle.causal_audit.specs.Inside.Index.Filed.{list_at, mentions_of}
 use Rattle.causal_audit.specs.Inside.Index.Reached.{HasReached, reached_by}
 use Rattle.causal_audit.specs.Inside.ByClock.Changes.{AreMentionsOf, HasMentions}
 use Rattle.causal_audit.proofs.index.Filings.{mentions_ascend}
@@ -16,14 +17,16 @@ pub invariant_of-look : goal.invariant_of-look
 invariant_of-look c =
     let whole = c.args.run.now.trace.now.recording.past in
     let past = instant whole c.args.end in
-    let mentions = c.args.mentions.now in
+    let lists = c.args.mentions.now.lists in
     let det = c.in-Some.det in
     let is : c.reached_by.result ≡ reached_by c.in_ok-sets.sets.items det.dest.0 =
     c.reached_by.ensures ∙ ap (λ xs. reached_by xs det.dest.0) c.deref.ensures.value in
+    let listed : mentions_of (delivered_dets whole) lists det ≡ c.get.result.now =
+    ap (λ o. option_map_or (list_at lists) o []) (sym c.delivery_of.ensures.value ∙ c.in-Some-delivery_of.is) ∙ sym c.get.ensures in
     record {
       within = c.requires.within;
       reaching = subst (HasReached whole det.dest.0) (sym is) (c.in_ok-sets.ensures.each det.dest.0);
-      ascending = subst IsNonDecreasing (sym c.list.ensures) (mentions_ascend past (delivered_dets whole) mentions.lists c.requires.mentioned det);
-      mentioned = subst (HasMentions past det) (sym c.list.ensures) (c.requires.mentioned.mentioned det);
-      only = subst (AreMentionsOf past det) (sym c.list.ensures) (c.requires.mentioned.only det);
+      ascending = subst IsNonDecreasing listed (mentions_ascend past (delivered_dets whole) lists c.requires.mentioned det);
+      mentioned = subst (HasMentions past det) listed (c.requires.mentioned.mentioned det);
+      only = subst (AreMentionsOf past det) listed (c.requires.mentioned.only det);
     }
