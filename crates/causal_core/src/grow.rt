@@ -23,6 +23,17 @@ pub(crate) fn shares(alloc: Global, batch: &Arc<Batch>) -> Result<Vec<Arc<Batch>
     Ok(shares)
 }
 
+/// A batch to share: where it has no items, and what the delivered message carries has none either, that one, so that sends
+/// that carry nothing share one batch.
+fn shared(alloc: Global, batch: Batch, carried: &Arc<Batch>) -> Result<Arc<Batch>, NoMemory>
+    ensures { IfOk result (λ share. arc_value share ≡ batch) }
+{
+    if batch.as_slice().is_empty() && carried.as_slice().is_empty() {
+        return Ok(Arc::try_clone(carried)?);
+    }
+    Ok(Arc::new(alloc, batch)?)
+}
+
 /// Makes what a delivery puts in place.
 pub(crate) fn grow(
     alloc: Global,
@@ -38,7 +49,7 @@ pub(crate) fn grow(
     let batch = cell
         .log
         .choose_grown(alloc, &*carried, own, own.source, own.dest, f)?;
-    let next = Arc::new(alloc, batch)?;
+    let next = shared(alloc, batch, &carried)?;
     let shares = shares(alloc, &next)?;
     Ok(Grown {
         own,

@@ -28,7 +28,7 @@ pub(crate) fn listed_len(own: Det, items: &[Item]) -> usize
 pub(crate) fn listed(alloc: Global, own: Det, items: &[Item]) -> Result<Vec<Det>, NoMemory>
     ensures { IfOk result (λ dets. dets.items ≡ with_own own (dets_of items.now)) }
 {
-    let mut listed = Vec::new(alloc);
+    let mut listed = Vec::with_capacity(alloc, items.len().saturating_add(1))?;
     let mut placed = false;
     for item in items {
         placed = place(&mut listed, own, placed, item.det)?;

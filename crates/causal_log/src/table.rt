@@ -19,7 +19,7 @@ use causal_name::{Det, NoMemory, Slot};
 use std::alloc::Global;
 use std::marker::Model;
 
-/// The fewest heads of a table with room for as many entries at most, and of one with more, or with crowded heads.
+/// The fewest heads of a table with room for twice as many entries at most, and of one with more, or with crowded heads.
 const FEW: usize = 128;
 const MANY: usize = 2048;
 
@@ -254,7 +254,7 @@ fn widen(
     if least == heads.len() && !is_turned {
         return Ok(());
     }
-    let fewest = if least <= FEW && !is_turned { FEW } else { MANY };
+    let fewest = if least <= 2 * FEW && !is_turned { FEW } else { MANY };
     let count = least.max(fewest).checked_next_power_of_two().ok_or(NoMemory)?;
     heads.resize(count, None)?;
     if is_turned {

@@ -24,7 +24,7 @@ pub(crate) fn is_part(history: &[Item], seat: u32, own: &[Item]) -> bool
             continue;
         }
         match rest {
-            [first, others @ ..] if same_item(*first, *item) => rest = others,
+            [first, others @ ..] if same_item(first, item) => rest = others,
             _ => return false,
         }
     }

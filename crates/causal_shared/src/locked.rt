@@ -120,7 +120,7 @@ fn is_same(a: Option<Item>, b: Option<Item>) -> bool
     ensures { IsTrue result ↔ (a ≡ b) }
 {
     match (a, b) {
-        (Some(a), Some(b)) => same_item(a, b),
+        (Some(a), Some(b)) => same_item(&a, &b),
         (None, None) => true,
         _ => false,
     }

@@ -13,14 +13,14 @@ fn same_fault(a: CoreFault, b: CoreFault) -> bool
     a == b
 }
 
-fn same_delivered(a: Delivered, b: Delivered) -> bool
-    ensures { IsTrue result ↔ (a ≡ b) }
+fn same_delivered(a: &Delivered, b: &Delivered) -> bool
+    ensures { IsTrue result ↔ (a.now ≡ b.now) }
 {
     a.first == b.first && are_same_determinants(a.det, b.det) && a.sends == b.sends
 }
 
-fn same_restarted(a: Restarted, b: Restarted) -> bool
-    ensures { IsTrue result ↔ (a ≡ b) }
+fn same_restarted(a: &Restarted, b: &Restarted) -> bool
+    ensures { IsTrue result ↔ (a.now ≡ b.now) }
 {
     a == b
 }
@@ -31,14 +31,14 @@ fn same_flush_fault(a: FlushFault, b: FlushFault) -> bool
     same_fault(a.fault, b.fault) && a.done == b.done
 }
 
-fn same_request(a: Request, b: Request) -> bool
-    ensures { IsTrue result ↔ (a ≡ b) }
+fn same_request(a: &Request, b: &Request) -> bool
+    ensures { IsTrue result ↔ (a.now ≡ b.now) }
 {
     a == b
 }
 
-fn same_reply(a: Reply, b: Reply) -> bool
-    ensures { IsTrue result ↔ (a ≡ b) }
+fn same_reply(a: &Reply, b: &Reply) -> bool
+    ensures { IsTrue result ↔ (a.now ≡ b.now) }
 {
     match (a, b) {
         (Reply::Delivered(a), Reply::Delivered(b)) => same_delivered(a, b),
@@ -46,20 +46,20 @@ fn same_reply(a: Reply, b: Reply) -> bool
         (Reply::Restarted(a), Reply::Restarted(b)) => same_restarted(a, b),
         (Reply::Flushed { count: a }, Reply::Flushed { count: b }) => a == b,
         (Reply::Forgotten { count: a }, Reply::Forgotten { count: b }) => a == b,
-        (Reply::Refused(a), Reply::Refused(b)) => same_fault(a, b),
-        (Reply::FlushRefused(a), Reply::FlushRefused(b)) => same_flush_fault(a, b),
+        (Reply::Refused(a), Reply::Refused(b)) => same_fault(*a, *b),
+        (Reply::FlushRefused(a), Reply::FlushRefused(b)) => same_flush_fault(*a, *b),
         _ => false,
     }
 }
 
 /// Whether the items are the same.
-pub(crate) fn same_item(a: Item, b: Item) -> bool
-    ensures { IsTrue result ↔ (a ≡ b) }
+pub(crate) fn same_item(a: &Item, b: &Item) -> bool
+    ensures { IsTrue result ↔ (a.now ≡ b.now) }
 {
     a.seat == b.seat
         && a.call == b.call
-        && same_request(a.request, b.request)
-        && same_reply(a.reply, b.reply)
+        && same_request(&a.request, &b.request)
+        && same_reply(&a.reply, &b.reply)
         && a.first == b.first
 }
 
