@@ -50,7 +50,8 @@ impl Mentions {
 
     /// The list of a determinant, by the trace that they are of.
     pub fn list(&self, trace: &Trace, det: Det) -> &[u32]
-        ensures { result.now ≡ mentions_of (delivered_dets trace.now.recording.past) self.now.lists det }
+        ensures { result.now ≡
+            mentions_of (delivered_dets trace.now.recording.past) self.now.lists det }
     {
         match trace.delivery_of(det) {
             Some(number) => self.lists.get(number as usize),

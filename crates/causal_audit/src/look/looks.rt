@@ -86,7 +86,8 @@ fn none_yet(alloc: Global, count: u32) -> Result<Vec<Option<ThinStretches>>, NoM
 impl Look<'_> {
     ghost use Rattle.causal_audit.specs.Inside.Look.Looks.{AreLooks};
 
-    /// Takes in what the look finds, where something mentions the determinant and it was not looked at.
+    /// Takes in what the look finds, by the number of its determinant's newest delivery, where something mentions it and it was
+    /// not looked at.
     #[tactic(auto, using(crate::proofs::look::LookFindings::one_looked))]
     fn take_in(
         &self,
@@ -94,7 +95,8 @@ impl Look<'_> {
         number: usize,
         found: &mut Vec<Option<ThinStretches>>,
     ) -> Result<(), NoMemory>
-        requires number { number_of (delivered_dets self.now.run.trace.now.recording.past) self.now.det ≡ Some number }
+        requires number { number_of (delivered_dets self.now.run.trace.now.recording.past)
+            self.now.det ≡ Some number }
         requires there { number < length found.old.items }
         ensures count { length found.new.items ≡ length found.old.items }
         ensures found { OnOk result
