@@ -47,7 +47,7 @@ impl From<NoMemory> for AuditFault {
 /// follows.
 ///
 /// # Errors
-/// `NoMemory` where memory was refused, be it to one of the workers, after all ended.
+/// `NoMemory` where memory was refused; where that was in one of the workers, all of them ended first.
 /// `NoWorker` where a worker could not be started, after those that were started ended; never with one worker.
 #[tactic(auto, using(causal_audit::proofs::Lemmas::OneVerdict::one_verdict))]
 pub fn audit<G: Gate + Sync, R: Threads + Wait>(

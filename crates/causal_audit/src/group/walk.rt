@@ -2,7 +2,7 @@
 ghost use Rattle.std.specs.Prelude.{◌≤◌, IfOk, OnOk, length};
 ghost use Rattle.std.specs.List.{All};
 ghost use Rattle.causal_audit.specs.Inside.Among.{LeastAmongBy};
-ghost use Rattle.causal_audit.specs.Inside.Group.Walk.{HasBuffers, HasRowsFor, HaveNone, IsFollowed, IsUntouchedBefore};
+ghost use Rattle.causal_audit.specs.Inside.Group.Walk.{HasBuffers, HasRowsFor, HaveNone, IsFollowed};
 ghost use Rattle.causal_audit.specs.Inside.Group.OpenDeliveries.{AreInOrder, IsDeliveryAt, IsOpenDelivery, positions_of};
 
 use crate::breach::{Breach, earlier, horizon};
@@ -41,7 +41,6 @@ fn follow(
     requires begun { IsFollowed trace.now.recording opened.now start start room.old }
     requires none { HaveNone trace.now.recording f opened.now start }
     requires order { AreInOrder opened.now }
-    requires untouched { All (IsUntouchedBefore trace.now.recording.past start) opened.now }
     ensures room { HasBuffers room.new }
     ensures found { LeastAmongBy trace.now.recording f end (positions_of opened.now) result }
 {
