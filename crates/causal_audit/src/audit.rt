@@ -29,7 +29,8 @@ const FIRST_LISTED: usize = 65_536;
 /// `NoMemory` where memory was refused.
 pub fn least_by(alloc: Global, trace: &Trace, f: u16, end: u32) -> Result<Option<Breach>, NoMemory>
     requires { end ≤ length trace.now.recording.past }
-    ensures { IfOk result (LeastBreachBy trace.now.recording f end 0 (deliveries_in trace.now.recording.past)) }
+    ensures { IfOk result
+        (LeastBreachBy trace.now.recording f end 0 (deliveries_in trace.now.recording.past)) }
 {
     let prepared = Prepared::of(alloc, trace, f, end)?;
     let whole = prepared.part(trace, 0, prepared.followed());

@@ -28,7 +28,8 @@ pub fn first_excess_in(trace: &Trace, f: u16) -> Option<Excess>
 /// The last instant of a trace that can decide: that of the first excess, or the last of the run.
 pub fn deciding_in(trace: &Trace, excess: &Option<Excess>) -> u32
     ensures value { result ≡ deciding (length trace.now.recording.past) excess.now }
-    ensures within { (f : ℕ) → FirstExcess trace.now.recording f excess.now → result ≤ length trace.now.recording.past }
+    ensures within { (f : ℕ) → FirstExcess trace.now.recording f excess.now →
+        result ≤ length trace.now.recording.past }
 {
     match excess {
         Some(first) => first.instant,

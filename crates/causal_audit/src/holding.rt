@@ -12,7 +12,8 @@ use causal_trace::entry::Entry;
 /// Who holds a determinant after an entry that mentions it.
 #[inline(always)]
 fn holders_mentioned(holders: Holders, entry: &Entry) -> Holders
-    ensures { (d : Det) → ShowsHoldersAfter (has (mentioned_by entry.now) d ≡ true) entry.now d holders result }
+    ensures { (d : Det) →
+        ShowsHoldersAfter (has (mentioned_by entry.now) d ≡ true) entry.now d holders result }
 {
     match entry {
         Entry::Deliver { to, .. } => with(holders, to.0),
@@ -25,7 +26,8 @@ fn holders_mentioned(holders: Holders, entry: &Entry) -> Holders
 /// Who holds a determinant after an entry that does not mention it.
 #[inline(always)]
 fn holders_unmentioned(holders: Holders, entry: &Entry) -> Holders
-    ensures { (d : Det) → ShowsHoldersAfter (has (mentioned_by entry.now) d ≡ false) entry.now d holders result }
+    ensures { (d : Det) →
+        ShowsHoldersAfter (has (mentioned_by entry.now) d ≡ false) entry.now d holders result }
 {
     match entry {
         Entry::Crash { who } => without(holders, who.0),
@@ -36,7 +38,8 @@ fn holders_unmentioned(holders: Holders, entry: &Entry) -> Holders
 /// Who holds a determinant after one more entry, which mentions it or does not: its list is not searched.
 #[inline(always)]
 pub fn holders_after(holders: Holders, entry: &Entry, mentioned: bool) -> Holders
-    ensures { (d : Det) → ShowsHoldersAfter (mentioned ≡ has (mentioned_by entry.now) d) entry.now d holders result }
+    ensures { (d : Det) →
+        ShowsHoldersAfter (mentioned ≡ has (mentioned_by entry.now) d) entry.now d holders result }
 {
     if mentioned {
         holders_mentioned(holders, entry)

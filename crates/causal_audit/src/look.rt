@@ -114,7 +114,8 @@ impl<'a> Look<'a> {
         ensures formed { IsWellFormed self.now.run.trace.now.recording }
         ensures short { self.now.end ≤ max_entries }
         ensures stop { stop.new.t ≤ self.now.end → IsLookPosition self.now stop.new }
-        ensures passed { MatchOption result (self.now.end < stop.old.t) (IsPassed self.now stop.old.t stop.new.t) }
+        ensures passed { MatchOption result
+            (self.now.end < stop.old.t) (IsPassed self.now stop.old.t stop.new.t) }
     {
         let entries = self.run.trace.entries();
         if stop.t > self.end {

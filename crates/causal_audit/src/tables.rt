@@ -116,7 +116,8 @@ impl Tables {
 
 /// Notes the position of an entry, if it is a delivery.
 fn note(positions: &mut Vec<u32>, entry: &Entry, i: u32) -> Result<(), NoMemory>
-    ensures { IfOk result (λ _. ArePositionsAfter entry.now i positions.old.items positions.new.items) }
+    ensures { IfOk result
+        (λ _. ArePositionsAfter entry.now i positions.old.items positions.new.items) }
 {
     match entry {
         Entry::Deliver { .. } => Ok(positions.push(i)?),

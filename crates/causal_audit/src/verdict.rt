@@ -30,7 +30,8 @@ impl Verdict {
     /// How the delivery that it names has an orphan; None where it names none.
     pub fn breach(self) -> Option<Breach>
         ensures value { result ≡ breach_of self }
-        ensures orphan { IfSome result (λ b. self ≡ Verdict.Orphan b.instant b.delivery b.crash b.orphan) }
+        ensures orphan { IfSome result (λ b.
+            self ≡ Verdict.Orphan b.instant b.delivery b.crash b.orphan) }
     {
         match self {
             Verdict::Orphan {

@@ -153,7 +153,8 @@ fn all_started<'s, 't: 's, 'g: 's, E, G: Gate + Sync>(
         let share = Share { prepared, from, to };
         let work = move || -> Answer
             requires same { trace.now.recording ≡ share.prepared.now.run }
-            requires inside { (share.from ≤ share.to) × (share.to ≤ length share.prepared.now.positions) }
+            requires inside { (share.from ≤ share.to) ×
+                (share.to ≤ length share.prepared.now.positions) }
             ensures { Tells share.entry.prepared.now share.entry.from share.entry.to result }
         { share.judged(alloc, trace, worker, gate) };
         let Ok(handle) = scope.spawn_with(share, work) else {

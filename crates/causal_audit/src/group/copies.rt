@@ -32,7 +32,8 @@ pub fn no_copies() -> Copies
 #[tactic(auto, using(crate::proofs::Begins::read_same))]
 pub fn forget_all(copies: &mut Vec<Copies>)
     ensures count { length copies.new.items ≡ length copies.old.items }
-    ensures none { (j : ℕ) → j < length copies.old.items → copies_at copies.new.items j ≡ no_copies }
+    ensures none { (j : ℕ) → j < length copies.old.items →
+        copies_at copies.new.items j ≡ no_copies }
 {
     copies.fill(no_copies());
 }

@@ -21,7 +21,8 @@ pub fn held_by(held: &[Places], entry: &Entry) -> Places
 fn put_row(rows: &mut Vec<Places>, p: u8, places: Places)
     ensures count { length rows.new.items ≡ length rows.old.items }
     ensures others { (i : ℕ) → (i ≡ p → ⊥) → row rows.new.items i ≡ row rows.old.items i }
-    ensures here { (j : ℕ) → set.contains (row rows.new.items p) j ≡ true → set.contains places j ≡ true }
+    ensures here { (j : ℕ) → set.contains (row rows.new.items p) j ≡ true →
+        set.contains places j ≡ true }
 {
     let i = usize::from(p);
     if i < rows.len() {

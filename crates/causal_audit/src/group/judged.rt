@@ -68,11 +68,14 @@ pub fn judge(
     requires copies { length room.now.copies.items ≡ 256 }
     requires present { length room.now.reach.present.items ≡ 256 }
     requires step { IsStep trace.now.recording opened.now step.now }
-    requires followed { IsFollowed trace.now.recording opened.now room.now.reach.start (step.now.t + 1) room.now }
+    requires followed { IsFollowed
+        trace.now.recording opened.now room.now.reach.start (step.now.t + 1) room.now }
     requires none { HaveNone trace.now.recording f opened.now step.now.t }
     ensures asked { AreAsked opened.now (step.now.t + 1) asked.new }
-    ensures followed { IsFollowed trace.now.recording opened.now room.now.reach.start (step.now.t + 1) room.now }
-    ensures found { LeastAmongBy trace.now.recording f (step.now.t + 1) (positions_of opened.now) result }
+    ensures followed { IsFollowed
+        trace.now.recording opened.now room.now.reach.start (step.now.t + 1) room.now }
+    ensures found { LeastAmongBy
+        trace.now.recording f (step.now.t + 1) (positions_of opened.now) result }
 {
     let places = suspected(step, &room.reach.present, &room.held, trace.processes());
     let mut least = None;

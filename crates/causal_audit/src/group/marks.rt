@@ -90,7 +90,8 @@ impl RunToFollow<'_> {
         requires within { start + length rows.old.items ≤ self.now.end }
         requires none { AreBelow 0 rows.old.items }
         ensures count { length rows.new.items ≡ length rows.old.items }
-        ensures marked { AreMarked self.now.run.past start start opened.now (length opened.now) rows.new.items }
+        ensures marked { AreMarked
+            self.now.run.past start start opened.now (length opened.now) rows.new.items }
     {
         for (place, delivery) in opened.iter().enumerate() {
             self.mark_delivery(rows, start, place as u8, *delivery);

@@ -104,7 +104,8 @@ impl ReachingDeliveries {
     pub fn see(&mut self, entry: &Entry, t: u32, own: Places) -> Places
         requires row { HasRowOf t self.old }
         ensures rows { (start end : ℕ) → HasRows start end self.old → HasRows start end self.new }
-        ensures later { (i : ℕ) → t < self.old.start + i → row self.new.rows.items i ≡ row self.old.rows.items i }
+        ensures later { (i : ℕ) → t < self.old.start + i →
+            row self.new.rows.items i ≡ row self.old.rows.items i }
         ensures sees { SeesReach entry.now t own self.old self.new result }
     {
         match entry {

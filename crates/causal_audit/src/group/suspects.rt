@@ -38,7 +38,8 @@ fn lacked(present: &[Places], held: &[Places], processes: u16) -> Places
 
 /// Those of them whose determinants are forgotten.
 fn forgotten(present: &[Places], held: &[Places], processes: u16, mentioned: Places) -> Places
-    ensures { (j : ℕ) → set.contains mentioned j ≡ true → IsLacked present.now held.now processes j →
+    ensures { (j : ℕ) → set.contains mentioned j ≡ true →
+        IsLacked present.now held.now processes j →
         set.contains result j ≡ true }
 {
     match mentioned.least() {

@@ -35,7 +35,8 @@ fn follow(
     requires few { length opened.now ≤ 256 }
     requires ordered { start ≤ end }
     requires within { end ≤ length trace.now.recording.past }
-    requires deliveries { All (λ delivery. IsDeliveryAt trace.now.recording.past delivery.position) opened.now }
+    requires deliveries { All
+        (λ delivery. IsDeliveryAt trace.now.recording.past delivery.position) opened.now }
     requires opened { All (IsOpenDelivery trace.now.recording f end) opened.now }
     requires rows { HasRowsFor start end room.old }
     requires begun { IsFollowed trace.now.recording opened.now start start room.old }
@@ -86,7 +87,8 @@ impl RunToFollow<'_> {
     ) -> Result<Option<Breach>, NoMemory>
         requires within { end ≤ self.now.end }
         requires few { length opened.now ≤ 256 }
-        requires deliveries { All (λ delivery. IsDeliveryAt self.now.run.past delivery.position) opened.now }
+        requires deliveries { All
+            (λ delivery. IsDeliveryAt self.now.run.past delivery.position) opened.now }
         requires opened { All (IsOpenDelivery self.now.run f end) opened.now }
         requires room { HasBuffers room.old }
         ensures room { OnOk result (HasBuffers room.new) }
@@ -118,7 +120,8 @@ impl RunToFollow<'_> {
         opened: &[OpenDelivery],
     ) -> Result<Option<Breach>, NoMemory>
         requires within { end ≤ self.now.end }
-        requires deliveries { All (λ delivery. IsDeliveryAt self.now.run.past delivery.position) opened.now }
+        requires deliveries { All
+            (λ delivery. IsDeliveryAt self.now.run.past delivery.position) opened.now }
         requires opened { All (IsOpenDelivery self.now.run f end) opened.now }
         ensures { IfOk result (LeastAmongBy self.now.run f end (positions_of opened.now)) }
     {

@@ -35,7 +35,8 @@ fn process_of(restarts: bool, entry: &Entry) -> Option<u8>
 /// Notes the position of an entry in the list of the process that it restarts, or crashes.
 fn note(lists: &mut Vec<Vec<u32>>, restarts: bool, entry: &Entry, i: u32) -> Result<(), NoMemory>
     requires { vec_len lists.old ≡ 256 }
-    ensures turns { OnOk result ((past : List Entry) → length past ≡ i → AreTurnsOf restarts past (lists_in lists.old.items) →
+    ensures turns { OnOk result ((past : List Entry) → length past ≡ i →
+        AreTurnsOf restarts past (lists_in lists.old.items) →
         AreTurnsOf restarts (entry.now ∷ past) (lists_in lists.new.items)) }
     ensures count { vec_len lists.new ≡ 256 }
 {
@@ -53,7 +54,8 @@ impl ByProcess {
     /// The positions of the restarts of each process, or of its crashes.
     pub fn of(alloc: Global, entries: &[Entry], restarts: bool) -> Result<ByProcess, NoMemory>
         requires { length entries.now ≤ max_entries }
-        ensures { IfOk result (λ turns. AreTurnsOf restarts (past_of entries.now) (lists_in turns.lists.items)) }
+        ensures { IfOk result
+            (λ turns. AreTurnsOf restarts (past_of entries.now) (lists_in turns.lists.items)) }
     {
         let mut lists = empty_lists(alloc, PROCESSES as u32)?;
         for (i, entry) in entries.iter().enumerate() {
@@ -67,7 +69,8 @@ impl ByProcess {
         requires { from ≤ end }
         ensures bounds { (from ≤ result) × (result ≤ end) }
         ensures none { HasNoneUntil (list_at (lists_in self.now.lists.items) process) from result }
-        ensures found { result < end → Contains (list_at (lists_in self.now.lists.items) process) result }
+        ensures found { result < end →
+            Contains (list_at (lists_in self.now.lists.items) process) result }
     {
         let list = self.lists[usize::from(process)].as_slice();
         let mut ahead = Cursor::at(list, from);

@@ -68,7 +68,8 @@ fn note_turn(
     down: Holders,
     i: u32,
 ) -> Result<(), NoMemory>
-    ensures { IfOk result (λ _. (past : List Entry) → length past ≡ i → Shows down (λ p. is_down (entry.now ∷ past) p) →
+    ensures { IfOk result (λ _. (past : List Entry) → length past ≡ i →
+        Shows down (λ p. is_down (entry.now ∷ past) p) →
         AreTurns past positions.old.items downs.old.items →
         AreTurns (entry.now ∷ past) positions.new.items downs.new.items) }
 {
@@ -207,7 +208,8 @@ impl Passing<'_> {
 
     /// Who is down after those that were passed.
     pub fn down(&self) -> Holders
-        ensures { (past : List Entry) (t : ℕ) → t ≤ length past → AreTurnsKept past self.now.turns.now →
+        ensures { (past : List Entry) (t : ℕ) → t ≤ length past →
+            AreTurnsKept past self.now.turns.now →
             HasPassed self.now.turns.now t self.now → Shows result (λ p. is_down (instant past t) p) }
     {
         if self.passed == 0 {

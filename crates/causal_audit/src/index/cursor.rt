@@ -29,9 +29,12 @@ impl Cursor<'_> {
     pub fn next(&mut self, from: u32, end: u32) -> u32
         requires { from ≤ end }
         ensures bounds { (from ≤ result) × (result ≤ end) }
-        ensures cursor { (list : List ℕ) → IsCursor list from self.old → IsCursor list from self.new }
-        ensures none { (list : List ℕ) → IsCursor list from self.old → HasNoneUntil list from result }
-        ensures found { (list : List ℕ) → IsCursor list from self.old → result < end → Contains list result }
+        ensures cursor { (list : List ℕ) → IsCursor list from self.old →
+            IsCursor list from self.new }
+        ensures none { (list : List ℕ) → IsCursor list from self.old →
+            HasNoneUntil list from result }
+        ensures found { (list : List ℕ) → IsCursor list from self.old → result < end →
+            Contains list result }
     {
         while let Some(position) = self.list.get(self.passed) {
             if *position >= from {

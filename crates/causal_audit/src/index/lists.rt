@@ -21,7 +21,8 @@ pub fn empty_lists(alloc: Global, count: u32) -> Result<Vec<Vec<u32>>, NoMemory>
 /// Puts a position at the end of one of the lists.
 pub fn add_to(lists: &mut Vec<Vec<u32>>, number: usize, position: u32) -> Result<(), NoMemory>
     requires { number < vec_len lists.old }
-    ensures added { OnOk result (lists_in lists.new.items ≡ with_added (lists_in lists.old.items) number position) }
+    ensures added { OnOk result (lists_in lists.new.items ≡
+        with_added (lists_in lists.old.items) number position) }
     ensures count { vec_len lists.new ≡ vec_len lists.old }
 {
     lists[number].push(position)?;

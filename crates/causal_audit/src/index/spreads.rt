@@ -27,7 +27,8 @@ fn note_spread(spreads: &mut Vec<u32>, outs: &mut [u32], entry: &Entry, lane: us
     requires event { i < length spreads.old.items }
     requires lane { lane < length outs.old }
     ensures spreads { spreads.new.items ≡ with_spread entry.now i lane spreads.old.items outs.old }
-    ensures outs { outs.new ≡ slice_set outs.old lane (spread_at entry.now i lane spreads.old.items outs.old) }
+    ensures outs { outs.new ≡
+        slice_set outs.old lane (spread_at entry.now i lane spreads.old.items outs.old) }
 {
     note_delivered(spreads, entry, i);
     let first = spreads[i as usize].min(outs[lane]);

@@ -114,7 +114,8 @@ pub fn open_deliveries_of(
     requires within { end ≤ length outline.trace.now.recording.past }
     requires mentioned { AreMentionsKept outline.trace.now.recording.past
         (instant outline.trace.now.recording.past end) mentions.now }
-    ensures { IfOk result (λ opened. AreGathered (asked_of outline.entry.trace.now.recording f end) end opened.items) }
+    ensures { IfOk result
+        (λ opened. AreGathered (asked_of outline.entry.trace.now.recording f end) end opened.items) }
 {
     let entries = outline.trace.entries();
     let crashes = ByProcess::of(alloc, entries, false)?;

@@ -24,7 +24,8 @@ impl ThinStretches {
     /// None, from an instant on.
     fn none(alloc: Global, from: u32) -> ThinStretches
         ensures from { result.from ≡ from }
-        ensures thins { (n most : ℕ) (past : List Entry) (d : Det) → AreThinStretches n most past d from result }
+        ensures thins { (n most : ℕ) (past : List Entry) (d : Det) →
+            AreThinStretches n most past d from result }
     {
         ThinStretches {
             from,
@@ -84,7 +85,8 @@ impl ThinStretches {
     pub fn uncovered_until(&self, k: u32, spread: u32, crash: u32, end: u32) -> u32
         requires { end ≤ max_entries }
         ensures early { k < self.now.from → result ≡ end + 1 }
-        ensures covered { AreRising self.now.bare.items → (u : ℕ) → self.now.from ≤ k → result ≤ u → u ≤ end →
+        ensures covered { AreRising self.now.bare.items → (u : ℕ) → self.now.from ≤ k →
+            result ≤ u → u ≤ end →
             MayBeOpen self.now k spread crash u → ⊥ }
     {
         if k < self.from {
