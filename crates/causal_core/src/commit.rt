@@ -20,9 +20,11 @@ use crate::cell::Cell;
 use crate::grown::Grown;
 use crate::receive::receive;
 use crate::sends::append_sends;
+use causal_log::Batch;
 use causal_name::{NoMemory, Pid};
 use causal_process::Outgoing;
 use causal_trace::trace::Trace;
+use std::sync::Arc;
 
 /// Records a delivery to process q and its sends. The answer is how many sends are recorded.
 pub(crate) fn commit(
@@ -32,6 +34,7 @@ pub(crate) fn commit(
     f: u16,
     grown: Grown,
     sends: Vec<Outgoing>,
+    left: &mut Vec<Arc<Batch>>,
 ) -> u32
     requires process { q.0 < trace.old.recording.processes }
     requires legal { MayCome trace.old.recording (entry_of q grown) }
@@ -69,7 +72,7 @@ pub(crate) fn commit(
         shares,
     } = grown;
     receive(trace, cell, q, send, own, listed, &*carried, f, next);
-    append_sends(trace, cell, q, sends, shares)
+    append_sends(trace, cell, q, sends, shares, left)
 }
 
 /// The same, where the cell stands among the others.
@@ -80,6 +83,7 @@ pub(crate) fn commit_at(
     f: u16,
     grown: Grown,
     sends: Vec<Outgoing>,
+    left: &mut Vec<Arc<Batch>>,
 ) -> u32
     requires process { q.0 < trace.old.recording.processes }
     requires up { is_some (at (memories_in cells.old.items) q.0) ≡ true }
@@ -115,7 +119,7 @@ pub(crate) fn commit_at(
     let Some(cell) = &mut cells[usize::from(q.0)] else {
         unreachable!()
     };
-    commit(trace, cell, q, f, grown, sends)
+    commit(trace, cell, q, f, grown, sends, left)
 }
 
 /// Room for a delivery that logs so many determinants, and for its sends.

@@ -53,7 +53,7 @@ fn kept_shares(alloc: Global, f: u16, log: &mut Log) -> Result<Vec<Arc<Batch>>, 
 {
     let batch = log.choose(alloc, f)?;
     let batch = Arc::new(alloc, batch)?;
-    let shares = shares(alloc, &batch)?;
+    let shares = shares(Vec::new(alloc), &batch)?;
     log.carry(f, batch);
     Ok(shares)
 }
@@ -260,7 +260,7 @@ impl Data {
             who: p,
             listed: Dets::new(listed),
         });
-        let sends = append_sends(&mut self.trace, &mut cell, p, sends, shares);
+        let sends = append_sends(&mut self.trace, &mut cell, p, sends, shares, &mut self.left);
         put(&mut self.cells, usize::from(p.0), cell);
         Restarted {
             first,

@@ -56,6 +56,7 @@ impl Data {
             faults: f,
             writers: Vec::new(alloc),
             cells,
+            left: Vec::new(alloc),
         })
     }
 
@@ -83,7 +84,7 @@ impl Data {
             shares,
             mut cell,
         } = fresh;
-        let _number = append_sends(&mut self.trace, &mut cell, p, sends, shares);
+        let _number = append_sends(&mut self.trace, &mut cell, p, sends, shares, &mut self.left);
         put(&mut self.cells, usize::from(p.0), cell);
     }
 }

@@ -20,14 +20,15 @@ use causal_trace::entry::Entry;
 use causal_trace::trace::Trace;
 use std::sync::Arc;
 
-/// Records the sends of process q, and keeps them; those to no process are dropped. The answer is how many are
-/// recorded.
+/// Records the sends of process q, and keeps them; those to no process are dropped. What they leave of the shares is
+/// left. The answer is how many are recorded.
 pub(crate) fn append_sends(
     trace: &mut Trace,
     cell: &mut Cell,
     q: Pid,
     sends: Vec<Outgoing>,
     mut shares: Vec<Arc<Batch>>,
+    left: &mut Vec<Arc<Batch>>,
 ) -> u32
     requires process { q.0 < trace.old.recording.processes }
     requires fit { Fits trace.old.recording.past q.0 (memory_of cell.old) }
@@ -61,6 +62,7 @@ pub(crate) fn append_sends(
             number += 1;
         }
     }
+    *left = shares;
     number
 }
 

@@ -19,9 +19,8 @@ use causal_name::{Det, NoMemory, Slot};
 use std::alloc::Global;
 use std::marker::Model;
 
-/// The fewest heads of a table with room for twice as many entries at most, and of one with more, or with crowded heads.
-const FEW: usize = 128;
-const MANY: usize = 2048;
+/// The fewest heads of a small table. One with room for more than twice as many entries, or crowded heads, has 16 times these.
+const FEWEST_HEADS: usize = 128;
 
 /// How far a turn is from the one before: far enough that what shared a head is spread over many.
 const TURN: u8 = 37;
@@ -161,7 +160,7 @@ impl Table {
             return Err(NoMemory);
         }
         let before = self.dets.capacity();
-        self.dets.reserve(more)?;
+        self.dets.reserve(more.max(FEWEST_HEADS / 8))?;
         let room = self.dets.capacity().min(u32::MAX as usize) - self.dets.len();
         self.entries.reserve(room)?;
         self.older.reserve(room)?;
@@ -254,9 +253,10 @@ fn widen(
     if least == heads.len() && !is_turned {
         return Ok(());
     }
-    let fewest = if least <= 2 * FEW && !is_turned { FEW } else { MANY };
-    let count = least.max(fewest).checked_next_power_of_two().ok_or(NoMemory)?;
-    heads.resize(count, None)?;
+    let is_small = least <= 2 * FEWEST_HEADS && !is_turned;
+    let times = if is_small { 1 } else { 16 };
+    let count = least.max(times * FEWEST_HEADS).checked_next_power_of_two();
+    heads.resize(count.ok_or(NoMemory)?, None)?;
     if is_turned {
         *turn = turn.wrapping_add(TURN);
     }

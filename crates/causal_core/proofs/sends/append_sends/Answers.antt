@@ -174,7 +174,7 @@ pub send-requires-clause-ascending : goal.send-requires-clause-ascending
 send-requires-clause-ascending c = ap (λ b. is_ascending (dets_of b)) (popped c).3 ∙ c.requires.ascending
 
 -- all have been sent
-done : (c : goal.After-drop-shares) → c.loop-outgoing.yielded ≡ c.args.sends.items
+done : (c : goal.After-drop-left) → c.loop-outgoing.yielded ≡ c.args.sends.items
 done c =
     sym (map-id c.loop-outgoing.yielded)
     ∙ (YieldsList-end (all c.args.sends c.into_iter-outgoing-iterator.result c.into_iter-outgoing-iterator.ensures.into_iter_gives.0 c.into_iter-outgoing-iterator.ensures.into_iter_gives.1) c.loop-outgoing.yielded c.loop-outgoing.outgoing-iterator c.loop-outgoing.yielded_by c.next.result c.next.new.self c.in-None.is c.next.ensures.steps).0
