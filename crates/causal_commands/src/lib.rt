@@ -12,6 +12,8 @@
 
 /// What the runtime has recorded, audited.
 pub mod accepted;
+/// The answer to the text of a trace, and how it is written.
+mod answer;
 pub mod complaints;
 pub mod ended;
 pub mod hint;
