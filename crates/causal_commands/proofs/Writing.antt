@@ -1,5 +1,5 @@
 -- What is written to the text of a trace, where what was read and written is known.
-use Rattle.std.proofs.Common.{◌≡◌, ◌≢◌, ◌<◌, List, ℕ, Option, None, Some, Result, Ok, Err, IfOk, inl, inr, length, take, sym, subst}
+use Rattle.std.proofs.Common.{◌≡◌, ◌<◌, List, ℕ, Option, None, Some, Result, Ok, Err, IfOk, inl, inr, length, take, sym, subst}
 use Rattle.std.specs.Prelude.{IfErr, IfSome, MatchResult}
 use Rattle.std.specs.Io.KnownBytes.{Appends}
 use Rattle.std.proofs.KnownBytes.{Keeps-refl}
@@ -43,10 +43,6 @@ pub line_begun : (answer : Answer) (ended : Ended) (old new : Option (List ℕ))
     → IsWritten answer ended old new
 line_begun answer ended old new bytes n same is some first =
     inr (is, (n, subst (λ b. n < length b) same some, subst (λ b. Appends old new (take n b)) same first))
-
--- an ending that writes an answer whole is no want of a worker
-pub told_apart : (ended : Ended) → IsTold ended → ended ≢ NoWorker
-told_apart ended told same = subst IsTold same told
 
 -- the answer was written to what a reader gave
 pub writes : (Answers : List ℕ → Ended → List ℕ → Type 0) (known old new : Option (List ℕ)) (answer : Answer) (ended : Ended) → IsTold answer.ended

@@ -1,7 +1,5 @@
-use Rattle.std.proofs.Common.{subst, sym}
-use Rattle.causal_commands.specs.declared.ended.Ended.TheVariants.{WriteFault, NoWorker}
 use Rattle.causal_commands.proofs.Refusals.{names}
-use Rattle.causal_commands.proofs.Writing.{line_begun, line_written, told_apart}
+use Rattle.causal_commands.proofs.Writing.{line_begun, line_written}
 use Rattle.causal_commands.proofs.answer.write_answer.Goals as goal
 use Rattle.causal_commands.proofs.answer.write_answer.Goals.{in-Ok, in-Err}
 
