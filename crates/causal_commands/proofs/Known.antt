@@ -7,8 +7,8 @@ pub IfSome-weaker : (known : Option (List ℕ)) (P Q : List ℕ → Type 0) → 
 IfSome-weaker None P Q weaker fact = tt
 IfSome-weaker (Some bytes) P Q weaker fact = weaker bytes fact
 
--- the same of what a call gives, at the limits and for the number of faults that it was called with
-pub IfOk-known : {A E : Type 0} (most : ℕ) (known : Option (List ℕ)) (f : ℕ) (P : ℕ → List ℕ → ℕ → Type 0) (Q : A → ℕ → List ℕ → ℕ → Type 0) (result : Result A E)
-    → IfSome known (λ text. P most text f) → IfOk result (λ a. (k : ℕ) (text : List ℕ) (g : ℕ) → P k text g → Q a k text g) → IfOk result (λ a. IfSome known (λ text. Q a most text f))
-IfOk-known most known f P Q (Err e) p weaker = tt
-IfOk-known most known f P Q (Ok a) p weaker = IfSome-weaker known _ _ (λ text h. weaker most text f h) p
+-- the same of what a call gives, at the limits that it was called with
+pub IfOk-known : {A E : Type 0} (most : ℕ) (known : Option (List ℕ)) (P : ℕ → List ℕ → Type 0) (Q : A → ℕ → List ℕ → Type 0) (result : Result A E)
+    → IfSome known (λ text. P most text) → IfOk result (λ a. (k : ℕ) (text : List ℕ) → P k text → Q a k text) → IfOk result (λ a. IfSome known (λ text. Q a most text))
+IfOk-known most known P Q (Err e) p weaker = tt
+IfOk-known most known P Q (Ok a) p weaker = IfSome-weaker known _ _ (λ text h. weaker most text h) p

@@ -1,7 +1,7 @@
 mod SafeAccepts
-mod JsonLemmas
 mod Known
 mod MergeLemmas
 mod PrintLemmas
 mod ReadLemmas
 mod Refusals
+mod Writing

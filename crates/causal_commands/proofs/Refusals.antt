@@ -12,13 +12,13 @@ use Rattle.causal_commands.specs.declared.judged.Stopped.{Stopped}
 use Rattle.causal_commands.specs.declared.judged.Stopped.TheVariants.{Text}
 use Rattle.causal_commands.specs.declared.remark.Refusal.{Refusal}
 use Rattle.causal_commands.specs.declared.shown.View.{View}
-use Rattle.causal_commands.specs.declared.stream.Answer.{Answer}
+use Rattle.causal_commands.specs.declared.answer.Answer.{Answer}
 use Rattle.causal_commands.specs.Ranges.{IsRangeAnswer}
 use Rattle.causal_commands.specs.Remarks.{IsRefusal, NamesFirstFault}
 use Rattle.causal_commands.specs.Shown.{IsFaultShown, IsReply}
 use Rattle.causal_commands.specs.Streams.{IsFaultLine, IsAnswer}
 use Rattle.causal_commands.specs.Until.{IsAnswerUntil}
-use Rattle.causal_commands.specs.Inside.Answers.{IsAnswerFor, IsRangeAnswerFor, IsReplyFor}
+use Rattle.causal_commands.specs.Inside.Answers.{IsRangeAnswerFor, IsReplyFor}
 use Rattle.causal_commands.specs.Inside.Refusals.{IsRejectedSo, NamesRejected, TellsStop}
 use Rattle.causal_commands.proofs.Known.{IfSome-weaker}
 
@@ -28,11 +28,11 @@ pub names : (most : ℕ) (known : Option (List ℕ)) (f : ℕ) (rejected : Optio
 names most known f rejected told h is = IfSome-weaker known _ _ (is most) h
 
 -- the line of a fault answers the text that it was told of
-pub answers : (most : ℕ) (known : Option (List ℕ)) (f : ℕ) (stopped : Stopped) (result : Result Answer Ended) → IfSome known (λ text. TellsStop most text stopped)
-    → IfOk result (λ a. a.ended ≡ Faulted) → IfOk result (λ a. (k : ℕ) (text : List ℕ) → TellsStop k text stopped → IsFaultLine k text a.line.items) → IfOk result (λ a. IsAnswerFor most known f a.ended a.line.items)
-answers most known f stopped (Err e) tells ended line = tt
-answers most known f stopped (Ok a) tells ended line =
-    IfSome-weaker known _ _ (λ text told. subst (λ (e : Ended). IsAnswer most text f e a.line.items) (sym ended) (line most text told)) tells
+pub answers : (f : ℕ) (stopped : Stopped) (result : Result Answer Ended) → IfOk result (λ a. a.ended ≡ Faulted)
+    → IfOk result (λ a. (k : ℕ) (text : List ℕ) → TellsStop k text stopped → IsFaultLine k text a.line.items)
+    → IfOk result (λ a. (k : ℕ) (text : List ℕ) → TellsStop k text stopped → IsAnswer k text f a.ended a.line.items)
+answers f stopped (Err e) ended line = tt
+answers f stopped (Ok a) ended line = λ k text told. subst (λ (e : Ended). IsAnswer k text f e a.line.items) (sym ended) (line k text told)
 
 -- the same, where a view is shown or the numbers of faults are told
 pub replies : (most : ℕ) (view : View) (known : Option (List ℕ)) (f : ℕ) (stopped : Stopped) (result : Result Answer Ended) → IfSome known (λ text. TellsStop most text stopped)

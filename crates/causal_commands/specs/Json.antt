@@ -1,9 +1,8 @@
 -- What a run of the program writes as JSON. `most` is how many entries the trace may have.
-use Rattle.std.specs.Prelude.{◌≡◌, ℕ, ◌≤◌, ◌<◌, List, length, take, Option, IfSome}
-use Rattle.std.specs.Io.KnownBytes.{Appends, Keeps}
+use Rattle.std.specs.Prelude.{◌≡◌, ℕ, ◌≤◌, List, Option, IfSome}
 use Rattle.causal_report.specs.Objects.{verdict_object, ranges_object}
 use Rattle.causal_commands.specs.declared.ended.Ended.{Ended}
-use Rattle.causal_commands.specs.declared.ended.Ended.TheVariants.{Ranged, ReadFault, WriteFault, NoMemory, NoWorker}
+use Rattle.causal_commands.specs.declared.ended.Ended.TheVariants.{Ranged}
 use Rattle.causal_commands.specs.declared.json.Question.{Question}
 use Rattle.causal_commands.specs.declared.json.Question.TheVariants.{Verdict, Breach, Reason, Range}
 use Rattle.causal_commands.specs.declared.shown.View.TheVariants as view
@@ -11,6 +10,7 @@ use Rattle.causal_commands.specs.Ranges.{IsRangeAnswer}
 use Rattle.causal_commands.specs.Shown.{IsReply}
 use Rattle.causal_commands.specs.Streams.{IsAnswer}
 use Rattle.causal_commands.specs.Until.{IsAnswerUntil}
+use Rattle.causal_commands.specs.Written.{WritesAnswer}
 
 -- for how many faults it is asked; those before a fault of the text are judged for none where it is asked of all
 abbrev pub faults_of : Question → ℕ
@@ -45,16 +45,6 @@ object_of _ lines = verdict_object lines
 abbrev pub IsObject : ℕ → Question → List ℕ → Ended → List ℕ → Type 0
 IsObject most question text ended out = (lines : List ℕ) × AreLines most question text ended lines × (out ≡ object_of ended lines)
 
--- what is written to a text where the program ends so, from what the writer held before to what it holds afterwards: the object
--- alone; after a write fault only its first bytes; else nothing
-abbrev pub WritesObject : ℕ → Question → List ℕ → Ended → Option (List ℕ) → Option (List ℕ) → Type 0
-WritesObject most question text ReadFault old new = Keeps old new
-WritesObject most question text NoMemory old new = Keeps old new
-WritesObject most question text NoWorker old new = Keeps old new
-WritesObject most question text WriteFault old new =
-    (ended : Ended) × (out : List ℕ) × (n : ℕ) × IsObject most question text ended out × (n < length out) × Appends old new (take n out)
-WritesObject most question text ended old new = (out : List ℕ) × IsObject most question text ended out × Appends old new out
-
--- the same of what a reader gives, where its bytes are known
+-- what is written to what a reader gives, where its bytes are known
 abbrev pub WritesObjectFor : ℕ → Question → Option (List ℕ) → Ended → Option (List ℕ) → Option (List ℕ) → Type 0
-WritesObjectFor most question given ended old new = IfSome given (λ text. WritesObject most question text ended old new)
+WritesObjectFor most question given ended old new = IfSome given (λ text. WritesAnswer (IsObject most question text) ended old new)

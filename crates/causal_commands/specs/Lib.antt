@@ -14,3 +14,4 @@ pub mod Complaints
 pub mod Runs
 pub mod Streams
 pub mod Until
+pub mod Written

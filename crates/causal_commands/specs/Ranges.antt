@@ -1,13 +1,13 @@
 -- What is written of the numbers of faults for which a run is safe. `most` is how many entries the trace may have.
-use Rattle.std.specs.Prelude.{◌≡◌, ℕ, ◌-◌, ◌<◌, nat_lt, if◌then◌else◌, List, [], ◌++◌, length, take, Option, Some, None, IfSome, codes, decimal}
-use Rattle.std.specs.Io.KnownBytes.{Appends, Keeps}
+use Rattle.std.specs.Prelude.{◌≡◌, ℕ, ◌-◌, nat_lt, if◌then◌else◌, List, [], ◌++◌, Option, Some, None, IfSome, codes, decimal}
 use Rattle.causal_trace.specs.Rows.{Recording}
 use Rattle.causal_text.specs.Spelling.{SpellsWithin}
 use Rattle.causal_explain.specs.declared.range.SafeRange.{SafeRange}
 use Rattle.causal_explain.specs.Ranges.{IsSafeRange}
 use Rattle.causal_commands.specs.declared.ended.Ended.{Ended}
-use Rattle.causal_commands.specs.declared.ended.Ended.TheVariants.{Ranged, Faulted, ReadFault, WriteFault, NoMemory, NoWorker}
+use Rattle.causal_commands.specs.declared.ended.Ended.TheVariants.{Ranged, Faulted}
 use Rattle.causal_commands.specs.Streams.{IsFaultLine}
+use Rattle.causal_commands.specs.Written.{WritesAnswer}
 
 -- for which numbers too many processes are down at some instant: those up to this one
 abbrev pub exceeded_to : ℕ → List ℕ
@@ -46,15 +46,6 @@ IsRangeAnswer most text Ranged out =
 IsRangeAnswer most text Faulted out = IsFaultLine most text out
 IsRangeAnswer most text _ out = ⊥
 
--- what is written to a text where the program ends so: the answer alone; after a write fault only its first bytes; else nothing
-abbrev pub WritesRange : ℕ → List ℕ → Ended → Option (List ℕ) → Option (List ℕ) → Type 0
-WritesRange most text ReadFault old new = Keeps old new
-WritesRange most text NoMemory old new = Keeps old new
-WritesRange most text NoWorker old new = Keeps old new
-WritesRange most text WriteFault old new =
-    (ended : Ended) × (out : List ℕ) × (n : ℕ) × IsRangeAnswer most text ended out × (n < length out) × Appends old new (take n out)
-WritesRange most text ended old new = (out : List ℕ) × IsRangeAnswer most text ended out × Appends old new out
-
--- the same of what a reader gives, where its bytes are known
+-- what is written to what a reader gives, where its bytes are known
 abbrev pub WritesRangeFor : ℕ → Option (List ℕ) → Ended → Option (List ℕ) → Option (List ℕ) → Type 0
-WritesRangeFor most given ended old new = IfSome given (λ text. WritesRange most text ended old new)
+WritesRangeFor most given ended old new = IfSome given (λ text. WritesAnswer (IsRangeAnswer most text) ended old new)

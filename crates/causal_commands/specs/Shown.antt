@@ -1,6 +1,5 @@
 -- What a run of the program writes that shows why a verdict is so. `most` is how many entries the trace may have.
-use Rattle.std.specs.Prelude.{◌≡◌, ◌≢◌, ℕ, ◌<◌, List, [], ◌++◌, length, take, Option, IfSome}
-use Rattle.std.specs.Io.KnownBytes.{Appends, Keeps}
+use Rattle.std.specs.Prelude.{◌≡◌, ◌≢◌, ℕ, List, [], ◌++◌, Option, IfSome}
 use Rattle.causal_trace.specs.Rows.{Recording}
 use Rattle.causal_text.specs.declared.kind.TextFault.{TextFault}
 use Rattle.causal_text.specs.Spelling.{IsFirstFaultWithin}
@@ -8,10 +7,11 @@ use Rattle.causal_audit.specs.declared.verdict.Verdict.TheVariants.{Accept}
 use Rattle.causal_report.specs.Drawings.{IsDrawing}
 use Rattle.causal_report.specs.Reasons.{IsReason}
 use Rattle.causal_commands.specs.declared.ended.Ended.{Ended}
-use Rattle.causal_commands.specs.declared.ended.Ended.TheVariants.{Accepted, Breached, Faulted, ReadFault, WriteFault, NoMemory, NoWorker}
+use Rattle.causal_commands.specs.declared.ended.Ended.TheVariants.{Accepted, Breached, Faulted}
 use Rattle.causal_commands.specs.declared.shown.View.{View}
 use Rattle.causal_commands.specs.declared.shown.View.TheVariants.{Reason, Picture}
 use Rattle.causal_commands.specs.Streams.{IsFaultLine}
+use Rattle.causal_commands.specs.Written.{WritesAnswer}
 use Rattle.causal_workers.specs.declared.judged.Judged.{Judged}
 use Rattle.causal_workers.specs.Judgements.{IsJudgementWithin}
 use Rattle.causal_workers.specs.Lines.{verdict_line}
@@ -38,16 +38,6 @@ IsReply most view text f Breached out = (judged : Judged) × IsShown most view t
 IsReply most view text f Faulted out = IsFaultShown most view text out
 IsReply most view text f _ out = ⊥
 
--- what is written to a text for f where the program ends so, from what the writer held before to what it holds afterwards:
--- the reply alone; after a write fault only its first bytes; else nothing
-abbrev pub Shows : ℕ → View → List ℕ → ℕ → Ended → Option (List ℕ) → Option (List ℕ) → Type 0
-Shows most view text f ReadFault old new = Keeps old new
-Shows most view text f NoMemory old new = Keeps old new
-Shows most view text f NoWorker old new = Keeps old new
-Shows most view text f WriteFault old new =
-    (ended : Ended) × (out : List ℕ) × (n : ℕ) × IsReply most view text f ended out × (n < length out) × Appends old new (take n out)
-Shows most view text f ended old new = (out : List ℕ) × IsReply most view text f ended out × Appends old new out
-
--- the same of what a reader gives, where its bytes are known
+-- what is written to what a reader gives, where its bytes are known
 abbrev pub ShowsFor : ℕ → View → Option (List ℕ) → ℕ → Ended → Option (List ℕ) → Option (List ℕ) → Type 0
-ShowsFor most view given f ended old new = IfSome given (λ text. Shows most view text f ended old new)
+ShowsFor most view given f ended old new = IfSome given (λ text. WritesAnswer (IsReply most view text f) ended old new)

@@ -1,16 +1,16 @@
 -- What a run of the program writes. `most` is how many entries the trace may have.
-use Rattle.std.specs.Prelude.{◌≡◌, ◌≢◌, ℕ, ◌<◌, List, length, take, Option, IfSome}
-use Rattle.std.specs.Io.KnownBytes.{Appends, Keeps}
+use Rattle.std.specs.Prelude.{◌≡◌, ◌≢◌, ℕ, List, Option, IfSome}
 use Rattle.causal_trace.specs.Limits.{default_entries}
 use Rattle.causal_text.specs.declared.kind.TextFault.{TextFault}
 use Rattle.causal_text.specs.Spelling.{IsFirstFaultWithin}
 use Rattle.causal_text.specs.FaultLine.{fault_line}
 use Rattle.causal_audit.specs.declared.verdict.Verdict.TheVariants.{Accept}
 use Rattle.causal_commands.specs.declared.ended.Ended.{Ended}
-use Rattle.causal_commands.specs.declared.ended.Ended.TheVariants.{Accepted, Breached, Faulted, ReadFault, WriteFault, NoMemory, NoWorker}
+use Rattle.causal_commands.specs.declared.ended.Ended.TheVariants.{Accepted, Breached, Faulted}
 use Rattle.causal_workers.specs.declared.judged.Judged.{Judged}
 use Rattle.causal_workers.specs.Judgements.{IsJudgementWithin}
 use Rattle.causal_workers.specs.Lines.{verdict_line}
+use Rattle.causal_commands.specs.Written.{WritesAnswer}
 
 -- the line tells the first fault of a text
 abbrev pub IsFaultLine : ℕ → List ℕ → List ℕ → Type 0
@@ -24,15 +24,9 @@ IsAnswer most text f Breached line = (judged : Judged) × IsJudgementWithin most
 IsAnswer most text f Faulted line = IsFaultLine most text line
 IsAnswer most text f _ line = ⊥
 
--- what is written to a text for f where the program ends so, from what the writer held before to what it holds afterwards:
--- the line of the answer alone; after a write fault only the first bytes of that line; else nothing
+-- what is written to a text for f where the program ends so
 abbrev pub Writes : ℕ → List ℕ → ℕ → Ended → Option (List ℕ) → Option (List ℕ) → Type 0
-Writes most text f ReadFault old new = Keeps old new
-Writes most text f NoMemory old new = Keeps old new
-Writes most text f NoWorker old new = Keeps old new
-Writes most text f WriteFault old new =
-    (ended : Ended) × (line : List ℕ) × (n : ℕ) × IsAnswer most text f ended line × (n < length line) × Appends old new (take n line)
-Writes most text f ended old new = (line : List ℕ) × IsAnswer most text f ended line × Appends old new line
+Writes most text f ended old new = WritesAnswer (IsAnswer most text f) ended old new
 
 -- the same of what a reader gives, where its bytes are known
 abbrev pub WritesWithin : ℕ → Option (List ℕ) → ℕ → Ended → Option (List ℕ) → Option (List ℕ) → Type 0

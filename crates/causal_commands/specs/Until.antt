@@ -1,14 +1,14 @@
 -- What a run of the program writes that ends at a breach. `most` is how many entries the trace may have.
-use Rattle.std.specs.Prelude.{◌≡◌, ℕ, ◌<◌, ◌⊎◌, List, ◌++◌, length, take, codes, Option, IfSome}
+use Rattle.std.specs.Prelude.{◌≡◌, ℕ, ◌⊎◌, List, ◌++◌, codes, Option, IfSome}
 use Rattle.std.specs.Fmt.{decimal}
-use Rattle.std.specs.Io.KnownBytes.{Appends, Keeps}
 use Rattle.causal_text.specs.Stages.{content}
 use Rattle.causal_workers.specs.declared.judged.Judged.{Judged}
 use Rattle.causal_workers.specs.Early.{FindsNoBreach, IsEarly}
 use Rattle.causal_workers.specs.Lines.{verdict_line}
 use Rattle.causal_commands.specs.declared.ended.Ended.{Ended}
-use Rattle.causal_commands.specs.declared.ended.Ended.TheVariants.{Breached, ReadFault, WriteFault, NoMemory, NoWorker}
+use Rattle.causal_commands.specs.declared.ended.Ended.TheVariants.{Breached}
 use Rattle.causal_commands.specs.Streams.{IsAnswer}
+use Rattle.causal_commands.specs.Written.{WritesAnswer}
 
 -- the line of a breach that a look found, with how many entries had been read
 abbrev pub early_line : ℕ → Judged → List ℕ
@@ -24,16 +24,6 @@ abbrev pub IsAnswerUntil : ℕ → List ℕ → ℕ → Ended → List ℕ → T
 IsAnswerUntil most text f Breached line = IsEarlyLine most text f line ⊎ (FindsNoBreach most text f × IsAnswer most text f Breached line)
 IsAnswerUntil most text f ended line = FindsNoBreach most text f × IsAnswer most text f ended line
 
--- what is written to a text for f where the program ends so, from what the writer held before to what it holds afterwards:
--- the line of the answer alone; after a write fault only the first bytes of that line; else nothing
-abbrev pub WritesUntil : ℕ → List ℕ → ℕ → Ended → Option (List ℕ) → Option (List ℕ) → Type 0
-WritesUntil most text f ReadFault old new = Keeps old new
-WritesUntil most text f NoMemory old new = Keeps old new
-WritesUntil most text f NoWorker old new = Keeps old new
-WritesUntil most text f WriteFault old new =
-    (ended : Ended) × (line : List ℕ) × (n : ℕ) × IsAnswerUntil most text f ended line × (n < length line) × Appends old new (take n line)
-WritesUntil most text f ended old new = (line : List ℕ) × IsAnswerUntil most text f ended line × Appends old new line
-
--- the same of what a reader gives, where its bytes are known
+-- what is written to what a reader gives, where its bytes are known
 abbrev pub WritesUntilFor : ℕ → Option (List ℕ) → ℕ → Ended → Option (List ℕ) → Option (List ℕ) → Type 0
-WritesUntilFor most given f ended old new = IfSome given (λ text. WritesUntil most text f ended old new)
+WritesUntilFor most given f ended old new = IfSome given (λ text. WritesAnswer (IsAnswerUntil most text f) ended old new)

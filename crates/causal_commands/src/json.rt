@@ -1,19 +1,20 @@
 //! The program's work of answering as JSON, over any reader and writer.
-ghost use Rattle.std.specs.Prelude.{◌≡◌, ◌≢◌, ◌≤◌, IfOk, IfErr, Err};
+ghost use Rattle.std.specs.Prelude.{◌≡◌, ◌≤◌, IfOk, IfErr, Err};
 ghost use Rattle.causal_commands.specs.Json as told;
 ghost use Rattle.causal_commands.specs.Remarks.{NamesFirstFault};
-ghost use Rattle.causal_commands.specs.Inside.Answers.{AreLinesFor, IsObjectFor, IsSilent};
-ghost use Rattle.causal_commands.specs.Inside.Refusals.{NamesRejected};
+ghost use Rattle.causal_commands.specs.Inside.Answers.{AreLinesFor, IsSilent, IsTold, TellsRejected};
 
+use crate::answer::{Answer, verdict_answer, write_answer};
 use crate::ended::Ended;
-use crate::remark::{Refusal, refusal_of};
+use crate::judged::judged_from;
+use crate::remark::Refusal;
 use crate::shown::View;
-use crate::stream::{Answer, Told};
-use crate::{range, shown, stream, until};
+use crate::stream::Told;
+use crate::until::answer_until;
+use crate::{range, shown};
 use causal_report::{ranges_object, verdict_object};
-use causal_text::write_whole;
 use causal_trace::limits::Limits;
-use causal_workers::OpenGate;
+use causal_workers::{OpenGate, judge_until_breach};
 use std::alloc::{AllocError, Global};
 use std::io::{Read, Write};
 use std::sync::Wait;
@@ -66,52 +67,29 @@ pub fn answer_as_json<R: Threads + Wait, I: Read, O: Write>(
         (told.faults_of question) result.fault }
     ensures alone { result.ended ≡ Ended.NoWorker → 2 ≤ told.workers_of question }
 {
-    let Answer {
-        ended,
-        line,
-        rejected,
-    } = match object_for(rt, alloc, input, limits, question) {
-        Ok(answer) => answer,
+    let lines = match lines_for(rt, alloc, input, limits, question) {
+        Ok(lines) => lines,
         Err(ended) => return Told { ended, fault: None },
     };
-    let ended = match write_whole(line.as_slice(), output) {
-        Ok(()) => ended,
-        Err(_) => Ended::WriteFault,
-    };
-    let fault = refusal_of(alloc, question.faults(), rejected);
-    Told { ended, fault }
+    match object_answer(alloc, lines) {
+        Ok(answer) => write_answer(alloc, output, question.faults(), answer),
+        Err(ended) => Told { ended, fault: None },
+    }
 }
 
 /// The object that answers, in place of the lines.
-fn object_for<I: Read, R: Threads + Wait>(
-    rt: &R,
-    alloc: Global,
-    input: &mut I,
-    limits: Limits,
-    question: Question,
-) -> Result<Answer, Ended>
-    requires { told.HasFewWorkers question }
-    ensures ok { IfOk result (λ answer. IsObjectFor limits.entries question
-        (I.remaining input.old) answer.ended answer.line.items) }
-    ensures rejected { IfOk result
-        (λ answer. NamesRejected limits.entries (I.remaining input.old) answer.rejected) }
-    ensures whole { IfOk result (λ answer. answer.ended ≢ Ended.NoWorker) }
-    ensures err { IfErr result IsSilent }
-    ensures alone { result ≡ Err Ended.NoWorker → 2 ≤ told.workers_of question }
+fn object_answer(alloc: Global, lines: Answer) -> Result<Answer, Ended>
+    ensures line { IfOk result (λ answer. answer.line.items
+        ≡ told.object_of lines.ended lines.line.items) }
+    ensures ended { IfOk result (λ answer. answer.ended ≡ lines.ended) }
+    ensures rejected { IfOk result (λ answer. answer.rejected ≡ lines.rejected) }
+    ensures err { IfErr result (λ ended. ended ≡ Ended.NoMemory) }
 {
-    let Answer {
-        ended,
-        line,
-        rejected,
-    } = match lines_for(rt, alloc, input, limits, question) {
-        Ok(answer) => answer,
-        Err(ended) => return Err(ended),
-    };
-    match object_of(alloc, ended, line.as_slice()) {
+    match object_of(alloc, lines.ended, lines.line.as_slice()) {
         Ok(line) => Ok(Answer {
-            ended,
+            ended: lines.ended,
             line,
-            rejected,
+            rejected: lines.rejected,
         }),
         Err(_) => Err(Ended::NoMemory),
     }
@@ -127,18 +105,19 @@ fn lines_for<I: Read, R: Threads + Wait>(
     requires { told.HasFewWorkers question }
     ensures ok { IfOk result (λ answer. AreLinesFor limits.entries question
         (I.remaining input.old) answer.ended answer.line.items) }
-    ensures rejected { IfOk result
-        (λ answer. NamesRejected limits.entries (I.remaining input.old) answer.rejected) }
-    ensures whole { IfOk result (λ answer. answer.ended ≢ Ended.NoWorker) }
+    ensures rejected { TellsRejected limits.entries (I.remaining input.old) result }
+    ensures told { IfOk result (λ answer. IsTold answer.ended) }
     ensures err { IfErr result IsSilent }
     ensures alone { result ≡ Err Ended.NoWorker → 2 ≤ told.workers_of question }
 {
     match question {
         Question::Verdict { faults, workers } => {
-            stream::answered(rt, alloc, input, limits, faults, workers, &OpenGate)
+            let judged = judged_from(rt, alloc, input, limits, faults, workers, &OpenGate);
+            verdict_answer(alloc, faults, judged)
         }
         Question::Breach { faults, workers } => {
-            until::answered(rt, alloc, input, limits, faults, workers, &OpenGate)
+            let known = judge_until_breach(rt, alloc, input, limits, faults, workers, &OpenGate);
+            answer_until(alloc, faults, known)
         }
         Question::Reason { faults } => {
             shown::answered(rt, alloc, input, limits, faults, View::Reason)

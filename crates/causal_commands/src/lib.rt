@@ -12,6 +12,8 @@
 
 /// What the runtime has recorded, audited.
 pub mod accepted;
+/// The answer to the text of a trace, and how it is written.
+mod answer;
 /// What is said of a text that is no trace, in words.
 pub mod complaints;
 /// How a run of the program ends.

@@ -2,16 +2,15 @@
 ghost use Rattle.std.specs.Prelude.{◌≡◌, ◌≢◌, Some, IfOk, IfErr, Err};
 ghost use Rattle.causal_commands.specs.Ranges as told;
 ghost use Rattle.causal_commands.specs.Remarks.{NamesFirstFault};
-ghost use Rattle.causal_commands.specs.Inside.Refusals.{NamesRejected};
-ghost use Rattle.causal_commands.specs.Inside.Answers.{IsRangeAnswerFor, IsSilent};
+ghost use Rattle.causal_commands.specs.Inside.Answers.{IsRangeAnswerFor, IsSilent, IsTold, TellsRejected};
 
+use crate::answer::{Answer, faulted, write_answer};
 use crate::ended::Ended;
 use crate::judged::trace_from;
-use crate::remark::{Refusal, refusal_of};
-use crate::stream::{Answer, Told, faulted};
+use crate::remark::Refusal;
+use crate::stream::Told;
 use causal_explain::{SafeRange, safe_range};
 use causal_name::NoMemory;
-use causal_text::write_whole;
 use causal_trace::limits::Limits;
 use std::alloc::Global;
 use std::io::{Read, Write};
@@ -31,20 +30,10 @@ pub fn range_and_tell<I: Read, O: Write>(
     ensures fault { NamesFirstFault limits.entries (I.remaining input.old) 0 result.fault }
     ensures alone { result.ended ≢ Ended.NoWorker }
 {
-    let Answer {
-        ended,
-        line,
-        rejected,
-    } = match answered(alloc, input, limits) {
-        Ok(answer) => answer,
-        Err(ended) => return Told { ended, fault: None },
-    };
-    let ended = match write_whole(line.as_slice(), output) {
-        Ok(()) => ended,
-        Err(_) => Ended::WriteFault,
-    };
-    let fault = refusal_of(alloc, 0, rejected);
-    Told { ended, fault }
+    match answered(alloc, input, limits) {
+        Ok(answer) => write_answer(alloc, output, 0, answer),
+        Err(ended) => Told { ended, fault: None },
+    }
 }
 
 pub(crate) fn answered<I: Read>(
@@ -54,9 +43,8 @@ pub(crate) fn answered<I: Read>(
 ) -> Result<Answer, Ended>
     ensures ok { IfOk result (λ answer. IsRangeAnswerFor limits.entries (I.remaining input.old)
         answer.ended answer.line.items) }
-    ensures rejected { IfOk result
-        (λ answer. NamesRejected limits.entries (I.remaining input.old) answer.rejected) }
-    ensures whole { IfOk result (λ answer. answer.ended ≢ Ended.NoWorker) }
+    ensures rejected { TellsRejected limits.entries (I.remaining input.old) result }
+    ensures told { IfOk result (λ answer. IsTold answer.ended) }
     ensures err { IfErr result IsSilent }
     ensures alone { result ≢ Err Ended.NoWorker }
 {
@@ -113,33 +101,29 @@ fn exceeded_part(alloc: Global, from: u16) -> Result<Vec<u8>, NoMemory>
 fn exceeded_to(alloc: Global, last: u16) -> Result<Vec<u8>, NoMemory>
     ensures { IfOk result (λ text. text.items ≡ told.exceeded_to last) }
 {
-    let text = format!(in alloc;
+    Ok(format!(in alloc;
         "exceeded to={last}: at some instant more than f processes are down\n"
-    )?;
-    Ok(text.into_bytes())
+    )?.into_bytes())
 }
 
 fn accept_from(alloc: Global, first: u16) -> Result<Vec<u8>, NoMemory>
     ensures { IfOk result (λ text. text.items ≡ told.accept_from first) }
 {
-    let text = format!(in alloc; "accept from={first}: the run is safe for f\n")?;
-    Ok(text.into_bytes())
+    Ok(format!(in alloc; "accept from={first}: the run is safe for f\n")?.into_bytes())
 }
 
 fn accept_between(alloc: Global, first: u16, last: u16) -> Result<Vec<u8>, NoMemory>
     ensures { IfOk result (λ text. text.items ≡ told.accept_between first last) }
 {
-    let text = format!(in alloc; "accept from={first} to={last}: the run is safe for f\n")?;
-    Ok(text.into_bytes())
+    Ok(format!(in alloc; "accept from={first} to={last}: the run is safe for f\n")?.into_bytes())
 }
 
 fn orphan_from(alloc: Global, first: u16) -> Result<Vec<u8>, NoMemory>
     ensures { IfOk result (λ text. text.items ≡ told.orphan_from first) }
 {
-    let text = format!(in alloc;
+    Ok(format!(in alloc;
         "orphan from={first}: at some instant a delivery has an orphan for f\n"
-    )?;
-    Ok(text.into_bytes())
+    )?.into_bytes())
 }
 
 fn accept_part(alloc: Global, from: u16, end: u16) -> Result<Vec<u8>, NoMemory>

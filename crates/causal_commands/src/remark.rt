@@ -3,8 +3,8 @@
 ghost use Rattle.std.specs.Prelude.{List, ℕ, IfOk, IfSome};
 ghost use Rattle.causal_text.specs.Before.{StandsBeforeWithin};
 ghost use Rattle.causal_commands.specs.Inside.Refusals.{IsRejectedSo};
-ghost use Rattle.causal_commands.specs.Judgements.{IsJudgedSo};
 ghost use Rattle.causal_commands.specs.Remarks.{IsRefusal, IsRemarkOn};
+ghost use Rattle.causal_commands.specs.Judgements.{IsJudgedSo};
 
 use causal_audit::verdict_of;
 use causal_name::NoMemory;

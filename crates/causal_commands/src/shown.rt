@@ -4,16 +4,16 @@ ghost use Rattle.causal_audit.specs.Verdicts.{IsVerdict};
 ghost use Rattle.causal_commands.specs.Shown.{ShowsFor, IsFaultShown, IsShown, IsShowing};
 ghost use Rattle.causal_commands.specs.Judgements.{IsJudgedSo};
 ghost use Rattle.causal_commands.specs.Remarks.{NamesFirstFault};
-ghost use Rattle.causal_commands.specs.Inside.Answers.{IsReplyFor, IsSilent};
-ghost use Rattle.causal_commands.specs.Inside.Refusals.{IsRejectedSo, NamesRejected, TellsStop};
+ghost use Rattle.causal_commands.specs.Inside.Answers.{IsReplyFor, IsSilent, IsTold, TellsRejected};
+ghost use Rattle.causal_commands.specs.Inside.Refusals.{IsRejectedSo, TellsStop};
 
+use crate::answer::{Answer, ended_of, faulted, write_answer};
 use crate::ended::Ended;
 use crate::judged::{Stopped, trace_from};
-use crate::remark::{Refusal, refusal_of};
-use crate::stream::{Answer, Told, ended_of, faulted};
+use crate::remark::Refusal;
+use crate::stream::Told;
 use causal_name::NoMemory;
-use causal_report::{drawing_of, reason_text};
-use causal_text::write_whole;
+use causal_report::{drawing_of, line_with_reason};
 use causal_trace::limits::Limits;
 use causal_trace::trace::Trace;
 use causal_workers::{Judged, OpenGate, judge_trace, verdict_line};
@@ -50,20 +50,10 @@ pub fn show_and_tell<R: Threads + Wait, I: Read, O: Write>(
     ensures fault { NamesFirstFault limits.entries (I.remaining input.old) f result.fault }
     ensures alone { result.ended ≢ Ended.NoWorker }
 {
-    let Answer {
-        ended,
-        line,
-        rejected,
-    } = match answered(rt, alloc, input, limits, f, view) {
-        Ok(answer) => answer,
-        Err(ended) => return Told { ended, fault: None },
-    };
-    let ended = match write_whole(line.as_slice(), output) {
-        Ok(()) => ended,
-        Err(_) => Ended::WriteFault,
-    };
-    let fault = refusal_of(alloc, f, rejected);
-    Told { ended, fault }
+    match answered(rt, alloc, input, limits, f, view) {
+        Ok(answer) => write_answer(alloc, output, f, answer),
+        Err(ended) => Told { ended, fault: None },
+    }
 }
 
 pub(crate) fn answered<I: Read, R: Threads + Wait>(
@@ -76,9 +66,8 @@ pub(crate) fn answered<I: Read, R: Threads + Wait>(
 ) -> Result<Answer, Ended>
     ensures ok { IfOk result (λ answer. IsReplyFor limits.entries view (I.remaining input.old) f
         answer.ended answer.line.items) }
-    ensures rejected { IfOk result
-        (λ answer. NamesRejected limits.entries (I.remaining input.old) answer.rejected) }
-    ensures whole { IfOk result (λ answer. answer.ended ≢ Ended.NoWorker) }
+    ensures rejected { TellsRejected limits.entries (I.remaining input.old) result }
+    ensures told { IfOk result (λ answer. IsTold answer.ended) }
     ensures err { IfErr result IsSilent }
     ensures alone { result ≢ Err Ended.NoWorker }
 {
@@ -95,6 +84,7 @@ pub(crate) fn answered<I: Read, R: Threads + Wait>(
 /// What the view shows of the fault of a text that got no verdict, or how the program ends that writes none.
 fn fault_shown(alloc: Global, stopped: Stopped, view: View) -> Result<Answer, Ended>
     ensures ended { IfOk result (λ answer. answer.ended ≡ Ended.Faulted) }
+    ensures told { IfOk result (λ answer. IsTold answer.ended) }
     ensures ok { IfOk result (λ answer. (most : ℕ) (text : List ℕ) → TellsStop most text stopped
         → IsFaultShown most view text answer.line.items) }
     ensures rejected { IfOk result (λ answer. (most : ℕ) (text : List ℕ)
@@ -178,19 +168,10 @@ fn showing(
     ensures { IfOk result (λ text. IsShowing view trace.now.recording f judged.now text.items) }
 {
     match view {
-        View::Reason => reasoned(alloc, trace, f, judged),
+        View::Reason => {
+            let line = verdict_line(alloc, f, judged)?;
+            line_with_reason(alloc, line, trace, f, judged.verdict)
+        }
         View::Picture => drawing_of(alloc, trace, f, judged.verdict),
     }
-}
-
-/// The line of a verdict, and below it why it is so.
-fn reasoned(alloc: Global, trace: &Trace, f: u16, judged: &Judged) -> Result<Vec<u8>, NoMemory>
-    requires { IsVerdict trace.now.recording f judged.now.verdict }
-    ensures { IfOk result
-        (λ text. IsShowing View.Reason trace.now.recording f judged.now text.items) }
-{
-    let mut text = verdict_line(alloc, f, judged)?;
-    let reason = reason_text(alloc, trace, f, judged.verdict)?;
-    text.extend_from_slice(reason.as_slice())?;
-    Ok(text)
 }

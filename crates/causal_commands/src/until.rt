@@ -1,20 +1,21 @@
 //! The work of `audit` that ends at the first breach that it finds, over any reader and writer.
-ghost use Rattle.std.specs.Prelude.{◌≡◌, ◌≢◌, ◌≤◌, ◌++◌, ℕ, List, IfOk, IfErr, IfSome, None, Err, codes};
+ghost use Rattle.std.specs.Prelude.{◌≡◌, ◌≤◌, ◌++◌, ℕ, List, IfOk, IfErr, IfSome, None, Err, codes};
 ghost use Rattle.std.specs.Fmt.{decimal};
 ghost use Rattle.std.specs.String.{string_bytes};
 ghost use Rattle.causal_workers.specs.Early.{IsKnown, TellsUnjudged};
 ghost use Rattle.causal_commands.specs.Remarks.{NamesFirstFault};
 ghost use Rattle.causal_commands.specs.Until as told;
-ghost use Rattle.causal_commands.specs.Inside.Answers.{IsAnswerUntilFor, IsSilent};
-ghost use Rattle.causal_commands.specs.Inside.Refusals.{IsRejectedSo, NamesRejected};
+ghost use Rattle.causal_commands.specs.Inside.Answers.{IsSilent, IsTold, TellsKnown};
+ghost use Rattle.causal_commands.specs.Inside.Refusals.{IsRejectedSo};
 
+use crate::answer::{Answer, ended_of, faulted, write_answer};
 use crate::ended::Ended;
 use crate::judged::Stopped;
-use crate::remark::{Refusal, refusal_of};
-use crate::stream::{Answer, Told, ended_of, faulted};
+use crate::remark::Refusal;
+use crate::stream::Told;
 use causal_name::NoMemory;
 use causal_text::line_value::content;
-use causal_text::{TextKind, Unread, write_whole};
+use causal_text::{TextKind, Unread};
 use causal_trace::limits::Limits;
 use causal_workers::{AuditFault, Gate, Judged, Known, Unjudged, judge_until_breach, verdict_line};
 use std::alloc::{AllocError, Global};
@@ -41,47 +42,34 @@ pub fn audit_until_breach<R: Threads + Wait, I: Read, O: Write, G: Gate + Sync>(
     ensures fault { NamesFirstFault limits.entries (I.remaining input.old) f result.fault }
     ensures alone { result.ended ≡ Ended.NoWorker → 2 ≤ workers }
 {
-    let Answer {
-        ended,
-        line,
-        rejected,
-    } = match answered(rt, alloc, input, limits, f, workers, gate) {
-        Ok(answer) => answer,
-        Err(ended) => return Told { ended, fault: None },
-    };
-    let ended = match write_whole(line.as_slice(), output) {
-        Ok(()) => ended,
-        Err(_) => Ended::WriteFault,
-    };
-    let fault = refusal_of(alloc, f, rejected);
-    Told { ended, fault }
+    let known = judge_until_breach(rt, alloc, input, limits, f, workers, gate);
+    match answer_until(alloc, f, known) {
+        Ok(answer) => write_answer(alloc, output, f, answer),
+        Err(ended) => Told { ended, fault: None },
+    }
 }
 
-pub(crate) fn answered<I: Read, G: Gate + Sync, R: Threads + Wait>(
-    rt: &R,
+/// The line that answers a text of which this is known, or how the program ends that writes none.
+pub(crate) fn answer_until(
     alloc: Global,
-    input: &mut I,
-    limits: Limits,
     f: u16,
-    workers: u32,
-    gate: &G,
+    known: Result<Known, Unjudged>,
 ) -> Result<Answer, Ended>
-    requires { (1 ≤ workers) × (workers ≤ 64) }
-    ensures ok { IfOk result (λ answer. IsAnswerUntilFor limits.entries (I.remaining input.old) f
-        answer.ended answer.line.items) }
-    ensures rejected { IfOk result
-        (λ answer. NamesRejected limits.entries (I.remaining input.old) answer.rejected) }
-    ensures whole { IfOk result (λ answer. answer.ended ≢ Ended.NoWorker) }
+    ensures ok { IfOk result (λ answer. (most : ℕ) (text : List ℕ) → TellsKnown most text f known
+        → told.IsAnswerUntil most text f answer.ended answer.line.items) }
+    ensures rejected { IfOk result (λ answer. (most : ℕ) (text : List ℕ)
+        → TellsKnown most text f known → IfSome answer.rejected (IsRejectedSo most text)) }
+    ensures told { IfOk result (λ answer. IsTold answer.ended) }
     ensures err { IfErr result IsSilent }
-    ensures alone { result ≡ Err Ended.NoWorker → 2 ≤ workers }
+    ensures alone { result ≡ Err Ended.NoWorker
+        → known ≡ Err (Unjudged.Audit AuditFault.NoWorker) }
 {
-    let known = match judge_until_breach(rt, alloc, input, limits, f, workers, gate) {
-        Ok(known) => known,
-        Err(unjudged) => return refused(alloc, unjudged),
-    };
-    match known_answer(alloc, f, known) {
-        Ok(answer) => Ok(answer),
-        Err(NoMemory) => Err(Ended::NoMemory),
+    match known {
+        Ok(known) => match known_answer(alloc, f, known) {
+            Ok(answer) => Ok(answer),
+            Err(NoMemory) => Err(Ended::NoMemory),
+        },
+        Err(unjudged) => refused(alloc, unjudged),
     }
 }
 
@@ -93,7 +81,7 @@ fn refused(alloc: Global, unjudged: Unjudged) -> Result<Answer, Ended>
     ensures rejected { IfOk result (λ answer. (most : ℕ) (text : List ℕ) (f : ℕ)
         → TellsUnjudged most text f unjudged
         → IfSome answer.rejected (IsRejectedSo most text)) }
-    ensures whole { IfOk result (λ answer. answer.ended ≢ Ended.NoWorker) }
+    ensures told { IfOk result (λ answer. IsTold answer.ended) }
     ensures err { IfErr result IsSilent }
     ensures alone { result ≡ Err Ended.NoWorker → unjudged ≡ Unjudged.Audit AuditFault.NoWorker }
 {
@@ -113,7 +101,7 @@ fn known_answer(alloc: Global, f: u16, known: Known) -> Result<Answer, NoMemory>
     ensures ok { IfOk result (λ answer. (most : ℕ) (text : List ℕ) → IsKnown most text f known
         → told.IsAnswerUntil most text f answer.ended answer.line.items) }
     ensures rejected { IfOk result (λ answer. answer.rejected ≡ None) }
-    ensures whole { IfOk result (λ answer. answer.ended ≢ Ended.NoWorker) }
+    ensures told { IfOk result (λ answer. IsTold answer.ended) }
 {
     match known {
         Known::Early(judged) => Ok(Answer {

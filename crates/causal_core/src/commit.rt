@@ -10,11 +10,10 @@ ghost use Rattle.causal_core.specs.Inside.Facts.{Fits, AllFit};
 ghost use Rattle.causal_core.specs.Inside.Commits.{entry_of, next_batch, step_kept, step_kept_at, with_step};
 ghost use Rattle.causal_core.specs.Inside.Commits.{IsBatchDelivered, IsLogDelivered, MayCome, OthersFit};
 ghost use Rattle.causal_core.specs.Inside.Memories.{memory_of, memories_in, memory_at, bodies_of, bodies_in};
-ghost use Rattle.causal_core.specs.View.{with_bodies};
-ghost use Rattle.causal_core.specs.View.{receivers, sent_bodies};
 ghost use Rattle.causal_core.specs.Inside.Memories.{room_of, rooms_in, room_at};
-ghost use Rattle.causal_core.specs.Inside.Grown.{batches_of, carried_by, grown_log};
+ghost use Rattle.causal_core.specs.View.{receivers, sent_bodies, with_bodies};
 ghost use Rattle.causal_trace.specs.Limits.{max_entries};
+ghost use Rattle.causal_core.specs.Inside.Grown.{batches_of, carried_by, grown_log};
 
 use crate::cell::Cell;
 use crate::grown::Grown;

@@ -1,8 +1,8 @@
 //! What a message carries.
 ghost use Rattle.std.specs.Prelude.{◌≡◌, true, IfOk};
 ghost use Rattle.causal_name.specs.Names.{is_ascending};
-ghost use Rattle.causal_log.specs.Logs.{dets_of};
 ghost use Rattle.causal_log.specs.Inside.Carried.{known_of_item};
+ghost use Rattle.causal_log.specs.Logs.{dets_of};
 
 use crate::known::Known;
 use causal_holders::Holders;

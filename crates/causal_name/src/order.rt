@@ -6,6 +6,38 @@ ghost use Rattle.causal_name.specs.Names.{pid_cmp, message_cmp, slot_cmp, det_cm
 use crate::{Det, MsgName, Pid, Slot};
 use std::cmp::Ordering;
 
+/// Equality of processes.
+pub fn are_same_processes(process: Pid, other: Pid) -> bool
+    ensures tested { result ≡ same_pid process other }
+    ensures same { IsTrue result ↔ (process ≡ other) }
+{
+    process == other
+}
+
+/// Equality of determinants.
+pub fn are_same_determinants(determinant: Det, other: Det) -> bool
+    ensures tested { result ≡ same_det determinant other }
+    ensures same { IsTrue result ↔ (determinant ≡ other) }
+{
+    determinant == other
+}
+
+/// Equality of messages.
+pub fn are_same_messages(message: MsgName, other: MsgName) -> bool
+    ensures same { IsTrue result ↔ (message ≡ other) }
+    ensures tested { result ≡ same_message message other }
+{
+    message == other
+}
+
+/// Equality of slots.
+pub fn are_same_slots(slot: Slot, other: Slot) -> bool
+    ensures same { IsTrue result ↔ (slot ≡ other) }
+    ensures tested { result ≡ same_slot slot other }
+{
+    slot == other
+}
+
 /// Processes are ordered by number.
 pub fn compared_processes(process: Pid, other: Pid) -> Ordering
     ensures { result ≡ pid_cmp process other }
@@ -32,36 +64,4 @@ pub fn compared_determinants(determinant: Det, other: Det) -> Ordering
     ensures { result ≡ det_cmp determinant other }
 {
     determinant.cmp(&other)
-}
-
-/// Equality of processes.
-pub fn are_same_processes(process: Pid, other: Pid) -> bool
-    ensures tested { result ≡ same_pid process other }
-    ensures same { IsTrue result ↔ (process ≡ other) }
-{
-    process == other
-}
-
-/// Equality of messages.
-pub fn are_same_messages(message: MsgName, other: MsgName) -> bool
-    ensures tested { result ≡ same_message message other }
-    ensures same { IsTrue result ↔ (message ≡ other) }
-{
-    message == other
-}
-
-/// Equality of slots.
-pub fn are_same_slots(slot: Slot, other: Slot) -> bool
-    ensures tested { result ≡ same_slot slot other }
-    ensures same { IsTrue result ↔ (slot ≡ other) }
-{
-    slot == other
-}
-
-/// Equality of determinants.
-pub fn are_same_determinants(determinant: Det, other: Det) -> bool
-    ensures tested { result ≡ same_det determinant other }
-    ensures same { IsTrue result ↔ (determinant ≡ other) }
-{
-    determinant == other
 }

@@ -1,4 +1,7 @@
 //! Why a script's run gives no trace.
+ghost use Rattle.std.specs.Prelude.{◌≡◌};
+ghost use Rattle.causal_run.specs.declared.fault.RunFault.TheVariants as told;
+
 use causal_core::StartFault;
 use causal_name::NoMemory;
 use causal_protocol::request::CoreFault;
@@ -23,21 +26,7 @@ pub enum RunFault {
     Finish(FinishFault),
 }
 
-impl From<NoMemory> for RunFault {
-    ghost use Rattle.causal_run.specs.declared.fault.RunFault.TheVariants as told;
-    ghost use Rattle.std.specs.Prelude.{◌≡◌};
-
-    ghost from_gives = { λ fault gives. gives ≡ told.Memory };
-
-    fn from(_fault: NoMemory) -> RunFault {
-        RunFault::Memory
-    }
-}
-
 impl<T: Drop> From<AllocFailed<T>> for RunFault {
-    ghost use Rattle.causal_run.specs.declared.fault.RunFault.TheVariants as told;
-    ghost use Rattle.std.specs.Prelude.{◌≡◌};
-
     ghost from_gives = { λ fault gives. gives ≡ told.Memory };
 
     fn from(_refused: AllocFailed<T>) -> RunFault {
@@ -45,11 +34,16 @@ impl<T: Drop> From<AllocFailed<T>> for RunFault {
     }
 }
 
+impl From<NoMemory> for RunFault {
+    ghost from_gives = { λ fault gives. gives ≡ told.Memory };
+
+    fn from(_fault: NoMemory) -> RunFault {
+        RunFault::Memory
+    }
+}
+
 /// A core of as many boxes as a run may have processes, over an empty store, is refused for want of memory alone.
 impl From<StartFault> for RunFault {
-    ghost use Rattle.causal_run.specs.declared.fault.RunFault.TheVariants as told;
-    ghost use Rattle.std.specs.Prelude.{◌≡◌};
-
     ghost from_gives = { λ fault gives. gives ≡ told.Memory };
 
     fn from(_fault: StartFault) -> RunFault {
@@ -58,9 +52,6 @@ impl From<StartFault> for RunFault {
 }
 
 impl From<FinishFault> for RunFault {
-    ghost use Rattle.causal_run.specs.declared.fault.RunFault.TheVariants as told;
-    ghost use Rattle.std.specs.Prelude.{◌≡◌};
-
     ghost from_gives = { λ fault gives. gives ≡ told.Finish fault };
 
     fn from(fault: FinishFault) -> RunFault {

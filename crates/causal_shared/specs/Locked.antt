@@ -1,5 +1,5 @@
 -- The value behind the lock as callers see it.
-use Rattle.std.specs.Prelude.{◌≡◌, ⊤, ℕ, List, [], length, replicate, Option, Some, None, Result, Ok, Err}
+use Rattle.std.specs.Prelude.{◌≡◌, ◌<◌, ⊤, ℕ, List, [], length, replicate, Option, Some, None, Result, Ok, Err}
 use Rattle.causal_trace.specs.Judgement.{IsSafeTrace}
 use Rattle.causal_process.specs.declared.message.Input.{Input}
 use Rattle.causal_process.specs.declared.message.Outgoing.{Outgoing}
@@ -14,12 +14,17 @@ use Rattle.causal_shared.specs.declared.locked.Locked.{Locked}
 use Rattle.causal_shared.specs.declared.refused.LockedRefused.{LockedRefused}
 use Rattle.causal_shared.specs.declared.fault.LockedFault.{LockedFault}
 use Rattle.causal_shared.specs.declared.fault.LockedFault.TheVariants.{NoRecord, Core, Flush}
-use Rattle.causal_shared.specs.History.{instant, fresh_seat, Held, AddsItem}
+use Rattle.causal_shared.specs.History.{instant, count_at, fresh_seat, Held, AddsItem}
+use Rattle.causal_shared.specs.Limits.{max_items}
 use Rattle.causal_shared.specs.declared.item.Snapshot.{Snapshot}
 
 -- the plain data of the value
 abbrev pub held_of : {S B : Type 0} {Has : _} → Locked S B Has → Held
 held_of l = record { run = run_of l.core; history = l.history.items; seats = l.seats.items }
+
+-- the call is the next of the seat, and there is room for its item
+abbrev pub IsNextCall : Held → ℕ → ℕ → Type 0
+IsNextCall held seat call = (seat < length held.seats) × (call ≡ count_at held.seats seat) × (length held.history < max_items)
 
 -- its core: the run, the bodies of the kept messages, and the boxes
 abbrev pub state_under : {S B : Type 0} {Has : _} → Locked S B Has → CoreState B

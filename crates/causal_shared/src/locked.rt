@@ -3,7 +3,7 @@ ghost use Rattle.std.specs.Prelude.{◌≡◌, ◌+◌, ◌<◌, ◌≤◌, ◌�
 ghost use Rattle.std.specs.Prelude.{vec_len, vec_capacity, IfOk, IfErr, OnOk, OnErr, IsTrue, None};
 ghost use Rattle.std.specs.Option.{option_copied};
 ghost use Rattle.causal_core.specs.CoreView.{run_of};
-ghost use Rattle.causal_shared.specs.History.{IsHistory, Holds, Sees, instant, count_at, item_of, with_kept};
+ghost use Rattle.causal_shared.specs.History.{IsHistory, Holds, Sees, instant, item_of, with_kept};
 ghost use Rattle.causal_shared.specs.Inside.Keeping.{Keeps, item_at};
 ghost use Rattle.causal_shared.specs.Inside.Noting.{GoesOn};
 ghost use Rattle.causal_shared.specs.Limits.{max_items, max_seats};
@@ -144,7 +144,7 @@ fn restart_reply(answer: &Result<Restarted, Refused>) -> Reply
 
 impl<S: Stable> Locked<S> {
     ghost use Rattle.causal_shared.specs.Locked.{held_of, state_under, store_under, opened_over, told_restart};
-    ghost use Rattle.causal_shared.specs.Locked.{Records, RecordsAs, AnswersAs, LeavesUnder, TellsFaults, IsSnapshot, IsSafeSnapshot};
+    ghost use Rattle.causal_shared.specs.Locked.{IsNextCall, Records, RecordsAs, AnswersAs, LeavesUnder, TellsFaults, IsSnapshot, IsSafeSnapshot};
     ghost use Rattle.causal_core.specs.CoreView.{state_of, Delivers, Crashes};
     ghost use Rattle.causal_core.specs.Boxes.{SameAnswers};
     ghost use Rattle.causal_core.specs.Restarts.{Restarts};
@@ -264,9 +264,7 @@ impl<S: Stable> Locked<S> {
         source: Pid,
         ssn: u32,
     ) -> Result<Delivered, LockedFault>
-        requires seat { seat < length (held_of self.old).seats }
-        requires call { call ≡ count_at (held_of self.old).seats seat }
-        requires room { length (held_of self.old).history < max_items }
+        requires { IsNextCall (held_of self.old) seat call }
         ensures item { RecordsAs self.old self.new seat call (Ask.Deliver q source ssn)
             Told.Delivered result }
         ensures ok { OnOk result
@@ -287,9 +285,7 @@ impl<S: Stable> Locked<S> {
     /// # Errors
     /// `NoRecord`, which changes nothing; the core's, which are an item and change nothing else.
     pub fn crash(&mut self, seat: u32, call: u32, p: Pid) -> Result<u32, LockedFault>
-        requires seat { seat < length (held_of self.old).seats }
-        requires call { call ≡ count_at (held_of self.old).seats seat }
-        requires room { length (held_of self.old).history < max_items }
+        requires { IsNextCall (held_of self.old) seat call }
         ensures item { RecordsAs self.old self.new seat call (Ask.Crash p) Told.Crashed result }
         ensures ok { OnOk result (Crashes answers p (state_under self.old) (state_under self.new)) }
         ensures refused { OnErr result (LeavesUnder answers self.old self.new) }
@@ -314,9 +310,7 @@ impl<S: Stable> Locked<S> {
         p: Pid,
         spare: Box<dyn Process + Send>,
     ) -> Result<Restarted, LockedRefused>
-        requires seat { seat < length (held_of self.old).seats }
-        requires call { call ≡ count_at (held_of self.old).seats seat }
-        requires room { length (held_of self.old).history < max_items }
+        requires { IsNextCall (held_of self.old) seat call }
         ensures item { Records self.old self.new seat call (Ask.Restart p) (told_restart result) }
         ensures ok { OnOk result
             (Restarts answers p spare (state_under self.old) (state_under self.new)) }
@@ -340,12 +334,10 @@ impl<S: Stable> Locked<S> {
     /// # Errors
     /// `NoRecord`, which changes nothing; the core's, which are an item.
     pub fn flush(&mut self, seat: u32, call: u32, p: Pid) -> Result<u32, LockedFault>
-        requires seat { seat < length (held_of self.old).seats }
-        requires call { call ≡ count_at (held_of self.old).seats seat }
-        requires room { length (held_of self.old).history < max_items }
-        ensures item { RecordsAs self.old self.new seat call (Ask.Flush p) Told.Flushed result }
+        requires { IsNextCall (held_of self.old) seat call }
         ensures fault { IfErr result
             (TellsFaults (S.faults (store_under self.old)) (S.faults (store_under self.new))) }
+        ensures item { RecordsAs self.old self.new seat call (Ask.Flush p) Told.Flushed result }
         ensures bodies { (state_under self.new).bodies ≡ (state_under self.old).bodies }
         ensures boxes { SameAnswers answers
             (state_under self.old).slots (state_under self.new).slots }
@@ -363,9 +355,7 @@ impl<S: Stable> Locked<S> {
     /// # Errors
     /// `NoRecord`, which changes nothing; the core's, which are an item and change nothing else.
     pub fn forget(&mut self, seat: u32, call: u32, p: Pid) -> Result<u32, LockedFault>
-        requires seat { seat < length (held_of self.old).seats }
-        requires call { call ≡ count_at (held_of self.old).seats seat }
-        requires room { length (held_of self.old).history < max_items }
+        requires { IsNextCall (held_of self.old) seat call }
         ensures item { RecordsAs self.old self.new seat call (Ask.Forget p) Told.Forgotten result }
         ensures bodies { (state_under self.new).bodies ≡ (state_under self.old).bodies }
         ensures boxes { SameAnswers answers

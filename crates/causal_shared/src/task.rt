@@ -1,9 +1,7 @@
 //! The calls about one process that a number answers.
-ghost use Rattle.std.specs.Prelude.{◌≡◌, ◌<◌, length};
-ghost use Rattle.causal_shared.specs.History.{count_at};
+ghost use Rattle.std.specs.Prelude.{◌≡◌};
 ghost use Rattle.causal_shared.specs.Inside.Tasks.{reply_of, request_of};
-ghost use Rattle.causal_shared.specs.Limits.{max_items};
-ghost use Rattle.causal_shared.specs.Locked.{RecordsAs, held_of};
+ghost use Rattle.causal_shared.specs.Locked.{IsNextCall, RecordsAs, held_of};
 
 use crate::fault::LockedFault;
 use crate::locked::Locked;
@@ -48,9 +46,7 @@ impl Task {
         call: u32,
         p: Pid,
     ) -> Result<u32, LockedFault>
-        requires seat { seat < length (held_of locked.old).seats }
-        requires call { call ≡ count_at (held_of locked.old).seats seat }
-        requires room { length (held_of locked.old).history < max_items }
+        requires { IsNextCall (held_of locked.old) seat call }
         ensures { RecordsAs locked.old locked.new seat call
             (request_of self p) (reply_of self) result }
     {

@@ -203,24 +203,25 @@ fn faults<'a>(alloc: Global) -> Arg<'a> {
 
 /// The option of how many threads judge.
 fn workers<'a>(alloc: Global) -> Arg<'a> {
-    Arg::new(alloc, "workers")
-        .long("workers")
-        .value_name("W")
+    number(alloc, "workers", "W", 64)
         .help("How many threads judge [1 to 64]")
-        .allow_negative_numbers(true)
-        .value_parser(value_parser!(u32).range(1..=64))
         .default_value("1")
 }
 
 /// The option of how many entries the trace may have.
 fn entries<'a>(alloc: Global) -> Arg<'a> {
-    Arg::new(alloc, "entries")
-        .long("entries")
-        .value_name("N")
+    number(alloc, "entries", "N", 16_777_216)
         .help("How many entries the trace may have [1 to 16777216]")
-        .allow_negative_numbers(true)
-        .value_parser(value_parser!(u32).range(1..=16_777_216))
         .default_value("65536")
+}
+
+/// An option with a number from 1 to the most.
+fn number<'a>(alloc: Global, name: &'static str, letter: &'static str, most: i64) -> Arg<'a> {
+    Arg::new(alloc, name)
+        .long(name)
+        .value_name(letter)
+        .allow_negative_numbers(true)
+        .value_parser(value_parser!(u32).range(1..=most))
 }
 
 /// The option that the audit ends at a breach.

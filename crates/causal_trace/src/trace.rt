@@ -1,7 +1,7 @@
 //! A recorded run that is well formed.
-ghost use Rattle.std.specs.Prelude.{◌≡◌, ◌≤◌, ◌+◌, [], ◌<◌, false, Some, None, IfSome, IfOk, IfErr, OnOk, OnErr, length};
+ghost use Rattle.std.specs.Prelude.{◌≡◌, ◌≤◌, ◌+◌, [], ◌∷◌, ◌<◌, false, not, Some, None, IfSome, IfOk, IfErr, OnOk, OnErr, length};
 ghost use Rattle.std.specs.Option.{option_copied, option_map_or};
-ghost use Rattle.causal_name.specs.Names.{message_of};
+ghost use Rattle.causal_name.specs.Names.{is_ascending, message_of};
 ghost use Rattle.causal_trace.specs.Limits.{max_entries};
 ghost use Rattle.causal_trace.specs.Past.{message_sent};
 ghost use Rattle.causal_trace.specs.Inside.Chains.{HasHead, heads_after, nodes_after};
@@ -70,7 +70,7 @@ impl Trace {
     ghost use Rattle.causal_name.specs.declared.Det.{Det};
     ghost use Rattle.causal_trace.specs.Past.{lane, entry_at, listed_in, restarts, deliveries_in, det_at, is_delivered, has_delivered};
     ghost use Rattle.causal_trace.specs.Numbers.{delivered_dets, number_of};
-    ghost use Rattle.causal_trace.specs.Rows.{fault_by_rows, fault_within, fault_next, refusal_within, refusal_next, IsRefusedBeginning, passes, passes_limit, are_delivered, are_delivered_with, IsWellFormed};
+    ghost use Rattle.causal_trace.specs.Rows.{fault_by_rows, fault_within, fault_next, refusal_within, refusal_next, IsRefusedBeginning, passes, passes_limit, are_delivered, are_delivered_with, first_holding, IsWellFormed};
     ghost use Rattle.causal_trace.specs.Inside.Index.{lane_of};
     ghost use Rattle.causal_trace.specs.State.{entries_of, with_entry, is_up_at, lane_at};
 
@@ -532,13 +532,7 @@ impl Trace {
         if self.restarts as usize >= MAX_RESTARTS {
             return Some(TraceFault::Lanes);
         }
-        if !listed.is_ascending() {
-            return Some(TraceFault::Unsorted);
-        }
-        if !self.are_delivered(listed.as_slice()) {
-            return Some(TraceFault::NoDelivery);
-        }
-        None
+        self.listed_fault(listed)
     }
 
     #[tactic(auto, unfolding(crate::specs::Rows::rows))]
@@ -554,6 +548,15 @@ impl Trace {
         if self.present_lane(who).down {
             return Some(TraceFault::NotUp);
         }
+        self.listed_fault(listed)
+    }
+
+    /// What is told against the determinants that a restart or a forgetting lists, where nothing else is.
+    fn listed_fault(&self, listed: &Dets) -> Option<TraceFault>
+        ensures { result ≡ first_holding ((not (is_ascending listed.now), TraceFault.Unsorted)
+            ∷ (not (are_delivered self.now.recording.past listed.now), TraceFault.NoDelivery)
+            ∷ []) }
+    {
         if !listed.is_ascending() {
             return Some(TraceFault::Unsorted);
         }

@@ -1,14 +1,30 @@
-use Rattle.causal_commands.proofs.JsonLemmas.{object_whole, object_first}
+use Rattle.std.proofs.Common.{sym, subst}
+use Rattle.causal_commands.specs.Json.{IsObject}
+use Rattle.causal_commands.specs.Inside.Answers.{IsSilent, IsTold}
+use Rattle.causal_commands.specs.Inside.Refusals.{NamesRejected}
+use Rattle.causal_commands.specs.Remarks.{NamesFirstFault}
+use Rattle.causal_commands.proofs.Writing.{objects, writes, writes_nothing}
 use Rattle.causal_commands.proofs.json.answer_as_json.Goals as goal
-use Rattle.causal_commands.proofs.json.answer_as_json.Goals.{in-Ok-write_whole, in-Err-write_whole}
 
-pub returns-clause-writes : goal.returns-clause-writes
-returns-clause-writes g c =
-    let known = g.I.Read.remaining c.args.input.now in
-    let old = g.O.Write.contents c.args.output.now in
-    let new = g.O.Write.contents c.write_whole.new.writer in
-    let answer = c.in-Ok.answer in
-    elim c.match-write_whole.branch [
-      | in-Ok-write_whole w ↦ rw w.ended-is (object_whole c.args.limits.entries c.args.question known old new answer.ended answer.line.items _ c.as_slice.ensures.value c.in-Ok.ensures.ok w.in-Ok-write_whole.ensures.ok)
-      | in-Err-write_whole w ↦ rw w.ended-is (object_first c.args.limits.entries c.args.question known old new answer.ended answer.line.items _ _ c.as_slice.ensures.value c.in-Ok.ensures.ok w.in-Err-write_whole.ensures.err.0 w.in-Err-write_whole.ensures.err.1)
-    ]
+pub returns-in-Ok-object_answer-clause-writes : goal.returns-in-Ok-object_answer-clause-writes
+returns-in-Ok-object_answer-clause-writes g c =
+    let given = g.I.Read.remaining c.args.input.now in
+    let answer = c.in-Ok-object_answer.answer in
+    let of = objects c.args.limits.entries c.args.question given c.in-Ok.lines answer c.in-Ok-object_answer.ensures.ended c.in-Ok-object_answer.ensures.line c.in-Ok.ensures.ok in
+    let told = subst IsTold (sym c.in-Ok-object_answer.ensures.ended) c.in-Ok.ensures.told in
+    writes (λ text. IsObject c.args.limits.entries c.args.question text) given (g.O.Write.contents c.args.output.now) (g.O.Write.contents c.write_answer.new.output)
+    answer c.write_answer.result.ended told of c.write_answer.ensures.written
+
+pub returns-in-Err-clause-writes : goal.returns-in-Err-clause-writes
+returns-in-Err-clause-writes g c = writes_nothing (λ text. IsObject c.args.limits.entries c.args.question text) (g.I.Read.remaining c.args.input.now) (g.O.Write.contents c.args.output.now) c.in-Err.ended c.in-Err.ensures.err
+
+pub returns-in-Err-object_answer-clause-writes : goal.returns-in-Err-object_answer-clause-writes
+returns-in-Err-object_answer-clause-writes g c = writes_nothing (λ text. IsObject c.args.limits.entries c.args.question text) (g.I.Read.remaining c.args.input.now) (g.O.Write.contents c.args.output.now)
+    c.in-Err-object_answer.ended (subst IsSilent (sym c.in-Err-object_answer.ensures.err) tt)
+
+pub returns-in-Ok-object_answer-clause-fault : goal.returns-in-Ok-object_answer-clause-fault
+returns-in-Ok-object_answer-clause-fault g c =
+    let most = c.args.limits.entries in
+    let given = g.I.Read.remaining c.args.input.now in
+    subst (λ f. NamesFirstFault most given f c.write_answer.result.fault) c.faults.ensures
+    (c.write_answer.ensures.fault most given (subst (NamesRejected most given) (sym c.in-Ok-object_answer.ensures.rejected) c.in-Ok.ensures.rejected))

@@ -20,5 +20,4 @@ returns-clause-full g c = λ e. absurd (never_full c.deliver-answer.result (sym 
 
 pub deliver-answer-requires : goal.deliver-answer-requires
 deliver-answer-requires g c =
-    let may = called (held_of c.args.locked.now) c.begin.new.seat c.in_ok-first.first c.number.result c.count.result c.in_ok-first.ensures.ok c.number.ensures c.count.ensures in
-    record { seat = may.0; call = may.1; room = may.2 }
+    called (held_of c.args.locked.now) c.begin.new.seat c.in_ok-first.first c.number.result c.count.result c.in_ok-first.ensures.ok c.number.ensures c.count.ensures

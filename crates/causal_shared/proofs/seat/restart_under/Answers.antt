@@ -13,5 +13,4 @@ returns-clause-section g c =
 
 pub restart-answer-requires : goal.restart-answer-requires
 restart-answer-requires g c =
-    let may = called (held_of c.args.locked.now) c.begin.new.seat c.in-Ok.first c.number.result c.count.result c.in-Ok.ensures.ok c.number.ensures c.count.ensures in
-    record { seat = may.0; call = may.1; room = may.2 }
+    called (held_of c.args.locked.now) c.begin.new.seat c.in-Ok.first c.number.result c.count.result c.in-Ok.ensures.ok c.number.ensures c.count.ensures

@@ -7,8 +7,7 @@ use Rattle.causal_shared.proofs.seat.task_under.Goals as goal
 
 pub perform-answer-requires : goal.perform-answer-requires
 perform-answer-requires g c =
-    let may = called (held_of c.args.locked.now) c.begin.new.seat c.in_ok-first.first c.number.result c.count.result c.in_ok-first.ensures.ok c.number.ensures c.count.ensures in
-    record { seat = may.0; call = may.1; room = may.2 }
+    called (held_of c.args.locked.now) c.begin.new.seat c.in_ok-first.first c.number.result c.count.result c.in_ok-first.ensures.ok c.number.ensures c.count.ensures
 
 pub returns-clause-section : goal.returns-clause-section
 returns-clause-section g c =
