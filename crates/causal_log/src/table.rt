@@ -19,8 +19,11 @@ use causal_name::{Det, NoMemory, Slot};
 use std::alloc::Global;
 use std::marker::Model;
 
-/// The fewest heads of a small table. One with room for more than twice as many entries, or crowded heads, has 16 times these.
-const FEWEST_HEADS: usize = 128;
+/// The fewest heads of a table with entries.
+const FEWEST_HEADS: usize = 2048;
+
+/// For how many entries room is made at least.
+const FEWEST_ENTRIES: usize = 16;
 
 /// How far a turn is from the one before: far enough that what shared a head is spread over many.
 const TURN: u8 = 37;
@@ -160,7 +163,7 @@ impl Table {
             return Err(NoMemory);
         }
         let before = self.dets.capacity();
-        self.dets.reserve(more.max(FEWEST_HEADS / 8))?;
+        self.dets.reserve(more.max(FEWEST_ENTRIES))?;
         let room = self.dets.capacity().min(u32::MAX as usize) - self.dets.len();
         self.entries.reserve(room)?;
         self.older.reserve(room)?;
@@ -253,10 +256,13 @@ fn widen(
     if least == heads.len() && !is_turned {
         return Ok(());
     }
-    let is_small = least <= 2 * FEWEST_HEADS && !is_turned;
-    let times = if is_small { 1 } else { 16 };
-    let count = least.max(times * FEWEST_HEADS).checked_next_power_of_two();
+    let is_first = heads.is_empty();
+    let count = least.max(FEWEST_HEADS).checked_next_power_of_two();
     heads.resize(count.ok_or(NoMemory)?, None)?;
+    // the first heads lead nowhere
+    if is_first && entries.is_empty() {
+        return Ok(());
+    }
     if is_turned {
         *turn = turn.wrapping_add(TURN);
     }
