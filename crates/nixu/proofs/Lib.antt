@@ -1,3 +1,4 @@
 mod AsBox
 mod Each
+mod Moves
 mod PartsValues
