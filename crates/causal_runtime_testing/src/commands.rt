@@ -162,9 +162,8 @@ fn tells_of_the_writer<R: Abort + Threads + Wait>(
     fails_at: usize,
     with_error: bool,
 ) -> bool {
-    let mut input = RING.as_bytes();
     let mut output = Narrow::new(alloc, fails_at, with_error);
-    let ended = audited(rt, alloc, &mut input, &mut output);
+    let ended = audited(rt, alloc, &mut RING.as_bytes(), &mut output);
     output.is_told(ended, Ended::Accepted, RING_LINE)
 }
 

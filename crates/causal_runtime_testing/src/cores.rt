@@ -196,8 +196,11 @@ fn gives_back(
     core: &mut Runtime,
     (p, fault): (u8, CoreFault),
     (then, answer): (u8, Answer),
-    spare: Boxed,
+    spare: Result<Boxed, NoMemory>,
 ) -> bool {
+    let Ok(spare) = spare else {
+        return false;
+    };
     match core.restart(Pid(p), spare) {
         Ok(_) => false,
         Err(refused) => {

@@ -142,6 +142,12 @@ fn is_heard(alloc: Global, log: &mut Log) -> bool {
         && chooses(alloc, log, 2, &[])
 }
 
+#[test]
+fn own_and_absorbed(rt: HostRuntime) {
+    assert!(rt; Asked::Told.is_right(rt.alloc()));
+    assert!(rt; Asked::Heard.is_right(rt.alloc()));
+}
+
 /// Whether the lesser of two messages is named for the first delivery of 1, and none for the second, and for the first of 0.
 fn names_the_least(log: &Log) -> bool {
     let least = MsgName {
@@ -151,6 +157,11 @@ fn names_the_least(log: &Log) -> bool {
     log.for_slot(Pid(1), 0) == Some(least)
         && log.for_slot(Pid(1), 1).is_none()
         && log.for_slot(Pid(0), 0).is_none()
+}
+
+#[test]
+fn least_of_a_slot_is_named(rt: HostRuntime) {
+    assert!(rt; Asked::LeastOfASlot.is_right(rt.alloc()));
 }
 
 /// Takes in a log of 2, to which the first delivery is stable.
@@ -175,6 +186,11 @@ fn is_united(alloc: Global, log: &mut Log) -> bool {
     unite(alloc, log) && shows(log, &[(FIRST, known_by(&[1, 2], true))])
 }
 
+#[test]
+fn logs_united(rt: HostRuntime) {
+    assert!(rt; Asked::United.is_right(rt.alloc()));
+}
+
 /// Whether only what a log has is marked, and what is stable from the start is known by its reader and not told.
 fn is_stable_from_the_start(alloc: Global, log: &mut Log) -> bool {
     !log.mark_stable(det(FIRST))
@@ -182,6 +198,11 @@ fn is_stable_from_the_start(alloc: Global, log: &mut Log) -> bool {
         && log.known(det(FIRST)) == Some(known_by(&[3], true))
         && chooses(alloc, log, 9, &[])
         && !log.mark_stable(det((0, 1, 1, 1)))
+}
+
+#[test]
+fn stable_from_the_start(rt: HostRuntime) {
+    assert!(rt; Asked::StableFromTheStart.is_right(rt.alloc()));
 }
 
 /// Whether the determinants of a log, or the stable ones of these, are just those.
@@ -213,38 +234,17 @@ fn ascends(alloc: Global, log: &Log) -> bool {
     lists(alloc, log, false, &[det(FIRST), det(OTHER)]) && is_copied(log)
 }
 
+#[test]
+fn determinants_ascend(rt: HostRuntime) {
+    assert!(rt; Asked::Ascending.is_right(rt.alloc()));
+}
+
 /// Whether a log lists the two stable ones of its three determinants, and drops just these.
 fn drops_stable(alloc: Global, log: &mut Log) -> bool {
     lists(alloc, log, true, &[det(FIRST), det(OTHER)])
         && log.drop_stable() == 2
         && log.drop_stable() == 0
         && lists(alloc, log, false, &[det((1, 0, 0, 1))])
-}
-
-#[test]
-fn own_and_absorbed(rt: HostRuntime) {
-    assert!(rt; Asked::Told.is_right(rt.alloc()));
-    assert!(rt; Asked::Heard.is_right(rt.alloc()));
-}
-
-#[test]
-fn least_of_a_slot_is_named(rt: HostRuntime) {
-    assert!(rt; Asked::LeastOfASlot.is_right(rt.alloc()));
-}
-
-#[test]
-fn logs_united(rt: HostRuntime) {
-    assert!(rt; Asked::United.is_right(rt.alloc()));
-}
-
-#[test]
-fn stable_from_the_start(rt: HostRuntime) {
-    assert!(rt; Asked::StableFromTheStart.is_right(rt.alloc()));
-}
-
-#[test]
-fn determinants_ascend(rt: HostRuntime) {
-    assert!(rt; Asked::Ascending.is_right(rt.alloc()));
 }
 
 #[test]

@@ -4,7 +4,7 @@ use causal_audit::Verdict;
 use causal_commands::audited;
 use causal_core::{Core, CoreFault, Reply};
 use causal_log::MemStable;
-use causal_name::{MsgName, NoMemory, Pid};
+use causal_name::{NoMemory, Pid};
 use causal_process::Ring;
 use causal_shared::fault::{FinishFault, SharedFault};
 use causal_shared::seat::Seat;
@@ -60,22 +60,12 @@ fn two_echoes(alloc: Global) -> Option<(Shared<MemStable>, Vec<Seat>)> {
     }
 }
 
-/// The message that is first pending at q.
-fn first_pending<R: Wait>(
-    rt: &R,
-    shared: &Shared<MemStable>,
-    seat: &mut Seat,
-    q: Pid,
-) -> Option<MsgName> {
-    match shared.pending(rt, seat, q) {
-        Ok(names) => names.first().copied(),
-        Err(_) => None,
-    }
-}
-
 /// Delivers the first message that is pending at q; tells whether there was one and it was delivered.
 fn deliver_first<R: Wait>(rt: &R, shared: &Shared<MemStable>, seat: &mut Seat, q: Pid) -> bool {
-    match first_pending(rt, shared, seat, q) {
+    let Ok(names) = shared.pending(rt, seat, q) else {
+        return false;
+    };
+    match names.first() {
         Some(name) => shared.deliver(rt, seat, q, name.source, name.ssn).is_ok(),
         None => false,
     }

@@ -85,15 +85,9 @@ fn a_delivery_without_memory_is_made_again(rt: HostRuntime) {
 
 /// Whether a spare that is refused memory as process 0 restarts by it comes back, and then serves.
 fn serves_again(alloc: Global, core: &mut Runtime) -> bool {
-    match refusing(alloc, 0, 0) {
-        Ok(spare) => gives_back(
-            core,
-            (0, CoreFault::NoMemory),
-            (0, Answer::Restarted(2, 0, 1)),
-            spare,
-        ),
-        Err(NoMemory) => false,
-    }
+    let spare = refusing(alloc, 0, 0);
+    let answer = Answer::Restarted(2, 0, 1);
+    gives_back(core, (0, CoreFault::NoMemory), (0, answer), spare)
 }
 
 pub(super) fn spare_comes_back(alloc: Global, core: &mut Runtime) -> bool {

@@ -1,4 +1,5 @@
 //! What is told between a crash and the end of its replay.
+use super::Call::Deliver;
 use super::*;
 use causal_name::{Det, MsgName};
 use causal_process::Counted;
@@ -14,23 +15,14 @@ fn counted(alloc: Global, drops: &Arc<AtomicU64>) -> Result<Boxed, NoMemory> {
 
 /// A message goes once round a ring.
 const ROUND: [(Call, Answer); 3] = [
-    (
-        Call::Deliver(1, 0, 0),
-        Answer::Delivered(1, (0, 0, 1, 0), 1),
-    ),
-    (
-        Call::Deliver(2, 1, 0),
-        Answer::Delivered(3, (1, 0, 2, 0), 1),
-    ),
-    (
-        Call::Deliver(0, 2, 0),
-        Answer::Delivered(5, (2, 0, 0, 0), 0),
-    ),
+    (Deliver(1, 0, 0), Answer::Delivered(1, (0, 0, 1, 0), 1)),
+    (Deliver(2, 1, 0), Answer::Delivered(3, (1, 0, 2, 0), 1)),
+    (Deliver(0, 2, 0), Answer::Delivered(5, (2, 0, 0, 0), 0)),
 ];
 
 /// What is answered while 1 is down.
 const WHILE_DOWN: [(Call, Answer); 6] = [
-    (Call::Deliver(1, 0, 0), Answer::Refused(CoreFault::Down)),
+    (Deliver(1, 0, 0), Answer::Refused(CoreFault::Down)),
     (Call::Crash(1), Answer::Refused(CoreFault::Down)),
     (Call::Flush(1), Answer::Stopped(CoreFault::Down, 0)),
     (Call::Restart(2, 2), Answer::Refused(CoreFault::NotDown)),
@@ -40,7 +32,7 @@ const WHILE_DOWN: [(Call, Answer); 6] = [
 
 /// Another message than the named one, once 1 is up again.
 const ANOTHER: [(Call, Answer); 1] = [(
-    Call::Deliver(1, 2, 0),
+    Deliver(1, 2, 0),
     Answer::Refused(CoreFault::MustReplay(MsgName {
         source: Pid(0),
         ssn: 0,
@@ -93,15 +85,9 @@ fn is_not_replayed_down(core: &mut Runtime) -> bool {
 
 /// Whether a spare is given back for 2, which is up, and 1 then restarts by it.
 fn is_restarted(alloc: Global, core: &mut Runtime) -> bool {
-    match process(alloc, Kind::Ring(2), 3, 1) {
-        Ok(spare) => gives_back(
-            core,
-            (2, CoreFault::NotDown),
-            (1, Answer::Restarted(7, 3, 0)),
-            spare,
-        ),
-        Err(NoMemory) => false,
-    }
+    let spare = process(alloc, Kind::Ring(2), 3, 1);
+    let answer = Answer::Restarted(7, 3, 0);
+    gives_back(core, (2, CoreFault::NotDown), (1, answer), spare)
 }
 
 fn is_to_be_replayed(core: &Runtime) -> bool {
@@ -209,18 +195,9 @@ fn a_replay_of_five_deliveries_makes_five(rt: HostRuntime) {
 
 /// A ring of three goes on into its second round; then 0 and 1 crash and restart, with all that 2 holds.
 const TWO_RESTARTS: [(Call, Answer); 7] = [
-    (
-        Call::Deliver(0, 2, 0),
-        Answer::Delivered(5, (2, 0, 0, 0), 1),
-    ),
-    (
-        Call::Deliver(1, 0, 1),
-        Answer::Delivered(7, (0, 1, 1, 1), 1),
-    ),
-    (
-        Call::Deliver(2, 1, 1),
-        Answer::Delivered(9, (1, 1, 2, 1), 1),
-    ),
+    (Deliver(0, 2, 0), Answer::Delivered(5, (2, 0, 0, 0), 1)),
+    (Deliver(1, 0, 1), Answer::Delivered(7, (0, 1, 1, 1), 1)),
+    (Deliver(2, 1, 1), Answer::Delivered(9, (1, 1, 2, 1), 1)),
     (Call::Crash(0), Answer::Crashed(11)),
     (Call::Crash(1), Answer::Crashed(12)),
     (Call::Restart(0, 9), Answer::Restarted(13, 5, 1)),

@@ -35,12 +35,12 @@ fn restart<R: Wait>(
     seat: &mut Seat,
     p: Pid,
 ) -> bool {
-    match process(alloc, Kind::Echo(200), u16::from(SEATS), p.0) {
-        Ok(spare) => match shared.restart(rt, seat, p, spare) {
-            Ok(_) => true,
-            Err(refused) => is_recorded::<()>(Err(refused.fault)),
-        },
-        Err(NoMemory) => false,
+    let Ok(spare) = process(alloc, Kind::Echo(200), u16::from(SEATS), p.0) else {
+        return false;
+    };
+    match shared.restart(rt, seat, p, spare) {
+        Ok(_) => true,
+        Err(refused) => is_recorded::<()>(Err(refused.fault)),
     }
 }
 
@@ -50,8 +50,7 @@ fn call<R: Wait>(
     alloc: Global,
     shared: &Shared<MemStable>,
     seat: &mut Seat,
-    number: u8,
-    p: Pid,
+    (number, p): (u8, Pid),
 ) -> bool {
     match number % 16 {
         0 => is_recorded(shared.crash(rt, seat, p)),
@@ -80,21 +79,11 @@ fn calls<R: Wait>(rt: &R, alloc: Global, shared: &Shared<MemStable>, seat: Seat)
         }
         let number = numbers.below(256) as u8;
         let p = Pid((numbers.below(256) as u8) % SEATS);
-        if call(rt, alloc, shared, &mut done.seat, number, p) {
+        if call(rt, alloc, shared, &mut done.seat, (number, p)) {
             done.recorded = done.recorded.saturating_add(1);
         }
     }
     done
-}
-
-/// What eight threads have done, each with a seat of its own.
-fn called<R: Threads + Wait + Sync>(
-    rt: &R,
-    alloc: Global,
-    shared: &Shared<MemStable>,
-    seats: Vec<Seat>,
-) -> Option<Vec<Done>> {
-    thread::map_vec(rt, seats, &|seat| calls(rt, alloc, shared, seat)).ok()
 }
 
 /// The seats of threads that all have made their calls.
@@ -201,16 +190,16 @@ fn echoing(alloc: Global) -> Option<(Shared<MemStable>, Vec<Seat>)> {
     }
 }
 
-/// The seats after the calls of all of them, each made.
+/// The seats after the calls of eight threads, each with a seat of its own, that were all made.
 fn used<R: Threads + Wait + Sync>(
     rt: &R,
     alloc: Global,
     shared: &Shared<MemStable>,
     seats: Vec<Seat>,
 ) -> Option<Vec<Seat>> {
-    match called(rt, alloc, shared, seats) {
-        Some(done) => seats_of(alloc, done),
-        None => None,
+    match thread::map_vec(rt, seats, &|seat| calls(rt, alloc, shared, seat)) {
+        Ok(done) => seats_of(alloc, done),
+        Err(_) => None,
     }
 }
 

@@ -36,25 +36,20 @@ fn verdict_on(alloc: Global, shown: &Snapshot) -> Option<Verdict> {
     }
 }
 
-/// Takes a snapshot after a delivery, and audits it while the other seats go on.
-fn look<R: Wait>(
-    rt: &R,
-    alloc: Global,
-    shared: &Shared<MemStable>,
-    seat: &mut Seat,
-) -> Option<Seen> {
-    let first = *seat.last()?;
-    match shared.snapshot(rt, seat) {
-        Ok(snapshot) => Some(Seen {
-            first,
-            verdict: verdict_on(alloc, &snapshot),
-            snapshot,
-        }),
-        Err(_) => None,
-    }
-}
-
 impl Done {
+    /// Takes a snapshot after a delivery, and audits it while the other seats go on.
+    fn look<R: Wait>(&mut self, rt: &R, alloc: Global, shared: &Shared<MemStable>) -> Option<Seen> {
+        let first = *self.seat.last()?;
+        match shared.snapshot(rt, &mut self.seat) {
+            Ok(snapshot) => Some(Seen {
+                first,
+                verdict: verdict_on(alloc, &snapshot),
+                snapshot,
+            }),
+            Err(_) => None,
+        }
+    }
+
     /// Makes one delivery to the process of the seat's number, if there is a message, and looks after the first.
     fn turn<R: Wait>(&mut self, rt: &R, alloc: Global, shared: &Shared<MemStable>) {
         let q = Pid(self.seat.number().min(255) as u8);
@@ -64,7 +59,7 @@ impl Done {
         }
         self.delivered = self.delivered.saturating_add(1);
         if self.seen.is_none() {
-            self.seen = look(rt, alloc, shared, &mut self.seat);
+            self.seen = self.look(rt, alloc, shared);
         }
     }
 }
@@ -83,16 +78,6 @@ fn delivers_all<R: Wait>(rt: &R, alloc: Global, shared: &Shared<MemStable>, seat
         done.turn(rt, alloc, shared);
     }
     done
-}
-
-/// What two threads have done, each with a seat of its own.
-fn delivered<R: Threads + Wait + Sync>(
-    rt: &R,
-    alloc: Global,
-    shared: &Shared<MemStable>,
-    seats: Vec<Seat>,
-) -> Option<Vec<Done>> {
-    thread::map_vec(rt, seats, &|seat| delivers_all(rt, alloc, shared, seat)).ok()
 }
 
 /// Whether the trace has the delivery that the item tells at the item's place.
@@ -188,36 +173,25 @@ impl Asked {
     }
 
     /// Whether that is right, of two processes that echo a count of three, with a thread for each.
-    fn is_right_of<R: Threads + Wait + Sync>(
-        self,
-        rt: &R,
-        alloc: Global,
-        shared: Shared<MemStable>,
-        seats: Vec<Seat>,
-    ) -> bool {
-        match delivered(rt, alloc, &shared, seats) {
-            Some(mut done) => {
+    fn is_right_of_two<R: Threads + Wait + Sync>(self, rt: &R, alloc: Global) -> bool {
+        let Some((shared, seats)) = two_echoes(alloc) else {
+            return false;
+        };
+        match thread::map_vec(rt, seats, &|seat| delivers_all(rt, alloc, &shared, seat)) {
+            Ok(mut done) => {
                 self.is_right(rt, &shared, done.as_mut_slice()) && ends_whole(alloc, shared, done)
             }
-            None => false,
+            Err(_) => false,
         }
     }
 }
 
 #[test]
 fn seats_overlap(rt: HostRuntime) {
-    let right = match two_echoes(rt.alloc()) {
-        Some((shared, seats)) => Asked::Met.is_right_of(&rt, rt.alloc(), shared, seats),
-        None => false,
-    };
-    assert!(rt; right);
+    assert!(rt; Asked::Met.is_right_of_two(&rt, rt.alloc()));
 }
 
 #[test]
 fn snapshot_beside(rt: HostRuntime) {
-    let right = match two_echoes(rt.alloc()) {
-        Some((shared, seats)) => Asked::Seen.is_right_of(&rt, rt.alloc(), shared, seats),
-        None => false,
-    };
-    assert!(rt; right);
+    assert!(rt; Asked::Seen.is_right_of_two(&rt, rt.alloc()));
 }
