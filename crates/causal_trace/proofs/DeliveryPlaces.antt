@@ -1,6 +1,6 @@
 -- The place of the newest receipt of a determinant, in the chain of its message.
 use Rattle.std.proofs.Common.{ℕ, ◌≡◌, ◌<◌, inl, inr, true, false, cond, ◌==◌, List, [], ◌∷◌, length, get_or, reverse, Option, Some, None, refl, sym, ap, ◌∙◌, arith}
-use Rattle.std.specs.Prelude.{◌&&◌}
+use Rattle.std.specs.Prelude.{nat_lt, ◌&&◌}
 use Rattle.std.proofs.lemmas.Bool.{eq-eqb, ne_eqb, cond-true, cond-false}
 use Rattle.std.proofs.lemmas.Bool.Decides.{eqb_tells}
 use Rattle.causal_name.specs.declared.MsgName.{MsgName}
@@ -12,50 +12,50 @@ use Rattle.causal_trace.specs.Inside.Chains.{Heads, HasHead, IsBelow, LeadDown, 
 use Rattle.causal_trace.proofs.ReceiptChains.{below_higher, head_leads, leads_on, node_newest, node_older, one_head}
 
 -- a newer node stands in no chain of older ones
-place_skips : (d : Det) (node : Node) (older : List Node) (at : Option ℕ) → IsBelow at (length older) → place_of d (node ∷ older) at ≡ place_of d older at
-place_skips d node older None h = refl
-place_skips d node older (Some k) h = cond-false (k == length older) _ _ (ne_eqb k (length older) (λ is. omega (arith, h, is)))
+place_skips : (n : ℕ) (d : Det) (node : Node) (older : List Node) (at : Option ℕ) → IsBelow at (length older) → place_of n d (node ∷ older) at ≡ place_of n d older at
+place_skips n d node older None h = refl
+place_skips n d node older (Some k) h = cond-false (k == length older) _ _ (ne_eqb k (length older) (λ is. omega (arith, h, is)))
 
 -- the newest node begins the chain from its place
-place_begins : (d : Det) (node : Node) (older : List Node) → place_of d (node ∷ older) (Some (length older)) ≡ cond (is_of d node.receipt) (Some (length older)) (place_of d older node.next)
-place_begins d node older = cond-true (length older == length older) _ _ (eq-eqb (length older) (length older) refl)
+place_begins : (n : ℕ) (d : Det) (node : Node) (older : List Node) → place_of n d (node ∷ older) (Some (length older)) ≡ cond (nat_lt (length older) n && is_of d node.receipt) (Some (length older)) (place_of n d older node.next)
+place_begins n d node older = cond-true (length older == length older) _ _ (eq-eqb (length older) (length older) refl)
 
 -- the place is a node's own, or that from where it leads
-abbrev GoesOn : Det → List Node → Node → ℕ → Type 0
-GoesOn d nodes node k = place_of d nodes (Some k) ≡ cond (is_of d node.receipt) (Some k) (place_of d nodes node.next)
+abbrev GoesOn : ℕ → Det → List Node → Node → ℕ → Type 0
+GoesOn n d nodes node k = place_of n d nodes (Some k) ≡ cond (nat_lt k n && is_of d node.receipt) (Some k) (place_of n d nodes node.next)
 
-pub place_on : (d : Det) (nodes : List Node) (k : ℕ) (x : Node) → LeadDown nodes → k < length nodes → GoesOn d nodes (get_or (reverse nodes) k x) k
-place_on d [] k x down h = absurd (omega (arith, h))
-place_on d (node ∷ older) k x down h =
+pub place_on : (n : ℕ) (d : Det) (nodes : List Node) (k : ℕ) (x : Node) → LeadDown nodes → k < length nodes → GoesOn n d nodes (get_or (reverse nodes) k x) k
+place_on n d [] k x down h = absurd (omega (arith, h))
+place_on n d (node ∷ older) k x down h =
     elim (eqb_tells k (length older)) [
       | inl is ↦
           rw (node_newest node older k x is.1)
-          (ap (λ i. place_of d (node ∷ older) (Some i)) is.1
-          ∙ place_begins d node older
-          ∙ ap (λ i. cond (is_of d node.receipt) (Some i) (place_of d older node.next)) (sym is.1)
-          ∙ ap (cond (is_of d node.receipt) (Some k)) (sym (place_skips d node older node.next down.0)))
+          (ap (λ i. place_of n d (node ∷ older) (Some i)) is.1
+          ∙ place_begins n d node older
+          ∙ ap (λ i. cond (nat_lt i n && is_of d node.receipt) (Some i) (place_of n d older node.next)) (sym is.1)
+          ∙ ap (cond (nat_lt k n && is_of d node.receipt) (Some k)) (sym (place_skips n d node older node.next down.0)))
       | inr other ↦
           let low : k < length older = let ne : k ≡ length older → ⊥ = other.1 in omega (arith, h) in
           let found = get_or (reverse older) k x in
           rw (node_older node older k x low)
-          (place_skips d node older (Some k) low
-          ∙ place_on d older k x down.1 low
-          ∙ ap (cond (is_of d found.receipt) (Some k)) (sym (place_skips d node older found.next (below_higher found.next k (length older) (omega (arith, low)) (leads_on older k x down.1 low).down))))
+          (place_skips n d node older (Some k) low
+          ∙ place_on n d older k x down.1 low
+          ∙ ap (cond (nat_lt k n && is_of d found.receipt) (Some k)) (sym (place_skips n d node older found.next (below_higher found.next k (length older) (omega (arith, low)) (leads_on older k x down.1 low).down))))
     ]
 
 -- a chain that begins nowhere has none
-pub place_none : (d : Det) (nodes : List Node) (at : Option ℕ) → ((k : ℕ) → at ≡ Some k → ⊥) → place_of d nodes at ≡ None
-place_none d [] at h = refl
-place_none d (node ∷ older) None h = place_none d older None h
-place_none d (node ∷ older) (Some k) h = absurd (h k refl)
+pub place_none : (n : ℕ) (d : Det) (nodes : List Node) (at : Option ℕ) → ((k : ℕ) → at ≡ Some k → ⊥) → place_of n d nodes at ≡ None
+place_none n d [] at h = refl
+place_none n d (node ∷ older) None h = place_none n d older None h
+place_none n d (node ∷ older) (Some k) h = absurd (h k refl)
 
 -- with one more receipt it is that, where it is of the determinant
-pub receipt_placed : (heads : Heads) (nodes : List Node) (m : MsgName) (d : Det) (receipt : Receipt) → HasHead heads m → AreLinked heads nodes
-    → place_of d (record { receipt = receipt; next = head_of heads m } ∷ nodes) (head_of (with_head heads m (Some (length nodes))) (message_of d)) ≡ cond (same_message m (message_of d) && is_of d receipt) (Some (length nodes)) (place_of d nodes (head_of heads (message_of d)))
-receipt_placed heads nodes m d receipt has linked =
+pub receipt_placed : (heads : Heads) (nodes : List Node) (m : MsgName) (n : ℕ) (d : Det) (receipt : Receipt) → HasHead heads m → AreLinked heads nodes
+    → place_of n d (record { receipt = receipt; next = head_of heads m } ∷ nodes) (head_of (with_head heads m (Some (length nodes))) (message_of d)) ≡ cond (same_message m (message_of d) && (nat_lt (length nodes) n && is_of d receipt)) (Some (length nodes)) (place_of n d nodes (head_of heads (message_of d)))
+receipt_placed heads nodes m n d receipt has linked =
     let node : Node = record { receipt = receipt; next = head_of heads m } in
-    ap (place_of d (node ∷ nodes)) (head_leads heads m (message_of d) (Some (length nodes)) has)
-    ∙ elim (same_message m (message_of d)) as (λ b. same_message m (message_of d) ≡ b → place_of d (node ∷ nodes) (cond b (Some (length nodes)) (head_of heads (message_of d))) ≡ cond (b && is_of d receipt) (Some (length nodes)) (place_of d nodes (head_of heads (message_of d)))) [
-      | true ↦ λ same. place_begins d node nodes ∙ ap (λ at. cond (is_of d receipt) (Some (length nodes)) (place_of d nodes at)) (one_head heads m (message_of d) same)
-      | false ↦ λ _. place_skips d node nodes (head_of heads (message_of d)) (linked.heads_lead (message_of d))
+    ap (place_of n d (node ∷ nodes)) (head_leads heads m (message_of d) (Some (length nodes)) has)
+    ∙ elim (same_message m (message_of d)) as (λ b. same_message m (message_of d) ≡ b → place_of n d (node ∷ nodes) (cond b (Some (length nodes)) (head_of heads (message_of d))) ≡ cond (b && (nat_lt (length nodes) n && is_of d receipt)) (Some (length nodes)) (place_of n d nodes (head_of heads (message_of d)))) [
+      | true ↦ λ same. place_begins n d node nodes ∙ ap (λ at. cond (nat_lt (length nodes) n && is_of d receipt) (Some (length nodes)) (place_of n d nodes at)) (one_head heads m (message_of d) same)
+      | false ↦ λ _. place_skips n d node nodes (head_of heads (message_of d)) (linked.heads_lead (message_of d))
     ] refl

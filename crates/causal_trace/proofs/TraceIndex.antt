@@ -1,6 +1,6 @@
 -- What a trace remembers beside its entries, with one more entry.
 use Rattle.std.proofs.Common.{ℕ, zero, suc, ◌≡◌, ◌+◌, ◌<◌, ◌≤◌, inl, inr, Bool, true, false, cond, ◌==◌, List, [], ◌∷◌, length, get_or, set, Some, None, refl, sym, ap, subst, ◌∙◌, arith}
-use Rattle.std.specs.Prelude.{◌&&◌, not, replicate, IfSome}
+use Rattle.std.specs.Prelude.{nat_lt, ◌&&◌, not, replicate, IfSome}
 use Rattle.std.specs.Option.{option_map, option_map_or, option_and_then}
 use Rattle.std.proofs.lemmas.Bool.{false≢true, eqb-true}
 use Rattle.std.proofs.lemmas.Bool.Decides.{eqb_tells}
@@ -113,6 +113,11 @@ and_and : (a b c : Bool) → ((a && b) && c) ≡ (a && (b && c))
 and_and true b c = refl
 and_and false b c = refl
 
+and_swap : (a b c : Bool) → (a && (b && c)) ≡ (b && (a && c))
+and_swap true b c = refl
+and_swap false true c = refl
+and_swap false false c = refl
+
 module _ (n : ℕ) (past : List Entry) (c : ChainsState) (are : AreChains n past c.heads c.nodes) where
   -- with a send
   chains_sent : (from to : Pid) (ssn : ℕ) → from.0 < n → ssn ≡ sends past from.0 → AreChains n (Send from to ssn ∷ past) (with_message c.heads (record { source = from; ssn = ssn })) c.nodes
@@ -128,7 +133,7 @@ module _ (n : ℕ) (past : List Entry) (c : ChainsState) (are : AreChains n past
         named = named_push (Send from to ssn) past (with_message c.heads m) there (named_grown past c.heads (with_message c.heads m) (λ q has. message_keeps c.heads m q low has) are.named);
         each = λ q. ap (chain c.nodes) (message_leads c.heads m q low) ∙ are.each q;
         numbered = are.numbered;
-        placed = λ d. ap (place_of d c.nodes) (message_leads c.heads m (message_of d) low) ∙ are.placed d;
+        placed = λ k d. ap (place_of k d c.nodes) (message_leads c.heads m (message_of d) low) ∙ are.placed k d;
       }
 
   -- with a delivery
@@ -148,12 +153,15 @@ module _ (n : ℕ) (past : List Entry) (c : ChainsState) (are : AreChains n past
             ∙ ap (λ k. cond (same_message m q) (record { dest = to; lane = k; rsn = rsn } ∷ receipts past q) (receipts past q)) is
             ∙ ap (λ o. cond (is_message o q) (record { dest = to; lane = lane past to.0; rsn = rsn } ∷ receipts past q) (receipts past q)) (sym at);
         numbered = ap suc are.numbered ∙ ap (λ o. length (option_map_or (λ d. d ∷ delivered_dets past) (option_map (det_from to rsn) o) (delivered_dets past))) (sym at);
-        placed = λ d.
-            receipt_placed c.heads c.nodes m d (record { dest = to; lane = l; rsn = rsn }) has are.linked
-            ∙ ap (λ o. cond (same_message m (message_of d) && is_of d (record { dest = to; lane = l; rsn = rsn })) (Some (length c.nodes)) o) (are.placed d)
-            ∙ ap (λ b. cond b (Some (length c.nodes)) (number_of (delivered_dets past) d)) (and_and (m.source.0 == d.source.0) (m.ssn == d.ssn) (to.0 == d.dest.0 && rsn == d.rsn))
-            ∙ ap (λ n. cond (same_det (det_from to rsn m) d) (Some n) (number_of (delivered_dets past) d)) are.numbered
-            ∙ ap (λ o. number_of (option_map_or (λ x. x ∷ delivered_dets past) (option_map (det_from to rsn) o) (delivered_dets past)) d) (sym at);
+        placed = λ k d.
+            let low = nat_lt (length c.nodes) k in
+            let older = number_of k (delivered_dets past) d in
+            receipt_placed c.heads c.nodes m k d (record { dest = to; lane = l; rsn = rsn }) has are.linked
+            ∙ ap (cond (same_message m (message_of d) && (low && is_of d (record { dest = to; lane = l; rsn = rsn }))) (Some (length c.nodes))) (are.placed k d)
+            ∙ ap (λ b. cond b (Some (length c.nodes)) older) (and_swap (same_message m (message_of d)) low (to.0 == d.dest.0 && rsn == d.rsn))
+            ∙ ap (λ b. cond (low && b) (Some (length c.nodes)) older) (and_and (m.source.0 == d.source.0) (m.ssn == d.ssn) (to.0 == d.dest.0 && rsn == d.rsn))
+            ∙ ap (λ n. cond (nat_lt n k && same_det (det_from to rsn m) d) (Some n) older) are.numbered
+            ∙ ap (λ o. number_of k (option_map_or (λ x. x ∷ delivered_dets past) (option_map (det_from to rsn) o) (delivered_dets past)) d) (sym at);
       }
 
   -- what a trace remembers of the deliveries, with one more entry
@@ -196,7 +204,7 @@ indexed_none n lanes c count all_fresh no_chains no_nodes = record {
     named = λ k. tt;
     each = λ m. refl;
     numbered = refl;
-    placed = λ d. refl;
+    placed = λ k d. refl;
   }));
 }
 

@@ -1,5 +1,5 @@
 -- Deliveries by their determinants. The deliveries of a run have the numbers from 0 on, in their order.
-use Rattle.std.specs.Prelude.{ℕ, if◌then◌else◌, List, [], ◌∷◌, length, Option, Some, None}
+use Rattle.std.specs.Prelude.{ℕ, nat_lt, ◌&&◌, if◌then◌else◌, List, [], ◌∷◌, length, Option, Some, None}
 use Rattle.std.specs.Option.{option_map_or}
 use Rattle.causal_name.specs.Names.{same_det}
 use Rattle.causal_name.specs.declared.Det.{Det}
@@ -11,7 +11,7 @@ abbrev pub delivered_dets : List Entry → List Det
 delivered_dets [] = []
 delivered_dets (e ∷ past) = option_map_or (λ d. d ∷ delivered_dets past) (det_of past e) (delivered_dets past)
 
--- the number of the newest delivery with this determinant, of deliveries that have these, the newest first
-abbrev pub number_of : List Det → Det → Option ℕ
-number_of [] d = None
-number_of (det ∷ older) d = if same_det det d then Some (length older) else number_of older d
+-- the number of the newest delivery with this determinant among the first m, of deliveries that have these, the newest first
+abbrev pub number_of : ℕ → List Det → Det → Option ℕ
+number_of m [] d = None
+number_of m (det ∷ older) d = if nat_lt (length older) m && same_det det d then Some (length older) else number_of m older d

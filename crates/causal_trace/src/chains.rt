@@ -1,5 +1,5 @@
 //! The deliveries of each message, in chains, so that no input makes a search long.
-ghost use Rattle.std.specs.Prelude.{◌≡◌, ◌<◌, ◌≤◌, ◌+◌, ℕ, [], length, map, replicate, Some, IfOk, OnOk, OnErr, vec_len};
+ghost use Rattle.std.specs.Prelude.{◌≡◌, ◌<◌, ◌≤◌, ◌+◌, ◌&&◌, ℕ, nat_lt, [], length, map, replicate, Some, IfOk, OnOk, OnErr, vec_len};
 ghost use Rattle.causal_trace.specs.Limits.{max_entries};
 ghost use Rattle.causal_name.specs.Names.{message_of};
 ghost use Rattle.causal_trace.specs.Inside.Chains.{chain_of, head_of, is_newest_in, is_of, least_room, place_of, with_head, with_message, with_receipt, AreLinked, HasHead};
@@ -124,15 +124,16 @@ impl Chains {
         false
     }
 
-    /// The place of the newest receipt with this determinant.
-    pub(crate) fn find(&self, det: Det) -> Option<u32>
+    /// The place of the newest receipt with this determinant among the first so many.
+    pub(crate) fn find(&self, det: Det, among: usize) -> Option<u32>
         requires { AreLinked self.now.heads self.now.nodes }
-        ensures { result ≡ place_of det self.now.nodes (head_of self.now.heads (message_of det)) }
+        ensures { result ≡ place_of among det self.now.nodes
+            (head_of self.now.heads (message_of det)) }
     {
         let mut place = self.head(det.message());
         while let Some(k) = place {
             let node = self.nodes[k as usize];
-            if is_of(det, node.receipt) {
+            if is_of_first(among, det, k, node.receipt) {
                 return Some(k);
             }
             place = node.next;
@@ -194,11 +195,11 @@ impl Chains {
     }
 }
 
-/// Whether a receipt of a determinant's message is of a delivery with the determinant.
-fn is_of(det: Det, receipt: Receipt) -> bool
-    ensures { result ≡ is_of det receipt }
+/// Whether a receipt of a determinant's message, at a place, is one of the first so many, and of a delivery with it.
+fn is_of_first(among: usize, det: Det, place: u32, receipt: Receipt) -> bool
+    ensures { result ≡ (nat_lt place among && is_of det receipt) }
 {
-    receipt.dest == det.dest && receipt.rsn == det.rsn
+    (place as usize) < among && receipt.dest == det.dest && receipt.rsn == det.rsn
 }
 
 /// So many empty lists.

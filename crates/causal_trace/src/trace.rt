@@ -315,13 +315,14 @@ impl Trace {
         self.chains.len() as u32
     }
 
-    /// Which of the trace's deliveries, counted from 0, is the newest with this determinant; None where none has it. It
-    /// takes at most one step for each lane that delivered the message.
-    pub fn delivery_of(&self, det: Det) -> Option<u32>
-        ensures value { result ≡ number_of (delivered_dets self.now.recording.past) det }
+    /// Which of the trace's first `among` deliveries, counted from 0, is the newest with this determinant; None where none of
+    /// them has it. It takes at most one step for each lane that delivered the message.
+    pub fn delivery_of(&self, det: Det, among: usize) -> Option<u32>
+        ensures value { result ≡ number_of among (delivered_dets self.now.recording.past) det }
+        ensures among { IfSome result (λ i. i < among) }
         ensures below { IfSome result (λ i. i < deliveries_in self.now.recording.past) }
     {
-        self.chains.find(det)
+        self.chains.find(det, among)
     }
 
     /// Whether the process is up after the first t entries; no number that is not below `processes` is. It reads these
@@ -400,7 +401,7 @@ impl Trace {
     fn is_delivered(&self, det: Det) -> bool
         ensures { result ≡ is_delivered self.now.recording.past det }
     {
-        self.delivery_of(det).is_some()
+        self.delivery_of(det, self.deliveries() as usize).is_some()
     }
 
     /// Whether each determinant is that of a delivery so far.

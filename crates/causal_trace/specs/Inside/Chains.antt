@@ -1,7 +1,7 @@
 -- The deliveries of each message, in chains: of each process there is a list of heads, one for each number of a send, and
 -- a head leads along the nodes to the deliveries of the message of that name, the newest first. Nodes stand here with
 -- the newest first, and a node's place is how many nodes are older.
-use Rattle.std.specs.Prelude.{ℕ, ◌-◌, ◌<◌, Bool, false, ◌==◌, ◌&&◌, if◌then◌else◌, min, List, [], ◌∷◌, ◌++◌, length, slice_index_or, slice_set, Option, Some, None, IfSome, vec_len, vec_capacity}
+use Rattle.std.specs.Prelude.{ℕ, ◌-◌, ◌<◌, Bool, false, ◌==◌, nat_lt, ◌&&◌, if◌then◌else◌, min, List, [], ◌∷◌, ◌++◌, length, slice_index_or, slice_set, Option, Some, None, IfSome, vec_len, vec_capacity}
 use Rattle.std.specs.Option.{option_map_or}
 use Rattle.std.proofs.Common.{Vec, Global}
 use Rattle.causal_name.specs.declared.Pid.{Pid}
@@ -83,13 +83,13 @@ is_newest_in dest l (receipt ∷ older) = if same_pid receipt.dest dest then rec
 abbrev pub is_of : Det → Receipt → Bool
 is_of d receipt = same_pid receipt.dest d.dest && receipt.rsn == d.rsn
 
--- the place of the newest such receipt, from a place on
-abbrev pub place_of : Det → List Node → Option ℕ → Option ℕ
-place_of d [] at = None
-place_of d (node ∷ older) at =
+-- the place of the newest such receipt among the first m, from a place on
+abbrev pub place_of : ℕ → Det → List Node → Option ℕ → Option ℕ
+place_of m d [] at = None
+place_of m d (node ∷ older) at =
     if option_map_or (λ k. k == length older) at false
-    then (if is_of d node.receipt then Some (length older) else place_of d older node.next)
-    else place_of d older at
+    then (if nat_lt (length older) m && is_of d node.receipt then Some (length older) else place_of m d older node.next)
+    else place_of m d older at
 
 -- how many more heads each list has room for, or nodes the array
 abbrev pub least_room : List (Vec (Option ℕ) Global) → ℕ → ℕ

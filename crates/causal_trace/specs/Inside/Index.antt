@@ -73,7 +73,7 @@ pub record AreChains (n : ℕ) (past : List Entry) (heads : Heads) (nodes : List
   pub named : HasHeads past heads
   pub each : (m : MsgName) → chain nodes (head_of heads m) ≡ receipts past m
   pub numbered : length nodes ≡ length (delivered_dets past)
-  pub placed : (d : Det) → place_of d nodes (head_of heads (message_of d)) ≡ number_of (delivered_dets past) d
+  pub placed : (k : ℕ) (d : Det) → place_of k d nodes (head_of heads (message_of d)) ≡ number_of k (delivered_dets past) d
 
 -- a recording with what is remembered of it
 pub record IsIndexed (r : Recording) (n_listed n_restarts : ℕ) (by_process : List Lane) (by_message : ChainsState) : Type 0 where

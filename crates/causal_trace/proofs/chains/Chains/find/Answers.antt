@@ -1,4 +1,5 @@
 use Rattle.std.proofs.Common.{◌≡◌, ◌<◌, ◌+◌, cond, length, get_or, reverse, Some, sym, ap, subst, ◌∙◌, arith}
+use Rattle.std.specs.Prelude.{nat_lt, ◌&&◌}
 use Rattle.std.specs.Option.{option_map_or}
 use Rattle.std.proofs.lemmas.List.{reverse-reverse, length-reverse}
 use Rattle.std.proofs.lemmas.Bool.{cond-true, cond-false}
@@ -14,7 +15,7 @@ loop-place-init c =
     let head = c.head-place.ensures ∙ ap (head_of c.args.self.now.heads) c.message.ensures in
     record {
       inside = subst (λ at. IsBelow at (length c.args.self.now.nodes)) (sym head) (c.requires.heads_lead (message_of c.args.det));
-      rest = ap (place_of c.args.det c.args.self.now.nodes) (sym head);
+      rest = ap (place_of c.args.among c.args.det c.args.self.now.nodes) (sym head);
     }
 
 there : (c : In-Some) → c.in-Some.k < length c.args.self.now.nodes
@@ -34,17 +35,17 @@ down : (c : After-index-node) → c.in-Some.k < length c.args.self.now.nodes →
 down c low = subst (λ n. IsBelow n.next c.in-Some.k) (node_is c) (leads_on c.args.self.now.nodes c.in-Some.k c.index-node.result.now c.requires.nodes_lead low).down
 
 -- the answer is its place, or that of the rest
-rest : (c : After-index-node) → c.in-Some.k < length c.args.self.now.nodes → place_of c.args.det c.args.self.now.nodes (head_of c.args.self.now.heads (message_of c.args.det)) ≡ cond (is_of c.args.det c.index-node.result.now.receipt) (Some c.in-Some.k) (place_of c.args.det c.args.self.now.nodes c.index-node.result.now.next)
+rest : (c : After-index-node) → c.in-Some.k < length c.args.self.now.nodes → place_of c.args.among c.args.det c.args.self.now.nodes (head_of c.args.self.now.heads (message_of c.args.det)) ≡ cond (nat_lt c.in-Some.k c.args.among && is_of c.args.det c.index-node.result.now.receipt) (Some c.in-Some.k) (place_of c.args.among c.args.det c.args.self.now.nodes c.index-node.result.now.next)
 rest c low =
     let nodes = c.args.self.now.nodes in
     c.loop-place.invariant.rest
-    ∙ ap (place_of c.args.det nodes) c.in-Some.is
-    ∙ subst (λ n. place_of c.args.det nodes (Some c.in-Some.k) ≡ cond (is_of c.args.det n.receipt) (Some c.in-Some.k) (place_of c.args.det nodes n.next)) (node_is c) (place_on c.args.det nodes c.in-Some.k c.index-node.result.now c.requires.nodes_lead low)
+    ∙ ap (place_of c.args.among c.args.det nodes) c.in-Some.is
+    ∙ subst (λ n. place_of c.args.among c.args.det nodes (Some c.in-Some.k) ≡ cond (nat_lt c.in-Some.k c.args.among && is_of c.args.det n.receipt) (Some c.in-Some.k) (place_of c.args.among c.args.det nodes n.next)) (node_is c) (place_on c.args.among c.args.det nodes c.in-Some.k c.index-node.result.now c.requires.nodes_lead low)
 
-pub returns-then-is_of : goal.returns-then-is_of
-returns-then-is_of c =
-    let p = goal.at.returns-then-is_of c in
-    sym (rest p.After-index-node (there p.In-Some) ∙ cond-true (is_of c.args.det c.index-node.result.now.receipt) _ _ (sym c.if-is_of.ensures))
+pub returns-then-is_of_first : goal.returns-then-is_of_first
+returns-then-is_of_first c =
+    let p = goal.at.returns-then-is_of_first c in
+    sym (rest p.After-index-node (there p.In-Some) ∙ cond-true (nat_lt c.in-Some.k c.args.among && is_of c.args.det c.index-node.result.now.receipt) _ _ (sym c.if-is_of_first.ensures))
 
 pub loop-place-smaller : goal.loop-place-smaller
 loop-place-smaller c =
@@ -57,8 +58,8 @@ loop-place-preserved c =
     let low = there p.In-Some in
     record {
       inside = below_higher c.index-node.result.now.next c.in-Some.k (length c.args.self.now.nodes) (omega (arith, low)) (down p.After-index-node low);
-      rest = rest p.After-index-node low ∙ cond-false (is_of c.args.det c.index-node.result.now.receipt) _ _ (sym c.if-is_of.ensures);
+      rest = rest p.After-index-node low ∙ cond-false (nat_lt c.in-Some.k c.args.among && is_of c.args.det c.index-node.result.now.receipt) _ _ (sym c.if-is_of_first.ensures);
     }
 
 pub returns : goal.returns
-returns c = sym (c.loop-place.invariant.rest ∙ place_none c.args.det c.args.self.now.nodes c.loop-place.place c.in_default.not-Some)
+returns c = sym (c.loop-place.invariant.rest ∙ place_none c.args.among c.args.det c.args.self.now.nodes c.loop-place.place c.in_default.not-Some)

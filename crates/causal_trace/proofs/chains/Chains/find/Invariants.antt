@@ -8,7 +8,7 @@ use Rattle.causal_trace.proofs.chains.Chains.find.Given as goal
 abbrev pub invariant-loop-place : goal.invariant-loop-place
 invariant-loop-place l = record {
   inside : IsBelow l.place (length l.self.nodes);
-  rest : place_of l.det l.self.nodes (head_of l.self.heads (message_of l.det)) ≡ place_of l.det l.self.nodes l.place;
+  rest : place_of l.among l.det l.self.nodes (head_of l.self.heads (message_of l.det)) ≡ place_of l.among l.det l.self.nodes l.place;
 }
 
 -- each node leads to an older one
