@@ -7,7 +7,8 @@ use Rattle.causal_audit.specs.Spread.{IsCrashOf}
 use Rattle.causal_audit.proofs.group.GroupReach.{left_out}
 use Rattle.causal_audit.proofs.Steps.{entry_cases, entry_within}
 use Rattle.causal_audit.specs.Quiet.{mentioned_by}
-use Rattle.std.specs.Prelude.{IfSome}
+use Rattle.std.specs.Prelude.{nat_lt, IfSome}
+use Rattle.std.proofs.lemmas.List.{length-set}
 use Rattle.causal_trace.specs.Numbers.{number_of}
 use Rattle.causal_trace.proofs.Lemmas.DeliveryNumbers.{number_below}
 
@@ -207,26 +208,26 @@ same_is x y h =
 pub found_below : (o : Option ℕ) (n m : ℕ) → IfSome o (λ i. i < n) → o ≡ Some m → m < n
 found_below o n m all is = subst (λ x. IfSome x (λ i. i < n)) is all
 
-newest_below : (x : Det) (older : List Det) (c d : Det) (m : ℕ) → same_det x c ≡ true → same_det x d ≡ false → number_of (x ∷ older) c ≡ Some m → number_of (x ∷ older) d ≡ Some m → ⊥
-newest_below x older c d m same other at to =
-    let is : Some (length older) ≡ Some m = sym (cond-true (same_det x c) (Some (length older)) (number_of older c) same) ∙ at in
+newest_below : (n : ℕ) (x : Det) (older : List Det) (c d : Det) (m : ℕ) → (nat_lt (length older) n && same_det x c) ≡ true → (nat_lt (length older) n && same_det x d) ≡ false → number_of n (x ∷ older) c ≡ Some m → number_of n (x ∷ older) d ≡ Some m → ⊥
+newest_below n x older c d m same other at to =
+    let is : Some (length older) ≡ Some m = sym (cond-true (nat_lt (length older) n && same_det x c) (Some (length older)) (number_of n older c) same) ∙ at in
     let it : length older ≡ m = cc is in
-    omega (arith, it, found_below (number_of older d) (length older) m (number_below older d) (sym (cond-false (same_det x d) (Some (length older)) (number_of older d) other) ∙ to))
+    omega (arith, it, found_below (number_of n older d) (length older) m (number_below n older d) (sym (cond-false (nat_lt (length older) n && same_det x d) (Some (length older)) (number_of n older d) other) ∙ to))
 
 -- only one determinant has each number
-pub numbers_apart : (numbers : List Det) (c d : Det) (m : ℕ) → number_of numbers c ≡ Some m → number_of numbers d ≡ Some m → same_det c d ≡ true
-numbers_apart [] c d m at to = absurd (let x : None ≡ Some m = at in cc)
-numbers_apart (x ∷ older) c d m at to =
-    elim (cases_Bool (same_det x c)) [
-      | inl same_c ↦ elim (cases_Bool (same_det x d)) [
-        | inl same_d ↦ subst (λ y. same_det y d ≡ true) (same_is x c same_c) same_d
-        | inr other ↦ absurd (newest_below x older c d m same_c other at to)
+pub numbers_apart : (n : ℕ) (numbers : List Det) (c d : Det) (m : ℕ) → number_of n numbers c ≡ Some m → number_of n numbers d ≡ Some m → same_det c d ≡ true
+numbers_apart n [] c d m at to = absurd (let x : None ≡ Some m = at in cc)
+numbers_apart n (x ∷ older) c d m at to =
+    elim (cases_Bool (nat_lt (length older) n && same_det x c)) [
+      | inl same_c ↦ elim (cases_Bool (nat_lt (length older) n && same_det x d)) [
+        | inl same_d ↦ subst (λ y. same_det y d ≡ true) (same_is x c (and_parts (nat_lt (length older) n) (same_det x c) same_c).1) (and_parts (nat_lt (length older) n) (same_det x d) same_d).1
+        | inr other ↦ absurd (newest_below n x older c d m same_c other at to)
       ]
-      | inr other_c ↦ elim (cases_Bool (same_det x d)) [
-        | inl same_d ↦ absurd (newest_below x older d c m same_d other_c to at)
+      | inr other_c ↦ elim (cases_Bool (nat_lt (length older) n && same_det x d)) [
+        | inl same_d ↦ absurd (newest_below n x older d c m same_d other_c to at)
         | inr other_d ↦
-            numbers_apart older c d m (sym (cond-false (same_det x c) (Some (length older)) (number_of older c) other_c) ∙ at)
-            (sym (cond-false (same_det x d) (Some (length older)) (number_of older d) other_d) ∙ to)
+            numbers_apart n older c d m (sym (cond-false (nat_lt (length older) n && same_det x c) (Some (length older)) (number_of n older c) other_c) ∙ at)
+            (sym (cond-false (nat_lt (length older) n && same_det x d) (Some (length older)) (number_of n older d) other_d) ∙ to)
       ]
     ]
 
@@ -257,25 +258,37 @@ cases_of (Some j) lists m v w there has =
     ]
 
 -- once one more determinant of the next entry is noted, its list has the position of that
-pub mentions_more : (past : List Entry) (dets numbers : List Det) (lists : List (List ℕ)) (det : Det) (m : ℕ) → number_of numbers det ≡ Some m → m < length lists → AreMentionsWith past dets numbers lists → AreMentionsWith past (dets ++ det ∷ []) numbers (with_added lists m (length past))
+pub mentions_more : (past : List Entry) (dets numbers : List Det) (lists : List (List ℕ)) (det : Det) (m : ℕ) → number_of (length lists) numbers det ≡ Some m → m < length lists → AreMentionsWith past dets numbers lists → AreMentionsWith past (dets ++ det ∷ []) numbers (with_added lists m (length past))
 mentions_more past dets numbers lists det m at there are =
     record {
       ascend = added_ascend lists m (length past) there are.ascend;
-      mentioned = λ d v e is unlisted. are.mentioned d v e is (λ listed. unlisted (keeps_of (number_of numbers d) lists m (length past) v there listed));
+      mentioned = λ d v e is unlisted. are.mentioned d v e is (λ listed. unlisted (back d v (keeps_of (number d) lists m (length past) v there listed)));
       noted = λ d listed. elim (or_cases (has dets d) (same_det d det) (sym (has_more dets det d) ∙ listed)) [
-        | inl before ↦ keeps_of (number_of numbers d) lists m (length past) (length past) there (are.noted d before)
+        | inl before ↦ back d (length past) (keeps_of (number d) lists m (length past) (length past) there (are.noted d before))
         | inr now ↦
-            subst (λ o. Contains (option_map_or (list_at (with_added lists m (length past))) o []) (length past)) (sym (ap (number_of numbers) (same_is d det now) ∙ at))
-            (added_has lists m (length past) there)
+            back d (length past) (subst (λ o. Contains (option_map_or (list_at more) o []) (length past)) (sym (ap number (same_is d det now) ∙ at))
+            (added_has lists m (length past) there))
       ];
-      only = λ d v listed. elim (cases_of (number_of numbers d) lists m (length past) v there listed) [
+      only = λ d v listed. elim (cases_of (number d) lists m (length past) v there (subst (λ o. Contains (option_map_or (list_at more) o []) v) (same d) listed)) [
         | inl old ↦ elim (are.only d v old) [
           | inl before ↦ inl before
           | inr now ↦ inr (now.0, has_more dets det d ∙ or_left (has dets d) (same_det d det) now.1)
         ]
-        | inr new ↦ inr (sym new.1, has_more dets det d ∙ or_right (has dets d) (same_det d det) (numbers_apart numbers d det m new.0 at))
+        | inr new ↦ inr (sym new.1, has_more dets det d ∙ or_right (has dets d) (same_det d det) (numbers_apart (length lists) numbers d det m new.0 at))
       ];
     }
+  where
+    more : List (List ℕ)
+    more = with_added lists m (length past)
+
+    number : Det → Option ℕ
+    number = number_of (length lists) numbers
+
+    same : (d : Det) → number_of (length more) numbers d ≡ number d
+    same d = ap (λ n. number_of n numbers d) (length-set lists m (list_at lists m ++ length past ∷ []))
+
+    back : (d : Det) (v : ℕ) → Contains (option_map_or (list_at more) (number d) []) v → Contains (mentions_of numbers more d) v
+    back d v = subst (λ o. Contains (option_map_or (list_at more) o []) v) (sym (same d))
 
 -- ---- before the first entry
 
@@ -284,7 +297,7 @@ pub mentions_of_none : (numbers : List Det) (lists : List (List ℕ)) → All (�
 mentions_of_none numbers lists all = record {
   ascend = empty_ascend lists all;
   mentioned = λ d v e at unlisted. absurd (let x : None ≡ Some e = at in cc);
-  only = λ d v listed. absurd (none (number_of numbers d) v listed);
+  only = λ d v listed. absurd (none (number_of (length lists) numbers d) v listed);
 }
   where
     none : (o : Option ℕ) (v : ℕ) → Contains (option_map_or (list_at lists) o []) v → ⊥
@@ -324,7 +337,7 @@ mentions_done e past numbers lists are = record {
 
 -- the positions of the entries that mention a determinant ascend
 pub mentions_ascend : (past : List Entry) (numbers : List Det) (lists : List (List ℕ)) → AreMentions past numbers lists → (d : Det) → IsNonDecreasing (mentions_of numbers lists d)
-mentions_ascend past numbers lists are d = list_of (number_of numbers d)
+mentions_ascend past numbers lists are d = list_of (number_of (length lists) numbers d)
   where
     list_of : (o : Option ℕ) → IsNonDecreasing (option_map_or (list_at lists) o [])
     list_of None = λ i j x low high. absurd (omega (arith, high))

@@ -3,6 +3,7 @@ use Rattle.causal_audit.proofs.Common.{ℕ, ◌≡◌, ◌+◌, ◌-◌, ◌<◌
 use Rattle.causal_trace.specs.Numbers.{delivered_dets, number_of}
 use Rattle.causal_audit.proofs.index.Filings.{numbers_apart, same_is}
 use Rattle.std.specs.Prelude.{IfSome}
+use Rattle.std.proofs.lemmas.List.{length-set}
 use Rattle.causal_audit.specs.declared.look.Look.{Look}
 use Rattle.causal_audit.specs.declared.look.looks.Looks.{Looks}
 use Rattle.causal_audit.specs.declared.look.thin.Stretch.{Stretch}
@@ -138,22 +139,23 @@ none_looked r most end count found none d i thins at there =
 
 -- one more look
 pub one_looked : (look : Look) (number : ℕ) (thins : ThinStretches) (found : List (Option ThinStretches)) → number < length found
-    → number_of (delivered_dets look.run.trace.now.recording.past) look.det ≡ Some number → AreFound look (look.end + 1) thins
+    → number_of (length found) (delivered_dets look.run.trace.now.recording.past) look.det ≡ Some number → AreFound look (look.end + 1) thins
     → AreLooks look.run.trace.now.recording look.most look.end found → AreLooks look.run.trace.now.recording look.most look.end (set found number (Some thins))
 one_looked look number thins found there at is before d i x to here =
     let r = look.run.trace.now.recording in
+    let asked : (e : Det) (j : ℕ) → number_of (length (set found number (Some thins))) (delivered_dets r.past) e ≡ Some j → number_of (length found) (delivered_dets r.past) e ≡ Some j = λ e j. subst (λ n. number_of n (delivered_dets r.past) e ≡ Some j) (length-set found number (Some thins)) in
     elim (eqb_tells i number) [
       | inl same ↦
           let one : Some thins ≡ Some x = sym (get_or-set_same found number (Some thins) None there) ∙ ap (λ j. get_or (set found number (Some thins)) j None) (sym same.1) ∙ here in
           let found_is : thins ≡ x = cc one in
-          let det : look.det ≡ d = same_is look.det d (numbers_apart (delivered_dets r.past) look.det d i (at ∙ ap Some (sym same.1)) to) in
+          let det : look.det ≡ d = same_is look.det d (numbers_apart (length found) (delivered_dets r.past) look.det d i (at ∙ ap Some (sym same.1)) (asked d i to)) in
           subst (λ e. AreThinStretches r.processes look.most r.past e (look.end + 1) x) det (subst (λ y. AreFound look (look.end + 1) y) found_is is)
-      | inr apart ↦ before d i x to (sym (get_or-set_other found number i (Some thins) None apart.1) ∙ here)
+      | inr apart ↦ before d i x (asked d i to) (sym (get_or-set_other found number i (Some thins) None apart.1) ∙ here)
     ]
 
 -- what was found of a determinant
-pub look_found : (looks : Looks) (d : Det) (number : ℕ) (o : Option ThinStretches) → number < length looks.found.items → number_of (delivered_dets looks.trace.now.recording.past) d ≡ Some number → o ≡ get_or looks.found.items number o → IfSome o (IsLookOf looks d)
+pub look_found : (looks : Looks) (d : Det) (number : ℕ) (o : Option ThinStretches) → number < length looks.found.items → number_of (length looks.found.items) (delivered_dets looks.trace.now.recording.past) d ≡ Some number → o ≡ get_or looks.found.items number o → IfSome o (IsLookOf looks d)
 look_found looks d number None there at is = tt
 look_found looks d number (Some thins) there at is = λ r most end are.
-    are.found d number thins (subst (λ (x : Recording). number_of (delivered_dets x.past) d ≡ Some number) are.run at)
+    are.found d number thins (subst (λ (x : Recording). number_of (length looks.found.items) (delivered_dets x.past) d ≡ Some number) are.run at)
     (get_or_default looks.found.items number None (Some thins) there ∙ sym is)

@@ -7,7 +7,7 @@ use causal_trace::trace::Trace;
 
 /// The number of the newest delivery that shares the determinant of this one.
 fn newest_with(trace: &Trace, position: u32) -> Option<u32> {
-    trace.delivery_of(trace.det_at(position)?)
+    trace.delivery_of(trace.det_at(position)?, trace.deliveries() as usize)
 }
 
 /// Puts the deliveries in the order of their ends, so that a few long ones do not make the walks of all groups long. Those with one

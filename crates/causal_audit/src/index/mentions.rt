@@ -3,7 +3,7 @@ ghost use Rattle.std.specs.Prelude.{◌≡◌, ◌≤◌, ◌∷◌, ◌++◌, [
 ghost use Rattle.causal_name.specs.declared.Det.{Det};
 ghost use Rattle.causal_trace.specs.declared.entry.Entry.{Entry};
 ghost use Rattle.causal_trace.specs.Numbers.{delivered_dets};
-ghost use Rattle.causal_trace.specs.Past.{deliveries_in, instant};
+ghost use Rattle.causal_trace.specs.Past.{instant};
 ghost use Rattle.causal_audit.specs.Quiet.{mentioned_by};
 ghost use Rattle.causal_audit.specs.Inside.Index.Filed.{mentions_of};
 ghost use Rattle.causal_audit.specs.Inside.Index.Kept.{AreMentionsKept};
@@ -15,30 +15,37 @@ use causal_trace::trace::Trace;
 use std::alloc::Global;
 use std::slice;
 
-/// Lists of positions, by the numbers of a trace's deliveries. The newest delivery with a determinant has those of its mentions.
+/// Lists of positions, by the numbers of a trace's first deliveries. The newest of these with a determinant has those of its
+/// mentions.
 #[derive(Drop)]
 pub struct Mentions {
     pub lists: PackedLists,
 }
 
+/// How many of these entries are deliveries.
+fn deliveries_in(entries: &[Entry]) -> usize {
+    let mut count: usize = 0;
+    for entry in entries {
+        if let Entry::Deliver { .. } = entry {
+            count = count.saturating_add(1);
+        }
+    }
+    count
+}
+
 /// Counts the mentions of one more entry, by the numbers of the deliveries.
-fn count(counts: &mut Vec<u32>, trace: &Trace, entry: &Entry)
-    requires { length counts.old.items ≡ deliveries_in trace.now.recording.past }
-    ensures { length counts.new.items ≡ deliveries_in trace.now.recording.past }
-{
+fn count(counts: &mut Vec<u32>, trace: &Trace, entry: &Entry) {
     for det in mentioned(entry) {
-        if let Some(number) = trace.delivery_of(*det) {
+        if let Some(number) = trace.delivery_of(*det, counts.len()) {
             let number = number as usize;
             counts[number] = counts[number].saturating_add(1);
         }
     }
 }
 
-/// How often these entries mention the determinant of each delivery.
-fn counts_of(alloc: Global, trace: &Trace, entries: &[Entry]) -> Result<Vec<u32>, NoMemory>
-    ensures { IfOk result (λ counts. length counts.items ≡ deliveries_in trace.now.recording.past) }
-{
-    let mut counts = vec![in alloc; 0; trace.deliveries() as usize]?;
+/// How often these entries, with which the trace begins, mention the determinant of each delivery among them.
+fn counts_of(alloc: Global, trace: &Trace, entries: &[Entry]) -> Result<Vec<u32>, NoMemory> {
+    let mut counts = vec![in alloc; 0; deliveries_in(entries)]?;
     for entry in entries {
         count(&mut counts, trace, entry);
     }
@@ -53,7 +60,7 @@ impl Mentions {
         ensures { result.now ≡
             mentions_of (delivered_dets trace.now.recording.past) self.now.lists det }
     {
-        match trace.delivery_of(det) {
+        match trace.delivery_of(det, self.lists.len()) {
             Some(number) => self.lists.get(number as usize),
             None => &[],
         }
@@ -61,13 +68,11 @@ impl Mentions {
 
     /// Puts the position of an entry into the list of a determinant that it mentions. The list was counted.
     fn add(&mut self, trace: &Trace, det: Det, i: u32) -> Result<(), NoMemory>
-        requires { length self.old.lists ≡ deliveries_in trace.now.recording.past }
-        ensures count { length self.new.lists ≡ length self.old.lists }
-        ensures added { OnOk result ((past : List Entry) (dets : List Det) → length past ≡ i →
+        ensures { OnOk result ((past : List Entry) (dets : List Det) → length past ≡ i →
             AreMentionsWithKept trace.now.recording.past past dets self.old →
             AreMentionsWithKept trace.now.recording.past past (dets ++ det ∷ []) self.new) }
     {
-        let Some(number) = trace.delivery_of(det) else {
+        let Some(number) = trace.delivery_of(det, self.lists.len()) else {
             return Err(NoMemory);
         };
         self.lists.add(number as usize, i)
@@ -75,9 +80,7 @@ impl Mentions {
 
     /// Puts the position of an entry into the lists of the determinants that it mentions.
     fn add_each(&mut self, trace: &Trace, dets: &[Det], i: u32) -> Result<(), NoMemory>
-        requires { length self.old.lists ≡ deliveries_in trace.now.recording.past }
-        ensures count { length self.new.lists ≡ length self.old.lists }
-        ensures added { OnOk result ((past : List Entry) → length past ≡ i →
+        ensures { OnOk result ((past : List Entry) → length past ≡ i →
             AreMentionsWithKept trace.now.recording.past past [] self.old →
             AreMentionsWithKept trace.now.recording.past past dets.now self.new) }
     {
@@ -89,9 +92,7 @@ impl Mentions {
 
     /// Notes one more entry, at position i.
     fn note(&mut self, trace: &Trace, entry: &Entry, i: u32) -> Result<(), NoMemory>
-        requires { length self.old.lists ≡ deliveries_in trace.now.recording.past }
-        ensures count { length self.new.lists ≡ length self.old.lists }
-        ensures noted { OnOk result ((past : List Entry) → length past ≡ i →
+        ensures { OnOk result ((past : List Entry) → length past ≡ i →
             AreMentionsKept trace.now.recording.past past self.old →
             AreMentionsKept trace.now.recording.past (entry.now ∷ past) self.new) }
     {

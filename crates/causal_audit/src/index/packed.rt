@@ -57,6 +57,13 @@ impl PackedLists {
         Ok(PackedLists { positions, spans })
     }
 
+    /// How many lists there are.
+    pub fn len(&self) -> usize
+        ensures { result ≡ length self.now }
+    {
+        self.spans.len()
+    }
+
     /// The list of a number; an empty one where there is none.
     pub fn get(&self, number: usize) -> &[u32]
         ensures { result.now ≡ list_at self.now number }

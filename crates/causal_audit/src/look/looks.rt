@@ -1,7 +1,7 @@
 //! One look at each determinant that is mentioned.
 ghost use Rattle.std.specs.Prelude.{◌≡◌, ◌≤◌, ◌<◌, Some, None, IfOk, IfSome, OnOk, length, replicate};
 ghost use Rattle.causal_trace.specs.Numbers.{delivered_dets, number_of};
-ghost use Rattle.causal_trace.specs.Past.{deliveries_in, instant};
+ghost use Rattle.causal_trace.specs.Past.{instant};
 ghost use Rattle.causal_audit.specs.Inside.Index.Kept.{AreMentionsKept};
 
 use crate::index::mentions::Mentions;
@@ -13,12 +13,11 @@ use causal_name::{Det, NoMemory};
 use causal_trace::trace::Trace;
 use std::alloc::Global;
 
-/// What the looks found, by the numbers of the trace's deliveries.
+/// What the looks found, by the numbers of the trace's first deliveries.
 #[derive(Drop)]
 pub struct Looks<'a> {
     pub trace: &'a Trace,
     pub found: Vec<Option<ThinStretches>>,
-    ghost each: { length found.items ≡ deliveries_in trace.now.recording.past },
 }
 
 impl<'a> Looks<'a> {
@@ -28,7 +27,7 @@ impl<'a> Looks<'a> {
     pub fn find(&self, det: Det) -> Option<&ThinStretches>
         ensures { IfSome result (λ thins. IsLookOf self.now det thins.now) }
     {
-        match self.trace.delivery_of(det) {
+        match self.trace.delivery_of(det, self.found.len()) {
             Some(number) => self.found[number as usize].as_ref(),
             None => None,
         }
@@ -50,12 +49,12 @@ impl<'a> Looks<'a> {
     {
         let trace = run.trace;
         let sets = reached_in(alloc, trace)?;
-        let mut found = none_yet(alloc, trace.deliveries())?;
+        let mut found = none_yet(alloc, mentions.lists.len())?;
         for k in 0..end {
             let Some(det) = trace.det_at(k) else {
                 continue;
             };
-            let Some(number) = trace.delivery_of(det) else {
+            let Some(number) = trace.delivery_of(det, found.len()) else {
                 continue;
             };
             let look = Look {
@@ -73,10 +72,10 @@ impl<'a> Looks<'a> {
 }
 
 /// Nothing is found of so many yet.
-fn none_yet(alloc: Global, count: u32) -> Result<Vec<Option<ThinStretches>>, NoMemory>
+fn none_yet(alloc: Global, count: usize) -> Result<Vec<Option<ThinStretches>>, NoMemory>
     ensures { IfOk result (λ found. found.items ≡ replicate count None) }
 {
-    let mut found = Vec::with_capacity(alloc, count as usize)?;
+    let mut found = Vec::with_capacity(alloc, count)?;
     for _ in 0..count {
         found.push(None)?;
     }
@@ -95,8 +94,8 @@ impl Look<'_> {
         number: usize,
         found: &mut Vec<Option<ThinStretches>>,
     ) -> Result<(), NoMemory>
-        requires number { number_of (delivered_dets self.now.run.trace.now.recording.past)
-            self.now.det ≡ Some number }
+        requires number { number_of (length found.old.items)
+            (delivered_dets self.now.run.trace.now.recording.past) self.now.det ≡ Some number }
         requires there { number < length found.old.items }
         ensures count { length found.new.items ≡ length found.old.items }
         ensures found { OnOk result

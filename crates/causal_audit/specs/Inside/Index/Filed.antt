@@ -36,9 +36,9 @@ pub record AreTurns (past : List Entry) (list : List ℕ) (downs : List (FinSet 
   pub counted : length downs ≡ length list
   pub shown : (i : ℕ) (s : FinSet nat_cmp) → i < length list → Shows (slice_index_or downs i s) (λ p. is_down (instant past (slice_index_or list i 0 + 1)) p)
 
--- the list of a determinant, where lists stand by the numbers of deliveries that have these
+-- the list of a determinant, where lists stand by the numbers of the first deliveries that have these
 abbrev pub mentions_of : List Det → List (List ℕ) → Det → List ℕ
-mentions_of delivered lists d = option_map_or (list_at lists) (number_of delivered d) []
+mentions_of delivered lists d = option_map_or (list_at lists) (number_of (length lists) delivered d) []
 
 -- for each determinant the positions of the entries that mention it, and no others
 pub record AreMentions (past : List Entry) (delivered : List Det) (lists : List (List ℕ)) : Type 0 where

@@ -11,8 +11,8 @@ pub record AreTurnsKept (past : List Entry) (turns : CrashesAndRestarts) : Type 
   pub turned : AreTurns past turns.positions.items turns.downs.items
   pub restarted : AreTurnsOf true past (lists_in turns.restarts.lists.items)
 
--- for each determinant the positions of the entries of a past that mention it are kept, and no others, by the deliveries of the
--- whole run
+-- for each determinant the positions of the entries of a past that mention it are kept, and no others, by the first deliveries of
+-- the whole run, as many as there are lists
 abbrev pub AreMentionsKept : List Entry → List Entry → Mentions → Type 0
 AreMentionsKept whole past mentions = AreMentions past (delivered_dets whole) mentions.lists
 

@@ -1,7 +1,8 @@
-use Rattle.causal_audit.proofs.Common.{◌<◌, Option, Some, None, sym, subst, ◌∙◌, arith, deliveries_in}
+use Rattle.causal_audit.proofs.Common.{◌≡◌, ◌<◌, arith, Option, Some, None, sym, ap, subst, ◌∙◌, length}
 use Rattle.std.specs.Borrow.{Bor}
 use Rattle.std.specs.Prelude.{IfSome}
 use Rattle.std.specs.Option.{option_copied}
+use Rattle.causal_trace.specs.Numbers.{delivered_dets, number_of}
 use Rattle.causal_audit.specs.Inside.Look.Looks.{IsLookOf}
 use Rattle.causal_audit.proofs.index.Filings.{found_below}
 use Rattle.causal_audit.proofs.look.LookFindings.{look_found}
@@ -15,7 +16,9 @@ pub returns-in-Some : goal.returns-in-Some
 returns-in-Some c =
     let looks = c.args.self.now in
     let number = c.in-Some.number in
-    let low : number < deliveries_in looks.trace.now.recording.past = found_below c.delivery_of.result _ number c.delivery_of.ensures.below c.in-Some.is in
+    let all : length looks.found.items ≡ c.len.result = omega (arith, looks.found.ok.0, c.len.ensures) in
+    let low : number < length looks.found.items = subst (λ n. number < n) (sym all) (found_below c.delivery_of.result _ number c.delivery_of.ensures.among c.in-Some.is) in
+    let at = ap (λ n. number_of n (delivered_dets looks.trace.now.recording.past) c.args.det) all ∙ sym c.delivery_of.ensures.value ∙ c.in-Some.is in
     referred (IsLookOf looks c.args.det) c.as_ref.result
     (subst (λ o. IfSome o (IsLookOf looks c.args.det)) (sym c.as_ref.ensures.value)
-    (look_found looks c.args.det number c.index.result.now (omega (arith, low, looks.each)) (sym c.delivery_of.ensures.value ∙ c.in-Some.is) c.index.ensures))
+    (look_found looks c.args.det number c.index.result.now low at c.index.ensures))
