@@ -24,13 +24,10 @@ pub struct Mentions {
 
 /// How many of these entries are deliveries.
 fn deliveries_in(entries: &[Entry]) -> usize {
-    let mut count: usize = 0;
-    for entry in entries {
-        if let Entry::Deliver { .. } = entry {
-            count = count.saturating_add(1);
-        }
-    }
-    count
+    entries
+        .iter()
+        .filter(|entry| matches!(entry, Entry::Deliver { .. }))
+        .count()
 }
 
 /// Counts the mentions of one more entry, by the numbers of the deliveries.
