@@ -34,7 +34,7 @@ pub trait Stable: Drop {
         ensures device { result ≡ Err PutFault.Device → faults self.new ≡ faults self.old + 1 }
         ensures kept { faults self.old ≤ faults self.new }
         ensures member { KeepsMember det
-        (contents self.old) (contents self.new) (faults self.old) (faults self.new) };
+            (contents self.old) (contents self.new) (faults self.old) (faults self.new) };
 
     /// Whether a determinant is in the set.
     fn contains(&self, det: Det) -> bool

@@ -1,14 +1,11 @@
 -- What a look finds, stretch by stretch, and what it tells of a delivery.
-use Rattle.causal_audit.proofs.Common.{ℕ, ◌≡◌, ◌+◌, ◌-◌, ◌<◌, ◌≤◌, inl, inr, List, [], ◌∷◌, ◌++◌, length, get_or, sym, subst, arith, ◌⊎◌, min, All, IsPartitionPoint, cases_lt, get_or_default, All-push, All-weaker, Contains-append_left, Contains-push, IsNonDecreasingBy-push, Entry, Det, Recording, Option, Some, None, zero, suc, refl, ap, ◌∙◌, replicate, get_or-set_same, get_or-set_other, eqb_tells, set}
+use Rattle.causal_audit.proofs.Common.{ℕ, ◌≡◌, ◌+◌, ◌-◌, ◌<◌, ◌≤◌, inl, inr, List, [], ◌∷◌, ◌++◌, length, get_or, sym, subst, arith, ◌⊎◌, min, All, IsPartitionPoint, cases_lt, get_or_default, All-push, All-weaker, Contains-append_left, Contains-push, IsNonDecreasingBy-push, Entry, Det, Recording, Some, ap, ◌∙◌, get_or-append, get_or-append_seam, length-append}
 use Rattle.causal_trace.specs.Numbers.{delivered_dets, number_of}
 use Rattle.causal_audit.proofs.index.Filings.{numbers_apart, same_is}
-use Rattle.std.specs.Prelude.{IfSome}
-use Rattle.std.proofs.lemmas.List.{length-set}
 use Rattle.causal_audit.specs.declared.look.Look.{Look}
-use Rattle.causal_audit.specs.declared.look.looks.Looks.{Looks}
 use Rattle.causal_audit.specs.declared.look.thin.Stretch.{Stretch}
 use Rattle.causal_audit.specs.declared.look.thin_stretches.ThinStretches.{ThinStretches}
-use Rattle.causal_audit.specs.Inside.Look.Looks.{IsPassed, IsBareAt, IsThinAt, AreFound, AreLooks, AreRising, AreThinStretches, IsInOne, IsLookOf}
+use Rattle.causal_audit.specs.Inside.Look.Looks.{IsPassed, IsBareAt, IsThinAt, AreFound, AreLooks, AreRising, AreThinStretches, IsInOne}
 
 -- ---- one stretch more
 
@@ -123,39 +120,20 @@ module _ (xs : List Stretch) (bound passed : ℕ) (point : IsPartitionPoint (λ 
 
 -- ---- the looks at all determinants
 
-abbrev no_look : Option ThinStretches
-no_look = None
+module _ (r : Recording) (most end among : ℕ) (found : List ThinStretches) (before : AreLooks r most end among found) where
+  -- one more delivery, of which this was found
+  pub one_looked : (new : ThinStretches) → ((d : Det) → number_of among (delivered_dets r.past) d ≡ Some (length found) → AreThinStretches r.processes most r.past d (end + 1) new) → AreLooks r most end among (found ++ new ∷ [])
+  one_looked new is d i x to inside =
+      elim (cases_lt i (length found)) [
+        | inl old ↦ subst (AreThinStretches r.processes most r.past d (end + 1)) (sym (get_or-append found (new ∷ []) x i old)) (before d i x to old)
+        | inr beyond ↦
+            let last : i ≡ length found = omega (arith, beyond, inside, length-append found (new ∷ [])) in
+            subst (AreThinStretches r.processes most r.past d (end + 1)) (sym (ap (λ j. get_or (found ++ new ∷ []) j x) last ∙ get_or-append_seam found new [] x)) (is d (to ∙ ap Some last))
+      ]
 
-none_at : (count i : ℕ) → get_or (replicate count no_look) i no_look ≡ no_look
-none_at zero i = refl
-none_at (suc count) zero = refl
-none_at (suc count) (suc i) = none_at count i
-
--- nothing is found yet
-pub none_looked : (r : Recording) (most end count : ℕ) (found : List (Option ThinStretches)) → found ≡ replicate count None → AreLooks r most end found
-none_looked r most end count found none d i thins at there =
-    let is : no_look ≡ Some thins = sym (ap (λ xs. get_or xs i None) none ∙ none_at count i) ∙ there in
-    absurd (cc is)
-
--- one more look
-pub one_looked : (look : Look) (number : ℕ) (thins : ThinStretches) (found : List (Option ThinStretches)) → number < length found
-    → number_of (length found) (delivered_dets look.run.trace.now.recording.past) look.det ≡ Some number → AreFound look (look.end + 1) thins
-    → AreLooks look.run.trace.now.recording look.most look.end found → AreLooks look.run.trace.now.recording look.most look.end (set found number (Some thins))
-one_looked look number thins found there at is before d i x to here =
-    let r = look.run.trace.now.recording in
-    let asked : (e : Det) (j : ℕ) → number_of (length (set found number (Some thins))) (delivered_dets r.past) e ≡ Some j → number_of (length found) (delivered_dets r.past) e ≡ Some j = λ e j. subst (λ n. number_of n (delivered_dets r.past) e ≡ Some j) (length-set found number (Some thins)) in
-    elim (eqb_tells i number) [
-      | inl same ↦
-          let one : Some thins ≡ Some x = sym (get_or-set_same found number (Some thins) None there) ∙ ap (λ j. get_or (set found number (Some thins)) j None) (sym same.1) ∙ here in
-          let found_is : thins ≡ x = cc one in
-          let det : look.det ≡ d = same_is look.det d (numbers_apart (length found) (delivered_dets r.past) look.det d i (at ∙ ap Some (sym same.1)) (asked d i to)) in
-          subst (λ e. AreThinStretches r.processes look.most r.past e (look.end + 1) x) det (subst (λ y. AreFound look (look.end + 1) y) found_is is)
-      | inr apart ↦ before d i x (asked d i to) (sym (get_or-set_other found number i (Some thins) None apart.1) ∙ here)
-    ]
-
--- what was found of a determinant
-pub look_found : (looks : Looks) (d : Det) (number : ℕ) (o : Option ThinStretches) → number < length looks.found.items → number_of (length looks.found.items) (delivered_dets looks.trace.now.recording.past) d ≡ Some number → o ≡ get_or looks.found.items number o → IfSome o (IsLookOf looks d)
-look_found looks d number None there at is = tt
-look_found looks d number (Some thins) there at is = λ r most end are.
-    are.found d number thins (subst (λ (x : Recording). number_of (length looks.found.items) (delivered_dets x.past) d ≡ Some number) are.run at)
-    (get_or_default looks.found.items number None (Some thins) there ∙ sym is)
+-- what was found of a determinant was found of the number that it has
+pub of_next : (r : Recording) (most end among next : ℕ) (thins : ThinStretches) (own d : Det) → number_of among (delivered_dets r.past) own ≡ Some next
+    → AreThinStretches r.processes most r.past own (end + 1) thins → number_of among (delivered_dets r.past) d ≡ Some next → AreThinStretches r.processes most r.past d (end + 1) thins
+of_next r most end among next thins own d at is to =
+    let same : own ≡ d = same_is own d (numbers_apart among (delivered_dets r.past) own d next at to) in
+    subst (λ e. AreThinStretches r.processes most r.past e (end + 1) thins) same is

@@ -80,7 +80,12 @@ impl RunToFollow<'_> {
         ensures marked { IsMarked self.now.run.past start start place delivery rows.new.items }
     {
         if let Some(det) = self.outline.trace.det_at(delivery.position) {
-            mark(rows, start, place, self.mentions.list(self.outline.trace, det));
+            mark(
+                rows,
+                start,
+                place,
+                self.mentions.list(self.outline.trace, det),
+            );
         }
     }
 

@@ -22,10 +22,10 @@ pub struct ThinStretches {
 
 impl ThinStretches {
     /// None, from an instant on.
-    fn none(alloc: Global, from: u32) -> ThinStretches
+    pub fn none(alloc: Global, from: u32) -> ThinStretches
         ensures from { result.from ≡ from }
-        ensures thins { (n most : ℕ) (past : List Entry) (d : Det) →
-            AreThinStretches n most past d from result }
+        ensures thins { (n most : ℕ) (past : List Entry) (d : Det) (t : ℕ) → t ≤ from + 1 →
+            AreThinStretches n most past d t result }
     {
         ThinStretches {
             from,

@@ -1,5 +1,5 @@
 -- Where a look at a determinant stands, how the determinant stands then, and what all looks found.
-use Rattle.std.specs.Prelude.{◌≡◌, ℕ, ◌<◌, ◌≤◌, true, false, List, ◌+◌, ◌⊎◌, Contains, Option, Some, None, slice_index_or, length}
+use Rattle.std.specs.Prelude.{◌≡◌, ℕ, ◌<◌, ◌≤◌, true, false, List, ◌+◌, ◌⊎◌, Contains, Some, slice_index_or, length}
 use Rattle.causal_audit.specs.Inside.Common.{nat_cmp, FinSet, contains, len, union, Det, Entry, instant, is_stable, is_down, logs, All, IsNonDecreasingBy, Recording, Reaches}
 use Rattle.std.specs.FinSet.{is_subset}
 use Rattle.causal_name.specs.Sets.{count_below}
@@ -94,17 +94,17 @@ pub record MayBeOpen (thins : ThinStretches) (k spread crash u : ℕ) : Type 0 w
   pub thin : u ≤ thins.last
   pub left : (spread < u) ⊎ ((u ≤ crash) × IsInOne thins.bare.items u)
 
--- what was found by the number of a determinant's newest delivery, of as many as were asked, is where it is thin up to the
+-- what was found by the number of a determinant's newest delivery, of the first `among`, is where it is thin up to the
 -- instant `end`
-abbrev pub AreLooks : Recording → ℕ → ℕ → List (Option ThinStretches) → Type 0
-AreLooks r most end found =
-    (d : Det) (i : ℕ) (thins : ThinStretches) → number_of (length found) (delivered_dets r.past) d ≡ Some i → slice_index_or found i None ≡ Some thins
-    → AreThinStretches r.processes most r.past d (end + 1) thins
+abbrev pub AreLooks : Recording → ℕ → ℕ → ℕ → List ThinStretches → Type 0
+AreLooks r most end among found =
+    (d : Det) (i : ℕ) (thins : ThinStretches) → number_of among (delivered_dets r.past) d ≡ Some i → i < length found
+    → AreThinStretches r.processes most r.past d (end + 1) (slice_index_or found i thins)
 
 -- it was found of this run
 pub record AreAllLooks (r : Recording) (most end : ℕ) (looks : Looks) : Type 0 where
   pub run : looks.trace.now.recording ≡ r
-  pub found : AreLooks r most end looks.found.items
+  pub found : AreLooks r most end looks.among looks.found.items
 
 -- this was found of the determinant
 abbrev pub IsLookOf : Looks → Det → ThinStretches → Type 0

@@ -34,9 +34,9 @@ pub returns : goal.returns
 returns c =
     let few : c.args.end ≤ text_within c.args.limits.entries = omega (arith, c.if-end-most.false, c.text_within-most.ensures.value) in
     record {
-        value = subst (λ (read : Result Stage TextKind). GivesRefused c.follow.result read)
-            (sym (followed c.args.limits.entries c.args.stage c.args.end c.args.line.now c.in-Ok.shape c.in_default.not-Ended few c.in-Ok.ensures)) c.follow.ensures.value;
-        within = whatever c.follow.result few;
-        few = whatever c.follow.result (omega (arith, c.if-end-most.false, c.text_within-most.ensures.few));
-        before = kept_if_refused c.args.stage c.args.line.now c.in-Ok.shape c.follow.result c.in-Ok.ensures c.follow.ensures.before
+      value = subst (λ (read : Result Stage TextKind). GivesRefused c.follow.result read)
+          (sym (followed c.args.limits.entries c.args.stage c.args.end c.args.line.now c.in-Ok.shape c.in_default.not-Ended few c.in-Ok.ensures)) c.follow.ensures.value;
+      within = whatever c.follow.result few;
+      few = whatever c.follow.result (omega (arith, c.if-end-most.false, c.text_within-most.ensures.few));
+      before = kept_if_refused c.args.stage c.args.line.now c.in-Ok.shape c.follow.result c.in-Ok.ensures c.follow.ensures.before;
     }

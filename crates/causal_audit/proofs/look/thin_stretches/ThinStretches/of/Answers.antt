@@ -8,7 +8,7 @@ loop-stretch-init c =
     record {
       within = omega (arith, c.start-stop.ensures.before);
       stop = λ _. c.start-stop.ensures.stop;
-      found = c.none-thins.ensures.thins r.processes look.most r.past look.det;
+      found = c.none-thins.ensures.thins r.processes look.most r.past look.det c.start-stop.result.t (omega arith);
     }
 
 pub loop-stretch-preserved : goal.loop-stretch-preserved
