@@ -140,13 +140,13 @@ fn admitted(
     }
     match trace.offer(limits, entry) {
         Ok(()) => Ok(Stage::Within { version, trace }),
-        Err(RefusedEntry { fault, entry: None }) => Err(alone(TextKind::from(fault))),
-        Err(
-            RefusedEntry {
-                fault,
-                entry: Some(entry),
-            },
-        ) => { Err(after(trace, Shape::Entry { entry }, TextKind::from(fault))) }
+        Err(RefusedEntry { fault, entry }) => {
+            let kind = TextKind::from(fault);
+            match entry {
+                Some(entry) => Err(after(trace, Shape::Entry { entry }, kind)),
+                None => Err(alone(kind)),
+            }
+        }
     }
 }
 
