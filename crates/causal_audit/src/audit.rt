@@ -20,7 +20,7 @@ use std::alloc::Global;
 const FIRST_ENTRIES: usize = 4_096;
 
 /// At most so many determinants are listed by them.
-const FIRST_LISTED: usize = 65_536;
+const FIRST_LISTED: usize = 16_384;
 
 /// The least breach of a run for f by the instant `end`, by instant and then by position; None where no delivery has an orphan by
 /// then.
@@ -53,7 +53,7 @@ fn beginning(entries: &[Entry], end: u32) -> u32
 }
 
 /// An instant by which the least breach for f is that which decides, in a run with this first excess: the last that can decide, or
-/// that of the least breach, if it comes among the first 4,096 entries, and before they list more than 65,536 determinants. So a
+/// that of the least breach, if it comes among the first 4,096 entries, and before they list more than 16,384 determinants. So a
 /// run that fails early is not prepared beyond that.
 ///
 /// # Errors

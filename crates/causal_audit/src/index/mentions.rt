@@ -22,12 +22,26 @@ pub struct Mentions {
     pub lists: PackedLists,
 }
 
+/// Up to so many entries, or so many restarts of the whole run, a search among the first deliveries is short, or there are few.
+const FEW_ENTRIES: usize = 4_096;
+
+const FEW_RESTARTS: u32 = 16;
+
 /// How many of these entries are deliveries.
 fn deliveries_in(entries: &[Entry]) -> usize {
     entries
         .iter()
         .filter(|entry| matches!(entry, Entry::Deliver { .. }))
         .count()
+}
+
+/// How many of the trace's first deliveries have lists: those among these entries, with which it begins. A search among them passes
+/// over the later ones of the message, one for each lane at most. Where that could take long all deliveries have lists.
+fn with_lists(trace: &Trace, entries: &[Entry]) -> usize {
+    if entries.len() > FEW_ENTRIES && trace.restarts() > FEW_RESTARTS {
+        return trace.deliveries() as usize;
+    }
+    deliveries_in(entries)
 }
 
 /// Counts the mentions of one more entry, by the numbers of the deliveries.
@@ -40,9 +54,9 @@ fn count(counts: &mut Vec<u32>, trace: &Trace, entry: &Entry) {
     }
 }
 
-/// How often these entries, with which the trace begins, mention the determinant of each delivery among them.
+/// How often these entries, with which the trace begins, mention the determinant of each delivery that has a list.
 fn counts_of(alloc: Global, trace: &Trace, entries: &[Entry]) -> Result<Vec<u32>, NoMemory> {
-    let mut counts = vec![in alloc; 0; deliveries_in(entries)]?;
+    let mut counts = vec![in alloc; 0; with_lists(trace, entries)]?;
     for entry in entries {
         count(&mut counts, trace, entry);
     }
