@@ -1,4 +1,4 @@
-//! Laws over the judgement of recorded runs. Each function does nothing: what it ensures is the law.
+//! Laws over the judgement of recorded runs. Each function does nothing: its contract is the law.
 ghost use Rattle.causal_audit.specs.Held.{SafeIsHeld};
 ghost use Rattle.causal_audit.specs.Lasting.{OrphansEnd};
 ghost use Rattle.causal_audit.specs.Quiet.{InstantsAgree, OrphansAgree};

@@ -184,7 +184,7 @@ fn share_end(from: usize, all: usize, left: u32) -> usize
 }
 
 /// The one of two answers that comes first, where memory sufficed for both.
-fn first_of(one: Answer, other: Answer) -> Answer
+fn earlier_of(one: Answer, other: Answer) -> Answer
     ensures { IsFirstOf one other result }
 {
     Ok(earlier(one?, other?))
@@ -197,7 +197,7 @@ fn least_joined<'t, R: Threads>(rt: &R, first: Answer, started: Vec<Started<'t>>
 {
     let mut least = first;
     for handle in started {
-        least = first_of(least, handle.join(rt));
+        least = earlier_of(least, handle.join(rt));
     }
     least
 }

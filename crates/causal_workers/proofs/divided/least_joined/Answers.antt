@@ -11,7 +11,7 @@ loop-handle-preserved g c =
       (let shorter = ap length step.0 in let was = c.loop-handle.invariant.0 in omega (arith, step.1)),
       λ followed to all.
           let before : Covers followed c.loop-handle.least (into_iter_items c.loop-handle.handle-iterator) to = c.loop-handle.invariant.1 followed to all in
-          covers_next followed c.loop-handle.least c.in-Some.handle (into_iter_items c.next.new.self) to c.join.result c.first_of-least.result c.first_of-least.ensures c.join.ensures
+          covers_next followed c.loop-handle.least c.in-Some.handle (into_iter_items c.next.new.self) to c.join.result c.earlier_of-least.result c.earlier_of-least.ensures c.join.ensures
           (subst (λ ws. Covers followed c.loop-handle.least ws to) step.0 before),
     )
 
