@@ -20,6 +20,7 @@ from timed import HERE, INPUTS
 
 PROGRAM = os.path.join(HERE, "..", "crates", "causal_tool", "out", "causal_tool")
 SHAPES = ("ring", "gossip", "star", "chain", "restarts", "pairs")
+PAIRS = ("pairs", "acquainted")  # the second for f = 2 takes time as the square of the entries, so it is made where it is asked for
 LISTED = 16  # determinants of a message at most
 SHORT = 512  # entries of a run that the plain reader judges
 
@@ -94,18 +95,28 @@ def run_pairs(run):
     return lambda: (0, 1)
 
 
+def run_acquainted(run):
+    """Pairs of which one has sent to one of the next pair before anything else. It reaches others than its partner then, so that for
+    f = 2 each delivery to it is followed to the end."""
+    for message in [run.send(p, (p + 2) % run.n) for p in range(0, run.n, 2)]:
+        run.deliver(message)
+    return run_pairs(run)
+
+
 def simulate(shape, f, entries, file):
     """Writes a run of so many entries that is safe for f, and gives what is known of it."""
     n = generate.processes_of(shape)
     restarts = min(generate.MAX_RESTARTS, entries // 341) if shape == "restarts" else 0
     lines = Lines(file)
     file.write('["trace",%d,%d]\n' % (2 if n > 64 else 1, n))
-    run = LongRun(n, 1 if shape == "pairs" else f, entries, lines, restarts)
+    run = LongRun(n, 1 if shape in PAIRS else f, entries, lines, restarts)
     rng = random.Random(f"{shape} {f} {entries}")
     if shape == "restarts":
         draw = generate.run_restarts(run, rng, restarts)
     elif shape == "pairs":
         draw = run_pairs(run)
+    elif shape == "acquainted":
+        draw = run_acquainted(run)
     else:
         draw = getattr(generate, "run_" + shape)(run, rng)
     run.finish(draw, False)

@@ -1,3 +1,4 @@
 pub mod GroupWalk
 pub mod GroupReach
 pub mod OpenPositions
+pub mod RowSlots

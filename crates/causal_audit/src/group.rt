@@ -16,6 +16,8 @@ pub mod ordered;
 pub mod own;
 /// On which of a few deliveries the processes depend, and which of them reach the sends.
 pub mod reach;
+/// The sets of the entries of a walk, of which many are empty and many alike.
+pub mod rows;
 /// What is read of a recorded run, up to an instant, to follow deliveries, and which of them are followed.
 pub mod run_to_follow;
 /// Which deliveries of a group may newly have an orphan by an entry.

@@ -133,8 +133,9 @@ impl<'a> Model for Part<'a> {
 
 impl Part<'_> {
     /// The least breach of these deliveries, by instant and then by position, if it comes by the instant up to which the run is
-    /// prepared; None where none of them has an orphan by then. It takes 32 bytes of memory for each entry of the longest walk that
-    /// follows some of them, and 32 kB, and gives them back.
+    /// prepared; None where none of them has an orphan by then. It takes 4 bytes of memory for each entry of the longest walk that
+    /// follows some of them, 32 for each that mentions a determinant of these, at most 3.7 MB for the sends, and 32 kB, and gives
+    /// them back.
     ///
     /// # Errors
     /// `NoMemory` where memory was refused.

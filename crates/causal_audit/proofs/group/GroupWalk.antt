@@ -340,7 +340,7 @@ marked_next past start opened t old new count later marked j low i d e late insi
 -- what a step is told
 pub is_step : (r : Recording) (opened : List OpenDelivery) (start : ℕ) (room : WalkBuffers) (s : Step) → IsFollowed r opened start s.t room → IsWellFormed r → s.t < length r.past → instant r.past (s.t + 1) ≡ s.entry.now ∷ instant r.past s.t
     → ((j : ℕ) (d : Det) → j < length opened → det_at r.past (position_at opened j) ≡ Some d → IsNewly (instant r.past s.t) s.entry.now (position_at opened j) j s.newly)
-    → length r.past ≤ max_entries → HasRow start room.reach.rows.items s.t → IsTold s.entry.now (row_of start room.reach.rows.items s.t) s.mentioned → entry_at r.past s.t ≡ Some s.entry.now
+    → length r.past ≤ max_entries → HasRow start room.reach.rows s.t → IsTold s.entry.now (row_of start room.reach.rows s.t) s.mentioned → entry_at r.past s.t ≡ Some s.entry.now
     → ((j : ℕ) → j < length opened → IsDeliveryAt r.past (position_at opened j)) → IsStep r opened s
 is_step r opened start room s followed formed below next newly short inside told there made = record {
   formed = formed;
@@ -349,7 +349,7 @@ is_step r opened start room s followed formed below next newly short inside told
   next = next;
   made = made;
   newly = newly;
-  mentioned = λ j d low at. mentions_here s.entry.now j (row_of start room.reach.rows.items s.t) s.mentioned d told (let here : start + (s.t - start) ≡ s.t = omega (arith, inside.0) in followed.marked j low (s.t - start) d s.entry.now (omega (arith, here)) (omega (arith, inside.0, inside.1)) at (ap (entry_at r.past) here ∙ there));
+  mentioned = λ j d low at. mentions_here s.entry.now j (row_of start room.reach.rows s.t) s.mentioned d told (let here : start + (s.t - start) ≡ s.t = omega (arith, inside.0) in followed.marked j low (s.t - start) d s.entry.now (omega (arith, here)) (omega (arith, inside.0, inside.1)) at (ap (entry_at r.past) here ∙ there));
 }
 
 -- where none is the least there is none

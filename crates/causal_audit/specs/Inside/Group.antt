@@ -1,2 +1,3 @@
 pub mod OpenDeliveries
+pub mod Rows
 pub mod Walk

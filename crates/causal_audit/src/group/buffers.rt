@@ -58,7 +58,7 @@ pub fn places_of(opened: &[OpenDelivery]) -> Places
 
 impl RunToFollow<'_> {
     /// Makes a room ready for a walk from `start` up to `end`, before which nothing touches a delivery of the group. It takes time as
-    /// the mentions of the determinants, and as the entries of the walk, and memory as these.
+    /// the mentions of the determinants, and as the entries of the walk. It takes memory for the rows of these.
     ///
     /// # Errors
     /// `NoMemory` where memory was refused.
@@ -77,8 +77,8 @@ impl RunToFollow<'_> {
         ensures rows { OnOk result (HasRowsFor start end room.new) }
         ensures begun { OnOk result (IsFollowed self.now.run opened.now start start room.new) }
     {
-        room.reach.begin(start, end)?;
-        self.mark_all(&mut room.reach.rows, start, opened);
+        room.reach.begin(start, end, self.count_mentions(opened))?;
+        self.mark_all(&mut room.reach.rows, start, opened)?;
         clear(&mut room.held);
         forget_all(&mut room.copies);
         room.down = self.outline.turns.from(start).down();

@@ -4,7 +4,7 @@ ghost use Rattle.std.specs.FinSet as set;
 ghost use Rattle.causal_audit.specs.Inside.Group.Walk.{IsHeldBy, KeepsHeld, row};
 
 use crate::group::Places;
-use crate::group::reach::set_at;
+use crate::group::rows::set_at;
 use causal_trace::entry::Entry;
 
 /// The places whose determinants the receiver of a delivery is known to hold; none for any other entry.

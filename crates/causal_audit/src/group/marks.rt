@@ -1,5 +1,5 @@
 //! Which entries of a walk mention the determinants of the deliveries of a group.
-ghost use Rattle.std.specs.Prelude.{◌≡◌, ◌≤◌, ◌<◌, ◌+◌, ◌↔◌, ℕ, true, length};
+ghost use Rattle.std.specs.Prelude.{◌≡◌, ◌≤◌, ◌<◌, ◌+◌, ◌↔◌, ℕ, true, OnOk, length};
 ghost use Rattle.std.specs.FinSet as set;
 ghost use Rattle.std.specs.List.{All};
 ghost use Rattle.std.specs.List.Sorted.{IsNonDecreasing};
@@ -8,17 +8,20 @@ ghost use Rattle.causal_audit.specs.Inside.Group.Walk.{AreBelow, AreMarked, Have
 
 use crate::group::Places;
 use crate::group::reach::put;
+use crate::group::rows::Rows;
 use crate::group::run_to_follow::{OpenDelivery, RunToFollow};
+use causal_name::NoMemory;
 use causal_trace::entry::Entry;
 
 /// Puts a place into the rows of the entries at these positions.
-fn mark(rows: &mut Vec<Places>, start: u32, place: u8, positions: &[u32])
-    ensures count { length rows.new.items ≡ length rows.old.items }
-    ensures marked { HaveMarked start place positions.now rows.old.items rows.new.items }
+fn mark(rows: &mut Rows, start: u32, place: u8, positions: &[u32]) -> Result<(), NoMemory>
+    ensures count { OnOk result (length rows.new ≡ length rows.old) }
+    ensures marked { OnOk result (HaveMarked start place positions.now rows.old rows.new) }
 {
     for position in positions {
-        put(rows, start, place, *position);
+        put(rows, start, place, *position)?;
     }
+    Ok(())
 }
 
 /// The places whose determinants an entry mentions, by its row; none for a send.
@@ -70,36 +73,62 @@ impl RunToFollow<'_> {
         first
     }
 
-    /// Puts a place into the rows of the entries that mention the determinant of its delivery.
-    fn mark_delivery(&self, rows: &mut Vec<Places>, start: u32, place: u8, delivery: OpenDelivery)
-        requires within { start + length rows.old.items ≤ self.now.end }
-        requires fresh { AreBelow place rows.old.items }
-        ensures count { length rows.new.items ≡ length rows.old.items }
-        ensures others { (i j : ℕ) → i < length rows.old.items → (j ≡ place → ⊥) →
-            (set.contains (row rows.new.items i) j ≡ true) ↔ (set.contains (row rows.old.items i) j ≡ true) }
-        ensures marked { IsMarked self.now.run.past start start place delivery rows.new.items }
-    {
-        if let Some(det) = self.outline.trace.det_at(delivery.position) {
-            mark(
-                rows,
-                start,
-                place,
-                self.mentions.list(self.outline.trace, det),
-            );
+    /// How often the determinants of these deliveries are mentioned, one that they share each time; the greatest number where that is more.
+    pub fn count_mentions(&self, opened: &[OpenDelivery]) -> usize {
+        let mut count: usize = 0;
+        for delivery in opened {
+            if let Some(det) = self.outline.trace.det_at(delivery.position) {
+                let positions = self.mentions.list(self.outline.trace, det);
+                count = count.saturating_add(positions.len());
+            }
         }
+        count
+    }
+
+    /// Puts a place into the rows of the entries that mention the determinant of its delivery.
+    fn mark_delivery(
+        &self,
+        rows: &mut Rows,
+        start: u32,
+        place: u8,
+        delivery: OpenDelivery,
+    ) -> Result<(), NoMemory>
+        requires within { start + length rows.old ≤ self.now.end }
+        requires fresh { AreBelow place rows.old }
+        ensures count { OnOk result (length rows.new ≡ length rows.old) }
+        ensures others { OnOk result ((i j : ℕ) → i < length rows.old → (j ≡ place → ⊥) →
+            (set.contains (row rows.new i) j ≡ true) ↔ (set.contains (row rows.old i) j ≡ true)) }
+        ensures marked { OnOk result (IsMarked
+            self.now.run.past start start place delivery rows.new) }
+    {
+        let Some(det) = self.outline.trace.det_at(delivery.position) else {
+            return Ok(());
+        };
+        let positions = self.mentions.list(self.outline.trace, det);
+        mark(rows, start, place, positions)?;
+        Ok(())
     }
 
     /// Puts the place of each delivery of a group into the rows of the entries that mention its determinant.
-    pub fn mark_all(&self, rows: &mut Vec<Places>, start: u32, opened: &[OpenDelivery])
+    ///
+    /// # Errors
+    /// `NoMemory` where memory was refused.
+    pub fn mark_all(
+        &self,
+        rows: &mut Rows,
+        start: u32,
+        opened: &[OpenDelivery],
+    ) -> Result<(), NoMemory>
         requires few { length opened.now ≤ 256 }
-        requires within { start + length rows.old.items ≤ self.now.end }
-        requires none { AreBelow 0 rows.old.items }
-        ensures count { length rows.new.items ≡ length rows.old.items }
-        ensures marked { AreMarked
-            self.now.run.past start start opened.now (length opened.now) rows.new.items }
+        requires within { start + length rows.old ≤ self.now.end }
+        requires none { AreBelow 0 rows.old }
+        ensures count { OnOk result (length rows.new ≡ length rows.old) }
+        ensures marked { OnOk result (AreMarked
+            self.now.run.past start start opened.now (length opened.now) rows.new) }
     {
         for (place, delivery) in opened.iter().enumerate() {
-            self.mark_delivery(rows, start, place as u8, *delivery);
+            self.mark_delivery(rows, start, place as u8, *delivery)?;
         }
+        Ok(())
     }
 }

@@ -4,6 +4,7 @@ ghost use Rattle.std.specs.FinSet as set;
 ghost use Rattle.causal_audit.specs.Inside.Group.Walk.{HasRowOf, HasRows, IsPut, SeesReach, TellsReached, row};
 
 use crate::group::Places;
+use crate::group::rows::{Rows, set_at};
 use causal_holders::PROCESSES;
 use causal_name::NoMemory;
 use causal_trace::entry::Entry;
@@ -15,32 +16,27 @@ use std::alloc::Global;
 #[derive(Drop)]
 pub struct ReachingDeliveries {
     pub start: u32,
-    pub rows: Vec<Places>,
+    pub rows: Rows,
     pub present: Vec<Places>,
 }
 
-/// The set at a row; the empty one where there is none.
-pub fn set_at(rows: &[Places], i: usize) -> Places
-    ensures { result ≡ row rows.now i }
-{
-    match rows.get(i) {
-        Some(set) => *set,
-        None => Places::none(),
-    }
-}
-
 /// Puts a place into the row of the entry at a position of a walk from `start` on, where it has one.
-pub fn put(rows: &mut Vec<Places>, start: u32, place: u8, position: u32)
-    ensures count { length rows.new.items ≡ length rows.old.items }
-    ensures put { IsPut start place position rows.old.items rows.new.items }
+///
+/// # Errors
+/// `NoMemory` where memory was refused.
+pub fn put(rows: &mut Rows, start: u32, place: u8, position: u32) -> Result<(), NoMemory>
+    ensures count { OnOk result (length rows.new ≡ length rows.old) }
+    ensures put { OnOk result (IsPut start place position rows.old rows.new) }
 {
     if position < start {
-        return;
+        return Ok(());
     }
     let i = (position - start) as usize;
-    if i < rows.len() {
-        rows[i].insert(place);
+    if i >= rows.len() {
+        return Ok(());
     }
+    rows.put(i, place)?;
+    Ok(())
 }
 
 /// Empties each of these rows.
@@ -62,28 +58,25 @@ impl ReachingDeliveries {
     {
         Ok(ReachingDeliveries {
             start: 0,
-            rows: Vec::new(alloc),
+            rows: Rows::new(alloc),
             present: vec![in alloc; Places::none(); PROCESSES as usize]?,
         })
     }
 
-    /// Where no entry was read of a walk from `start` up to `end`, and no process depends on any delivery. All rows are empty. It takes
-    /// 32 bytes for each entry of the longest walk so far.
+    /// Where no entry was read of a walk from `start` up to `end`, and no process depends on any delivery. All rows are empty. There is
+    /// room for places of so many entries.
     ///
     /// # Errors
     /// `NoMemory` where memory was refused.
-    pub fn begin(&mut self, start: u32, end: u32) -> Result<(), NoMemory>
+    pub fn begin(&mut self, start: u32, end: u32, marked: usize) -> Result<(), NoMemory>
         requires ordered { start ≤ end }
         requires present { length self.old.present.items ≡ 256 }
         ensures present { length self.new.present.items ≡ 256 }
         ensures rows { OnOk result (HasRows start end self.new) }
-        ensures empty { OnOk result ((i : ℕ) → row self.new.rows.items i ≡ set.empty) }
+        ensures empty { OnOk result ((i : ℕ) → row self.new.rows i ≡ set.empty) }
         ensures none { OnOk result ((p : ℕ) → row self.new.present.items p ≡ set.empty) }
     {
-        let many = (end - start) as usize;
-        self.rows.clear();
-        self.rows.reserve_exact(many)?;
-        self.rows.resize(many, Places::none())?;
+        self.rows.begin(end - start, marked)?;
         clear(&mut self.present);
         self.start = start;
         Ok(())
@@ -96,40 +89,45 @@ impl ReachingDeliveries {
         if position < self.start {
             return Places::none();
         }
-        set_at(&self.rows, (position - self.start) as usize)
+        self.rows.get((position - self.start) as usize)
     }
 
     /// Takes in the entry at position t, which is that of the deliveries of these places, and tells which of the deliveries newly
     /// reach its process.
-    pub fn see(&mut self, entry: &Entry, t: u32, own: Places) -> Places
+    ///
+    /// # Errors
+    /// `NoMemory` where memory was refused.
+    pub fn see(&mut self, entry: &Entry, t: u32, own: Places) -> Result<Places, NoMemory>
         requires row { HasRowOf t self.old }
-        ensures rows { (start end : ℕ) → HasRows start end self.old → HasRows start end self.new }
-        ensures later { (i : ℕ) → t < self.old.start + i →
-            row self.new.rows.items i ≡ row self.old.rows.items i }
-        ensures sees { SeesReach entry.now t own self.old self.new result }
+        ensures rows { OnOk result ((start end : ℕ) →
+            HasRows start end self.old → HasRows start end self.new) }
+        ensures later { OnOk result ((i : ℕ) → t < self.old.start + i →
+            row self.new.rows i ≡ row self.old.rows i) }
+        ensures sees { IfOk result (SeesReach entry.now t own self.old self.new) }
     {
         match entry {
             Entry::Send { from, .. } => {
-                self.rows[(t - self.start) as usize] = set_at(&self.present, usize::from(from.0));
-                Places::none()
+                let places = set_at(&self.present, usize::from(from.0));
+                self.rows.store((t - self.start) as usize, from.0, places)?;
+                Ok(Places::none())
             }
             Entry::Deliver { to, send, .. } => {
                 let before = set_at(&self.present, usize::from(to.0));
                 let brought = self.reaching(*send);
                 let reached = own.union(before.union(brought));
                 self.present[usize::from(to.0)] = reached;
-                reached.minus(before)
+                Ok(reached.minus(before))
             }
             Entry::Crash { who } => {
                 self.present[usize::from(who.0)] = Places::none();
-                Places::none()
+                Ok(Places::none())
             }
             Entry::Restart { who, .. } => {
                 self.present[usize::from(who.0)] = Places::none();
-                Places::none()
+                Ok(Places::none())
             }
-            Entry::Stable { .. } => Places::none(),
-            Entry::Forget { .. } => Places::none(),
+            Entry::Stable { .. } => Ok(Places::none()),
+            Entry::Forget { .. } => Ok(Places::none()),
         }
     }
 }

@@ -4,7 +4,7 @@ ghost use Rattle.std.specs.FinSet as set;
 ghost use Rattle.causal_audit.specs.Inside.Group.Walk.{IsLacked, IsSuspected};
 
 use crate::group::Places;
-use crate::group::reach::set_at;
+use crate::group::rows::set_at;
 use causal_trace::entry::Entry;
 
 /// An entry of a walk, at position t: which of the deliveries newly reach its process, and of which it mentions the

@@ -1,6 +1,7 @@
 -- What is known of the deliveries of a group, by their places, in one walk over the entries.
 use Rattle.std.specs.Prelude.{◌≡◌, ℕ, ◌+◌, ◌-◌, ◌<◌, ◌≤◌, ◌↔◌, ◌⊎◌, Bool, true, false, List, ◌∷◌, length, Option, Some, None, slice_index_or, Contains}
 use Rattle.causal_audit.specs.Inside.Common.{nat_cmp, FinSet, contains, empty, Det, Entry, det_at, has, logs, is_stable, is_down, instant, entry_at, message_sent, Pid, Send, AreAccepted, Recording, IsWellFormed, actor, Reaches, Depends, Deliver, Restart, Forget, max_entries}
+pub use Rattle.causal_audit.specs.Inside.Group.Rows.{row}
 use Rattle.causal_audit.specs.declared.group.reach.ReachingDeliveries.{ReachingDeliveries}
 use Rattle.causal_audit.specs.declared.group.run_to_follow.OpenDelivery.{OpenDelivery}
 use Rattle.causal_audit.specs.Quiet.{mentioned_by}
@@ -12,10 +13,6 @@ use Rattle.causal_audit.specs.declared.breach.Breach.{Breach}
 use Rattle.causal_audit.specs.declared.group.buffers.WalkBuffers.{WalkBuffers}
 use Rattle.causal_audit.specs.declared.group.suspects.Step.{Step}
 use Rattle.causal_audit.specs.declared.group.copies.Copies.{Copies}
-
--- the set at a row, empty where there is none
-abbrev pub row : List (FinSet nat_cmp) → ℕ → FinSet nat_cmp
-row rows i = slice_index_or rows i empty
 
 -- in a walk from `start` on, the row of the entry at position v
 abbrev pub row_of : ℕ → List (FinSet nat_cmp) → ℕ → FinSet nat_cmp
@@ -42,7 +39,7 @@ pub record TellRows (past : List Entry) (start k j : ℕ) (rows present : List (
   pub depends : (p : ℕ) → (contains (row present p) j ≡ true) ↔ Depends past k p
 
 abbrev pub IsReach : List Entry → ℕ → ℕ → ReachingDeliveries → Type 0
-IsReach past k j reach = TellRows past reach.start k j reach.rows.items reach.present.items
+IsReach past k j reach = TellRows past reach.start k j reach.rows reach.present.items
 
 -- in the row of the entry at a position, if there is one, the place is in now
 abbrev pub IsPut : ℕ → ℕ → ℕ → List (FinSet nat_cmp) → List (FinSet nat_cmp) → Type 0
@@ -62,12 +59,12 @@ pub record ArePassed (opened : List OpenDelivery) (t passed : ℕ) : Type 0 wher
 -- a walk begins at the first of these entries, and there is a row for each of its entries, and for each process
 pub record HasRows (first end : ℕ) (reach : ReachingDeliveries) : Type 0 where
   pub start : reach.start ≡ first
-  pub rows : first + length reach.rows.items ≡ end
+  pub rows : first + length reach.rows ≡ end
   pub present : length reach.present.items ≡ 256
 
 -- there is a row for the entry at t, and for each process
 pub record HasRowOf (t : ℕ) (reach : ReachingDeliveries) : Type 0 where
-  pub row : HasRow reach.start reach.rows.items t
+  pub row : HasRow reach.start reach.rows t
   pub present : length reach.present.items ≡ 256
 
 -- of the send at v the set tells which of the deliveries reach it
@@ -226,7 +223,7 @@ pub record IsFollowed (r : Recording) (opened : List OpenDelivery) (start t : �
   pub start_is : room.reach.start ≡ start
   pub told : (j : ℕ) (d : Det) → j < length opened → det_at r.past (position_at opened j) ≡ Some d
       → IsReach (instant r.past t) (position_at opened j) j room.reach
-  pub marked : AreMarked r.past start t opened (length opened) room.reach.rows.items
+  pub marked : AreMarked r.past start t opened (length opened) room.reach.rows
   pub copied : AreCopied r opened t room.copies.items
   pub held : AreHeld r opened t room.held.items
   pub down : Shows room.down (λ p. is_down (instant r.past t) p)

@@ -5,6 +5,6 @@ use Rattle.causal_audit.proofs.group.marks.mark.Given as goal
 -- the positions so far
 abbrev pub invariant-loop-position : goal.invariant-loop-position
 invariant-loop-position l = record {
-  count : length l.rows.items ≡ length l.fn.rows.items;
-  marked : HaveMarked l.start l.place (take l.position-index l.positions) l.fn.rows.items l.rows.items;
+  count : length l.rows ≡ length l.fn.rows;
+  marked : HaveMarked l.start l.place (take l.position-index l.positions) l.fn.rows l.rows;
 }

@@ -1,4 +1,4 @@
-use Rattle.causal_audit.proofs.Common.{ℕ, ◌≡◌, empty, get_or_default, ◌∙◌, ◌+◌, ◌-◌, ◌<◌, length, sym, subst, arith, instant, is_down, HasOrphan}
+use Rattle.causal_audit.proofs.Common.{ℕ, ◌≡◌, ◌∙◌, ◌+◌, ◌<◌, length, sym, subst, arith, instant, is_down, HasOrphan}
 use Rattle.causal_audit.specs.Inside.Among.{LeastAmongBy}
 use Rattle.causal_audit.specs.Inside.Group.OpenDeliveries.{positions_of}
 use Rattle.causal_audit.specs.Inside.Group.Walk.{HasRow, IsFollowed, IsHeldBy, IsHeldSo, IsTold, row}
@@ -13,7 +13,7 @@ pub judge-requires-clause-opened : goal.judge-requires-clause-opened
 judge-requires-clause-opened c k delivery low u from within = c.requires.opened k delivery low u from (omega (arith, within, c.loop-t-test.true))
 
 pub judge-requires-clause-present : goal.judge-requires-clause-present
-judge-requires-clause-present c = (c.see-newly.ensures.rows c.args.start c.args.end c.loop-t.invariant.rows.reach).present
+judge-requires-clause-present c = (c.in_ok-newly.ensures.rows c.args.start c.args.end c.loop-t.invariant.rows.reach).present
 
 pub judge-requires-clause-step : goal.judge-requires-clause-step
 judge-requires-clause-step c =
@@ -24,12 +24,12 @@ judge-requires-clause-step c =
     let formed = c.entries-entries.ensures.formed in
     let below : t < length r.past = omega (arith, c.loop-t-test.true, c.requires.within) in
     let next = next_state r c.entries-entries.result.now c.entries-entries.ensures.value t x below c.index-entries-t.is in
-    let here : HasRow c.args.start c.loop-t.room.reach.rows.items t = (i.from, omega (arith, i.rows.reach.rows, c.loop-t-test.true)) in
+    let here : HasRow c.args.start c.loop-t.room.reach.rows t = (i.from, omega (arith, i.rows.reach.rows, c.loop-t-test.true)) in
     is_step r c.args.opened.now c.args.start c.loop-t.room _ i.followed formed below next
-    (λ j d low at. (sees_each r c.args.opened.now c.args.start c.loop-t.room t x c.own_at-own.result c.see-newly.result i.followed formed below next c.see-newly.new.self c.own_at-own.ensures.own
-    c.see-newly.ensures.sees j d low at).1)
+    (λ j d low at. (sees_each r c.args.opened.now c.args.start c.loop-t.room t x c.own_at-own.result c.in_ok-newly.newly i.followed formed below next c.see.new.self c.own_at-own.ensures.own
+    c.in_ok-newly.ensures.sees j d low at).1)
     c.entries-entries.ensures.few here
-    (subst (λ places. IsTold x places c.mentioned_in-mentioned.result) (c.index.ensures ∙ get_or_default c.loop-t.room.reach.rows.items (t - c.args.start) c.index.result.now empty (omega (arith, here.0, here.1))) c.mentioned_in-mentioned.ensures)
+    (subst (λ places. IsTold x places c.mentioned_in-mentioned.result) c.get.ensures c.mentioned_in-mentioned.ensures)
     (entry_read r c.entries-entries.result.now c.entries-entries.ensures.value t x below c.index-entries-t.is) (λ j low. c.requires.deliveries j zero low)
 
 pub judge-requires-clause-followed : goal.judge-requires-clause-followed
@@ -40,16 +40,16 @@ judge-requires-clause-followed c =
     let i = c.loop-t.invariant in
     let x = c.index-entries-t.result in
     let step = judge-requires-clause-step c in
-    let rows = c.see-newly.ensures.rows c.args.start c.args.end c.loop-t.invariant.rows.reach in
+    let rows = c.in_ok-newly.ensures.rows c.args.start c.args.end c.loop-t.invariant.rows.reach in
     let by = subst (λ rows. IsHeldBy x rows c.held_by-held.result) c.deref.ensures.value c.held_by-held.ensures in
-    let room : WalkBuffers = record { reach = c.see-newly.new.self; held = c.hold.new.held; copies = c.renew.new.copies; down = c.down_after-room.result } in
+    let room : WalkBuffers = record { reach = c.see.new.self; held = c.hold.new.held; copies = c.renew.new.copies; down = c.down_after-room.result } in
     subst (λ start. IsFollowed r opened start (t + 1) room) (sym rows.start) (record {
       start_is = rows.start;
       told =
-          told_after r opened c.args.start c.loop-t.room t x c.own_at-own.result c.see-newly.result i.followed c.entries-entries.ensures.formed step.below step.next c.see-newly.new.self
-          c.own_at-own.ensures.own c.see-newly.ensures.sees;
-      marked = marked_next r.past c.args.start opened t c.loop-t.room.reach.rows.items c.see-newly.new.self.rows.items (omega (arith, rows.rows, i.rows.reach.rows))
-          (subst (λ start. (i : ℕ) → t < start + i → row c.see-newly.new.self.rows.items i ≡ row c.loop-t.room.reach.rows.items i) i.rows.reach.start c.see-newly.ensures.later) i.followed.marked;
+          told_after r opened c.args.start c.loop-t.room t x c.own_at-own.result c.in_ok-newly.newly i.followed c.entries-entries.ensures.formed step.below step.next c.see.new.self
+          c.own_at-own.ensures.own c.in_ok-newly.ensures.sees;
+      marked = marked_next r.past c.args.start opened t c.loop-t.room.reach.rows c.see.new.self.rows (omega (arith, rows.rows, i.rows.reach.rows))
+          (subst (λ start. (i : ℕ) → t < start + i → row c.see.new.self.rows i ≡ row c.loop-t.room.reach.rows i) i.rows.reach.start c.in_ok-newly.ensures.later) i.followed.marked;
       copied =
           copied_next r opened _ step c.places_of-all.result c.held_by-held.result c.touched-places.result c.loop-t.room.copies.items c.renew.new.copies.items c.places_of-all.ensures
           (λ j d low at h. held_then x (instant r.past t) c.loop-t.room.held.items c.held_by-held.result j d by (i.followed.held j d low at) h)
@@ -64,8 +64,8 @@ loop-t-preserved c =
     let opened = c.args.opened.now in
     let t = c.loop-t.t in
     let i = c.loop-t.invariant in
-    let rows = c.see-newly.ensures.rows c.args.start c.args.end c.loop-t.invariant.rows.reach in
-    let room : WalkBuffers = record { reach = c.see-newly.new.self; held = c.hold.new.held; copies = c.renew.new.copies; down = c.down_after-room.result } in
+    let rows = c.in_ok-newly.ensures.rows c.args.start c.args.end c.loop-t.invariant.rows.reach in
+    let room : WalkBuffers = record { reach = c.see.new.self; held = c.hold.new.held; copies = c.renew.new.copies; down = c.down_after-room.result } in
     record {
       from = omega (arith, i.from);
       rows = record { reach = rows; copies = c.renew.ensures.count ∙ i.rows.copies };
@@ -82,4 +82,4 @@ returns-clause-found c k t listed within has =
     c.loop-t.invariant.none at.0 at.1 t (omega (arith, within, c.loop-t-test.false)) (subst (HasOrphan r.processes c.args.f (instant r.past t)) (sym at.2) has)
 
 pub returns-in-Some-clause-room : goal.returns-in-Some-clause-room
-returns-in-Some-clause-room c = record { present = (c.see-newly.ensures.rows c.args.start c.args.end c.loop-t.invariant.rows.reach).present; copies = c.renew.ensures.count ∙ c.loop-t.invariant.rows.copies }
+returns-in-Some-clause-room c = record { present = (c.in_ok-newly.ensures.rows c.args.start c.args.end c.loop-t.invariant.rows.reach).present; copies = c.renew.ensures.count ∙ c.loop-t.invariant.rows.copies }

@@ -8,4 +8,4 @@ returns-then-position-self c =
     subst (TellsReached c.args.self.now c.args.position) (sym c.none.ensures) (told_before c.args.self.now c.args.position (omega (arith, c.if-position-self.true)))
 
 pub returns : goal.returns
-returns c = rw (c.set_at.ensures, c.deref.ensures.value) (λ n past k j from to ssn formed is at. is.behind c.args.position from to ssn (omega (arith, c.if-position-self.false)) at)
+returns c = rw c.get.ensures (λ n past k j from to ssn formed is at. is.behind c.args.position from to ssn (omega (arith, c.if-position-self.false)) at)

@@ -3,10 +3,10 @@ use Rattle.causal_audit.proofs.group.GroupReach.{seen, sent, stored, forgotten, 
 use Rattle.causal_audit.proofs.Shown.{deliver_inside}
 use Rattle.causal_audit.proofs.group.reach.ReachingDeliveries.see.Goals as goal
 
-pub returns-in-Send-clause-sees : goal.returns-in-Send-clause-sees
-returns-in-Send-clause-sees c =
+pub returns-in_ok-store-in-Send-clause-sees : goal.returns-in_ok-store-in-Send-clause-sees
+returns-in_ok-store-in-Send-clause-sees c =
     seen c.args.entry.now _ c.args.t _ _ _ _ _ c.args.own c.none.result c.in-Send.is (λ n past k j d few formed long at is_own told.
-    rw (c.none.ensures, c.set_at.ensures, c.deref.ensures.value, c.from.ensures)
+    rw (c.none.ensures, c.in_ok-store-in-Send.ensures, c.set_at-places.ensures, c.deref.ensures.value, c.from.ensures)
     (sent n past _ k j _ _ told d _ _ _ c.args.t formed long c.requires.row.row (λ is. at (is ∙ long))))
 
 pub returns-in-Deliver-clause-sees : goal.returns-in-Deliver-clause-sees

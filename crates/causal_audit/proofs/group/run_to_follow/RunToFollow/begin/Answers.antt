@@ -22,7 +22,7 @@ returns-clause-begun c =
     let walk = passed_down run.past turns start c.from.result c.self.inside.outline.turned c.from.ensures in
     let inside : c.args.end ≤ c.self.inside.end = subst (λ (s : RunUpTo). c.args.end ≤ s.end) (sym c.self.view_is) c.requires.within in
     let within : start ≤ length run.past = omega (arith, c.requires.ordered, inside, c.self.invariant.within) in
-    let rows = c.mark_all.new.rows.items in
+    let rows = c.mark_all.new.rows in
     let early : start ≤ length r.past = subst (λ (s : RunUpTo). start ≤ length s.run.past) c.self.view_is within in
     let shown : Shows c.down-room.result (λ p. is_down (instant r.past start) p) =
     subst (λ (s : RunUpTo). Shows c.down-room.result (λ p. is_down (instant s.run.past start) p)) c.self.view_is (c.down-room.ensures run.past start within walk.0 walk.1) in
@@ -31,7 +31,7 @@ returns-clause-begun c =
       told = λ j d low at.
           subst (λ s. TellRows (instant r.past start) s (position_at opened j) j rows c.begin.new.self.present.items) (sym c.in_ok-begin.ensures.rows.start)
           (begun (instant r.past start) start (position_at opened j) j rows c.begin.new.self.present.items (instant_length r.past start early) (c.requires.from j zero low).made c.in_ok-begin.ensures.none);
-      marked = c.mark_all.ensures.marked;
+      marked = c.in_ok-mark_all.ensures.marked;
       copied = λ j d low at.
           let untouched = c.requires.from j zero low in
           let none = unheard_before r.past (position_at opened j) d start (untouched.unmentioned d at) untouched.made early in

@@ -47,11 +47,11 @@ returns-clause-found c =
     let group = c.by_position-group.result.now in
     let last = c.last_of-last.result in
     let moved : IsPermutation (positions_of opened) (positions_of group) = IsPermutation-map position opened group c.by_position-group.ensures.same in
-    among_wider r c.args.f c.args.end (positions_of group) (positions_of opened) c.follow.result (λ k. Contains-permutation (positions_of group) (positions_of opened) k (IsPermutation-sym (positions_of opened) (positions_of group) moved))
+    among_wider r c.args.f c.args.end (positions_of group) (positions_of opened) c.in_ok-found.found (λ k. Contains-permutation (positions_of group) (positions_of opened) k (IsPermutation-sym (positions_of opened) (positions_of group) moved))
     (λ k listed. inl (Contains-permutation (positions_of opened) (positions_of group) k moved listed))
-    (among_later r c.args.f last c.args.end (positions_of group) c.follow.result c.last_of-last.ensures.bound
+    (among_later r c.args.f last c.args.end (positions_of group) c.in_ok-found.found c.last_of-last.ensures.bound
     (λ k u listed late low has.
     let at = place_of group k listed in
     let bound = c.last_of-last.ensures.last at.0 zero at.1 in
     All-permutation (IsOpenDelivery r c.args.f c.args.end) opened group c.by_position-group.ensures.same c.requires.opened at.0 zero at.1 u (omega (arith, bound, late, low)) low (subst (HasOrphan r.processes c.args.f (instant r.past u)) (sym at.2) has))
-    (subst (λ (s : RunUpTo). LeastAmongBy s.run c.args.f last (positions_of group) c.follow.result) c.self.view_is c.follow.ensures.found))
+    (subst (λ (s : RunUpTo). LeastAmongBy s.run c.args.f last (positions_of group) c.in_ok-found.found) c.self.view_is c.in_ok-found.ensures.found))

@@ -1,0 +1,158 @@
+-- The sets of the entries of a walk, by slots.
+use Rattle.causal_audit.proofs.Common.{ℕ, ◌≡◌, ◌≢◌, ◌+◌, ◌<◌, ◌≤◌, ◌⊎◌, inl, inr, Bool, true, false, List, [], ◌∷◌, ◌++◌, length, refl, sym, ap, subst, ◌∙◌, arith, All, All-set, set, get_or, nat_cmp, FinSet, empty, false≢true, eqb_tells, get_or_default, insert, get_or-map, get_or-set_same, get_or-set_other, get_or_append_left, get_or-append_seam, get_or-eq_default, length-map, length-set, length-append, map-set, cases_lt}
+use Rattle.std.proofs.lemmas.List.{ext_get_or}
+use Rattle.causal_audit.specs.Inside.Group.Rows.{AreFirst, AreSlots, IsAdded, IsAt, IsSlotOf, row, sets_of}
+
+abbrev Sets : Type 0
+Sets = List (FinSet nat_cmp)
+
+-- ---- what is read
+
+-- an entry has the set of its slot
+pub read_slot : (slots : List ℕ) (sets : Sets) (i : ℕ) → i < length slots → row (sets_of slots sets) i ≡ row sets (get_or slots i 0)
+read_slot slots sets i low = get_or-map (row sets) slots i 0 empty low
+
+-- there is none beyond the last
+pub read_past : (slots : List ℕ) (sets : Sets) (i : ℕ) → length slots ≤ i → row (sets_of slots sets) i ≡ empty
+read_past slots sets i past = get_or-eq_default (sets_of slots sets) empty (omega (arith, past, length-map slots (row sets)))
+
+-- where the sets are kept, each entry has what it had
+kept_sets : (slots : List ℕ) (old new : Sets) → All (λ slot. slot < length old) slots → ((s : ℕ) → s < length old → row new s ≡ row old s) → sets_of slots new ≡ sets_of slots old
+kept_sets slots old new within kept =
+    ext_get_or empty (sets_of slots new) (sets_of slots old) (length-map slots (row new) ∙ sym (length-map slots (row old))) (λ i low.
+    let inside : i < length slots = omega (arith, low, length-map slots (row new)) in
+    read_slot slots new i inside ∙ kept (get_or slots i 0) (within i 0 inside) ∙ sym (read_slot slots old i inside))
+
+-- ---- the slot of a set
+
+-- one that has the set already
+pub slot_found : (sets : Sets) (places : FinSet nat_cmp) (slot : ℕ) → IsAt sets slot places → IsSlotOf sets sets places slot
+slot_found sets places slot is = record { found = is; longer = omega arith; kept = λ s low. refl }
+
+-- one for a set that is added
+pub slot_added : (old : Sets) (places : FinSet nat_cmp) → IsAdded old (old ++ places ∷ []) places (length old)
+slot_added old places =
+    let more : length (old ++ places ∷ []) ≡ length old + 1 = length-append old (places ∷ []) in
+    record {
+      slot_of = record {
+        found = record { inside = omega (arith, more); there = get_or-append_seam old places [] empty };
+        longer = omega (arith, more);
+        kept = λ s low. get_or_append_left old (places ∷ []) empty s low;
+      };
+      fresh = refl;
+    }
+
+-- ---- an entry gets a slot
+
+-- it has the set of that, and the others have what they had
+pub stored : (slots : List ℕ) (old new : Sets) (places : FinSet nat_cmp) (i slot : ℕ) → All (λ s. s < length old) slots → IsSlotOf old new places slot → sets_of (set slots i slot) new ≡ set (sets_of slots old) i places
+stored slots old new places i slot within is =
+    map-set (row new) slots i slot ∙ ap (λ s. set (sets_of slots new) i s) is.found.there ∙ ap (λ list. set list i places) (kept_sets slots old new within is.kept)
+
+-- each is the slot of a set
+within_still : (slots : List ℕ) (old new : Sets) (places : FinSet nat_cmp) (i slot : ℕ) → All (λ s. s < length old) slots → IsSlotOf old new places slot → All (λ s. s < length new) (set slots i slot)
+within_still slots old new places i slot within is = All-set (λ s. s < length new) slots i slot is.found.inside (λ j d low. omega (arith, within j d low, is.longer))
+
+-- the slot may be that of others
+pub slots_shared : (slots : List ℕ) (old new : Sets) (places : FinSet nat_cmp) (apart : Bool) (i slot : ℕ) → AreSlots slots old apart → IsSlotOf old new places slot → AreSlots (set slots i slot) new false
+slots_shared slots old new places apart i slot are is = record {
+  within = within_still slots old new places i slot are.within is;
+  alone = λ never. absurd (false≢true never);
+}
+
+-- or it is a new one
+pub slots_added : (slots : List ℕ) (old new : Sets) (places : FinSet nat_cmp) (apart : Bool) (i slot : ℕ) → i < length slots → AreSlots slots old apart → IsAdded old new places slot → AreSlots (set slots i slot) new apart
+slots_added slots old new places apart i slot inside are is = record {
+  within = within_still slots old new places i slot are.within is.slot_of;
+  alone = λ holds a b low_a low_b more same. elim (read a) [
+    | inl here ↦ elim (read b) [
+      | inl there ↦ here.0 ∙ sym there.0
+      | inr other ↦ absurd (omega (arith, here.1, other.1, same, is.fresh, are.within b 0 (low b low_b)))
+    ]
+    | inr other ↦ elim (read b) [
+      | inl there ↦ absurd (omega (arith, other.1, there.1, same, is.fresh, are.within a 0 (low a low_a)))
+      | inr others ↦ are.alone holds a b (low a low_a) (low b low_b) (omega (arith, more, other.1)) (sym other.1 ∙ same ∙ others.1)
+    ]
+  ];
+}
+  where
+    low : (k : ℕ) → k < length (set slots i slot) → k < length slots
+    low k h = omega (arith, h, length-set slots i slot)
+
+    read : (k : ℕ) → ((k ≡ i) × (get_or (set slots i slot) k 0 ≡ slot)) ⊎ ((k ≢ i) × (get_or (set slots i slot) k 0 ≡ get_or slots k 0))
+    read k = elim (eqb_tells k i) [
+      | inl here ↦ inl (here.1, ap (λ x. get_or (set slots i slot) x 0) here.1 ∙ get_or-set_same slots i slot 0 inside)
+      | inr other ↦ inr (other.1, get_or-set_other slots i k slot 0 other.1)
+    ]
+
+-- ---- a set changes in its slot
+
+-- where only one entry has that slot, only that has another set
+pub put_alone : (slots : List ℕ) (sets : Sets) (apart : Bool) (i slot : ℕ) (places : FinSet nat_cmp) → apart ≡ true → i < length slots → get_or slots i 0 ≡ slot → 0 < slot → AreSlots slots sets apart
+    → sets_of slots (set sets slot places) ≡ set (sets_of slots sets) i places
+put_alone slots sets apart i slot places holds inside at more are =
+    ext_get_or empty (sets_of slots (set sets slot places)) (set (sets_of slots sets) i places)
+    (length-map slots (row (set sets slot places)) ∙ sym (length-set (sets_of slots sets) i places ∙ length-map slots (row sets))) (λ k below.
+    let low : k < length slots = omega (arith, below, length-map slots (row (set sets slot places))) in
+    read_slot slots (set sets slot places) k low ∙ elim (eqb_tells k i) [
+      | inl here ↦
+          let there : slot < length sets = subst (λ s. s < length sets) at (are.within i 0 inside) in
+          ap (row (set sets slot places)) (ap (λ x. get_or slots x 0) here.1 ∙ at) ∙ get_or-set_same sets slot places empty there
+          ∙ sym (ap (row (set (sets_of slots sets) i places)) here.1 ∙ get_or-set_same (sets_of slots sets) i places empty (omega (arith, inside, length-map slots (row sets))))
+      | inr other ↦
+          get_or-set_other sets slot (get_or slots k 0) places empty (λ same. other.1 (are.alone holds k i low inside (omega (arith, same, more)) (same ∙ sym at)))
+          ∙ sym (read_slot slots sets k low) ∙ sym (get_or-set_other (sets_of slots sets) i k places empty other.1)
+    ])
+
+-- and the slots are as before
+pub slots_still : (slots : List ℕ) (sets : Sets) (apart : Bool) (slot : ℕ) (places : FinSet nat_cmp) → AreSlots slots sets apart → AreSlots slots (set sets slot places) apart
+slots_still slots sets apart slot places are = record { within = λ j d low. omega (arith, are.within j d low, length-set sets slot places); alone = are.alone }
+
+-- ---- a place is put into a set
+
+-- the slot of an entry, by what was read of it
+slot_read : (slots : List ℕ) (sets : Sets) (i s : ℕ) → i < length (sets_of slots sets) → s ≡ get_or slots i s → get_or slots i 0 ≡ s
+slot_read slots sets i s low is = sym (is ∙ get_or_default slots i s 0 (omega (arith, low, length-map slots (row sets))))
+
+-- its set
+set_read : (slots : List ℕ) (sets : Sets) (i s : ℕ) → i < length (sets_of slots sets) → s ≡ get_or slots i s → row sets s ≡ row (sets_of slots sets) i
+set_read slots sets i s low is = sym (read_slot slots sets i (omega (arith, low, length-map slots (row sets))) ∙ ap (row sets) (slot_read slots sets i s low is))
+
+-- the slot is one of a set
+pub slot_within : (slots : List ℕ) (sets : Sets) (apart : Bool) (i s : ℕ) → i < length (sets_of slots sets) → s ≡ get_or slots i s → AreSlots slots sets apart → s < length sets
+slot_within slots sets apart i s low is are =
+    let inside : i < length slots = omega (arith, low, length-map slots (row sets)) in
+    subst (λ x. x < length sets) (slot_read slots sets i s low is) (are.within i 0 inside)
+
+-- in its slot
+pub placed_alone : (slots : List ℕ) (sets : Sets) (apart : Bool) (i s place : ℕ) (places : FinSet nat_cmp) → apart ≡ true → i < length (sets_of slots sets) → s ≡ get_or slots i s → 0 < s → AreSlots slots sets apart
+    → places ≡ insert (row sets s) place → sets_of slots (set sets s places) ≡ set (sets_of slots sets) i (insert (row (sets_of slots sets) i) place)
+placed_alone slots sets apart i s place places holds low is more are has =
+    put_alone slots sets apart i s places holds (omega (arith, low, length-map slots (row sets))) (slot_read slots sets i s low is) more are
+    ∙ ap (set (sets_of slots sets) i) (has ∙ ap (λ x. insert x place) (set_read slots sets i s low is))
+
+-- in a new slot
+pub placed_fresh : (slots : List ℕ) (old new : Sets) (apart : Bool) (i s place slot : ℕ) (places : FinSet nat_cmp) → i < length (sets_of slots old) → s ≡ get_or slots i s → AreSlots slots old apart → IsSlotOf old new places slot
+    → places ≡ insert (row old s) place → sets_of (set slots i slot) new ≡ set (sets_of slots old) i (insert (row (sets_of slots old) i) place)
+placed_fresh slots old new apart i s place slot places low is are added has =
+    stored slots old new places i slot are.within added ∙ ap (set (sets_of slots old) i) (has ∙ ap (λ x. insert x place) (set_read slots old i s low is))
+
+-- ---- a new walk
+
+-- no entries
+pub slots_none : (slots : List ℕ) (sets : Sets) (apart : Bool) → slots ≡ [] → AreSlots slots sets apart
+slots_none slots sets apart none =
+    subst (λ list. AreSlots list sets apart) (sym none) (record { within = λ i d low. absurd (omega (arith, low)); alone = λ holds i j low. absurd (omega (arith, low)) })
+
+-- entries that all have the first slot
+pub slots_first : (slots : List ℕ) (sets : Sets) → AreFirst slots sets → AreSlots slots sets true
+slots_first slots sets are =
+    let one : length sets ≡ 1 = ap length are.sets_are in
+    record { within = λ i d low. omega (arith, are.slots_are i d low, one); alone = λ holds i j low below more. absurd (omega (arith, more, are.slots_are i 0 low)) }
+
+-- have no places
+pub first_empty : (slots : List ℕ) (sets : Sets) → AreFirst slots sets → (i : ℕ) → row (sets_of slots sets) i ≡ empty
+first_empty slots sets are i = elim (cases_lt i (length slots)) [
+  | inl low ↦ read_slot slots sets i low ∙ ap (row sets) (are.slots_are i 0 low) ∙ ap (λ list. row list 0) are.sets_are
+  | inr past ↦ read_past slots sets i past
+]
