@@ -1,4 +1,4 @@
 pub mod LookSteps
 pub mod CoverStays
 pub mod LookFindings
-pub mod SurveyGathers
+pub mod SurveyAsks

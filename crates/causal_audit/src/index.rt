@@ -12,6 +12,8 @@ pub mod mentions;
 pub mod packed;
 /// What tells who is down at an instant.
 pub mod outline;
+/// The positions of the deliveries.
+pub mod positions;
 /// Which processes the events of each reach.
 pub mod reached;
 /// From which position on no process is released.

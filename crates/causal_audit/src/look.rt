@@ -12,8 +12,6 @@ ghost use Rattle.causal_audit.specs.Inside.Index.Reached.{HasReached};
 
 /// Who is down and holds a determinant.
 pub mod cover;
-/// The looks at all of them.
-pub mod looks;
 /// Which deliveries have to be followed, by the looks.
 pub mod survey;
 /// How a determinant stands through a stretch of instants.

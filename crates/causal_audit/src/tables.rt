@@ -1,21 +1,18 @@
 //! What is kept of a recorded run to judge it.
 ghost use Rattle.std.specs.Prelude.{◌≡◌, ◌≤◌, ◌<◌, IfOk, length, Some};
-ghost use Rattle.causal_trace.specs.declared.entry.Entry.{Entry};
 ghost use Rattle.causal_trace.specs.Limits.{max_entries};
 ghost use Rattle.causal_trace.specs.Past.{deliveries_in, det_at};
 ghost use Rattle.causal_trace.specs.Rows.{IsWellFormed};
 ghost use Rattle.causal_audit.specs.Inside.Among.{FirstBreachBy};
-ghost use Rattle.causal_audit.specs.Inside.Index.Filed.{past_of};
-ghost use Rattle.causal_audit.specs.Numbers.{IsNumbered, ArePositions};
-ghost use Rattle.causal_audit.specs.Inside.ByClock.Positions.{ArePositionsAfter};
+ghost use Rattle.causal_audit.specs.Numbers.{IsNumbered};
 
 use crate::breach::Breach;
 use crate::by_clock::events::clocks_of;
 use crate::by_clock::orphans::first_orphan;
 use crate::index::mentions::{Mentions, mentions_in};
+use crate::index::positions::positions_of;
 use causal_clock::Clocks;
 use causal_name::{Det, NoMemory};
-use causal_trace::entry::Entry;
 use causal_trace::trace::Trace;
 use std::alloc::Global;
 use std::marker::Model;
@@ -112,27 +109,4 @@ impl Tables {
         let mentions = self.mentions.list(&self.trace, det);
         first_orphan(&self.trace, &self.clocks, mentions, f, end, k, det)
     }
-}
-
-/// Notes the position of an entry, if it is a delivery.
-fn note(positions: &mut Vec<u32>, entry: &Entry, i: u32) -> Result<(), NoMemory>
-    ensures { IfOk result
-        (λ _. ArePositionsAfter entry.now i positions.old.items positions.new.items) }
-{
-    match entry {
-        Entry::Deliver { .. } => Ok(positions.push(i)?),
-        _ => Ok(()),
-    }
-}
-
-/// The positions of the deliveries, in order.
-pub(crate) fn positions_of(alloc: Global, entries: &[Entry]) -> Result<Vec<u32>, NoMemory>
-    requires { length entries.now ≤ max_entries }
-    ensures { IfOk result (λ positions. ArePositions (past_of entries.now) positions.items) }
-{
-    let mut positions = Vec::new(alloc);
-    for (i, entry) in entries.iter().enumerate() {
-        note(&mut positions, entry, i as u32)?;
-    }
-    Ok(positions)
 }

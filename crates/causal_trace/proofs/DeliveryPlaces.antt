@@ -1,7 +1,8 @@
 -- The place of the newest receipt of a determinant, in the chain of its message.
-use Rattle.std.proofs.Common.{ℕ, ◌≡◌, ◌<◌, inl, inr, true, false, cond, ◌==◌, List, [], ◌∷◌, length, get_or, reverse, Option, Some, None, refl, sym, ap, ◌∙◌, arith}
+use Rattle.std.proofs.Common.{ℕ, ◌≡◌, ◌+◌, ◌<◌, inl, inr, Bool, true, false, cond, ◌==◌, List, [], ◌∷◌, length, get_or, reverse, Option, Some, None, refl, sym, ap, ◌∙◌, arith}
 use Rattle.std.specs.Prelude.{nat_lt, ◌&&◌}
-use Rattle.std.proofs.lemmas.Bool.{eq-eqb, ne_eqb, cond-true, cond-false}
+use Rattle.std.specs.Option.{option_map_or}
+use Rattle.std.proofs.lemmas.Bool.{eq-eqb, eqb-true, ne_eqb, cond-true, cond-false, cases_Bool, false≢true, le-ltb}
 use Rattle.std.proofs.lemmas.Bool.Decides.{eqb_tells}
 use Rattle.causal_name.specs.declared.MsgName.{MsgName}
 use Rattle.causal_name.specs.declared.Det.{Det}
@@ -59,3 +60,68 @@ receipt_placed heads nodes m n d receipt has linked =
       | true ↦ λ same. place_begins n d node nodes ∙ ap (λ at. cond (nat_lt (length nodes) n && is_of d receipt) (Some (length nodes)) (place_of n d nodes at)) (one_head heads m (message_of d) same)
       | false ↦ λ _. place_skips n d node nodes (head_of heads (message_of d)) (linked.heads_lead (message_of d))
     ] refl
+
+-- ---- an older receipt with the same determinant
+
+begins_at : (at : Option ℕ) (n : ℕ) → option_map_or (λ k. k == n) at false ≡ true → at ≡ Some n
+begins_at None n h = absurd (false≢true h)
+begins_at (Some k) n h = ap (λ i. Some i) (eqb-true k n h)
+
+-- a place that is found is that of a node
+pub place_within : (n : ℕ) (d : Det) (nodes : List Node) (at : Option ℕ) (m : ℕ) → place_of n d nodes at ≡ Some m → m < length nodes
+place_within n d [] at m is = absurd (let x : None ≡ Some m = is in cc)
+place_within n d (node ∷ older) at m is =
+    let here = option_map_or (λ k. k == length older) at false in
+    let one = nat_lt (length older) n && is_of d node.receipt in
+    let next = place_of n d older node.next in
+    let own = cond one (Some (length older)) next in
+    let rest = place_of n d older at in
+    elim (cases_Bool here) [
+      | inl begins ↦
+          let found : own ≡ Some m = sym (cond-true here own rest begins) ∙ is in
+          elim (cases_Bool one) [
+            | inl it ↦
+                let same : Some (length older) ≡ Some m = sym (cond-true one (Some (length older)) next it) ∙ found in
+                let last : length older ≡ m = cc (same) in
+                omega (arith, last)
+            | inr other ↦ omega (arith, place_within n d older node.next m (sym (cond-false one (Some (length older)) next other) ∙ found))
+          ]
+      | inr elsewhere ↦ omega (arith, place_within n d older at m (sym (cond-false here own rest elsewhere) ∙ is))
+    ]
+
+-- a node after the first m is none of them
+too_late : (k m : ℕ) (b : Bool) → m < k → (nat_lt k m && b) ≡ false
+too_late k m b later = ap (λ c. c && b) (le-ltb k m (omega (arith, later)))
+
+-- where the newest of the first m + 1 is that at place m, the newest of the first m is found from there on
+pub place_before : (d : Det) (nodes : List Node) (at : Option ℕ) (m : ℕ) → place_of (m + 1) d nodes at ≡ Some m → place_of m d nodes at ≡ place_of m d nodes (Some m)
+place_before d [] at m is = refl
+place_before d (node ∷ older) at m is =
+    let here = option_map_or (λ k. k == length older) at false in
+    let one = nat_lt (length older) (m + 1) && is_of d node.receipt in
+    let now = nat_lt (length older) m && is_of d node.receipt in
+    let next = place_of (m + 1) d older node.next in
+    let own = cond one (Some (length older)) next in
+    let rest = place_of (m + 1) d older at in
+    elim (cases_Bool here) [
+      | inl begins ↦
+          let found : own ≡ Some m = sym (cond-true here own rest begins) ∙ is in
+          elim (cases_Bool one) [
+            | inl it ↦
+                let same : Some (length older) ≡ Some m = sym (cond-true one (Some (length older)) next it) ∙ found in
+                ap (place_of m d (node ∷ older)) (begins_at at (length older) begins ∙ same)
+            | inr other ↦
+                let on : next ≡ Some m = sym (cond-false one (Some (length older)) next other) ∙ found in
+                let low : m < length older = place_within (m + 1) d older node.next m on in
+                cond-true here (cond now (Some (length older)) (place_of m d older node.next)) (place_of m d older at) begins
+                ∙ cond-false now (Some (length older)) (place_of m d older node.next) (too_late (length older) m (is_of d node.receipt) low)
+                ∙ place_before d older node.next m on
+                ∙ sym (place_skips m d node older (Some m) low)
+          ]
+      | inr elsewhere ↦
+          let on : rest ≡ Some m = sym (cond-false here own rest elsewhere) ∙ is in
+          let low : m < length older = place_within (m + 1) d older at m on in
+          cond-false here (cond now (Some (length older)) (place_of m d older node.next)) (place_of m d older at) elsewhere
+          ∙ place_before d older at m on
+          ∙ sym (place_skips m d node older (Some m) low)
+    ]

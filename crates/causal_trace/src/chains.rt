@@ -2,7 +2,7 @@
 ghost use Rattle.std.specs.Prelude.{◌≡◌, ◌<◌, ◌≤◌, ◌+◌, ◌&&◌, ℕ, nat_lt, [], length, map, replicate, Some, IfOk, OnOk, OnErr, vec_len};
 ghost use Rattle.causal_trace.specs.Limits.{max_entries};
 ghost use Rattle.causal_name.specs.Names.{message_of};
-ghost use Rattle.causal_trace.specs.Inside.Chains.{chain_of, head_of, is_newest_in, is_of, least_room, place_of, with_head, with_message, with_receipt, AreLinked, HasHead};
+ghost use Rattle.causal_trace.specs.Inside.Chains.{chain_of, head_of, is_newest_in, is_of, least_room, place_of, with_head, with_message, with_receipt, AreLinked, HasHead, IsBelow};
 
 use causal_name::{Det, MsgName, NoMemory, Pid};
 use std::alloc::Global;
@@ -130,7 +130,16 @@ impl Chains {
         ensures { result ≡ place_of among det self.now.nodes
             (head_of self.now.heads (message_of det)) }
     {
-        let mut place = self.head(det.message());
+        self.find_from(self.head(det.message()), det, among)
+    }
+
+    /// The same along a chain from a place on.
+    pub(crate) fn find_from(&self, begin: Option<u32>, det: Det, among: usize) -> Option<u32>
+        requires linked { AreLinked self.now.heads self.now.nodes }
+        requires begin { IsBelow begin (length self.now.nodes) }
+        ensures { result ≡ place_of among det self.now.nodes begin }
+    {
+        let mut place = begin;
         while let Some(k) = place {
             let node = self.nodes[k as usize];
             if is_of_first(among, det, k, node.receipt) {

@@ -325,6 +325,17 @@ impl Trace {
         self.chains.find(det, among)
     }
 
+    /// Which of the trace's deliveries before that of this number, which has this determinant, is the newest with it; None where
+    /// none of them has it. It goes on along the message's deliveries from that one: to ask for all with a determinant, each older
+    /// than the last, takes at most one step for each lane that delivered the message.
+    pub fn older_delivery(&self, det: Det, number: u32) -> Option<u32>
+        requires { number_of (number + 1) (delivered_dets self.now.recording.past) det ≡ Some number }
+        ensures value { result ≡ number_of number (delivered_dets self.now.recording.past) det }
+        ensures older { IfSome result (λ i. i < number) }
+    {
+        self.chains.find_from(Some(number), det, number as usize)
+    }
+
     /// Whether the process is up after the first t entries; no number that is not below `processes` is. It reads these
     /// entries: whoever asks at each instant goes over `entries` instead.
     pub fn up(&self, t: u32, p: Pid) -> bool

@@ -1,11 +1,9 @@
 -- What a look finds, stretch by stretch, and what it tells of a delivery.
-use Rattle.causal_audit.proofs.Common.{ℕ, ◌≡◌, ◌+◌, ◌-◌, ◌<◌, ◌≤◌, inl, inr, List, [], ◌∷◌, ◌++◌, length, get_or, sym, subst, arith, ◌⊎◌, min, All, IsPartitionPoint, cases_lt, get_or_default, All-push, All-weaker, Contains-append_left, Contains-push, IsNonDecreasingBy-push, Entry, Det, Recording, Some, ap, ◌∙◌, get_or-append, get_or-append_seam, length-append}
-use Rattle.causal_trace.specs.Numbers.{delivered_dets, number_of}
-use Rattle.causal_audit.proofs.index.Filings.{numbers_apart, same_is}
+use Rattle.causal_audit.proofs.Common.{ℕ, ◌≡◌, ◌-◌, ◌<◌, ◌≤◌, inl, inr, List, [], ◌∷◌, ◌++◌, length, get_or, sym, subst, arith, ◌⊎◌, min, All, IsPartitionPoint, cases_lt, get_or_default, All-push, All-weaker, Contains-append_left, Contains-push, IsNonDecreasingBy-push, Entry}
 use Rattle.causal_audit.specs.declared.look.Look.{Look}
 use Rattle.causal_audit.specs.declared.look.thin.Stretch.{Stretch}
 use Rattle.causal_audit.specs.declared.look.thin_stretches.ThinStretches.{ThinStretches}
-use Rattle.causal_audit.specs.Inside.Look.Looks.{IsPassed, IsBareAt, IsThinAt, AreFound, AreLooks, AreRising, AreThinStretches, IsInOne}
+use Rattle.causal_audit.specs.Inside.Look.Looks.{IsPassed, IsBareAt, IsThinAt, AreFound, AreRising, IsInOne}
 
 -- ---- one stretch more
 
@@ -117,23 +115,3 @@ module _ (xs : List Stretch) (bound passed : ℕ) (point : IsPartitionPoint (λ 
             let at : (get_or xs one.1.0 one.0).first ≡ one.0.first = cc (one.1.2) in
             absurd (omega (arith, ahead, at, one.2, low))
       ]
-
--- ---- the looks at all determinants
-
-module _ (r : Recording) (most end among : ℕ) (found : List ThinStretches) (before : AreLooks r most end among found) where
-  -- one more delivery, of which this was found
-  pub one_looked : (new : ThinStretches) → ((d : Det) → number_of among (delivered_dets r.past) d ≡ Some (length found) → AreThinStretches r.processes most r.past d (end + 1) new) → AreLooks r most end among (found ++ new ∷ [])
-  one_looked new is d i x to inside =
-      elim (cases_lt i (length found)) [
-        | inl old ↦ subst (AreThinStretches r.processes most r.past d (end + 1)) (sym (get_or-append found (new ∷ []) x i old)) (before d i x to old)
-        | inr beyond ↦
-            let last : i ≡ length found = omega (arith, beyond, inside, length-append found (new ∷ [])) in
-            subst (AreThinStretches r.processes most r.past d (end + 1)) (sym (ap (λ j. get_or (found ++ new ∷ []) j x) last ∙ get_or-append_seam found new [] x)) (is d (to ∙ ap Some last))
-      ]
-
--- what was found of a determinant was found of the number that it has
-pub of_next : (r : Recording) (most end among next : ℕ) (thins : ThinStretches) (own d : Det) → number_of among (delivered_dets r.past) own ≡ Some next
-    → AreThinStretches r.processes most r.past own (end + 1) thins → number_of among (delivered_dets r.past) d ≡ Some next → AreThinStretches r.processes most r.past d (end + 1) thins
-of_next r most end among next thins own d at is to =
-    let same : own ≡ d = same_is own d (numbers_apart among (delivered_dets r.past) own d next at to) in
-    subst (λ e. AreThinStretches r.processes most r.past e (end + 1) thins) same is

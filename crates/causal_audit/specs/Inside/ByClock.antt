@@ -1,4 +1,3 @@
 pub mod Changes
-pub mod Positions
 pub mod Stands
 pub mod Stored

@@ -3,6 +3,7 @@ pub mod Kept
 pub mod Outlines
 pub mod Packed
 pub mod Passing
+pub mod Positions
 pub mod Reached
 pub mod Releases
 pub mod Spreads

@@ -1,30 +1,38 @@
 //! The survey of a run: which deliveries are not seen to be covered throughout, and until when each may be uncovered. It
 //! needs no clock.
-ghost use Rattle.std.specs.Prelude.{◌≡◌, ◌+◌, ◌≤◌, ◌<◌, IfOk, OnOk, Some, length};
+ghost use Rattle.std.specs.Prelude.{◌≡◌, ◌+◌, ◌≤◌, ◌<◌, ℕ, true, IfOk, OnOk, Some, length, slice_index_or};
+ghost use Rattle.causal_trace.specs.Numbers.{delivered_dets, number_of};
 ghost use Rattle.causal_trace.specs.Past.{det_at, instant};
 ghost use Rattle.causal_audit.specs.Inside.Among.{HasNoOrphanFrom};
-ghost use Rattle.causal_audit.specs.Inside.Look.Looks.{AreAllLooks};
+ghost use Rattle.causal_audit.specs.Inside.Look.Looks.{AreThinStretches};
 ghost use Rattle.causal_audit.specs.Inside.Index.Kept.{AreMentionsKept};
-ghost use Rattle.causal_audit.specs.Inside.Group.OpenDeliveries.{AreGathered, asked_of};
+ghost use Rattle.causal_audit.specs.Inside.Group.OpenDeliveries.{AreAsked, AreFollowed, AreGathered, IsTold, StayMarked, asked_of, how_many, is_marked};
 
 use crate::group::run_to_follow::OpenDelivery;
 use crate::index::by_process::ByProcess;
 use crate::index::mentions::Mentions;
 use crate::index::outline::Outline;
+use crate::index::positions::positions_of;
+use crate::index::reached::{reached_by, reached_in};
 use crate::index::spreads::stays_of;
-use crate::look::looks::Looks;
+use crate::look::Look;
+use crate::look::thin_stretches::ThinStretches;
+use causal_holders::Holders;
 use causal_name::{Det, NoMemory};
 use std::alloc::Global;
 use std::marker::Model;
 
-/// What a survey of the deliveries reads: the outline of the run, what mentions each determinant, when each process crashes, and
-/// how long each entry stays with its process; and for which f and up to which instant it asks. It is seen as what it asks.
+/// What a survey of the deliveries reads: the outline of the run, what mentions each determinant, when each process crashes, how
+/// long each entry stays with its process, whom the events of each process reach, and where the deliveries before the end stand; and
+/// for which f and up to which instant it asks. It is seen as what it asks.
 #[derive(Drop)]
 pub struct Survey<'a, 'r> {
     outline: Outline<'r>,
     mentions: &'a Mentions,
     crashes: &'a ByProcess,
     stays: &'a [u32],
+    reached: &'a [Holders],
+    positions: &'a [u32],
     f: u16,
     end: u32,
 }
@@ -36,41 +44,62 @@ impl<'a, 'r> Model for Survey<'a, 'r> {
 
     ghost view = { λ a. record { run = a.outline.trace.now.recording; f = a.f; end = a.end } };
 
-    ghost invariant = { λ a. IsSurvey a.outline.trace.now.recording a.end a.mentions.now a.crashes.now a.stays.now };
+    ghost invariant = { λ a. IsSurvey a.outline.trace.now.recording a.end a.mentions.now a.crashes.now a.stays.now a.reached.now a.positions.now };
 }
 
 impl Survey<'_, '_> {
-    /// An instant from which on the delivery at k, whose determinant this is, is seen to be covered up to the end; 0 where it is
-    /// so throughout.
-    fn delivery_uncovered_until(&self, looks: &Looks<'_>, k: u32, det: Det) -> u32
+    /// What a look at a determinant finds.
+    fn look_at(&self, alloc: Global, det: Det) -> Result<ThinStretches, NoMemory>
+        ensures { IfOk result (AreThinStretches self.now.run.processes self.now.f
+            self.now.run.past det (self.now.end + 1)) }
+    {
+        let mentions = self.mentions.list(self.outline.trace, det);
+        if mentions.is_empty() {
+            return Ok(ThinStretches::none(alloc, self.end));
+        }
+        let look = Look {
+            run: self.outline,
+            mentions,
+            det,
+            reached: reached_by(self.reached, det.dest.0),
+            most: self.f,
+            end: self.end,
+        };
+        ThinStretches::of(alloc, &look)
+    }
+
+    /// An instant from which on the delivery at k is seen to be covered up to the end, where this was found of its determinant; 0
+    /// where it is so throughout.
+    fn delivery_uncovered_until(&self, thins: &ThinStretches, k: u32, det: Det) -> u32
         requires delivery { det_at self.now.run.past k ≡ Some det }
         requires early { k < self.now.end }
-        requires looks { AreAllLooks self.now.run self.now.f self.now.end looks.now }
+        requires thins { AreThinStretches self.now.run.processes self.now.f
+            self.now.run.past det (self.now.end + 1) thins.now }
         ensures { HasNoOrphanFrom self.now.run self.now.f k result self.now.end }
     {
-        let Some(thins) = looks.find(det) else {
-            return self.end + 1;
-        };
         let crash = self.crashes.next_of(det.dest.0, k + 1, self.end);
         thins.uncovered_until(k, self.stays[k as usize], crash, self.end)
     }
 
-    /// Gathers the delivery of the delivery at position k, if there is one that is not seen to be covered throughout.
+    /// Gathers the delivery at k, if it is not seen to be covered throughout.
     fn gather(
         &self,
-        looks: &Looks<'_>,
+        thins: &ThinStretches,
         k: u32,
+        det: Det,
         gathered: &mut Vec<OpenDelivery>,
     ) -> Result<(), NoMemory>
+        requires delivery { det_at self.now.run.past k ≡ Some det }
         requires early { k < self.now.end }
-        requires looks { AreAllLooks self.now.run self.now.f self.now.end looks.now }
-        ensures { OnOk result
-            (AreGathered self.now k gathered.old.items → AreGathered self.now (k + 1) gathered.new.items) }
+        requires thins { AreThinStretches self.now.run.processes self.now.f
+            self.now.run.past det (self.now.end + 1) thins.now }
+        ensures followed { OnOk result (AreFollowed self.now gathered.old.items →
+            AreFollowed self.now gathered.new.items) }
+        ensures told { OnOk result (IsTold self.now gathered.new.items k) }
+        ensures more { OnOk result ((j : ℕ) → IsTold self.now gathered.old.items j →
+            IsTold self.now gathered.new.items j) }
     {
-        let Some(det) = self.outline.trace.det_at(k) else {
-            return Ok(());
-        };
-        let until = self.delivery_uncovered_until(looks, k, det);
+        let until = self.delivery_uncovered_until(thins, k, det);
         if until == 0 {
             return Ok(());
         }
@@ -78,29 +107,81 @@ impl Survey<'_, '_> {
         Ok(())
     }
 
-    /// The deliveries before the end that are not seen to be covered throughout, in order.
-    fn uncovered(&self, alloc: Global, looks: &Looks<'_>) -> Result<Vec<OpenDelivery>, NoMemory>
-        requires { AreAllLooks self.now.run self.now.f self.now.end looks.now }
-        ensures { IfOk result (λ opened. AreGathered self.now self.now.end opened.items) }
+    /// Gathers the delivery of a number, where this was found of its determinant, and marks it.
+    fn ask_one(
+        &self,
+        thins: &ThinStretches,
+        det: Det,
+        number: u32,
+        asked: &mut Vec<bool>,
+        gathered: &mut Vec<OpenDelivery>,
+    ) -> Result<(), NoMemory>
+        requires few { number < how_many self.now }
+        requires count { length asked.old.items ≡ how_many self.now }
+        requires own { number_of (number + 1) (delivered_dets self.now.run.past) det ≡ Some number }
+        requires thins { AreThinStretches self.now.run.processes self.now.f
+            self.now.run.past det (self.now.end + 1) thins.now }
+        ensures asked { OnOk result (AreAsked self.now asked.old.items gathered.old.items →
+            AreAsked self.now asked.new.items gathered.new.items) }
+        ensures marked { OnOk result (is_marked asked.new.items number ≡ true) }
+        ensures stay { OnOk result (StayMarked asked.old.items asked.new.items) }
+        ensures count { length asked.new.items ≡ length asked.old.items }
     {
+        self.gather(thins, self.positions[number as usize], det, gathered)?;
+        asked[number as usize] = true;
+        Ok(())
+    }
+
+    /// Takes a look at the determinant of the delivery of a number, and asks it for that and for each older delivery with it.
+    fn ask(
+        &self,
+        alloc: Global,
+        newest: u32,
+        asked: &mut Vec<bool>,
+        gathered: &mut Vec<OpenDelivery>,
+    ) -> Result<(), NoMemory>
+        requires few { newest < how_many self.now }
+        requires count { length asked.old.items ≡ how_many self.now }
+        ensures asked { OnOk result (AreAsked self.now asked.old.items gathered.old.items →
+            AreAsked self.now asked.new.items gathered.new.items) }
+        ensures marked { OnOk result (is_marked asked.new.items newest ≡ true) }
+        ensures stay { OnOk result (StayMarked asked.old.items asked.new.items) }
+        ensures count { length asked.new.items ≡ length asked.old.items }
+    {
+        let trace = self.outline.trace;
+        let Some(det) = trace.det_at(self.positions[newest as usize]) else {
+            return Err(NoMemory);
+        };
+        let thins = self.look_at(alloc, det)?;
+        self.ask_one(&thins, det, newest, asked, gathered)?;
+        let mut number = newest;
+        while let Some(older) = trace.older_delivery(det, number) {
+            self.ask_one(&thins, det, older, asked, gathered)?;
+            number = older;
+        }
+        Ok(())
+    }
+
+    /// The deliveries before the end that are not seen to be covered throughout. From the newest on each is asked with all older
+    /// ones that share its determinant, and is passed where it was. So there is one look at each determinant, and one at a time.
+    fn opened(&self, alloc: Global) -> Result<Vec<OpenDelivery>, NoMemory>
+        ensures { IfOk result (λ opened. AreGathered self.now opened.items) }
+    {
+        let mut asked = vec![in alloc; false; self.positions.len()]?;
         let mut gathered = Vec::new(alloc);
-        for k in 0..self.end {
-            self.gather(looks, k, &mut gathered)?;
+        let mut number = self.positions.len() as u32;
+        while number > 0 {
+            number -= 1;
+            if asked[number as usize] {
+                continue;
+            }
+            self.ask(alloc, number, &mut asked, &mut gathered)?;
         }
         Ok(gathered)
     }
-
-    /// The deliveries before the end that are not seen to be covered throughout, by one look at each
-    /// determinant.
-    fn opened(&self, alloc: Global) -> Result<Vec<OpenDelivery>, NoMemory>
-        ensures { IfOk result (λ opened. AreGathered self.now self.now.end opened.items) }
-    {
-        let looks = Looks::of(alloc, &self.outline, self.mentions, self.f, self.end)?;
-        self.uncovered(alloc, &looks)
-    }
 }
 
-/// The deliveries of a run before the instant `end` that may have an orphan for f by then, in order.
+/// The deliveries of a run before the instant `end` that may have an orphan for f by then.
 ///
 /// # Errors
 /// `NoMemory` where memory was refused.
@@ -115,16 +196,20 @@ pub fn open_deliveries_of(
     requires mentioned { AreMentionsKept outline.trace.now.recording.past
         (instant outline.trace.now.recording.past end) mentions.now }
     ensures { IfOk result
-        (λ opened. AreGathered (asked_of outline.entry.trace.now.recording f end) end opened.items) }
+        (λ opened. AreGathered (asked_of outline.entry.trace.now.recording f end) opened.items) }
 {
     let entries = outline.trace.entries();
     let crashes = ByProcess::of(alloc, entries, false)?;
     let stays = stays_of(alloc, entries)?;
+    let reached = reached_in(alloc, outline.trace)?;
+    let positions = positions_of(alloc, &entries[..end as usize])?;
     let survey = Survey {
         outline,
         mentions,
         crashes: &crashes,
         stays: stays.as_slice(),
+        reached: reached.as_slice(),
+        positions: positions.as_slice(),
         f,
         end,
     };

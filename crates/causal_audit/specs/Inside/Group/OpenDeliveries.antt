@@ -1,6 +1,9 @@
 -- Which deliveries are followed, and what a survey reads to tell them.
-use Rattle.std.specs.Prelude.{◌≡◌, ℕ, ◌≤◌, List, length, map, Some, ◌<◌, ◌⊎◌, false, Contains}
-use Rattle.causal_audit.specs.Inside.Common.{All, Det, Entry, det_at, instant, Recording, IsWellFormed, IsStrictlyIncreasing, IsNonDecreasingBy, max_entries}
+use Rattle.std.specs.Prelude.{◌≡◌, ℕ, ◌≤◌, Bool, true, List, length, map, Some, ◌<◌, ◌⊎◌, false, Contains, slice_index_or}
+use Rattle.causal_audit.specs.Inside.Common.{All, Det, Entry, det_at, instant, Recording, IsWellFormed, IsNonDecreasingBy, FinSet, max_entries, nat_cmp}
+use Rattle.causal_trace.specs.Past.{deliveries_in}
+use Rattle.causal_audit.specs.Numbers.{ArePositions, IsNumbered}
+use Rattle.causal_audit.specs.Inside.Index.Reached.{AreReached}
 use Rattle.causal_audit.specs.Inside.Among.{HasNoOrphanFrom, HasNoOrphanBy}
 use Rattle.causal_audit.specs.declared.index.mentions.Mentions.{Mentions}
 use Rattle.causal_audit.specs.declared.group.run_to_follow.OpenDelivery.{OpenDelivery}
@@ -60,24 +63,43 @@ pub record Asked : Type 0 where
 abbrev pub asked_of : Recording → ℕ → ℕ → Asked
 asked_of r f end = record { run = r; f = f; end = end }
 
+-- how many deliveries it asks
+abbrev pub how_many : Asked → ℕ
+how_many asked = deliveries_in (instant asked.run.past asked.end)
+
 -- the run is well formed, and this is kept of it
-pub record IsSurvey (r : Recording) (end : ℕ) (mentions : Mentions) (crashes : ByProcess) (stays : List ℕ) : Type 0 where
+pub record IsSurvey (r : Recording) (end : ℕ) (mentions : Mentions) (crashes : ByProcess) (stays : List ℕ) (reached : List (FinSet nat_cmp)) (positions : List ℕ) : Type 0 where
   pub formed : IsWellFormed r
   pub within : end ≤ length r.past
   pub short : length r.past ≤ max_entries
   pub mentioned : AreMentionsKept r.past (instant r.past end) mentions
   pub crashed : AreTurnsOf false r.past (lists_in crashes.lists.items)
   pub staying : AreSpreads r.past (process_at r.past) stays
+  pub reaching : AreReached r.past reached
+  pub numbered : ArePositions (instant r.past end) positions
 
--- these ascending positions are of deliveries before position `below`, and each other delivery before it has no orphan by
--- the instant `end`
-pub record AreUncovered (r : Recording) (f end below : ℕ) (positions : List ℕ) : Type 0 where
-  pub ascend : IsStrictlyIncreasing positions
-  pub before : All (λ k. k < below) positions
-  pub deliveries : All (IsDeliveryAt r.past) positions
-  pub others : (k : ℕ) → k < below → IsDeliveryAt r.past k → Contains positions k ⊎ HasNoOrphanBy r f k end
+-- these deliveries are to be followed
+abbrev pub AreFollowed : Asked → List OpenDelivery → Type 0
+AreFollowed asked opened = AreOpenDeliveries asked.run asked.f asked.end opened
 
--- they are the deliveries of the run before position `below` that the survey gathers
-pub record AreGathered (asked : Asked) (below : ℕ) (opened : List OpenDelivery) : Type 0 where
-  pub uncovered : AreUncovered asked.run asked.f asked.end below (positions_of opened)
-  pub none_later : All (IsOpenDelivery asked.run asked.f asked.end) opened
+-- the delivery at position k is one of them, or it has no orphan by the instant `end`
+abbrev pub IsTold : Asked → List OpenDelivery → ℕ → Type 0
+IsTold asked opened k = Contains (positions_of opened) k ⊎ HasNoOrphanBy asked.run asked.f k asked.end
+
+-- whether the delivery of a number is marked
+abbrev pub is_marked : List Bool → ℕ → Bool
+is_marked marks i = slice_index_or marks i false
+
+-- those that were marked still are
+abbrev pub StayMarked : List Bool → List Bool → Type 0
+StayMarked before after = (i : ℕ) → is_marked before i ≡ true → is_marked after i ≡ true
+
+-- they are to be followed, and each delivery that is marked is told by them
+pub record AreAsked (asked : Asked) (marks : List Bool) (opened : List OpenDelivery) : Type 0 where
+  pub followed : AreFollowed asked opened
+  pub told : (i k : ℕ) → IsNumbered asked.run.past i k → is_marked marks i ≡ true → IsTold asked opened k
+
+-- they are to be followed, and each delivery before the end is told by them
+pub record AreGathered (asked : Asked) (opened : List OpenDelivery) : Type 0 where
+  pub followed : AreFollowed asked opened
+  pub all : (k : ℕ) → k < asked.end → IsDeliveryAt asked.run.past k → IsTold asked opened k

@@ -1,6 +1,6 @@
--- Where a look at a determinant stands, how the determinant stands then, and what all looks found.
-use Rattle.std.specs.Prelude.{◌≡◌, ℕ, ◌<◌, ◌≤◌, true, false, List, ◌+◌, ◌⊎◌, Contains, Some, slice_index_or, length}
-use Rattle.causal_audit.specs.Inside.Common.{nat_cmp, FinSet, contains, len, union, Det, Entry, instant, is_stable, is_down, logs, All, IsNonDecreasingBy, Recording, Reaches}
+-- Where a look at a determinant stands, how the determinant stands then, and what looks find.
+use Rattle.std.specs.Prelude.{◌≡◌, ℕ, ◌<◌, ◌≤◌, true, false, List, ◌+◌, ◌⊎◌, Contains}
+use Rattle.causal_audit.specs.Inside.Common.{nat_cmp, FinSet, contains, len, union, Det, Entry, instant, is_stable, is_down, logs, All, IsNonDecreasingBy, Reaches}
 use Rattle.std.specs.FinSet.{is_subset}
 use Rattle.causal_name.specs.Sets.{count_below}
 use Rattle.causal_audit.specs.Laws.{gone}
@@ -13,8 +13,6 @@ use Rattle.causal_audit.specs.declared.look.Look.{Look}
 use Rattle.causal_audit.specs.declared.look.LookPosition.{LookPosition}
 use Rattle.causal_audit.specs.declared.look.thin.Stretch.{Stretch}
 use Rattle.causal_audit.specs.declared.look.thin_stretches.ThinStretches.{ThinStretches}
-use Rattle.causal_trace.specs.Numbers.{delivered_dets, number_of}
-use Rattle.causal_audit.specs.declared.look.looks.Looks.{Looks}
 
 -- d is not stable at the instant u, at most so many processes are down or hold it, and one that its receiver reaches neither is
 -- nor does
@@ -93,19 +91,3 @@ pub record MayBeOpen (thins : ThinStretches) (k spread crash u : ℕ) : Type 0 w
   pub made : k < u
   pub thin : u ≤ thins.last
   pub left : (spread < u) ⊎ ((u ≤ crash) × IsInOne thins.bare.items u)
-
--- what was found by the number of a determinant's newest delivery, of the first `among`, is where it is thin up to the
--- instant `end`
-abbrev pub AreLooks : Recording → ℕ → ℕ → ℕ → List ThinStretches → Type 0
-AreLooks r most end among found =
-    (d : Det) (i : ℕ) (thins : ThinStretches) → number_of among (delivered_dets r.past) d ≡ Some i → i < length found
-    → AreThinStretches r.processes most r.past d (end + 1) (slice_index_or found i thins)
-
--- it was found of this run
-pub record AreAllLooks (r : Recording) (most end : ℕ) (looks : Looks) : Type 0 where
-  pub run : looks.trace.now.recording ≡ r
-  pub found : AreLooks r most end looks.among looks.found.items
-
--- this was found of the determinant
-abbrev pub IsLookOf : Looks → Det → ThinStretches → Type 0
-IsLookOf looks d thins = (r : Recording) (most end : ℕ) → AreAllLooks r most end looks → AreThinStretches r.processes most r.past d (end + 1) thins

@@ -1,13 +1,12 @@
 use Rattle.causal_audit.proofs.Common.{◌≡◌, inl, length, reverse, ap, subst, ◌∙◌, reverse-reverse, All-permutation, Contains-permutation, IsPermutation-map, IsPermutation-sym, past_at, past_whole}
 use Rattle.std.specs.Prelude.{IsPermutation}
 use Rattle.causal_audit.specs.Inside.Index.Kept.{AreTurnsKept}
-use Rattle.causal_audit.specs.Inside.Group.OpenDeliveries.{IsDeliveryAt, IsPrepared, IsOpenDelivery, positions_of}
+use Rattle.causal_audit.specs.Inside.Group.OpenDeliveries.{IsDeliveryAt, IsPrepared, IsOpenDelivery, asked_of, positions_of}
 use Rattle.causal_audit.specs.declared.group.run_to_follow.OpenDelivery.{OpenDelivery}
 use Rattle.causal_audit.specs.Parts.{AreEnough}
 use Rattle.causal_audit.specs.Lasting.{NoneReleasedFrom}
 use Rattle.causal_audit.proofs.AmongLemmas.{among_all, among_wider}
-use Rattle.causal_audit.proofs.look.SurveyGathers.{any_other}
-use Rattle.causal_audit.proofs.group.OpenPositions.{of_positions}
+use Rattle.causal_audit.proofs.look.SurveyAsks.{any_other}
 use Rattle.causal_audit.proofs.prepared.Prepared.of.Goals as goal
 
 pub invariant_of-result : goal.invariant_of-result
@@ -26,8 +25,8 @@ invariant_of-result c =
       mentioned = c.in_ok-mentions.ensures;
       followed = record {
         within = c.requires;
-        deliveries = All-permutation (λ (delivery : OpenDelivery). IsDeliveryAt past delivery.position) gathered opened moved (of_positions (IsDeliveryAt past) gathered all.uncovered.deliveries);
-        none_later = All-permutation (IsOpenDelivery r c.args.f c.args.end) gathered opened moved all.none_later;
+        deliveries = All-permutation (λ (delivery : OpenDelivery). IsDeliveryAt past delivery.position) gathered opened moved all.followed.deliveries;
+        none_later = All-permutation (IsOpenDelivery r c.args.f c.args.end) gathered opened moved all.followed.none_later;
       };
     } in
     rw c.of-run.ensures prepared
@@ -44,7 +43,7 @@ returns-clause-enough c =
     let enough : AreEnough r f end (record { run = r; f = f; end = end; positions = positions }) =
     λ found least.
     among_all r f end gathered found c.entries-entries.ensures.formed.accepted c.requires
-    (any_other r f end gathered c.requires c.in_ok-opened.ensures.uncovered)
+    (any_other (asked_of r f end) c.in_ok-opened.opened.items c.in_ok-opened.ensures)
     (among_wider r f end positions gathered found (λ k. Contains-permutation positions gathered k (IsPermutation-sym gathered positions moved))
     (λ k listed. inl (Contains-permutation gathered positions k moved listed)) least)
     in

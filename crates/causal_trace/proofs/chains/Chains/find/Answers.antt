@@ -1,65 +1,17 @@
-use Rattle.std.proofs.Common.{◌≡◌, ◌<◌, ◌+◌, cond, length, get_or, reverse, Some, sym, ap, subst, ◌∙◌, arith}
-use Rattle.std.specs.Prelude.{nat_lt, ◌&&◌}
-use Rattle.std.specs.Option.{option_map_or}
-use Rattle.std.proofs.lemmas.List.{reverse-reverse, length-reverse}
-use Rattle.std.proofs.lemmas.Bool.{cond-true, cond-false}
+use Rattle.std.proofs.Common.{◌≡◌, length, sym, ap, subst, ◌∙◌}
 use Rattle.causal_name.specs.Names.{message_of}
-use Rattle.causal_trace.specs.Inside.Chains.{IsBelow, head_of, is_of, place_of}
-use Rattle.causal_trace.proofs.ReceiptChains.{leads_on, below_higher, walk_falls}
-use Rattle.causal_trace.proofs.DeliveryPlaces.{place_on, place_none}
+use Rattle.causal_trace.specs.Inside.Chains.{IsBelow, head_of, place_of}
 use Rattle.causal_trace.proofs.chains.Chains.find.Goals as goal
-use Rattle.causal_trace.proofs.chains.Chains.find.Goals.{In-Some, After-index-node}
 
-pub loop-place-init : goal.loop-place-init
-loop-place-init c =
-    let head = c.head-place.ensures ∙ ap (head_of c.args.self.now.heads) c.message.ensures in
+pub find_from-requires : goal.find_from-requires
+find_from-requires c =
+    let head : c.head.result ≡ head_of c.args.self.now.heads (message_of c.args.det) = c.head.ensures ∙ ap (head_of c.args.self.now.heads) c.message.ensures in
     record {
-      inside = subst (λ at. IsBelow at (length c.args.self.now.nodes)) (sym head) (c.requires.heads_lead (message_of c.args.det));
-      rest = ap (place_of c.args.among c.args.det c.args.self.now.nodes) (sym head);
-    }
-
-there : (c : In-Some) → c.in-Some.k < length c.args.self.now.nodes
-there c = subst (λ at. IsBelow at (length c.args.self.now.nodes)) c.in-Some.is c.loop-place.invariant.inside
-
-pub index-node-requires : goal.index-node-requires
-index-node-requires c = omega (arith, there c, ap (λ s. length s.nodes) c.self.view_is, length-reverse c.self.inside.nodes.items, c.self.inside.nodes.ok.0)
-
--- the node that was read is that of the place
-node_is : (c : After-index-node) → get_or (reverse c.args.self.now.nodes) c.in-Some.k c.index-node.result.now ≡ c.index-node.result.now
-node_is c =
-    let items : reverse c.args.self.now.nodes ≡ c.self.inside.nodes.items = ap (λ s. reverse s.nodes) (sym c.self.view_is) ∙ reverse-reverse c.self.inside.nodes.items in
-    ap (λ ns. get_or ns c.in-Some.k c.index-node.result.now) items ∙ sym c.index-node.ensures
-
--- it leads to a place below its own
-down : (c : After-index-node) → c.in-Some.k < length c.args.self.now.nodes → IsBelow c.index-node.result.now.next c.in-Some.k
-down c low = subst (λ n. IsBelow n.next c.in-Some.k) (node_is c) (leads_on c.args.self.now.nodes c.in-Some.k c.index-node.result.now c.requires.nodes_lead low).down
-
--- the answer is its place, or that of the rest
-rest : (c : After-index-node) → c.in-Some.k < length c.args.self.now.nodes → place_of c.args.among c.args.det c.args.self.now.nodes (head_of c.args.self.now.heads (message_of c.args.det)) ≡ cond (nat_lt c.in-Some.k c.args.among && is_of c.args.det c.index-node.result.now.receipt) (Some c.in-Some.k) (place_of c.args.among c.args.det c.args.self.now.nodes c.index-node.result.now.next)
-rest c low =
-    let nodes = c.args.self.now.nodes in
-    c.loop-place.invariant.rest
-    ∙ ap (place_of c.args.among c.args.det nodes) c.in-Some.is
-    ∙ subst (λ n. place_of c.args.among c.args.det nodes (Some c.in-Some.k) ≡ cond (nat_lt c.in-Some.k c.args.among && is_of c.args.det n.receipt) (Some c.in-Some.k) (place_of c.args.among c.args.det nodes n.next)) (node_is c) (place_on c.args.among c.args.det nodes c.in-Some.k c.index-node.result.now c.requires.nodes_lead low)
-
-pub returns-then-is_of_first : goal.returns-then-is_of_first
-returns-then-is_of_first c =
-    let p = goal.at.returns-then-is_of_first c in
-    sym (rest p.After-index-node (there p.In-Some) ∙ cond-true (nat_lt c.in-Some.k c.args.among && is_of c.args.det c.index-node.result.now.receipt) _ _ (sym c.if-is_of_first.ensures))
-
-pub loop-place-smaller : goal.loop-place-smaller
-loop-place-smaller c =
-    let p = goal.at.loop-place-smaller c in
-    subst (λ at. option_map_or (λ i. i + 1) c.index-node.result.now.next 0 < option_map_or (λ i. i + 1) at 0) (sym c.in-Some.is) (walk_falls c.index-node.result.now.next c.in-Some.k (down p.After-index-node (there p.In-Some)))
-
-pub loop-place-preserved : goal.loop-place-preserved
-loop-place-preserved c =
-    let p = goal.at.loop-place-preserved c in
-    let low = there p.In-Some in
-    record {
-      inside = below_higher c.index-node.result.now.next c.in-Some.k (length c.args.self.now.nodes) (omega (arith, low)) (down p.After-index-node low);
-      rest = rest p.After-index-node low ∙ cond-false (nat_lt c.in-Some.k c.args.among && is_of c.args.det c.index-node.result.now.receipt) _ _ (sym c.if-is_of_first.ensures);
+      linked = c.requires;
+      begin = subst (λ at. IsBelow at (length c.args.self.now.nodes)) (sym head) (c.requires.heads_lead (message_of c.args.det));
     }
 
 pub returns : goal.returns
-returns c = sym (c.loop-place.invariant.rest ∙ place_none c.args.among c.args.det c.args.self.now.nodes c.loop-place.place c.in_default.not-Some)
+returns c =
+    let head : c.head.result ≡ head_of c.args.self.now.heads (message_of c.args.det) = c.head.ensures ∙ ap (head_of c.args.self.now.heads) c.message.ensures in
+    c.find_from.ensures ∙ ap (place_of c.args.among c.args.det c.args.self.now.nodes) head

@@ -1,5 +1,5 @@
-use Rattle.causal_audit.proofs.Common.{◌≡◌, inl, inr, get_or, Some, arith, cases_lt, det_at}
-use Rattle.causal_audit.specs.Inside.Look.Looks.{AreAllLooks}
+use Rattle.causal_audit.proofs.Common.{◌≡◌, ◌+◌, inl, inr, get_or, Some, arith, cases_lt, det_at}
+use Rattle.causal_audit.specs.Inside.Look.Looks.{AreThinStretches}
 use Rattle.causal_audit.specs.Inside.Index.Filed.{lists_in}
 use Rattle.causal_audit.proofs.index.Receivers.{stays_with, orphan_open}
 use Rattle.causal_audit.proofs.index.Filings.{first_crash_is}
@@ -13,9 +13,8 @@ returns c =
     let kept = c.self.invariant in
     let formed = kept.formed.accepted in
     let at : det_at r.past k ≡ Some c.args.det = rw (← c.self.view_is) at c.requires.delivery in
-    let looks : AreAllLooks r s.f s.end c.args.looks.now = rw (← c.self.view_is) at c.requires.looks in
-    let thins = c.in-Some.thins.now in
-    let found = c.in-Some.ensures r s.f s.end looks in
+    let thins = c.args.thins.now in
+    let found : AreThinStretches r.processes s.f r.past c.args.det (s.end + 1) thins = rw (← c.self.view_is) at c.requires.thins in
     let crash = c.next_of-crash in
     let first = first_crash_is r.past (lists_in s.crashes.now.lists.items) c.args.det.dest.0 k s.end crash.result kept.crashed crash.ensures.bounds.0 crash.ensures.bounds.1 crash.ensures.none crash.ensures.found in
     rw (← c.self.view_is)

@@ -1,6 +1,6 @@
 use Rattle.causal_trace.specs.State.{past_at}
 use Rattle.causal_audit.specs.Numbers.{ArePositions}
-use Rattle.causal_audit.proofs.tables.positions_of.Given as goal
+use Rattle.causal_audit.proofs.index.positions.positions_of.Given as goal
 
 -- those of the entries so far
 abbrev pub invariant-loop-i : goal.invariant-loop-i

@@ -1,14 +1,13 @@
 use Rattle.std.proofs.Common.{◌≡◌, ◌+◌, length}
 use Rattle.std.specs.Option.{option_map_or}
-use Rattle.causal_name.specs.Names.{message_of}
-use Rattle.causal_trace.specs.Inside.Chains.{IsBelow, head_of, place_of}
-use Rattle.causal_trace.proofs.chains.Chains.find.Given as goal
+use Rattle.causal_trace.specs.Inside.Chains.{IsBelow, place_of}
+use Rattle.causal_trace.proofs.chains.Chains.find_from.Given as goal
 
 -- what is sought is in the rest of the chain, if anywhere
 abbrev pub invariant-loop-place : goal.invariant-loop-place
 invariant-loop-place l = record {
   inside : IsBelow l.place (length l.self.nodes);
-  rest : place_of l.among l.det l.self.nodes (head_of l.self.heads (message_of l.det)) ≡ place_of l.among l.det l.self.nodes l.place;
+  rest : place_of l.among l.det l.self.nodes l.fn.begin ≡ place_of l.among l.det l.self.nodes l.place;
 }
 
 -- each node leads to an older one

@@ -1,0 +1,178 @@
+-- What a survey tells by the deliveries that it gathers, as it asks one after the other.
+use Rattle.causal_audit.proofs.Common.{ℕ, ◌≡◌, ◌+◌, ◌<◌, ◌≤◌, inl, inr, Bool, true, false, List, [], ◌∷◌, ◌++◌, length, Option, Some, None, refl, sym, ap, subst, ◌∙◌, arith, ◌==◌, ◌&&◌, nat_lt, option_map_or, set, slice_index, replicate, length-replicate, get_or_past, Contains, map-append, All-nil, All-push, Contains-append_left, Contains-push, cases_lt, cases_Bool, false≢true, cond-true, cond-false, eq-eqb, ne_eqb, eqb_tells, and_from, and_parts, le-ltb, get_or-set_same, get_or-set_other, Det, same_det, Entry, Send, Deliver, Stable, Crash, Restart, Forget, deliveries_in, det_at, det_of, det_then, instant, instant_length, AreAccepted}
+use Rattle.std.proofs.lemmas.Bool.{lt-ltb}
+use Rattle.std.proofs.lemmas.List.{get_or-replicate}
+use Rattle.causal_trace.specs.Numbers.{delivered_dets, number_of}
+use Rattle.causal_trace.proofs.Lemmas.DeliveryNumbers.{number_below}
+use Rattle.causal_audit.specs.Numbers.{ArePositions, is_delivery, IsNumbered}
+use Rattle.causal_audit.specs.declared.group.run_to_follow.OpenDelivery.{OpenDelivery}
+use Rattle.causal_audit.specs.Inside.Group.OpenDeliveries.{AreAsked, AreFollowed, AreGathered, Asked, IsDeliveryAt, IsOpenDelivery, IsTold, StayMarked, how_many, is_marked, positions_of}
+use Rattle.causal_audit.proofs.DeliveryNumbers.{numbered_below, numbered_later, numbered_one, numbered_some}
+use Rattle.causal_audit.proofs.Lemmas.NumberLemmas.{has_number}
+use Rattle.causal_audit.proofs.NoOrphanSoFar.{not_yet}
+use Rattle.causal_audit.proofs.group.OpenPositions.{position}
+use Rattle.causal_audit.proofs.index.Filings.{found_below, numbers_apart, same_is}
+
+-- ==== deliveries by their numbers, and by their determinants
+
+-- a delivery that comes next has a determinant
+own_det : (n : ℕ) (e : Entry) (past : List Entry) → AreAccepted n (e ∷ past) → is_delivery e ≡ true → (d : Det) × (det_of past e ≡ Some d)
+own_det n e past formed is =
+    let some = numbered_some n (e ∷ past) (deliveries_in past) (length past) formed (inr (refl, is, refl)) in
+    (some.0, sym (cond-true (length past == length past) (det_of past e) (det_at past (length past)) (eq-eqb (length past) (length past) refl)) ∙ some.1)
+
+-- so each delivery has one
+dets_counted : (n : ℕ) (past : List Entry) → AreAccepted n past → length (delivered_dets past) ≡ deliveries_in past
+dets_counted n [] formed = refl
+dets_counted n (Send from to ssn ∷ past) formed = dets_counted n past formed.0
+dets_counted n (Deliver to send rsn listed ∷ past) formed =
+    let own = own_det n (Deliver to send rsn listed) past formed refl in
+    omega (arith, ap (λ o. length (option_map_or (λ d. d ∷ delivered_dets past) o (delivered_dets past))) own.1, dets_counted n past formed.0)
+dets_counted n (Stable det ∷ past) formed = dets_counted n past formed.0
+dets_counted n (Crash who ∷ past) formed = dets_counted n past formed.0
+dets_counted n (Restart who listed ∷ past) formed = dets_counted n past formed.0
+dets_counted n (Forget who listed ∷ past) formed = dets_counted n past formed.0
+
+same_self : (d : Det) → same_det d d ≡ true
+same_self d =
+    and_from (d.source.0 == d.source.0) _ (eq-eqb d.source.0 d.source.0 refl)
+    (and_from (d.ssn == d.ssn) _ (eq-eqb d.ssn d.ssn refl) (and_from (d.dest.0 == d.dest.0) (d.rsn == d.rsn) (eq-eqb d.dest.0 d.dest.0 refl) (eq-eqb d.rsn d.rsn refl)))
+
+too_late : (k m : ℕ) (b : Bool) → m ≤ k → (nat_lt k m && b) ≡ false
+too_late k m b later = ap (λ c. c && b) (le-ltb k m later)
+
+numbered_within : (past : List Entry) (i k : ℕ) → IsNumbered past i k → k < length past
+numbered_within [] i k numbered = absurd numbered
+numbered_within (e ∷ past) i k (inl old) = omega (arith, numbered_within past i k old)
+numbered_within (e ∷ past) i k (inr new) = omega (arith, new.0)
+
+-- the newest of the deliveries up to one, with its determinant, is that
+pub number_of_own : (n : ℕ) (past : List Entry) → AreAccepted n past → (i k : ℕ) (d : Det) → IsNumbered past i k → det_at past k ≡ Some d → number_of (i + 1) (delivered_dets past) d ≡ Some i
+number_of_own n [] formed i k d numbered at = absurd numbered
+number_of_own n (e ∷ past) formed i k d (inr new) at =
+    let dets = delivered_dets past in
+    let own : det_of past e ≡ Some d = sym (cond-true (k == length past) (det_of past e) (det_at past k) (eq-eqb k (length past) new.0)) ∙ at in
+    let count : length dets ≡ i = dets_counted n past formed.0 ∙ sym new.2 in
+    let low : nat_lt (length dets) (i + 1) ≡ true = lt-ltb (length dets) (i + 1) (omega (arith, count)) in
+    ap (λ o. number_of (i + 1) (option_map_or (λ x. x ∷ dets) o dets) d) own
+    ∙ cond-true (nat_lt (length dets) (i + 1) && same_det d d) (Some (length dets)) (number_of (i + 1) dets d) (and_from (nat_lt (length dets) (i + 1)) (same_det d d) low (same_self d))
+    ∙ ap (λ x. Some x) count
+number_of_own n (e ∷ past) formed i k d (inl old) at =
+    let dets = delivered_dets past in
+    let early : k < length past = numbered_within past i k old in
+    let before : det_at past k ≡ Some d = sym (cond-false (k == length past) (det_of past e) (det_at past k) (ne_eqb k (length past) (λ is. omega (arith, is, early)))) ∙ at in
+    let below : i + 1 ≤ length dets = omega (arith, dets_counted n past formed.0, numbered_below past i k old) in
+    more (det_of past e) dets below (number_of_own n past formed.0 i k d old before)
+  where
+    more : (o : Option Det) (dets : List Det) → i + 1 ≤ length dets → number_of (i + 1) dets d ≡ Some i → number_of (i + 1) (option_map_or (λ x. x ∷ dets) o dets) d ≡ Some i
+    more None dets below is = is
+    more (Some x) dets below is = cond-false (nat_lt (length dets) (i + 1) && same_det x d) (Some (length dets)) (number_of (i + 1) dets d) (too_late (length dets) (i + 1) (same_det x d) below) ∙ is
+
+-- so it is where the positions of those before an instant are listed
+pub number_at_own : (n : ℕ) (past : List Entry) → AreAccepted n past → (end : ℕ) (positions : List ℕ) (i : ℕ) (d : Det) → end ≤ length past → ArePositions (instant past end) positions → i < length positions → det_at past (slice_index positions i) ≡ Some d
+    → number_of (i + 1) (delivered_dets past) d ≡ Some i
+number_at_own n past formed end positions i d within are low at =
+    let k = slice_index positions i in
+    number_of_own n past formed i k d (numbered_later past end i k within (are.each i low)) at
+
+-- the newest of some first ones is the newest up to itself
+pub number_of_found : (m : ℕ) (dets : List Det) (d : Det) (j : ℕ) → number_of m dets d ≡ Some j → number_of (j + 1) dets d ≡ Some j
+number_of_found m [] d j is = absurd (let x : None ≡ Some j = is in cc)
+number_of_found m (x ∷ older) d j is =
+    let one = nat_lt (length older) m && same_det x d in
+    elim (cases_Bool one) [
+      | inl found ↦
+          let own : Some (length older) ≡ Some j = sym (cond-true one (Some (length older)) (number_of m older d) found) ∙ is in
+          let last : length older ≡ j = cc (own) in
+          let low : nat_lt (length older) (j + 1) ≡ true = lt-ltb (length older) (j + 1) (omega (arith, last)) in
+          cond-true (nat_lt (length older) (j + 1) && same_det x d) (Some (length older)) (number_of (j + 1) older d) (and_from (nat_lt (length older) (j + 1)) (same_det x d) low (and_parts (nat_lt (length older) m) (same_det x d) found).1) ∙ own
+      | inr other ↦
+          let rest : number_of m older d ≡ Some j = sym (cond-false one (Some (length older)) (number_of m older d) other) ∙ is in
+          let low : j < length older = found_below (number_of m older d) (length older) j (number_below m older d) rest in
+          cond-false (nat_lt (length older) (j + 1) && same_det x d) (Some (length older)) (number_of (j + 1) older d) (too_late (length older) (j + 1) (same_det x d) (omega (arith, low)))
+          ∙ number_of_found m older d j rest
+    ]
+
+-- and the determinant is its own
+pub det_of_number : (n : ℕ) (past : List Entry) → AreAccepted n past → (j k : ℕ) (d : Det) → number_of (j + 1) (delivered_dets past) d ≡ Some j → IsNumbered past j k → det_at past k ≡ Some d
+det_of_number n past formed j k d is numbered =
+    let some = numbered_some n past j k formed numbered in
+    let same : some.0 ≡ d = same_is some.0 d (numbers_apart (j + 1) (delivered_dets past) some.0 d j (number_of_own n past formed j k some.0 numbered some.1) is) in
+    some.1 ∙ ap (λ x. Some x) same
+
+-- ==== what is told
+
+-- with one delivery more, what was told still is, and that is
+module _ (asked : Asked) (before : List OpenDelivery) (delivery : OpenDelivery) where
+  pub still_told : (k : ℕ) → IsTold asked before k → IsTold asked (before ++ delivery ∷ []) k
+  still_told k (inl among) = inl (subst (λ list. Contains list k) (sym (map-append position before (delivery ∷ []))) (Contains-append_left (positions_of before) (delivery.position ∷ []) k among))
+  still_told k (inr none) = inr none
+
+  pub now_told : IsTold asked (before ++ delivery ∷ []) delivery.position
+  now_told = inl (subst (λ list. Contains list delivery.position) (sym (map-append position before (delivery ∷ []))) (Contains-push (positions_of before) delivery.position))
+
+  pub more_followed : IsDeliveryAt asked.run.past delivery.position → IsOpenDelivery asked.run asked.f asked.end delivery → AreFollowed asked before → AreFollowed asked (before ++ delivery ∷ [])
+  more_followed made later so_far = record {
+    within = so_far.within;
+    deliveries = All-push (λ (x : OpenDelivery). IsDeliveryAt asked.run.past x.position) before delivery so_far.deliveries made;
+    none_later = All-push (IsOpenDelivery asked.run asked.f asked.end) before delivery so_far.none_later later;
+  }
+
+-- ---- marks
+
+pub mark_stays : (marks : List Bool) (i : ℕ) → i < length marks → StayMarked marks (set marks i true)
+mark_stays marks i low j was =
+    elim (eqb_tells j i) [
+      | inl same ↦ subst (λ x. is_marked (set marks i true) x ≡ true) (sym same.1) (get_or-set_same marks i true false low)
+      | inr other ↦ get_or-set_other marks i j true false other.1 ∙ was
+    ]
+
+pub none_marked : (n i : ℕ) → is_marked (replicate n false) i ≡ false
+none_marked n i =
+    elim (cases_lt i n) [
+      | inl low ↦ get_or-replicate n i false false low
+      | inr beyond ↦ get_or_past (replicate n false) i false (omega (arith, beyond, length-replicate n false))
+    ]
+
+-- where none is marked, none need be told
+pub none_asked : (asked : Asked) (marks : List Bool) (opened : List OpenDelivery) → asked.end ≤ length asked.run.past → opened ≡ [] → ((i : ℕ) → is_marked marks i ≡ false) → AreAsked asked marks opened
+none_asked asked marks opened within is none = record {
+  followed = subst (AreFollowed asked) (sym is) (record {
+    within = within;
+    deliveries = All-nil (λ (x : OpenDelivery). IsDeliveryAt asked.run.past x.position);
+    none_later = All-nil (IsOpenDelivery asked.run asked.f asked.end);
+  });
+  told = λ i k at marked. absurd (false≢true (sym (none i) ∙ marked));
+}
+
+-- one more delivery is told, and marked
+pub one_asked : (asked : Asked) (marks : List Bool) (before after : List OpenDelivery) (i k : ℕ) → IsNumbered asked.run.past i k → (AreFollowed asked before → AreFollowed asked after) → ((j : ℕ) → IsTold asked before j → IsTold asked after j)
+    → IsTold asked after k → AreAsked asked marks before → AreAsked asked (set marks i true) after
+one_asked asked marks before after i k numbered followed more told so_far = record {
+  followed = followed so_far.followed;
+  told = λ j m at marked. elim (eqb_tells j i) [
+    | inl same ↦ subst (IsTold asked after) (numbered_one asked.run.past i k m numbered (subst (λ x. IsNumbered asked.run.past x m) same.1 at)) told
+    | inr other ↦ more m (so_far.told j m at (sym (get_or-set_other marks i j true false other.1) ∙ marked))
+  ];
+}
+
+-- once all are marked, all are told
+pub all_told : (asked : Asked) (marks : List Bool) (opened : List OpenDelivery) → asked.end ≤ length asked.run.past → ((i : ℕ) → i < how_many asked → is_marked marks i ≡ true) → AreAsked asked marks opened → AreGathered asked opened
+all_told asked marks opened within marked so_far = record {
+  followed = so_far.followed;
+  all = λ k early made.
+      let past = asked.run.past in
+      let at : det_at (instant past asked.end) k ≡ Some made.0 = det_then past asked.end k early within ∙ made.1 in
+      let number = has_number (instant past asked.end) k made.0 at in
+      so_far.told number.0 k (numbered_later past asked.end number.0 k within number.2) (marked number.0 number.1);
+}
+
+-- the later deliveries are told too: they are still to come
+pub any_other : (asked : Asked) (opened : List OpenDelivery) → AreGathered asked opened → (k : ℕ) (d : Det) → det_at asked.run.past k ≡ Some d → IsTold asked opened k
+any_other asked opened gathered k d at =
+    elim (cases_lt k asked.end) [
+      | inl h ↦ gathered.all k h (d, at)
+      | inr h ↦ inr (λ t in_time has.
+          let size = instant_length asked.run.past t (omega (arith, in_time, gathered.followed.within)) in
+          not_yet asked.run.processes asked.f (instant asked.run.past t) k (omega (arith, h, in_time, size)) has)
+    ]
