@@ -11,11 +11,13 @@ import sys
 
 import run_scripts
 from generate import MAX_ENTRIES
-from timed import HERE, INPUTS, LIMIT, Measured, measure_in_turn, once, target_line
+from timed import HERE, INPUTS, LIMIT, TURNS, Measured, measure_in_turn, once, ratio_in_turn, target_line
 
 PROGRAM = os.path.join(HERE, "out", "runtime_bench")
 VALGRIND = shutil.which("valgrind")
-COUNTING = [VALGRIND, "--tool=callgrind", "--callgrind-out-file=/dev/null"]
+COUNTING = [VALGRIND, "--tool=cachegrind", "--cache-sim=no", "--cachegrind-out-file=/dev/null"]
+# It counts an instruction that repeats once for each byte, so memory is set and copied without them.
+PLAIN = ":".join(f"glibc.cpu.x86_rep_{each}_threshold=1073741824" for each in ("stosb", "movsb"))
 RUNS = 5  # how often a core delivers, unless that takes long
 KINDS = ("ring", "echo", "tally")
 SIZES = (2, 64, 256)
@@ -203,65 +205,71 @@ def check_run(part, program, about, run):
 
 
 def instructions(command, path):
-    """How many instructions a command takes on that input, by callgrind, which what else the machine does changes little."""
+    """How many instructions a command takes on that input. What else the machine does changes them little, unlike times."""
     with open(path, "rb") as file:
-        done = subprocess.run([*COUNTING, *command], stdin=file, capture_output=True, text=True, timeout=30 * LIMIT)
-    told = re.search(r"Collected\s*:\s*(\d+)", done.stderr)
+        done = subprocess.run([*COUNTING, *command], stdin=file, capture_output=True, text=True, timeout=30 * LIMIT,
+                              env={**os.environ, "GLIBC_TUNABLES": PLAIN})
+    told = re.search(r"I\s+refs:\s+([\d,]+)", done.stderr)
     if told is None:
-        sys.exit(f"callgrind tells nothing of {' '.join(command)}: {done.stderr}")
-    return int(told[1])
+        sys.exit(f"{VALGRIND} counts nothing of {' '.join(command)}: {done.stderr}")
+    return int(told[1].replace(",", ""))
 
 
-def costs(runs):
+def costs(commands):
     """What each command takes on its file: millions of instructions, or milliseconds of processor time where they cannot be
     counted."""
     if VALGRIND:
-        return [instructions(*run) / 1e6 for run in runs]
-    return [each.least_processor() * 1e3 for each in measure_in_turn(runs)]
+        return [instructions(*command) / 1e6 for command in commands]
+    return [each.least_processor() * 1e3 for each in measure_in_turn(commands)]
 
 
-def costs_of_script(program, path, about, trace):
-    """What a script costs: its reading, the core's calls, the making of the trace's text, the command, and the audit of the trace."""
-    script = about["script"]
+def costs_of_script(program, path, script):
+    """What a script costs: its reading, the core's calls, the making of the trace's text, and the command."""
     with open(path) as file:
         misended = written(f"misended-{script}", run_scripts.misended(file.read()))
-    audited = written(f"trace-of-{script}", trace + "\n")
-    read, run, audit, reading, calls, text = costs([
-        ([program, "run"], misended),
-        ([program, "run"], path),
-        ([program, "audit", "--faults", str(about["f"]), "--workers", "1"], audited),
-        *(([PROGRAM, "script", part], path) for part in ("reading", "calls", "text")),
-    ])
-    return read, calls - reading, text - calls, run, audit
+    parts = [([PROGRAM, "script", part], path) for part in ("reading", "calls", "text")]
+    read, run, reading, calls, text = costs([([program, "run"], misended), ([program, "run"], path), *parts])
+    return read, calls - reading, text - calls, run
 
 
 def measure_scripts(given):
     unit = "M" if VALGRIND else "ms"
     part = Part(
         "The command `run`, on scripts whose traces are as long as their kind of process can make them, beside the reading of the "
-        "same script with a last line that is none (*read*), the calls that it asks of a core (*core*), the making of the trace's text "
-        "(*text*), and the audit of the trace that it prints by one worker (*audit*): "
-        + ("millions of instructions, by callgrind." if VALGRIND else "milliseconds of processor time."),
+        "same script with a last line that is none (*read*), the calls that it asks of a core (*core*) and the making of the trace's "
+        "text (*text*), in " + ("millions of instructions, as `valgrind` counts them" if VALGRIND else "milliseconds of processor time")
+        + f". *run / audit* is of processor time, in turn with the audit of the printed trace by one worker, the median of {TURNS}: a count "
+        "of instructions lacks what the system does for new memory, of which `run` takes more.",
         ["script", "n", "f", "commands", "entries", "MB of trace", "wall s", "peak MB", f"read {unit}", f"core {unit}", f"text {unit}",
-         f"run {unit}", f"audit {unit}", "run / (read + text)", "run / audit"],
+         f"run {unit}", "run / (read + text)", "audit s", "run / audit"],
         1,
         f"run {unit}",
     )
     for script in run_scripts.SCRIPTS:
         path, about = make_script(script, given.part)
-        measured = measure_in_turn([([given.program, "run"], path)])[0]
-        if measured.over:
+        run = Measured()
+        once([given.program, "run"], path, run)
+        if run.over:
             part.wrong.append(f"{script}: over {LIMIT:.0f} s")
             continue
-        check_run(part, given.program, about, measured)
-        read, core, text, run, audit = costs_of_script(given.program, path, about, measured.line)
-        part.row(script, about["processes"], about["f"], f"{about['commands']:,}", f"{about['entries']:,}",
-                 f"{len(measured.line) / 1e6:.1f}", measured.told(), f"{measured.peak / 1e3:.1f}",
-                 *(f"{cost:.1f}" for cost in (read, core, text, run, audit)), f"{run / (read + text):.2f}", f"{run / audit:.2f}")
-        part.aim("`run` / the reading of the script and the making of the text", 2.0, f"`{script}`", run / (read + text))
-        if about["restarts"]:
-            part.aim("`run` with replays / the audit of its trace", 2.5, f"`{script}`", run / audit)
+        check_run(part, given.program, about, run)
+        measure_script(given, part, path, about, run.line)
     return part
+
+
+def measure_script(given, part, path, about, trace):
+    script, program = about["script"], given.program
+    printed = written(f"trace-of-{script}", trace + "\n")
+    audit = [program, "audit", "--faults", str(about["f"]), "--workers", "1"]
+    ran, audited = measure_in_turn([([program, "run"], path), (audit, printed)])
+    read, core, text, run = costs_of_script(program, path, script)
+    beside_text, beside_audit = run / (read + text), ratio_in_turn(ran, audited)
+    part.row(script, about["processes"], about["f"], f"{about['commands']:,}", f"{about['entries']:,}", f"{len(trace) / 1e6:.1f}",
+             ran.told(), f"{ran.peak / 1e3:.1f}", *(f"{cost:.1f}" for cost in (read, core, text, run)), f"{beside_text:.2f}",
+             f"{audited.least_processor():.3f}", f"{beside_audit:.2f}")
+    part.aim("`run` / the reading of the script and the making of the text", 2.0, f"`{script}`", beside_text)
+    if about["restarts"]:
+        part.aim("`run` with replays / the audit of its trace", 2.5, f"`{script}`", beside_audit)
 
 
 def measure_texts(given):
