@@ -321,13 +321,21 @@ HEAD = """\
 `bench/run` makes traces and scripts, measures the program on them, and rewrites this file.
 """
 
-ABOUT = """\
+AUDIT = """\
 ### Targets
 
 {targets}
 
 ### Table
 
+{about}
+
+{table}
+"""
+
+LIKE_AUDIT = "The rows are of the traces that the section 'Audit' lists, and its columns are told there."
+
+ABOUT = """\
 {shapes}
 - {variants}.
 {hostile}
@@ -344,10 +352,7 @@ are of a whole run of the program. *read* is a run on the same text with a wrong
 and each entry checked, but not judged; *judge* is the difference. *wc -l*, *Python JSON* and *kit JSON* are the yardsticks on the same bytes: a count of the lines, and
 programs that read each line to a value by Python's `json` and by the kit's `serde_json`, and drop it. A trace's own size is
 40 bytes an entry and 12 a listed determinant; what the kit's reader takes is the program and the longest line's value.
-*wall / last* is against the table that stood here before, if that was of a machine of this kind. MB are 10^6 bytes.
-
-{table}
-"""
+*wall / last* is against the table that stood here before, if that was of a machine of this kind. MB are 10^6 bytes."""
 
 
 def table_of(rows, before):
@@ -367,21 +372,21 @@ def table_of(rows, before):
     return "\n".join(lines)
 
 
-def audit_section(rows, before):
+def about_audit():
+    """What the rows and the columns are."""
     return ABOUT.format(
-        targets="\n".join(targets(rows)),
         shapes="\n".join(f"- `{name}`: {text}." for name, text in generate.SHAPES.items()),
         variants="; ".join(f"`{name}`: {text}" for name, text in generate.VARIANTS.items()),
         hostile="\n".join(f"- `{name} hostile`: {text}." for name, text in {**hostile.SHAPES, **hostile.LINES}.items()),
         turns=TURNS,
         slow=SLOW,
         limit=LIMIT,
-        table=table_of(rows, before),
     )
 
 
-def measure_audit(given, start, rows):
-    """The section on the audit by these rows, and what was answered wrongly."""
+def measure_audit(given, start, part):
+    """The section on the audit by a part's rows, and what was answered wrongly."""
+    rows = AUDITS[part]()
     abouts = make_inputs(rows, given.seed)
     rows = [Row(abouts[row[:3]], row[3]) for row in rows]
     for row in rows:
@@ -389,7 +394,9 @@ def measure_audit(given, start, rows):
             text = (row.about["shape"], row.about["variant"], row.about["f_word"])
             measure_row(row, given.program, path_of(text))
             print(*row.key(), row.full.told(), *row.wrong, file=sys.stderr, flush=True)
-    return audit_section(rows, earlier_walls(machine())), [line for row in rows for line in row.wrong]
+    about = about_audit() if part == "audit" else LIKE_AUDIT
+    text = AUDIT.format(targets="\n".join(targets(rows)), about=about, table=table_of(rows, earlier_walls(machine())))
+    return text, [line for row in rows for line in row.wrong]
 
 
 def facts_of(part, given, load, start):
@@ -440,7 +447,7 @@ SECTIONS = {
 MEASURES = {
     "runtime": lambda given, start: measure_runtime(given, earlier("Runtime")),
     "log": lambda given, start: runtime_log.section(),
-    **{part: lambda given, start, made=made: measure_audit(given, start, made()) for part, made in AUDITS.items()},
+    **{part: lambda given, start, part=part: measure_audit(given, start, part) for part in AUDITS},
     "shown": lambda given, start: measure_shown(given, earlier("Why a verdict is so")),
 }
 

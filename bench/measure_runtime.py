@@ -5,14 +5,20 @@ Each part answers a `Part`. A further part is a further function in `PARTS`.
 """
 import os
 import re
+import shutil
 import subprocess
 import sys
 
 import run_scripts
 from generate import MAX_ENTRIES
-from timed import HERE, INPUTS, LIMIT, Measured, measure, once, target_line
+from timed import HERE, INPUTS, LIMIT, TURNS, Measured, measure_in_turn, once, ratio_in_turn, target_line
 
 PROGRAM = os.path.join(HERE, "out", "runtime_bench")
+VALGRIND = shutil.which("valgrind")
+COUNTING = [VALGRIND, "--tool=cachegrind", "--cache-sim=no", "--cachegrind-out-file=/dev/null"]
+# It counts an instruction that repeats once for each byte, so memory is set and copied without them.
+PLAIN = ":".join(f"glibc.cpu.x86_rep_{each}_threshold=1073741824" for each in ("stosb", "movsb"))
+RUNS = 5  # how often a core delivers, unless that takes long
 KINDS = ("ring", "echo", "tally")
 SIZES = (2, 64, 256)
 FAULTS = (0, 1, 2, 8, "n")
@@ -21,7 +27,7 @@ CALLS = {"refusals": 800_000, "deliveries": 24_000}
 
 
 class Part:
-    """A table with a few words on it, the targets that it meets or misses, and what was answered wrongly. The first `keys`
+    """A table with a few words on it, the targets that its rows meet or miss, and what was answered wrongly. The first `keys`
     columns say which row it is, and the one named `timed` is compared with the table that stood there before."""
 
     def __init__(self, text, names, keys, timed):
@@ -30,12 +36,23 @@ class Part:
         self.keys = keys
         self.timed = names.index(timed)
         self.rows = []
-        self.targets = []
+        self.aims = {}
         self.wrong = []
 
     def row(self, *cells):
         self.rows.append(cells)
         print(*cells[:3], "..", *cells[-2:], file=sys.stderr, flush=True)
+
+    def aim(self, target, bound, row, value):
+        """What a row has measured of a target."""
+        self.aims.setdefault((target, bound), []).append((value, row))
+
+    def targets(self):
+        """Each target by the row that is worst."""
+        for (target, bound), measured in self.aims.items():
+            value, row = max(measured)
+            met = sum(each <= bound for each, _ in measured)
+            yield target_line(f"{target}, at worst {row}; {met} of {len(measured)} meet it", value, bound)
 
     def told(self, before):
         lines = [self.text, "", "| " + " | ".join(self.names) + " |", "|" + "---|" * len(self.names)]
@@ -66,27 +83,27 @@ def tables(text):
     return found
 
 
-def figures(words, given=None):
+def figures(words):
     """The figures of one run of the program; none where it failed or was stopped."""
-    with open(given or os.devnull, "rb") as file:
-        try:
-            done = subprocess.run([PROGRAM, *map(str, words)], stdin=file, capture_output=True, text=True, timeout=LIMIT)
-        except subprocess.TimeoutExpired:
-            return None
+    try:
+        done = subprocess.run([PROGRAM, *map(str, words)], stdin=subprocess.DEVNULL, capture_output=True, text=True, timeout=LIMIT)
+    except subprocess.TimeoutExpired:
+        return None
     return [int(word) for word in done.stdout.split()] if done.returncode == 0 else None
 
 
-def best(words, time, sure):
-    """The figures of the fastest of three runs, or of one that took so many seconds; `time` is the place of the time."""
-    least = None
-    for _ in range(3):
+def delivered(words):
+    """How many entries, deliveries and listed determinants a core had, and the nanoseconds of the making of the text and of each
+    thousand of deliveries, each the least of some runs."""
+    runs, spent = [], 0
+    while len(runs) < RUNS and spent < 1e9:
         told = figures(words)
         if told is None:
             return None
-        least = told if least is None else min(least, told, key=lambda each: each[time] / each[1])
-        if told[time] > sure * 1e9:
-            break
-    return least
+        runs.append(told)
+        spent += sum(told[3:])
+    writing, *thousands = (min(times) for times in zip(*(told[3:] for told in runs)))
+    return *runs[0][:3], writing, thousands
 
 
 def measure_cores(given):
@@ -94,11 +111,11 @@ def measure_cores(given):
         "A core whose processes send a message for each that they get: round a ring, to and fro between pairs, and between "
         "process 0 and the others. What is on its way is delivered in the order in which it was sent, until the trace is "
         f"full or {given.core_seconds} s have gone by. For *f* = 0 each delivery lists its own determinant alone, so that the "
-        "trace is full of entries. For more faults lists grow until 1,048,576 determinants are listed. The thousands are those "
-        "deliveries that were made one after the other; *a listed one* is a determinant that a delivery lists. *text* is the "
-        "making of the text of the same trace, after the run.",
-        ["kind", "n", "f", "entries", "listed", "ended", "deliveries/s", "µs each", "ns a listed one", "fastest thousand ms", "slowest ms", "slowest / fastest",
-         "text ms", "deliveries / text"],
+        "trace is full of entries, and all thousands of deliveries have as much to do. For more faults lists grow until "
+        f"1,048,576 determinants are listed. Each thousand is told at the least of {RUNS} runs, and so is the making of the text of the "
+        "trace after them (*text*). *a listed one* is a determinant that a delivery lists.",
+        ["kind", "n", "f", "entries", "listed", "ended", "µs each", "ns a listed one", "text ns a listed one", "deliveries / text",
+         "fastest thousand ms", "slowest ms", "slowest / fastest"],
         3,
         "µs each",
     )
@@ -106,26 +123,31 @@ def measure_cores(given):
         for kind in KINDS:
             for n in SIZES:
                 f = n if fault == "n" else fault
-                if fault != "n" and f >= n:
-                    continue
-                told = best(["core", kind, n, f, given.core_seconds], 3, 0.7)
-                if told is None:
-                    part.wrong.append(f"core {kind} {n} {f}: no figures")
-                    continue
-                entries, deliveries, listed, nanos, fastest, slowest, writing = told
-                ended = "time" if nanos > given.core_seconds * 1e9 else "entries" if entries > MAX_ENTRIES - 9 else "listed"
-                part.row(kind, n, f, f"{entries:,}", f"{listed:,}", ended, f"{deliveries / nanos * 1e9:,.0f}",
-                         f"{nanos / deliveries / 1e3:.2f}", f"{nanos / listed:.0f}", f"{fastest / 1e6:.2f}", f"{slowest / 1e6:.2f}",
-                         f"{slowest / fastest:.2f}", f"{writing / 1e6:.1f}", f"{nanos / writing:.2f}")
-                if f == 0:
-                    name = f"`{kind}` of {n}, f = 0, up to {entries:,} entries: the slowest thousand deliveries / the fastest"
-                    part.targets.append(target_line(name, slowest / fastest, 2.0, ended == "time"))
-                else:
-                    name = f"`{kind}` of {n}, f = {f}, {listed:,} listed: ns for each listed determinant / 60"
-                    part.targets.append(target_line(name, nanos / listed / 60, 1.0, ended == "time"))
-                    name = f"`{kind}` of {n}, f = {f}, {listed:,} listed: the deliveries / the making of the text"
-                    part.targets.append(target_line(name, nanos / writing, 3.0, ended == "time"))
+                if fault == "n" or f < n:
+                    measure_core(given, part, kind, n, f)
     return part
+
+
+def measure_core(given, part, kind, n, f):
+    told = delivered(["core", kind, n, f, given.core_seconds])
+    if told is None:
+        part.wrong.append(f"core {kind} {n} {f}: no figures")
+        return
+    entries, deliveries, listed, writing, thousands = told
+    nanos = sum(thousands)
+    ended = "time" if nanos > given.core_seconds * 1e9 else "entries" if entries > MAX_ENTRIES - 9 else "listed"
+    row = f"`{kind}` of {n} for {f}"
+    compared = ["", "", ""]
+    if f == 0:
+        whole = thousands[: deliveries // 1000]
+        fastest, slowest = min(whole), max(whole)
+        compared = [f"{fastest / 1e6:.2f}", f"{slowest / 1e6:.2f}", f"{slowest / fastest:.2f}"]
+        part.aim("f = 0: the slowest thousand deliveries / the fastest", 2.0, row, slowest / fastest)
+    else:
+        part.aim("long lists: ns for each listed determinant", 60.0, row, nanos / listed)
+        part.aim("long lists: the deliveries / the making of the text", 3.0, row, nanos / writing)
+    part.row(kind, n, f, f"{entries:,}", f"{listed:,}", ended, f"{nanos / deliveries / 1e3:.2f}", f"{nanos / listed:.0f}",
+             f"{writing / listed:.0f}", f"{nanos / writing:.2f}", *compared)
 
 
 def measure_seats(given):
@@ -140,23 +162,28 @@ def measure_seats(given):
     for asking, calls in CALLS.items():
         alone = None
         for seats in SEATS:
-            told = best(["shared", seats, asking, calls // given.part], 1, 1.5)
-            if told is None:
+            runs = [figures(["shared", seats, asking, calls // given.part]) for _ in range(3)]
+            if None in runs:
                 part.wrong.append(f"shared {seats} {asking}: no figures")
                 continue
-            made, nanos = told
+            made, nanos = min(runs)
             alone = alone or nanos / made
             part.row(asking, seats, f"{made:,}", f"{nanos / 1e9:.3f}", f"{made / nanos * 1e9:,.0f}", f"{nanos / made / 1e3:.2f}",
                      f"{alone / (nanos / made):.2f}")
     return part
 
 
-def make_script(script, part):
-    text, about = run_scripts.make(script, part)
-    path = os.path.join(INPUTS, "script-" + script.replace(" ", "_"))
+def written(name, text):
+    """The path of a file with this text."""
+    path = os.path.join(INPUTS, name.replace(" ", "_"))
     with open(path, "w") as file:
         file.write(text)
-    return path, about
+    return path
+
+
+def make_script(script, part):
+    text, about = run_scripts.make(script, part)
+    return written(f"script-{script}", text), about
 
 
 def judged(program, trace, about):
@@ -177,54 +204,72 @@ def check_run(part, program, about, run):
             part.wrong.append(f"{about['script']}: {wrong}")
 
 
-def run_beside_core(program, path):
-    """The command, and the program that makes the same calls of a core alone, in turn: five times each."""
-    run, core = Measured(), []
-    while len(run.walls) < 5 and not run.over:
-        once([program, "run"], path, run)
-        core.append(figures(["script"], path))
-        if run.walls and run.walls[0] > LIMIT / 4:
-            break
-    return run, core
+def instructions(command, path):
+    """How many instructions a command takes on that input. What else the machine does changes them little, unlike times."""
+    with open(path, "rb") as file:
+        done = subprocess.run([*COUNTING, *command], stdin=file, capture_output=True, text=True, timeout=30 * LIMIT,
+                              env={**os.environ, "GLIBC_TUNABLES": PLAIN})
+    told = re.search(r"I\s+refs:\s+([\d,]+)", done.stderr)
+    if told is None:
+        sys.exit(f"{VALGRIND} counts nothing of {' '.join(command)}: {done.stderr}")
+    return int(told[1].replace(",", ""))
 
 
-def audit_of(program, script, trace, faults):
-    """The audit of the trace that was printed, some times."""
-    path = os.path.join(INPUTS, "trace-of-" + script.replace(" ", "_"))
-    with open(path, "w") as file:
-        file.write(trace + "\n")
-    return measure([program, "audit", "--faults", str(faults)], path)
+def costs(commands):
+    """What each command takes on its file: millions of instructions, or milliseconds of processor time where they cannot be
+    counted."""
+    if VALGRIND:
+        return [instructions(*command) / 1e6 for command in commands]
+    return [each.least_processor() * 1e3 for each in measure_in_turn(commands)]
+
+
+def costs_of_script(program, path, script):
+    """What a script costs: its reading, the core's calls, the making of the trace's text, and the command."""
+    with open(path) as file:
+        misended = written(f"misended-{script}", run_scripts.misended(file.read()))
+    parts = [([PROGRAM, "script", part], path) for part in ("reading", "calls", "text")]
+    read, run, reading, calls, text = costs([([program, "run"], misended), ([program, "run"], path), *parts])
+    return read, calls - reading, text - calls, run
 
 
 def measure_scripts(given):
+    unit = "M" if VALGRIND else "ms"
     part = Part(
         "The command `run`, on scripts whose traces are as long as their kind of process can make them, beside the reading of the "
-        "script (*read*), a core alone that is called as the script says (*core*), the making of the trace's text (*text*), and the "
-        "audit of the trace that it prints (*audit*).",
-        ["script", "n", "commands", "entries", "MB of trace", "answer", "wall s", "user s", "peak MB", "read s", "core s", "text s",
-         "audit s", "wall / (core + text)", "wall / (read + text)", "wall / audit"],
+        "same script with a last line that is none (*read*), the calls that it asks of a core (*core*) and the making of the trace's "
+        "text (*text*), in " + ("millions of instructions, as `valgrind` counts them" if VALGRIND else "milliseconds of processor time")
+        + f". *run / audit* is of processor time, in turn with the audit of the printed trace by one worker, the median of {TURNS}: a count "
+        "of instructions lacks what the system does for new memory, of which `run` takes more.",
+        ["script", "n", "f", "commands", "entries", "MB of trace", "wall s", "peak MB", f"read {unit}", f"core {unit}", f"text {unit}",
+         f"run {unit}", "run / (read + text)", "audit s", "run / audit"],
         1,
-        "wall s",
+        f"run {unit}",
     )
     for script in run_scripts.SCRIPTS:
         path, about = make_script(script, given.part)
-        run, core = run_beside_core(given.program, path)
-        if run.over or None in core:
-            part.wrong.append(f"{script}: over {LIMIT:.0f} s" if run.over else f"{script}: the core alone refused")
+        run = Measured()
+        once([given.program, "run"], path, run)
+        if run.over:
+            part.wrong.append(f"{script}: over {LIMIT:.0f} s")
             continue
         check_run(part, given.program, about, run)
-        read, calls, text = (min(told[place] for told in core) / 1e9 for place in (3, 4, 5))
-        audit = audit_of(given.program, script, run.line, about["f"]).best()
-        ratios = [run.best() / (calls + text), run.best() / (read + text), run.best() / audit]
-        part.row(script, about["processes"], f"{about['commands']:,}", f"{about['entries']:,}", f"{core[0][2] / 1e6:.1f}",
-                 "trace" if run.status == 0 else "WRONG", run.told(), f"{min(run.users):.3f}", f"{run.peak / 1e3:.1f}",
-                 f"{read:.3f}", f"{calls:.3f}", f"{text:.3f}", f"{audit:.3f}", *(f"{ratio:.2f}" for ratio in ratios))
-        name = f"`run` of `{script}`, {about['entries']:,} entries"
-        part.targets.append(target_line(f"{name} / the core's calls and the making of the text", ratios[0], 3.0))
-        part.targets.append(target_line(f"{name} / the reading of the script and the making of the text", ratios[1], 2.0))
-        if about["restarts"]:
-            part.targets.append(target_line(f"{name}, with replays / the audit of its trace", ratios[2], 2.5))
+        measure_script(given, part, path, about, run.line)
     return part
+
+
+def measure_script(given, part, path, about, trace):
+    script, program = about["script"], given.program
+    printed = written(f"trace-of-{script}", trace + "\n")
+    audit = [program, "audit", "--faults", str(about["f"]), "--workers", "1"]
+    ran, audited = measure_in_turn([([program, "run"], path), (audit, printed)])
+    read, core, text, run = costs_of_script(program, path, script)
+    beside_text, beside_audit = run / (read + text), ratio_in_turn(ran, audited)
+    part.row(script, about["processes"], about["f"], f"{about['commands']:,}", f"{about['entries']:,}", f"{len(trace) / 1e6:.1f}",
+             ran.told(), f"{ran.peak / 1e3:.1f}", *(f"{cost:.1f}" for cost in (read, core, text, run)), f"{beside_text:.2f}",
+             f"{audited.least_processor():.3f}", f"{beside_audit:.2f}")
+    part.aim("`run` / the reading of the script and the making of the text", 2.0, f"`{script}`", beside_text)
+    if about["restarts"]:
+        part.aim("`run` with replays / the audit of its trace", 2.5, f"`{script}`", beside_audit)
 
 
 def measure_texts(given):
@@ -246,8 +291,7 @@ def measure_texts(given):
         check_run(part, given.program, about, run)
         part.row(script, f"{about['bytes']:,}", f"{about['commands'] + 2:,}", run.line, run.told(), f"{min(run.users):.3f}",
                  f"{run.peak / 1e3:.1f}", f"{about['bytes'] / 1e6 / run.best():.1f}")
-        name = f"reading a script of 1,048,576 bytes in {script}: seconds / 0.5"
-        part.targets.append(target_line(name, run.best() / 0.5, 1.0))
+        part.aim("reading a script of 1,048,576 bytes: seconds", 0.5, script, run.best())
     return part
 
 
@@ -263,7 +307,7 @@ def measure_runtime(given, before):
     parts = [tell(given) for tell in PARTS]
     wrong = [line for part in parts for line in part.wrong]
     lines = ["| Target | At most | Measured | Met |", "|---|---|---|---|"]
-    lines += [line for part in parts for line in part.targets]
+    lines += [line for part in parts for line in part.targets()]
     text = "\n".join(lines) + "\n\n" + "\n\n".join(part.told(before) for part in parts if part.rows)
     if wrong:
         text += "\n\nWrong answers:\n\n" + "\n".join(f"- {line}" for line in wrong)

@@ -151,6 +151,11 @@ def filled(line, size):
     return text + "x" * (size - len(text) - 1) + "\n"
 
 
+def misended(text):
+    """The same script with a last line that is none: it is read whole, and nothing runs."""
+    return text[: text.rindex("\n", 0, -1) + 1] + "x\n"
+
+
 def make(script, part=1):
     """The text and what is known of it."""
     if script in TEXTS:

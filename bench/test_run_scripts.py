@@ -130,6 +130,11 @@ class Scripts(unittest.TestCase):
                 with self.subTest(script=script):
                     self.assertEqual(crashing in (0, 1), self.check(script, 1).restarts > 0)
 
+    def test_a_last_line_that_is_none(self):
+        for script in run_scripts.SCRIPTS:
+            text, _ = run_scripts.make(script, PART)
+            self.assertEqual(run_scripts.misended(text).split("\n"), [*text.split("\n")[:-2], "x", ""])
+
     def test_texts_of_full_length(self):
         for script in run_scripts.TEXTS:
             text, about = run_scripts.make(script)
