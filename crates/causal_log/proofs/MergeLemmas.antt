@@ -302,6 +302,12 @@ module _ (f : ℕ) (log : LogMap) (det : Det) (heard : Known) (out rest : List I
       none None h = refl
       none (Some k) h = absurd (true≢false h)
 
+-- where messages carry nothing, they carry nothing once items are taken in that tell of nothing that they carry on
+pub none_carried : (f : ℕ) (from me : Pid) (items : List Item) (log : LogMap) → ((item : Item) → is_carried f (told from me item).1 ≡ false) → [] ≡ chosen f log → [] ≡ chosen f (absorbed items from me log)
+none_carried f from me [] log never is = is
+none_carried f from me (x ∷ xs) log never is =
+    none_carried f from me xs (learned log x.det (told from me x).1) never (still_out f log x.det (told from me x).1 [] [] is refl refl (never x))
+
 -- the items from a place on begin with the one that stands there
 pub drop_got : (xs : List Item) (i : ℕ) (x : Item) → slice_get xs i ≡ Some x → drop i xs ≡ x ∷ drop (i + 1) xs
 drop_got [] i x h = absurd (true≢false (sym (ap is_some h)))

@@ -76,6 +76,10 @@ module _ {V : Type 0} where
   pub read_det : (es : List (Det × V)) (i : ℕ) (x : Det × V) (d : Det) (was : V) → slice_get es i ≡ Some (d, was) → x ≡ get_or es i x → x.0 ≡ d
   read_det es i x d was at read = ap (λ y. y.0) (read ∙ get_or_from_slice_get es i (d, was) x at)
 
+  -- and the value
+  pub read_value : (es : List (Det × V)) (i : ℕ) (x : Det × V) (d : Det) (was : V) → slice_get es i ≡ Some (d, was) → x ≡ get_or es i x → x.1 ≡ was
+  read_value es i x d was at read = ap (λ y. y.1) (read ∙ get_or_from_slice_get es i (d, was) x at)
+
 -- no determinant stands twice in no entries
 pub none_distinct : IsDistinct same_det []
 unfolding IsDistinct

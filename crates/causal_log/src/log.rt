@@ -354,10 +354,10 @@ impl Log {
         ensures marked { self.new.map ≡ marked self.old.map det }
         ensures spare { self.new.spare ≡ self.old.spare }
     {
-        let Some((place, known)) = self.entries.find(det) else {
+        let Some((place, _)) = self.entries.find(det) else {
             return false;
         };
-        self.entries.set(place, known.marked());
+        self.entries.join(place, Known::nothing().marked());
         mark(&mut self.carried);
         true
     }

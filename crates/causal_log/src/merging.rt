@@ -5,6 +5,8 @@ ghost use Rattle.std.specs.Prelude.{◌≡◌, ◌≤◌, ◌+◌, ◌++◌, ◌
 ghost use Rattle.std.specs.FinMap as fin;
 ghost use Rattle.causal_name.specs.declared.Det.{Det};
 ghost use Rattle.causal_name.specs.Names.{is_ascending, is_before, same_det};
+ghost use Rattle.causal_log.specs.declared.batch.Item.{Item};
+ghost use Rattle.causal_log.specs.Knowledge.{told, is_carried};
 ghost use Rattle.causal_log.specs.Logs.{LogMap, log_of, chosen, dets_of, names_det};
 ghost use Rattle.causal_log.specs.Inside.Carried.{with_carried, HearsNext};
 ghost use Rattle.causal_log.specs.Inside.Merges.{EndBefore, IsPassed, is_known, source_of, heard_of, taken};
@@ -12,6 +14,7 @@ ghost use Rattle.causal_log.specs.Inside.Merges.{EndBefore, IsPassed, is_known, 
 use crate::batch::Item;
 use crate::known::{Known, told};
 use crate::table::Table;
+use causal_holders::Holders;
 use causal_name::{Det, NoMemory, Pid};
 use std::alloc::Global;
 
@@ -25,6 +28,16 @@ pub(crate) struct Delivery<'a> {
     pub from: Pid,
     pub me: Pid,
     pub f: u16,
+}
+
+impl Delivery<'_> {
+    /// Whether messages may carry what its items tell: its sender and its receiver hold that, and may be too many.
+    fn may_carry(&self) -> bool
+        ensures { result ≡ false → (item : Item) →
+            is_carried self.now.f (told self.now.from self.now.me item).1 ≡ false }
+    {
+        self.f > u16::from(self.me != self.from)
+    }
 }
 
 /// Passes on what comes before a determinant, and tells the place of what comes next.
@@ -84,36 +97,37 @@ fn is_logged(entries: &Table, named: &[Item], det: Det) -> bool
     entries.find(det).is_some() || name(named, det)
 }
 
-/// Passes on a determinant of which this is heard: the next one of what is kept, or one that was not logged. Of another one
-/// messages carry nothing from then on either.
+/// Passes on the determinant of an item: the next one of what is kept, or one that was not logged. Of another one messages carry
+/// nothing from then on either.
 fn meet(
     out: &mut Vec<Item>,
     kept: &[Item],
     place: usize,
     delivery: &Delivery<'_>,
     named: &[Item],
-    det: Det,
-    heard: Known,
+    item: &Item,
 ) -> Result<usize, NoMemory>
     requires within { place ≤ length kept.now }
-    requires before { EndBefore out.old.items det }
-    requires next { IsPassed kept.now place det }
+    requires before { EndBefore out.old.items item.now.det }
+    requires next { IsPassed kept.now place item.now.det }
     ensures within { IfOk result (λ next. next ≤ length kept.now) }
     ensures heard { IfOk result (λ next. (log : LogMap) →
-        is_some (fin.get log det) ≡ is_known (source_of delivery.now) named.now det →
-        HearsNext delivery.now.f det heard log
+        is_some (fin.get log item.now.det) ≡ is_known (source_of delivery.now) named.now item.now.det →
+        HearsNext delivery.now.f item.now.det (told delivery.now.from delivery.now.me item.now).1 log
         (out.old.items ++ drop place kept.now) (out.new.items ++ drop next kept.now)) }
     ensures before { OnOk result
-        ((d : Det) → is_before det d ≡ true → EndBefore out.new.items d) }
+        ((d : Det) → is_before item.now.det d ≡ true → EndBefore out.new.items d) }
 {
-    if let Some(item) = next_of(kept, place, det) {
-        carry(out, det, item.known().joined(heard), delivery.f)?;
+    if let Some(next) = next_of(kept, place, item.det) {
+        let heard = told(delivery.from, delivery.me, item);
+        carry(out, item.det, next.known().joined(heard), delivery.f)?;
         return Ok(place + 1);
     }
-    if !heard.is_carried(delivery.f) || is_logged(delivery.entries, named, det) {
+    if !delivery.may_carry() || is_logged(delivery.entries, named, item.det) {
         return Ok(place);
     }
-    carry(out, det, Known::nothing().joined(heard), delivery.f)?;
+    let heard = told(delivery.from, delivery.me, item);
+    carry(out, item.det, heard, delivery.f)?;
     Ok(place)
 }
 
@@ -123,28 +137,36 @@ fn merged(alloc: Global, kept: &[Item], delivery: &Delivery<'_>) -> Result<Vec<I
     requires ascending { is_ascending (dets_of delivery.now.items.now) ≡ true }
     ensures { IfOk result (λ out. out.items ≡ chosen delivery.now.f (heard_of delivery.now)) }
 {
+    if kept.is_empty() && !delivery.may_carry() {
+        return Ok(Vec::new(alloc));
+    }
     let items = delivery.items;
     let mut out = Vec::with_capacity(alloc, kept.len())?;
     let mut place = 0;
     for item in items {
-        let (det, heard) = told(delivery.from, delivery.me, item);
-        place = pass(&mut out, kept, place, det)?;
-        place = meet(&mut out, kept, place, delivery, &[], det, heard)?;
+        place = pass(&mut out, kept, place, item.det)?;
+        place = meet(&mut out, kept, place, delivery, &[], item)?;
     }
     out.extend_from_slice(&kept[place..])?;
     Ok(out)
 }
 
-/// What messages carry once the own determinant is taken in too.
+/// What messages carry once the own determinant is taken in too, which its receiver alone holds.
 fn merged_own(alloc: Global, kept: &[Item], delivery: &Delivery<'_>) -> Result<Vec<Item>, NoMemory>
     requires { kept.now ≡ chosen delivery.now.f (heard_of delivery.now) }
     ensures { IfOk result (λ out. out.items ≡ chosen delivery.now.f (taken delivery.now)) }
 {
-    let own = delivery.own;
-    let held = Known::held(delivery.me);
+    let det = delivery.own;
+    if kept.is_empty() && (delivery.f == 0 || is_logged(delivery.entries, delivery.items, det)) {
+        return Ok(Vec::new(alloc));
+    }
+    let holders = Holders::none();
+    let own = Item { det, holders };
+    let from = delivery.me;
+    let held = Delivery { from, ..*delivery };
     let mut out = Vec::with_capacity(alloc, kept.len())?;
-    let next = pass(&mut out, kept, 0, own)?;
-    let place = meet(&mut out, kept, next, delivery, delivery.items, own, held)?;
+    let next = pass(&mut out, kept, 0, det)?;
+    let place = meet(&mut out, kept, next, &held, delivery.items, &own)?;
     out.extend_from_slice(&kept[place..])?;
     Ok(out)
 }

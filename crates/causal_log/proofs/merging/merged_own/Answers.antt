@@ -1,10 +1,15 @@
-use Rattle.std.proofs.Common.{◌∙◌, ◌++◌, ap}
+use Rattle.std.proofs.Common.{◌≡◌, ◌∙◌, ◌++◌, [], length, refl, sym, ap, arith}
+use Rattle.std.proofs.lemmas.Bool.{eqb-true}
+use Rattle.std.proofs.lemmas.List.{nil_from_length}
 use Rattle.causal_name.specs.Names.{is_ascending}
+use Rattle.causal_log.specs.Knowledge.{held_by, told}
 use Rattle.causal_log.specs.Logs.{learned, chosen, dets_of}
 use Rattle.causal_log.specs.Inside.Merges.{source_of, heard_of}
 use Rattle.causal_log.proofs.Lemmas.AbsorbKnows.{absorbed_logged}
 use Rattle.causal_log.proofs.Lemmas.ChosenLemmas.{chosen_ascend}
-use Rattle.causal_log.proofs.MergeLemmas.{cut_rest}
+use Rattle.causal_log.proofs.KnownLemmas.{held_out, told_itself}
+use Rattle.causal_log.proofs.MergeLemmas.{cut_rest, still_out, logged_out}
+use Rattle.causal_log.proofs.merging.merged_own.Goals.{then-delivery-eq0, else-delivery-eq0}
 use Rattle.causal_log.proofs.merging.merged_own.Goals as goal
 
 pub pass-requires-clause-ascending : goal.pass-requires-clause-ascending
@@ -20,4 +25,20 @@ returns c =
     ∙ ap (λ xs. c.meet.new.out.items ++ xs) (cut_rest c.args.kept.now c.in_ok-place.place)
     ∙ c.in_ok-place.ensures.heard (heard_of d) (absorbed_logged d.items.now d.from d.me (source_of d) d.own)
     (c.in_ok-next.ensures.same ∙ ap (λ xs. xs ++ c.args.kept.now) c.in_ok-out.ensures.items ∙ c.requires)
-    ∙ ap (λ k. chosen d.f (learned (heard_of d) d.own k)) c.held-held.ensures
+    ∙ ap (λ k. chosen d.f (learned (heard_of d) d.own k)) (ap (λ hs. (told d.me d.me (record { det = d.own; holders = hs })).1) c.none-holders.ensures ∙ told_itself d.me d.own)
+
+-- where messages carry nothing, the own determinant stays out
+pub returns-then-is_logged : goal.returns-then-is_logged
+returns-then-is_logged c =
+    let d = c.args.delivery.now in
+    let heard = heard_of d in
+    let held = held_by d.me in
+    let none : c.args.kept.now ≡ [] = nil_from_length c.args.kept.now (eqb-true (length c.args.kept.now) 0 (sym c.is_empty.ensures ∙ c.if-is_empty.true)) in
+    let is : [] ≡ chosen d.f heard = sym none ∙ c.requires in
+    c.new.ensures.items
+    ∙ elim c.if-delivery-eq0.branch [
+      | then-delivery-eq0 w ↦ still_out d.f heard d.own held [] [] is refl refl (held_out d.f d.me (omega (arith, w.if-delivery-eq0)))
+      | else-delivery-eq0 w ↦
+          logged_out d.f heard d.own held [] [] is refl refl
+          (absorbed_logged d.items.now d.from d.me (source_of d) d.own ∙ sym w.is_logged.ensures ∙ sym w.value-is ∙ c.if-is_logged.true)
+    ]
