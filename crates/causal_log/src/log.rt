@@ -1,5 +1,5 @@
 //! The volatile log of a process.
-ghost use Rattle.std.specs.Prelude.{◌≡◌, ◌↔◌, ◌<◌, ◌≤◌, ◌+◌, ◌^◌, IsTrue, IsSome, IsOk, true, IfOk, OnOk, OnErr, length, slice_get};
+ghost use Rattle.std.specs.Prelude.{◌≡◌, ◌↔◌, ◌<◌, ◌≤◌, ◌+◌, ◌^◌, IsTrue, IsSome, IsOk, true, IfOk, IfSome, OnOk, OnErr, length, slice_get};
 ghost use Rattle.std.specs.FinMap as fin;
 ghost use Rattle.std.specs.Arc.{arc_value};
 ghost use Rattle.causal_name.specs.Names.{is_ascending};
@@ -12,7 +12,7 @@ use crate::carried::{Carried, mark};
 use crate::entries;
 use crate::known::Known;
 use crate::learning::{learn, learn_entries, learn_items};
-use crate::merging::{Delivery, merged_delivery};
+use crate::merging::{Delivery, merged_delivery, tells_nothing};
 use crate::ranks::ranked;
 use crate::table::Table;
 use causal_name::{Det, MsgName, NoMemory, Pid, Slot};
@@ -154,7 +154,8 @@ impl Log {
         });
     }
 
-    /// What the messages of a step would carry once `grow` has taken in a delivery. Its only error is want of memory.
+    /// What the messages of a step would carry once `grow` has taken in a delivery, as a batch to share: the one that they carry
+    /// now, where it is seen to stay. Its only error is want of memory.
     pub fn choose_grown(
         &self,
         alloc: Global,
@@ -163,9 +164,9 @@ impl Log {
         from: Pid,
         me: Pid,
         f: u16,
-    ) -> Result<Batch, NoMemory>
-        ensures { IfOk result
-            (λ batch. batch ≡ chosen f (grown carried.now own from me self.now.map)) }
+    ) -> Result<Arc<Batch>, NoMemory>
+        ensures { IfOk result (λ batch. arc_value batch ≡
+            chosen f (grown carried.now own from me self.now.map)) }
     {
         let delivery = Delivery {
             entries: &self.entries,
@@ -175,8 +176,26 @@ impl Log {
             me,
             f,
         };
+        if let Some(batch) = self.unchanged(&delivery) {
+            return Ok(Arc::try_clone(batch)?);
+        }
         let merged = self.merged(alloc, &delivery)?;
-        Ok(Batch::new(merged))
+        Ok(Arc::new(alloc, Batch::new(merged))?)
+    }
+
+    /// The batch that messages carry now, where a delivery is seen to change nothing of it.
+    fn unchanged(&self, delivery: &Delivery<'_>) -> Option<&Arc<Batch>>
+        requires { source_of delivery.now ≡ self.now.map }
+        ensures { IfSome result (λ batch. arc_value batch.now ≡
+            chosen delivery.now.f (taken delivery.now)) }
+    {
+        match &self.carried {
+            Some(kept)
+                if kept.f == delivery.f
+                    && !kept.is_marked
+                    && tells_nothing(kept.batch.as_slice(), delivery) => Some(&kept.batch),
+            _ => None,
+        }
     }
 
     /// The items of what they would carry.

@@ -7,7 +7,7 @@ ghost use Rattle.causal_name.specs.declared.Det.{Det};
 ghost use Rattle.causal_name.specs.Names.{is_ascending, is_before, same_det};
 ghost use Rattle.causal_log.specs.declared.batch.Item.{Item};
 ghost use Rattle.causal_log.specs.Knowledge.{told, is_carried};
-ghost use Rattle.causal_log.specs.Logs.{LogMap, log_of, chosen, dets_of, names_det};
+ghost use Rattle.causal_log.specs.Logs.{LogMap, log_of, chosen, dets_of, names_det, names_holder};
 ghost use Rattle.causal_log.specs.Inside.Carried.{with_carried, HearsNext};
 ghost use Rattle.causal_log.specs.Inside.Merges.{EndBefore, IsPassed, is_known, source_of, heard_of, taken};
 
@@ -38,6 +38,26 @@ impl Delivery<'_> {
     {
         self.f > u16::from(self.me != self.from)
     }
+}
+
+/// Whether ascending items name a determinant with this holder.
+fn name_holder(items: &[Item], det: Det, holder: Pid) -> bool
+    ensures { result ≡ true → names_holder det holder.0 items.now ≡ true }
+{
+    let place = items.partition_point(|item| item.det.comes_before(&det));
+    match items.get(place) {
+        Some(item) => det == item.det && item.holders.contains(holder.0),
+        None => false,
+    }
+}
+
+/// Whether a delivery is seen to tell nothing new, where messages carry this: its message carries nothing, and its receiver is
+/// known to hold its determinant, as in a replay. It takes time as the logarithm of what is carried.
+pub(crate) fn tells_nothing(kept: &[Item], delivery: &Delivery<'_>) -> bool
+    ensures { result ≡ true → kept.now ≡ chosen delivery.now.f (source_of delivery.now) →
+        kept.now ≡ chosen delivery.now.f (taken delivery.now) }
+{
+    delivery.items.is_empty() && name_holder(kept, delivery.own, delivery.me)
 }
 
 /// Passes on what comes before a determinant, and tells the place of what comes next.
