@@ -12,7 +12,7 @@ use crate::carried::{Carried, mark};
 use crate::entries;
 use crate::known::Known;
 use crate::learning::{learn, learn_entries, learn_items};
-use crate::merging::{Delivery, merged_delivery, tells_nothing};
+use crate::merging::{Delivery, changes_nothing, merged_delivery};
 use crate::ranks::ranked;
 use crate::table::Table;
 use causal_name::{Det, MsgName, NoMemory, Pid, Slot};
@@ -193,7 +193,7 @@ impl Log {
             Some(kept)
                 if kept.f == delivery.f
                     && !kept.is_marked
-                    && tells_nothing(kept.batch.as_slice(), delivery) => Some(&kept.batch),
+                    && changes_nothing(kept.batch.as_slice(), delivery) => Some(&kept.batch),
             _ => None,
         }
     }

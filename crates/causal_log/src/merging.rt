@@ -51,12 +51,16 @@ fn name_holder(items: &[Item], det: Det, holder: Pid) -> bool
     }
 }
 
-/// Whether a delivery is seen to tell nothing new, where messages carry this: its message carries nothing, and its receiver is
-/// known to hold its determinant, as in a replay. It takes time as the logarithm of what is carried.
-pub(crate) fn tells_nothing(kept: &[Item], delivery: &Delivery<'_>) -> bool
+/// Whether messages that carry this are seen to carry it still after a delivery: they carry nothing for no failure, or the
+/// message carries nothing and its receiver is known to hold its determinant, as in a replay. It takes time as the logarithm
+/// of what they carry.
+pub(crate) fn changes_nothing(kept: &[Item], delivery: &Delivery<'_>) -> bool
     ensures { result ≡ true → kept.now ≡ chosen delivery.now.f (source_of delivery.now) →
         kept.now ≡ chosen delivery.now.f (taken delivery.now) }
 {
+    if kept.is_empty() {
+        return delivery.f == 0;
+    }
     delivery.items.is_empty() && name_holder(kept, delivery.own, delivery.me)
 }
 
@@ -177,7 +181,7 @@ fn merged_own(alloc: Global, kept: &[Item], delivery: &Delivery<'_>) -> Result<V
     ensures { IfOk result (λ out. out.items ≡ chosen delivery.now.f (taken delivery.now)) }
 {
     let det = delivery.own;
-    if kept.is_empty() && (delivery.f == 0 || is_logged(delivery.entries, delivery.items, det)) {
+    if kept.is_empty() && is_logged(delivery.entries, delivery.items, det) {
         return Ok(Vec::new(alloc));
     }
     let holders = Holders::none();

@@ -1,4 +1,4 @@
-use Rattle.std.proofs.Common.{◌≡◌, ◌∙◌, ◌++◌, [], length, refl, sym, ap, arith}
+use Rattle.std.proofs.Common.{◌≡◌, ◌∙◌, ◌++◌, [], length, refl, sym, ap}
 use Rattle.std.proofs.lemmas.Bool.{eqb-true}
 use Rattle.std.proofs.lemmas.List.{nil_from_length}
 use Rattle.causal_name.specs.Names.{is_ascending}
@@ -7,9 +7,8 @@ use Rattle.causal_log.specs.Logs.{learned, chosen, dets_of}
 use Rattle.causal_log.specs.Inside.Merges.{source_of, heard_of}
 use Rattle.causal_log.proofs.Lemmas.AbsorbKnows.{absorbed_logged}
 use Rattle.causal_log.proofs.Lemmas.ChosenLemmas.{chosen_ascend}
-use Rattle.causal_log.proofs.KnownLemmas.{held_out, told_itself}
-use Rattle.causal_log.proofs.MergeLemmas.{cut_rest, still_out, logged_out}
-use Rattle.causal_log.proofs.merging.merged_own.Goals.{then-delivery-eq0, else-delivery-eq0}
+use Rattle.causal_log.proofs.KnownLemmas.{told_itself}
+use Rattle.causal_log.proofs.MergeLemmas.{cut_rest, logged_out}
 use Rattle.causal_log.proofs.merging.merged_own.Goals as goal
 
 pub pass-requires-clause-ascending : goal.pass-requires-clause-ascending
@@ -36,9 +35,4 @@ returns-then-is_logged c =
     let none : c.args.kept.now ≡ [] = nil_from_length c.args.kept.now (eqb-true (length c.args.kept.now) 0 (sym c.is_empty.ensures ∙ c.if-is_empty.true)) in
     let is : [] ≡ chosen d.f heard = sym none ∙ c.requires in
     c.new.ensures.items
-    ∙ elim c.if-delivery-eq0.branch [
-      | then-delivery-eq0 w ↦ still_out d.f heard d.own held [] [] is refl refl (held_out d.f d.me (omega (arith, w.if-delivery-eq0)))
-      | else-delivery-eq0 w ↦
-          logged_out d.f heard d.own held [] [] is refl refl
-          (absorbed_logged d.items.now d.from d.me (source_of d) d.own ∙ sym w.is_logged.ensures ∙ sym w.value-is ∙ c.if-is_logged.true)
-    ]
+    ∙ logged_out d.f heard d.own held [] [] is refl refl (absorbed_logged d.items.now d.from d.me (source_of d) d.own ∙ sym c.is_logged.ensures ∙ c.if-is_logged.true)
