@@ -1,7 +1,7 @@
 //! What messages will carry once a delivery is taken in, worked out beside the log. What they carry now and what the delivery
 //! tells both ascend, and are passed over together: what is passed on, and what is kept from a place on, is at each step what
 //! messages carry of what was taken in so far.
-ghost use Rattle.std.specs.Prelude.{◌≡◌, ◌≤◌, ◌+◌, ◌++◌, ◌||◌, [], true, false, Some, is_some, drop, slice_get, length, IfOk, OnOk, IfSome, IsNone};
+ghost use Rattle.std.specs.Prelude.{◌≡◌, ◌≤◌, ◌<◌, ◌+◌, ◌-◌, ◌++◌, ◌||◌, [], true, false, Some, is_some, drop, slice_get, length, IfOk, OnOk, IfSome, IsNone};
 ghost use Rattle.std.specs.FinMap as fin;
 ghost use Rattle.causal_name.specs.declared.Det.{Det};
 ghost use Rattle.causal_name.specs.Names.{is_ascending, is_before, same_det};
@@ -51,17 +51,20 @@ fn name_holder(items: &[Item], det: Det, holder: Pid) -> bool
     }
 }
 
-/// Whether messages that carry this are seen to carry it still after a delivery: they carry nothing for no failure, or the
-/// message carries nothing and its receiver is known to hold its determinant, as in a replay. It takes time as the logarithm
-/// of what they carry.
-pub(crate) fn changes_nothing(kept: &[Item], delivery: &Delivery<'_>) -> bool
-    ensures { result ≡ true → kept.now ≡ chosen delivery.now.f (source_of delivery.now) →
-        kept.now ≡ chosen delivery.now.f (taken delivery.now) }
+/// The place of the first item from a place on that does not come before a determinant.
+fn end_before(kept: &[Item], from: usize, det: Det) -> usize
+    requires { from ≤ length kept.now }
+    ensures from { from ≤ result }
+    ensures within { result ≤ length kept.now }
+    ensures next { IsPassed kept.now result det }
+    ensures last { from < result →
+        IfSome (slice_get kept.now (result - 1)) (λ item. is_before item.det det ≡ true) }
 {
-    if kept.is_empty() {
-        return delivery.f == 0;
+    let mut place = from;
+    while place < kept.len() && kept[place].det.comes_before(&det) {
+        place += 1;
     }
-    delivery.items.is_empty() && name_holder(kept, delivery.own, delivery.me)
+    place
 }
 
 /// Passes on what comes before a determinant, and tells the place of what comes next.
@@ -75,12 +78,9 @@ fn pass(out: &mut Vec<Item>, kept: &[Item], from: usize, det: Det) -> Result<usi
     ensures before { OnOk result (EndBefore out.new.items det) }
     ensures next { IfOk result (λ next. IsPassed kept.now next det) }
 {
-    let mut place = from;
-    while place < kept.len() && kept[place].det.comes_before(&det) {
-        out.push(kept[place])?;
-        place += 1;
-    }
-    Ok(place)
+    let next = end_before(kept, from, det);
+    out.extend_from_slice(&kept[from..next])?;
+    Ok(next)
 }
 
 /// Passes on a determinant of which this is known, where messages carry it.
@@ -119,6 +119,24 @@ fn is_logged(entries: &Table, named: &[Item], det: Det) -> bool
     ensures { result ≡ is_known (log_of entries.now.entries) named.now det }
 {
     entries.find(det).is_some() || name(named, det)
+}
+
+/// Whether messages that carry this are seen to carry it still after a delivery: they carry nothing for no failure, or the
+/// message carries nothing, and its determinant is logged as in a replay and stays out of what they carry or as it is there.
+pub(crate) fn changes_nothing(kept: &[Item], delivery: &Delivery<'_>) -> bool
+    ensures { result ≡ true → kept.now ≡ chosen delivery.now.f (source_of delivery.now) →
+        kept.now ≡ chosen delivery.now.f (taken delivery.now) }
+{
+    if kept.is_empty() && delivery.f == 0 {
+        return true;
+    }
+    if !delivery.items.is_empty() {
+        return false;
+    }
+    if kept.is_empty() {
+        return is_logged(delivery.entries, delivery.items, delivery.own);
+    }
+    name_holder(kept, delivery.own, delivery.me)
 }
 
 /// Passes on the determinant of an item: the next one of what is kept, or one that was not logged. Of another one messages carry
@@ -181,14 +199,11 @@ fn merged_own(alloc: Global, kept: &[Item], delivery: &Delivery<'_>) -> Result<V
     ensures { IfOk result (λ out. out.items ≡ chosen delivery.now.f (taken delivery.now)) }
 {
     let det = delivery.own;
-    if kept.is_empty() && is_logged(delivery.entries, delivery.items, det) {
-        return Ok(Vec::new(alloc));
-    }
     let holders = Holders::none();
     let own = Item { det, holders };
     let from = delivery.me;
     let held = Delivery { from, ..*delivery };
-    let mut out = Vec::with_capacity(alloc, kept.len())?;
+    let mut out = Vec::with_capacity(alloc, kept.len().saturating_add(1))?;
     let next = pass(&mut out, kept, 0, det)?;
     let place = meet(&mut out, kept, next, &held, delivery.items, &own)?;
     out.extend_from_slice(&kept[place..])?;

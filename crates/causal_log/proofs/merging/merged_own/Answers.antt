@@ -1,14 +1,12 @@
-use Rattle.std.proofs.Common.{◌≡◌, ◌∙◌, ◌++◌, [], length, refl, sym, ap}
-use Rattle.std.proofs.lemmas.Bool.{eqb-true}
-use Rattle.std.proofs.lemmas.List.{nil_from_length}
+use Rattle.std.proofs.Common.{◌≡◌, ◌∙◌, ◌++◌, ap}
 use Rattle.causal_name.specs.Names.{is_ascending}
-use Rattle.causal_log.specs.Knowledge.{held_by, told}
+use Rattle.causal_log.specs.Knowledge.{told}
 use Rattle.causal_log.specs.Logs.{learned, chosen, dets_of}
 use Rattle.causal_log.specs.Inside.Merges.{source_of, heard_of}
 use Rattle.causal_log.proofs.Lemmas.AbsorbKnows.{absorbed_logged}
 use Rattle.causal_log.proofs.Lemmas.ChosenLemmas.{chosen_ascend}
 use Rattle.causal_log.proofs.KnownLemmas.{told_itself}
-use Rattle.causal_log.proofs.MergeLemmas.{cut_rest, logged_out}
+use Rattle.causal_log.proofs.MergeLemmas.{cut_rest}
 use Rattle.causal_log.proofs.merging.merged_own.Goals as goal
 
 pub pass-requires-clause-ascending : goal.pass-requires-clause-ascending
@@ -25,14 +23,3 @@ returns c =
     ∙ c.in_ok-place.ensures.heard (heard_of d) (absorbed_logged d.items.now d.from d.me (source_of d) d.own)
     (c.in_ok-next.ensures.same ∙ ap (λ xs. xs ++ c.args.kept.now) c.in_ok-out.ensures.items ∙ c.requires)
     ∙ ap (λ k. chosen d.f (learned (heard_of d) d.own k)) (ap (λ hs. (told d.me d.me (record { det = d.own; holders = hs })).1) c.none-holders.ensures ∙ told_itself d.me d.own)
-
--- where messages carry nothing, the own determinant stays out
-pub returns-then-is_logged : goal.returns-then-is_logged
-returns-then-is_logged c =
-    let d = c.args.delivery.now in
-    let heard = heard_of d in
-    let held = held_by d.me in
-    let none : c.args.kept.now ≡ [] = nil_from_length c.args.kept.now (eqb-true (length c.args.kept.now) 0 (sym c.is_empty.ensures ∙ c.if-is_empty.true)) in
-    let is : [] ≡ chosen d.f heard = sym none ∙ c.requires in
-    c.new.ensures.items
-    ∙ logged_out d.f heard d.own held [] [] is refl refl (absorbed_logged d.items.now d.from d.me (source_of d) d.own ∙ sym c.is_logged.ensures ∙ c.if-is_logged.true)
