@@ -6,7 +6,7 @@ use Rattle.causal_name.specs.Names.{same_det}
 use Rattle.causal_log.specs.Knowledge.{joined}
 use Rattle.causal_log.specs.Logs.{log_of}
 use Rattle.causal_log.proofs.EntryLemmas.{inserted}
-use Rattle.causal_log.proofs.TableLemmas.{lookup_set, keys_read, read_det, read_value}
+use Rattle.causal_log.proofs.TableLemmas.{lookup_set, keys_read, read_is}
 use Rattle.causal_log.proofs.table.Table.join.Goals as goal
 
 pub invariant_of-self : goal.invariant_of-self
@@ -25,10 +25,10 @@ pub returns-clause-put : goal.returns-clause-put
 returns-clause-put c = λ det was at.
     let es = c.self.inside.entries.items in
     let there = ap (λ t. slice_get t.entries c.args.place) c.self.view_is ∙ at in
-    let known : c.joined.result ≡ joined was c.args.heard = c.joined.ensures ∙ ap (λ k. joined k c.args.heard) (read_value es c.args.place c.index.result.now det was there c.index.ensures) in
+    let known : c.joined.result ≡ joined was c.args.heard = c.joined.ensures ∙ ap (λ e. joined e.1 c.args.heard) (read_is es c.args.place c.index.result.now det was there c.index.ensures) in
     inserted es (set es c.args.place (c.index_mut.result.now.0, c.joined.result)) det c.joined.result
     (λ q.
-    ap (λ d. lookup (same_det q) (set es c.args.place (d, c.joined.result))) (read_det es c.args.place c.index_mut.result.now det was there c.index_mut.ensures.value)
+    ap (λ e. lookup (same_det q) (set es c.args.place (e.0, c.joined.result))) (read_is es c.args.place c.index_mut.result.now det was there c.index_mut.ensures.value)
     ∙ lookup_set es c.args.place det was c.joined.result (subst (IsDistinct same_det) c.self.invariant.keys c.self.invariant.distinct) there q)
     ∙ (λ i. fin.insert (log_of (c.self.view_is i).entries) det (known i))
 
