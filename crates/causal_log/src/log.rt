@@ -1,18 +1,17 @@
 //! The volatile log of a process.
-ghost use Rattle.std.specs.Prelude.{◌≡◌, ◌↔◌, ◌<◌, ◌≤◌, ◌+◌, ◌^◌, IsTrue, IsSome, IsOk, true, IfOk, IfSome, OnOk, OnErr, length, slice_get};
+ghost use Rattle.std.specs.Prelude.{◌≡◌, ◌↔◌, ◌<◌, ◌≤◌, ◌+◌, ◌^◌, IsTrue, IsSome, IsOk, true, IfOk, OnOk, OnErr, length, slice_get};
 ghost use Rattle.std.specs.FinMap as fin;
 ghost use Rattle.std.specs.Arc.{arc_value};
 ghost use Rattle.causal_name.specs.Names.{is_ascending};
 ghost use Rattle.causal_log.specs.Knowledge.{held_by, stable_and_held_by};
 ghost use Rattle.causal_log.specs.Logs.{log_of, learned, dets_of, absorbed, grown, united, marked, stable_in, unstable_in, unmarked, chosen, named, HaveSame};
-ghost use Rattle.causal_log.specs.Inside.Merges.{source_of, taken};
 
 use crate::batch::{Batch, Item};
 use crate::carried::{Carried, mark};
 use crate::entries;
 use crate::known::Known;
 use crate::learning::{learn, learn_entries, learn_items};
-use crate::merging::{Delivery, changes_nothing, merged_delivery};
+use crate::merging::{Delivery, next_batch};
 use crate::ranks::ranked;
 use crate::table::Table;
 use causal_name::{Det, MsgName, NoMemory, Pid, Slot};
@@ -176,41 +175,15 @@ impl Log {
             me,
             f,
         };
-        if let Some(batch) = self.unchanged(&delivery) {
-            return Ok(Arc::try_clone(batch)?);
-        }
-        let merged = self.merged(alloc, &delivery)?;
-        Ok(Arc::new(alloc, Batch::new(merged))?)
-    }
-
-    /// The batch that messages carry now, where a delivery is seen to change nothing of it.
-    fn unchanged(&self, delivery: &Delivery<'_>) -> Option<&Arc<Batch>>
-        requires { source_of delivery.now ≡ self.now.map }
-        ensures { IfSome result (λ batch. arc_value batch.now ≡
-            chosen delivery.now.f (taken delivery.now)) }
-    {
         match &self.carried {
-            Some(kept)
-                if kept.f == delivery.f
-                    && !kept.is_marked
-                    && changes_nothing(kept.batch.as_slice(), delivery) => Some(&kept.batch),
-            _ => None,
-        }
-    }
-
-    /// The items of what they would carry.
-    fn merged(&self, alloc: Global, delivery: &Delivery<'_>) -> Result<Vec<Item>, NoMemory>
-        requires source { source_of delivery.now ≡ self.now.map }
-        requires ascending { is_ascending (dets_of delivery.now.items.now) ≡ true }
-        ensures { IfOk result (λ found. found.items ≡ chosen delivery.now.f (taken delivery.now)) }
-    {
-        match &self.carried {
-            Some(carried) if carried.f == delivery.f && !carried.is_marked => {
-                merged_delivery(alloc, carried.batch.as_slice(), delivery)
-            }
+            Some(kept) if kept.f == f && !kept.is_marked => next_batch(
+                alloc,
+                &kept.batch,
+                &delivery,
+            ),
             _ => {
-                let kept = self.carried(alloc, delivery.f)?;
-                merged_delivery(alloc, kept.as_slice(), delivery)
+                let batch = Arc::new(alloc, self.choose(alloc, f)?)?;
+                next_batch(alloc, &batch, &delivery)
             }
         }
     }

@@ -2,6 +2,7 @@
 //! tells both ascend, and are passed over together: what is passed on, and what is kept from a place on, is at each step what
 //! messages carry of what was taken in so far.
 ghost use Rattle.std.specs.Prelude.{◌≡◌, ◌≤◌, ◌<◌, ◌+◌, ◌-◌, ◌++◌, ◌||◌, [], true, false, Some, is_some, drop, slice_get, length, IfOk, OnOk, IfSome, IsNone};
+ghost use Rattle.std.specs.Arc.{arc_value};
 ghost use Rattle.std.specs.FinMap as fin;
 ghost use Rattle.causal_name.specs.declared.Det.{Det};
 ghost use Rattle.causal_name.specs.Names.{is_ascending, is_before, same_det};
@@ -11,12 +12,13 @@ ghost use Rattle.causal_log.specs.Logs.{LogMap, log_of, chosen, dets_of, names_d
 ghost use Rattle.causal_log.specs.Inside.Carried.{with_carried, HearsNext};
 ghost use Rattle.causal_log.specs.Inside.Merges.{EndBefore, IsPassed, is_known, source_of, heard_of, taken};
 
-use crate::batch::Item;
+use crate::batch::{Batch, Item};
 use crate::known::{Known, told};
 use crate::table::Table;
 use causal_holders::Holders;
 use causal_name::{Det, NoMemory, Pid};
 use std::alloc::Global;
+use std::sync::Arc;
 
 /// A delivery that the entries of a log are to take in: the items that its message from one process carries to another, and its
 /// own determinant; and for how many failures messages carry determinants.
@@ -121,20 +123,17 @@ fn is_logged(entries: &Table, named: &[Item], det: Det) -> bool
     entries.find(det).is_some() || name(named, det)
 }
 
-/// Whether messages that carry this are seen to carry it still after a delivery: they carry nothing for no failure, or the
-/// message carries nothing, and its determinant is logged as in a replay and stays out of what they carry or as it is there.
-pub(crate) fn changes_nothing(kept: &[Item], delivery: &Delivery<'_>) -> bool
+/// Whether messages that carry this are seen to carry it still after a delivery whose message carries nothing: they carry
+/// nothing, and its determinant stays out; or that is carried, and its receiver known to hold it, as in a replay.
+fn changes_nothing(kept: &[Item], delivery: &Delivery<'_>) -> bool
     ensures { result ≡ true → kept.now ≡ chosen delivery.now.f (source_of delivery.now) →
         kept.now ≡ chosen delivery.now.f (taken delivery.now) }
 {
-    if kept.is_empty() && delivery.f == 0 {
-        return true;
-    }
     if !delivery.items.is_empty() {
         return false;
     }
     if kept.is_empty() {
-        return is_logged(delivery.entries, delivery.items, delivery.own);
+        return delivery.f == 0 || is_logged(delivery.entries, delivery.items, delivery.own);
     }
     name_holder(kept, delivery.own, delivery.me)
 }
@@ -211,7 +210,7 @@ fn merged_own(alloc: Global, kept: &[Item], delivery: &Delivery<'_>) -> Result<V
 }
 
 /// What messages carry once a delivery is taken in, where they carry this of the log now.
-pub(crate) fn merged_delivery(
+fn merged_delivery(
     alloc: Global,
     kept: &[Item],
     delivery: &Delivery<'_>,
@@ -225,4 +224,23 @@ pub(crate) fn merged_delivery(
     }
     let heard = merged(alloc, kept, delivery)?;
     merged_own(alloc, heard.as_slice(), delivery)
+}
+
+/// The batch of what messages carry once a delivery is taken in, where they carry this one now: this one, where it is seen to
+/// stay.
+pub(crate) fn next_batch(
+    alloc: Global,
+    batch: &Arc<Batch>,
+    delivery: &Delivery<'_>,
+) -> Result<Arc<Batch>, NoMemory>
+    requires kept { arc_value batch.now ≡ chosen delivery.now.f (source_of delivery.now) }
+    requires ascending { is_ascending (dets_of delivery.now.items.now) ≡ true }
+    ensures { IfOk result (λ next. arc_value next ≡ chosen delivery.now.f (taken delivery.now)) }
+{
+    let kept = batch.as_slice();
+    if changes_nothing(kept, delivery) {
+        return Ok(Arc::try_clone(batch)?);
+    }
+    let merged = merged_delivery(alloc, kept, delivery)?;
+    Ok(Arc::new(alloc, Batch::new(merged))?)
 }
