@@ -46,17 +46,6 @@ pub(crate) fn shares(left: Vec<Arc<Batch>>, batch: &Arc<Batch>) -> Result<Vec<Ar
     Ok(shares)
 }
 
-/// A batch to share: where it has no items, and what the delivered message carries has none either, that one, so that sends
-/// that carry nothing share one batch.
-fn shared(alloc: Global, batch: Batch, carried: &Arc<Batch>) -> Result<Arc<Batch>, NoMemory>
-    ensures { IfOk result (λ share. arc_value share ≡ batch) }
-{
-    if batch.as_slice().is_empty() && carried.as_slice().is_empty() {
-        return Ok(Arc::try_clone(carried)?);
-    }
-    Ok(Arc::new(alloc, batch)?)
-}
-
 /// Makes what a delivery puts in place.
 pub(crate) fn grow(
     alloc: Global,
@@ -70,10 +59,9 @@ pub(crate) fn grow(
 {
     let listed = listed(alloc, own, message.batch.as_slice())?;
     let carried = Arc::try_clone(&message.batch)?;
-    let batch = cell
+    let next = cell
         .log
         .choose_grown(alloc, &*carried, own, own.source, own.dest, f)?;
-    let next = shared(alloc, batch, &carried)?;
     let shares = shares(left, &next)?;
     Ok(Grown {
         own,

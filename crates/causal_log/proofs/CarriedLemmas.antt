@@ -1,23 +1,30 @@
 -- What messages still carry of a batch once determinants are marked.
-use Rattle.std.proofs.Common.{ℕ, ◌≡◌, ◌∙◌, ◌&&◌, Bool, true, false, cond, not, nat_le, List, [], ◌∷◌, map, filter, Option, Some, None, true≢false, refl, sym, ap}
+use Rattle.std.proofs.Common.{ℕ, ◌≡◌, ◌∙◌, ◌&&◌, ◌||◌, Bool, true, false, cond, not, nat_le, List, [], ◌∷◌, map, filter, Option, Some, None, unwrap_or, nat_cmp, nat_eq, true≢false, refl, sym, ap, arith}
+use Rattle.std.proofs.lemmas.Bool.Decides.{nat_tests}
 use Rattle.std.proofs.lemmas.Map.Entries.{lookup-filter-keys}
+use Rattle.std.specs.Cmp.{nat_cmp_total}
 use Rattle.std.specs.Option.{option_map, option_map_or}
+use Rattle.std.specs.Ordering.{eq_by_cmp}
 use Rattle.std.specs.Map.{lookup}
 use Rattle.std.specs.FinMap as fin
 use Rattle.std.specs.FinSet as set
 use Rattle.causal_name.specs.declared.Det.{Det}
 use Rattle.causal_name.specs.Names.{same_det, is_ascending}
-use Rattle.causal_name.proofs.Lemmas.DetOrder.{same_is}
+use Rattle.causal_name.specs.declared.Pid.{Pid}
+use Rattle.causal_name.proofs.Lemmas.DetOrder.{dets_total, exact_dets, nat_ties, same_is}
 use Rattle.causal_log.specs.declared.known.Known.{Known}
 use Rattle.causal_log.specs.declared.batch.Item.{Item}
-use Rattle.causal_log.specs.Knowledge.{as_stable, is_carried}
-use Rattle.causal_log.specs.Logs.{LogMap, marked, chosen, dets_of, item_of}
+use Rattle.causal_log.specs.Knowledge.{as_stable, held_by, is_carried, joined, nothing_known}
+use Rattle.causal_log.specs.Logs.{LogMap, marked, chosen, dets_of, grown, is_chosen, item_of, known_of, learned, names_holder}
 use Rattle.std.specs.Arc.{arc_value}
 use Rattle.causal_log.specs.declared.carried.Carried.{Carried}
 use Rattle.causal_log.specs.Inside.Carried.{is_open, open_in, IsCarried, as_marked, Carries}
 use Rattle.causal_log.proofs.Lemmas.Ascents.{filter_ascends}
 use Rattle.causal_log.proofs.Lemmas.ChosenLemmas.{dets_of_items}
+use Rattle.causal_log.proofs.Lemmas.KnowledgeGrows.{get_learned}
 use Rattle.causal_log.proofs.Lemmas.MarkedLogs.{get_marked}
+use Rattle.causal_log.proofs.Lemmas.MessageItems.{carried_holders}
+use Rattle.causal_log.proofs.Lemmas.Searches.{both, or_nothing}
 use Rattle.causal_log.proofs.MergeLemmas.{entries_of, entry_of, carried_of, found_chosen, recognized}
 
 -- a filter of determinants leaves ascending items of what messages carry
@@ -103,3 +110,43 @@ carried_marked f items false log det is = ap (open_in (marked log det)) is ∙ c
 pub carries_marked : (kept : Option Carried) (log : LogMap) (det : Det) → Carries kept log → Carries (option_map as_marked kept) (marked log det)
 carries_marked None log det is = is
 carries_marked (Some k) log det is = carried_marked k.f (arc_value k.batch) k.is_marked log det is
+
+nat_same : (q x : ℕ) → nat_eq q x ≡ true → q ≡ x
+nat_same q x h = grind (arith, nat_tests)
+
+-- a holder that is known adds nothing
+holder_in : (s : set.FinSet nat_cmp) (p : ℕ) → set.contains s p ≡ true → set.union s (set.insert set.empty p) ≡ s
+holder_in s p there = set.same_set nat_cmp_total set.nat_cmp-IsAntisymmetric _ _ (λ q.
+    set.contains-union nat_cmp_total s (set.insert set.empty p) q
+    ∙ ap (λ b. set.contains s q || b) (set.contains-insert nat_cmp_total set.empty p q ∙ ap (λ b. eq_by_cmp nat_cmp q p || b) (set.contains-empty nat_cmp q) ∙ sym (or_nothing (eq_by_cmp nat_cmp q p)))
+    ∙ by q (eq_by_cmp nat_cmp q p) refl)
+  where
+    by : (q : ℕ) (b : Bool) → eq_by_cmp nat_cmp q p ≡ b → (set.contains s q || b) ≡ set.contains s q
+    by q true e = let here : set.contains s q ≡ true = ap (set.contains s) (nat_same q p (nat_ties q p ∙ e)) ∙ there in ap (λ b. b || true) here ∙ sym here
+    by q false e = sym (or_nothing (set.contains s q))
+
+logged_so : (f : ℕ) (o : Option Known) (p : ℕ) → (is_chosen f o && set.contains (unwrap_or o nothing_known).holders p) ≡ true → o ≡ Some (unwrap_or o nothing_known)
+logged_so f None p h = absurd (true≢false (sym h))
+logged_so f (Some k) p h = refl
+
+get_same : (log : LogMap) (det : Det) (k : Known) → fin.get log det ≡ Some k → (q : Det) (b : Bool) → same_det q det ≡ b → cond b (Some k) (fin.get log q) ≡ fin.get log q
+get_same log det k there q true e = sym (ap (fin.get log) (same_is q det e) ∙ there)
+get_same log det k there q false e = refl
+
+-- a log in which messages carry a determinant with a holder learns nothing from that this holds it
+learned_held : (f : ℕ) (log : LogMap) (det : Det) (p : Pid) → names_holder det p.0 (chosen f log) ≡ true → learned log det (held_by p) ≡ log
+learned_held f log det p h =
+    let told = sym (carried_holders f log det p.0) ∙ h in
+    let known = known_of log det in
+    let there : fin.get log det ≡ Some known = logged_so f (fin.get log det) p.0 told in
+    let holds = (both (is_chosen f (fin.get log det)) (set.contains known.holders p.0) told).1 in
+    let same : joined known (held_by p) ≡ known = (λ i. record { holders = holder_in known.holders p.0 holds i; stable = sym (or_nothing known.stable) i }) in
+    fin.same_map dets_total exact_dets (learned log det (held_by p)) log
+    (λ q. get_learned log det (held_by p) q ∙ ap (λ k. cond (same_det q det) (Some k) (fin.get log q)) same ∙ get_same log det known there q (same_det q det) refl)
+
+-- a delivery of a message that carries nothing tells nothing, where its determinant is carried with its receiver as a holder
+pub told_nothing : (f : ℕ) (log : LogMap) (kept items : List Item) (own : Det) (from me : Pid) → items ≡ [] → names_holder own me.0 kept ≡ true → kept ≡ chosen f log → kept ≡ chosen f (grown items own from me log)
+told_nothing f log kept items own from me none holds is =
+    is
+    ∙ ap (chosen f) (sym (learned_held f log own me (ap (names_holder own me.0) (sym is) ∙ holds)))
+    ∙ ap (λ xs. chosen f (grown xs own from me log)) (sym none)

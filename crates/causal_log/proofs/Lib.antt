@@ -2,6 +2,7 @@ pub mod Lemmas
 mod EntryLemmas
 mod PlaceLemmas
 mod SortLemmas
+mod KnownLemmas
 mod TableLemmas
 mod IndexLemmas
 mod LeastLemmas

@@ -1,8 +1,10 @@
 -- Ascending items are what messages carry of a log where each is found so, and go on being it as determinants are heard of.
-use Rattle.std.proofs.Common.{ℕ, zero, suc, ◌+◌, ◌-◌, length, take, drop, slice_get, IfSome, ◌≡◌, ◌∙◌, ◌≤◌, ◌||◌, Bool, true, false, cond, not, nat_le, nat_cmp, List, [], ◌∷◌, ◌++◌, map, filter, Option, Some, None, is_some, unwrap_or, true≢false, refl, sym, ap, arith}
+use Rattle.std.proofs.Common.{ℕ, zero, suc, ◌+◌, ◌-◌, ◌<◌, length, take, drop, get_or, slice_get, IfSome, ◌≡◌, ◌∙◌, ◌≤◌, ◌||◌, Bool, true, false, cond, not, nat_le, nat_cmp, List, [], ◌∷◌, ◌++◌, map, filter, Option, Some, None, is_some, unwrap_or, true≢false, refl, sym, ap, subst, arith}
 use Rattle.std.proofs.lemmas.Bool.{and_from, or_from, or_left, or_right, false_from_ne_true}
 use Rattle.std.proofs.lemmas.Bool.Decides.{nat_tests}
-use Rattle.std.proofs.lemmas.List.{append_assoc, length-drop, map-append, take_all}
+use Rattle.std.proofs.lemmas.List.{append-nil, append_assoc, drop-drop, drop_more, get_or-drop, length-drop, map-append, take-append-drop, take_all}
+use Rattle.std.proofs.lemmas.Option.{slice_get-get_or}
+use Rattle.std.proofs.Math.Seq.{take-suc}
 use Rattle.std.proofs.lemmas.List.Folds.{list_any-append}
 use Rattle.std.specs.List.{list_any}
 use Rattle.std.specs.Option.{option_or}
@@ -241,6 +243,38 @@ passed_on out x rest det ascend low =
     ∙ ap is_ascending (append_assoc (dets_of out) (x.det ∷ []) (det ∷ []))
     ∙ glue (dets_of out) x.det (det ∷ []) (front (dets_of out) x.det (dets_of rest) (sym (ap is_ascending (dets_append out (x ∷ rest))) ∙ ascend)) (and_from (is_before x.det det) true low refl)
 
+-- the items from one place up to another, and the rest
+pub part_and_rest : (kept : List Item) (from next : ℕ) → from ≤ next → take (next - from) (drop from kept) ++ drop next kept ≡ drop from kept
+part_and_rest kept from next up =
+    let e : next ≡ from + (next - from) = omega (arith, up) in
+    ap (λ n. take (next - from) (drop from kept) ++ drop n kept) e
+    ∙ ap (λ xs. take (next - from) (drop from kept) ++ xs) (sym (drop-drop (next - from) from kept))
+    ∙ take-append-drop (next - from) (drop from kept)
+
+-- more of them that come before a determinant are passed on, where the last of them does
+pub part_passed : (out kept : List Item) (from next : ℕ) (det : Det) → from ≤ next → next ≤ length kept → is_ascending (dets_of (out ++ drop from kept)) ≡ true
+    → is_ascending (dets_of out ++ det ∷ []) ≡ true → (from < next → IfSome (slice_get kept (next - 1)) (λ item. is_before item.det det ≡ true))
+    → is_ascending (dets_of (out ++ take (next - from) (drop from kept)) ++ det ∷ []) ≡ true
+part_passed out kept from next det up within ascend before last = by (next - from) refl
+  where
+    by : (n : ℕ) → next - from ≡ n → is_ascending (dets_of (out ++ take (next - from) (drop from kept)) ++ det ∷ []) ≡ true
+    by zero e = ap (λ n. is_ascending (dets_of (out ++ take n (drop from kept)) ++ det ∷ [])) e ∙ ap (λ xs. is_ascending (dets_of xs ++ det ∷ [])) (append-nil out) ∙ before
+    by (suc m) e =
+        let rest = drop from kept in
+        let any : Item = record { det = det; holders = set.empty } in
+        let x = get_or rest m any in
+        let long = length-drop from kept in
+        let inside : m < length rest = omega (arith, e, within, long) in
+        let place : from + m ≡ next - 1 = omega (arith, e) in
+        let there : slice_get kept (next - 1) ≡ Some x = slice_get-get_or kept (next - 1) any (omega (arith, e, within)) ∙ ap (λ i. Some (get_or kept i any)) (sym place) ∙ ap (λ y. Some y) (sym (get_or-drop from kept m any)) in
+        let low : is_before x.det det ≡ true = subst (λ o. IfSome o (λ item. is_before item.det det ≡ true)) there (last (omega (arith, e))) in
+        let cut : take (next - from) rest ≡ take m rest ++ x ∷ [] = ap (λ n. take n rest) e ∙ take-suc rest m any inside in
+        let split : out ++ rest ≡ (out ++ take m rest) ++ x ∷ drop (m + 1) rest =
+        ap (λ xs. out ++ xs) (sym (take-append-drop m rest) ∙ ap (λ xs. take m rest ++ xs) (drop_more rest m any inside)) ∙ sym (append_assoc out (take m rest) (x ∷ drop (m + 1) rest)) in
+        ap (λ xs. is_ascending (dets_of (out ++ xs) ++ det ∷ [])) cut
+        ∙ ap (λ xs. is_ascending (dets_of xs ++ det ∷ [])) (sym (append_assoc out (take m rest) (x ∷ [])))
+        ∙ passed_on (out ++ take m rest) x (drop (m + 1) rest) det (ap (λ xs. is_ascending (dets_of xs)) (sym split) ∙ ascend) low
+
 some_carried : (f : ℕ) (o : Option Known) (known : Known) → Some known ≡ carried_of f o → unwrap_or o nothing_known ≡ known
 some_carried f None known h = absurd (true≢false (ap is_some h))
 some_carried f (Some other) known h = by (is_carried f other) refl
@@ -301,6 +335,12 @@ module _ (f : ℕ) (log : LogMap) (det : Det) (heard : Known) (out rest : List I
       none : (o : Option Known) → is_some o ≡ false → unwrap_or o nothing_known ≡ nothing_known
       none None h = refl
       none (Some k) h = absurd (true≢false h)
+
+-- where messages carry nothing, they carry nothing once items are taken in that tell of nothing that they carry on
+pub none_carried : (f : ℕ) (from me : Pid) (items : List Item) (log : LogMap) → ((item : Item) → is_carried f (told from me item).1 ≡ false) → [] ≡ chosen f log → [] ≡ chosen f (absorbed items from me log)
+none_carried f from me [] log never is = is
+none_carried f from me (x ∷ xs) log never is =
+    none_carried f from me xs (learned log x.det (told from me x).1) never (still_out f log x.det (told from me x).1 [] [] is refl refl (never x))
 
 -- the items from a place on begin with the one that stands there
 pub drop_got : (xs : List Item) (i : ℕ) (x : Item) → slice_get xs i ≡ Some x → drop i xs ≡ x ∷ drop (i + 1) xs

@@ -72,9 +72,9 @@ module _ {V : Type 0} where
   keys_read (e ∷ es) zero x v read = ap (λ y. y.0 ∷ keys_of es) read
   keys_read (e ∷ es) (suc i) x v read = ap (λ ds. e.0 ∷ ds) (keys_read es i x v read)
 
-  -- the entry that is read at a place has the determinant that stands there
-  pub read_det : (es : List (Det × V)) (i : ℕ) (x : Det × V) (d : Det) (was : V) → slice_get es i ≡ Some (d, was) → x ≡ get_or es i x → x.0 ≡ d
-  read_det es i x d was at read = ap (λ y. y.0) (read ∙ get_or_from_slice_get es i (d, was) x at)
+  -- the entry that is read at a place is the one that stands there
+  pub read_is : (es : List (Det × V)) (i : ℕ) (x : Det × V) (d : Det) (was : V) → slice_get es i ≡ Some (d, was) → x ≡ get_or es i x → x ≡ (d, was)
+  read_is es i x d was at read = read ∙ get_or_from_slice_get es i (d, was) x at
 
 -- no determinant stands twice in no entries
 pub none_distinct : IsDistinct same_det []

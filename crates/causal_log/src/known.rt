@@ -4,7 +4,7 @@ ghost use Rattle.causal_log.specs.Knowledge.{nothing_known, held_by, joined, as_
 
 use crate::batch::Item;
 use causal_holders::Holders;
-use causal_name::{Det, Pid};
+use causal_name::Pid;
 
 /// What a process knows of a determinant: who holds it in volatile memory, and whether it is in stable storage.
 #[derive(Clone, Copy, Debug, PartialEq, Eq)]
@@ -61,12 +61,12 @@ impl Known {
     }
 }
 
-/// What an item of a message from one process tells another.
-pub(crate) fn told(from: Pid, me: Pid, item: &Item) -> (Det, Known)
-    ensures { result ≡ told from me item.now }
+/// What an item of a message from one process tells another of its determinant.
+pub(crate) fn told(from: Pid, me: Pid, item: &Item) -> Known
+    ensures { result ≡ (told from me item.now).1 }
 {
     let mut heard = item.known();
     heard.holders.insert(from.0);
     heard.holders.insert(me.0);
-    (item.det, heard)
+    heard
 }

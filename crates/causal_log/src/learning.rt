@@ -15,8 +15,8 @@ pub(crate) fn learn(entries: &mut Table, det: Det, heard: Known)
     ensures spare { entries.old.spare ≤ entries.new.spare + 1 }
 {
     match entries.find(det) {
-        Some((place, known)) => entries.set(place, known.joined(heard)),
-        None => entries.add(det, Known::nothing().joined(heard)),
+        Some((place, _)) => entries.join(place, heard),
+        None => entries.add(det, heard),
     }
 }
 
@@ -28,8 +28,7 @@ pub(crate) fn learn_items(entries: &mut Table, items: &[Item], from: Pid, me: Pi
     ensures spare { entries.old.spare ≤ entries.new.spare + length items.now }
 {
     for item in items {
-        let (det, heard) = told(from, me, item);
-        learn(entries, det, heard);
+        learn(entries, item.det, told(from, me, item));
     }
 }
 

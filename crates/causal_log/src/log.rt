@@ -5,14 +5,13 @@ ghost use Rattle.std.specs.Arc.{arc_value};
 ghost use Rattle.causal_name.specs.Names.{is_ascending};
 ghost use Rattle.causal_log.specs.Knowledge.{held_by, stable_and_held_by};
 ghost use Rattle.causal_log.specs.Logs.{log_of, learned, dets_of, absorbed, grown, united, marked, stable_in, unstable_in, unmarked, chosen, named, HaveSame};
-ghost use Rattle.causal_log.specs.Inside.Merges.{source_of, taken};
 
 use crate::batch::{Batch, Item};
 use crate::carried::{Carried, mark};
 use crate::entries;
 use crate::known::Known;
 use crate::learning::{learn, learn_entries, learn_items};
-use crate::merging::{Delivery, merged_delivery};
+use crate::merging::{Delivery, next_batch};
 use crate::ranks::ranked;
 use crate::table::Table;
 use causal_name::{Det, MsgName, NoMemory, Pid, Slot};
@@ -154,7 +153,8 @@ impl Log {
         });
     }
 
-    /// What the messages of a step would carry once `grow` has taken in a delivery. Its only error is want of memory.
+    /// What the messages of a step would carry once `grow` has taken in a delivery, as a batch to share: the one that they carry
+    /// now, where it is seen to stay. Its only error is want of memory.
     pub fn choose_grown(
         &self,
         alloc: Global,
@@ -163,9 +163,9 @@ impl Log {
         from: Pid,
         me: Pid,
         f: u16,
-    ) -> Result<Batch, NoMemory>
-        ensures { IfOk result
-            (λ batch. batch ≡ chosen f (grown carried.now own from me self.now.map)) }
+    ) -> Result<Arc<Batch>, NoMemory>
+        ensures { IfOk result (λ batch. arc_value batch ≡
+            chosen f (grown carried.now own from me self.now.map)) }
     {
         let delivery = Delivery {
             entries: &self.entries,
@@ -175,23 +175,15 @@ impl Log {
             me,
             f,
         };
-        let merged = self.merged(alloc, &delivery)?;
-        Ok(Batch::new(merged))
-    }
-
-    /// The items of what they would carry.
-    fn merged(&self, alloc: Global, delivery: &Delivery<'_>) -> Result<Vec<Item>, NoMemory>
-        requires source { source_of delivery.now ≡ self.now.map }
-        requires ascending { is_ascending (dets_of delivery.now.items.now) ≡ true }
-        ensures { IfOk result (λ found. found.items ≡ chosen delivery.now.f (taken delivery.now)) }
-    {
         match &self.carried {
-            Some(carried) if carried.f == delivery.f && !carried.is_marked => {
-                merged_delivery(alloc, carried.batch.as_slice(), delivery)
-            }
+            Some(kept) if kept.f == f && !kept.is_marked => next_batch(
+                alloc,
+                &kept.batch,
+                &delivery,
+            ),
             _ => {
-                let kept = self.carried(alloc, delivery.f)?;
-                merged_delivery(alloc, kept.as_slice(), delivery)
+                let batch = Arc::new(alloc, self.choose(alloc, f)?)?;
+                next_batch(alloc, &batch, &delivery)
             }
         }
     }
@@ -354,10 +346,10 @@ impl Log {
         ensures marked { self.new.map ≡ marked self.old.map det }
         ensures spare { self.new.spare ≡ self.old.spare }
     {
-        let Some((place, known)) = self.entries.find(det) else {
+        let Some((place, _)) = self.entries.find(det) else {
             return false;
         };
-        self.entries.set(place, known.marked());
+        self.entries.join(place, Known::nothing().marked());
         mark(&mut self.carried);
         true
     }

@@ -1,19 +1,24 @@
 //! What messages will carry once a delivery is taken in, worked out beside the log. What they carry now and what the delivery
 //! tells both ascend, and are passed over together: what is passed on, and what is kept from a place on, is at each step what
 //! messages carry of what was taken in so far.
-ghost use Rattle.std.specs.Prelude.{◌≡◌, ◌≤◌, ◌+◌, ◌++◌, ◌||◌, [], true, false, Some, is_some, drop, slice_get, length, IfOk, OnOk, IfSome, IsNone};
+ghost use Rattle.std.specs.Prelude.{◌≡◌, ◌≤◌, ◌<◌, ◌+◌, ◌-◌, ◌++◌, ◌||◌, [], true, false, Some, is_some, drop, slice_get, length, IfOk, OnOk, IfSome, IsNone};
+ghost use Rattle.std.specs.Arc.{arc_value};
 ghost use Rattle.std.specs.FinMap as fin;
 ghost use Rattle.causal_name.specs.declared.Det.{Det};
 ghost use Rattle.causal_name.specs.Names.{is_ascending, is_before, same_det};
-ghost use Rattle.causal_log.specs.Logs.{LogMap, log_of, chosen, dets_of, names_det};
+ghost use Rattle.causal_log.specs.declared.batch.Item.{Item};
+ghost use Rattle.causal_log.specs.Knowledge.{told, is_carried};
+ghost use Rattle.causal_log.specs.Logs.{LogMap, log_of, chosen, dets_of, names_det, names_holder};
 ghost use Rattle.causal_log.specs.Inside.Carried.{with_carried, HearsNext};
 ghost use Rattle.causal_log.specs.Inside.Merges.{EndBefore, IsPassed, is_known, source_of, heard_of, taken};
 
-use crate::batch::Item;
+use crate::batch::{Batch, Item};
 use crate::known::{Known, told};
 use crate::table::Table;
+use causal_holders::Holders;
 use causal_name::{Det, NoMemory, Pid};
 use std::alloc::Global;
+use std::sync::Arc;
 
 /// A delivery that the entries of a log are to take in: the items that its message from one process carries to another, and its
 /// own determinant; and for how many failures messages carry determinants.
@@ -27,6 +32,43 @@ pub(crate) struct Delivery<'a> {
     pub f: u16,
 }
 
+impl Delivery<'_> {
+    /// Whether messages may carry what its items tell: its sender and its receiver hold that, and may be too many.
+    fn may_carry(&self) -> bool
+        ensures { result ≡ false → (item : Item) →
+            is_carried self.now.f (told self.now.from self.now.me item).1 ≡ false }
+    {
+        self.f > u16::from(self.me != self.from)
+    }
+}
+
+/// Whether ascending items name a determinant with this holder.
+fn name_holder(items: &[Item], det: Det, holder: Pid) -> bool
+    ensures { result ≡ true → names_holder det holder.0 items.now ≡ true }
+{
+    let place = items.partition_point(|item| item.det.comes_before(&det));
+    match items.get(place) {
+        Some(item) => det == item.det && item.holders.contains(holder.0),
+        None => false,
+    }
+}
+
+/// The place of the first item from a place on that does not come before a determinant.
+fn end_before(kept: &[Item], from: usize, det: Det) -> usize
+    requires { from ≤ length kept.now }
+    ensures from { from ≤ result }
+    ensures within { result ≤ length kept.now }
+    ensures next { IsPassed kept.now result det }
+    ensures last { from < result →
+        IfSome (slice_get kept.now (result - 1)) (λ item. is_before item.det det ≡ true) }
+{
+    let mut place = from;
+    while place < kept.len() && kept[place].det.comes_before(&det) {
+        place += 1;
+    }
+    place
+}
+
 /// Passes on what comes before a determinant, and tells the place of what comes next.
 fn pass(out: &mut Vec<Item>, kept: &[Item], from: usize, det: Det) -> Result<usize, NoMemory>
     requires within { from ≤ length kept.now }
@@ -38,12 +80,9 @@ fn pass(out: &mut Vec<Item>, kept: &[Item], from: usize, det: Det) -> Result<usi
     ensures before { OnOk result (EndBefore out.new.items det) }
     ensures next { IfOk result (λ next. IsPassed kept.now next det) }
 {
-    let mut place = from;
-    while place < kept.len() && kept[place].det.comes_before(&det) {
-        out.push(kept[place])?;
-        place += 1;
-    }
-    Ok(place)
+    let next = end_before(kept, from, det);
+    out.extend_from_slice(&kept[from..next])?;
+    Ok(next)
 }
 
 /// Passes on a determinant of which this is known, where messages carry it.
@@ -84,36 +123,52 @@ fn is_logged(entries: &Table, named: &[Item], det: Det) -> bool
     entries.find(det).is_some() || name(named, det)
 }
 
-/// Passes on a determinant of which this is heard: the next one of what is kept, or one that was not logged. Of another one
-/// messages carry nothing from then on either.
+/// Whether messages that carry this are seen to carry it still after a delivery whose message carries nothing: they carry
+/// nothing, and its determinant stays out; or that is carried, and its receiver known to hold it, as in a replay.
+fn changes_nothing(kept: &[Item], delivery: &Delivery<'_>) -> bool
+    ensures { result ≡ true → kept.now ≡ chosen delivery.now.f (source_of delivery.now) →
+        kept.now ≡ chosen delivery.now.f (taken delivery.now) }
+{
+    if !delivery.items.is_empty() {
+        return false;
+    }
+    if kept.is_empty() {
+        return delivery.f == 0 || is_logged(delivery.entries, delivery.items, delivery.own);
+    }
+    name_holder(kept, delivery.own, delivery.me)
+}
+
+/// Passes on the determinant of an item: the next one of what is kept, or one that was not logged. Of another one messages carry
+/// nothing from then on either.
 fn meet(
     out: &mut Vec<Item>,
     kept: &[Item],
     place: usize,
     delivery: &Delivery<'_>,
     named: &[Item],
-    det: Det,
-    heard: Known,
+    item: &Item,
 ) -> Result<usize, NoMemory>
     requires within { place ≤ length kept.now }
-    requires before { EndBefore out.old.items det }
-    requires next { IsPassed kept.now place det }
+    requires before { EndBefore out.old.items item.now.det }
+    requires next { IsPassed kept.now place item.now.det }
     ensures within { IfOk result (λ next. next ≤ length kept.now) }
     ensures heard { IfOk result (λ next. (log : LogMap) →
-        is_some (fin.get log det) ≡ is_known (source_of delivery.now) named.now det →
-        HearsNext delivery.now.f det heard log
+        is_some (fin.get log item.now.det) ≡ is_known (source_of delivery.now) named.now item.now.det →
+        HearsNext delivery.now.f item.now.det (told delivery.now.from delivery.now.me item.now).1 log
         (out.old.items ++ drop place kept.now) (out.new.items ++ drop next kept.now)) }
     ensures before { OnOk result
-        ((d : Det) → is_before det d ≡ true → EndBefore out.new.items d) }
+        ((d : Det) → is_before item.now.det d ≡ true → EndBefore out.new.items d) }
 {
-    if let Some(item) = next_of(kept, place, det) {
-        carry(out, det, item.known().joined(heard), delivery.f)?;
+    if let Some(next) = next_of(kept, place, item.det) {
+        let heard = told(delivery.from, delivery.me, item);
+        carry(out, item.det, next.known().joined(heard), delivery.f)?;
         return Ok(place + 1);
     }
-    if !heard.is_carried(delivery.f) || is_logged(delivery.entries, named, det) {
+    if !delivery.may_carry() || is_logged(delivery.entries, named, item.det) {
         return Ok(place);
     }
-    carry(out, det, Known::nothing().joined(heard), delivery.f)?;
+    let heard = told(delivery.from, delivery.me, item);
+    carry(out, item.det, heard, delivery.f)?;
     Ok(place)
 }
 
@@ -123,34 +178,39 @@ fn merged(alloc: Global, kept: &[Item], delivery: &Delivery<'_>) -> Result<Vec<I
     requires ascending { is_ascending (dets_of delivery.now.items.now) ≡ true }
     ensures { IfOk result (λ out. out.items ≡ chosen delivery.now.f (heard_of delivery.now)) }
 {
+    if kept.is_empty() && !delivery.may_carry() {
+        return Ok(Vec::new(alloc));
+    }
     let items = delivery.items;
     let mut out = Vec::with_capacity(alloc, kept.len())?;
     let mut place = 0;
     for item in items {
-        let (det, heard) = told(delivery.from, delivery.me, item);
-        place = pass(&mut out, kept, place, det)?;
-        place = meet(&mut out, kept, place, delivery, &[], det, heard)?;
+        place = pass(&mut out, kept, place, item.det)?;
+        place = meet(&mut out, kept, place, delivery, &[], item)?;
     }
     out.extend_from_slice(&kept[place..])?;
     Ok(out)
 }
 
-/// What messages carry once the own determinant is taken in too.
+/// What messages carry once the own determinant is taken in too, which its receiver alone holds.
 fn merged_own(alloc: Global, kept: &[Item], delivery: &Delivery<'_>) -> Result<Vec<Item>, NoMemory>
     requires { kept.now ≡ chosen delivery.now.f (heard_of delivery.now) }
     ensures { IfOk result (λ out. out.items ≡ chosen delivery.now.f (taken delivery.now)) }
 {
-    let own = delivery.own;
-    let held = Known::held(delivery.me);
-    let mut out = Vec::with_capacity(alloc, kept.len())?;
-    let next = pass(&mut out, kept, 0, own)?;
-    let place = meet(&mut out, kept, next, delivery, delivery.items, own, held)?;
+    let det = delivery.own;
+    let holders = Holders::none();
+    let own = Item { det, holders };
+    let from = delivery.me;
+    let held = Delivery { from, ..*delivery };
+    let mut out = Vec::with_capacity(alloc, kept.len().saturating_add(1))?;
+    let next = pass(&mut out, kept, 0, det)?;
+    let place = meet(&mut out, kept, next, &held, delivery.items, &own)?;
     out.extend_from_slice(&kept[place..])?;
     Ok(out)
 }
 
 /// What messages carry once a delivery is taken in, where they carry this of the log now.
-pub(crate) fn merged_delivery(
+fn merged_delivery(
     alloc: Global,
     kept: &[Item],
     delivery: &Delivery<'_>,
@@ -164,4 +224,23 @@ pub(crate) fn merged_delivery(
     }
     let heard = merged(alloc, kept, delivery)?;
     merged_own(alloc, heard.as_slice(), delivery)
+}
+
+/// The batch of what messages carry once a delivery is taken in, where they carry this one now: this one, where it is seen to
+/// stay.
+pub(crate) fn next_batch(
+    alloc: Global,
+    batch: &Arc<Batch>,
+    delivery: &Delivery<'_>,
+) -> Result<Arc<Batch>, NoMemory>
+    requires kept { arc_value batch.now ≡ chosen delivery.now.f (source_of delivery.now) }
+    requires ascending { is_ascending (dets_of delivery.now.items.now) ≡ true }
+    ensures { IfOk result (λ next. arc_value next ≡ chosen delivery.now.f (taken delivery.now)) }
+{
+    let kept = batch.as_slice();
+    if changes_nothing(kept, delivery) {
+        return Ok(Arc::try_clone(batch)?);
+    }
+    let merged = merged_delivery(alloc, kept, delivery)?;
+    Ok(Arc::new(alloc, Batch::new(merged))?)
 }

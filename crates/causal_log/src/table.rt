@@ -7,6 +7,7 @@ ghost use Rattle.std.specs.Option.{option_map};
 ghost use Rattle.causal_name.specs.declared.Det.{Det};
 ghost use Rattle.causal_name.specs.Names.{same_det, is_ascending};
 ghost use Rattle.causal_log.specs.declared.known.Known.{Known};
+ghost use Rattle.causal_log.specs.Knowledge.{joined};
 ghost use Rattle.causal_log.specs.Logs.{log_of};
 ghost use Rattle.causal_log.specs.Inside.Carried.{is_open};
 ghost use Rattle.causal_log.specs.Inside.Indexes.{IsIndex};
@@ -23,7 +24,7 @@ use std::marker::Model;
 const FEWEST_HEADS: usize = 2048;
 
 /// For how many entries room is made at least.
-const FEWEST_ENTRIES: usize = 16;
+const FEWEST_ENTRIES: usize = 64;
 
 /// How far a turn is from the one before: far enough that what shared a head is spread over many.
 const TURN: u8 = 37;
@@ -121,16 +122,16 @@ impl Table {
         least_of_slot(self.dets.as_slice(), heads, older, self.turn, slot)
     }
 
-    /// Changes what is known of the determinant at a place.
-    pub(crate) fn set(&mut self, place: usize, known: Known)
+    /// Learns more of the determinant at a place.
+    pub(crate) fn join(&mut self, place: usize, heard: Known)
         requires { place < length self.old.entries }
         ensures put { (det : Det) (was : Known) →
             slice_get self.old.entries place ≡ Some (det, was) →
-            log_of self.new.entries ≡ fin.insert (log_of self.old.entries) det known }
+            log_of self.new.entries ≡ fin.insert (log_of self.old.entries) det (joined was heard) }
         ensures keys { keys_of self.new.entries ≡ keys_of self.old.entries }
         ensures spare { self.new.spare ≡ self.old.spare }
     {
-        self.entries[place].1 = known;
+        self.entries[place].1 = self.entries[place].1.joined(heard);
     }
 
     /// Adds an entry behind the others, in room made before.

@@ -1,14 +1,12 @@
-use Rattle.std.proofs.Common.{◌≡◌, ◌∙◌, ◌+◌, ◌++◌, ◌∷◌, [], true, drop, is_some, ap, sym, subst, arith}
-use Rattle.std.proofs.lemmas.List.{drop_more, drop_all}
-use Rattle.std.specs.FinMap as fin
-use Rattle.causal_name.specs.declared.Det.{Det}
-use Rattle.causal_name.specs.Names.{is_ascending, is_before}
-use Rattle.causal_log.specs.Logs.{LogMap, dets_of}
-use Rattle.causal_log.specs.Inside.Carried.{HearsNext}
-use Rattle.causal_log.specs.Inside.Merges.{HasMerged, is_known, source_of}
+use Rattle.std.proofs.Common.{◌≡◌, ◌∙◌, ◌+◌, ◌++◌, ◌∷◌, [], true, drop, length, ap, sym, subst, arith}
+use Rattle.std.proofs.lemmas.Bool.{eqb-true}
+use Rattle.std.proofs.lemmas.List.{drop_more, drop_all, nil_from_length}
+use Rattle.causal_name.specs.Names.{is_ascending}
+use Rattle.causal_log.specs.Logs.{dets_of}
+use Rattle.causal_log.specs.Inside.Merges.{HasMerged, source_of}
 use Rattle.causal_log.proofs.Lemmas.Ascents.{ascending_tail}
 use Rattle.causal_log.proofs.Lemmas.ChosenLemmas.{chosen_ascend}
-use Rattle.causal_log.proofs.MergeLemmas.{cut_rest, merged_none, merged_all, merged_next}
+use Rattle.causal_log.proofs.MergeLemmas.{cut_rest, none_carried, merged_none, merged_all, merged_next}
 use Rattle.causal_log.proofs.merging.merged.Goals as goal
 
 pub loop-item-init : goal.loop-item-init
@@ -32,7 +30,7 @@ pass-requires-clause-before c =
     let i = c.loop-item.item-index in
     let x = c.item-item.result in
     let here : drop i items ≡ x ∷ drop (i + 1) items = drop_more items i x c.loop-item-test.true ∙ ap (λ y. y ∷ drop (i + 1) items) (sym c.item-item.is) in
-    ap (λ t. is_ascending (dets_of c.loop-item.out.items ++ t.0 ∷ [])) c.told-heard.ensures ∙ c.loop-item.invariant.merged.before x (drop (i + 1) items) here
+    c.loop-item.invariant.merged.before x (drop (i + 1) items) here
 
 pub loop-item-preserved : goal.loop-item-preserved
 loop-item-preserved c =
@@ -45,19 +43,14 @@ loop-item-preserved c =
     let source = source_of d in
     let out = c.loop-item.out.items in
     let begun = drop c.loop-item.place kept in
-    let passed = c.pass.new.out.items in
-    let next = drop c.in_ok-place.place kept in
-    let later = c.meet.new.out.items in
-    let after = drop c.in_ok-place-2.place kept in
     let here : drop i items ≡ x ∷ rest = drop_more items i x c.loop-item-test.true ∙ ap (λ y. y ∷ rest) (sym c.item-item.is) in
     let ascend : is_ascending (dets_of (x ∷ rest)) ≡ true = subst (λ xs. is_ascending (dets_of xs) ≡ true) here c.loop-item.invariant.ascend in
     record {
       within = c.in_ok-place-2.ensures.within;
       ascend = ascending_tail x.det (dets_of rest) ascend;
       merged =
-          merged_next d.f items d.from d.me source x rest out begun passed next later after ascend c.in_ok-place.ensures.same
-          (subst (λ t. (log : LogMap) → is_some (fin.get log t.0) ≡ is_known source [] t.0 → HearsNext d.f t.0 t.1 log (passed ++ next) (later ++ after)) c.told-heard.ensures c.in_ok-place-2.ensures.heard)
-          (subst (λ t. (d : Det) → is_before t.0 d ≡ true → is_ascending (dets_of later ++ d ∷ []) ≡ true) c.told-heard.ensures c.in_ok-place-2.ensures.before)
+          merged_next d.f items d.from d.me source x rest out begun c.pass.new.out.items (drop c.in_ok-place.place kept) c.meet.new.out.items (drop c.in_ok-place-2.place kept) ascend
+          c.in_ok-place.ensures.same c.in_ok-place-2.ensures.heard c.in_ok-place-2.ensures.before
           (subst (λ xs. HasMerged d.f items xs d.from d.me source out begun) here c.loop-item.invariant.merged);
     }
 
@@ -70,3 +63,10 @@ returns c =
     ∙ ap (λ xs. out ++ xs) (cut_rest c.args.kept.now c.loop-item.place)
     ∙ merged_all d.f d.items.now d.from d.me (source_of d) out begun
     (subst (λ xs. HasMerged d.f d.items.now xs d.from d.me (source_of d) out begun) (drop_all c.loop-item.item-index d.items.now (omega (arith, c.loop-item-test.false))) c.loop-item.invariant.merged)
+
+pub returns-then-not-may_carry : goal.returns-then-not-may_carry
+returns-then-not-may_carry c =
+    let d = c.args.delivery.now in
+    let none : c.args.kept.now ≡ [] = nil_from_length c.args.kept.now (eqb-true (length c.args.kept.now) 0 (sym c.is_empty.ensures ∙ c.if-is_empty.true)) in
+    c.new.ensures.items
+    ∙ none_carried d.f d.from d.me d.items.now (source_of d) (c.may_carry.ensures c.if-not-may_carry.true) (sym none ∙ c.requires.kept)

@@ -1,0 +1,98 @@
+-- What is known together with nothing, once it is marked, and of what a message tells.
+use Rattle.std.proofs.Common.{ℕ, ◌≡◌, ◌∙◌, ◌+◌, ◌<◌, ◌≤◌, ◌||◌, Bool, true, false, cond, not, nat_cmp, nat_le, Some, refl, sym, ap, arith, true≢false}
+use Rattle.std.proofs.lemmas.Bool.Decides.{nat_tests}
+use Rattle.std.specs.Int.{from_bool}
+use Rattle.std.specs.Ordering.{eq_by_cmp}
+use Rattle.std.specs.Cmp.{nat_cmp_total, unsigned_tied}
+use Rattle.std.specs.FinMap as fin
+use Rattle.std.specs.FinSet as set
+use Rattle.causal_name.specs.declared.Det.{Det}
+use Rattle.causal_name.specs.declared.Pid.{Pid}
+use Rattle.causal_name.specs.Names.{same_pid}
+use Rattle.causal_holders.proofs.Lemmas.Sets.{len-is_subset}
+use Rattle.causal_log.specs.declared.known.Known.{Known}
+use Rattle.causal_log.specs.declared.batch.Item.{Item}
+use Rattle.causal_log.specs.Knowledge.{nothing_known, held_by, joined, as_stable, told, is_carried}
+use Rattle.causal_log.specs.Logs.{LogMap, mark, marked}
+use Rattle.causal_log.proofs.Lemmas.Searches.{or_nothing, or_right}
+
+-- no holders more
+none_before : (s : set.FinSet nat_cmp) → set.union set.empty s ≡ s
+none_before s = set.same_set nat_cmp_total set.nat_cmp-IsAntisymmetric _ _ (λ q.
+    set.contains-union nat_cmp_total set.empty s q ∙ ap (λ b. b || set.contains s q) (set.contains-empty nat_cmp q))
+
+none_after : (s : set.FinSet nat_cmp) → set.union s set.empty ≡ s
+none_after s = set.same_set nat_cmp_total set.nat_cmp-IsAntisymmetric _ _ (λ q.
+    set.contains-union nat_cmp_total s set.empty q ∙ ap (λ b. set.contains s q || b) (set.contains-empty nat_cmp q) ∙ sym (or_nothing (set.contains s q)))
+
+-- where nothing was known, just what is heard is
+pub joined_nothing : (known : Known) → joined nothing_known known ≡ known
+joined_nothing known = λ i. record { holders = none_before known.holders i; stable = known.stable }
+
+joined_mark : (known : Known) → joined known (as_stable nothing_known) ≡ as_stable known
+joined_mark known = λ i. record { holders = none_after known.holders i; stable = sym (or_right known.stable) i }
+
+-- to hear of a mark alone is to be marked
+pub marked_then : (log : LogMap) (det : Det) (known heard : Known) → heard ≡ as_stable nothing_known → Some known ≡ fin.get log det → fin.insert log det (joined known heard) ≡ marked log det
+marked_then log det known heard is there = ap (fin.insert log det) (ap (joined known) is ∙ joined_mark known) ∙ ap (mark log det) there
+
+-- the holders of what a message tells, and those of one that has none
+inserted : (s : set.FinSet nat_cmp) (from me : Pid) (q : ℕ) →
+    set.contains (set.insert (set.insert s from.0) me.0) q ≡ (eq_by_cmp nat_cmp q me.0 || (eq_by_cmp nat_cmp q from.0 || set.contains s q))
+inserted s from me q =
+    set.contains-insert nat_cmp_total (set.insert s from.0) me.0 q ∙ ap (λ b. eq_by_cmp nat_cmp q me.0 || b) (set.contains-insert nat_cmp_total s from.0 q)
+
+wider : (a b c d : Bool) → c ≡ false → (a || (b || c)) ≡ true → (a || (b || d)) ≡ true
+wider true b c d none h = refl
+wider false true c d none h = refl
+wider false false c d none h = absurd (true≢false (sym h ∙ none))
+
+two_told : (from me : Pid) (item : Item) → set.len (set.insert (held_by from).holders me.0) ≤ set.len (told from me item).1.holders
+two_told from me item =
+    let two = set.insert (held_by from).holders me.0 in
+    let all = (told from me item).1.holders in
+    len-is_subset two all (set.contains-is_subset nat_cmp_total two all (λ q there.
+    inserted item.holders from me q
+    ∙ wider (eq_by_cmp nat_cmp q me.0) (eq_by_cmp nat_cmp q from.0) (set.contains (set.empty {R = nat_cmp}) q) (set.contains item.holders q) (set.contains-empty nat_cmp q)
+    (sym (inserted set.empty from me q) ∙ there)))
+
+one : (p : Pid) → set.len (held_by p).holders ≡ 1
+one p =
+    set.len-insert nat_cmp_total set.empty p.0
+    ∙ ap (λ b. cond b (set.len (set.empty {R = nat_cmp})) (set.len (set.empty {R = nat_cmp}) + 1)) (set.contains-empty nat_cmp p.0)
+    ∙ ap (λ n. n + 1) (set.len-empty nat_cmp)
+
+two_len : (from me : Pid) → set.len (set.insert (held_by from).holders me.0) ≡ from_bool (not (same_pid me from)) + 1
+two_len from me =
+    let inside : set.contains (held_by from).holders me.0 ≡ same_pid me from =
+    set.contains-insert nat_cmp_total set.empty from.0 me.0 ∙ ap (λ b. eq_by_cmp nat_cmp me.0 from.0 || b) (set.contains-empty nat_cmp me.0)
+    ∙ sym (or_nothing (eq_by_cmp nat_cmp me.0 from.0)) ∙ unsigned_tied me.0 from.0
+    in
+    set.len-insert nat_cmp_total (held_by from).holders me.0 ∙ (λ i. cond (inside i) (one from i) (one from i + 1)) ∙ by (same_pid me from)
+  where
+    by : (b : Bool) → cond b 1 2 ≡ from_bool (not b) + 1
+    by true = refl
+    by false = refl
+
+too_many : (n f : ℕ) → f < n → nat_le n f ≡ false
+too_many n f h = grind (arith, nat_tests)
+
+-- what a message tells is not carried on where its sender and its receiver are too many holders
+pub told_out : (f : ℕ) (from me : Pid) (item : Item) → f ≤ from_bool (not (same_pid me from)) → is_carried f (told from me item).1 ≡ false
+told_out f from me item few = too_many (set.len (told from me item).1.holders) f (omega (arith, few, two_told from me item, two_len from me))
+
+-- nor is what one process holds, where none may fail
+pub held_out : (f : ℕ) (p : Pid) → f ≡ 0 → is_carried f (held_by p) ≡ false
+held_out f p none = too_many (set.len (held_by p).holders) f (omega (arith, none, one p))
+
+-- what a process tells itself of a determinant with no holders is that it holds it
+pub told_itself : (me : Pid) (det : Det) → (told me me (record { det = det; holders = set.empty })).1 ≡ held_by me
+told_itself me det = λ i. record {
+  holders = set.same_set nat_cmp_total set.nat_cmp-IsAntisymmetric (set.insert (held_by me).holders me.0) (held_by me).holders
+      (λ q. inserted set.empty me me q ∙ twice (eq_by_cmp nat_cmp q me.0) (set.contains (set.empty {R = nat_cmp}) q) ∙ sym (set.contains-insert nat_cmp_total set.empty me.0 q)) i;
+  stable = false;
+}
+  where
+    twice : (a b : Bool) → (a || (a || b)) ≡ (a || b)
+    twice true b = refl
+    twice false b = refl
