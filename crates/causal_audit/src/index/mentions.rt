@@ -66,6 +66,15 @@ fn find_each(
     Ok(())
 }
 
+/// How many determinants these entries mention.
+fn count_mentioned(entries: &[Entry]) -> usize {
+    let mut many: usize = 0;
+    for entry in entries {
+        many = many.saturating_add(mentioned(entry).len());
+    }
+    many
+}
+
 /// The numbers of all determinants that these entries mention, one after the other. Each is searched once: a search reads memory
 /// here and there.
 fn numbers_of(
@@ -77,7 +86,7 @@ fn numbers_of(
     ensures { IfOk result (λ numbers. AreNumbersOf among
         (delivered_dets trace.now.recording.past) (flat_map mentioned_by entries.now) numbers.items) }
 {
-    let mut numbers = Vec::new(alloc);
+    let mut numbers = Vec::with_capacity(alloc, count_mentioned(entries))?;
     for entry in entries {
         find_each(&mut numbers, trace, among, mentioned(entry))?;
     }
