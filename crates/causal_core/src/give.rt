@@ -36,7 +36,7 @@ fn give_body(
     ensures filled { map is_some slots.new.items ≡ map is_some slots.old.items }
     ensures body { body.new ≡ body.old }
 {
-    let lent = mem::replace(body, Body::new(Vec::new(alloc)));
+    let lent = mem::replace(body, Body::empty(alloc));
     let input = Input::Message {
         from: source,
         body: lent,

@@ -11,7 +11,7 @@ use std::alloc::Global;
 pub(crate) fn send_one(alloc: Global, to: Pid, bytes: &[u8]) -> Result<Vec<Outgoing>, NoMemory>
     ensures { IfOk result (λ sends. sends.items ≡ one_message to bytes.now) }
 {
-    let body = Body::new(bytes.to_vec(alloc)?);
+    let body = Body::of(alloc, bytes)?;
     Ok(vec![in alloc; Outgoing { to, body }]?)
 }
 

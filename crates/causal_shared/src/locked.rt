@@ -98,7 +98,7 @@ fn note<S: Stable>(
         reply: told.1,
         first: turn.first,
     };
-    let _ = history.push(item);
+    history.push_reserved(item);
     seats[turn.seat as usize] = KeptSeat {
         count: turn.call + 1,
         seen: instant_of(core),
@@ -107,20 +107,17 @@ fn note<S: Stable>(
 }
 
 /// The item at the place, if there is one.
-fn item_at_place(history: &[Item], place: Option<u32>) -> Option<Item>
-    ensures { result ≡ item_at history.now place }
+fn item_at_place(history: &[Item], place: Option<u32>) -> Option<&Item>
+    ensures { option_copied result ≡ item_at history.now place }
 {
-    match place {
-        Some(place) => history.get(place as usize).copied(),
-        None => None,
-    }
+    history.get(place? as usize)
 }
 
-fn is_same(a: Option<Item>, b: Option<Item>) -> bool
-    ensures { IsTrue result ↔ (a ≡ b) }
+fn is_same(a: Option<&Item>, b: Option<&Item>) -> bool
+    ensures { IsTrue result ↔ (option_copied a.entry ≡ option_copied b.entry) }
 {
     match (a, b) {
-        (Some(a), Some(b)) => same_item(&a, &b),
+        (Some(a), Some(b)) => same_item(a, b),
         (None, None) => true,
         _ => false,
     }
@@ -227,8 +224,7 @@ impl<S: Stable> Locked<S> {
         if kept.count != count || kept.seen != seen {
             return false;
         }
-        let mine = item_at_place(self.history.as_slice(), kept.last);
-        is_same(mine, last.copied())
+        is_same(item_at_place(self.history.as_slice(), kept.last), last)
     }
 
     /// A copy of the trace, which the seat has then seen.

@@ -127,7 +127,7 @@ impl Seat {
         ensures { self.new.sitting ≡ with_item self.old.sitting request reply first seen }
     {
         let call = self.count();
-        let _ = self.items.push(Item {
+        self.items.push_reserved(Item {
             seat: self.number,
             call,
             request,
