@@ -7,7 +7,7 @@ use Rattle.causal_audit.proofs.index.Filings.{mentioned_next}
 use Rattle.causal_audit.proofs.index.mentions.numbers_of.Goals as goal
 
 pub loop-entry-init : goal.loop-entry-init
-loop-entry-init c = sym (ap (map (λ i. Some i)) c.new-numbers.ensures.items)
+loop-entry-init c = sym (ap (map (λ i. Some i)) c.in_ok-numbers.ensures.items)
 
 pub loop-entry-preserved : goal.loop-entry-preserved
 loop-entry-preserved c =
