@@ -1,6 +1,6 @@
 -- The lists of positions that are kept of a run: one more position, and one more entry.
-use Rattle.causal_audit.proofs.Common.{take, drop, take_more, take-map, drop-map, map, map-append, length-map, length-append, get_or-map, append_assoc, ℕ, ◌≡◌, ◌≢◌, ◌+◌, ◌-◌, ◌<◌, ◌≤◌, inl, inr, true, false, Result, Ok, Err, List, [], ◌∷◌, ◌++◌, length, get_or, Option, Some, None, refl, sym, ap, subst, ◌∙◌, arith, Bool, ◌⊎◌, OnOk, Contains, ◌==◌, ◌&&◌, ◌||◌, option_map_or, All, get_or-eq_default, cases_lt, false≢true, cond-true, cond-false, false_from_ne_true, eqb-true, eq-eqb, ne_eqb, and_parts, or_cases, cases_Bool, or_left, or_right, eqb_tells, nat_tests, get_or-set_same, get_or-set_other, get_or_past, All-push, All-set, All-get_or, All-weaker, Contains-append_left, Contains-push, Contains-push_cases, IsNonDecreasingBy-push, Entry, entry_at, has, nat_cmp, FinSet, contains, empty, remove, contains-empty, IsNonDecreasing, Send, Deliver, Stable, Crash, Restart, Forget, entry_beyond, Det, same_det}
-use Rattle.causal_audit.specs.Inside.Index.Filed.{AreNumbersOf, Ascends, list_at, with_added, AreMentions, AreMentionsWith, mentions_of, AreTurnsOf, IsFirstCrash, is_turn_of}
+use Rattle.causal_audit.proofs.Common.{ℕ, ◌≡◌, ◌≢◌, ◌+◌, ◌-◌, ◌<◌, ◌≤◌, inl, inr, true, false, Result, Ok, Err, List, [], ◌∷◌, ◌++◌, length, get_or, Option, Some, None, refl, sym, ap, subst, ◌∙◌, arith, Bool, ◌⊎◌, OnOk, Contains, ◌==◌, ◌&&◌, ◌||◌, option_map_or, All, get_or-eq_default, cases_lt, false≢true, cond-true, cond-false, false_from_ne_true, eqb-true, eq-eqb, ne_eqb, and_parts, or_cases, cases_Bool, or_left, or_right, eqb_tells, nat_tests, get_or-set_same, get_or-set_other, get_or_past, All-push, All-set, All-get_or, All-weaker, Contains-append_left, Contains-push, Contains-push_cases, IsNonDecreasingBy-push, Entry, entry_at, has, nat_cmp, FinSet, contains, empty, remove, contains-empty, IsNonDecreasing, Send, Deliver, Stable, Crash, Restart, Forget, entry_beyond, Det, same_det}
+use Rattle.causal_audit.specs.Inside.Index.Filed.{Ascends, list_at, with_added, AreMentions, AreMentionsWith, mentions_of, AreTurnsOf, IsFirstCrash, is_turn_of}
 use Rattle.causal_audit.specs.Inside.ByClock.Changes.{HasNoneUntil}
 use Rattle.causal_audit.specs.Inside.Look.Staying.{restarts_one, RestartsNone}
 use Rattle.causal_audit.specs.Spread.{IsCrashOf}
@@ -8,10 +8,7 @@ use Rattle.causal_audit.proofs.group.GroupReach.{left_out}
 use Rattle.causal_audit.proofs.Steps.{entry_cases, entry_within}
 use Rattle.causal_audit.specs.Quiet.{mentioned_by}
 use Rattle.std.specs.Prelude.{nat_lt, IfSome}
-use Rattle.std.specs.List.{flat_map}
-use Rattle.std.proofs.lemmas.List.{length-set, flat_map_more, take-append-drop}
-use Rattle.std.proofs.lemmas.List.Concat.{flat_map-append}
-use Rattle.std.proofs.Math.Seq.{drop-append_seam, take-append_seam}
+use Rattle.std.proofs.lemmas.List.{length-set}
 use Rattle.causal_trace.specs.Numbers.{number_of}
 use Rattle.causal_trace.proofs.Lemmas.DeliveryNumbers.{number_below}
 
@@ -292,71 +289,6 @@ mentions_more past dets numbers lists det m at there are =
 
     back : (d : Det) (v : ℕ) → Contains (option_map_or (list_at more) (number d) []) v → Contains (mentions_of numbers more d) v
     back d v = subst (λ o. Contains (option_map_or (list_at more) o []) v) (sym (same d))
-
--- ---- the numbers of the determinants that are mentioned
-
--- one more of them
-pub numbers_more : (n : ℕ) (delivered dets : List Det) (numbers : List ℕ) (d : Det) (i : ℕ) → AreNumbersOf n delivered dets numbers → number_of n delivered d ≡ Some i → AreNumbersOf n delivered (dets ++ d ∷ []) (numbers ++ i ∷ [])
-numbers_more n delivered dets numbers d i are at =
-    map-append (number_of n delivered) dets (d ∷ [])
-    ∙ (λ j. are j ++ at j ∷ [])
-    ∙ sym (map-append (λ (x : ℕ). Some x) numbers (i ∷ []))
-
--- there are as many as determinants
-pub numbers_count : (n : ℕ) (delivered dets : List Det) (numbers : List ℕ) → AreNumbersOf n delivered dets numbers → length dets ≡ length numbers
-numbers_count n delivered dets numbers are = sym (length-map dets (number_of n delivered)) ∙ ap length are ∙ length-map numbers (λ (x : ℕ). Some x)
-
--- each is that of the determinant at its place
-pub number_at : (n : ℕ) (delivered dets : List Det) (numbers : List ℕ) (i : ℕ) → AreNumbersOf n delivered dets numbers → i < length numbers → (d : Det) × (take (i + 1) dets ≡ take i dets ++ d ∷ []) × (number_of n delivered d ≡ Some (get_or numbers i 0))
-number_at n delivered [] numbers i are low = absurd (omega (arith, low, numbers_count n delivered [] numbers are))
-number_at n delivered (d ∷ dets) numbers i are low =
-    let size = numbers_count n delivered (d ∷ dets) numbers are in
-    let x = get_or (d ∷ dets) i d in (
-      x,
-      take_more (d ∷ dets) i d (omega (arith, low, size)),
-      sym (get_or-map (number_of n delivered) (d ∷ dets) i d None (omega (arith, low, size)))
-          ∙ ap (λ os. get_or os i None) are
-          ∙ get_or-map (λ (y : ℕ). Some y) numbers i 0 None low,
-    )
-
--- those of some in the middle stand in the middle
-numbers_inside : (n : ℕ) (delivered xs ys zs : List Det) (numbers : List ℕ) → AreNumbersOf n delivered (xs ++ (ys ++ zs)) numbers → AreNumbersOf n delivered ys (take (length ys) (drop (length xs) numbers))
-numbers_inside n delivered xs ys zs numbers are =
-    let f = number_of n delivered in
-    let m = length ys in
-    let p = length xs in
-    let cut : take m (drop p (xs ++ (ys ++ zs))) ≡ ys = ap (take m) (drop-append_seam xs (ys ++ zs)) ∙ take-append_seam ys zs in
-    ap (map f) (sym cut)
-    ∙ sym (take-map f m (drop p (xs ++ (ys ++ zs))))
-    ∙ ap (take m) (sym (drop-map f p (xs ++ (ys ++ zs))))
-    ∙ ap (λ os. take m (drop p os)) are
-    ∙ ap (take m) (drop-map (λ (x : ℕ). Some x) p numbers)
-    ∙ take-map (λ (x : ℕ). Some x) m (drop p numbers)
-
--- what entries mention, with one more entry
-pub mentioned_next : (es : List Entry) (i : ℕ) (e : Entry) → i < length es → e ≡ get_or es i e → flat_map mentioned_by (take (i + 1) es) ≡ flat_map mentioned_by (take i es) ++ mentioned_by e
-mentioned_next es i e low is = ap (flat_map mentioned_by) (take_more es i e low ∙ ap (λ x. take i es ++ x ∷ []) (sym is)) ∙ sym (flat_map_more mentioned_by [] (take i es) e)
-
--- of the numbers of what entries mention, those of the next entry stand after those of the entries so far
-pub record AreNext (n : ℕ) (delivered : List Det) (es : List Entry) (i : ℕ) (e : Entry) (numbers : List ℕ) : Type 0 where
-  pub numbered : AreNumbersOf n delivered (mentioned_by e) (take (length (mentioned_by e)) (drop (length (flat_map mentioned_by (take i es))) numbers))
-  pub place : length (flat_map mentioned_by (take (i + 1) es)) ≡ length (flat_map mentioned_by (take i es)) + length (mentioned_by e)
-  pub within : length (flat_map mentioned_by (take i es)) + length (mentioned_by e) ≤ length numbers
-
-pub numbers_next : (n : ℕ) (delivered : List Det) (es : List Entry) (i : ℕ) (e : Entry) (numbers : List ℕ) → i < length es → e ≡ get_or es i e → AreNumbersOf n delivered (flat_map mentioned_by es) numbers → AreNext n delivered es i e numbers
-numbers_next n delivered es i e numbers low is are =
-    let xs = flat_map mentioned_by (take i es) in
-    let ys = mentioned_by e in
-    let zs = flat_map mentioned_by (drop (i + 1) es) in
-    let one : flat_map mentioned_by (take (i + 1) es) ≡ xs ++ ys = mentioned_next es i e low is in
-    let all : flat_map mentioned_by es ≡ xs ++ (ys ++ zs) =
-    ap (flat_map mentioned_by) (sym (take-append-drop (i + 1) es)) ∙ flat_map-append mentioned_by (take (i + 1) es) (drop (i + 1) es) ∙ ap (λ ds. ds ++ zs) one ∙ append_assoc xs ys zs in
-    let size : length (flat_map mentioned_by es) ≡ length numbers = numbers_count n delivered (flat_map mentioned_by es) numbers are in
-    record {
-      numbered = numbers_inside n delivered xs ys zs numbers (subst (λ ds. AreNumbersOf n delivered ds numbers) all are);
-      place = ap length one ∙ length-append xs ys;
-      within = omega (arith, size, ap length all, length-append xs (ys ++ zs), length-append ys zs);
-    }
 
 -- ---- before the first entry
 

@@ -1,12 +1,11 @@
 //! The positions of the entries that mention each determinant.
-ghost use Rattle.std.specs.Prelude.{◌≡◌, ◌≤◌, ◌∷◌, ◌++◌, [], List, Some, IfOk, OnOk, length};
-ghost use Rattle.std.specs.List.{flat_map};
+ghost use Rattle.std.specs.Prelude.{◌≡◌, ◌≤◌, ◌∷◌, ◌++◌, [], List, IfOk, OnOk, length};
 ghost use Rattle.causal_name.specs.declared.Det.{Det};
 ghost use Rattle.causal_trace.specs.declared.entry.Entry.{Entry};
-ghost use Rattle.causal_trace.specs.Numbers.{delivered_dets, number_of};
+ghost use Rattle.causal_trace.specs.Numbers.{delivered_dets};
 ghost use Rattle.causal_trace.specs.Past.{instant};
 ghost use Rattle.causal_audit.specs.Quiet.{mentioned_by};
-ghost use Rattle.causal_audit.specs.Inside.Index.Filed.{AreNumbersOf, mentions_of};
+ghost use Rattle.causal_audit.specs.Inside.Index.Filed.{mentions_of};
 ghost use Rattle.causal_audit.specs.Inside.Index.Kept.{AreMentionsKept};
 
 use crate::index::packed::PackedLists;
@@ -45,64 +44,21 @@ fn with_lists(trace: &Trace, entries: &[Entry]) -> usize {
     deliveries_in(entries)
 }
 
-/// Finds the numbers of determinants that an entry mentions, among the trace's first so many deliveries.
-fn find_each(
-    numbers: &mut Vec<u32>,
-    trace: &Trace,
-    among: usize,
-    dets: &[Det],
-) -> Result<(), NoMemory>
-    ensures { OnOk result ((before : List Det) →
-        AreNumbersOf among (delivered_dets trace.now.recording.past) before numbers.old.items →
-        AreNumbersOf among (delivered_dets trace.now.recording.past)
-        (before ++ dets.now) numbers.new.items) }
-{
-    for det in dets {
-        let Some(number) = trace.delivery_of(*det, among) else {
-            return Err(NoMemory);
-        };
-        numbers.push(number)?;
-    }
-    Ok(())
-}
-
-/// How many determinants these entries mention.
-fn count_mentioned(entries: &[Entry]) -> usize {
-    let mut many: usize = 0;
-    for entry in entries {
-        many = many.saturating_add(mentioned(entry).len());
-    }
-    many
-}
-
-/// The numbers of all determinants that these entries mention, one after the other. Each is searched once: a search reads memory
-/// here and there.
-fn numbers_of(
-    alloc: Global,
-    trace: &Trace,
-    among: usize,
-    entries: &[Entry],
-) -> Result<Vec<u32>, NoMemory>
-    ensures { IfOk result (λ numbers. AreNumbersOf among
-        (delivered_dets trace.now.recording.past) (flat_map mentioned_by entries.now) numbers.items) }
-{
-    let mut numbers = Vec::with_capacity(alloc, count_mentioned(entries))?;
-    for entry in entries {
-        find_each(&mut numbers, trace, among, mentioned(entry))?;
-    }
-    Ok(numbers)
-}
-
-/// How often each number below `lists` stands among these.
-fn counts_of(alloc: Global, numbers: &[u32], lists: usize) -> Result<Vec<u32>, NoMemory>
-    ensures { IfOk result (λ counts. length counts.items ≡ lists) }
-{
-    let mut counts: Vec<u32> = vec![in alloc; 0; lists]?;
-    for number in numbers {
-        let number = *number as usize;
-        if number < lists {
+/// Counts the mentions of one more entry, by the numbers of the deliveries.
+fn count(counts: &mut Vec<u32>, trace: &Trace, entry: &Entry) {
+    for det in mentioned(entry) {
+        if let Some(number) = trace.delivery_of(*det, counts.len()) {
+            let number = number as usize;
             counts[number] = counts[number].saturating_add(1);
         }
+    }
+}
+
+/// How often these entries, with which the trace begins, mention the determinant of each delivery that has a list.
+fn counts_of(alloc: Global, trace: &Trace, entries: &[Entry]) -> Result<Vec<u32>, NoMemory> {
+    let mut counts = vec![in alloc; 0; with_lists(trace, entries)]?;
+    for entry in entries {
+        count(&mut counts, trace, entry);
     }
     Ok(counts)
 }
@@ -121,34 +77,37 @@ impl Mentions {
         }
     }
 
-    /// Puts the position of an entry into the list of a number. The list was counted.
-    fn add(&mut self, number: u32, i: u32) -> Result<(), NoMemory>
-        ensures added { OnOk result ((whole past : List Entry) (dets : List Det) (det : Det) →
-            length past ≡ i →
-            number_of (length self.old.lists) (delivered_dets whole) det ≡ Some number →
-            AreMentionsWithKept whole past dets self.old →
-            AreMentionsWithKept whole past (dets ++ det ∷ []) self.new) }
-        ensures count { length self.new.lists ≡ length self.old.lists }
+    /// Puts the position of an entry into the list of a determinant that it mentions. The list was counted.
+    fn add(&mut self, trace: &Trace, det: Det, i: u32) -> Result<(), NoMemory>
+        ensures { OnOk result ((past : List Entry) (dets : List Det) → length past ≡ i →
+            AreMentionsWithKept trace.now.recording.past past dets self.old →
+            AreMentionsWithKept trace.now.recording.past past (dets ++ det ∷ []) self.new) }
     {
-        if number as usize >= self.lists.len() {
+        let Some(number) = trace.delivery_of(det, self.lists.len()) else {
             return Err(NoMemory);
-        }
+        };
         self.lists.add(number as usize, i)
     }
 
-    /// Puts the position of an entry into the lists of the determinants that it mentions, which have these numbers.
-    fn add_each(&mut self, numbers: &[u32], i: u32) -> Result<(), NoMemory>
-        ensures added { OnOk result ((whole past : List Entry) (dets : List Det) →
-            length past ≡ i →
-            AreNumbersOf (length self.old.lists) (delivered_dets whole) dets numbers.now →
-            AreMentionsWithKept whole past [] self.old →
-            AreMentionsWithKept whole past dets self.new) }
-        ensures count { length self.new.lists ≡ length self.old.lists }
+    /// Puts the position of an entry into the lists of the determinants that it mentions.
+    fn add_each(&mut self, trace: &Trace, dets: &[Det], i: u32) -> Result<(), NoMemory>
+        ensures { OnOk result ((past : List Entry) → length past ≡ i →
+            AreMentionsWithKept trace.now.recording.past past [] self.old →
+            AreMentionsWithKept trace.now.recording.past past dets.now self.new) }
     {
-        for number in numbers {
-            self.add(*number, i)?;
+        for det in dets {
+            self.add(trace, *det, i)?;
         }
         Ok(())
+    }
+
+    /// Notes one more entry, at position i.
+    fn note(&mut self, trace: &Trace, entry: &Entry, i: u32) -> Result<(), NoMemory>
+        ensures { OnOk result ((past : List Entry) → length past ≡ i →
+            AreMentionsKept trace.now.recording.past past self.old →
+            AreMentionsKept trace.now.recording.past (entry.now ∷ past) self.new) }
+    {
+        self.add_each(trace, mentioned(entry), i)
     }
 }
 
@@ -173,15 +132,11 @@ pub fn mentions_in(alloc: Global, trace: &Trace, end: u32) -> Result<Mentions, N
         (instant trace.now.recording.past end) mentions) }
 {
     let entries = &trace.entries()[..end as usize];
-    let among = with_lists(trace, entries);
-    let numbers = numbers_of(alloc, trace, among, entries)?;
-    let lists = PackedLists::with_rooms(alloc, &counts_of(alloc, &numbers, among)?)?;
+    let counts = counts_of(alloc, trace, entries)?;
+    let lists = PackedLists::with_rooms(alloc, &counts)?;
     let mut mentions = Mentions { lists };
-    let mut place = 0;
     for (i, entry) in entries.iter().enumerate() {
-        let next = place + mentioned(entry).len();
-        mentions.add_each(&numbers[place..next], i as u32)?;
-        place = next;
+        mentions.note(trace, entry, i as u32)?;
     }
     Ok(mentions)
 }

@@ -40,11 +40,6 @@ pub record AreTurns (past : List Entry) (list : List ℕ) (downs : List (FinSet 
 abbrev pub mentions_of : List Det → List (List ℕ) → Det → List ℕ
 mentions_of delivered lists d = option_map_or (list_at lists) (number_of (length lists) delivered d) []
 
--- these determinants have these numbers, each that of its newest delivery among the first n, where deliveries have these
--- determinants, the newest first
-abbrev pub AreNumbersOf : ℕ → List Det → List Det → List ℕ → Type 0
-AreNumbersOf n delivered dets numbers = map (number_of n delivered) dets ≡ map (λ i. Some i) numbers
-
 -- for each determinant the positions of the entries that mention it, and no others
 pub record AreMentions (past : List Entry) (delivered : List Det) (lists : List (List ℕ)) : Type 0 where
   pub ascend : All (Ascends (length past)) lists
