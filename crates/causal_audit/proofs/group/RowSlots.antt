@@ -1,5 +1,5 @@
 -- The sets of the entries of a walk, by slots.
-use Rattle.causal_audit.proofs.Common.{ℕ, ◌≡◌, ◌≢◌, ◌+◌, ◌<◌, ◌≤◌, ◌⊎◌, inl, inr, Bool, true, false, List, [], ◌∷◌, ◌++◌, length, refl, sym, ap, subst, ◌∙◌, arith, All, All-set, set, get_or, nat_cmp, FinSet, empty, false≢true, eqb_tells, get_or_default, insert, get_or-map, get_or-set_same, get_or-set_other, get_or_append_left, get_or-append_seam, get_or-eq_default, length-map, length-set, length-append, map-set, cases_lt}
+use Rattle.causal_audit.proofs.Common.{ℕ, ◌≡◌, ◌+◌, ◌<◌, ◌≤◌, inl, inr, Bool, true, List, [], ◌∷◌, ◌++◌, length, refl, sym, ap, subst, ◌∙◌, arith, All, set, get_or, nat_cmp, FinSet, empty, eqb_tells, get_or_default, insert, get_or-map, get_or-set_same, get_or-set_other, get_or_append_left, get_or-append_seam, get_or-eq_default, length-map, length-set, length-append, map-set, cases_lt}
 use Rattle.std.proofs.lemmas.List.{ext_get_or}
 use Rattle.causal_audit.specs.Inside.Group.Rows.{AreFirst, AreSlots, IsAdded, IsAt, IsSlotOf, row, sets_of}
 
@@ -49,42 +49,6 @@ pub stored : (slots : List ℕ) (old new : Sets) (places : FinSet nat_cmp) (i sl
 stored slots old new places i slot within is =
     map-set (row new) slots i slot ∙ ap (λ s. set (sets_of slots new) i s) is.found.there ∙ ap (λ list. set list i places) (kept_sets slots old new within is.kept)
 
--- each is the slot of a set
-within_still : (slots : List ℕ) (old new : Sets) (places : FinSet nat_cmp) (i slot : ℕ) → All (λ s. s < length old) slots → IsSlotOf old new places slot → All (λ s. s < length new) (set slots i slot)
-within_still slots old new places i slot within is = All-set (λ s. s < length new) slots i slot is.found.inside (λ j d low. omega (arith, within j d low, is.longer))
-
--- the slot may be that of others
-pub slots_shared : (slots : List ℕ) (old new : Sets) (places : FinSet nat_cmp) (apart : Bool) (i slot : ℕ) → AreSlots slots old apart → IsSlotOf old new places slot → AreSlots (set slots i slot) new false
-slots_shared slots old new places apart i slot are is = record {
-  within = within_still slots old new places i slot are.within is;
-  alone = λ never. absurd (false≢true never);
-}
-
--- or it is a new one
-pub slots_added : (slots : List ℕ) (old new : Sets) (places : FinSet nat_cmp) (apart : Bool) (i slot : ℕ) → i < length slots → AreSlots slots old apart → IsAdded old new places slot → AreSlots (set slots i slot) new apart
-slots_added slots old new places apart i slot inside are is = record {
-  within = within_still slots old new places i slot are.within is.slot_of;
-  alone = λ holds a b low_a low_b more same. elim (read a) [
-    | inl here ↦ elim (read b) [
-      | inl there ↦ here.0 ∙ sym there.0
-      | inr other ↦ absurd (omega (arith, here.1, other.1, same, is.fresh, are.within b 0 (low b low_b)))
-    ]
-    | inr other ↦ elim (read b) [
-      | inl there ↦ absurd (omega (arith, other.1, there.1, same, is.fresh, are.within a 0 (low a low_a)))
-      | inr others ↦ are.alone holds a b (low a low_a) (low b low_b) (omega (arith, more, other.1)) (sym other.1 ∙ same ∙ others.1)
-    ]
-  ];
-}
-  where
-    low : (k : ℕ) → k < length (set slots i slot) → k < length slots
-    low k h = omega (arith, h, length-set slots i slot)
-
-    read : (k : ℕ) → ((k ≡ i) × (get_or (set slots i slot) k 0 ≡ slot)) ⊎ ((k ≢ i) × (get_or (set slots i slot) k 0 ≡ get_or slots k 0))
-    read k = elim (eqb_tells k i) [
-      | inl here ↦ inl (here.1, ap (λ x. get_or (set slots i slot) x 0) here.1 ∙ get_or-set_same slots i slot 0 inside)
-      | inr other ↦ inr (other.1, get_or-set_other slots i k slot 0 other.1)
-    ]
-
 -- ---- a set changes in its slot
 
 -- where only one entry has that slot, only that has another set
@@ -103,10 +67,6 @@ put_alone slots sets apart i slot places holds inside at more are =
           get_or-set_other sets slot (get_or slots k 0) places empty (λ same. other.1 (are.alone holds k i low inside (omega (arith, same, more)) (same ∙ sym at)))
           ∙ sym (read_slot slots sets k low) ∙ sym (get_or-set_other (sets_of slots sets) i k places empty other.1)
     ])
-
--- and the slots are as before
-pub slots_still : (slots : List ℕ) (sets : Sets) (apart : Bool) (slot : ℕ) (places : FinSet nat_cmp) → AreSlots slots sets apart → AreSlots slots (set sets slot places) apart
-slots_still slots sets apart slot places are = record { within = λ j d low. omega (arith, are.within j d low, length-set sets slot places); alone = are.alone }
 
 -- ---- a place is put into a set
 
@@ -144,13 +104,7 @@ pub slots_none : (slots : List ℕ) (sets : Sets) (apart : Bool) → slots ≡ [
 slots_none slots sets apart none =
     subst (λ list. AreSlots list sets apart) (sym none) (record { within = λ i d low. absurd (omega (arith, low)); alone = λ holds i j low. absurd (omega (arith, low)) })
 
--- entries that all have the first slot
-pub slots_first : (slots : List ℕ) (sets : Sets) → AreFirst slots sets → AreSlots slots sets true
-slots_first slots sets are =
-    let one : length sets ≡ 1 = ap length are.sets_are in
-    record { within = λ i d low. omega (arith, are.slots_are i d low, one); alone = λ holds i j low below more. absurd (omega (arith, more, are.slots_are i 0 low)) }
-
--- have no places
+-- entries that all have the first slot have no places
 pub first_empty : (slots : List ℕ) (sets : Sets) → AreFirst slots sets → (i : ℕ) → row (sets_of slots sets) i ≡ empty
 first_empty slots sets are i = elim (cases_lt i (length slots)) [
   | inl low ↦ read_slot slots sets i low ∙ ap (row sets) (are.slots_are i 0 low) ∙ ap (λ list. row list 0) are.sets_are

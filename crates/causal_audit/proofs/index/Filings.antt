@@ -292,18 +292,6 @@ mentions_more past dets numbers lists det m at there are =
 
 -- ---- before the first entry
 
--- empty lists are those of no entries
-pub mentions_of_none : (numbers : List Det) (lists : List (List ℕ)) → All (λ list. list ≡ []) lists → AreMentions [] numbers lists
-mentions_of_none numbers lists all = record {
-  ascend = empty_ascend lists all;
-  mentioned = λ d v e at unlisted. absurd (let x : None ≡ Some e = at in cc);
-  only = λ d v listed. absurd (none (number_of (length lists) numbers d) v listed);
-}
-  where
-    none : (o : Option ℕ) (v : ℕ) → Contains (option_map_or (list_at lists) o []) v → ⊥
-    none None v has = omega (arith, has.1)
-    none (Some m) v has = nothing_in lists all m v has
-
 -- ---- one more entry
 
 -- before the determinants of the next entry are noted, the lists are those of the run

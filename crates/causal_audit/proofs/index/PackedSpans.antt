@@ -1,5 +1,5 @@
 -- One more position in one of the lists that stand one behind the other.
-use Rattle.causal_audit.proofs.Common.{ℕ, ◌≡◌, ◌≢◌, ◌+◌, ◌-◌, ◌<◌, ◌≤◌, inl, inr, List, [], ◌∷◌, ◌++◌, length, take, drop, map, get_or, get_or_default, set, suc, sym, ap, subst, ◌∙◌, arith, cases_lt, All, All-map, All-set, All-weaker, length-map, length-set, get_or-map, get_or-set_same, get_or-set_other, map-set}
+use Rattle.causal_audit.proofs.Common.{ℕ, ◌≡◌, ◌≢◌, ◌+◌, ◌-◌, ◌<◌, ◌≤◌, inl, inr, List, [], ◌∷◌, ◌++◌, length, take, drop, map, get_or, get_or_default, set, suc, sym, ap, subst, ◌∙◌, arith, cases_lt, All, All-map, All-weaker, length-map, length-set, get_or-map, get_or-set_same, get_or-set_other, map-set}
 use Rattle.std.proofs.lemmas.List.{drop-set-add, drop-set-lt, ext_get_or, length-drop, take-set-le}
 use Rattle.std.proofs.lemmas.Bool.Decides.{eqb_tells}
 use Rattle.std.proofs.Math.Seq.{take-suc-set}
@@ -82,10 +82,3 @@ module _ (ps : List ℕ) (spans : List Span) (m v : ℕ) (s new : Span) (packed 
         | inl at ↦ subst (λ k. f (get_or (set spans m new) k d) ≡ f (get_or spans k d)) (sym at.1) (ap f (get_or-set_same spans m new d there) ∙ same ∙ ap f (sym (here d)))
         | inr apart ↦ ap f (get_or-set_other spans m i new d apart.1)
       ]
-
-  -- and they are packed still
-  pub packed_still : ArePacked (length (set ps s.end v)) (set spans m new)
-  packed_still = subst (λ n. ArePacked n (set spans m new)) (sym (length-set ps s.end v)) (record {
-    each = All-set (IsSpan (length ps)) spans m new (record { order = omega (arith, begin, end, own.order); room = omega (arith, end, limit, room); within = omega (arith, limit, own.within) }) packed.each;
-    apart = λ i j d low high. omega (arith, kept (λ x. x.limit) limit i d, kept (λ x. x.begin) begin j d, packed.apart i j d low (omega (arith, high, length-set spans m new)));
-  })

@@ -1,12 +1,11 @@
 -- What a survey tells by the deliveries that it gathers, as it asks one after the other.
-use Rattle.causal_audit.proofs.Common.{ℕ, ◌≡◌, ◌+◌, ◌<◌, ◌≤◌, inl, inr, Bool, true, false, List, [], ◌∷◌, ◌++◌, length, Option, Some, None, refl, sym, ap, subst, ◌∙◌, arith, ◌==◌, ◌&&◌, nat_lt, option_map_or, set, slice_index, replicate, length-replicate, get_or_past, Contains, map-append, All-nil, All-push, Contains-append_left, Contains-push, cases_lt, cases_Bool, false≢true, cond-true, cond-false, eq-eqb, ne_eqb, eqb_tells, and_from, and_parts, le-ltb, get_or-set_same, get_or-set_other, Det, same_det, Entry, Send, Deliver, Stable, Crash, Restart, Forget, deliveries_in, det_at, det_of, det_then, instant, instant_length, AreAccepted}
+use Rattle.causal_audit.proofs.Common.{ℕ, ◌≡◌, ◌+◌, ◌<◌, ◌≤◌, inl, inr, Bool, true, false, List, [], ◌∷◌, ◌++◌, length, Option, Some, None, refl, sym, ap, subst, ◌∙◌, arith, ◌==◌, ◌&&◌, nat_lt, option_map_or, set, slice_index, Contains, map-append, All-push, Contains-append_left, cases_lt, cases_Bool, cond-true, cond-false, eq-eqb, ne_eqb, eqb_tells, and_from, and_parts, le-ltb, get_or-set_other, Det, same_det, Entry, Send, Deliver, Stable, Crash, Restart, Forget, deliveries_in, det_at, det_of, det_then, instant, instant_length, AreAccepted}
 use Rattle.std.proofs.lemmas.Bool.{lt-ltb}
-use Rattle.std.proofs.lemmas.List.{get_or-replicate}
 use Rattle.causal_trace.specs.Numbers.{delivered_dets, number_of}
 use Rattle.causal_trace.proofs.Lemmas.DeliveryNumbers.{number_below}
 use Rattle.causal_audit.specs.Numbers.{ArePositions, is_delivery, IsNumbered}
 use Rattle.causal_audit.specs.declared.group.run_to_follow.OpenDelivery.{OpenDelivery}
-use Rattle.causal_audit.specs.Inside.Group.OpenDeliveries.{AreAsked, AreFollowed, AreGathered, Asked, IsDeliveryAt, IsOpenDelivery, IsTold, StayMarked, how_many, is_marked, positions_of}
+use Rattle.causal_audit.specs.Inside.Group.OpenDeliveries.{AreAsked, AreFollowed, AreGathered, Asked, IsDeliveryAt, IsOpenDelivery, IsTold, how_many, is_marked, positions_of}
 use Rattle.causal_audit.proofs.DeliveryNumbers.{numbered_below, numbered_later, numbered_one, numbered_some}
 use Rattle.causal_audit.proofs.Lemmas.NumberLemmas.{has_number}
 use Rattle.causal_audit.proofs.NoOrphanSoFar.{not_yet}
@@ -108,9 +107,6 @@ module _ (asked : Asked) (before : List OpenDelivery) (delivery : OpenDelivery) 
   still_told k (inl among) = inl (subst (λ list. Contains list k) (sym (map-append position before (delivery ∷ []))) (Contains-append_left (positions_of before) (delivery.position ∷ []) k among))
   still_told k (inr none) = inr none
 
-  pub now_told : IsTold asked (before ++ delivery ∷ []) delivery.position
-  now_told = inl (subst (λ list. Contains list delivery.position) (sym (map-append position before (delivery ∷ []))) (Contains-push (positions_of before) delivery.position))
-
   pub more_followed : IsDeliveryAt asked.run.past delivery.position → IsOpenDelivery asked.run asked.f asked.end delivery → AreFollowed asked before → AreFollowed asked (before ++ delivery ∷ [])
   more_followed made later so_far = record {
     within = so_far.within;
@@ -119,31 +115,6 @@ module _ (asked : Asked) (before : List OpenDelivery) (delivery : OpenDelivery) 
   }
 
 -- ---- marks
-
-pub mark_stays : (marks : List Bool) (i : ℕ) → i < length marks → StayMarked marks (set marks i true)
-mark_stays marks i low j was =
-    elim (eqb_tells j i) [
-      | inl same ↦ subst (λ x. is_marked (set marks i true) x ≡ true) (sym same.1) (get_or-set_same marks i true false low)
-      | inr other ↦ get_or-set_other marks i j true false other.1 ∙ was
-    ]
-
-pub none_marked : (n i : ℕ) → is_marked (replicate n false) i ≡ false
-none_marked n i =
-    elim (cases_lt i n) [
-      | inl low ↦ get_or-replicate n i false false low
-      | inr beyond ↦ get_or_past (replicate n false) i false (omega (arith, beyond, length-replicate n false))
-    ]
-
--- where none is marked, none need be told
-pub none_asked : (asked : Asked) (marks : List Bool) (opened : List OpenDelivery) → asked.end ≤ length asked.run.past → opened ≡ [] → ((i : ℕ) → is_marked marks i ≡ false) → AreAsked asked marks opened
-none_asked asked marks opened within is none = record {
-  followed = subst (AreFollowed asked) (sym is) (record {
-    within = within;
-    deliveries = All-nil (λ (x : OpenDelivery). IsDeliveryAt asked.run.past x.position);
-    none_later = All-nil (IsOpenDelivery asked.run asked.f asked.end);
-  });
-  told = λ i k at marked. absurd (false≢true (sym (none i) ∙ marked));
-}
 
 -- one more delivery is told, and marked
 pub one_asked : (asked : Asked) (marks : List Bool) (before after : List OpenDelivery) (i k : ℕ) → IsNumbered asked.run.past i k → (AreFollowed asked before → AreFollowed asked after) → ((j : ℕ) → IsTold asked before j → IsTold asked after j)

@@ -1,11 +1,7 @@
 use Rattle.causal_audit.proofs.Common.{◌≡◌, ◌<◌, ◌∙◌, length, take, sym, ap, subst, arith, past_at, past_more, past_length}
 use Rattle.causal_audit.specs.Inside.Index.Kept.{AreMentionsKept}
 use Rattle.causal_audit.proofs.Steps.{begins}
-use Rattle.causal_audit.proofs.index.Filings.{mentions_of_none}
 use Rattle.causal_audit.proofs.index.mentions.mentions_in.Goals as goal
-
-pub loop-i-init : goal.loop-i-init
-loop-i-init c = mentions_of_none _ _ c.in_ok-lists.ensures.empty
 
 pub loop-i-preserved : goal.loop-i-preserved
 loop-i-preserved c =

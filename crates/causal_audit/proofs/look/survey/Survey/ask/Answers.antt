@@ -19,9 +19,6 @@ ask_one-requires c =
       thins = c.in_ok-thins.ensures;
     }
 
-pub older_delivery-requires : goal.older_delivery-requires
-older_delivery-requires c = rw (← c.self.view_is) at c.loop-older.invariant.own
-
 pub loop-older-init : goal.loop-older-init
 loop-older-init c =
     let s = c.self.inside in

@@ -3,7 +3,7 @@ use Rattle.causal_trace.specs.Numbers.{delivered_dets, number_of}
 use Rattle.causal_audit.specs.Numbers.{IsNumbered}
 use Rattle.causal_audit.specs.Inside.Group.OpenDeliveries.{Asked, how_many}
 use Rattle.causal_audit.proofs.DeliveryNumbers.{numbered_later, numbered_some}
-use Rattle.causal_audit.proofs.look.SurveyAsks.{det_of_number, mark_stays, one_asked}
+use Rattle.causal_audit.proofs.look.SurveyAsks.{det_of_number, one_asked}
 use Rattle.causal_audit.proofs.look.survey.Survey.ask_one.Goals as goal
 
 pub gather-requires : goal.gather-requires
@@ -35,6 +35,3 @@ returns-clause-asked c so_far =
     let numbered : IsNumbered c.args.self.now.run.past number k =
     subst (λ (a : Asked). IsNumbered a.run.past number k) c.self.view_is (numbered_later r.past s.end number k kept.within (kept.numbered.each number low)) in
     one_asked c.args.self.now c.args.asked.now.items c.args.gathered.now.items c.gather.new.gathered.items number k numbered c.in_ok-gather.ensures.followed c.in_ok-gather.ensures.more c.in_ok-gather.ensures.told so_far
-
-pub returns-clause-stay : goal.returns-clause-stay
-returns-clause-stay c = mark_stays c.args.asked.now.items c.args.number (omega (arith, c.requires.few, c.requires.count))

@@ -1,11 +1,8 @@
-use Rattle.causal_audit.proofs.Common.{inr, sym, subst, arith}
+use Rattle.causal_audit.proofs.Common.{sym, subst}
 use Rattle.causal_audit.specs.declared.group.run_to_follow.OpenDelivery.{OpenDelivery}
 use Rattle.causal_audit.specs.Inside.Group.OpenDeliveries.{AreFollowed, IsTold}
-use Rattle.causal_audit.proofs.look.SurveyAsks.{more_followed, now_told, still_told}
+use Rattle.causal_audit.proofs.look.SurveyAsks.{more_followed, still_told}
 use Rattle.causal_audit.proofs.look.survey.Survey.gather.Goals as goal
-
-pub returns-then-until-eq0-clause-told : goal.returns-then-until-eq0-clause-told
-returns-then-until-eq0-clause-told c = inr (λ u low. c.delivery_uncovered_until-until.ensures u (omega (arith, c.if-until-eq0.true)) low)
 
 pub returns-clause-followed : goal.returns-clause-followed
 returns-clause-followed c so_far =
@@ -13,12 +10,6 @@ returns-clause-followed c so_far =
     let delivery : OpenDelivery = record { position = c.args.k; until = c.delivery_uncovered_until-until.result } in
     subst (AreFollowed asked) (sym c.in_ok-push.ensures.items)
     (more_followed asked c.args.gathered.now.items delivery (c.args.det, c.requires.delivery) c.delivery_uncovered_until-until.ensures so_far)
-
-pub returns-clause-told : goal.returns-clause-told
-returns-clause-told c =
-    let asked = c.args.self.now in
-    let delivery : OpenDelivery = record { position = c.args.k; until = c.delivery_uncovered_until-until.result } in
-    subst (λ opened. IsTold asked opened c.args.k) (sym c.in_ok-push.ensures.items) (now_told asked c.args.gathered.now.items delivery)
 
 pub returns-clause-more : goal.returns-clause-more
 returns-clause-more c j was =
