@@ -329,7 +329,8 @@ impl Trace {
     /// none of them has it. It goes on along the message's deliveries from that one: to ask for all with a determinant, each older
     /// than the last, takes at most one step for each lane that delivered the message.
     pub fn older_delivery(&self, det: Det, number: u32) -> Option<u32>
-        requires { number_of (number + 1) (delivered_dets self.now.recording.past) det ≡ Some number }
+        requires { number_of (number + 1) (delivered_dets self.now.recording.past) det
+            ≡ Some number }
         ensures value { result ≡ number_of number (delivered_dets self.now.recording.past) det }
         ensures older { IfSome result (λ i. i < number) }
     {

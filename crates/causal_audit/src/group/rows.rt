@@ -163,7 +163,8 @@ impl Rows {
     /// `NoMemory` where memory was refused.
     pub fn put(&mut self, i: usize, place: u8) -> Result<(), NoMemory>
         requires { i < length self.old }
-        ensures { OnOk result (self.new ≡ slice_set self.old i (set.insert (row self.old i) place)) }
+        ensures { OnOk result
+            (self.new ≡ slice_set self.old i (set.insert (row self.old i) place)) }
     {
         let slot = self.slots[i];
         if self.apart && slot > 0 {
