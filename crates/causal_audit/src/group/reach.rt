@@ -11,8 +11,9 @@ use causal_trace::entry::Entry;
 use std::alloc::Global;
 
 /// Of at most 256 deliveries, by their places, in a walk from the entry at `start` on: for each process on which of them its
-/// present lane depends, and a row for each entry of the walk. That of a send which was read tells which of them reach it. That of any
-/// other entry tells whose determinants it mentions.
+/// present lane depends, and a row for each entry of the walk.
+///
+/// The row of a send which was read tells which of them reach it. That of any other entry tells whose determinants it mentions.
 #[derive(Drop)]
 pub struct ReachingDeliveries {
     pub start: u32,
