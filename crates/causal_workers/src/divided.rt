@@ -117,7 +117,7 @@ fn least_in<'s, 't: 's, 'g: 's, E, G: Gate + Sync, R: Threads>(
     let own = Share {
         prepared,
         from: 0,
-        to: share_end(0, prepared.followed(), workers),
+        to: share_end(prepared, 0, workers),
     };
     if !all_started(scope, &mut started, alloc, trace, own, workers, gate) {
         join_all(rt, started);
@@ -146,10 +146,9 @@ fn all_started<'s, 't: 's, 'g: 's, E, G: Gate + Sync>(
     ensures alone { workers ≡ 1 → result ≡ true }
 {
     let Share { prepared, .. } = own;
-    let all = prepared.followed();
     let mut from = own.to;
     for worker in 1..workers {
-        let to = share_end(from, all, workers - worker);
+        let to = share_end(prepared, from, workers - worker);
         let share = Share { prepared, from, to };
         let work = move || -> Answer
             requires same { trace.now.recording ≡ share.prepared.now.run }
@@ -168,19 +167,37 @@ fn all_started<'s, 't: 's, 'g: 's, E, G: Gate + Sync>(
     true
 }
 
-/// Where the share ends that begins at `from`, so that the groups that are left are divided evenly among the workers that are
-/// left.
-fn share_end(from: usize, all: usize, left: u32) -> usize
-    requires { (from ≤ all) × (1 ≤ left) }
-    ensures within { (from ≤ result) × (result ≤ all) }
-    ensures last { left ≡ 1 → result ≡ all }
+/// About how many entries the walks go over that follow the deliveries from a place on.
+fn entries_walked(prepared: &Prepared, from: usize) -> u64 {
+    let mut walked: u64 = 0;
+    for group in from / GROUP..prepared.followed().div_ceil(GROUP) {
+        let place = group.saturating_mul(GROUP);
+        walked = walked.saturating_add(u64::from(prepared.open_for(place)));
+    }
+    walked
+}
+
+/// Where the share ends that begins at `from`: with a group, so that the walks that are left are divided evenly among the workers that
+/// are left.
+fn share_end(prepared: &Prepared, from: usize, left: u32) -> usize
+    requires { (from ≤ length prepared.now.positions) × (1 ≤ left) }
+    ensures within { (from ≤ result) × (result ≤ length prepared.now.positions) }
+    ensures last { left ≡ 1 → result ≡ length prepared.now.positions }
 {
-    let rest = all - from;
+    let all = prepared.followed();
     if left == 1 {
         return all;
     }
-    let groups = (rest / left as usize / GROUP).saturating_add(1);
-    from + rest.min(groups.saturating_mul(GROUP))
+    let share = entries_walked(prepared, from) / u64::from(left);
+    let mut walked: u64 = 0;
+    for group in from / GROUP..all.div_ceil(GROUP) {
+        let place = all.min(group.saturating_mul(GROUP));
+        if walked >= share {
+            return from.max(place);
+        }
+        walked = walked.saturating_add(u64::from(prepared.open_for(place)));
+    }
+    all
 }
 
 /// The one of two answers that comes first, where memory sufficed for both.
