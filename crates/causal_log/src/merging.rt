@@ -63,27 +63,20 @@ fn are_items_known(delivery: &Delivery<'_>) -> bool
     })
 }
 
-/// Whether all that a delivery tells is known, as in a replay.
-fn is_known(delivery: &Delivery<'_>) -> bool
-    ensures { result ≡ true → taken delivery.now ≡ source_of delivery.now }
-{
-    let held = Known::held(delivery.me);
-    are_known_to_hold(delivery.entries, delivery.own, held.holders) && are_items_known(delivery)
-}
-
-/// Whether messages that carry this are seen to carry it still after a delivery. Items are looked at only where messages may carry
-/// them.
+/// Whether messages that carry this are seen to carry it still after a delivery, as in a replay: all that it tells is known.
+/// Items are looked at only where messages may carry them.
 fn changes_nothing(kept: &[Item], delivery: &Delivery<'_>) -> bool
     ensures { result ≡ true → kept.now ≡ chosen delivery.now.f (source_of delivery.now) →
         kept.now ≡ chosen delivery.now.f (taken delivery.now) }
 {
-    if !delivery.items.is_empty() {
-        return delivery.may_carry() && is_known(delivery);
-    }
-    if kept.is_empty() && delivery.f == 0 {
+    if delivery.items.is_empty() && kept.is_empty() && delivery.f == 0 {
         return true;
     }
-    is_known(delivery)
+    if !delivery.items.is_empty() && !delivery.may_carry() {
+        return false;
+    }
+    let held = Known::held(delivery.me);
+    are_known_to_hold(delivery.entries, delivery.own, held.holders) && are_items_known(delivery)
 }
 
 /// The place of the first item from a place on that does not come before a determinant.
