@@ -187,7 +187,8 @@ fn merged(alloc: Global, kept: &[Item], delivery: &Delivery<'_>) -> Result<Vec<I
     ensures { IfOk result (λ out. out.items ≡ chosen delivery.now.f (heard_of delivery.now)) }
 {
     let items = delivery.items;
-    let mut out = Vec::with_capacity(alloc, kept.len().max(items.len()).saturating_add(1))?;
+    let most = kept.len().saturating_add(items.len());
+    let mut out = Vec::with_capacity(alloc, most.saturating_add(1))?;
     if kept.is_empty() && !delivery.may_carry() {
         return Ok(out);
     }
@@ -255,5 +256,6 @@ pub(crate) fn next_batch(
     }
     let mut items = merged(alloc, kept, delivery)?;
     take_own(&mut items, delivery)?;
+    items.shrink_to_fit();
     Ok(Arc::new(alloc, Batch::new(items))?)
 }
