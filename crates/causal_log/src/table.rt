@@ -164,15 +164,9 @@ impl Table {
         let room = self.dets.capacity().min(u32::MAX as usize) - self.dets.len();
         self.entries.reserve(room)?;
         self.older.reserve(room)?;
-        let count = self.dets.capacity();
-        let dets = self.dets.as_slice();
-        widen(
-            dets,
-            &mut self.heads,
-            &mut self.older,
-            &mut self.turn,
-            count,
-        )?;
+        let (dets, count) = (self.dets.as_slice(), self.dets.capacity());
+        let turn = &mut self.turn;
+        widen(dets, &mut self.heads, &mut self.older, turn, count)?;
         self.room = room;
         Ok(())
     }
@@ -245,17 +239,12 @@ fn widen(
 {
     // more than half of the entries came to a head that led to another one already
     let is_crowded = older.iter().filter(|number| **number > 0).count() > older.len() / 2;
-    let least = least.max(heads.len());
-    if least == heads.len() && !is_crowded {
+    if least <= heads.len() && !is_crowded {
         return Ok(());
     }
-    let wanted = if is_crowded {
-        least.max(FEWEST_IF_CROWDED)
-    } else {
-        least
-    };
-    let count = wanted.checked_next_power_of_two();
-    heads.resize(count.ok_or(NoMemory)?, 0)?;
+    let fewest = if is_crowded { FEWEST_IF_CROWDED } else { 0 };
+    let count = least.max(heads.len()).max(fewest);
+    heads.resize(count.checked_next_power_of_two().ok_or(NoMemory)?, 0)?;
     if is_crowded {
         *turn = turn.wrapping_add(TURN);
     }
