@@ -62,4 +62,4 @@ pub numbered_some : (n : ℕ) (past : List Entry) (i k : ℕ) → AreAccepted n 
 numbered_some n past i k formed numbered =
     let by = numbered_delivers past i k numbered in
     let found = delivered n past formed k by.0 by.1 in
-    (found.0, found.1)
+    (found.0, found.2)

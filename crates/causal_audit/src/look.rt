@@ -143,7 +143,7 @@ impl<'a> Look<'a> {
         stop.standing = stop
             .cover
             .standing(self.most, self.det.dest.0, self.reached);
-        let lasting = self.run.lasting_from <= last + 1;
+        let lasting = self.run.turns.lasting_from <= last + 1;
         if lasting && stop.standing.is_kept() {
             return Some(stretch);
         }

@@ -8,7 +8,6 @@ use crate::group::run_to_follow::{OpenDelivery, RunToFollow};
 use crate::index::crashes_and_restarts::CrashesAndRestarts;
 use crate::index::mentions::{Mentions, mentions_in};
 use crate::index::outline::Outline;
-use crate::index::releases::lasting_from;
 use crate::look::survey::open_deliveries_of;
 use causal_name::NoMemory;
 use causal_trace::trace::Trace;
@@ -21,7 +20,6 @@ use std::snapshot::Snapshot;
 #[derive(Drop)]
 pub struct Prepared {
     run: Snapshot<Trace>,
-    lasting_from: u32,
     turns: CrashesAndRestarts,
     mentions: Mentions,
     f: u16,
@@ -37,7 +35,7 @@ impl Model for Prepared {
 
     ghost view = { λ a. record { run = a.run.value.recording; f = a.f; end = a.end; positions = positions_of a.opened.items } };
 
-    ghost invariant = { λ a. IsPrepared a.run.value.recording a.f a.end a.lasting_from a.turns a.mentions a.opened.items };
+    ghost invariant = { λ a. IsPrepared a.run.value.recording a.f a.end a.turns a.mentions a.opened.items };
 }
 
 impl Prepared {
@@ -57,19 +55,16 @@ impl Prepared {
     {
         let run = Snapshot::of(trace);
         let entries = trace.entries();
-        let lasting_from = lasting_from(entries);
         let turns = CrashesAndRestarts::of(alloc, entries)?;
         let mentions = mentions_in(alloc, trace, end)?;
         let outline = Outline {
             trace,
-            lasting_from,
             turns: &turns,
         };
         let mut opened = open_deliveries_of(alloc, outline, &mentions, f, end)?;
         put_in_order(trace, &mut opened)?;
         Ok(Prepared {
             run,
-            lasting_from,
             turns,
             mentions,
             f,
@@ -85,6 +80,14 @@ impl Prepared {
         self.opened.len()
     }
 
+    /// For how many entries the delivery of a place is open: about as many a walk goes over that begins with it. 0 where there is none.
+    pub fn open_for(&self, place: usize) -> u32 {
+        match self.opened.get(place) {
+            Some(delivery) => delivery.until.saturating_sub(delivery.position),
+            None => 0,
+        }
+    }
+
     /// Those of them from place `from` on and below place `to`. The trace is the one that was prepared.
     pub fn part<'a>(&'a self, trace: &'a Trace, from: usize, to: usize) -> Part<'a>
         requires same { trace.now.recording ≡ self.now.run }
@@ -93,7 +96,6 @@ impl Prepared {
     {
         let outline = Outline {
             trace,
-            lasting_from: self.lasting_from,
             turns: &self.turns,
         };
         let following = RunToFollow {

@@ -1,5 +1,5 @@
 -- How long a delivery stays with its receiver, and what that means for its orphans.
-use Rattle.causal_audit.proofs.Common.{ℕ, ◌≡◌, ◌<◌, ◌≤◌, inl, inr, true, false, cond, List, [], ◌∷◌, length, Option, Some, None, refl, sym, ap, subst, ◌∙◌, arith, get_or, delivers_sent, sent_within, message_sent, option_and_then, ◌+◌, ◌≢◌, ◌⊎◌, ◌==◌, ◌||◌, not, ◌&&◌, slice_set, option_map, option_map_or, cases_lt, false≢true, eqb-true, eq-eqb, or_from, cond-true, cond-false, ne_eqb, false_from_ne_true, or_right, Det, Entry, Send, Deliver, Stable, Crash, Restart, Forget, instant, is_down, logs, lane, det_at, det_of, det_from, message_at, entry_at, AreAccepted, actor, IsEventOf, Delivers, DirectlyPrecedes, in_order, by_message, Reaches, itself, onward, is_delivery_of, accepted_forward, event_below, event_lane, instant_length, det_then, eqb_tells, HasOrphan, length-set, get_or-set_other}
+use Rattle.causal_audit.proofs.Common.{ℕ, ◌≡◌, ◌<◌, ◌≤◌, inl, inr, true, false, cond, List, [], ◌∷◌, length, Option, Some, None, refl, sym, ap, subst, ◌∙◌, arith, get_or, delivers_sent, sent_within, message_sent, option_and_then, ◌+◌, ◌≢◌, ◌⊎◌, ◌==◌, ◌||◌, not, ◌&&◌, slice_set, option_map, option_map_or, cases_lt, false≢true, eqb-true, eq-eqb, or_from, cond-true, cond-false, ne_eqb, false_from_ne_true, or_right, Pid, Det, Entry, Send, Deliver, Stable, Crash, Restart, Forget, instant, is_down, is_send_to, logs, lane, det_at, det_of, det_from, message_at, entry_at, AreAccepted, actor, IsEventOf, Delivers, DirectlyPrecedes, in_order, by_message, Reaches, itself, onward, is_delivery_of, accepted_forward, event_below, event_lane, instant_length, det_then, eqb_tells, HasOrphan, length-set, get_or-set_other}
 use Rattle.causal_name.specs.declared.MsgName.{MsgName}
 use Rattle.causal_audit.specs.Laws.{gone}
 use Rattle.causal_audit.specs.Spread.{StaysAlone, CoveredHasNone, StaysUntil, CrashedHasNone}
@@ -122,25 +122,31 @@ process_of_event (e ∷ past) i p l (inr new) = ap (λ o. option_map_or acting o
 pub process_is : (past : List Entry) (i : ℕ) (e : Entry) → entry_at past i ≡ Some e → process_at past i ≡ acting e
 process_is past i e at = ap (λ o. option_map_or acting o 0) at
 
--- a delivery has a determinant, whose source is the process that sent
-pub delivered : (n : ℕ) (past : List Entry) → AreAccepted n past → (v s : ℕ) → Delivers past v s → (d : Det) × (det_at past v ≡ Some d) × (d.source.0 ≡ process_at past s)
+-- a delivery has a determinant, whose source sent to its receiver
+pub delivered : (n : ℕ) (past : List Entry) → AreAccepted n past → (v s : ℕ) → Delivers past v s → (d : Det) × (to : Pid) × (det_at past v ≡ Some d) × (entry_at past s ≡ Some (Send d.source to d.ssn)) × (to.0 ≡ d.dest.0)
 delivered n [] formed v s h = absurd h
 delivered n (e ∷ past) formed v s (inl old) =
     let was = delivered n past formed.0 v s old in
     let below = delivers_below past v s old in
     let sent = accepted_forward n past formed.0 v s old in (
       was.0,
-      cond-false (v == length past) (det_of past e) (det_at past v) (ne_eqb v (length past) (λ is. omega (arith, is, below))) ∙ was.1,
-      was.2 ∙ sym (process_older e past s (omega (arith, sent, below))),
+      was.1,
+      cond-false (v == length past) (det_of past e) (det_at past v) (ne_eqb v (length past) (λ is. omega (arith, is, below))) ∙ was.2,
+      cond-false (s == length past) (Some e) (entry_at past s) (ne_eqb s (length past) (λ is. omega (arith, is, sent, below))) ∙ was.3,
+      was.4,
     )
 delivered n (Deliver to send rsn listed ∷ past) formed v s (inr new) =
+    let e = Deliver to send rsn listed in
     let legal = delivers_sent n past to send rsn listed formed.1 in
     let sent = sent_is to.0 (entry_at past send) legal in
     let same : send ≡ s = eqb-true send s new.1 in (
       record { source = sent.0; ssn = sent.2; dest = to; rsn = rsn },
-      cond-true (v == length past) (det_of past (Deliver to send rsn listed)) (det_at past v) (eq-eqb v (length past) new.0)
+      sent.1,
+      cond-true (v == length past) (det_of past e) (det_at past v) (eq-eqb v (length past) new.0)
           ∙ ap (λ o. option_map (det_from to rsn) (option_and_then message_sent o)) sent.3,
-      sym (process_older (Deliver to send rsn listed) past s (omega (arith, same, sent_within past send to.0 legal)) ∙ ap (process_at past) (sym same) ∙ process_is past send (Send sent.0 sent.1 sent.2) sent.3),
+      cond-false (s == length past) (Some e) (entry_at past s) (ne_eqb s (length past) (λ is. omega (arith, is, same, sent_within past send to.0 legal)))
+          ∙ ap (entry_at past) (sym same) ∙ sent.3,
+      eqb-true sent.1.0 to.0 (subst (λ o. option_map_or (is_send_to to.0) o false ≡ true) sent.3 legal),
     )
 delivered n (Send from to ssn ∷ past) formed v s (inr new) = absurd (false≢true new.1)
 delivered n (Stable det ∷ past) formed v s (inr new) = absurd (false≢true new.1)

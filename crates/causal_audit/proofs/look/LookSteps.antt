@@ -124,7 +124,7 @@ module _ (look : Look) (stop : LookPosition) (mention change : ℕ) (is : IsChan
       }
 
       -- and ends where so many are down or hold it for good
-      pub over : look.run.lasting_from ≤ change + 1 → StandsBy Kept look.most look.det.dest.0 look.reached (union cover.down cover.holders) → (u : ℕ) → change < u → u < look.end + 1 → IsThinAt n look.most past look.det u → ⊥
+      pub over : look.run.turns.now.lasting_from ≤ change + 1 → StandsBy Kept look.most look.det.dest.0 look.reached (union cover.down cover.holders) → (u : ℕ) → change < u → u < look.end + 1 → IsThinAt n look.most past look.det u → ⊥
       over lasting keep u above under =
           kept_still n look.most past is.formed look.det (change + 1) u look.reached cover.down cover.holders look.reaching down_then holders_then keep
-          (gone_lasts past look.det (change + 1) u (none_later past look.run.lasting_from (change + 1) lasting look.run.lasting) (omega (arith, above)) (omega (arith, under, look.within)))
+          (gone_lasts past look.det (change + 1) u (none_later past look.run.turns.now.lasting_from (change + 1) lasting look.run.turned.lasting) (omega (arith, above)) (omega (arith, under, look.within)))

@@ -1,17 +1,15 @@
 //! The crashes of each process, and its restarts.
-ghost use Rattle.std.specs.Prelude.{◌≡◌, ◌≤◌, ◌<◌, ◌∷◌, List, IfOk, OnOk, length, vec_len};
+ghost use Rattle.std.specs.Prelude.{◌≡◌, ◌≤◌, ◌<◌, ◌∷◌, List, OnOk, length, vec_len};
 ghost use Rattle.std.specs.List.{All};
 ghost use Rattle.std.specs.List.Sorted.{IsNonDecreasing};
 ghost use Rattle.causal_trace.specs.declared.entry.Entry.{Entry};
-ghost use Rattle.causal_trace.specs.Limits.{max_entries};
-ghost use Rattle.causal_audit.specs.Inside.Index.Filed.{AreTurnsOf, IsProcessOf, list_at, lists_in, past_of};
+ghost use Rattle.causal_audit.specs.Inside.Index.Filed.{AreTurnsOf, IsProcessOf, list_at, lists_in};
 
 use crate::index::cursor::Cursor;
-use crate::index::lists::{add_to, empty_lists};
-use causal_holders::{Holders, PROCESSES};
+use crate::index::lists::add_to;
+use causal_holders::Holders;
 use causal_name::NoMemory;
 use causal_trace::entry::Entry;
-use std::alloc::Global;
 
 /// For each process the positions of its crashes in order, or of its restarts. A run has at most 192 restarts.
 #[derive(Drop)]
@@ -33,7 +31,12 @@ fn process_of(restarts: bool, entry: &Entry) -> Option<u8>
 }
 
 /// Notes the position of an entry in the list of the process that it restarts, or crashes.
-fn note(lists: &mut Vec<Vec<u32>>, restarts: bool, entry: &Entry, i: u32) -> Result<(), NoMemory>
+pub fn note(
+    lists: &mut Vec<Vec<u32>>,
+    restarts: bool,
+    entry: &Entry,
+    i: u32,
+) -> Result<(), NoMemory>
     requires { vec_len lists.old ≡ 256 }
     ensures turns { OnOk result ((past : List Entry) → length past ≡ i →
         AreTurnsOf restarts past (lists_in lists.old.items) →
@@ -50,19 +53,6 @@ impl ByProcess {
     ghost use Rattle.std.specs.Prelude.{Contains, true};
     ghost use Rattle.causal_audit.specs.Inside.ByClock.Changes.{HasNoneUntil};
     ghost use Rattle.causal_audit.specs.Inside.Look.Staying.{RestartsNone};
-
-    /// The positions of the restarts of each process, or of its crashes.
-    pub fn of(alloc: Global, entries: &[Entry], restarts: bool) -> Result<ByProcess, NoMemory>
-        requires { length entries.now ≤ max_entries }
-        ensures { IfOk result
-            (λ turns. AreTurnsOf restarts (past_of entries.now) (lists_in turns.lists.items)) }
-    {
-        let mut lists = empty_lists(alloc, PROCESSES as u32)?;
-        for (i, entry) in entries.iter().enumerate() {
-            note(&mut lists, restarts, entry, i as u32)?;
-        }
-        Ok(ByProcess { lists })
-    }
 
     /// The first of a process from `from` on, or `end` if that comes first. It takes a binary search.
     pub fn next_of(&self, process: u8, from: u32, end: u32) -> u32

@@ -11,8 +11,10 @@ ghost use Rattle.causal_audit.specs.Inside.DeliveryStates.{Shows};
 ghost use Rattle.causal_audit.specs.Inside.Look.Staying.{RestartsNone, restarts_one};
 
 use crate::delivery_state::down_after;
-use crate::index::by_process::ByProcess;
-use causal_holders::Holders;
+use crate::index::by_process::{ByProcess, note};
+use crate::index::lists::empty_lists;
+use crate::index::releases::lasting_after;
+use causal_holders::{Holders, PROCESSES};
 use causal_name::NoMemory;
 use causal_trace::entry::Entry;
 use causal_trace::trace::Trace;
@@ -21,12 +23,15 @@ use std::alloc::Global;
 /// Of so few processes each is asked for its own next restart.
 const FEW: u32 = 8;
 
-/// The positions of the crashes and restarts, for each who is down after it, and the restarts of each process.
+/// The positions of the crashes and restarts, for each who is down after it, and the crashes and restarts of each process; and a
+/// position from which on no entry releases a process.
 #[derive(Drop)]
 pub struct CrashesAndRestarts {
     pub positions: Vec<u32>,
     pub downs: Vec<Holders>,
+    pub crashes: ByProcess,
     pub restarts: ByProcess,
+    pub lasting_from: u32,
     ghost ascending: { IsNonDecreasing positions.items },
     ghost counted: { length downs.items ≡ length positions.items },
 }
@@ -85,23 +90,30 @@ impl CrashesAndRestarts {
     ghost use Rattle.causal_audit.specs.Inside.Index.Kept.{AreTurnsKept};
     ghost use Rattle.causal_audit.specs.Inside.Index.Passing.{AreAhead, AreBehind, HasPassed, IsPlace};
 
-    /// The positions of the crashes and restarts, in order, who is down after each, and the restarts of each process.
+    /// The crashes and restarts of these entries.
     pub fn of(alloc: Global, entries: &[Entry]) -> Result<CrashesAndRestarts, NoMemory>
         requires { length entries.now ≤ max_entries }
         ensures { IfOk result (AreTurnsKept (past_of entries.now)) }
     {
         let mut positions = Vec::new(alloc);
         let mut downs = Vec::new(alloc);
+        let mut crashes = empty_lists(alloc, PROCESSES as u32)?;
+        let mut restarts = empty_lists(alloc, PROCESSES as u32)?;
+        let mut lasting_from = 0;
         let mut down = Holders::none();
         for (i, entry) in entries.iter().enumerate() {
             down = down_after(down, entry);
+            lasting_from = lasting_after(lasting_from, entry, i as u32);
             note_turn(&mut positions, &mut downs, entry, down, i as u32)?;
+            note(&mut crashes, false, entry, i as u32)?;
+            note(&mut restarts, true, entry, i as u32)?;
         }
-        let restarts = ByProcess::of(alloc, entries, true)?;
         Ok(CrashesAndRestarts {
             positions,
             downs,
-            restarts,
+            crashes: ByProcess { lists: crashes },
+            restarts: ByProcess { lists: restarts },
+            lasting_from,
         })
     }
 

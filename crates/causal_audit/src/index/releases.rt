@@ -1,9 +1,8 @@
 //! From which position on no process is released: who is down or holds a determinant then stays so.
-ghost use Rattle.std.specs.Prelude.{◌≡◌, ◌<◌, ◌≤◌, length};
+ghost use Rattle.std.specs.Prelude.{◌≡◌, ◌<◌};
 ghost use Rattle.causal_trace.specs.declared.entry.Entry.{Entry};
 ghost use Rattle.causal_trace.specs.Limits.{max_entries};
-ghost use Rattle.causal_audit.specs.Inside.Index.Filed.{past_of};
-ghost use Rattle.causal_audit.specs.Lasting.{NoneReleasedFrom, may_release};
+ghost use Rattle.causal_audit.specs.Lasting.{may_release};
 ghost use Rattle.causal_audit.specs.Inside.Index.Releases.{LastsAfter};
 
 use causal_trace::entry::Entry;
@@ -21,21 +20,9 @@ fn may_release(entry: &Entry) -> bool
 
 /// The position from which on no process is released, after one more entry, at position i.
 #[tactic(auto, using(crate::proofs::look::CoverStays::none_beyond))]
-fn lasting_after(from: u32, entry: &Entry, i: u32) -> u32
+pub fn lasting_after(from: u32, entry: &Entry, i: u32) -> u32
     requires { i < max_entries }
     ensures { LastsAfter entry.now i from result }
 {
     if may_release(entry) { i + 1 } else { from }
-}
-
-/// The position from which on no entry is a restart or a forgetting.
-pub fn lasting_from(entries: &[Entry]) -> u32
-    requires { length entries.now ≤ max_entries }
-    ensures { NoneReleasedFrom (past_of entries.now) result }
-{
-    let mut from = 0;
-    for (i, entry) in entries.iter().enumerate() {
-        from = lasting_after(from, entry, i as u32);
-    }
-    from
 }

@@ -9,7 +9,6 @@ ghost use Rattle.causal_audit.specs.Inside.Index.Kept.{AreMentionsKept};
 ghost use Rattle.causal_audit.specs.Inside.Group.OpenDeliveries.{AreAsked, AreFollowed, AreGathered, IsTold, StayMarked, asked_of, how_many, is_marked};
 
 use crate::group::run_to_follow::OpenDelivery;
-use crate::index::by_process::ByProcess;
 use crate::index::mentions::Mentions;
 use crate::index::outline::Outline;
 use crate::index::positions::positions_of;
@@ -29,7 +28,6 @@ use std::marker::Model;
 pub struct Survey<'a, 'r> {
     outline: Outline<'r>,
     mentions: &'a Mentions,
-    crashes: &'a ByProcess,
     stays: &'a [u32],
     reached: &'a [Holders],
     positions: &'a [u32],
@@ -44,7 +42,7 @@ impl<'a, 'r> Model for Survey<'a, 'r> {
 
     ghost view = { λ a. record { run = a.outline.trace.now.recording; f = a.f; end = a.end } };
 
-    ghost invariant = { λ a. IsSurvey a.outline.trace.now.recording a.end a.mentions.now a.crashes.now a.stays.now a.reached.now a.positions.now };
+    ghost invariant = { λ a. IsSurvey a.outline.trace.now.recording a.end a.mentions.now a.stays.now a.reached.now a.positions.now };
 }
 
 impl Survey<'_, '_> {
@@ -77,7 +75,8 @@ impl Survey<'_, '_> {
             self.now.run.past det (self.now.end + 1) thins.now }
         ensures { HasNoOrphanFrom self.now.run self.now.f k result self.now.end }
     {
-        let crash = self.crashes.next_of(det.dest.0, k + 1, self.end);
+        let crashes = &self.outline.turns.crashes;
+        let crash = crashes.next_of(det.dest.0, k + 1, self.end);
         thins.uncovered_until(k, self.stays[k as usize], crash, self.end)
     }
 
@@ -199,14 +198,12 @@ pub fn open_deliveries_of(
         (λ opened. AreGathered (asked_of outline.entry.trace.now.recording f end) opened.items) }
 {
     let entries = outline.trace.entries();
-    let crashes = ByProcess::of(alloc, entries, false)?;
     let stays = stays_of(alloc, entries)?;
     let reached = reached_in(alloc, outline.trace)?;
     let positions = positions_of(alloc, &entries[..end as usize])?;
     let survey = Survey {
         outline,
         mentions,
-        crashes: &crashes,
         stays: stays.as_slice(),
         reached: reached.as_slice(),
         positions: positions.as_slice(),

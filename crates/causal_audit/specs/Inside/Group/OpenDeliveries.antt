@@ -8,10 +8,7 @@ use Rattle.causal_audit.specs.Inside.Among.{HasNoOrphanFrom, HasNoOrphanBy}
 use Rattle.causal_audit.specs.declared.index.mentions.Mentions.{Mentions}
 use Rattle.causal_audit.specs.declared.group.run_to_follow.OpenDelivery.{OpenDelivery}
 use Rattle.causal_audit.specs.declared.index.crashes_and_restarts.CrashesAndRestarts.{CrashesAndRestarts}
-use Rattle.causal_audit.specs.Lasting.{NoneReleasedFrom}
 use Rattle.causal_audit.specs.Inside.Index.Kept.{AreMentionsKept, AreTurnsKept}
-use Rattle.causal_audit.specs.declared.index.by_process.ByProcess.{ByProcess}
-use Rattle.causal_audit.specs.Inside.Index.Filed.{AreTurnsOf, lists_in}
 use Rattle.causal_audit.specs.Inside.Index.Spreads.{AreSpreads, process_at}
 
 -- the positions of the deliveries
@@ -46,10 +43,9 @@ pub record IsRunUpTo (s : RunUpTo) (mentions : Mentions) : Type 0 where
   pub within : s.end ≤ length s.run.past
   pub mentioned : AreMentionsKept s.run.past (instant s.run.past s.end) mentions
 
--- a run is prepared for its audit: where no process is released any more, who is down, what mentions each determinant before
--- the instant `end`, and the deliveries that are followed
-pub record IsPrepared (r : Recording) (f end lasting_from : ℕ) (turns : CrashesAndRestarts) (mentions : Mentions) (opened : List OpenDelivery) : Type 0 where
-  pub lasting : NoneReleasedFrom r.past lasting_from
+-- a run is prepared for its audit: who is down, what mentions each determinant before the instant `end`, and the deliveries that
+-- are followed
+pub record IsPrepared (r : Recording) (f end : ℕ) (turns : CrashesAndRestarts) (mentions : Mentions) (opened : List OpenDelivery) : Type 0 where
   pub turned : AreTurnsKept r.past turns
   pub mentioned : AreMentionsKept r.past (instant r.past end) mentions
   pub followed : AreOpenDeliveries r f end opened
@@ -68,12 +64,11 @@ abbrev pub how_many : Asked → ℕ
 how_many asked = deliveries_in (instant asked.run.past asked.end)
 
 -- the run is well formed, and this is kept of it
-pub record IsSurvey (r : Recording) (end : ℕ) (mentions : Mentions) (crashes : ByProcess) (stays : List ℕ) (reached : List (FinSet nat_cmp)) (positions : List ℕ) : Type 0 where
+pub record IsSurvey (r : Recording) (end : ℕ) (mentions : Mentions) (stays : List ℕ) (reached : List (FinSet nat_cmp)) (positions : List ℕ) : Type 0 where
   pub formed : IsWellFormed r
   pub within : end ≤ length r.past
   pub short : length r.past ≤ max_entries
   pub mentioned : AreMentionsKept r.past (instant r.past end) mentions
-  pub crashed : AreTurnsOf false r.past (lists_in crashes.lists.items)
   pub staying : AreSpreads r.past (process_at r.past) stays
   pub reaching : AreReached r.past reached
   pub numbered : ArePositions (instant r.past end) positions

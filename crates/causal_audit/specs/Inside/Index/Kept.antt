@@ -1,15 +1,19 @@
 -- What is kept of turns and of mentions, told of the values that keep it.
-use Rattle.std.specs.Prelude.{true, List}
+use Rattle.std.specs.Prelude.{true, false, List}
 use Rattle.causal_trace.specs.Numbers.{delivered_dets}
 use Rattle.causal_audit.specs.Inside.Common.{Det, Entry}
 use Rattle.causal_audit.specs.declared.index.mentions.Mentions.{Mentions}
 use Rattle.causal_audit.specs.declared.index.crashes_and_restarts.CrashesAndRestarts.{CrashesAndRestarts}
+use Rattle.causal_audit.specs.Lasting.{NoneReleasedFrom}
 use Rattle.causal_audit.specs.Inside.Index.Filed.{AreTurnsOf, AreMentions, AreMentionsWith, AreTurns, lists_in}
 
--- the positions of the crashes and restarts are kept, who is down after each, and the restarts of each process
+-- the positions of the crashes and restarts are kept, who is down after each, and the crashes and restarts of each process; and
+-- from a position on none is released
 pub record AreTurnsKept (past : List Entry) (turns : CrashesAndRestarts) : Type 0 where
   pub turned : AreTurns past turns.positions.items turns.downs.items
+  pub crashed : AreTurnsOf false past (lists_in turns.crashes.lists.items)
   pub restarted : AreTurnsOf true past (lists_in turns.restarts.lists.items)
+  pub lasting : NoneReleasedFrom past turns.lasting_from
 
 -- for each determinant the positions of the entries of a past that mention it are kept, and no others, by the first deliveries of
 -- the whole run, as many as there are lists

@@ -11,7 +11,7 @@ use Rattle.causal_audit.specs.Inside.Index.Kept.{AreTurnsKept}
 use Rattle.causal_audit.specs.Lasting.{NoneReleasedFrom}
 
 -- that no entry from a position on releases a process
-pub NoneReleasedFrom-prop : (past : List Entry) (t : ℕ) → IsProp (NoneReleasedFrom past t)
+NoneReleasedFrom-prop : (past : List Entry) (t : ℕ) → IsProp (NoneReleasedFrom past t)
 NoneReleasedFrom-prop [] t = Unit-prop
 NoneReleasedFrom-prop (e ∷ past) t = Prim.hlevel (props, NoneReleasedFrom-prop past t)
 
@@ -28,7 +28,7 @@ one_entry o f x y =
 
 -- that these are the crashes and restarts of a run
 pub AreTurnsKept-prop : (past : List Entry) (turns : CrashesAndRestarts) → IsProp (AreTurnsKept past turns)
-AreTurnsKept-prop past turns = Prim.hlevel (props, one_entry)
+AreTurnsKept-prop past turns = Prim.hlevel (props, one_entry, NoneReleasedFrom-prop past turns.lasting_from)
 
 -- that a list has positions of entries alone that mention a determinant
 pub AreMentionsOf-prop : (past : List Entry) (d : Det) (list : List ℕ) → IsProp (AreMentionsOf past d list)

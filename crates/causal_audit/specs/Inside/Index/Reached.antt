@@ -1,7 +1,7 @@
 -- Which processes the events of each reach.
-use Rattle.std.specs.Prelude.{◌≡◌, ℕ, true, List, length, slice_index_or, slice_set, Option, Some, None}
+use Rattle.std.specs.Prelude.{◌≡◌, ℕ, true, List, length, slice_index_or, slice_set}
 use Rattle.std.specs.FinSet.{insert}
-use Rattle.causal_audit.specs.Inside.Common.{nat_cmp, FinSet, contains, empty, union, Det, Entry, Reaches}
+use Rattle.causal_audit.specs.Inside.Common.{nat_cmp, FinSet, contains, empty, union, Entry, Send, Reaches}
 use Rattle.causal_audit.specs.Inside.Index.Spreads.{process_at}
 
 -- the set has the process of each event that an event of p reaches
@@ -17,7 +17,7 @@ pub record AreReached (past : List Entry) (sets : List (FinSet nat_cmp)) : Type 
   pub count : length sets ≡ 256
   pub each : (p : ℕ) → HasReached past p (reached_by sets p)
 
--- the sets, where the sender of a delivery reaches whom its receiver reaches
-abbrev pub with_reached : List (FinSet nat_cmp) → Option Det → List (FinSet nat_cmp)
-with_reached sets None = sets
-with_reached sets (Some d) = slice_set sets d.source.0 (union (reached_by sets d.source.0) (reached_by sets d.dest.0))
+-- the sets, where the sender of a message reaches whom its receiver reaches
+abbrev pub with_reached : List (FinSet nat_cmp) → Entry → List (FinSet nat_cmp)
+with_reached sets (Send from to ssn) = slice_set sets from.0 (union (reached_by sets from.0) (reached_by sets to.0))
+with_reached sets _ = sets

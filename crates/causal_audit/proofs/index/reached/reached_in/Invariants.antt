@@ -5,7 +5,7 @@ use Rattle.causal_audit.proofs.index.reached.reached_in.Given as goal
 -- those that the events from k on reach
 abbrev pub invariant-loop-k : goal.invariant-loop-k
 invariant-loop-k l = record {
-  within : l.k ≤ length l.trace.recording.past;
+  within : l.k ≤ length l.entries;
   count : length l.sets.items ≡ 256;
   reached : AreReachedFrom l.trace.recording.past l.k l.sets.items;
 }

@@ -1,6 +1,5 @@
-use Rattle.causal_audit.proofs.Common.{◌≡◌, false, length, reverse, reverse-reverse, ap, subst, sym, ◌∙◌, past_at, past_whole, instant}
+use Rattle.causal_audit.proofs.Common.{subst, sym, instant}
 use Rattle.causal_audit.specs.Numbers.{ArePositions}
-use Rattle.causal_audit.specs.Inside.Index.Filed.{AreTurnsOf, lists_in}
 use Rattle.causal_audit.specs.Inside.Index.Reached.{AreReached}
 use Rattle.causal_audit.specs.Inside.Index.Spreads.{AreSpreads, process_at}
 use Rattle.causal_audit.proofs.Steps.{begins}
@@ -10,14 +9,12 @@ pub invariant_of-survey : goal.invariant_of-survey
 invariant_of-survey c =
     let entries = c.entries-entries.result.now in
     let r = c.args.outline.trace.now.recording in
-    let whole : past_at entries (length entries) ≡ r.past = past_whole entries ∙ ap reverse c.entries-entries.ensures.value ∙ reverse-reverse r.past in
     let formed = c.entries-entries.ensures.formed in
     record {
       formed = formed;
       within = c.requires.within;
       short = c.entries-entries.ensures.few;
       mentioned = c.requires.mentioned;
-      crashed = subst (λ p. AreTurnsOf false p (lists_in c.in_ok-crashes.crashes.lists.items)) whole c.in_ok-crashes.ensures;
       staying = subst (AreSpreads r.past (process_at r.past)) (sym c.as_slice.ensures.value) (c.in_ok-stays.ensures r formed c.entries-entries.ensures.value);
       reaching = subst (AreReached r.past) (sym c.as_slice-2.ensures.value) c.in_ok-reached.ensures;
       numbered =

@@ -4,7 +4,6 @@ use Rattle.causal_audit.specs.Inside.Index.Kept.{AreTurnsKept}
 use Rattle.causal_audit.specs.Inside.Group.OpenDeliveries.{IsDeliveryAt, IsPrepared, IsOpenDelivery, asked_of, positions_of}
 use Rattle.causal_audit.specs.declared.group.run_to_follow.OpenDelivery.{OpenDelivery}
 use Rattle.causal_audit.specs.Parts.{AreEnough}
-use Rattle.causal_audit.specs.Lasting.{NoneReleasedFrom}
 use Rattle.causal_audit.proofs.AmongLemmas.{among_all, among_wider}
 use Rattle.causal_audit.proofs.look.SurveyAsks.{any_other}
 use Rattle.causal_audit.proofs.prepared.Prepared.of.Goals as goal
@@ -19,8 +18,7 @@ invariant_of-result c =
     let gathered = c.in_ok-opened.opened.items in
     let opened = c.put_in_order.new.opened.items in
     let moved = c.put_in_order.ensures in
-    let prepared : IsPrepared r c.args.f c.args.end c.lasting_from-lasting_from.result c.in_ok-turns.turns c.in_ok-mentions.mentions opened = record {
-      lasting = subst (λ p. NoneReleasedFrom p c.lasting_from-lasting_from.result) whole c.lasting_from-lasting_from.ensures;
+    let prepared : IsPrepared r c.args.f c.args.end c.in_ok-turns.turns c.in_ok-mentions.mentions opened = record {
       turned = subst (λ p. AreTurnsKept p c.in_ok-turns.turns) whole c.in_ok-turns.ensures;
       mentioned = c.in_ok-mentions.ensures;
       followed = record {

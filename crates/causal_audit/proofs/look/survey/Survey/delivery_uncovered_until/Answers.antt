@@ -16,7 +16,7 @@ returns c =
     let thins = c.args.thins.now in
     let found : AreThinStretches r.processes s.f r.past c.args.det (s.end + 1) thins = rw (← c.self.view_is) at c.requires.thins in
     let crash = c.next_of-crash in
-    let first = first_crash_is r.past (lists_in s.crashes.now.lists.items) c.args.det.dest.0 k s.end crash.result kept.crashed crash.ensures.bounds.0 crash.ensures.bounds.1 crash.ensures.none crash.ensures.found in
+    let first = first_crash_is r.past (lists_in s.outline.turns.now.crashes.lists.items) c.args.det.dest.0 k s.end crash.result s.outline.turned.crashed crash.ensures.bounds.0 crash.ensures.bounds.1 crash.ensures.none crash.ensures.found in
     rw (← c.self.view_is)
     (λ u above low has.
     elim (cases_lt k thins.from) [
