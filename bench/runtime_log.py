@@ -20,7 +20,7 @@ runtime_log: anyhow causal_name causal_log
 """
 RUNS = 5
 RINGS = ((2, 1), (64, 1), (2, 2), (64, 2), (64, 8))
-KEYS = ((1_024, 2_048), (2_048, 2_048), (16_384, 16_384))
+KEYS = ((256, 256), (1_024, 1_024), (2_048, 2_048), (16_384, 16_384))
 
 
 def newest(paths):
@@ -103,7 +103,7 @@ def keys():
         "Determinants that a log takes in and tells of, in nanoseconds for each. *spread* are all of a run in which 256 receivers have as many "
         "deliveries each, and *alike* as many of messages that put them into one group of a hash table whose seed is fixed. *meeting* are all "
         "of a run in which as many receivers as may be come to one head of the log. *picked* are those of 32,768 deliveries that share as few "
-        "heads as hold them.",
+        "heads as hold them. A log has so many heads for so many determinants, until they are found to be crowded.",
         "",
         "| heads | spread | alike | meeting | picked |",
         "|---|---|---|---|---|",

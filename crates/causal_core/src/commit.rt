@@ -121,14 +121,29 @@ pub(crate) fn commit_at(
     commit(trace, cell, q, f, grown, sends, left)
 }
 
+/// Makes room for more than a delivery needs, once for determinants and once for messages, and not for as much in each process.
+/// Rooms double from then on, and not all at once, even where all processes have delivered as much.
+fn stagger(cell: &mut Cell, q: Pid) -> Result<(), NoMemory>
+    ensures memory { memory_of cell.new ≡ memory_of cell.old }
+    ensures bodies { bodies_of cell.new ≡ bodies_of cell.old }
+{
+    let room = 13 + (u32::from(q.0) * 7 + 5) % 16;
+    match cell.received.len() {
+        4 => cell.log.reserve(room),
+        8 => Ok(cell.sent.reserve_exact(room as usize)?),
+        _ => Ok(()),
+    }
+}
+
 /// Room for a delivery that logs so many determinants, and for its sends.
-fn make_room(cell: &mut Cell, logged: u32) -> Result<(), NoMemory>
+fn make_room(cell: &mut Cell, q: Pid, logged: u32) -> Result<(), NoMemory>
     ensures memory { memory_of cell.new ≡ memory_of cell.old }
     ensures bodies { bodies_of cell.new ≡ bodies_of cell.old }
     ensures sent { OnOk result (8 ≤ (room_of cell.new).sent) }
     ensures received { OnOk result (1 ≤ (room_of cell.new).received) }
     ensures log { OnOk result (logged ≤ (room_of cell.new).log) }
 {
+    stagger(cell, q)?;
     cell.sent.reserve(8)?;
     cell.received.reserve(1)?;
     cell.log.reserve(logged)?;
@@ -151,5 +166,5 @@ pub(crate) fn make_room_at(
     let Some(cell) = &mut cells[usize::from(q.0)] else {
         unreachable!()
     };
-    make_room(cell, logged)
+    make_room(cell, q, logged)
 }

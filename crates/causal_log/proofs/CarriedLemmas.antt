@@ -1,29 +1,28 @@
 -- What messages still carry of a batch once determinants are marked.
-use Rattle.std.proofs.Common.{ℕ, ◌≡◌, ◌∙◌, ◌&&◌, ◌||◌, Bool, true, false, cond, not, nat_le, List, [], ◌∷◌, map, filter, Option, Some, None, unwrap_or, nat_cmp, nat_eq, true≢false, refl, sym, ap, arith}
-use Rattle.std.proofs.lemmas.Bool.Decides.{nat_tests}
+use Rattle.std.proofs.Common.{ℕ, ◌≡◌, ◌∙◌, ◌&&◌, ◌||◌, Bool, true, false, cond, not, nat_le, List, [], ◌∷◌, map, filter, Option, Some, None, unwrap_or, nat_cmp, true≢false, refl, sym, ap}
 use Rattle.std.proofs.lemmas.Map.Entries.{lookup-filter-keys}
 use Rattle.std.specs.Cmp.{nat_cmp_total}
 use Rattle.std.specs.Option.{option_map, option_map_or}
-use Rattle.std.specs.Ordering.{eq_by_cmp}
+use Rattle.std.specs.List.{list_all}
 use Rattle.std.specs.Map.{lookup}
 use Rattle.std.specs.FinMap as fin
 use Rattle.std.specs.FinSet as set
 use Rattle.causal_name.specs.declared.Det.{Det}
 use Rattle.causal_name.specs.Names.{same_det, is_ascending}
 use Rattle.causal_name.specs.declared.Pid.{Pid}
-use Rattle.causal_name.proofs.Lemmas.DetOrder.{dets_total, exact_dets, nat_ties, same_is}
+use Rattle.causal_name.proofs.Lemmas.DetOrder.{dets_total, exact_dets, same_is}
 use Rattle.causal_log.specs.declared.known.Known.{Known}
 use Rattle.causal_log.specs.declared.batch.Item.{Item}
-use Rattle.causal_log.specs.Knowledge.{as_stable, held_by, is_carried, joined, nothing_known}
-use Rattle.causal_log.specs.Logs.{LogMap, marked, chosen, dets_of, grown, is_chosen, item_of, known_of, learned, names_holder}
+use Rattle.causal_log.specs.Knowledge.{as_stable, is_carried, joined, nothing_known, told}
+use Rattle.causal_log.specs.Logs.{LogMap, absorbed, marked, chosen, dets_of, item_of, known_of, learned}
 use Rattle.std.specs.Arc.{arc_value}
 use Rattle.causal_log.specs.declared.carried.Carried.{Carried}
 use Rattle.causal_log.specs.Inside.Carried.{is_open, open_in, IsCarried, as_marked, Carries}
+use Rattle.causal_log.specs.Inside.Merges.{are_known_to_hold}
 use Rattle.causal_log.proofs.Lemmas.Ascents.{filter_ascends}
 use Rattle.causal_log.proofs.Lemmas.ChosenLemmas.{dets_of_items}
 use Rattle.causal_log.proofs.Lemmas.KnowledgeGrows.{get_learned}
 use Rattle.causal_log.proofs.Lemmas.MarkedLogs.{get_marked}
-use Rattle.causal_log.proofs.Lemmas.MessageItems.{carried_holders}
 use Rattle.causal_log.proofs.Lemmas.Searches.{both, or_nothing}
 use Rattle.causal_log.proofs.MergeLemmas.{entries_of, entry_of, carried_of, found_chosen, recognized}
 
@@ -111,42 +110,35 @@ pub carries_marked : (kept : Option Carried) (log : LogMap) (det : Det) → Carr
 carries_marked None log det is = is
 carries_marked (Some k) log det is = carried_marked k.f (arc_value k.batch) k.is_marked log det is
 
-nat_same : (q x : ℕ) → nat_eq q x ≡ true → q ≡ x
-nat_same q x h = grind (arith, nat_tests)
-
--- a holder that is known adds nothing
-holder_in : (s : set.FinSet nat_cmp) (p : ℕ) → set.contains s p ≡ true → set.union s (set.insert set.empty p) ≡ s
-holder_in s p there = set.same_set nat_cmp_total set.nat_cmp-IsAntisymmetric _ _ (λ q.
-    set.contains-union nat_cmp_total s (set.insert set.empty p) q
-    ∙ ap (λ b. set.contains s q || b) (set.contains-insert nat_cmp_total set.empty p q ∙ ap (λ b. eq_by_cmp nat_cmp q p || b) (set.contains-empty nat_cmp q) ∙ sym (or_nothing (eq_by_cmp nat_cmp q p)))
-    ∙ by q (eq_by_cmp nat_cmp q p) refl)
+-- holders that are known add nothing
+holders_in : (s t : set.FinSet nat_cmp) → set.is_subset s t ≡ true → set.union t s ≡ t
+holders_in s t h = set.same_set nat_cmp_total set.nat_cmp-IsAntisymmetric _ _ (λ q. set.contains-union nat_cmp_total t s q ∙ by q (set.contains s q) refl)
   where
-    by : (q : ℕ) (b : Bool) → eq_by_cmp nat_cmp q p ≡ b → (set.contains s q || b) ≡ set.contains s q
-    by q true e = let here : set.contains s q ≡ true = ap (set.contains s) (nat_same q p (nat_ties q p ∙ e)) ∙ there in ap (λ b. b || true) here ∙ sym here
-    by q false e = sym (or_nothing (set.contains s q))
-
-logged_so : (f : ℕ) (o : Option Known) (p : ℕ) → (is_chosen f o && set.contains (unwrap_or o nothing_known).holders p) ≡ true → o ≡ Some (unwrap_or o nothing_known)
-logged_so f None p h = absurd (true≢false (sym h))
-logged_so f (Some k) p h = refl
+    by : (q : ℕ) (b : Bool) → set.contains s q ≡ b → (set.contains t q || b) ≡ set.contains t q
+    by q true is = let there = set.is_subset-contains nat_cmp_total s t h q is in ap (λ b. b || true) there ∙ sym there
+    by q false is = sym (or_nothing (set.contains t q))
 
 get_same : (log : LogMap) (det : Det) (k : Known) → fin.get log det ≡ Some k → (q : Det) (b : Bool) → same_det q det ≡ b → cond b (Some k) (fin.get log q) ≡ fin.get log q
 get_same log det k there q true e = sym (ap (fin.get log) (same_is q det e) ∙ there)
 get_same log det k there q false e = refl
 
--- a log in which messages carry a determinant with a holder learns nothing from that this holds it
-learned_held : (f : ℕ) (log : LogMap) (det : Det) (p : Pid) → names_holder det p.0 (chosen f log) ≡ true → learned log det (held_by p) ≡ log
-learned_held f log det p h =
-    let told = sym (carried_holders f log det p.0) ∙ h in
-    let known = known_of log det in
-    let there : fin.get log det ≡ Some known = logged_so f (fin.get log det) p.0 told in
-    let holds = (both (is_chosen f (fin.get log det)) (set.contains known.holders p.0) told).1 in
-    let same : joined known (held_by p) ≡ known = (λ i. record { holders = holder_in known.holders p.0 holds i; stable = sym (or_nothing known.stable) i }) in
-    fin.same_map dets_total exact_dets (learned log det (held_by p)) log
-    (λ q. get_learned log det (held_by p) q ∙ ap (λ k. cond (same_det q det) (Some k) (fin.get log q)) same ∙ get_same log det known there q (same_det q det) refl)
+-- a log learns nothing from holders that it knows
+pub learned_known : (log : LogMap) (det : Det) (heard : Known) → heard.stable ≡ false → are_known_to_hold log det heard.holders ≡ true → learned log det heard ≡ log
+learned_known log det heard plain = by (fin.get log det) refl
+  where
+    by : (o : Option Known) → fin.get log det ≡ o → option_map_or (λ known. set.is_subset heard.holders known.holders) o false ≡ true → learned log det heard ≡ log
+    by None is h = absurd (true≢false (sym h))
+    by (Some known) is h =
+        let same : joined (known_of log det) heard ≡ known =
+        ap (λ o. joined (unwrap_or o nothing_known) heard) is
+        ∙ (λ i. record { holders = holders_in heard.holders known.holders h i; stable = (ap (λ b. known.stable || b) plain ∙ sym (or_nothing known.stable)) i })
+        in
+        fin.same_map dets_total exact_dets (learned log det heard) log
+        (λ q. get_learned log det heard q ∙ ap (λ k. cond (same_det q det) (Some k) (fin.get log q)) same ∙ get_same log det known is q (same_det q det) refl)
 
--- a delivery of a message that carries nothing tells nothing, where its determinant is carried with its receiver as a holder
-pub told_nothing : (f : ℕ) (log : LogMap) (kept items : List Item) (own : Det) (from me : Pid) → items ≡ [] → names_holder own me.0 kept ≡ true → kept ≡ chosen f log → kept ≡ chosen f (grown items own from me log)
-told_nothing f log kept items own from me none holds is =
-    is
-    ∙ ap (chosen f) (sym (learned_held f log own me (ap (names_holder own me.0) (sym is) ∙ holds)))
-    ∙ ap (λ xs. chosen f (grown xs own from me log)) (sym none)
+-- nor from a message of whose items it knows all that they tell
+pub absorbed_known : (from me : Pid) (items : List Item) (log : LogMap) → list_all (λ item. are_known_to_hold log item.det (told from me item).1.holders) items ≡ true → absorbed items from me log ≡ log
+absorbed_known from me [] log h = refl
+absorbed_known from me (x ∷ xs) log h =
+    let two = both (are_known_to_hold log x.det (told from me x).1.holders) (list_all (λ item. are_known_to_hold log item.det (told from me item).1.holders) xs) h in
+    ap (absorbed xs from me) (learned_known log x.det (told from me x).1 refl two.0) ∙ absorbed_known from me xs log two.1

@@ -84,15 +84,3 @@ told_out f from me item few = too_many (set.len (told from me item).1.holders) f
 -- nor is what one process holds, where none may fail
 pub held_out : (f : ℕ) (p : Pid) → f ≡ 0 → is_carried f (held_by p) ≡ false
 held_out f p none = too_many (set.len (held_by p).holders) f (omega (arith, none, one p))
-
--- what a process tells itself of a determinant with no holders is that it holds it
-pub told_itself : (me : Pid) (det : Det) → (told me me (record { det = det; holders = set.empty })).1 ≡ held_by me
-told_itself me det = λ i. record {
-  holders = set.same_set nat_cmp_total set.nat_cmp-IsAntisymmetric (set.insert (held_by me).holders me.0) (held_by me).holders
-      (λ q. inserted set.empty me me q ∙ twice (eq_by_cmp nat_cmp q me.0) (set.contains (set.empty {R = nat_cmp}) q) ∙ sym (set.contains-insert nat_cmp_total set.empty me.0 q)) i;
-  stable = false;
-}
-  where
-    twice : (a b : Bool) → (a || (a || b)) ≡ (a || b)
-    twice true b = refl
-    twice false b = refl

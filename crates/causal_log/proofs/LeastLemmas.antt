@@ -27,7 +27,7 @@ Beats None q = ⊥
 Beats (Some d) q = (d ≡ q) ⊎ (is_before d q ≡ true)
 
 -- what was found fills the slot, and those of the slot that it does not beat are led to
-pub record HasPassed (dest : Pid) (rsn : ℕ) (ds : List Det) (older : List (Option ℕ)) (at : Option ℕ) (least : Option Det) : Type 0 where
+pub record HasPassed (dest : Pid) (rsn : ℕ) (ds : List Det) (older : List ℕ) (at : ℕ) (least : Option Det) : Type 0 where
   pub fits : IfSome least (λ d. (is_of_slot dest rsn d ≡ true) × IsAmong d ds)
   pub rest : (k : ℕ) (q : Det) → slice_get ds k ≡ Some q → is_of_slot dest rsn q ≡ true → IsLed older at k ⊎ Beats least q
 
@@ -42,7 +42,7 @@ slot_is slot q h =
     λ i. record { dest = record { 0 = dest i }; rsn = rsn i }
 
 -- before the first entry is asked, the head leads to all that fill the slot
-pub none_passed : (turn : ℕ) (ds : List Det) (heads older : List (Option ℕ)) (slot : Slot) → IsIndex turn ds heads older → HasPassed slot.dest slot.rsn ds older (newest_of heads turn slot) None
+pub none_passed : (turn : ℕ) (ds : List Det) (heads older : List ℕ) (slot : Slot) → IsIndex turn ds heads older → HasPassed slot.dest slot.rsn ds older (newest_of heads turn slot) None
 none_passed turn ds heads older slot index = record {
   fits = tt;
   rest = λ k q at fits. inl (subst (λ s. IsLed older (newest_of heads turn s) k) (slot_is slot q fits) (index.found k q at));
@@ -60,25 +60,25 @@ or_before x f low = by (same_det f x) refl
     by true same = inl (same_is f x same)
     by false apart = inr (ap is_lt (below f x low apart))
 
-module _ (dest : Pid) (rsn : ℕ) (ds : List Det) (older : List (Option ℕ)) (i : ℕ) (z : Det) (least : Option Det) (low : i < length ds) (has : HasPassed dest rsn ds older (Some i) least) where
+module _ (dest : Pid) (rsn : ℕ) (ds : List Det) (older : List ℕ) (i : ℕ) (z : Det) (least : Option Det) (low : i < length ds) (has : HasPassed dest rsn ds older (suc i) least) where
   abbrev x : Det
   x = get_or ds i z
 
   -- one more is passed
   more : (later : Option Det) → IfSome later (λ d. (is_of_slot dest rsn d ≡ true) × IsAmong d ds) → (is_of_slot dest rsn x ≡ true → Beats later x)
-      → ((q : Det) → Beats least q → Beats later q) → HasPassed dest rsn ds older (get_or older i None) later
+      → ((q : Det) → Beats least q → Beats later q) → HasPassed dest rsn ds older (get_or older i 0) later
   more later fits here on = record {
     fits = fits;
     rest = λ k q at fit. elim (has.rest k q at fit) [ inl led ↦ by k q at fit led.0 led.1 | inr beaten ↦ inr (on q beaten) ];
   }
     where
-      by : (k : ℕ) (q : Det) → slice_get ds k ≡ Some q → is_of_slot dest rsn q ≡ true → (t : ℕ) → Leads older (Some i) k t → IsLed older (get_or older i None) k ⊎ Beats later q
+      by : (k : ℕ) (q : Det) → slice_get ds k ≡ Some q → is_of_slot dest rsn q ≡ true → (t : ℕ) → Leads older (suc i) k t → IsLed older (get_or older i 0) k ⊎ Beats later q
       by k q at fit zero led =
           let one : x ≡ q = ap (λ j. get_or ds j z) led ∙ get_or_from_slice_get ds k q z at in inr (subst (Beats later) one (here (ap (is_of_slot dest rsn) one ∙ fit)))
       by k q at fit (suc t) led = inl (t, led)
 
   -- one that fills the slot and comes before what was found is what is found now
-  pub passed_lesser : (is_of_slot dest rsn x && option_map_or (λ f. is_before x f) least true) ≡ true → HasPassed dest rsn ds older (get_or older i None) (Some x)
+  pub passed_lesser : (is_of_slot dest rsn x && option_map_or (λ f. is_before x f) least true) ≡ true → HasPassed dest rsn ds older (get_or older i 0) (Some x)
   passed_lesser h =
       let two = both (is_of_slot dest rsn x) (option_map_or (λ f. is_before x f) least true) h in
       more (Some x) (two.0, list_any_at (same_det x) ds i z low (same_itself x)) (λ fit. inl refl) (λ q beaten. inr (lower least two.1 q beaten))
@@ -89,7 +89,7 @@ module _ (dest : Pid) (rsn : ℕ) (ds : List Det) (older : List (Option ℕ)) (i
       lower (Some f) h q (inr after) = before_trans x f q h after
 
   -- and any other one leaves it
-  pub passed_other : (is_of_slot dest rsn x && option_map_or (λ f. is_before x f) least true) ≡ false → HasPassed dest rsn ds older (get_or older i None) least
+  pub passed_other : (is_of_slot dest rsn x && option_map_or (λ f. is_before x f) least true) ≡ false → HasPassed dest rsn ds older (get_or older i 0) least
   passed_other h = more least has.fits (λ fit. high least (not_both (is_of_slot dest rsn x) (option_map_or (λ f. is_before x f) least true) h fit)) (λ q beaten. beaten)
     where
       high : (found : Option Det) → option_map_or (λ f. is_before x f) found true ≡ false → Beats found x
@@ -97,7 +97,7 @@ module _ (dest : Pid) (rsn : ℕ) (ds : List Det) (older : List (Option ℕ)) (i
       high (Some f) h = or_before x f h
 
 -- once all were passed it is the least of all
-pub all_passed : (dest : Pid) (rsn : ℕ) (ds : List Det) (older : List (Option ℕ)) (least : Option Det) → HasPassed dest rsn ds older None least → IsLeastOfSlot dest rsn ds least
+pub all_passed : (dest : Pid) (rsn : ℕ) (ds : List Det) (older : List ℕ) (least : Option Det) → HasPassed dest rsn ds older 0 least → IsLeastOfSlot dest rsn ds least
 all_passed dest rsn ds older None has = λ q there. false_from_ne_true (is_of_slot dest rsn q) (λ fit.
     let at = stands q ds there in
     elim (has.rest at.0 q at.1 fit) [ inl led ↦ led.1 | inr beaten ↦ beaten ])

@@ -9,4 +9,3 @@ mod LeastLemmas
 mod MergeLemmas
 mod CarriedLemmas
 mod StoreLemmas
-mod KeptLemmas

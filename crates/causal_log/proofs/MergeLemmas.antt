@@ -2,9 +2,9 @@
 use Rattle.std.proofs.Common.{ℕ, zero, suc, ◌+◌, ◌-◌, ◌<◌, length, take, drop, get_or, slice_get, IfSome, ◌≡◌, ◌∙◌, ◌≤◌, ◌||◌, Bool, true, false, cond, not, nat_le, nat_cmp, List, [], ◌∷◌, ◌++◌, map, filter, Option, Some, None, is_some, unwrap_or, true≢false, refl, sym, ap, subst, arith}
 use Rattle.std.proofs.lemmas.Bool.{and_from, or_from, or_left, or_right, false_from_ne_true}
 use Rattle.std.proofs.lemmas.Bool.Decides.{nat_tests}
-use Rattle.std.proofs.lemmas.List.{append-nil, append_assoc, drop-drop, drop_more, get_or-drop, length-drop, map-append, take-append-drop, take_all}
+use Rattle.std.proofs.lemmas.List.{append-nil, append_assoc, drop-drop, drop_more, get_or-drop, length-drop, length-take-le, map-append, take-append-drop, take_all}
 use Rattle.std.proofs.lemmas.Option.{slice_get-get_or}
-use Rattle.std.proofs.Math.Seq.{take-suc}
+use Rattle.std.proofs.Math.Seq.{drop-append_seam, take-append_seam, take-suc}
 use Rattle.std.proofs.lemmas.List.Folds.{list_any-append}
 use Rattle.std.specs.List.{list_any}
 use Rattle.std.specs.Option.{option_or}
@@ -29,7 +29,7 @@ use Rattle.causal_log.proofs.TableLemmas.{lookup_missing}
 use Rattle.causal_log.proofs.Lemmas.Ascents.{ascending_tail, ascending_skip, first_before, filter_ascends}
 use Rattle.causal_log.proofs.Lemmas.ChosenLemmas.{chosen_ascend}
 use Rattle.causal_log.proofs.Lemmas.KnowledgeGrows.{get_learned}
-use Rattle.causal_log.proofs.Lemmas.Searches.{any_map, before_apart, both, find_kept, kept_if, or_nothing, shown, same_turned}
+use Rattle.causal_log.proofs.Lemmas.Searches.{any_map, before_apart, both, find_kept, kept_if, shown, same_turned}
 
 fewer : (a b f : ℕ) → a ≤ b → nat_le b f ≡ true → nat_le a f ≡ true
 fewer a b f less h = grind (arith, nat_tests)
@@ -386,12 +386,12 @@ module _ (f : ℕ) (items : List Item) (from me : Pid) (source : LogMap) where
 
   -- one more item is taken in, once what comes before it was passed on
   pub merged_next : (x : Item) (rest out kept passed next later after : List Item) → is_ascending (dets_of (x ∷ rest)) ≡ true → passed ++ next ≡ out ++ kept
-      → ((log : LogMap) → is_some (fin.get log x.det) ≡ (is_some (fin.get source x.det) || false) → HearsNext f x.det (told from me x).1 log (passed ++ next) (later ++ after))
+      → ((log : LogMap) → is_some (fin.get log x.det) ≡ is_some (fin.get source x.det) → HearsNext f x.det (told from me x).1 log (passed ++ next) (later ++ after))
       → ((d : Det) → is_before x.det d ≡ true → is_ascending (dets_of later ++ d ∷ []) ≡ true)
       → HasMerged f items (x ∷ rest) from me source out kept → HasMerged f items rest from me source later after
   merged_next x rest out kept passed next later after ascend moved hears before h = record {
     log = learned h.log x.det (told from me x).1;
-    carries = hears h.log (ap is_some (h.same x.det (first_named x rest)) ∙ or_nothing (is_some (fin.get source x.det))) (moved ∙ h.carries);
+    carries = hears h.log (ap is_some (h.same x.det (first_named x rest))) (moved ∙ h.carries);
     all = h.all;
     same = λ q there.
         get_learned h.log x.det (told from me x).1 q
@@ -413,3 +413,42 @@ rest_ascends f log out rest is = back (dets_of out) (dets_of rest) (sym (ap is_a
 -- the rest of a list, as it is cut out
 pub cut_rest : (xs : List Item) (n : ℕ) → take (length xs - n) (drop n xs) ≡ drop n xs
 cut_rest xs n = let len = length-drop n xs in take_all (length xs - n) (drop n xs) (omega (arith, len))
+
+-- what is put in where one was taken out stands between what came before it and after it
+pub in_its_place : (f : ℕ) (det : Det) (known : Known) (xs : List Item) (n : ℕ) → n ≤ length xs
+    → with_carried f det known (take n (take n xs ++ drop (suc n) xs)) ++ drop n (take n xs ++ drop (suc n) xs) ≡ with_carried f det known (take n xs) ++ drop (n + 1) xs
+in_its_place f det known xs n within =
+    let pre = take n xs in
+    let rest = drop (suc n) xs in
+    let long : length pre ≡ n = length-take-le n xs within in
+    let next : suc n ≡ n + 1 = omega arith in
+    let first : take n (pre ++ rest) ≡ pre = ap (λ m. take m (pre ++ rest)) (sym long) ∙ take-append_seam pre rest in
+    let last : drop n (pre ++ rest) ≡ drop (n + 1) xs = ap (λ m. drop m (pre ++ rest)) (sym long) ∙ drop-append_seam pre rest ∙ ap (λ m. drop m xs) next in
+    λ i. with_carried f det known (first i) ++ last i
+
+-- the own determinant comes to what messages carry of a log, at the first item that does not come before it
+module _ (f : ℕ) (log : LogMap) (own : Det) (heard : Known) (xs : List Item) (place : ℕ) (is : xs ≡ chosen f log) (within : place ≤ length xs) (next : IfSome (slice_get xs place) (λ item. is_before item.det own ≡ false))
+    (last : 0 < place → IfSome (slice_get xs (place - 1)) (λ item. is_before item.det own ≡ true)) where
+  split : take place xs ++ drop place xs ≡ chosen f log
+  split = take-append-drop place xs ∙ is
+
+  before_own : is_ascending (dets_of (take place xs) ++ own ∷ []) ≡ true
+  before_own =
+      let e : place - 0 ≡ place = omega arith in
+      subst (λ n. is_ascending (dets_of (take n xs) ++ own ∷ []) ≡ true) e
+      (part_passed [] xs 0 place own (omega arith) within (ap (λ ys. is_ascending (dets_of ys)) is ∙ chosen_ascend f log) refl last)
+
+  after_own : IfSome (slice_get xs place) (λ item. same_det item.det own ≡ false) → is_ascending (own ∷ dets_of (drop place xs)) ≡ true
+  after_own apart = next_after xs place own (rest_ascends f log (take place xs) (drop place xs) split) next apart
+
+  -- it is there with what more is known of it, if messages carry that
+  pub own_met : (item : Item) → slice_get xs place ≡ Some item → item.det ≡ own → with_carried f own (joined (known_of_item item) heard) (take place xs) ++ drop (place + 1) xs ≡ chosen f (learned log own heard)
+  own_met item there same = met f log own heard (take place xs) item (drop (place + 1) xs) (ap (λ ys. take place xs ++ ys) (sym (drop_got xs place item there)) ∙ split) before_own same
+
+  -- it stays out where it is logged
+  pub own_out : IfSome (slice_get xs place) (λ item. same_det item.det own ≡ false) → is_some (fin.get log own) ≡ true → xs ≡ chosen f (learned log own heard)
+  own_out apart there = sym (take-append-drop place xs) ∙ logged_out f log own heard (take place xs) (drop place xs) split before_own (after_own apart) there
+
+  -- and is new elsewhere
+  pub own_in : IfSome (slice_get xs place) (λ item. same_det item.det own ≡ false) → is_some (fin.get log own) ≡ false → with_carried f own (joined nothing_known heard) (take place xs) ++ drop place xs ≡ chosen f (learned log own heard)
+  own_in apart new = comes_in f log own heard (take place xs) (drop place xs) split before_own (after_own apart) new

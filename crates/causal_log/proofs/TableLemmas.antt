@@ -9,8 +9,10 @@ use Rattle.std.proofs.lemmas.Option.{get_or_from_slice_get}
 use Rattle.std.specs.List.{AllByRecursion, IsDistinct, list_any}
 use Rattle.std.specs.Map.{lookup, keys_of}
 use Rattle.causal_name.specs.declared.Det.{Det}
-use Rattle.causal_name.specs.Names.{same_det}
+use Rattle.causal_name.specs.declared.Slot.{Slot}
+use Rattle.causal_name.specs.Names.{same_det, slot_of}
 use Rattle.causal_name.proofs.Lemmas.DetOrder.{same_is}
+use Rattle.causal_log.specs.Inside.Indexes.{IsIndex}
 use Rattle.causal_log.proofs.EntryLemmas.{det_equiv}
 use Rattle.causal_log.proofs.Lemmas.Searches.{same_turned}
 
@@ -91,6 +93,13 @@ module _ {V : Type 0} (es : List (Det × V)) (i : ℕ) (x : Det × V) (low : i <
   -- the first i + 1 determinants are the first i and that of the entry at i
   pub take_key : take (i + 1) (keys_of es) ≡ take i (keys_of es) ++ x.0 ∷ []
   take_key = take_more (keys_of es) i x.0 within ∙ ap (λ d. take i (keys_of es) ++ d ∷ []) key
+
+-- an index of the first i determinants, and one more of the slot of the next one, is an index of one further
+pub one_further : (turn : ℕ) (ds : List Det) (i : ℕ) (z : Det) (slot : Slot) (heads older new_heads new_older : List ℕ) → i < length ds → slot ≡ slot_of (get_or ds i z)
+    → ((d : Det) → slot_of d ≡ slot → (es : List Det) → IsIndex turn es heads older → IsIndex turn (es ++ d ∷ []) new_heads new_older)
+    → IsIndex turn (take i ds) heads older → IsIndex turn (take (i + 1) ds) new_heads new_older
+one_further turn ds i z slot heads older new_heads new_older low is more index =
+    subst (λ es. IsIndex turn es new_heads new_older) (sym (take_more ds i z low)) (more (get_or ds i z) (sym is) (take i ds) index)
 
 -- a list and more, cut to its length
 pub take_whole : {X : Type 0} (xs ys : List X) (n : ℕ) → length xs ≡ n → take n (xs ++ ys) ≡ xs

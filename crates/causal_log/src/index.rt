@@ -1,6 +1,6 @@
-//! Where the entries of a log stand: for each number of a slot a head leads to the newest entry, and each entry to the next
-//! older one of its head.
-ghost use Rattle.std.specs.Prelude.{◌≡◌, ◌<◌, ◌≤◌, ◌+◌, ◌^◌, ◌++◌, ◌∷◌, [], false, Some, None, IfSome, IsNone, length, slice_get, vec_len, vec_capacity, List};
+//! Where the entries of a log stand, numbered from 1: a head leads to the newest entry of its slots, and each entry to the next
+//! older one of its head. The number 0 is none.
+ghost use Rattle.std.specs.Prelude.{◌≡◌, ◌<◌, ◌≤◌, ◌+◌, ◌^◌, ◌++◌, ◌∷◌, [], false, Some, IfSome, IsNone, length, slice_get, vec_len, vec_capacity, List};
 ghost use Rattle.std.specs.List.{list_any};
 ghost use Rattle.causal_name.specs.declared.Det.{Det};
 ghost use Rattle.causal_name.specs.Names.{same_det, slot_of};
@@ -10,7 +10,7 @@ ghost use Rattle.causal_log.specs.Inside.Ranks.{IsLeastOfSlot};
 use crate::ranks::is_lesser;
 use causal_name::{Det, Slot};
 
-/// How many eights of heads lie between the first ones of two receivers: an odd number, so that these fall on all of them.
+/// How many heads lie between the first ones of two receivers: an odd number, so that these fall on all of them.
 const APART: usize = 40_503;
 
 /// The number of a slot's head, where the number of heads is a power of two. Eight slots of a receiver have heads beside each
@@ -24,16 +24,16 @@ fn head_of(heads: usize, turn: u8, slot: Slot) -> usize
 {
     let dest = usize::from(slot.dest.0);
     let rsn = slot.rsn as usize;
-    let eight = rsn / 8 * (2 * (dest + usize::from(turn)) + 1) + dest * APART;
-    (eight * 8 + rsn % 8) & (heads - 1)
+    let step = 8 * (2 * (dest + usize::from(turn)) + 1);
+    (rsn / 8 * step + rsn % 8 + dest * APART) & (heads - 1)
 }
 
-/// The place of the newest entry that a slot's head leads to.
-pub(crate) fn newest(heads: &[Option<u32>], turn: u8, slot: Slot) -> Option<u32>
+/// The number of the newest entry that a slot's head leads to.
+pub(crate) fn newest(heads: &[u32], turn: u8, slot: Slot) -> u32
     ensures { result ≡ newest_of heads.now turn slot }
 {
     if heads.is_empty() {
-        return None;
+        return 0;
     }
     heads[head_of(heads.len(), turn, slot)]
 }
@@ -41,8 +41,8 @@ pub(crate) fn newest(heads: &[Option<u32>], turn: u8, slot: Slot) -> Option<u32>
 /// The place of a determinant.
 pub(crate) fn search(
     dets: &[Det],
-    heads: &[Option<u32>],
-    older: &[Option<u32>],
+    heads: &[u32],
+    older: &[u32],
     turn: u8,
     det: Det,
 ) -> Option<usize>
@@ -51,12 +51,13 @@ pub(crate) fn search(
     ensures within { IfSome result (λ place. place < length dets.now) }
     ensures absent { IsNone result → list_any (same_det det) dets.now ≡ false }
 {
-    let mut place = newest(heads, turn, det.slot());
-    while let Some(k) = place {
-        if dets[k as usize] == det {
-            return Some(k as usize);
+    let mut number = newest(heads, turn, det.slot());
+    while number > 0 {
+        let place = number as usize - 1;
+        if dets[place] == det {
+            return Some(place);
         }
-        place = older[k as usize];
+        number = older[place];
     }
     None
 }
@@ -64,8 +65,8 @@ pub(crate) fn search(
 /// The least determinant of a slot.
 pub(crate) fn least_of_slot(
     dets: &[Det],
-    heads: &[Option<u32>],
-    older: &[Option<u32>],
+    heads: &[u32],
+    older: &[u32],
     turn: u8,
     slot: Slot,
 ) -> Option<Det>
@@ -73,21 +74,22 @@ pub(crate) fn least_of_slot(
     ensures { IsLeastOfSlot slot.dest slot.rsn dets.now result }
 {
     let mut least = None;
-    let mut place = newest(heads, turn, slot);
-    while let Some(k) = place {
-        let det = dets[k as usize];
+    let mut number = newest(heads, turn, slot);
+    while number > 0 {
+        let place = number as usize - 1;
+        let det = dets[place];
         if is_lesser(&det, slot.dest, slot.rsn, least) {
             least = Some(det);
         }
-        place = older[k as usize];
+        number = older[place];
     }
     least
 }
 
 /// Adds one more entry, the newest of its head, in room that there is.
-pub(crate) fn link(heads: &mut [Option<u32>], older: &mut Vec<Option<u32>>, turn: u8, slot: Slot)
+pub(crate) fn link(heads: &mut [u32], older: &mut Vec<u32>, turn: u8, slot: Slot)
     requires some { 0 < length heads.old }
-    requires few { vec_len older.old < 2 ^ 32 }
+    requires few { vec_len older.old + 1 < 2 ^ 32 }
     requires room { vec_len older.old < vec_capacity older.old }
     ensures older { older.new.items ≡ older.old.items ++ newest_of heads.old turn slot ∷ [] }
     ensures capacity { vec_capacity older.old ≤ vec_capacity older.new }
@@ -95,8 +97,7 @@ pub(crate) fn link(heads: &mut [Option<u32>], older: &mut Vec<Option<u32>>, turn
         IsIndex turn dets heads.old older.old.items → IsIndex turn (dets ++ det ∷ []) heads.new older.new.items }
     ensures len { length heads.new ≡ length heads.old }
 {
-    let place = older.len() as u32;
     let head = head_of(heads.len(), turn, slot);
     older.push_reserved(heads[head]);
-    heads[head] = Some(place);
+    heads[head] = older.len() as u32;
 }

@@ -12,24 +12,7 @@
 //! 2. `Log::reserve` makes room for the determinants of the message's batch and for the delivery's own.
 //! 3. Once the process has stepped, `Log::grow` takes both in, in that room, and `Log::carry` keeps what messages carry then.
 //!
-//! # Writing a store
-//!
-//! Implement [`Stable`]. Whoever does owes this, and the check refuses an `impl` that does not keep it:
-//!
-//! - `contents` says which set of determinants a value of the store has, and `faults` how many faults of its device it has
-//!   counted. Callers know the store by these two alone.
-//! - A `put` that is refused leaves the set as it was, also where the device had taken a part. A `put` of a member is no
-//!   fault and changes neither the set nor the count.
-//! - `PutFault::Device` comes with one more counted fault, and only a call that has asked `failures` before may come to a
-//!   count that can't be told: `put` asks its caller for a count below the greatest u64.
-//! - `all` and `least_of` go by ascending determinant.
-//!
-//! Not part of any proof: that the set outlives a crash of the machine, and that `PutFault::NoMemory` comes only where memory
-//! was refused.
-//!
-//! A store that keeps a list of its members, in whatever order, takes `set_of` of the list as its contents; the lemmas of
-//! `proofs/Lemmas/Storing.antt` prove its answers. One that wraps another store passes on that one's contents, and adds its own
-//! faults. `MemStable` is an example of the first, `FailingStore` in `causal_runtime_testing` of the second.
+//! [`Stable`] is what a store of one's own owes; the README tells how to write one.
 #![tactic(auto)]
 
 /// What a message carries.

@@ -1,16 +1,17 @@
 //! What messages will carry once a delivery is taken in, worked out beside the log. What they carry now and what the delivery
 //! tells both ascend, and are passed over together: what is passed on, and what is kept from a place on, is at each step what
 //! messages carry of what was taken in so far.
-ghost use Rattle.std.specs.Prelude.{◌≡◌, ◌≤◌, ◌<◌, ◌+◌, ◌-◌, ◌++◌, ◌||◌, [], true, false, Some, is_some, drop, slice_get, length, IfOk, OnOk, IfSome, IsNone};
+ghost use Rattle.std.specs.Prelude.{◌≡◌, ◌≤◌, ◌<◌, ◌-◌, ◌++◌, true, false, Some, is_some, take, drop, slice_get, length, vec_len, IfOk, OnOk, IfSome, IsNone};
+ghost use Rattle.std.specs.List.{list_all};
 ghost use Rattle.std.specs.Arc.{arc_value};
 ghost use Rattle.std.specs.FinMap as fin;
 ghost use Rattle.causal_name.specs.declared.Det.{Det};
 ghost use Rattle.causal_name.specs.Names.{is_ascending, is_before, same_det};
 ghost use Rattle.causal_log.specs.declared.batch.Item.{Item};
 ghost use Rattle.causal_log.specs.Knowledge.{told, is_carried};
-ghost use Rattle.causal_log.specs.Logs.{LogMap, log_of, chosen, dets_of, names_det, names_holder};
+ghost use Rattle.causal_log.specs.Logs.{LogMap, log_of, chosen, dets_of, names_det};
 ghost use Rattle.causal_log.specs.Inside.Carried.{with_carried, HearsNext};
-ghost use Rattle.causal_log.specs.Inside.Merges.{EndBefore, IsPassed, is_known, source_of, heard_of, taken};
+ghost use Rattle.causal_log.specs.Inside.Merges.{EndBefore, IsPassed, are_known_to_hold, source_of, heard_of, taken};
 
 use crate::batch::{Batch, Item};
 use crate::known::{Known, told};
@@ -42,15 +43,40 @@ impl Delivery<'_> {
     }
 }
 
-/// Whether ascending items name a determinant with this holder.
-fn name_holder(items: &[Item], det: Det, holder: Pid) -> bool
-    ensures { result ≡ true → names_holder det holder.0 items.now ≡ true }
+/// Whether all of these are known to hold a determinant.
+fn are_known_to_hold(entries: &Table, det: Det, holders: Holders) -> bool
+    ensures { result ≡ are_known_to_hold (log_of entries.now.entries) det holders }
 {
-    let place = items.partition_point(|item| item.det.comes_before(&det));
-    match items.get(place) {
-        Some(item) => det == item.det && item.holders.contains(holder.0),
-        None => false,
+    entries
+        .find(det)
+        .is_some_and(|(_, known)| holders.is_subset(known.holders))
+}
+
+/// Whether all that the items tell is known.
+fn are_items_known(delivery: &Delivery<'_>) -> bool
+    ensures { result ≡ list_all (λ item. are_known_to_hold (source_of delivery.now) item.det
+        (told delivery.now.from delivery.now.me item).1.holders) delivery.now.items.now }
+{
+    delivery.items.iter().all(|item| {
+        let heard = told(delivery.from, delivery.me, item);
+        are_known_to_hold(delivery.entries, item.det, heard.holders)
+    })
+}
+
+/// Whether messages that carry this are seen to carry it still after a delivery, as in a replay: all that it tells is known.
+/// Items are looked at only where messages may carry them.
+fn changes_nothing(kept: &[Item], delivery: &Delivery<'_>) -> bool
+    ensures { result ≡ true → kept.now ≡ chosen delivery.now.f (source_of delivery.now) →
+        kept.now ≡ chosen delivery.now.f (taken delivery.now) }
+{
+    if delivery.items.is_empty() && kept.is_empty() && delivery.f == 0 {
+        return true;
     }
+    if !delivery.items.is_empty() && !delivery.may_carry() {
+        return false;
+    }
+    let held = Known::held(delivery.me);
+    are_known_to_hold(delivery.entries, delivery.own, held.holders) && are_items_known(delivery)
 }
 
 /// The place of the first item from a place on that does not come before a determinant.
@@ -90,10 +116,8 @@ fn carry(out: &mut Vec<Item>, det: Det, known: Known, f: u16) -> Result<(), NoMe
     ensures { OnOk result (out.new.items ≡ with_carried f det known out.old.items) }
 {
     if known.is_carried(f) {
-        out.push(Item {
-            det,
-            holders: known.holders,
-        })?;
+        let holders = known.holders;
+        out.push(Item { det, holders })?;
     }
     Ok(())
 }
@@ -116,26 +140,11 @@ fn name(items: &[Item], det: Det) -> bool
     items.iter().any(|item| det == item.det)
 }
 
-/// Whether a determinant is logged, or items name it that were taken in.
-fn is_logged(entries: &Table, named: &[Item], det: Det) -> bool
-    ensures { result ≡ is_known (log_of entries.now.entries) named.now det }
+/// Whether a determinant is logged.
+fn is_logged(entries: &Table, det: Det) -> bool
+    ensures { result ≡ is_some (fin.get (log_of entries.now.entries) det) }
 {
-    entries.find(det).is_some() || name(named, det)
-}
-
-/// Whether messages that carry this are seen to carry it still after a delivery whose message carries nothing: they carry
-/// nothing, and its determinant stays out; or that is carried, and its receiver known to hold it, as in a replay.
-fn changes_nothing(kept: &[Item], delivery: &Delivery<'_>) -> bool
-    ensures { result ≡ true → kept.now ≡ chosen delivery.now.f (source_of delivery.now) →
-        kept.now ≡ chosen delivery.now.f (taken delivery.now) }
-{
-    if !delivery.items.is_empty() {
-        return false;
-    }
-    if kept.is_empty() {
-        return delivery.f == 0 || is_logged(delivery.entries, delivery.items, delivery.own);
-    }
-    name_holder(kept, delivery.own, delivery.me)
+    entries.find(det).is_some()
 }
 
 /// Passes on the determinant of an item: the next one of what is kept, or one that was not logged. Of another one messages carry
@@ -145,7 +154,6 @@ fn meet(
     kept: &[Item],
     place: usize,
     delivery: &Delivery<'_>,
-    named: &[Item],
     item: &Item,
 ) -> Result<usize, NoMemory>
     requires within { place ≤ length kept.now }
@@ -153,7 +161,7 @@ fn meet(
     requires next { IsPassed kept.now place item.now.det }
     ensures within { IfOk result (λ next. next ≤ length kept.now) }
     ensures heard { IfOk result (λ next. (log : LogMap) →
-        is_some (fin.get log item.now.det) ≡ is_known (source_of delivery.now) named.now item.now.det →
+        is_some (fin.get log item.now.det) ≡ is_some (fin.get (source_of delivery.now) item.now.det) →
         HearsNext delivery.now.f item.now.det (told delivery.now.from delivery.now.me item.now).1 log
         (out.old.items ++ drop place kept.now) (out.new.items ++ drop next kept.now)) }
     ensures before { OnOk result
@@ -164,7 +172,7 @@ fn meet(
         carry(out, item.det, next.known().joined(heard), delivery.f)?;
         return Ok(place + 1);
     }
-    if !delivery.may_carry() || is_logged(delivery.entries, named, item.det) {
+    if !delivery.may_carry() || is_logged(delivery.entries, item.det) {
         return Ok(place);
     }
     let heard = told(delivery.from, delivery.me, item);
@@ -178,52 +186,57 @@ fn merged(alloc: Global, kept: &[Item], delivery: &Delivery<'_>) -> Result<Vec<I
     requires ascending { is_ascending (dets_of delivery.now.items.now) ≡ true }
     ensures { IfOk result (λ out. out.items ≡ chosen delivery.now.f (heard_of delivery.now)) }
 {
-    if kept.is_empty() && !delivery.may_carry() {
-        return Ok(Vec::new(alloc));
-    }
     let items = delivery.items;
-    let mut out = Vec::with_capacity(alloc, kept.len())?;
+    let most = kept.len().saturating_add(items.len());
+    let mut out = Vec::with_capacity(alloc, most.saturating_add(1))?;
+    if kept.is_empty() && !delivery.may_carry() {
+        return Ok(out);
+    }
     let mut place = 0;
     for item in items {
         place = pass(&mut out, kept, place, item.det)?;
-        place = meet(&mut out, kept, place, delivery, &[], item)?;
+        place = meet(&mut out, kept, place, delivery, item)?;
     }
     out.extend_from_slice(&kept[place..])?;
     Ok(out)
 }
 
-/// What messages carry once the own determinant is taken in too, which its receiver alone holds.
-fn merged_own(alloc: Global, kept: &[Item], delivery: &Delivery<'_>) -> Result<Vec<Item>, NoMemory>
-    requires { kept.now ≡ chosen delivery.now.f (heard_of delivery.now) }
-    ensures { IfOk result (λ out. out.items ≡ chosen delivery.now.f (taken delivery.now)) }
+/// Puts a determinant of which this is known in at a place, where messages carry it.
+fn carry_at(
+    out: &mut Vec<Item>,
+    place: usize,
+    det: Det,
+    known: Known,
+    f: u16,
+) -> Result<(), NoMemory>
+    requires { place ≤ vec_len out.old }
+    ensures { OnOk result (out.new.items ≡
+        with_carried f det known (take place out.old.items) ++ drop place out.old.items) }
+{
+    if known.is_carried(f) {
+        let holders = known.holders;
+        out.insert(place, Item { det, holders })?;
+    }
+    Ok(())
+}
+
+/// Takes the own determinant in too, which its receiver alone holds.
+fn take_own(out: &mut Vec<Item>, delivery: &Delivery<'_>) -> Result<(), NoMemory>
+    requires { out.old.items ≡ chosen delivery.now.f (heard_of delivery.now) }
+    ensures { OnOk result (out.new.items ≡ chosen delivery.now.f (taken delivery.now)) }
 {
     let det = delivery.own;
-    let holders = Holders::none();
-    let own = Item { det, holders };
-    let from = delivery.me;
-    let held = Delivery { from, ..*delivery };
-    let mut out = Vec::with_capacity(alloc, kept.len().saturating_add(1))?;
-    let next = pass(&mut out, kept, 0, det)?;
-    let place = meet(&mut out, kept, next, &held, delivery.items, &own)?;
-    out.extend_from_slice(&kept[place..])?;
-    Ok(out)
-}
-
-/// What messages carry once a delivery is taken in, where they carry this of the log now.
-fn merged_delivery(
-    alloc: Global,
-    kept: &[Item],
-    delivery: &Delivery<'_>,
-) -> Result<Vec<Item>, NoMemory>
-    requires kept { kept.now ≡ chosen delivery.now.f (source_of delivery.now) }
-    requires ascending { is_ascending (dets_of delivery.now.items.now) ≡ true }
-    ensures { IfOk result (λ out. out.items ≡ chosen delivery.now.f (taken delivery.now)) }
-{
-    if delivery.items.is_empty() {
-        return merged_own(alloc, kept, delivery);
+    let held = Known::held(delivery.me);
+    let items = out.as_slice();
+    let place = end_before(items, 0, det);
+    if let Some(item) = next_of(items, place, det) {
+        out.remove(place);
+        return carry_at(out, place, det, item.known().joined(held), delivery.f);
     }
-    let heard = merged(alloc, kept, delivery)?;
-    merged_own(alloc, heard.as_slice(), delivery)
+    if is_logged(delivery.entries, det) || name(delivery.items, det) {
+        return Ok(());
+    }
+    carry_at(out, place, det, held, delivery.f)
 }
 
 /// The batch of what messages carry once a delivery is taken in, where they carry this one now: this one, where it is seen to
@@ -241,6 +254,8 @@ pub(crate) fn next_batch(
     if changes_nothing(kept, delivery) {
         return Ok(Arc::try_clone(batch)?);
     }
-    let merged = merged_delivery(alloc, kept, delivery)?;
-    Ok(Arc::new(alloc, Batch::new(merged))?)
+    let mut items = merged(alloc, kept, delivery)?;
+    take_own(&mut items, delivery)?;
+    items.shrink_to_fit();
+    Ok(Arc::new(alloc, Batch::new(items))?)
 }

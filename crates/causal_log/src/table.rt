@@ -14,17 +14,14 @@ ghost use Rattle.causal_log.specs.Inside.Indexes.{IsIndex};
 ghost use Rattle.causal_log.specs.Inside.Ranks.{IsLeastOfSlot};
 
 use crate::entries::sort;
-use crate::index::{least_of_slot, link, newest, search};
+use crate::index::{least_of_slot, link, search};
 use crate::known::Known;
 use causal_name::{Det, NoMemory, Slot};
 use std::alloc::Global;
 use std::marker::Model;
 
-/// The fewest heads of a table with entries.
-const FEWEST_HEADS: usize = 2048;
-
-/// For how many entries room is made at least.
-const FEWEST_ENTRIES: usize = 64;
+/// The fewest heads of a table whose heads were crowded.
+const FEWEST_IF_CROWDED: usize = 4096;
 
 /// How far a turn is from the one before: far enough that what shared a head is spread over many.
 const TURN: u8 = 37;
@@ -35,9 +32,9 @@ pub(crate) struct Table {
     entries: Vec<(Det, Known)>,
     /// The determinants of the entries.
     dets: Vec<Det>,
-    heads: Vec<Option<u32>>,
-    /// Of each entry the place of the next older one.
-    older: Vec<Option<u32>>,
+    heads: Vec<u32>,
+    /// Of each entry the number of the next older one.
+    older: Vec<u32>,
     /// In which turn heads are chosen.
     turn: u8,
     /// For how many more there is room.
@@ -163,22 +160,13 @@ impl Table {
         if more > u32::MAX as usize - self.entries.len() {
             return Err(NoMemory);
         }
-        let before = self.dets.capacity();
-        self.dets.reserve(more.max(FEWEST_ENTRIES))?;
+        self.dets.reserve(more)?;
         let room = self.dets.capacity().min(u32::MAX as usize) - self.dets.len();
         self.entries.reserve(room)?;
         self.older.reserve(room)?;
-        // more than half of the entries came to a head that led to another one already
-        let is_crowded = before < self.dets.capacity()
-            && self.older.iter().filter(|place| place.is_some()).count() > self.older.len() / 2;
-        widen(
-            self.entries.as_slice(),
-            &mut self.dets,
-            &mut self.heads,
-            &mut self.older,
-            &mut self.turn,
-            is_crowded,
-        )?;
+        let (dets, count) = (self.dets.as_slice(), self.dets.capacity());
+        let turn = &mut self.turn;
+        widen(dets, &mut self.heads, &mut self.older, turn, count)?;
         self.room = room;
         Ok(())
     }
@@ -213,7 +201,7 @@ impl Table {
         );
         let entries = self.entries.as_slice();
         let heads = self.heads.as_mut_slice();
-        lead(entries, &mut self.dets, heads, &mut self.older, self.turn);
+        list(entries, &mut self.dets, heads, &mut self.older, self.turn);
         (before - self.entries.len()) as u32
     }
 
@@ -227,56 +215,49 @@ impl Table {
         sort(&mut self.entries)?;
         let entries = self.entries.as_slice();
         let heads = self.heads.as_mut_slice();
-        lead(entries, &mut self.dets, heads, &mut self.older, self.turn);
+        list(entries, &mut self.dets, heads, &mut self.older, self.turn);
         Ok(())
     }
 }
 
-/// Makes a power of two of heads, as many as there is room for determinants at least, which lead to some entries as fewer did.
+/// Makes a power of two of heads, so many at least, where there are fewer or they are crowded: then in the next turn.
 fn widen(
-    entries: &[(Det, Known)],
-    dets: &mut Vec<Det>,
-    heads: &mut Vec<Option<u32>>,
-    older: &mut Vec<Option<u32>>,
+    dets: &[Det],
+    heads: &mut Vec<u32>,
+    older: &mut Vec<u32>,
     turn: &mut u8,
-    is_turned: bool,
+    least: usize,
 ) -> Result<(), NoMemory>
-    requires dets { dets.old.items ≡ keys_of entries.now }
-    requires index { IsIndex turn.old dets.old.items heads.old.items older.old.items }
-    requires few { length entries.now < 2 ^ 32 }
-    requires dets_room { length entries.now ≤ vec_capacity dets.old }
-    requires older_room { length entries.now ≤ vec_capacity older.old }
-    ensures dets { dets.new.items ≡ keys_of entries.now }
-    ensures index { IsIndex turn.new dets.new.items heads.new.items older.new.items }
-    ensures ok { OnOk result (vec_capacity dets.old ≤ vec_len heads.new) }
+    requires index { IsIndex turn.old dets.now heads.old.items older.old.items }
+    requires few { length dets.now < 2 ^ 32 }
+    requires fewer { length dets.now ≤ least }
+    requires room { length dets.now ≤ vec_capacity older.old }
+    ensures index { IsIndex turn.new dets.now heads.new.items older.new.items }
+    ensures ok { OnOk result (least ≤ vec_len heads.new) }
     ensures len { vec_len heads.old ≤ vec_len heads.new }
-    ensures dets_capacity { vec_capacity dets.old ≤ vec_capacity dets.new }
     ensures capacity { vec_capacity older.old ≤ vec_capacity older.new }
 {
-    let least = dets.capacity().max(heads.len());
-    if least == heads.len() && !is_turned {
+    // more than half of the entries came to a head that led to another one already
+    let is_crowded = older.iter().filter(|number| **number > 0).count() > older.len() / 2;
+    if least <= heads.len() && !is_crowded {
         return Ok(());
     }
-    let is_first = heads.is_empty();
-    let count = least.max(FEWEST_HEADS).checked_next_power_of_two();
-    heads.resize(count.ok_or(NoMemory)?, None)?;
-    // the first heads lead nowhere
-    if is_first && entries.is_empty() {
-        return Ok(());
-    }
-    if is_turned {
+    let fewest = if is_crowded { FEWEST_IF_CROWDED } else { 0 };
+    let count = least.max(heads.len()).max(fewest);
+    heads.resize(count.checked_next_power_of_two().ok_or(NoMemory)?, 0)?;
+    if is_crowded {
         *turn = turn.wrapping_add(TURN);
     }
-    lead(entries, dets, heads.as_mut_slice(), older, *turn);
+    lead(dets, heads.as_mut_slice(), older, *turn);
     Ok(())
 }
 
-/// Makes the index of some entries anew, in room that there is.
-fn lead(
+/// Lists the determinants of some entries anew, and leads heads to them, in room that there is.
+fn list(
     entries: &[(Det, Known)],
     dets: &mut Vec<Det>,
-    heads: &mut [Option<u32>],
-    older: &mut Vec<Option<u32>>,
+    heads: &mut [u32],
+    older: &mut Vec<u32>,
     turn: u8,
 )
     requires some { 0 < length entries.now → 0 < length heads.old }
@@ -290,10 +271,24 @@ fn lead(
     ensures capacity { vec_capacity older.old ≤ vec_capacity older.new }
 {
     dets.clear();
-    older.clear();
-    heads.fill(None);
     for (det, _) in entries {
-        link(heads, older, turn, det.slot());
         dets.push_reserved(*det);
+    }
+    lead(dets.as_slice(), heads, older, turn);
+}
+
+/// Leads heads to some determinants anew, in room that there is.
+fn lead(dets: &[Det], heads: &mut [u32], older: &mut Vec<u32>, turn: u8)
+    requires some { 0 < length dets.now → 0 < length heads.old }
+    requires few { length dets.now < 2 ^ 32 }
+    requires room { length dets.now ≤ vec_capacity older.old }
+    ensures index { IsIndex turn dets.now heads.new older.new.items }
+    ensures len { length heads.new ≡ length heads.old }
+    ensures capacity { vec_capacity older.old ≤ vec_capacity older.new }
+{
+    older.clear();
+    heads.fill(0);
+    for det in dets {
+        link(heads, older, turn, det.slot());
     }
 }

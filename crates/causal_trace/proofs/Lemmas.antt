@@ -6,4 +6,3 @@ pub mod DependenceSteps
 pub mod EntryFacts
 pub mod WellFormed
 pub mod CountBounds
-pub mod HappensBefore

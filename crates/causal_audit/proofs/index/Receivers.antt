@@ -3,7 +3,7 @@ use Rattle.causal_audit.proofs.Common.{ℕ, ◌≡◌, ◌<◌, ◌≤◌, inl, 
 use Rattle.causal_name.specs.declared.MsgName.{MsgName}
 use Rattle.causal_audit.specs.Laws.{gone}
 use Rattle.causal_audit.specs.Spread.{StaysAlone, CoveredHasNone, StaysUntil, CrashedHasNone}
-use Rattle.causal_trace.proofs.Lemmas.HappensBefore.{event_once}
+use Rattle.causal_trace.proofs.Lemmas.DependenceSteps.{event_once}
 use Rattle.causal_audit.proofs.Lemmas.OrphansByCounts.{exposed}
 use Rattle.causal_audit.proofs.Legal.{delivery_event, sent_is}
 use Rattle.causal_audit.proofs.NoOrphanSoFar.{not_yet}

@@ -1,14 +1,16 @@
 -- How far the items of a message were taken in, as what messages carry is worked out.
-use Rattle.std.specs.Prelude.{◌≡◌, ◌||◌, ℕ, Bool, List, ◌∷◌, [], ◌++◌, true, false, is_some, slice_get}
+use Rattle.std.specs.Prelude.{◌≡◌, ℕ, Bool, List, ◌∷◌, [], ◌++◌, true, false, slice_get}
 use Rattle.std.specs.List.{list_any}
-use Rattle.std.specs.Option.{IfSome}
+use Rattle.std.specs.Option.{IfSome, option_map_or}
+use Rattle.std.specs.Ordering.{nat_cmp}
 use Rattle.std.specs.FinMap as fin
+use Rattle.std.specs.FinSet as set
 use Rattle.causal_name.specs.declared.Det.{Det}
 use Rattle.causal_name.specs.declared.Pid.{Pid}
 use Rattle.causal_name.specs.Names.{same_det, is_ascending, is_before}
 use Rattle.causal_log.specs.declared.batch.Item.{Item}
 use Rattle.causal_log.specs.declared.merging.Delivery.{Delivery}
-use Rattle.causal_log.specs.Logs.{LogMap, log_of, absorbed, grown, chosen, dets_of, names_det}
+use Rattle.causal_log.specs.Logs.{LogMap, log_of, absorbed, grown, chosen, dets_of}
 
 -- what is known before a delivery, once its items are taken in, and once it is
 abbrev pub source_of : Delivery → LogMap
@@ -20,9 +22,9 @@ heard_of d = absorbed d.items.now d.from d.me (source_of d)
 abbrev pub taken : Delivery → LogMap
 taken d = grown d.items.now d.own d.from d.me (source_of d)
 
--- whether a determinant is logged, or these items name it
-abbrev pub is_known : LogMap → List Item → Det → Bool
-is_known log items det = is_some (fin.get log det) || names_det det items
+-- whether all of these are known to hold a determinant
+abbrev pub are_known_to_hold : LogMap → Det → set.FinSet nat_cmp → Bool
+are_known_to_hold log det holders = option_map_or (λ known. set.is_subset holders known.holders) (fin.get log det) false
 
 -- items ascend, and come before a determinant
 abbrev pub EndBefore : List Item → Det → Type 0

@@ -1,5 +1,5 @@
 -- Entries of determinants in the order in which they came.
-use Rattle.std.specs.Prelude.{◌≡◌, ℕ, ◌+◌, ◌<◌, ◌≤◌, ◌^◌, List, Option, length, refl}
+use Rattle.std.specs.Prelude.{◌≡◌, ℕ, ◌+◌, ◌<◌, ◌≤◌, ◌^◌, List, length, refl}
 use Rattle.std.specs.Coded.{Coded, code_by, coded×, coded_list, coded_ℕ}
 use Rattle.causal_log.specs.Knowledge.{coded_det, coded_known}
 use Rattle.std.specs.List.{IsDistinct}
@@ -19,7 +19,7 @@ coded_table =
     (λ t. (t.entries, t.spare)) (λ p. record { entries = p.0; spare = p.1 }) (λ _. refl)
 
 -- how the entries are kept: one of each determinant, each of which its head leads to, with room for some more
-pub record IsTable (dets standing : List Det) (heads older : List (Option ℕ)) (turn room dets_room entries_room older_room : ℕ) : Type 0 where
+pub record IsTable (dets standing : List Det) (heads older : List ℕ) (turn room dets_room entries_room older_room : ℕ) : Type 0 where
   pub keys : dets ≡ standing
   pub distinct : IsDistinct same_det dets
   pub index : IsIndex turn dets heads older

@@ -12,6 +12,16 @@ event_below [] i p l h = absurd h
 event_below (e ∷ past) i p l (inl h) = omega (arith, event_below past i p l h)
 event_below (e ∷ past) i p l (inr h) = omega (arith, h.0)
 
+-- an event of one lane is of no other
+pub event_once : (past : List Entry) (i p l q m : ℕ) → IsEventOf past i p l → IsEventOf past i q m → (p ≡ q) × (l ≡ m)
+event_once [] i p l q m a b = absurd a
+event_once (e ∷ past) i p l q m (inl a) (inl b) = event_once past i p l q m a b
+event_once (e ∷ past) i p l q m (inl a) (inr b) = absurd (omega (arith, event_below past i p l a, b.0))
+event_once (e ∷ past) i p l q m (inr a) (inl b) = absurd (omega (arith, event_below past i q m b, a.0))
+event_once (e ∷ past) i p l q m (inr a) (inr b) =
+    let same : p ≡ q = let x : Some p ≡ Some q = sym a.1 ∙ b.1 in cc in
+    (same, sym a.2 ∙ ap (lane past) same ∙ b.2)
+
 lane_grows : (e : Entry) (past : List Entry) (p : ℕ) → lane past p ≤ lane (e ∷ past) p
 lane_grows (Send from to ssn) past p = omega arith
 lane_grows (Deliver to send rsn listed) past p = omega arith

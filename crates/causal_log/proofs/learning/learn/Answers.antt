@@ -5,11 +5,6 @@ use Rattle.causal_log.specs.Logs.{log_of}
 use Rattle.causal_log.proofs.KnownLemmas.{joined_nothing}
 use Rattle.causal_log.proofs.learning.learn.Goals as goal
 
-pub returns-in-Some-clause-learned : goal.returns-in-Some-clause-learned
-returns-in-Some-clause-learned c =
-    c.join.ensures.put c.args.det _ c.in-Some.ensures.place
-    ∙ ap (λ o. fin.insert (log_of c.args.entries.now.entries) c.args.det (joined (unwrap_or o nothing_known) c.args.heard)) c.in-Some.ensures.known
-
 pub returns-in-None-clause-learned : goal.returns-in-None-clause-learned
 returns-in-None-clause-learned c =
     c.add.ensures.put

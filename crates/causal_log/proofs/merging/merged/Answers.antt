@@ -68,5 +68,5 @@ pub returns-then-not-may_carry : goal.returns-then-not-may_carry
 returns-then-not-may_carry c =
     let d = c.args.delivery.now in
     let none : c.args.kept.now ≡ [] = nil_from_length c.args.kept.now (eqb-true (length c.args.kept.now) 0 (sym c.is_empty.ensures ∙ c.if-is_empty.true)) in
-    c.new.ensures.items
+    c.in_ok-out.ensures.items
     ∙ none_carried d.f d.from d.me d.items.now (source_of d) (c.may_carry.ensures c.if-not-may_carry.true) (sym none ∙ c.requires.kept)

@@ -5,4 +5,4 @@ use Rattle.causal_log.proofs.Lemmas.ChosenLemmas.{chosen_ascend}
 use Rattle.causal_log.proofs.merging.next_batch.Goals as goal
 
 pub new-requires : goal.new-requires
-new-requires c = ap (λ xs. is_ascending (dets_of xs)) c.in_ok-merged.ensures ∙ chosen_ascend c.args.delivery.now.f _
+new-requires c = ap (λ xs. is_ascending (dets_of xs)) (c.shrink_to_fit.ensures.items ∙ c.in_ok-take_own.ensures) ∙ chosen_ascend c.args.delivery.now.f _

@@ -1,24 +1,21 @@
-use Rattle.std.proofs.Common.{◌∙◌, ◌++◌, ◌∷◌, [], length, ap, sym, subst, arith}
-use Rattle.std.proofs.lemmas.List.{length_push}
+use Rattle.std.proofs.Common.{◌∙◌, length, ap, subst, arith}
+use Rattle.std.proofs.lemmas.List.{length_push, take_all}
 use Rattle.causal_log.specs.Inside.Indexes.{newest_of, IsIndex}
-use Rattle.causal_log.proofs.TableLemmas.{take_key}
+use Rattle.causal_log.proofs.TableLemmas.{one_further}
 use Rattle.causal_log.proofs.table.lead.Goals as goal
 
 pub loop-det-preserved : goal.loop-det-preserved
 loop-det-preserved c =
     let before = c.loop-det.invariant in
-    let x = c.loop-det-item.result in
-    let pushed = c.push_reserved.ensures.items in
-    let len = ap length pushed ∙ length_push c.loop-det.dets.items x.0 in
     let older = ap length c.link.ensures.older ∙ length_push c.loop-det.older.items (newest_of c.loop-det.heads c.args.turn c.slot.result) in
     record {
-      keys = pushed ∙ ap (λ ds. ds ++ x.0 ∷ []) before.keys ∙ sym (take_key c.args.entries.now c.loop-det.det-index x c.loop-det-test.true c.loop-det-item.is);
-      len = omega (arith, len, before.len);
       older_len = omega (arith, older, before.older_len, c.loop-det.older.ok.0, c.link.new.older.ok.0);
-      index = subst (λ ds. IsIndex c.args.turn ds c.link.new.heads c.link.new.older.items) (sym pushed) (c.link.ensures.index x.0 (sym c.slot.ensures) c.loop-det.dets.items before.index);
+      index = one_further c.args.turn c.args.dets.now c.loop-det.det-index _ c.slot.result c.loop-det.heads c.loop-det.older.items c.link.new.heads c.link.new.older.items c.loop-det-test.true c.slot.ensures c.link.ensures.index before.index;
       heads_len = c.link.ensures.len ∙ before.heads_len;
-      room = omega (arith, before.room, c.push_reserved.ensures.capacity);
-      older_room = omega (arith, before.older_room, c.link.ensures.capacity);
-      dets_kept = omega (arith, before.dets_kept, c.push_reserved.ensures.capacity);
+      room = omega (arith, before.room, c.link.ensures.capacity);
       older_kept = omega (arith, before.older_kept, c.link.ensures.capacity);
     }
+
+pub returns-clause-index : goal.returns-clause-index
+returns-clause-index c =
+    subst (λ ds. IsIndex c.args.turn ds c.loop-det.heads c.loop-det.older.items) (take_all c.loop-det.det-index c.args.dets.now (omega (arith, c.loop-det-test.false))) c.loop-det.invariant.index

@@ -9,6 +9,3 @@ returns-clause-counted c = λ test.
     ap (count_by test) c.dets.ensures.dets
     ∙ same_counted c.self.inside.entries.entries c.dets.ensures.distinct test
     ∙ ap (λ log. count_by test (fin.keys log.map)) c.self.view_is
-
-pub returns-clause-few : goal.returns-clause-few
-returns-clause-few c = omega (arith, ap length c.dets.ensures.dets, length-keys_of c.self.inside.entries.entries, c.dets.ensures.few)

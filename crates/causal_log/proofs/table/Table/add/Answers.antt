@@ -48,7 +48,3 @@ returns-clause-put c =
     ap log_of c.push_reserved-2.ensures.items
     ∙ inserted es (es ++ (c.args.det, c.args.known) ∷ []) c.args.det c.args.known (lookup_push es c.args.det c.args.known none)
     ∙ ap (λ t. fin.insert (log_of t.entries) c.args.det c.args.known) c.self.view_is
-
-pub returns-clause-keys : goal.returns-clause-keys
-returns-clause-keys c =
-    ap keys_of c.push_reserved-2.ensures.items ∙ keys_push c.self.inside.entries.items c.args.det c.args.known ∙ ap (λ t. keys_of t.entries ++ c.args.det ∷ []) c.self.view_is

@@ -21,24 +21,24 @@ apart c =
 pub invariant_of-self : goal.invariant_of-self
 invariant_of-self c =
     let before = c.self.inside in
-    let keys = c.lead.ensures.dets ∙ ap keys_of c.as_slice-entries.ensures.value in
+    let keys = c.list.ensures.dets ∙ ap keys_of c.as_slice-entries.ensures.value in
     let after = ap length keys ∙ length-keys_of c.retain.new.self.items in
     let same = ap length c.self.invariant.keys ∙ length-keys_of before.entries.items in
     let old = before.entries.ok.0 in
     let new = c.retain.new.self.ok.0 in
     let heads = ap length c.as_mut_slice-heads.ensures.value in
-    let written = take_whole c.lead.new.heads (drop (length c.lead.new.heads) before.heads.items) before.heads.len (omega (arith, heads, c.lead.ensures.len, before.heads.ok.0)) in
+    let written = take_whole c.list.new.heads (drop (length c.list.new.heads) before.heads.items) before.heads.len (omega (arith, heads, c.list.ensures.len, before.heads.ok.0)) in
     record {
       keys = keys;
       distinct = subst (IsDistinct same_det) (sym keys) (apart (goal.at.invariant_of-self c).After-retain);
-      index = subst (λ hs. IsIndex before.turn c.lead.new.dets.items hs c.lead.new.older.items) (sym written) c.lead.ensures.index;
+      index = subst (λ hs. IsIndex before.turn c.list.new.dets.items hs c.list.new.older.items) (sym written) c.list.ensures.index;
       few = omega (arith, after, same, old, new, c.retain.ensures.bound, c.self.invariant.few);
-      dets_fit = omega (arith, after, same, old, new, c.retain.ensures.bound, c.self.invariant.dets_fit, c.lead.ensures.dets_capacity);
+      dets_fit = omega (arith, after, same, old, new, c.retain.ensures.bound, c.self.invariant.dets_fit, c.list.ensures.dets_capacity);
       entries_fit = omega (arith, after, same, old, new, c.retain.ensures.bound, c.self.invariant.entries_fit, c.retain.ensures.capacity);
-      older_fit = omega (arith, after, same, old, new, c.retain.ensures.bound, c.self.invariant.older_fit, c.lead.ensures.capacity);
+      older_fit = omega (arith, after, same, old, new, c.retain.ensures.bound, c.self.invariant.older_fit, c.list.ensures.capacity);
       heads_fit =
-          subst (λ hs. length c.lead.new.dets.items + before.room ≤ length hs) (sym written)
-          (omega (arith, after, same, old, new, heads, c.retain.ensures.bound, c.self.invariant.heads_fit, c.lead.ensures.len));
+          subst (λ hs. length c.list.new.dets.items + before.room ≤ length hs) (sym written)
+          (omega (arith, after, same, old, new, heads, c.retain.ensures.bound, c.self.invariant.heads_fit, c.list.ensures.len));
     }
 
 pub returns-clause-left : goal.returns-clause-left

@@ -1,4 +1,4 @@
-use Rattle.std.proofs.Common.{◌∙◌, [], None, get_or, length, ap, sym, subst, arith}
+use Rattle.std.proofs.Common.{◌∙◌, [], get_or, length, ap, sym, subst, arith}
 use Rattle.std.specs.List.{IsDistinct}
 use Rattle.std.specs.Map.{keys_of}
 use Rattle.causal_name.specs.Names.{same_det}
@@ -15,7 +15,7 @@ invariant_of-result c =
       distinct = subst (IsDistinct same_det) (sym c.new-2.ensures.items) none_distinct;
       index =
           subst (λ ds. IsIndex 0 ds c.new-3.result.items c.new-4.result.items) (sym c.new-2.ensures.items)
-          (subst (IsIndex 0 [] c.new-3.result.items) (sym c.new-4.ensures.items) (no_index 0 c.new-3.result.items (λ h. ap (λ hs. get_or hs h None) c.new-3.ensures.items)));
+          (subst (IsIndex 0 [] c.new-3.result.items) (sym c.new-4.ensures.items) (no_index 0 c.new-3.result.items (λ h. ap (λ hs. get_or hs h 0) c.new-3.ensures.items)));
       few = omega (arith, none);
       dets_fit = omega (arith, none);
       entries_fit = omega (arith, none);
