@@ -44,7 +44,6 @@ mod delivery_state;
 pub use audit::{horizon_in, least_by, verdict_of};
 pub use breach::{Breach, Excess, earlier};
 pub use excess::{deciding_in, first_excess_in};
-pub use group::walk::GROUP;
 pub use judging::{decided, first_breach, first_excess, judge};
 pub use prepared::{Part, Prepared};
 pub use tables::Tables;

@@ -5,6 +5,7 @@ ghost use Rattle.causal_audit.specs.Parts.{AreEnough, LeastOf, part_of};
 use crate::breach::Breach;
 use crate::group::ordered::put_in_order;
 use crate::group::run_to_follow::{OpenDelivery, RunToFollow};
+use crate::group::walk::GROUP;
 use crate::index::crashes_and_restarts::CrashesAndRestarts;
 use crate::index::mentions::{Mentions, mentions_in};
 use crate::index::outline::Outline;
@@ -80,12 +81,18 @@ impl Prepared {
         self.opened.len()
     }
 
-    /// For how many entries the delivery of a place is open: about as many a walk goes over that begins with it. 0 where there is none.
-    pub fn open_for(&self, place: usize) -> u32 {
-        match self.opened.get(place) {
-            Some(delivery) => delivery.until.saturating_sub(delivery.position),
-            None => 0,
+    /// Where a share of them ends that begins at place `from`: with a group, so that the walks that are left are divided about evenly
+    /// among so many workers. A walk goes over about as many entries as its first delivery is open for.
+    pub fn share_end(&self, from: usize, workers: u32) -> usize
+        requires { (from ≤ length self.now.positions) × (1 ≤ workers) }
+        ensures within { (from ≤ result) × (result ≤ length self.now.positions) }
+        ensures last { workers ≡ 1 → result ≡ length self.now.positions }
+    {
+        if workers == 1 {
+            return self.opened.len();
         }
+        let share = entries_walked(&self.opened[from..]) / u64::from(workers);
+        from + groups_walking(&self.opened[from..], share)
     }
 
     /// Those of them from place `from` on and below place `to`. The trace is the one that was prepared.
@@ -110,6 +117,37 @@ impl Prepared {
             opened: &self.opened[from..to],
         }
     }
+}
+
+/// About how many entries the walk goes over that begins with these deliveries.
+fn walk_of(group: &[OpenDelivery]) -> u64 {
+    match group.first() {
+        Some(delivery) => u64::from(delivery.until.saturating_sub(delivery.position)),
+        None => 0,
+    }
+}
+
+/// About how many entries the walks go over that follow these deliveries.
+fn entries_walked(opened: &[OpenDelivery]) -> u64 {
+    let mut walked: u64 = 0;
+    for group in opened.chunks(GROUP) {
+        walked = walked.saturating_add(walk_of(group));
+    }
+    walked
+}
+
+/// How many deliveries the first groups have whose walks go over so many entries.
+fn groups_walking(opened: &[OpenDelivery], share: u64) -> usize
+    ensures { result ≤ length opened.now }
+{
+    let mut walked: u64 = 0;
+    for (number, group) in opened.chunks(GROUP).enumerate() {
+        if walked >= share {
+            return opened.len().min(number.saturating_mul(GROUP));
+        }
+        walked = walked.saturating_add(walk_of(group));
+    }
+    opened.len()
 }
 
 /// Some of the deliveries of a prepared run that are followed. It is seen as these deliveries.

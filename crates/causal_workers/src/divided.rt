@@ -8,9 +8,7 @@ ghost use Rattle.causal_workers.specs.Inside.Shares.{Covers, FollowsAfter, IsFir
 
 use crate::gate::Gate;
 use crate::share::{Answer, Share, Started};
-use causal_audit::{
-    Breach, GROUP, Prepared, Verdict, decided, earlier, first_excess_in, horizon_in,
-};
+use causal_audit::{Breach, Prepared, Verdict, decided, earlier, first_excess_in, horizon_in};
 use causal_name::NoMemory;
 use causal_trace::trace::Trace;
 use std::alloc::Global;
@@ -117,7 +115,7 @@ fn least_in<'s, 't: 's, 'g: 's, E, G: Gate + Sync, R: Threads>(
     let own = Share {
         prepared,
         from: 0,
-        to: share_end(prepared, 0, workers),
+        to: prepared.share_end(0, workers),
     };
     if !all_started(scope, &mut started, alloc, trace, own, workers, gate) {
         join_all(rt, started);
@@ -148,7 +146,7 @@ fn all_started<'s, 't: 's, 'g: 's, E, G: Gate + Sync>(
     let Share { prepared, .. } = own;
     let mut from = own.to;
     for worker in 1..workers {
-        let to = share_end(prepared, from, workers - worker);
+        let to = prepared.share_end(from, workers - worker);
         let share = Share { prepared, from, to };
         let work = move || -> Answer
             requires same { trace.now.recording ≡ share.prepared.now.run }
@@ -165,39 +163,6 @@ fn all_started<'s, 't: 's, 'g: 's, E, G: Gate + Sync>(
         from = to;
     }
     true
-}
-
-/// About how many entries the walks go over that follow the deliveries from a place on.
-fn entries_walked(prepared: &Prepared, from: usize) -> u64 {
-    let mut walked: u64 = 0;
-    for group in from / GROUP..prepared.followed().div_ceil(GROUP) {
-        let place = group.saturating_mul(GROUP);
-        walked = walked.saturating_add(u64::from(prepared.open_for(place)));
-    }
-    walked
-}
-
-/// Where the share ends that begins at `from`: with a group, so that the walks that are left are divided evenly among the workers that
-/// are left.
-fn share_end(prepared: &Prepared, from: usize, left: u32) -> usize
-    requires { (from ≤ length prepared.now.positions) × (1 ≤ left) }
-    ensures within { (from ≤ result) × (result ≤ length prepared.now.positions) }
-    ensures last { left ≡ 1 → result ≡ length prepared.now.positions }
-{
-    let all = prepared.followed();
-    if left == 1 {
-        return all;
-    }
-    let share = entries_walked(prepared, from) / u64::from(left);
-    let mut walked: u64 = 0;
-    for group in from / GROUP..all.div_ceil(GROUP) {
-        let place = all.min(group.saturating_mul(GROUP));
-        if walked >= share {
-            return from.max(place);
-        }
-        walked = walked.saturating_add(u64::from(prepared.open_for(place)));
-    }
-    all
 }
 
 /// The one of two answers that comes first, where memory sufficed for both.
