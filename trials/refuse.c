@@ -5,6 +5,7 @@
    REFUSE_SPAN   how many calls in a row fail, 1 where nothing is said
    REFUSE_ALL    1: all calls from that one on fail
    REFUSE_ERROR  for read and write: the error's number; 0 makes a write take no byte
+   REFUSE_STEP   how many bytes a read gives and a write takes at most; 0 or nothing: as many as are asked for
    REFUSE_COUNT  a file into which the number of calls is written at the end
 
    Calls are counted from the time at which the library is loaded; reads are those of standard input, writes those to standard
@@ -22,7 +23,7 @@
 #include <unistd.h>
 
 static const char *kind = "";
-static long at, span = 1, all, error;
+static long at, span = 1, all, error, step;
 static atomic_long calls;
 
 __attribute__((constructor)) static void begin(void) {
@@ -32,6 +33,7 @@ __attribute__((constructor)) static void begin(void) {
     if ((said = getenv("REFUSE_SPAN"))) span = strtol(said, NULL, 10);
     if ((said = getenv("REFUSE_ALL"))) all = strtol(said, NULL, 10);
     if ((said = getenv("REFUSE_ERROR"))) error = strtol(said, NULL, 10);
+    if ((said = getenv("REFUSE_STEP"))) step = strtol(said, NULL, 10);
 }
 
 static void tell(void) {
@@ -79,9 +81,11 @@ int pthread_create(pthread_t *thread, const pthread_attr_t *attributes, void *(*
     return real(thread, attributes, body, argument);
 }
 
+static size_t at_most(size_t size) { return step && size > (size_t)step ? (size_t)step : size; }
+
 ssize_t read(int file, void *into, size_t size) {
     if (file == 0 && fails("read")) { errno = (int)error; return -1; }
-    return syscall(SYS_read, file, into, size);
+    return syscall(SYS_read, file, into, file == 0 ? at_most(size) : size);
 }
 
 static ssize_t put(int file, const void *from, size_t size) {
@@ -90,7 +94,7 @@ static ssize_t put(int file, const void *from, size_t size) {
         errno = (int)error;
         return -1;
     }
-    return syscall(SYS_write, file, from, size);
+    return syscall(SYS_write, file, from, file == 1 ? at_most(size) : size);
 }
 
 ssize_t write(int file, const void *from, size_t size) { return put(file, from, size); }

@@ -1,11 +1,12 @@
 #!/usr/bin/env python3
 """Runs the built program with each allocation, each thread start, each read and each write refused in turn, one alone
-and all from the k-th on, and says what was wrong. The calls are refused by a small library that is preloaded; it is built
-from refuse.c with the machine's C compiler.
+and all from the k-th on, and says what was wrong. Some runs have streams that give and take a byte at a time, with each call
+refused. The calls are refused by a small library that is preloaded; it is built from refuse.c with the machine's C compiler.
 
     trials/refuse.py [--program PATH] [--seconds N]
 
-Each growth alone comes first; what is left when the seconds are over is counted, and not tried.
+Each growth alone comes first, and then each call of the streams of single bytes; what is left when the seconds are over is
+counted, and not tried.
 """
 import argparse
 import concurrent.futures
@@ -56,6 +57,7 @@ RUNS = [
     ("run, a replay", ["run"], REPLAY, 0),
     ("run, flushes", ["run"], FLUSHES, 0),
     ("run, a refused command", ["run"], REPLAY + "crash 9\n", 2),
+    ("run of a text that is no script", ["run"], "start\n", 2),
     ("help", ["--help"], "", 0),
     ("words that ask for nothing", ["audit"], "", 3),
 ]
@@ -70,6 +72,23 @@ TROUBLE = {
 MANY_WORKERS = {"memory": (5, ("no memory\n", "no worker\n"))}
 # the errors with which a read and a write fail; a write may also take no byte
 STREAMS = [("read", (errno.EIO, errno.EINTR)), ("write", (errno.EIO, errno.EINTR, 0))]
+# runs whose streams give and take a byte at a time as well
+BY_BYTES = (
+    "audit, one worker",
+    "audit of a text with a fault",
+    "explain, an accepted trace",
+    "merge, with a torn line",
+    "merge of recordings with a fault",
+    "run, a replay",
+    "run, a refused command",
+    "run of a text that is no script",
+)
+# texts whose fault is told before a further read is asked for: that of a whole line, and that of the first byte after the end line;
+# each with the bytes that a read gives, and the answer
+AT_ONCE = [
+    ('["trace",1,2]\n["send",0,1,1]\n', 4096, "fault line=2 WrongSsn\n"),
+    ('["trace",1,1]\n["end",0]\n ', 1, "fault line=3 After\n"),
+]
 # the run and the error after which std's printing makes the call again
 MADE_AGAIN = ("help", errno.EINTR)
 
@@ -98,15 +117,21 @@ class Tries:
         )
         return ended.returncode, ended.stdout.decode(), ended.stderr.decode()
 
-    def calls(self, words, text, kind):
-        self.once(words, text, kind=kind, at=0)
+    def calls(self, words, text, kind, step=0, plain=None):
+        """How many calls of a kind an undisturbed run makes."""
+        got = self.once(words, text, kind=kind, at=0, step=step)
+        if plain and got != plain:
+            self.wrong.append(("undisturbed", words, kind, step, got))
         with open(os.path.join(self.folder, f"count{threading.get_ident()}")) as file:
             return int(file.read())
 
     def each(self, pool, run, plain, kind, every, **refuse):
         """Every call of a kind, alone or with all after it."""
-        name, words, text, _ = run
-        ats = range(1, min(self.calls(words, text, kind), MOST) + 1)
+        name, words, text, status = run
+        step = refuse.get("step", 0)
+        ats = range(1, min(self.calls(words, text, kind, step, plain), MOST) + 1)
+        if step and kind == "read" and not status and len(ats) != len(text) + 1:
+            self.wrong.append((name, kind, f"{len(ats)} calls for {len(text)} bytes and their end"))
         is_made_again = (name, refuse.get("error")) == MADE_AGAIN and not every
         trouble = {**TROUBLE, **MANY_WORKERS} if "--workers" in words else TROUBLE
 
@@ -122,7 +147,8 @@ class Tries:
             self.tried += 1
             self.survived += got == plain
             reason = reason_of(words, refuse.get("error"))
-            if not is_refusal(got, plain, kind, trouble[kind], reason, is_made_again):
+            is_whole = not step or kind != "write" or got[1] == plain[1][: at - 1]
+            if not is_whole or not is_refusal(got, plain, kind, trouble[kind], reason, is_made_again):
                 self.wrong.append((name, kind, at, every, refuse, got))
 
 
@@ -148,10 +174,16 @@ def is_refusal(got, plain, kind, trouble, reason, is_made_again):
 
 
 def passes():
-    """What is refused, in the order in which it is tried: each growth alone before anything else."""
+    """What is refused, in the order in which it is tried: each growth alone, and then each call of streams of single bytes, before
+    anything else."""
     streams = [(kind, error) for kind, errors in STREAMS for error in errors]
+    yield "memory", 0, {}
+    for kind, error in streams:
+        if error != errno.EINTR:
+            yield kind, 0, {"error": error, "step": 1}
     for every in (0, 1):
-        yield "memory", every, {}
+        if every:
+            yield "memory", every, {}
         yield "thread", every, {}
         for kind, error in streams:
             yield kind, every, {"error": error}
@@ -169,13 +201,19 @@ def main():
             plain[name] = tries.once(said, text, kind="none")
             if plain[name][0] != status:
                 tries.wrong.append((name, "undisturbed", plain[name]))
-        untried_growths = 0
+        for text, step, line in AT_ONCE:
+            audit, reads = ["audit", "--faults", "1"], -(-len(text) // step)
+            told = tries.once(audit, text, kind="read", at=reads + 1, error=errno.EIO, step=step)
+            if told[:2] != (2, line) or tries.calls(audit, text, "read", step) != reads:
+                tries.wrong.append(("a fault that is told at once", text, told))
+        untried = 0
         for kind, every, refuse in passes():
             before = tries.tried
             for run in RUNS:
-                tries.each(pool, run, plain[run[0]], kind, every, **refuse)
-            if kind == "memory" and not every:
-                untried_growths = tries.left
+                if "step" not in refuse or run[0] in BY_BYTES:
+                    tries.each(pool, run, plain[run[0]], kind, every, **refuse)
+            if (kind == "memory" and not every) or "step" in refuse:
+                untried = tries.left
                 if tries.tried + tries.left == 0:
                     tries.wrong.append(("no run", "asked for memory that this library sees"))
             print(f"{tries.tried - before:7} tries: {kind}{' from there on' if every else ''} {refuse or ''}", flush=True)
@@ -183,8 +221,8 @@ def main():
         print("WRONG", *row)
     print(f"{tries.tried} tries, {tries.survived} of them survived with the answer of an undisturbed run, {len(tries.wrong)} wrong")
     if tries.left:
-        print(f"{tries.left} were not tried, for want of time; {untried_growths} of these refuse one growth")
-    sys.exit(1 if tries.wrong or untried_growths else 0)
+        print(f"{tries.left} were not tried, for want of time; {untried} of these refuse one growth, or a call of a stream of single bytes")
+    sys.exit(1 if tries.wrong or untried else 0)
 
 
 if __name__ == "__main__":

@@ -164,12 +164,26 @@ def listing_rows():
     yield accepted("as many determinants as may be", trace(2, 2, full, forget(1)), "accept f=0 entries=3072 deliveries=1024")
 
 
-def faulty(name, text, fault, **more):
-    return given(name, "audit --faults 0", text, 2, f"fault line={fault}\n", **more)
+def asked_limits():
+    """Texts as long as a limit lets pass that is asked for, and those beyond: N entries and 512 N bytes."""
+    for n in (1, 2, ENTRIES, ENTRIES + 1):
+        sends = [send(0, 0, k) for k in range(n + 1)]
+        text, more = trace(1, 1, sends[:n]), trace(1, 1, sends)
+        yield accepted(f"{n} of {n} entries", text, f"accept f=0 entries={n} deliveries=0", f" --entries {n}")
+        yield accepted(f"{n + 1} of {n + 1} entries", more, f"accept f=0 entries={n + 1} deliveries=0", f" --entries {n + 1}")
+        yield faulty(f"{n + 1} entries, of which {n} may be", more, f"{n + 2} TooLong", f" --entries {n}")
+    for n in (1, 2, ENTRIES + 1):
+        padded = texts.EMPTY[:-1].ljust(512 * n)
+        yield accepted(f"as many bytes as for {n} entries", padded, "accept f=0 entries=0 deliveries=0", f" --entries {n}")
+        yield faulty(f"one byte more than for {n} entries", padded + " ", "2 Big", f" --entries {n}")
 
 
-def accepted(name, text, line):
-    return given(name, f"audit --faults {line.split()[1][2:]}", text, 0 if line.startswith("accept") else 1, line + "\n")
+def faulty(name, text, fault, asked="", **more):
+    return given(name, "audit --faults 0" + asked, text, 2, f"fault line={fault}\n", **more)
+
+
+def accepted(name, text, line, asked=""):
+    return given(name, f"audit --faults {line.split()[1][2:]}{asked}", text, 0 if line.startswith("accept") else 1, line + "\n")
 
 
 def cut_rows():
@@ -210,6 +224,7 @@ def rows():
     yield from listing_rows()
     for name, text, fault in limits():
         yield faulty(name, text, fault) if fault else accepted(name, text, "accept f=0 entries=0 deliveries=0")
+    yield from asked_limits()
     # the piece that has one byte too many is read, and no further one
     yield faulty("much too long", " " * (BYTES + 5_000), "1 Big", left=5_000 - 4_096)
     yield given("what is wrong", "audit --faults 0", lines(TWO, send(0, 1, 1)), 2, "fault line=2 WrongSsn\n", said=WRONG)
