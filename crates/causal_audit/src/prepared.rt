@@ -63,7 +63,7 @@ impl Prepared {
             turns: &turns,
         };
         let mut opened = open_deliveries_of(alloc, outline, &mentions, f, end)?;
-        put_in_order(trace, &mut opened)?;
+        put_in_order(&mut opened)?;
         Ok(Prepared {
             run,
             turns,

@@ -1,5 +1,5 @@
 -- The lists of positions that are kept of a run: one more position, and one more entry.
-use Rattle.causal_audit.proofs.Common.{ℕ, ◌≡◌, ◌≢◌, ◌+◌, ◌-◌, ◌<◌, ◌≤◌, inl, inr, true, false, Result, Ok, Err, List, [], ◌∷◌, ◌++◌, length, get_or, Option, Some, None, refl, sym, ap, subst, ◌∙◌, arith, Bool, ◌⊎◌, OnOk, Contains, ◌==◌, ◌&&◌, ◌||◌, option_map_or, All, get_or-eq_default, cases_lt, false≢true, cond-true, cond-false, false_from_ne_true, eqb-true, eq-eqb, ne_eqb, and_parts, or_cases, cases_Bool, or_left, or_right, eqb_tells, nat_tests, get_or-set_same, get_or-set_other, get_or_past, All-push, All-set, All-get_or, All-weaker, Contains-append_left, Contains-push, Contains-push_cases, IsNonDecreasingBy-push, Entry, entry_at, has, nat_cmp, FinSet, contains, empty, remove, contains-empty, IsNonDecreasing, Send, Deliver, Stable, Crash, Restart, Forget, entry_beyond, Det, same_det}
+use Rattle.causal_audit.proofs.Common.{ℕ, ◌≡◌, ◌≢◌, ◌+◌, ◌-◌, ◌<◌, ◌≤◌, inl, inr, true, false, Result, Ok, Err, List, [], ◌∷◌, ◌++◌, length, get_or, Option, Some, None, refl, sym, ap, subst, ◌∙◌, arith, Bool, ◌⊎◌, OnOk, Contains, ◌==◌, ◌&&◌, ◌||◌, option_map_or, All, get_or-eq_default, cases_lt, false≢true, cond-true, cond-false, false_from_ne_true, eqb-true, eq-eqb, ne_eqb, and_from, and_parts, or_cases, cases_Bool, or_left, or_right, eqb_tells, nat_tests, get_or-set_same, get_or-set_other, get_or_past, All-push, All-set, All-get_or, All-weaker, Contains-append_left, Contains-push, Contains-push_cases, IsNonDecreasingBy-push, Entry, entry_at, has, nat_cmp, FinSet, contains, empty, remove, contains-empty, IsNonDecreasing, Send, Deliver, Stable, Crash, Restart, Forget, entry_beyond, Det, same_det}
 use Rattle.causal_audit.specs.Inside.Index.Filed.{Ascends, list_at, with_added, AreMentions, AreMentionsWith, mentions_of, AreTurnsOf, IsFirstCrash, is_turn_of}
 use Rattle.causal_audit.specs.Inside.ByClock.Changes.{HasNoneUntil}
 use Rattle.causal_audit.specs.Inside.Look.Staying.{restarts_one, RestartsNone}
@@ -8,6 +8,7 @@ use Rattle.causal_audit.proofs.group.GroupReach.{left_out}
 use Rattle.causal_audit.proofs.Steps.{entry_cases, entry_within}
 use Rattle.causal_audit.specs.Quiet.{mentioned_by}
 use Rattle.std.specs.Prelude.{nat_lt, IfSome}
+use Rattle.std.proofs.lemmas.Bool.{le-ltb, lt-ltb}
 use Rattle.std.proofs.lemmas.List.{length-set}
 use Rattle.causal_trace.specs.Numbers.{number_of}
 use Rattle.causal_trace.proofs.Lemmas.DeliveryNumbers.{number_below}
@@ -231,6 +232,28 @@ numbers_apart n (x ∷ older) c d m at to =
       ]
     ]
 
+-- a number from a bound on is of no delivery below it
+pub too_late : (k m : ℕ) (b : Bool) → m ≤ k → (nat_lt k m && b) ≡ false
+too_late k m b later = ap (λ c. c && b) (le-ltb k m later)
+
+-- the newest of some first ones is the newest up to itself
+pub number_of_found : (m : ℕ) (dets : List Det) (d : Det) (j : ℕ) → number_of m dets d ≡ Some j → number_of (j + 1) dets d ≡ Some j
+number_of_found m [] d j is = absurd (let x : None ≡ Some j = is in cc)
+number_of_found m (x ∷ older) d j is =
+    let one = nat_lt (length older) m && same_det x d in
+    elim (cases_Bool one) [
+      | inl found ↦
+          let own : Some (length older) ≡ Some j = sym (cond-true one (Some (length older)) (number_of m older d) found) ∙ is in
+          let last : length older ≡ j = cc (own) in
+          let low : nat_lt (length older) (j + 1) ≡ true = lt-ltb (length older) (j + 1) (omega (arith, last)) in
+          cond-true (nat_lt (length older) (j + 1) && same_det x d) (Some (length older)) (number_of (j + 1) older d) (and_from (nat_lt (length older) (j + 1)) (same_det x d) low (and_parts (nat_lt (length older) m) (same_det x d) found).1) ∙ own
+      | inr other ↦
+          let rest : number_of m older d ≡ Some j = sym (cond-false one (Some (length older)) (number_of m older d) other) ∙ is in
+          let low : j < length older = found_below (number_of m older d) (length older) j (number_below m older d) rest in
+          cond-false (nat_lt (length older) (j + 1) && same_det x d) (Some (length older)) (number_of (j + 1) older d) (too_late (length older) (j + 1) (same_det x d) (omega (arith, low)))
+          ∙ number_of_found m older d j rest
+    ]
+
 -- ---- one more position in the list of a determinant
 
 has_more : (dets : List Det) (det d : Det) → has (dets ++ det ∷ []) d ≡ (has dets d || same_det d det)
@@ -276,6 +299,12 @@ mentions_more past dets numbers lists det m at there are =
         ]
         | inr new ↦ inr (sym new.1, has_more dets det d ∙ or_right (has dets d) (same_det d det) (numbers_apart (length lists) numbers d det m new.0 at))
       ];
+      owned = λ i v d listed own. same d ∙ elim (added_cases lists m (length past) there i v listed) [
+        | inl old ↦ are.owned i v d old own
+        | inr new ↦
+            let one : same_det d det ≡ true = numbers_apart (m + 1) numbers d det m (subst (λ k. number_of (k + 1) numbers d ≡ Some k) new.0 own) (number_of_found (length lists) numbers det m at) in
+            ap number (same_is d det one) ∙ at ∙ ap (λ k. Some k) (sym new.0)
+      ];
     }
   where
     more : List (List ℕ)
@@ -301,6 +330,7 @@ mentions_begun past numbers lists are = record {
   mentioned = are.mentioned;
   noted = λ d listed. absurd (false≢true listed);
   only = λ d v listed. inl (are.only d v listed);
+  owned = are.owned;
 }
 
 -- once they all are, the lists are those of the run with it
@@ -321,6 +351,7 @@ mentions_done e past numbers lists are = record {
         (before.0, cond-false (v == length past) (Some e) (entry_at past v) (ne_eqb v (length past) (λ is. omega (arith, is, low))) ∙ before.1, before.2)
     | inr now ↦ (e, cond-true (v == length past) (Some e) (entry_at past v) (eq-eqb v (length past) now.0), now.1)
   ];
+  owned = are.owned;
 }
 
 -- the positions of the entries that mention a determinant ascend

@@ -1,12 +1,12 @@
 -- One more position in one of the lists that stand one behind the other.
-use Rattle.causal_audit.proofs.Common.{ℕ, ◌≡◌, ◌≢◌, ◌+◌, ◌-◌, ◌<◌, ◌≤◌, inl, inr, List, [], ◌∷◌, ◌++◌, length, take, drop, map, get_or, get_or_default, set, suc, sym, ap, subst, ◌∙◌, arith, cases_lt, All, All-map, All-weaker, length-map, length-set, get_or-map, get_or-set_same, get_or-set_other, map-set}
+use Rattle.causal_audit.proofs.Common.{ℕ, ◌≡◌, ◌≢◌, ◌+◌, ◌-◌, ◌<◌, ◌≤◌, inl, inr, List, [], ◌∷◌, ◌++◌, length, take, drop, map, get_or, get_or_default, set, suc, sym, ap, subst, ◌∙◌, arith, cases_lt, All, All-map, All-set, All-weaker, length-map, length-set, get_or-map, get_or-set_same, get_or-set_other, get_or_past, map-set}
 use Rattle.std.proofs.lemmas.List.{drop-set-add, drop-set-lt, ext_get_or, length-drop, take-set-le}
 use Rattle.std.proofs.lemmas.Bool.Decides.{eqb_tells}
 use Rattle.std.proofs.Math.Seq.{take-suc-set}
 use Rattle.std.specs.List.{slice_range}
 use Rattle.causal_audit.specs.declared.index.packed.Span.{Span}
 use Rattle.causal_audit.specs.Inside.Index.Filed.{list_at, with_added}
-use Rattle.causal_audit.specs.Inside.Index.Packed.{ArePacked, IsSpan, list_in}
+use Rattle.causal_audit.specs.Inside.Index.Packed.{ArePacked, IsSpan, limit_in, list_in}
 
 -- lists that end where they begin
 pub none_in : (ps : List ℕ) (spans : List Span) → All (λ (s : Span). s.begin ≡ s.end) spans → All (λ list. list ≡ []) (map (list_in ps) spans)
@@ -30,13 +30,41 @@ at_end ps v s order below =
     ∙ ap (take (suc (s.end - s.begin))) (ap (λ i. drop s.begin (set ps i v)) (sym k) ∙ drop-set-add s.begin ps (s.end - s.begin) v)
     ∙ take-suc-set (drop s.begin ps) (s.end - s.begin) v (omega (arith, order, below, length-drop s.begin ps))
 
-module _ (ps : List ℕ) (spans : List Span) (m v : ℕ) (s new : Span) (packed : ArePacked (length ps) spans) (there : m < length spans) (is : s ≡ get_or spans m s) (room : s.end < s.limit)
-    (begin : new.begin ≡ s.begin) (end : new.end ≡ s.end + 1) (limit : new.limit ≡ s.limit) where
+module _ (ps : List ℕ) (spans : List Span) (m v : ℕ) (s new : Span) (packed : ArePacked (length ps) spans) (there : m < length spans) (is : s ≡ get_or spans m s) (room : s.end + 1 ≤ limit_in spans m (length ps))
+    (begin : new.begin ≡ s.begin) (end : new.end ≡ s.end + 1) where
   here : (d : Span) → get_or spans m d ≡ s
   here d = get_or_default spans m d s there ∙ sym is
 
   own : IsSpan (length ps) s
   own = subst (IsSpan (length ps)) (here s) (packed.each m s there)
+
+  -- the room of a list
+  abbrev nothing : Span
+  nothing = record { begin = length ps; end = length ps }
+
+  next : m + 1 < length spans → limit_in spans m (length ps) ≡ (get_or spans (m + 1) s).begin
+  next inside = ap (λ (x : Span). x.begin) (get_or_default spans (m + 1) nothing s inside)
+
+  -- it ends where all do
+  limit_within : limit_in spans m (length ps) ≤ length ps
+  limit_within =
+      elim (cases_lt (m + 1) (length spans)) [
+        | inl inside ↦
+            let span : IsSpan (length ps) (get_or spans (m + 1) s) = packed.each (m + 1) s inside in
+            omega (arith, next inside, span.order, span.within)
+        | inr beyond ↦ omega (arith, ap (λ (x : Span). x.begin) (get_or_past spans (m + 1) nothing beyond))
+      ]
+
+  -- and before the later lists begin
+  limit_low : (j : ℕ) → m < j → j < length spans → limit_in spans m (length ps) ≤ (get_or spans j s).begin
+  limit_low j after inside =
+      let x : m + 1 < length spans = omega (arith, after, inside) in
+      elim (eqb_tells j (m + 1)) [
+        | inl same ↦ subst (λ k. limit_in spans m (length ps) ≤ (get_or spans k s).begin) (sym same.1) (omega (arith, next x))
+        | inr later ↦
+            let span : IsSpan (length ps) (get_or spans (m + 1) s) = packed.each (m + 1) s x in
+            omega (arith, next x, span.order, packed.apart (m + 1) j s (omega (arith, after, later.1)) inside)
+      ]
 
   -- the other lists stay
   other : (j : ℕ) → j ≢ m → j < length spans → list_in (set ps s.end v) (get_or spans j s) ≡ list_in ps (get_or spans j s)
@@ -45,16 +73,16 @@ module _ (ps : List ℕ) (spans : List Span) (m v : ℕ) (s new : Span) (packed 
       let span : IsSpan (length ps) x = packed.each j s inside in
       elim (cases_lt j m) [
         | inl before ↦
-            let low : x.limit ≤ s.begin = subst (λ y. x.limit ≤ y.begin) (here s) (packed.apart j m s before there) in
-            outside ps s.end v x (omega (arith, low, own.order, span.room), span.order)
+            let low : x.end ≤ s.begin = subst (λ (y : Span). x.end ≤ y.begin) (here s) (packed.apart j m s before there) in
+            outside ps s.end v x (omega (arith, low, own.order), span.order)
         | inr after ↦
-            let low : s.limit ≤ x.begin = subst (λ y. y.limit ≤ x.begin) (here s) (packed.apart m j s (omega (arith, after, apart)) inside) in
-            ap (take (x.end - x.begin)) (drop-set-lt x.begin ps s.end v (omega (arith, room, low)))
+            let low : s.end < x.begin = omega (arith, room, limit_low j (omega (arith, after, apart)) inside) in
+            ap (take (x.end - x.begin)) (drop-set-lt x.begin ps s.end v low)
       ]
 
   longer : list_in (set ps s.end v) new ≡ list_at (map (list_in ps) spans) m ++ v ∷ []
   longer =
-      ap (λ b. slice_range (set ps s.end v) b new.end) begin ∙ ap (slice_range (set ps s.end v) s.begin) end ∙ at_end ps v s own.order (omega (arith, room, own.within))
+      ap (λ b. slice_range (set ps s.end v) b new.end) begin ∙ ap (slice_range (set ps s.end v) s.begin) end ∙ at_end ps v s own.order (omega (arith, room, limit_within))
       ∙ ap (λ y. list_in ps y ++ v ∷ []) (sym (here s)) ∙ ap (λ l. l ++ v ∷ []) (sym (get_or-map (list_in ps) spans m s [] there))
 
   -- the lists are those with the position added
@@ -82,3 +110,25 @@ module _ (ps : List ℕ) (spans : List Span) (m v : ℕ) (s new : Span) (packed 
         | inl at ↦ subst (λ k. f (get_or (set spans m new) k d) ≡ f (get_or spans k d)) (sym at.1) (ap f (get_or-set_same spans m new d there) ∙ same ∙ ap f (sym (here d)))
         | inr apart ↦ ap f (get_or-set_other spans m i new d apart.1)
       ]
+
+  -- they stand one behind the other as before
+  pub packed_still : ArePacked (length (set ps s.end v)) (set spans m new)
+  packed_still =
+      let size = length (set ps s.end v) in
+      let same : size ≡ length ps = length-set ps s.end v in
+      record {
+        each = All-set (IsSpan size) spans m new (record { order = omega (arith, begin, end, own.order); within = omega (arith, end, room, limit_within, same) })
+            (All-weaker (IsSpan (length ps)) (IsSpan size) (λ x h. record { order = h.order; within = omega (arith, h.within, same) }) spans packed.each);
+        apart = λ i j d before inside.
+            let below : j < length spans = omega (arith, inside, length-set spans m new) in
+            let begins : (get_or (set spans m new) j d).begin ≡ (get_or spans j d).begin = kept (λ (x : Span). x.begin) begin j d in
+            elim (eqb_tells i m) [
+              | inl at ↦
+                  let ends : (get_or (set spans m new) i d).end ≡ s.end + 1 = subst (λ k. (get_or (set spans m new) k d).end ≡ s.end + 1) (sym at.1) (ap (λ (x : Span). x.end) (get_or-set_same spans m new d there) ∙ end) in
+                  let later : limit_in spans m (length ps) ≤ (get_or spans j d).begin = subst (λ (x : Span). limit_in spans m (length ps) ≤ x.begin) (get_or_default spans j s d below) (limit_low j (omega (arith, before, at.1)) below) in
+                  omega (arith, ends, room, later, begins)
+              | inr apart ↦
+                  let ends : (get_or (set spans m new) i d).end ≡ (get_or spans i d).end = ap (λ (x : Span). x.end) (get_or-set_other spans m i new d apart.1) in
+                  omega (arith, ends, packed.apart i j d before below, begins)
+            ];
+      }

@@ -1,8 +1,7 @@
 -- What a survey tells by the deliveries that it gathers, as it asks one after the other.
-use Rattle.causal_audit.proofs.Common.{ℕ, ◌≡◌, ◌+◌, ◌<◌, ◌≤◌, inl, inr, Bool, true, false, List, [], ◌∷◌, ◌++◌, length, Option, Some, None, refl, sym, ap, subst, ◌∙◌, arith, ◌==◌, ◌&&◌, nat_lt, option_map_or, set, slice_index, Contains, map-append, All-push, Contains-append_left, cases_lt, cases_Bool, cond-true, cond-false, eq-eqb, ne_eqb, eqb_tells, and_from, and_parts, le-ltb, get_or-set_other, Det, same_det, Entry, Send, Deliver, Stable, Crash, Restart, Forget, deliveries_in, det_at, det_of, det_then, instant, instant_length, AreAccepted}
+use Rattle.causal_audit.proofs.Common.{ℕ, ◌≡◌, ◌+◌, ◌<◌, ◌≤◌, inl, inr, Bool, true, false, List, [], ◌∷◌, ◌++◌, length, Option, Some, None, refl, sym, ap, subst, ◌∙◌, arith, ◌==◌, ◌&&◌, nat_lt, option_map_or, set, slice_index, Contains, map-append, All-push, Contains-append_left, cases_lt, cond-true, cond-false, eq-eqb, ne_eqb, eqb_tells, and_from, get_or-set_other, Det, same_det, Entry, Send, Deliver, Stable, Crash, Restart, Forget, deliveries_in, det_at, det_of, det_then, instant, instant_length, AreAccepted}
 use Rattle.std.proofs.lemmas.Bool.{lt-ltb}
 use Rattle.causal_trace.specs.Numbers.{delivered_dets, number_of}
-use Rattle.causal_trace.proofs.Lemmas.DeliveryNumbers.{number_below}
 use Rattle.causal_audit.specs.Numbers.{ArePositions, is_delivery, IsNumbered}
 use Rattle.causal_audit.specs.declared.group.run_to_follow.OpenDelivery.{OpenDelivery}
 use Rattle.causal_audit.specs.Inside.Group.OpenDeliveries.{AreAsked, AreFollowed, AreGathered, Asked, IsDeliveryAt, IsOpenDelivery, IsTold, how_many, is_marked, positions_of}
@@ -10,7 +9,7 @@ use Rattle.causal_audit.proofs.DeliveryNumbers.{numbered_below, numbered_later, 
 use Rattle.causal_audit.proofs.Lemmas.NumberLemmas.{has_number}
 use Rattle.causal_audit.proofs.NoOrphanSoFar.{not_yet}
 use Rattle.causal_audit.proofs.group.OpenPositions.{position}
-use Rattle.causal_audit.proofs.index.Filings.{found_below, numbers_apart, same_is}
+use Rattle.causal_audit.proofs.index.Filings.{numbers_apart, same_is, too_late}
 
 -- ==== deliveries by their numbers, and by their determinants
 
@@ -36,9 +35,6 @@ same_self : (d : Det) → same_det d d ≡ true
 same_self d =
     and_from (d.source.0 == d.source.0) _ (eq-eqb d.source.0 d.source.0 refl)
     (and_from (d.ssn == d.ssn) _ (eq-eqb d.ssn d.ssn refl) (and_from (d.dest.0 == d.dest.0) (d.rsn == d.rsn) (eq-eqb d.dest.0 d.dest.0 refl) (eq-eqb d.rsn d.rsn refl)))
-
-too_late : (k m : ℕ) (b : Bool) → m ≤ k → (nat_lt k m && b) ≡ false
-too_late k m b later = ap (λ c. c && b) (le-ltb k m later)
 
 numbered_within : (past : List Entry) (i k : ℕ) → IsNumbered past i k → k < length past
 numbered_within [] i k numbered = absurd numbered
@@ -73,24 +69,6 @@ pub number_at_own : (n : ℕ) (past : List Entry) → AreAccepted n past → (en
 number_at_own n past formed end positions i d within are low at =
     let k = slice_index positions i in
     number_of_own n past formed i k d (numbered_later past end i k within (are.each i low)) at
-
--- the newest of some first ones is the newest up to itself
-pub number_of_found : (m : ℕ) (dets : List Det) (d : Det) (j : ℕ) → number_of m dets d ≡ Some j → number_of (j + 1) dets d ≡ Some j
-number_of_found m [] d j is = absurd (let x : None ≡ Some j = is in cc)
-number_of_found m (x ∷ older) d j is =
-    let one = nat_lt (length older) m && same_det x d in
-    elim (cases_Bool one) [
-      | inl found ↦
-          let own : Some (length older) ≡ Some j = sym (cond-true one (Some (length older)) (number_of m older d) found) ∙ is in
-          let last : length older ≡ j = cc (own) in
-          let low : nat_lt (length older) (j + 1) ≡ true = lt-ltb (length older) (j + 1) (omega (arith, last)) in
-          cond-true (nat_lt (length older) (j + 1) && same_det x d) (Some (length older)) (number_of (j + 1) older d) (and_from (nat_lt (length older) (j + 1)) (same_det x d) low (and_parts (nat_lt (length older) m) (same_det x d) found).1) ∙ own
-      | inr other ↦
-          let rest : number_of m older d ≡ Some j = sym (cond-false one (Some (length older)) (number_of m older d) other) ∙ is in
-          let low : j < length older = found_below (number_of m older d) (length older) j (number_below m older d) rest in
-          cond-false (nat_lt (length older) (j + 1) && same_det x d) (Some (length older)) (number_of (j + 1) older d) (too_late (length older) (j + 1) (same_det x d) (omega (arith, low)))
-          ∙ number_of_found m older d j rest
-    ]
 
 -- and the determinant is its own
 pub det_of_number : (n : ℕ) (past : List Entry) → AreAccepted n past → (j k : ℕ) (d : Det) → number_of (j + 1) (delivered_dets past) d ≡ Some j → IsNumbered past j k → det_at past k ≡ Some d

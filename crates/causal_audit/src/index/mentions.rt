@@ -1,11 +1,12 @@
 //! The positions of the entries that mention each determinant.
-ghost use Rattle.std.specs.Prelude.{◌≡◌, ◌≤◌, ◌∷◌, ◌++◌, [], List, IfOk, OnOk, length};
+ghost use Rattle.std.specs.Prelude.{◌≡◌, ◌≤◌, ◌+◌, ◌∷◌, ◌++◌, [], List, Some, IfOk, OnOk, length};
+ghost use Rattle.std.specs.List.{All, flat_map};
 ghost use Rattle.causal_name.specs.declared.Det.{Det};
 ghost use Rattle.causal_trace.specs.declared.entry.Entry.{Entry};
-ghost use Rattle.causal_trace.specs.Numbers.{delivered_dets};
+ghost use Rattle.causal_trace.specs.Numbers.{delivered_dets, number_of};
 ghost use Rattle.causal_trace.specs.Past.{instant};
 ghost use Rattle.causal_audit.specs.Quiet.{mentioned_by};
-ghost use Rattle.causal_audit.specs.Inside.Index.Filed.{mentions_of};
+ghost use Rattle.causal_audit.specs.Inside.Index.Filed.{AreNumbersOf, mentions_of};
 ghost use Rattle.causal_audit.specs.Inside.Index.Kept.{AreMentionsKept};
 
 use crate::index::packed::PackedLists;
@@ -44,27 +45,61 @@ fn with_lists(trace: &Trace, entries: &[Entry]) -> usize {
     deliveries_in(entries)
 }
 
-/// Counts the mentions of one more entry, by the numbers of the deliveries.
-fn count(counts: &mut Vec<u32>, trace: &Trace, entry: &Entry) {
-    for det in mentioned(entry) {
-        if let Some(number) = trace.delivery_of(*det, counts.len()) {
-            let number = number as usize;
-            counts[number] = counts[number].saturating_add(1);
-        }
+/// Notes the numbers of more determinants, among the trace's first so many deliveries.
+fn note_numbers(
+    numbers: &mut Vec<u32>,
+    trace: &Trace,
+    dets: &[Det],
+    among: usize,
+) -> Result<(), NoMemory>
+    ensures { OnOk result ((before : List Det) →
+        AreNumbersOf among (delivered_dets trace.now.recording.past) before numbers.old.items →
+        AreNumbersOf among (delivered_dets trace.now.recording.past)
+        (before ++ dets.now) numbers.new.items) }
+{
+    for det in dets {
+        let Some(number) = trace.delivery_of(*det, among) else {
+            return Err(NoMemory);
+        };
+        numbers.push(number)?;
     }
+    Ok(())
 }
 
-/// How often these entries, with which the trace begins, mention the determinant of each delivery that has a list.
-fn counts_of(alloc: Global, trace: &Trace, entries: &[Entry]) -> Result<Vec<u32>, NoMemory> {
-    let mut counts = vec![in alloc; 0; with_lists(trace, entries)]?;
+/// The numbers of the determinants that these entries mention, one after the other, among the trace's first so many deliveries.
+fn numbers_of(
+    alloc: Global,
+    trace: &Trace,
+    entries: &[Entry],
+    among: usize,
+) -> Result<Vec<u32>, NoMemory>
+    ensures { IfOk result (λ numbers. AreNumbersOf among
+        (delivered_dets trace.now.recording.past) (flat_map mentioned_by entries.now) numbers.items) }
+{
+    let mut numbers = Vec::new(alloc);
     for entry in entries {
-        count(&mut counts, trace, entry);
+        note_numbers(&mut numbers, trace, mentioned(entry), among)?;
     }
-    Ok(counts)
+    Ok(numbers)
+}
+
+/// So many empty lists. Each has room for as many positions as its number comes up.
+fn lists_for(alloc: Global, numbers: &[u32], count: usize) -> Result<PackedLists, NoMemory>
+    ensures count { IfOk result (λ lists. length lists ≡ count) }
+    ensures empty { IfOk result (λ lists. All (λ list. list ≡ []) lists) }
+{
+    let mut rooms: Vec<u32> = vec![in alloc; 0; count]?;
+    for number in numbers {
+        let number = *number as usize;
+        if number < rooms.len() {
+            rooms[number] = rooms[number].saturating_add(1);
+        }
+    }
+    PackedLists::with_rooms(alloc, &rooms)
 }
 
 impl Mentions {
-    ghost use Rattle.causal_audit.specs.Inside.Index.Kept.{AreMentionsWithKept};
+    ghost use Rattle.causal_audit.specs.Inside.Index.Filed.{AreMentions, AreMentionsWith};
 
     /// The list of a determinant, by the trace that they are of.
     pub fn list(&self, trace: &Trace, det: Det) -> &[u32]
@@ -77,37 +112,51 @@ impl Mentions {
         }
     }
 
-    /// Puts the position of an entry into the list of a determinant that it mentions. The list was counted.
-    fn add(&mut self, trace: &Trace, det: Det, i: u32) -> Result<(), NoMemory>
-        ensures { OnOk result ((past : List Entry) (dets : List Det) → length past ≡ i →
-            AreMentionsWithKept trace.now.recording.past past dets self.old →
-            AreMentionsWithKept trace.now.recording.past past (dets ++ det ∷ []) self.new) }
+    /// The list of the determinant of the delivery of a number. The newest delivery with a determinant has its list, so that nothing
+    /// is searched where there is one.
+    pub fn list_by(&self, trace: &Trace, det: Det, number: u32) -> &[u32]
+        requires { number_of (number + 1) (delivered_dets trace.now.recording.past) det
+            ≡ Some number }
+        ensures { (past : List Entry) →
+            AreMentionsKept trace.now.recording.past past self.now → result.now ≡
+            mentions_of (delivered_dets trace.now.recording.past) self.now.lists det }
     {
-        let Some(number) = trace.delivery_of(det, self.lists.len()) else {
-            return Err(NoMemory);
-        };
-        self.lists.add(number as usize, i)
+        let own = self.lists.get(number as usize);
+        if own.is_empty() {
+            return self.list(trace, det);
+        }
+        own
     }
 
-    /// Puts the position of an entry into the lists of the determinants that it mentions.
-    fn add_each(&mut self, trace: &Trace, dets: &[Det], i: u32) -> Result<(), NoMemory>
-        ensures { OnOk result ((past : List Entry) → length past ≡ i →
-            AreMentionsWithKept trace.now.recording.past past [] self.old →
-            AreMentionsWithKept trace.now.recording.past past dets.now self.new) }
+    /// Puts the position of an entry into the list of a number. There is room for what was counted.
+    fn add(&mut self, number: u32, i: u32) -> Result<(), NoMemory>
+        ensures added { OnOk result ((past : List Entry) (dets delivered : List Det) (det : Det) →
+            length past ≡ i → number_of (length self.old.lists) delivered det ≡ Some number →
+            AreMentionsWith past dets delivered self.old.lists →
+            AreMentionsWith past (dets ++ det ∷ []) delivered self.new.lists) }
+        ensures count { length self.new.lists ≡ length self.old.lists }
     {
-        for det in dets {
-            self.add(trace, *det, i)?;
+        let number = number as usize;
+        let count = self.lists.len();
+        if number >= count {
+            return Err(NoMemory);
+        }
+        self.lists.add(number, i)
+    }
+
+    /// Notes one more entry, at position i, which mentions the determinants of these numbers.
+    fn note(&mut self, numbers: &[u32], i: u32) -> Result<(), NoMemory>
+        ensures noted { OnOk result ((past : List Entry) (delivered : List Det) (entry : Entry) →
+            length past ≡ i →
+            AreNumbersOf (length self.old.lists) delivered (mentioned_by entry) numbers.now →
+            AreMentions past delivered self.old.lists →
+            AreMentions (entry ∷ past) delivered self.new.lists) }
+        ensures count { length self.new.lists ≡ length self.old.lists }
+    {
+        for number in numbers {
+            self.add(*number, i)?;
         }
         Ok(())
-    }
-
-    /// Notes one more entry, at position i.
-    fn note(&mut self, trace: &Trace, entry: &Entry, i: u32) -> Result<(), NoMemory>
-        ensures { OnOk result ((past : List Entry) → length past ≡ i →
-            AreMentionsKept trace.now.recording.past past self.old →
-            AreMentionsKept trace.now.recording.past (entry.now ∷ past) self.new) }
-    {
-        self.add_each(trace, mentioned(entry), i)
     }
 }
 
@@ -125,18 +174,23 @@ pub fn mentioned(entry: &Entry) -> &[Det]
     }
 }
 
-/// The positions of the entries before the instant `end` that mention each determinant, in order.
+/// The positions of the entries before the instant `end` that mention each determinant, in order. Each mention is searched once: its
+/// number is kept until all lists are made, which takes 4 bytes.
 pub fn mentions_in(alloc: Global, trace: &Trace, end: u32) -> Result<Mentions, NoMemory>
     requires { end ≤ length trace.now.recording.past }
     ensures { IfOk result (λ mentions. AreMentionsKept trace.now.recording.past
         (instant trace.now.recording.past end) mentions) }
 {
     let entries = &trace.entries()[..end as usize];
-    let counts = counts_of(alloc, trace, entries)?;
-    let lists = PackedLists::with_rooms(alloc, &counts)?;
+    let among = with_lists(trace, entries);
+    let numbers = numbers_of(alloc, trace, entries, among)?;
+    let lists = lists_for(alloc, numbers.as_slice(), among)?;
     let mut mentions = Mentions { lists };
+    let mut rest = numbers.as_slice();
     for (i, entry) in entries.iter().enumerate() {
-        mentions.note(trace, entry, i as u32)?;
+        let (own, later) = rest.split_at(mentioned(entry).len());
+        mentions.note(own, i as u32)?;
+        rest = later;
     }
     Ok(mentions)
 }

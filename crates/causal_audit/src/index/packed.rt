@@ -2,20 +2,20 @@
 ghost use Rattle.std.specs.Prelude.{◌≡◌, ◌<◌, [], IfOk, OnOk, length};
 ghost use Rattle.std.specs.List.{All};
 ghost use Rattle.causal_audit.specs.Inside.Index.Filed.{list_at, with_added};
+ghost use Rattle.causal_audit.specs.Inside.Index.Packed.{limit_in};
 
 use causal_name::NoMemory;
 use std::alloc::Global;
 use std::marker::Model;
 
-/// Where a list begins and ends, and up to where it has room.
+/// Where a list begins and ends. It has room up to where the next one begins.
 #[derive(Clone, Copy, Debug)]
 pub struct Span {
     pub begin: u32,
     pub end: u32,
-    pub limit: u32,
 }
 
-/// Numbered lists of positions. They are seen as the lists. A list takes 12 bytes, and 4 for each position for which it has room.
+/// Numbered lists of positions. They are seen as the lists. A list takes 8 bytes, and 4 for each position for which it has room.
 #[derive(Drop)]
 pub struct PackedLists {
     positions: Vec<u32>,
@@ -33,6 +33,17 @@ impl Model for PackedLists {
     ghost invariant = { λ a. ArePacked (length a.positions.items) a.spans.items };
 }
 
+/// Up to where the list of a number has room, among so many positions: where the next one begins, or the end of all.
+fn limit_of(spans: &[Span], number: usize, size: usize) -> usize
+    requires { number < length spans.now }
+    ensures { result ≡ limit_in spans.now number size }
+{
+    match spans.get(number + 1) {
+        Some(next) => next.begin as usize,
+        None => size,
+    }
+}
+
 impl PackedLists {
     /// Empty lists with room for so many positions each.
     #[tactic(auto, using(crate::proofs::index::PackedSpans::none_in))]
@@ -46,11 +57,7 @@ impl PackedLists {
             let Some(limit) = begin.checked_add(*room) else {
                 return Err(NoMemory);
             };
-            spans.push(Span {
-                begin,
-                end: begin,
-                limit,
-            })?;
+            spans.push(Span { begin, end: begin })?;
             begin = limit;
         }
         let positions = vec![in alloc; 0; begin as usize]?;
@@ -80,16 +87,16 @@ impl PackedLists {
         ensures added { OnOk result (self.new ≡ with_added self.old number position) }
         ensures count { length self.new ≡ length self.old }
     {
-        let Span { begin, end, limit } = self.spans[number];
-        if end >= limit {
+        let Span { begin, end } = self.spans[number];
+        let Some(after) = end.checked_add(1) else {
+            return Err(NoMemory);
+        };
+        let limit = limit_of(self.spans.as_slice(), number, self.positions.len());
+        if limit < after as usize {
             return Err(NoMemory);
         }
         self.positions[end as usize] = position;
-        self.spans[number] = Span {
-            begin,
-            end: end + 1,
-            limit,
-        };
+        self.spans[number] = Span { begin, end: after };
         Ok(())
     }
 }

@@ -46,12 +46,13 @@ impl<'a, 'r> Model for Survey<'a, 'r> {
 }
 
 impl Survey<'_, '_> {
-    /// What a look at a determinant finds.
-    fn look_at(&self, alloc: Global, det: Det) -> Result<ThinStretches, NoMemory>
+    /// What a look at the determinant of the delivery of a number finds.
+    fn look_at(&self, alloc: Global, det: Det, number: u32) -> Result<ThinStretches, NoMemory>
+        requires { number_of (number + 1) (delivered_dets self.now.run.past) det ≡ Some number }
         ensures { IfOk result (AreThinStretches self.now.run.processes self.now.f
             self.now.run.past det (self.now.end + 1)) }
     {
-        let mentions = self.mentions.list(self.outline.trace, det);
+        let mentions = self.mentions.list_by(self.outline.trace, det, number);
         if mentions.is_empty() {
             return Ok(ThinStretches::none(alloc, self.end));
         }
@@ -151,7 +152,7 @@ impl Survey<'_, '_> {
         let Some(det) = trace.det_at(self.positions[newest as usize]) else {
             return Err(NoMemory);
         };
-        let thins = self.look_at(alloc, det)?;
+        let thins = self.look_at(alloc, det, newest)?;
         self.ask_one(&thins, det, newest, asked, gathered)?;
         let mut number = newest;
         while let Some(older) = trace.older_delivery(det, number) {

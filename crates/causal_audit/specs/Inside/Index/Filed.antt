@@ -40,11 +40,20 @@ pub record AreTurns (past : List Entry) (list : List ℕ) (downs : List (FinSet 
 abbrev pub mentions_of : List Det → List (List ℕ) → Det → List ℕ
 mentions_of delivered lists d = option_map_or (list_at lists) (number_of (length lists) delivered d) []
 
+-- these are the numbers of such determinants, among the first so many deliveries
+abbrev pub AreNumbersOf : ℕ → List Det → List Det → List ℕ → Type 0
+AreNumbersOf many delivered dets numbers = map (number_of many delivered) dets ≡ map (λ number. Some number) numbers
+
+-- a list that is not empty is that of the newest of the first deliveries that has its determinant
+abbrev pub AreOwned : List Det → List (List ℕ) → Type 0
+AreOwned delivered lists = (i v : ℕ) (d : Det) → Contains (list_at lists i) v → number_of (i + 1) delivered d ≡ Some i → number_of (length lists) delivered d ≡ Some i
+
 -- for each determinant the positions of the entries that mention it, and no others
 pub record AreMentions (past : List Entry) (delivered : List Det) (lists : List (List ℕ)) : Type 0 where
   pub ascend : All (Ascends (length past)) lists
   pub mentioned : (d : Det) → HasMentions past d (mentions_of delivered lists d)
   pub only : (d : Det) → AreMentionsOf past d (mentions_of delivered lists d)
+  pub owned : AreOwned delivered lists
 
 -- the same, and these determinants have the next position too
 pub record AreMentionsWith (past : List Entry) (dets delivered : List Det) (lists : List (List ℕ)) : Type 0 where
@@ -52,6 +61,7 @@ pub record AreMentionsWith (past : List Entry) (dets delivered : List Det) (list
   pub mentioned : (d : Det) → HasMentions past d (mentions_of delivered lists d)
   pub noted : (d : Det) → has dets d ≡ true → Contains (mentions_of delivered lists d) (length past)
   pub only : (d : Det) (v : ℕ) → Contains (mentions_of delivered lists d) v → ((e : Entry) × (entry_at past v ≡ Some e) × (has (mentioned_by e) d ≡ true)) ⊎ ((v ≡ length past) × (has dets d ≡ true))
+  pub owned : AreOwned delivered lists
 
 -- whether an entry restarts this process, where restarts are meant, or else crashes it
 abbrev pub is_turn_of : Bool → ℕ → Entry → Bool

@@ -1,11 +1,11 @@
 -- What is kept of turns and of mentions, told of the values that keep it.
 use Rattle.std.specs.Prelude.{true, false, List}
 use Rattle.causal_trace.specs.Numbers.{delivered_dets}
-use Rattle.causal_audit.specs.Inside.Common.{Det, Entry}
+use Rattle.causal_audit.specs.Inside.Common.{Entry}
 use Rattle.causal_audit.specs.declared.index.mentions.Mentions.{Mentions}
 use Rattle.causal_audit.specs.declared.index.crashes_and_restarts.CrashesAndRestarts.{CrashesAndRestarts}
 use Rattle.causal_audit.specs.Lasting.{NoneReleasedFrom}
-use Rattle.causal_audit.specs.Inside.Index.Filed.{AreTurnsOf, AreMentions, AreMentionsWith, AreTurns, lists_in}
+use Rattle.causal_audit.specs.Inside.Index.Filed.{AreTurnsOf, AreMentions, AreTurns, lists_in}
 
 -- the positions of the crashes and restarts are kept, who is down after each, and the crashes and restarts of each process; and
 -- from a position on none is released
@@ -19,7 +19,3 @@ pub record AreTurnsKept (past : List Entry) (turns : CrashesAndRestarts) : Type 
 -- the whole run, as many as there are lists
 abbrev pub AreMentionsKept : List Entry → List Entry → Mentions → Type 0
 AreMentionsKept whole past mentions = AreMentions past (delivered_dets whole) mentions.lists
-
--- the same, and these determinants have the next position too
-abbrev pub AreMentionsWithKept : List Entry → List Entry → List Det → Mentions → Type 0
-AreMentionsWithKept whole past dets mentions = AreMentionsWith past dets (delivered_dets whole) mentions.lists

@@ -1,4 +1,4 @@
-use Rattle.causal_audit.proofs.Common.{◌-◌, ◌+◌, ◌≡◌, length, sym, subst, arith}
+use Rattle.causal_audit.proofs.Common.{◌-◌, ◌+◌, ◌≡◌, sym, subst, arith}
 use Rattle.causal_audit.proofs.Steps.{how_many, entry_read}
 use Rattle.causal_audit.proofs.index.Reachable.{AreReachedFrom, reached_begun, reached_next}
 use Rattle.causal_audit.proofs.index.reached.reached_in.Goals as goal

@@ -6,6 +6,9 @@ use Rattle.causal_audit.specs.Inside.ByClock.Changes.{AreMentionsOf, HasMentions
 use Rattle.causal_audit.proofs.index.Filings.{mentions_ascend}
 use Rattle.causal_audit.proofs.look.survey.Survey.look_at.Goals as goal
 
+pub list_by-mentions-requires : goal.list_by-mentions-requires
+list_by-mentions-requires c = rw (← c.self.view_is) at c.requires
+
 pub returns-then-is_empty : goal.returns-then-is_empty
 returns-then-is_empty c =
     let r = c.args.self.now.run in
@@ -19,7 +22,7 @@ invariant_of-look c =
     let lists = s.mentions.now.lists in
     let det = c.args.det in
     let kept = c.self.invariant in
-    let listed : mentions_of (delivered_dets whole) lists det ≡ c.list-mentions.result.now = sym c.list-mentions.ensures in
+    let listed : mentions_of (delivered_dets whole) lists det ≡ c.list_by-mentions.result.now = sym (c.list_by-mentions.ensures past kept.mentioned) in
     record {
       within = kept.within;
       reaching = subst (HasReached whole det.dest.0) (sym c.reached_by.ensures) (kept.reaching.each det.dest.0);
