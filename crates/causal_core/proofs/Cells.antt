@@ -11,6 +11,7 @@ use Rattle.causal_protocol.specs.Memory.{Memory, Memories, at}
 use Rattle.causal_protocol.specs.Naming.{if_to, kept_for, name}
 use Rattle.causal_core.specs.Inside.Memories.{memory_of, memories_in, memory_at, bodies_of, bodies_in, no_room, room_of, rooms_in, room_at}
 use Rattle.causal_core.specs.View.{body_in, with_bodies}
+use Rattle.causal_core.proofs.BoxLemmas.{map-set}
 use Rattle.causal_core.proofs.RuntimeSend.{set_same}
 
 -- to read a mapped list is to map what is read
@@ -18,12 +19,6 @@ pub get-map : {X Y : Type 0} (f : X → Y) (xs : List X) (p : ℕ) → slice_get
 get-map f [] p = refl
 get-map f (x ∷ xs) zero = refl
 get-map f (x ∷ xs) (suc p) = get-map f xs p
-
--- to map a list in which an element was written is to write what f makes of that element
-pub map-set : {X Y : Type 0} (f : X → Y) (xs : List X) (i : ℕ) (x : X) → map f (slice_set xs i x) ≡ slice_set (map f xs) i (f x)
-map-set f [] i x = refl
-map-set f (y ∷ ys) zero x = refl
-map-set f (y ∷ ys) (suc i) x = ap (λ zs. f y ∷ zs) (map-set f ys i x)
 
 pub get-set_same : {X : Type 0} (xs : List X) (i : ℕ) (x : X) → i < length xs → slice_get (slice_set xs i x) i ≡ Some x
 get-set_same [] i x h = absurd (omega arith)

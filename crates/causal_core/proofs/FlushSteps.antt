@@ -4,6 +4,7 @@ use Rattle.std.specs.Prelude.{◌&&◌, not, nat_lt, unwrap_or, Result, Ok, Err,
 use Rattle.std.specs.List.{list_all}
 use Rattle.std.specs.Option.{option_map, option_map_or}
 use Rattle.std.specs.FinMap as fin
+use Rattle.std.proofs.Math.Bool.{and_comm}
 use Rattle.std.proofs.lemmas.Bool.{false≢true}
 use Rattle.std.proofs.lemmas.Bool.Decides.{nat_tests}
 use Rattle.std.proofs.lemmas.List.{take_more, take_all, map-append}
@@ -108,20 +109,15 @@ pub all_from : (P : Det → Bool) (ds : List Det) → ((d : Det) → has ds d �
 all_from P [] h = refl
 all_from P (d ∷ ds) h = ap (λ b. b && list_all P ds) (h d (or_left _ _ (same_itself d))) ∙ all_from P ds (λ x there. h x (or_right _ _ there))
 
-swap : (a b : Bool) → (a && b) ≡ (b && a)
-swap true true = refl
-swap true false = refl
-swap false true = refl
-swap false false = refl
-
-passes_some : (P : Known → Bool) (o : Option Known) → passes P o ≡ true → is_some o ≡ true
+-- a value that passes is there
+pub passes_some : (P : Known → Bool) (o : Option Known) → passes P o ≡ true → is_some o ≡ true
 passes_some P None h = absurd (false≢true h)
 passes_some P (Some k) h = refl
 
 -- what a log does not know to be stable it has
 unstable_logged : (log : LogMap) (d : Det) → has (unstable_in log) d ≡ true → is_some (fin.get log d) ≡ true
 unstable_logged log d h = passes_some (λ k. not k.stable) (fin.get log d)
-    (sym (any_kept (λ e. e.0) (λ e. not e.1.stable) (same_det d) (λ e. same_det d e.0 && not e.1.stable) (λ e. swap (not e.1.stable) (same_det d e.0)) (fin.entries log) ∙ any_logged (λ k. not k.stable) d log)
+    (sym (any_kept (λ e. e.0) (λ e. not e.1.stable) (same_det d) (λ e. same_det d e.0 && not e.1.stable) (λ e. and_comm (not e.1.stable) (same_det d e.0)) (fin.entries log) ∙ any_logged (λ k. not k.stable) d log)
     ∙ h)
 
 unwritten_of : (o : Option Memory) → logs_all o (option_map_or (λ m. unstable_in m.log) o []) ≡ true

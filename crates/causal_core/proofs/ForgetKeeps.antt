@@ -1,7 +1,8 @@
 -- To forget what is marked is to keep the rest.
-use Rattle.std.proofs.Common.{◌≡◌, ◌∙◌, Bool, true, false, cond, List, Option, Some, None, refl, sym, ap}
+use Rattle.std.proofs.Common.{◌≡◌, ◌∙◌, Bool, cond, List, Option, Some, None, refl, sym, ap}
 use Rattle.std.specs.Prelude.{◌&&◌, not}
 use Rattle.std.specs.FinMap as fin
+use Rattle.std.proofs.Math.Bool.{and_comm}
 use Rattle.causal_name.specs.declared.Det.{Det}
 use Rattle.causal_name.specs.Names.{same_det}
 use Rattle.causal_name.proofs.Lemmas.DetOrder.{dets_total, exact_dets}
@@ -11,16 +12,10 @@ use Rattle.causal_log.proofs.Lemmas.Searches.{any_kept, any_logged, find_kept, k
 use Rattle.causal_trace.specs.Past.{has}
 use Rattle.causal_protocol.specs.Gathering.{without}
 
-swap : (a b : Bool) → (a && b) ≡ (b && a)
-swap true true = refl
-swap true false = refl
-swap false true = refl
-swap false false = refl
-
 -- a determinant is among the stable ones of a log just where the log has it and knows it to be stable
 pub has_marked : (log : LogMap) (d : Det) → has (stable_in log) d ≡ passes (λ k. k.stable) (fin.get log d)
 has_marked log d =
-    any_kept (λ e. e.0) (λ e. e.1.stable) (same_det d) (λ e. same_det d e.0 && e.1.stable) (λ e. swap e.1.stable (same_det d e.0)) (fin.entries log)
+    any_kept (λ e. e.0) (λ e. e.1.stable) (same_det d) (λ e. same_det d e.0 && e.1.stable) (λ e. and_comm e.1.stable (same_det d e.0)) (fin.entries log)
     ∙ any_logged (λ k. k.stable) d log
 
 get_without : (log : LogMap) (ds : List Det) (d : Det) → fin.get (without ds log) d ≡ cond (not (has ds d)) (fin.get log d) None

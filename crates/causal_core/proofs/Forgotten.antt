@@ -8,11 +8,11 @@ use Rattle.std.proofs.lemmas.Bool.{false≢true}
 use Rattle.std.proofs.lemmas.Bool.Decides.{nat_tests}
 use Rattle.causal_name.specs.declared.Pid.{Pid}
 use Rattle.causal_name.specs.declared.Det.{Det}
-use Rattle.causal_name.specs.Names.{same_det, is_ascending}
+use Rattle.causal_name.specs.Names.{is_ascending}
 use Rattle.causal_log.specs.declared.known.Known.{Known}
 use Rattle.causal_log.specs.Logs.{LogMap, stable_in, unmarked}
 use Rattle.causal_log.proofs.Lemmas.Ascents.{filter_ascends}
-use Rattle.causal_log.proofs.Lemmas.Searches.{any_map, any_dets, kept_if, passes}
+use Rattle.causal_log.proofs.Lemmas.Searches.{kept_if}
 use Rattle.causal_trace.specs.declared.entry.Entry.{Entry}
 use Rattle.causal_trace.specs.declared.entry.Entry.TheVariants.{Forget}
 use Rattle.causal_trace.specs.Past.{has, is_down, is_delivered}
@@ -31,8 +31,9 @@ use Rattle.causal_trace.specs.Past.{is_stable}
 use Rattle.causal_core.proofs.UpAfterStep.{changed_up}
 use Rattle.causal_core.specs.Inside.Facts.{Fits, FitsAt, AllFit, IsHeld}
 use Rattle.causal_core.proofs.MemoriesFit.{is_of, fits_other, all_fit_set, delivered_more, placed_more}
+use Rattle.causal_core.proofs.RestartCounts.{keys_have}
 use Rattle.causal_core.proofs.FlushWrites.{logged_passes}
-use Rattle.causal_core.proofs.FlushSteps.{all_from}
+use Rattle.causal_core.proofs.FlushSteps.{all_from, passes_some}
 use Rattle.causal_core.proofs.ForgetKeeps.{forgets_marked, get_unmarked, has_marked}
 use Rattle.causal_core.proofs.Legal.{row_none, when_false, there, fits_up}
 
@@ -40,16 +41,9 @@ kept_some : (P : Known → Bool) (o : Option Known) → is_some (kept_if P o) �
 kept_some P None h = absurd (false≢true h)
 kept_some P (Some k) h = refl
 
-passes_some : (P : Known → Bool) (o : Option Known) → passes P o ≡ true → is_some o ≡ true
-passes_some P None h = absurd (false≢true h)
-passes_some P (Some k) h = refl
-
-has_keys : (log : LogMap) (d : Det) → has (fin.keys log) d ≡ is_some (fin.get log d)
-has_keys log d = any_map (λ e. e.0) (same_det d) (λ e. same_det d e.0) (λ x. refl) (fin.entries log) ∙ any_dets d log
-
 -- what passes for all of a log passes for the rest
 unmarked_all : (P : Det → Bool) (log : LogMap) → list_all P (fin.keys log) ≡ true → list_all P (fin.keys (unmarked log)) ≡ true
-unmarked_all P log all = all_from P (fin.keys (unmarked log)) (λ d h. logged_passes P log d all (kept_some (λ k. not k.stable) (fin.get log d) (sym (ap is_some (get_unmarked log d)) ∙ (sym (has_keys (unmarked log) d) ∙ h))))
+unmarked_all P log all = all_from P (fin.keys (unmarked log)) (λ d h. logged_passes P log d all (kept_some (λ k. not k.stable) (fin.get log d) (sym (ap is_some (get_unmarked log d)) ∙ (sym (keys_have (unmarked log) d) ∙ h))))
 
 -- and for what is stable
 stable_all : (P : Det → Bool) (log : LogMap) → list_all P (fin.keys log) ≡ true → list_all P (stable_in log) ≡ true

@@ -1,16 +1,20 @@
 -- An ascending list with one more determinant.
-use Rattle.std.proofs.Common.{ℕ, suc, ◌≡◌, ◌+◌, ◌-◌, ◌<◌, ◌≤◌, Bool, true, List, [], ◌∷◌, length, drop, get_or, refl, sym, ap, ◌∙◌, arith}
-use Rattle.std.specs.Prelude.{◌&&◌}
-use Rattle.std.specs.List.{list_all}
-use Rattle.std.specs.Ordering.{is_lt, ordering_reverse}
+use Rattle.std.proofs.Common.{ℕ, suc, ◌≡◌, ◌+◌, ◌≤◌, Bool, true, false, true≢false, List, [], ◌∷◌, ◌++◌, length, take, drop, refl, sym, ap, ◌∙◌, arith}
+use Rattle.std.specs.Prelude.{◌&&◌, ◌||◌}
+use Rattle.std.specs.List.{list_all, list_any}
+use Rattle.std.specs.Ordering.{is_lt, is_eq, ordering_reverse}
+use Rattle.std.specs.Cmp.{tied_itself}
+use Rattle.std.specs.declared.cmp.Ordering.{Ordering}
 use Rattle.std.specs.declared.cmp.Ordering.TheVariants.{Less, Equal, Greater}
-use Rattle.std.proofs.lemmas.List.{drop_more, drop_all, length-map, length-drop}
+use Rattle.std.proofs.lemmas.Bool.{or_right}
+use Rattle.std.proofs.lemmas.List.{length-append, length-map, map-append, take-append-drop}
 use Rattle.causal_name.specs.declared.Det.{Det}
-use Rattle.causal_name.specs.Names.{is_before, is_ascending, det_cmp}
-use Rattle.causal_name.proofs.Lemmas.DetOrder.{dets_total}
+use Rattle.causal_name.specs.Names.{same_det, is_before, is_ascending, det_cmp}
+use Rattle.causal_name.proofs.Lemmas.DetOrder.{dets_total, det_ties, same_itself}
 use Rattle.causal_log.specs.declared.batch.Item.{Item}
-use Rattle.causal_log.specs.Logs.{dets_of}
-use Rattle.causal_log.proofs.Lemmas.Ascents.{ascending_tail}
+use Rattle.causal_log.specs.Logs.{dets_of, names_det}
+use Rattle.causal_log.proofs.Lemmas.Ascents.{ascending_tail, first_before, is_less}
+use Rattle.causal_log.proofs.Lemmas.Searches.{any_map}
 use Rattle.causal_protocol.specs.Naming.{with_own, by_order}
 use Rattle.causal_core.proofs.MemoriesFit.{and_both}
 
@@ -72,26 +76,57 @@ pub with_end : (own : Det) → with_own own [] ≡ own ∷ []
 unfolding with_own
 with_end own = refl
 
--- where the walk stands
-module _ (own : Det) (items : List Item) (i : ℕ) (x : Item) (h : i < length items) (at : x ≡ get_or items i x) where
-  pub here : dets_of (drop i items) ≡ x.det ∷ dets_of (drop (i + 1) items)
-  here = ap dets_of (drop_more items i x h) ∙ ap (λ (y : Item). y.det ∷ dets_of (drop (i + 1) items)) (sym at)
+-- a determinant that a list has comes in nowhere
+with_own_kept : (own : Det) (ds : List Det) → is_ascending ds ≡ true → list_any (same_det own) ds ≡ true → with_own own ds ≡ ds
+with_own_kept own [] h there = absurd (true≢false (sym there))
+with_own_kept own (d ∷ ds) h there = by (det_cmp own d) refl (λ later. with_own_kept own ds (ascending_tail d ds h) later)
+  where
+    by : (o : Ordering) → det_cmp own d ≡ o → (list_any (same_det own) ds ≡ true → with_own own ds ≡ ds) → with_own own (d ∷ ds) ≡ d ∷ ds
+    by Less is rest = absurd (true≢false (sym (first_before own (d ∷ ds) own (ap (λ o. is_lt o && is_ascending (d ∷ ds)) is ∙ h) there) ∙ ap is_lt (tied_itself dets_total own)))
+    by Equal is rest = equal_is own d ds is
+    by Greater is rest = greater_is own d ds is ∙ ap (λ es. d ∷ es) (rest (sym (ap (λ b. b || list_any (same_det own) ds) (det_ties own d ∙ ap is_eq is)) ∙ there))
 
-  left : length (dets_of (drop i items)) ≡ length items - i
-  left = length-map (drop i items) (λ item. item.det) ∙ length-drop i items
+before_greater : (own d : Det) → is_before d own ≡ true → det_cmp own d ≡ Greater
+before_greater own d h = dets_total.antisymm own d ∙ ap ordering_reverse (is_less (det_cmp d own) h)
 
-  pub less_here : det_cmp own x.det ≡ Less → length (with_own own (dets_of (drop i items))) ≡ 1 + (length items - i)
-  less_here is = ap (λ ds. length (with_own own ds)) here ∙ ap length (less_is own _ (dets_of (drop (i + 1) items)) is) ∙ ap suc (sym (ap length here) ∙ left) ∙ omega arith
+-- past what comes before it, a determinant comes in among the rest
+past : (own : Det) (xs ys : List Det) → is_ascending (xs ++ own ∷ []) ≡ true → with_own own (xs ++ ys) ≡ xs ++ with_own own ys
+past own [] ys h = refl
+past own (x ∷ xs) ys h =
+    greater_is own x (xs ++ ys) (before_greater own x (first_before x (xs ++ own ∷ []) own h (last xs)))
+    ∙ ap (λ ds. x ∷ ds) (past own xs ys (ascending_tail x (xs ++ own ∷ []) h))
+  where
+    last : (zs : List Det) → list_any (same_det own) (zs ++ own ∷ []) ≡ true
+    last [] = ap (λ b. b || false) (same_itself own)
+    last (z ∷ zs) = or_right (same_det own z) (list_any (same_det own) (zs ++ own ∷ [])) (last zs)
 
-  pub equal_here : det_cmp own x.det ≡ Equal → length (with_own own (dets_of (drop i items))) ≡ length items - i
-  equal_here is = ap (λ ds. length (with_own own ds)) here ∙ ap length (equal_is own _ (dets_of (drop (i + 1) items)) is) ∙ sym (ap length here) ∙ left
+-- before what comes after it, it comes first
+first : (own : Det) (ys : List Det) → is_ascending (own ∷ ys) ≡ true → with_own own ys ≡ own ∷ ys
+first own [] h = with_end own
+first own (y ∷ ys) h = less_is own y ys (is_less (det_cmp own y) (and_both (is_before own y) (is_ascending (y ∷ ys)) h).0)
 
-  pub greater_here : det_cmp own x.det ≡ Greater → length (with_own own (dets_of (drop i items))) ≡ 1 + length (with_own own (dets_of (drop (i + 1) items)))
-  greater_here is = ap (λ ds. length (with_own own ds)) here ∙ ap length (greater_is own _ (dets_of (drop (i + 1) items)) is) ∙ omega arith
+-- among the determinants of items, of which one names it
+module _ (own : Det) (items : List Item) (ascend : is_ascending (dets_of items) ≡ true) (named : names_det own items ≡ true) where
+  pub own_kept : with_own own (dets_of items) ≡ dets_of items
+  own_kept = with_own_kept own (dets_of items) ascend (any_map (λ item. item.det) (same_det own) (λ item. same_det own item.det) (λ x. refl) items ∙ named)
 
--- past the last item only the own determinant is left to list
-pub end_here : (own : Det) (items : List Item) (i : ℕ) → length items ≤ i → length (with_own own (dets_of (drop i items))) ≡ 1
-end_here own items i h = ap (λ xs. length (with_own own (dets_of xs))) (drop_all i items h) ∙ ap length (with_end own)
+  pub kept_len : length (with_own own (dets_of items)) ≡ length items
+  kept_len = ap length own_kept ∙ length-map items (λ item. item.det)
+
+-- and between those of the items before it and after it
+module _ (own : Det) (items : List Item) (place : ℕ) (before : is_ascending (dets_of (take place items) ++ own ∷ []) ≡ true) (after : is_ascending (own ∷ dets_of (drop place items)) ≡ true) where
+  parts : dets_of items ≡ dets_of (take place items) ++ dets_of (drop place items)
+  parts = ap dets_of (sym (take-append-drop place items)) ∙ map-append (λ item. item.det) (take place items) (drop place items)
+
+  pub own_put : with_own own (dets_of items) ≡ dets_of (take place items) ++ own ∷ dets_of (drop place items)
+  own_put = ap (with_own own) parts ∙ past own (dets_of (take place items)) (dets_of (drop place items)) before ∙ ap (λ ds. dets_of (take place items) ++ ds) (first own (dets_of (drop place items)) after)
+
+  pub put_len : length (with_own own (dets_of items)) ≡ length items + 1
+  put_len =
+      let all = ap length parts ∙ length-append (dets_of (take place items)) (dets_of (drop place items)) in
+      let more : length (with_own own (dets_of items)) ≡ length (dets_of (take place items)) + suc (length (dets_of (drop place items))) = ap length own_put ∙ length-append (dets_of (take place items)) (own ∷ dets_of (drop place items)) in
+      let len = length-map items (λ item. item.det) in
+      omega (arith, all, more, len)
 
 -- no list is shorter with the own determinant in it
 pub with_longer : (own : Det) (ds : List Det) → length ds ≤ length (with_own own ds)

@@ -1,5 +1,5 @@
 -- Deliveries of a replay, one after the other.
-use Rattle.std.proofs.Common.{ℕ, ◌≡◌, ◌+◌, ◌<◌, inr, ◌∙◌, List, [], ◌∷◌, length, Option, Some, None, refl, sym, ap, subst, arith}
+use Rattle.std.proofs.Common.{ℕ, ◌≡◌, ◌+◌, ◌∙◌, List, [], ◌∷◌, length, Option, Some, None, refl, sym, ap, subst, arith}
 use Rattle.std.specs.Prelude.{Ok, Err}
 use Rattle.causal_name.specs.declared.Pid.{Pid}
 use Rattle.causal_name.specs.declared.MsgName.{MsgName}
@@ -17,7 +17,7 @@ use Rattle.causal_protocol.specs.Steps.{LegalStep, Steps, reason_of}
 use Rattle.causal_core.specs.Boxes.{answers_at, after, after_all}
 use Rattle.causal_core.specs.View.{body_at, naming}
 use Rattle.causal_core.specs.CoreView.{CoreState, IsUnchanged, Delivers}
-use Rattle.causal_core.specs.Replays.{Redelivery, inputs_of, sends_in, IsRefused, RefusesNamed, Redelivers, Replays, Replayed, Redelivered, EndsFor}
+use Rattle.causal_core.specs.Replays.{Redelivery, inputs_of, sends_in, IsRefused, RefusesNamed, Redelivers, Replays, Replayed, Redelivered}
 use Rattle.causal_core.proofs.BoxLemmas.{told_more, same_refl}
 
 -- what is told of a delivery names its message
@@ -125,15 +125,3 @@ module _ {B : Type 0} (answers : B → List Input → List (List Outgoing)) (p :
       nothing : (xs : List Redelivery) → length xs ≡ 0 → Replays answers p xs old new → IsUnchanged answers old new
       nothing [] h made = made
       nothing (x ∷ xs) h made = absurd (omega (arith, h))
-
-  -- where the run is as it was, the refusal stands in it
-  pub ends_refused : (limit count : ℕ) (fault : CoreFault) (mid new : CoreState B) → count < limit → RefusesNamed mid.run p fault → IsUnchanged answers mid new → EndsFor p limit count (Some fault) new.run
-  ends_refused limit count fault mid new some why u = (some, subst (λ r. RefusesNamed r p fault) (sym u.run) why)
-
-  -- and no message is named
-  pub ends_unnamed : (limit count : ℕ) (told : Option Delivered) (mid new : CoreState B) → told ≡ None → Redelivered answers p told mid new → EndsFor p limit count None new.run
-  ends_unnamed limit count told mid new none r = let u = subst (λ o. Redelivered answers p o mid new) none r in inr (ap (λ x. naming x p) u.1.run ∙ u.0)
-
-  -- and so where none was delivered, the refusal is one of the first run
-  pub refuses_still : (count : ℕ) (fault : CoreFault) (old mid : CoreState B) → Replayed answers p count old mid → count ≡ 0 → RefusesNamed mid.run p fault → RefusesNamed old.run p fault
-  refuses_still count fault old mid r none why = subst (λ x. RefusesNamed x p fault) (replayed_nothing count old mid r none).run why

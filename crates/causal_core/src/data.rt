@@ -223,7 +223,7 @@ impl Data {
             dest: q,
             rsn: cell.received.len() as u32,
         };
-        if is_full(&self.trace, 9, listed_len(own, message.batch.as_slice())) {
+        if is_full(&self.trace, 9, listed_len(own, &*message.batch)) {
             return Some(CoreFault::Full);
         }
         None

@@ -57,7 +57,7 @@ pub(crate) fn grow(
 ) -> Result<Grown, NoMemory>
     ensures { IfOk result (λ g. IsMade f own (memory_of cell.now) message.now g) }
 {
-    let listed = listed(alloc, own, message.batch.as_slice())?;
+    let listed = listed(alloc, own, &*message.batch)?;
     let carried = Arc::try_clone(&message.batch)?;
     let next = cell
         .log

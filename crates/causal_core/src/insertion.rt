@@ -1,67 +1,47 @@
 //! What a delivery lists.
-ghost use Rattle.std.specs.Prelude.{◌≡◌, length, IfOk};
+ghost use Rattle.std.specs.Prelude.{◌≡◌, ◌≤◌, ◌+◌, ◌++◌, length, vec_len, vec_capacity, IfOk};
 ghost use Rattle.causal_log.specs.Logs.{dets_of};
 ghost use Rattle.causal_protocol.specs.Naming.{with_own};
-ghost use Rattle.causal_core.specs.Inside.Listings.{ListsNext};
 
-use causal_log::Item;
+use causal_log::{Batch, Item};
 use causal_name::{Det, NoMemory};
 use std::alloc::Global;
-use std::cmp::Ordering;
 
-/// How many determinants an ascending list has with one more.
-pub(crate) fn listed_len(own: Det, items: &[Item]) -> usize
-    ensures { result ≡ length (with_own own (dets_of items.now)) }
+/// How many determinants a batch has with one more, unless that is one of them.
+pub(crate) fn listed_len(own: Det, batch: &Batch) -> usize
+    ensures { result ≡ length (with_own own (dets_of batch.now)) }
 {
-    let mut before = 0;
-    for item in items {
-        match own.cmp(&item.det) {
-            Ordering::Less => return items.len() + 1,
-            Ordering::Equal => return items.len(),
-            Ordering::Greater => before += 1,
-        }
+    let len = batch.as_slice().len();
+    match batch.place_for(own) {
+        Some(_) => len + 1,
+        None => len,
     }
-    before + 1
 }
 
-/// An ascending list with one more determinant.
-pub(crate) fn listed(alloc: Global, own: Det, items: &[Item]) -> Result<Vec<Det>, NoMemory>
-    ensures { IfOk result (λ dets. dets.items ≡ with_own own (dets_of items.now)) }
+/// The determinants of a batch, ascending, with one more in its place, unless that is one of them.
+pub(crate) fn listed(alloc: Global, own: Det, batch: &Batch) -> Result<Vec<Det>, NoMemory>
+    ensures { IfOk result (λ dets. dets.items ≡ with_own own (dets_of batch.now)) }
 {
-    let mut listed = Vec::with_capacity(alloc, items.len().saturating_add(1))?;
-    let mut placed = false;
-    for item in items {
-        placed = place(&mut listed, own, placed, item.det)?;
-    }
-    if placed {
+    let items = batch.as_slice();
+    let mut listed = Vec::with_capacity(alloc, items.len() + 1)?;
+    let Some(place) = batch.place_for(own) else {
+        list(&mut listed, items);
         return Ok(listed);
-    }
-    listed.push(own)?;
+    };
+    list(&mut listed, &items[..place]);
+    listed.push_reserved(own);
+    list(&mut listed, &items[place..]);
     Ok(listed)
 }
 
-/// Lists the next determinant, after the one more where that comes first; says whether that one has its place.
-fn place(listed: &mut Vec<Det>, own: Det, placed: bool, det: Det) -> Result<bool, NoMemory>
-    ensures { IfOk result
-        (λ now_placed. ListsNext own det placed now_placed listed.old.items listed.new.items) }
+/// Lists the determinants of items, in room that there is.
+fn list(listed: &mut Vec<Det>, items: &[Item])
+    requires { vec_len listed.old + length items.now ≤ vec_capacity listed.old }
+    ensures items { listed.new.items ≡ listed.old.items ++ dets_of items.now }
+    ensures len { vec_len listed.new ≡ vec_len listed.old + length items.now }
+    ensures capacity { vec_capacity listed.new ≡ vec_capacity listed.old }
 {
-    if placed {
-        listed.push(det)?;
-        return Ok(true);
-    }
-    match own.cmp(&det) {
-        Ordering::Less => {
-            listed.push(own)?;
-            listed.push(det)?;
-            Ok(true)
-        }
-        Ordering::Equal => {
-            listed.push(det)?;
-            Ok(true)
-        }
-        Ordering::Greater => {
-            listed.push(det)?;
-            Ok(false)
-        }
+    for item in items {
+        listed.push_reserved(item.det);
     }
 }

@@ -14,6 +14,7 @@ use Rattle.causal_log.specs.declared.known.Known.{Known}
 use Rattle.causal_log.specs.declared.batch.Item.{Item}
 use Rattle.causal_log.specs.Knowledge.{nothing_known, held_by, joined, as_stable, told, is_carried}
 use Rattle.causal_log.specs.Logs.{LogMap, mark, marked}
+use Rattle.causal_log.specs.Inside.Carried.{known_of_item, both_hold}
 use Rattle.causal_log.proofs.Lemmas.Searches.{or_nothing, or_right}
 
 -- no holders more
@@ -41,6 +42,26 @@ inserted : (s : set.FinSet nat_cmp) (from me : Pid) (q : ℕ) →
     set.contains (set.insert (set.insert s from.0) me.0) q ≡ (eq_by_cmp nat_cmp q me.0 || (eq_by_cmp nat_cmp q from.0 || set.contains s q))
 inserted s from me q =
     set.contains-insert nat_cmp_total (set.insert s from.0) me.0 q ∙ ap (λ b. eq_by_cmp nat_cmp q me.0 || b) (set.contains-insert nat_cmp_total s from.0 q)
+
+-- what an item tells is that its own holders and the two hold its determinant
+pub told_both : (from me : Pid) (item : Item) → joined (known_of_item item) (both_hold from me) ≡ (told from me item).1
+told_both from me item = λ i. record { holders = all i; stable = false }
+  where
+    alone : (p : Pid) (q : ℕ) → set.contains (held_by p).holders q ≡ eq_by_cmp nat_cmp q p.0
+    alone p q = set.contains-insert nat_cmp_total set.empty p.0 q ∙ ap (λ b. eq_by_cmp nat_cmp q p.0 || b) (set.contains-empty nat_cmp q) ∙ sym (or_nothing (eq_by_cmp nat_cmp q p.0))
+
+    either : (a b h : Bool) → (h || (a || b)) ≡ (b || (a || h))
+    either true true h = sym (or_right h)
+    either true false h = sym (or_right h)
+    either false true h = sym (or_right h)
+    either false false h = sym (or_nothing h)
+
+    all : set.union item.holders (both_hold from me).holders ≡ (told from me item).1.holders
+    all = set.same_set nat_cmp_total set.nat_cmp-IsAntisymmetric _ _ (λ q.
+        set.contains-union nat_cmp_total item.holders (both_hold from me).holders q
+        ∙ ap (λ b. set.contains item.holders q || b) (set.contains-union nat_cmp_total (held_by from).holders (held_by me).holders q ∙ (λ i. alone from q i || alone me q i))
+        ∙ either (eq_by_cmp nat_cmp q from.0) (eq_by_cmp nat_cmp q me.0) (set.contains item.holders q)
+        ∙ sym (inserted item.holders from me q))
 
 wider : (a b c d : Bool) → c ≡ false → (a || (b || c)) ≡ true → (a || (b || d)) ≡ true
 wider true b c d none h = refl

@@ -21,7 +21,7 @@ use Rattle.causal_holders.proofs.Lemmas.Sets.{len-is_subset}
 use Rattle.causal_log.specs.declared.known.Known.{Known}
 use Rattle.causal_log.specs.declared.batch.Item.{Item}
 use Rattle.causal_log.specs.Knowledge.{nothing_known, joined, is_carried, told}
-use Rattle.causal_log.specs.Logs.{LogMap, known_of, learned, absorbed, item_of, chosen, dets_of}
+use Rattle.causal_log.specs.Logs.{LogMap, known_of, learned, absorbed, item_of, chosen, dets_of, names_det}
 use Rattle.causal_log.specs.Inside.Carried.{known_of_item, with_carried, HearsNext}
 use Rattle.causal_log.specs.Inside.Merges.{HasMerged}
 use Rattle.causal_log.proofs.EntryLemmas.{below, get_log, same_log, own_entries, not_itself}
@@ -350,6 +350,12 @@ drop_got (y ∷ xs) (suc i) x h =
     let e : suc (i + 1) ≡ suc i + 1 = omega arith in
     drop_got xs i x h ∙ ap (λ n. x ∷ drop n (y ∷ xs)) e
 
+-- an item that is found stands within the list
+pub got_within : (xs : List Item) (i : ℕ) (x : Item) → slice_get xs i ≡ Some x → i < length xs
+got_within [] i x h = absurd (true≢false (sym (ap is_some h)))
+got_within (y ∷ xs) zero x h = omega arith
+got_within (y ∷ xs) (suc i) x h = let k = got_within xs i x h in omega (arith, k)
+
 -- what comes next is after a determinant that is none of it and before which nothing of it comes
 pub next_after : (kept : List Item) (place : ℕ) (det : Det) → is_ascending (dets_of (drop place kept)) ≡ true → IfSome (slice_get kept place) (λ item. is_before item.det det ≡ false)
     → IfSome (slice_get kept place) (λ item. same_det item.det det ≡ false) → is_ascending (det ∷ dets_of (drop place kept)) ≡ true
@@ -414,6 +420,18 @@ rest_ascends f log out rest is = back (dets_of out) (dets_of rest) (sym (ap is_a
 pub cut_rest : (xs : List Item) (n : ℕ) → take (length xs - n) (drop n xs) ≡ drop n xs
 cut_rest xs n = let len = length-drop n xs in take_all (length xs - n) (drop n xs) (omega (arith, len))
 
+-- the items from a place on ascend
+pub drop_ascends : (xs : List Item) (n : ℕ) → is_ascending (dets_of xs) ≡ true → is_ascending (dets_of (drop n xs)) ≡ true
+drop_ascends xs n h =
+    back (dets_of (take n xs)) (dets_of (drop n xs)) (sym (ap is_ascending (dets_append (take n xs) (drop n xs))) ∙ ap (λ ys. is_ascending (dets_of ys)) (take-append-drop n xs) ∙ h)
+
+-- a determinant that an item names is named
+pub named_at : (xs : List Item) (n : ℕ) (x : Item) (det : Det) → slice_get xs n ≡ Some x → x.det ≡ det → names_det det xs ≡ true
+named_at xs n x det there same =
+    ap (names_det det) (sym (take-append-drop n xs) ∙ ap (λ ys. take n xs ++ ys) (drop_got xs n x there))
+    ∙ list_any-append (λ y. same_det det y.det) (take n xs) (x ∷ drop (n + 1) xs)
+    ∙ or_right (names_det det (take n xs)) (names_det det (x ∷ drop (n + 1) xs)) (ap (λ b. b || names_det det (drop (n + 1) xs)) (ap (same_det det) same ∙ same_itself det))
+
 -- what is put in where one was taken out stands between what came before it and after it
 pub in_its_place : (f : ℕ) (det : Det) (known : Known) (xs : List Item) (n : ℕ) → n ≤ length xs
     → with_carried f det known (take n (take n xs ++ drop (suc n) xs)) ++ drop n (take n xs ++ drop (suc n) xs) ≡ with_carried f det known (take n xs) ++ drop (n + 1) xs
@@ -427,28 +445,21 @@ in_its_place f det known xs n within =
     λ i. with_carried f det known (first i) ++ last i
 
 -- the own determinant comes to what messages carry of a log, at the first item that does not come before it
-module _ (f : ℕ) (log : LogMap) (own : Det) (heard : Known) (xs : List Item) (place : ℕ) (is : xs ≡ chosen f log) (within : place ≤ length xs) (next : IfSome (slice_get xs place) (λ item. is_before item.det own ≡ false))
-    (last : 0 < place → IfSome (slice_get xs (place - 1)) (λ item. is_before item.det own ≡ true)) where
+module _ (f : ℕ) (log : LogMap) (own : Det) (heard : Known) (xs : List Item) (place : ℕ) (is : xs ≡ chosen f log) (before : is_ascending (dets_of (take place xs) ++ own ∷ []) ≡ true) (next : IfSome (slice_get xs place) (λ item. is_before item.det own ≡ false)) where
   split : take place xs ++ drop place xs ≡ chosen f log
   split = take-append-drop place xs ∙ is
-
-  before_own : is_ascending (dets_of (take place xs) ++ own ∷ []) ≡ true
-  before_own =
-      let e : place - 0 ≡ place = omega arith in
-      subst (λ n. is_ascending (dets_of (take n xs) ++ own ∷ []) ≡ true) e
-      (part_passed [] xs 0 place own (omega arith) within (ap (λ ys. is_ascending (dets_of ys)) is ∙ chosen_ascend f log) refl last)
 
   after_own : IfSome (slice_get xs place) (λ item. same_det item.det own ≡ false) → is_ascending (own ∷ dets_of (drop place xs)) ≡ true
   after_own apart = next_after xs place own (rest_ascends f log (take place xs) (drop place xs) split) next apart
 
   -- it is there with what more is known of it, if messages carry that
   pub own_met : (item : Item) → slice_get xs place ≡ Some item → item.det ≡ own → with_carried f own (joined (known_of_item item) heard) (take place xs) ++ drop (place + 1) xs ≡ chosen f (learned log own heard)
-  own_met item there same = met f log own heard (take place xs) item (drop (place + 1) xs) (ap (λ ys. take place xs ++ ys) (sym (drop_got xs place item there)) ∙ split) before_own same
+  own_met item there same = met f log own heard (take place xs) item (drop (place + 1) xs) (ap (λ ys. take place xs ++ ys) (sym (drop_got xs place item there)) ∙ split) before same
 
   -- it stays out where it is logged
   pub own_out : IfSome (slice_get xs place) (λ item. same_det item.det own ≡ false) → is_some (fin.get log own) ≡ true → xs ≡ chosen f (learned log own heard)
-  own_out apart there = sym (take-append-drop place xs) ∙ logged_out f log own heard (take place xs) (drop place xs) split before_own (after_own apart) there
+  own_out apart there = sym (take-append-drop place xs) ∙ logged_out f log own heard (take place xs) (drop place xs) split before (after_own apart) there
 
   -- and is new elsewhere
   pub own_in : IfSome (slice_get xs place) (λ item. same_det item.det own ≡ false) → is_some (fin.get log own) ≡ false → with_carried f own (joined nothing_known heard) (take place xs) ++ drop place xs ≡ chosen f (learned log own heard)
-  own_in apart new = comes_in f log own heard (take place xs) (drop place xs) split before_own (after_own apart) new
+  own_in apart new = comes_in f log own heard (take place xs) (drop place xs) split before (after_own apart) new

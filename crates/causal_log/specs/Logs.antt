@@ -1,5 +1,5 @@
 -- A volatile log as contracts see it: what is known of each of some determinants (Alvisi and Marzullo 1998).
-use Rattle.std.specs.Prelude.{◌≡◌, ℕ, Bool, false, not, ◌&&◌, ◌+◌, List, [], ◌∷◌, map, filter, length, slice_get, count_by, Option, Some, None, is_none, unwrap_or, refl}
+use Rattle.std.specs.Prelude.{◌≡◌, ℕ, Bool, true, false, not, ◌&&◌, ◌+◌, List, [], ◌∷◌, ◌++◌, map, filter, length, slice_get, count_by, Option, Some, None, is_none, unwrap_or, refl}
 use Rattle.std.specs.Coded.{Coded, code_by, coded×, coded_ℕ}
 use Rattle.std.specs.Option.{option_map}
 use Rattle.std.specs.List.{list_any}
@@ -8,7 +8,7 @@ use Rattle.std.specs.FinSet as set
 use Rattle.causal_name.specs.declared.Det.{Det}
 use Rattle.causal_name.specs.declared.MsgName.{MsgName}
 use Rattle.causal_name.specs.declared.Pid.{Pid}
-use Rattle.causal_name.specs.Names.{det_cmp, same_det, message_of}
+use Rattle.causal_name.specs.Names.{det_cmp, same_det, message_of, is_ascending}
 use Rattle.causal_log.specs.declared.known.Known.{Known}
 use Rattle.causal_log.specs.declared.batch.Item.{Item}
 use Rattle.causal_log.specs.Slots.{first_of_slot}
@@ -113,6 +113,14 @@ is_chosen f (Some known) = is_carried f known
 -- the determinants of items
 abbrev pub dets_of : List Item → List Det
 dets_of items = map (λ item. item.det) items
+
+-- items ascend, and come before a determinant
+abbrev pub EndBefore : List Item → Det → Type 0
+EndBefore items det = is_ascending (dets_of items ++ det ∷ []) ≡ true
+
+-- a determinant comes before items, and these ascend
+abbrev pub BeginAfter : Det → List Item → Type 0
+BeginAfter det items = is_ascending (det ∷ dets_of items) ≡ true
 
 -- whether items name a determinant, and name one with this holder
 abbrev pub names_det : Det → List Item → Bool

@@ -1,8 +1,10 @@
 //! What a message carries.
-ghost use Rattle.std.specs.Prelude.{◌≡◌, true, IfOk};
-ghost use Rattle.causal_name.specs.Names.{is_ascending};
+ghost use Rattle.std.specs.Prelude.{◌≡◌, ◌≤◌, true, false, Some, take, drop, slice_get, length, IfOk, IfSome, IsNone};
+ghost use Rattle.causal_name.specs.Names.{is_ascending, same_det};
+ghost use Rattle.causal_log.specs.Knowledge.{joined};
 ghost use Rattle.causal_log.specs.Inside.Carried.{known_of_item};
-ghost use Rattle.causal_log.specs.Logs.{dets_of};
+ghost use Rattle.causal_log.specs.Inside.Merges.{IsPassed};
+ghost use Rattle.causal_log.specs.Logs.{dets_of, names_det, EndBefore, BeginAfter};
 
 use crate::known::Known;
 use causal_holders::Holders;
@@ -25,6 +27,13 @@ impl Item {
             holders: self.holders,
             stable: false,
         }
+    }
+
+    /// What it tells, where both its sender and its receiver hold the determinant.
+    pub(crate) fn told(&self, both: &Known) -> Known
+        ensures { result ≡ joined (known_of_item self.now) both.now }
+    {
+        self.known().joined(*both)
     }
 }
 
@@ -72,6 +81,21 @@ impl Batch {
         self.items.as_slice()
     }
 
+    /// Where a determinant would stand among the items, unless one of them names it.
+    pub fn place_for(&self, det: Det) -> Option<usize>
+        ensures named { IsNone result → names_det det self.now ≡ true }
+        ensures within { IfSome result (λ place. place ≤ length self.now) }
+        ensures before { IfSome result (λ place. EndBefore (take place self.now) det) }
+        ensures after { IfSome result (λ place. BeginAfter det (drop place self.now)) }
+    {
+        let items = self.items.as_slice();
+        let place = place_of(items, det);
+        match next_of(items, place, det) {
+            Some(_) => None,
+            None => Some(place),
+        }
+    }
+
     /// A copy, for who has to hand the batch out of its keeping. Its only error is want of memory.
     pub fn try_clone(&self) -> Result<Batch, NoMemory>
         ensures { IfOk result (λ copy. copy ≡ self.now) }
@@ -79,4 +103,35 @@ impl Batch {
         let items = self.items.clone()?;
         Ok(Batch { items })
     }
+}
+
+/// The place of the first of ascending items that does not come before a determinant.
+pub(crate) fn place_of(items: &[Item], det: Det) -> usize
+    requires { is_ascending (dets_of items.now) ≡ true }
+    ensures within { result ≤ length items.now }
+    ensures before { EndBefore (take result items.now) det }
+    ensures next { IsPassed items.now result det }
+{
+    let mut place = 0;
+    let mut end = items.len();
+    while place < end {
+        let middle = place + (end - place) / 2;
+        if items[middle].det.comes_before(&det) {
+            place = middle + 1;
+        } else {
+            end = middle;
+        }
+    }
+    place
+}
+
+/// The item at a place, where it is of a determinant.
+pub(crate) fn next_of(kept: &[Item], place: usize, det: Det) -> Option<Item>
+    ensures found { IfSome result (λ item. slice_get kept.now place ≡ Some item) }
+    ensures same { IfSome result (λ item. item.det ≡ det) }
+    ensures other { IsNone result →
+        IfSome (slice_get kept.now place) (λ item. same_det item.det det ≡ false) }
+{
+    let item = *kept.get(place)?;
+    if item.det == det { Some(item) } else { None }
 }

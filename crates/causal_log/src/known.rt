@@ -1,6 +1,7 @@
 //! What a process knows of a determinant.
 ghost use Rattle.std.specs.Prelude.{◌≡◌};
 ghost use Rattle.causal_log.specs.Knowledge.{nothing_known, held_by, joined, as_stable, told, is_carried};
+ghost use Rattle.causal_log.specs.Inside.Carried.{both_hold};
 
 use crate::batch::Item;
 use causal_holders::Holders;
@@ -31,6 +32,13 @@ impl Known {
         let mut known = Known::nothing();
         known.holders.insert(process.0);
         known
+    }
+
+    /// That two processes hold it, as a message from one to the other tells of what it carries.
+    pub(crate) fn held_by_both(from: Pid, me: Pid) -> Known
+        ensures { result ≡ both_hold from me }
+    {
+        Known::held(from).joined(Known::held(me))
     }
 
     /// Both together.

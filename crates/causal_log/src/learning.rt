@@ -4,11 +4,12 @@ ghost use Rattle.std.specs.FinMap as fin;
 ghost use Rattle.causal_log.specs.Logs.{log_of, learned, absorbed, learned_all};
 
 use crate::batch::Item;
-use crate::known::{Known, told};
+use crate::known::Known;
 use crate::table::Table;
 use causal_name::{Det, Pid};
 
 /// Learns something of one determinant. It takes no memory: where the determinant is not logged, there is room.
+#[inline]
 pub(crate) fn learn(entries: &mut Table, det: Det, heard: Known)
     requires room { fin.get (log_of entries.old.entries) det ≡ None → 1 ≤ entries.old.spare }
     ensures learned { log_of entries.new.entries ≡ learned (log_of entries.old.entries) det heard }
@@ -27,8 +28,9 @@ pub(crate) fn learn_items(entries: &mut Table, items: &[Item], from: Pid, me: Pi
         absorbed items.now from me (log_of entries.old.entries) }
     ensures spare { entries.old.spare ≤ entries.new.spare + length items.now }
 {
+    let both = Known::held_by_both(from, me);
     for item in items {
-        learn(entries, item.det, told(from, me, item));
+        learn(entries, item.det, item.told(&both));
     }
 }
 

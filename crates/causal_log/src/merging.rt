@@ -9,11 +9,11 @@ ghost use Rattle.causal_name.specs.declared.Det.{Det};
 ghost use Rattle.causal_name.specs.Names.{is_ascending, is_before, same_det};
 ghost use Rattle.causal_log.specs.declared.batch.Item.{Item};
 ghost use Rattle.causal_log.specs.Knowledge.{told, is_carried};
-ghost use Rattle.causal_log.specs.Logs.{LogMap, log_of, chosen, dets_of, names_det};
-ghost use Rattle.causal_log.specs.Inside.Carried.{with_carried, HearsNext};
-ghost use Rattle.causal_log.specs.Inside.Merges.{EndBefore, IsPassed, are_known_to_hold, source_of, heard_of, taken};
+ghost use Rattle.causal_log.specs.Logs.{LogMap, log_of, chosen, dets_of, names_det, EndBefore};
+ghost use Rattle.causal_log.specs.Inside.Carried.{both_hold, with_carried, HearsNext};
+ghost use Rattle.causal_log.specs.Inside.Merges.{IsPassed, are_known_to_hold, source_of, heard_of, taken};
 
-use crate::batch::{Batch, Item};
+use crate::batch::{Batch, Item, next_of, place_of};
 use crate::known::{Known, told};
 use crate::table::Table;
 use causal_holders::Holders;
@@ -107,6 +107,9 @@ fn pass(out: &mut Vec<Item>, kept: &[Item], from: usize, det: Det) -> Result<usi
     ensures next { IfOk result (λ next. IsPassed kept.now next det) }
 {
     let next = end_before(kept, from, det);
+    if next == from {
+        return Ok(next);
+    }
     out.extend_from_slice(&kept[from..next])?;
     Ok(next)
 }
@@ -120,17 +123,6 @@ fn carry(out: &mut Vec<Item>, det: Det, known: Known, f: u16) -> Result<(), NoMe
         out.push(Item { det, holders })?;
     }
     Ok(())
-}
-
-/// What is kept of a determinant, where it is what comes next.
-fn next_of(kept: &[Item], place: usize, det: Det) -> Option<Item>
-    ensures found { IfSome result (λ item. slice_get kept.now place ≡ Some item) }
-    ensures same { IfSome result (λ item. item.det ≡ det) }
-    ensures other { IsNone result →
-        IfSome (slice_get kept.now place) (λ item. same_det item.det det ≡ false) }
-{
-    let item = *kept.get(place)?;
-    if item.det == det { Some(item) } else { None }
 }
 
 /// Whether items name a determinant.
@@ -154,9 +146,11 @@ fn meet(
     kept: &[Item],
     place: usize,
     delivery: &Delivery<'_>,
+    both: &Known,
     item: &Item,
 ) -> Result<usize, NoMemory>
     requires within { place ≤ length kept.now }
+    requires both { both.now ≡ both_hold delivery.now.from delivery.now.me }
     requires before { EndBefore out.old.items item.now.det }
     requires next { IsPassed kept.now place item.now.det }
     ensures within { IfOk result (λ next. next ≤ length kept.now) }
@@ -168,14 +162,14 @@ fn meet(
         ((d : Det) → is_before item.now.det d ≡ true → EndBefore out.new.items d) }
 {
     if let Some(next) = next_of(kept, place, item.det) {
-        let heard = told(delivery.from, delivery.me, item);
+        let heard = item.told(both);
         carry(out, item.det, next.known().joined(heard), delivery.f)?;
         return Ok(place + 1);
     }
     if !delivery.may_carry() || is_logged(delivery.entries, item.det) {
         return Ok(place);
     }
-    let heard = told(delivery.from, delivery.me, item);
+    let heard = item.told(both);
     carry(out, item.det, heard, delivery.f)?;
     Ok(place)
 }
@@ -192,10 +186,11 @@ fn merged(alloc: Global, kept: &[Item], delivery: &Delivery<'_>) -> Result<Vec<I
     if kept.is_empty() && !delivery.may_carry() {
         return Ok(out);
     }
+    let both = Known::held_by_both(delivery.from, delivery.me);
     let mut place = 0;
     for item in items {
         place = pass(&mut out, kept, place, item.det)?;
-        place = meet(&mut out, kept, place, delivery, item)?;
+        place = meet(&mut out, kept, place, delivery, &both, item)?;
     }
     out.extend_from_slice(&kept[place..])?;
     Ok(out)
@@ -228,7 +223,7 @@ fn take_own(out: &mut Vec<Item>, delivery: &Delivery<'_>) -> Result<(), NoMemory
     let det = delivery.own;
     let held = Known::held(delivery.me);
     let items = out.as_slice();
-    let place = end_before(items, 0, det);
+    let place = place_of(items, det);
     if let Some(item) = next_of(items, place, det) {
         out.remove(place);
         return carry_at(out, place, det, item.known().joined(held), delivery.f);

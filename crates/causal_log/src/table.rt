@@ -132,6 +132,7 @@ impl Table {
     }
 
     /// Adds an entry behind the others, in room made before.
+    #[inline(never)]
     pub(crate) fn add(&mut self, det: Det, known: Known)
         requires room { 1 ≤ self.old.spare }
         requires new { fin.get (log_of self.old.entries) det ≡ None }

@@ -1,5 +1,5 @@
 -- What a delivery puts in place.
-use Rattle.std.specs.Prelude.{◌≡◌, ℕ, Bool, true, false, List, [], ◌∷◌, map, replicate}
+use Rattle.std.specs.Prelude.{◌≡◌, ℕ, List, [], ◌∷◌, map, replicate}
 use Rattle.std.specs.Arc.{arc_value}
 use Rattle.std.specs.declared.sync.Arc.{Arc}
 use Rattle.std.proofs.Common.{Global}
@@ -15,11 +15,6 @@ use Rattle.causal_protocol.specs.Naming.{own_det, send_of, with_own, listed_for}
 use Rattle.causal_name.specs.declared.Det.{Det}
 use Rattle.causal_core.specs.View.{DataState}
 use Rattle.causal_core.specs.Inside.Memories.{log_at}
-
--- what is still to be listed: the rest, with the determinant in its place where it has not been placed
-abbrev pub rest_of : Bool → Det → List Det → List Det
-rest_of true own ds = ds
-rest_of false own ds = with_own own ds
 
 -- the batches that are shared, and the first of these
 abbrev pub batches_of : List (Arc (List Item) Global) → List (List Item)

@@ -4,15 +4,20 @@ use Rattle.std.specs.Option.{IfSome, option_map_or}
 use Rattle.std.specs.Arc.{arc_value}
 use Rattle.std.specs.FinMap as fin
 use Rattle.causal_name.specs.declared.Det.{Det}
+use Rattle.causal_name.specs.declared.Pid.{Pid}
 use Rattle.causal_log.specs.declared.known.Known.{Known}
 use Rattle.causal_log.specs.declared.batch.Item.{Item}
 use Rattle.causal_log.specs.declared.carried.Carried.{Carried}
-use Rattle.causal_log.specs.Knowledge.{is_carried}
+use Rattle.causal_log.specs.Knowledge.{held_by, joined, is_carried}
 use Rattle.causal_log.specs.Logs.{LogMap, chosen, learned}
 
 -- what the sender of an item knew of its determinant
 abbrev pub known_of_item : Item → Known
 known_of_item item = record { holders = item.holders; stable = false }
+
+-- that both hold a determinant, as a message from one to the other tells of what it carries
+abbrev pub both_hold : Pid → Pid → Known
+both_hold from me = joined (held_by from) (held_by me)
 
 -- whether a determinant is logged and not known to be stable
 abbrev pub is_open : LogMap → Det → Bool

@@ -26,10 +26,6 @@ taken d = grown d.items.now d.own d.from d.me (source_of d)
 abbrev pub are_known_to_hold : LogMap → Det → set.FinSet nat_cmp → Bool
 are_known_to_hold log det holders = option_map_or (λ known. set.is_subset holders known.holders) (fin.get log det) false
 
--- items ascend, and come before a determinant
-abbrev pub EndBefore : List Item → Det → Type 0
-EndBefore items det = is_ascending (dets_of items ++ det ∷ []) ≡ true
-
 -- what comes next in items does not come before a determinant
 abbrev pub IsPassed : List Item → ℕ → Det → Type 0
 IsPassed items place det = IfSome (slice_get items place) (λ item. is_before item.det det ≡ false)

@@ -1,7 +1,7 @@
 use Rattle.std.proofs.Common.{Some, []}
 use Rattle.std.specs.Option.{option_map, option_map_or}
 use Rattle.causal_core.specs.Inside.Memories.{memory_of, bodies_of}
-use Rattle.causal_core.proofs.Cells.{map-set}
+use Rattle.causal_core.proofs.BoxLemmas.{map-set}
 use Rattle.causal_core.proofs.data_restart.put.Goals as goal
 
 pub returns-clause-memories : goal.returns-clause-memories

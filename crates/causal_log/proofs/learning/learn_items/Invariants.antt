@@ -4,7 +4,7 @@ use Rattle.causal_log.proofs.learning.learn_items.Given as goal
 
 abbrev pub invariant-loop-item : goal.invariant-loop-item
 invariant-loop-item l = record {
-  learned : absorbed (drop l.item-index l.items) l.from l.me (log_of l.entries.entries) ≡ absorbed l.items l.from l.me (log_of l.fn.entries.entries);
+  learned : absorbed (drop l.item-index l.items) l.fn.from l.fn.me (log_of l.entries.entries) ≡ absorbed l.items l.fn.from l.fn.me (log_of l.fn.entries.entries);
   room : length l.items ≤ l.entries.spare + l.item-index;
   spare : l.fn.entries.spare ≤ l.entries.spare + l.item-index;
 }

@@ -1,12 +1,18 @@
 use Rattle.std.proofs.Common.{◌≡◌, ◌∙◌, ◌+◌, ◌++◌, ◌∷◌, [], true, drop, is_some, ap, sym, subst}
+use Rattle.causal_name.specs.declared.Pid.{Pid}
 use Rattle.causal_name.specs.Names.{is_ascending}
+use Rattle.causal_log.specs.declared.known.Known.{Known}
+use Rattle.causal_log.specs.declared.batch.Item.{Item}
 use Rattle.causal_log.specs.Knowledge.{joined, told}
 use Rattle.causal_log.specs.Logs.{dets_of}
-use Rattle.causal_log.specs.Inside.Carried.{with_carried}
-use Rattle.causal_log.proofs.KnownLemmas.{joined_nothing}
+use Rattle.causal_log.specs.Inside.Carried.{with_carried, known_of_item, both_hold}
+use Rattle.causal_log.proofs.KnownLemmas.{joined_nothing, told_both}
 use Rattle.causal_log.proofs.MergeLemmas.{drop_got, met, before_later, raise, still_out, logged_out, comes_in, next_after, rest_ascends}
 use Rattle.causal_log.proofs.merging.meet.Goals.{then-not-may_carry-via-then-not-may_carry, then-not-may_carry-via-else-not-may_carry+then-is_logged}
 use Rattle.causal_log.proofs.merging.meet.Goals as goal
+
+heard_is : (from me : Pid) (item : Item) (heard both : Known) → heard ≡ joined (known_of_item item) both → both ≡ both_hold from me → heard ≡ (told from me item).1
+heard_is from me item heard both is b = is ∙ ap (joined (known_of_item item)) b ∙ told_both from me item
 
 pub returns-in-Some-clause-heard : goal.returns-in-Some-clause-heard
 returns-in-Some-clause-heard c = λ log logged was.
@@ -17,7 +23,7 @@ returns-in-Some-clause-heard c = λ log logged was.
     let rest = drop (c.args.place + 1) c.args.kept.now in
     let here = drop_got c.args.kept.now c.args.place next c.in-Some.ensures.found in
     ap (λ xs. xs ++ rest) c.in_ok-carry.ensures
-    ∙ ap (λ k. with_carried d.f det k out ++ rest) (c.joined.ensures ∙ (λ i. joined (c.known.ensures i) (c.told-heard.ensures i)))
+    ∙ ap (λ k. with_carried d.f det k out ++ rest) (c.joined.ensures ∙ (λ i. joined (c.known.ensures i) (heard_is d.from d.me c.args.item.now _ c.args.both.now c.told-heard.ensures c.requires.both i)))
     ∙ met d.f log det (told d.from d.me c.args.item.now).1 out next rest (ap (λ xs. out ++ xs) (sym here) ∙ was) c.requires.before c.in-Some.ensures.same
 
 pub returns-in-Some-clause-before : goal.returns-in-Some-clause-before
@@ -51,7 +57,7 @@ returns-clause-heard c = λ log logged was.
     let rest = drop c.args.place c.args.kept.now in
     let after = next_after c.args.kept.now c.args.place det (rest_ascends d.f log out rest was) c.requires.next (c.next_of.ensures.other (ap is_some c.in_default.is)) in
     ap (λ xs. xs ++ rest) c.in_ok-carry-2.ensures
-    ∙ ap (λ k. with_carried d.f det k out ++ rest) (c.told-heard-2.ensures ∙ sym (joined_nothing heard))
+    ∙ ap (λ k. with_carried d.f det k out ++ rest) (heard_is d.from d.me c.args.item.now _ c.args.both.now c.told-heard-2.ensures c.requires.both ∙ sym (joined_nothing heard))
     ∙ comes_in d.f log det heard out rest was c.requires.before after (logged ∙ sym c.is_logged.ensures ∙ c.if-is_logged.false)
 
 pub returns-clause-before : goal.returns-clause-before

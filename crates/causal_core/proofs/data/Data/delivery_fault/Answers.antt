@@ -109,7 +109,7 @@ full_is c here sent =
     let list = listed_is (memories_in c.self.inside.cells.items) c.args.q (name c.args.source c.args.ssn) (memory_of c.in-Some.cell.now) (kept_of c.in-Some-message.message.now) here sent in
     let long : length (listed_for (memories_in c.self.inside.cells.items) c.args.q (name c.args.source c.args.ssn)) ≡ c.listed_len.result =
     ap length list
-    ∙ (λ i. length (with_own (det_from c.args.q (count i) (name c.args.source c.args.ssn)) (dets_of (sym (c.as_slice.ensures.items ∙ c.deref.ensures) i))))
+    ∙ (λ i. length (with_own (det_from c.args.q (count i) (name c.args.source c.args.ssn)) (dets_of (sym c.deref.ensures i))))
     ∙ sym c.listed_len.ensures in
     ap (is_full r 9) long ∙ sym c.is_full.ensures
 
