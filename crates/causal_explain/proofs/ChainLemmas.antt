@@ -1,11 +1,12 @@
 -- The shortest chain, by the ways.
 use Rattle.std.proofs.Common.{ℕ, ◌≡◌, ◌+◌, List, length, Some, None, refl, ap, ◌∙◌, arith}
+use Rattle.std.specs.Prelude.{Option, IfSome}
 use Rattle.causal_trace.specs.declared.entry.Entry.{Entry}
 use Rattle.causal_trace.specs.Past.{lane}
 use Rattle.causal_trace.specs.Dependence.{IsEventOf}
 use Rattle.causal_explain.specs.declared.ways.Reached.{Reached}
-use Rattle.causal_explain.specs.Chains.{IsShortestChain, LeadsTo}
-use Rattle.causal_explain.specs.Inside.Ways.{Comes, at_once, onward, IsLeast, IsWalk, Nearest}
+use Rattle.causal_explain.specs.Chains.{IsShortestChain, LeadsTo, ShortestChain}
+use Rattle.causal_explain.specs.Inside.Ways.{Comes, at_once, onward, IsLeast, IsWalk, Nearest, WalksTo}
 use Rattle.causal_explain.proofs.ComingLemmas.{comes_along}
 
 module _ (past : List Entry) (i p : ℕ) where
@@ -21,18 +22,26 @@ module _ (past : List Entry) (i p : ℕ) where
   event_of k n (onward j m c d is) = event_of j m c
 
   -- where no event of the lane is come to, no chain leads there
-  pub no_chain : Nearest past i (λ k. IsEventOf past k p (lane past p)) None → (chain : List ℕ) → LeadsTo past i p chain → ⊥
+  no_chain : Nearest past i (λ k. IsEventOf past k p (lane past p)) None → (chain : List ℕ) → LeadsTo past i p chain → ⊥
   no_chain none chain h = none h.last (length h.rest) h.present (led chain h)
 
-  -- the nearest of them is reached by the fewest steps
-  pub nearest_least : (x : Reached) → Nearest past i (λ k. IsEventOf past k p (lane past p)) (Some x) → IsLeast past i x.position x.steps
-  nearest_least x h = record { comes = h.1; least = λ m c. h.2 x.position m h.0 c }
+  -- the nearest of them, if there is one, is reached by the fewest steps
+  pub all_least : (nearest : Option Reached) → Nearest past i (λ k. IsEventOf past k p (lane past p)) nearest → IfSome nearest (λ x. IsLeast past i x.position x.steps)
+  all_least None h = tt
+  all_least (Some x) h = record { comes = h.1; least = λ m c. h.2 x.position m h.0 c }
 
   -- so the events by which it is are a shortest chain
-  pub shortest : (x : Reached) (chain : List ℕ) → Nearest past i (λ k. IsEventOf past k p (lane past p)) (Some x) → IsWalk past i x.position x.steps chain → IsShortestChain past i p chain
+  shortest : (x : Reached) (chain : List ℕ) → Nearest past i (λ k. IsEventOf past k p (lane past p)) (Some x) → IsWalk past i x.position x.steps chain → IsShortestChain past i p chain
   shortest x chain h walk = record {
     leads = record { event = event_of x.position x.steps h.1; rest = walk.rest; begins = walk.begins; last = x.position; path = walk.path; present = h.0 };
     shortest = λ other leads.
         let few = h.2 leads.last (length leads.rest) leads.present (led other leads) in
         omega (arith, few, long other leads, ap length walk.begins, walk.steps);
   }
+
+  -- and where none is reached there is no chain
+  pub chain_told : (nearest : Option Reached) (found : Option (List ℕ)) → Nearest past i (λ k. IsEventOf past k p (lane past p)) nearest → WalksTo past i nearest found → ShortestChain past i p found
+  chain_told None None h walk = no_chain h
+  chain_told None (Some chain) h walk = absurd (let no : Some chain ≡ None = walk in cc)
+  chain_told (Some x) None h walk = absurd walk
+  chain_told (Some x) (Some chain) h walk = shortest x chain h walk

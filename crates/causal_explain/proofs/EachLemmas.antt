@@ -1,9 +1,9 @@
 -- Telling of one process after the other.
-use Rattle.std.proofs.Common.{ℕ, ◌≡◌, ◌+◌, Bool, true, false, cond, List, [], ◌∷◌, ◌++◌, refl, sym, ap, ◌∙◌, arith}
+use Rattle.std.proofs.Common.{ℕ, ◌≡◌, ◌+◌, Bool, true, false, cond, List, [], ◌∷◌, ◌++◌, sym, ap, ◌∙◌, arith}
 use Rattle.std.specs.Prelude.{filter}
 use Rattle.std.specs.List.{range_with_len}
 use Rattle.std.proofs.lemmas.List.{map-append, append-nil, map-id}
-use Rattle.std.proofs.lemmas.List.Elements.{All-nil, All-push, filter-append}
+use Rattle.std.proofs.lemmas.List.Elements.{All-push, filter-append}
 use Rattle.std.proofs.lemmas.List.FromFn.{map-range_with_len_more}
 use Rattle.causal_explain.specs.Since.{TellsEach, passing}
 
@@ -13,10 +13,6 @@ range_more n = sym (map-id (range_with_len 0 (n + 1))) ∙ map-range_with_len_mo
 -- one process more passes, or does not
 passing_more : (n : ℕ) (test : ℕ → Bool) → passing (n + 1) test ≡ passing n test ++ cond (test n) (n ∷ []) []
 passing_more n test = ap (filter test) (range_more n) ∙ filter-append test (range_with_len 0 n) (n ∷ [])
-
--- of no process nothing is told
-pub tells_none : {X : Type 0} (test : ℕ → Bool) (process : X → ℕ) (IsRight : X → Type 0) → TellsEach 0 test process IsRight []
-tells_none test process IsRight = record { processes = refl; each = All-nil IsRight }
 
 -- the next one passes
 pub tells_one : {X : Type 0} (n : ℕ) (test : ℕ → Bool) (process : X → ℕ) (IsRight : X → Type 0) (told : List X) (x : X)

@@ -1,5 +1,5 @@
 -- For which numbers of faults a run is safe.
-use Rattle.std.proofs.Common.{ℕ, ◌≡◌, ◌<◌, ◌≤◌, ◌+◌, inl, inr, Some, None, refl, arith}
+use Rattle.std.proofs.Common.{ℕ, ◌≡◌, ◌<◌, ◌≤◌, inl, inr, Some, None, refl, arith}
 use Rattle.std.specs.Ordering.{nat_cmp}
 use Rattle.std.specs.FinSet.{FinSet, contains}
 use Rattle.std.proofs.lemmas.Bool.{cases_lt}
@@ -8,10 +8,9 @@ use Rattle.causal_trace.specs.Past.{instant, is_down, deliveries_in}
 use Rattle.causal_trace.specs.Rows.{Recording}
 use Rattle.causal_trace.specs.Judgement.{IsSafeTrace}
 use Rattle.causal_audit.specs.declared.breach.Breach.{Breach}
-use Rattle.causal_audit.specs.declared.breach.Excess.{Excess}
 use Rattle.causal_audit.specs.declared.verdict.Verdict.{Verdict}
 use Rattle.causal_audit.specs.declared.verdict.Verdict.TheVariants.{Accept, Exceeded, Orphan}
-use Rattle.causal_audit.specs.Breaches.{FirstExcess, IsFirstExcess, LeastBreach}
+use Rattle.causal_audit.specs.Breaches.{FirstExcess, LeastBreach}
 use Rattle.causal_audit.specs.Verdicts.{IsVerdict}
 use Rattle.causal_explain.specs.declared.closest.Closest.TheVariants.{Never}
 use Rattle.causal_explain.specs.Closest.{Leaves}
@@ -21,10 +20,6 @@ use Rattle.causal_explain.proofs.ClosestLemmas.{orphan_more}
 -- no more processes are down than there are
 pub all_at_most : (r : Recording) → FirstExcess r r.processes None
 all_at_most r t within = count_below-le r.processes (is_down (instant r.past t))
-
--- an excess for one number is one for each smaller number
-pub excess_fewer : (r : Recording) (asked f : ℕ) (x : Excess) → IsFirstExcess r asked x → f < asked + 1 → ComesToExcess r f
-excess_fewer r asked f x h few = (x.instant, h.within, omega (arith, h.excess.many, few))
 
 -- where too many processes are down, the run is not safe
 unsafe_excess : (r : Recording) (f : ℕ) → ComesToExcess r f → IsSafeTrace r f → ⊥

@@ -1,5 +1,5 @@
 -- The steps by which an event is reached, gone back from the last.
-use Rattle.std.proofs.Common.{ℕ, ◌≡◌, ◌+◌, ◌-◌, ◌<◌, List, [], ◌∷◌, ◌++◌, length, reverse, refl, ap, subst, ◌∙◌, arith}
+use Rattle.std.proofs.Common.{ℕ, ◌≡◌, ◌+◌, ◌-◌, ◌<◌, List, [], ◌∷◌, ◌++◌, length, reverse, ap, subst, ◌∙◌, arith}
 use Rattle.std.proofs.lemmas.List.{reverse-append}
 use Rattle.causal_trace.specs.declared.entry.Entry.{Entry}
 use Rattle.causal_trace.specs.Agree.{IsPath}
@@ -18,9 +18,6 @@ pub record IsWalkedBack (past : List Entry) (i last total gone position : ℕ) (
   pub in_all : left + gone ≡ total
   -- the position is reached from i by as many steps as are left, and by no fewer
   pub fewest : IsLeast past i position left
-
-pub walk_begun : (past : List Entry) (i last total : ℕ) → IsLeast past i last total → IsWalkedBack past i last total 0 last (last ∷ [])
-walk_begun past i last total h = record { rest = []; reversed = refl; path = refl; steps = refl; left = total; in_all = omega arith; fewest = h }
 
 -- one more step is gone back to an event from which one step less is left
 pub walk_more : (past : List Entry) (i last total gone position : ℕ) (chain : List ℕ) (next : ℕ) → gone < total → IsWalkedBack past i last total gone position chain

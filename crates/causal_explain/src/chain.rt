@@ -1,10 +1,12 @@
 //! Over which events one comes to a process.
-ghost use Rattle.std.specs.Prelude.{◌≤◌, IfOk, length};
+ghost use Rattle.std.specs.Prelude.{◌≤◌, ℕ, List, IfOk, IfSome, length};
 ghost use Rattle.std.specs.Option.{option_map};
+ghost use Rattle.causal_trace.specs.declared.entry.Entry.{Entry};
 ghost use Rattle.causal_trace.specs.Past.{instant};
 ghost use Rattle.causal_explain.specs.Chains.{ShortestChain};
+ghost use Rattle.causal_explain.specs.Inside.Ways.{AreWays, IsLeast, WalksTo};
 
-use crate::ways::{walk_to, ways_from};
+use crate::ways::{Ways, walk_to, ways_from};
 use causal_name::NoMemory;
 use causal_trace::trace::Trace;
 use std::alloc::Global;
@@ -30,6 +32,15 @@ pub fn shortest_chain(
         (option_map (λ chain. chain.items) found)) }
 {
     let ways = ways_from(alloc, &trace.entries()[..end as usize], from, process)?;
+    walked(alloc, &ways)
+}
+
+/// The events by which the nearest is reached, from the first on; None where none is reached.
+fn walked(alloc: Global, ways: &Ways) -> Result<Option<Vec<u32>>, NoMemory>
+    ensures { IfOk result (λ found. (past : List Entry) (i : ℕ) → AreWays past i ways.now.each.items
+        → IfSome ways.now.nearest (λ x. IsLeast past i x.position x.steps)
+        → WalksTo past i ways.now.nearest (option_map (λ chain. chain.items) found)) }
+{
     match ways.nearest {
         Some(nearest) => Ok(Some(walk_to(alloc, ways.each.as_slice(), nearest)?)),
         None => Ok(None),

@@ -43,11 +43,11 @@ fn down_in(alloc: Global, standings: &[Standing]) -> Result<Vec<Down>, NoMemory>
         → AreStandings past (λ p state. is_down state p) standings.now →
         AreDown (length standings.now) past down.items) }
 {
-    let mut down = Vec::new(alloc);
+    let mut down = Vec::with_capacity(alloc, standings.len())?;
     for (p, standing) in standings.iter().enumerate() {
         if let Some(since) = standing.since() {
             let process = p as u8;
-            down.push(Down { process, since })?;
+            down.push_reserved(Down { process, since });
         }
     }
     Ok(down)

@@ -37,7 +37,7 @@ pub struct Down {
 }
 
 /// How a delivery comes to have an orphan at an instant.
-#[derive(Debug, Drop, PartialEq, Eq)]
+#[derive(Drop)]
 pub struct Explanation {
     /// The position of the delivery.
     pub delivery: u32,

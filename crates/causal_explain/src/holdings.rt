@@ -79,11 +79,11 @@ fn holdings_in(alloc: Global, standings: &[Standing]) -> Result<Vec<Holding>, No
         AreStandings past (λ p state. logs state p d) standings.now →
         AreHoldings (length standings.now) past d holdings.items) }
 {
-    let mut holdings = Vec::new(alloc);
+    let mut holdings = Vec::with_capacity(alloc, standings.len())?;
     for (p, standing) in standings.iter().enumerate() {
         if let Some(since) = standing.since() {
             let process = p as u8;
-            holdings.push(Holding { process, since })?;
+            holdings.push_reserved(Holding { process, since });
         }
     }
     Ok(holdings)
@@ -121,14 +121,14 @@ fn losses_in(
         AreStandings (reverse entries.now) (λ p state. logs state p d) standings.now →
         AreLosses (length standings.now) (reverse entries.now) d losses.items) }
 {
-    let mut losses = Vec::new(alloc);
+    let mut losses = Vec::with_capacity(alloc, standings.len())?;
     for (p, standing) in standings.iter().enumerate() {
         if let Some(lost) = standing.over_since() {
-            losses.push(Loss {
+            losses.push_reserved(Loss {
                 process: p as u8,
                 lost,
                 by: lost_by(entries, lost),
-            })?;
+            });
         }
     }
     Ok(losses)

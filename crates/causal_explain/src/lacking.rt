@@ -34,10 +34,10 @@ fn lacking_in(alloc: Global, entries: &[Entry], det: Det) -> Result<Vec<bool>, N
     ensures { IfOk result (λ lacking. AreLacking (reverse entries.now) det lacking.items) }
 {
     let mut standings = [Standing::Never; 256];
-    let mut lacking = Vec::new(alloc);
+    let mut lacking = Vec::with_capacity(alloc, entries.len())?;
     for (i, entry) in entries.iter().enumerate() {
         note(&mut standings, transfer(entry, det), i as u32);
-        lacking.push(is_lacking(entry, &standings))?;
+        lacking.push_reserved(is_lacking(entry, &standings));
     }
     Ok(lacking)
 }

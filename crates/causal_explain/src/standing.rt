@@ -5,7 +5,7 @@ ghost use Rattle.causal_explain.specs.Inside.Standings.{AreStandings, IsOverSinc
 ghost use Rattle.causal_explain.specs.Since.{HoldsSince, ever};
 
 /// Whether something holds of a process, and since the entry at which position.
-#[derive(Clone, Copy, Debug)]
+#[derive(Clone, Copy)]
 pub enum Standing {
     /// It never held.
     Never,
@@ -16,7 +16,7 @@ pub enum Standing {
 }
 
 /// What an entry changes: nothing, or something begins to hold of a process, or ends.
-#[derive(Clone, Copy, Debug)]
+#[derive(Clone, Copy)]
 pub enum Change {
     Nothing,
     Begins { process: u8 },

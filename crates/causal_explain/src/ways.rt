@@ -12,14 +12,14 @@ use causal_trace::entry::Entry;
 use std::alloc::Global;
 
 /// An event, and by how many steps it is reached.
-#[derive(Clone, Copy, Debug)]
+#[derive(Clone, Copy)]
 pub struct Reached {
     pub position: u32,
     pub steps: u32,
 }
 
 /// How an event is reached: by how many steps, and from which event by the last of them.
-#[derive(Clone, Copy, Debug)]
+#[derive(Clone, Copy)]
 pub struct Way {
     pub steps: u32,
     /// That of the first event, which is reached by no step, is itself.
@@ -144,13 +144,13 @@ pub fn ways_from(alloc: Global, entries: &[Entry], from: u32, process: u8) -> Re
     ensures nearest { IfOk result (λ ways. Nearest (reverse entries.now) from
         (λ k. IsEventOf (reverse entries.now) k process (lane (reverse entries.now) process)) ways.nearest) }
 {
-    let mut ways = Vec::new(alloc);
+    let mut ways = Vec::with_capacity(alloc, entries.len())?;
     let mut lanes = [None; 256];
     for (i, entry) in entries.iter().enumerate() {
         let before = nearest_before(entry, ways.as_slice(), &lanes);
         let way = way_to(entry, from, i as u32, before);
         note_reached(&mut lanes, entry, reached_by(way, i as u32));
-        ways.push(way)?;
+        ways.push_reserved(way);
     }
     Ok(Ways {
         each: ways,
@@ -176,12 +176,12 @@ pub fn walk_to(alloc: Global, ways: &[Option<Way>], nearest: Reached) -> Result<
         IsLeast past i nearest.position nearest.steps →
         IsWalk past i nearest.position nearest.steps chain.items) }
 {
-    let mut chain = Vec::new(alloc);
+    let mut chain = Vec::with_capacity(alloc, nearest.steps as usize + 1)?;
     let mut position = nearest.position;
-    chain.push(position)?;
+    chain.push_reserved(position);
     for _ in 0..nearest.steps {
         position = before(ways, position);
-        chain.push(position)?;
+        chain.push_reserved(position);
     }
     chain.reverse();
     Ok(chain)

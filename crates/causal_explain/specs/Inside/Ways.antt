@@ -57,3 +57,9 @@ pub record IsWalk (past : List Entry) (i last n : ℕ) (chain : List ℕ) : Type
   pub begins : chain ≡ i ∷ rest
   pub path : IsPath past i rest last
   pub steps : length rest ≡ n
+
+-- these lead from i to the nearest by as many steps; None where nothing is reached
+abbrev pub WalksTo : List Entry → ℕ → Option Reached → Option (List ℕ) → Type 0
+WalksTo past i None found = found ≡ None
+WalksTo past i (Some x) None = ⊥
+WalksTo past i (Some x) (Some chain) = IsWalk past i x.position x.steps chain

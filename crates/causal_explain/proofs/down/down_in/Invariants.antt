@@ -1,4 +1,5 @@
-use Rattle.std.proofs.Common.{List}
+use Rattle.std.proofs.Common.{◌≤◌, List, length}
+use Rattle.std.specs.Prelude.{vec_len, vec_capacity}
 use Rattle.causal_trace.specs.declared.entry.Entry.{Entry}
 use Rattle.causal_trace.specs.Past.{is_down}
 use Rattle.causal_explain.specs.Inside.Standings.{AreStandings}
@@ -7,4 +8,8 @@ use Rattle.causal_explain.proofs.down.down_in.Given as goal
 
 -- of the processes so far
 abbrev pub invariant-loop-p : goal.invariant-loop-p
-invariant-loop-p l = (past : List Entry) → AreStandings past (λ p state. is_down state p) l.standings → AreDown l.p past l.down.items
+invariant-loop-p l = record {
+  told : (past : List Entry) → AreStandings past (λ p state. is_down state p) l.standings → AreDown l.p past l.down.items;
+  len : vec_len l.down ≤ l.p;
+  room : length l.standings ≤ vec_capacity l.down;
+}

@@ -1,4 +1,5 @@
-use Rattle.std.proofs.Common.{List}
+use Rattle.std.proofs.Common.{◌≤◌, List, length}
+use Rattle.std.specs.Prelude.{vec_len, vec_capacity}
 use Rattle.causal_name.specs.declared.Det.{Det}
 use Rattle.causal_trace.specs.declared.entry.Entry.{Entry}
 use Rattle.causal_trace.specs.Past.{logs}
@@ -8,4 +9,8 @@ use Rattle.causal_explain.proofs.holdings.holdings_in.Given as goal
 
 -- of the processes so far
 abbrev pub invariant-loop-p : goal.invariant-loop-p
-invariant-loop-p l = (past : List Entry) (d : Det) → AreStandings past (λ p state. logs state p d) l.standings → AreHoldings l.p past d l.holdings.items
+invariant-loop-p l = record {
+  told : (past : List Entry) (d : Det) → AreStandings past (λ p state. logs state p d) l.standings → AreHoldings l.p past d l.holdings.items;
+  len : vec_len l.holdings ≤ l.p;
+  room : length l.standings ≤ vec_capacity l.holdings;
+}

@@ -13,7 +13,9 @@ pub loop-i-init : goal.loop-i-init
 loop-i-init c = record {
   count = refl;
   stand = stand_none (λ p (past : List Entry). logs past p c.args.det) 256 (λ p. refl);
-  marked = subst (AreLacking [] c.args.det) (sym c.new-lacking.ensures.items) (lacking_none c.args.det);
+  marked = subst (AreLacking [] c.args.det) (sym c.in_ok-lacking.ensures.items) (lacking_none c.args.det);
+  len = c.in_ok-lacking.ensures.len;
+  room = c.in_ok-lacking.ensures.capacity;
 }
 
 pub loop-i-preserved : goal.loop-i-preserved
@@ -30,8 +32,10 @@ loop-i-preserved c =
     record {
       count = omega (arith, c.loop-i.invariant.count, c.note.auto.standings);
       stand = subst (λ past. AreStandings past (λ p state. logs state p d) c.note.new.standings) (sym next) stand;
-      marked = rw (next, c.in_ok-push.ensures.items)
+      marked = rw (next, c.push_reserved.ensures.items)
           (lacking_more e before d c.loop-i.lacking.items c.is_lacking.result c.loop-i.invariant.marked (c.is_lacking.ensures (e ∷ before) d stand));
+      len = omega (arith, c.push_reserved.ensures.len, c.loop-i.invariant.len);
+      room = omega (arith, c.push_reserved.ensures.capacity, c.loop-i.invariant.room);
     }
 
 pub returns : goal.returns

@@ -1,4 +1,5 @@
-use Rattle.std.proofs.Common.{◌≡◌, length}
+use Rattle.std.proofs.Common.{◌≡◌, ◌≤◌, length}
+use Rattle.std.specs.Prelude.{vec_len, vec_capacity}
 use Rattle.causal_trace.specs.Past.{logs}
 use Rattle.causal_trace.specs.State.{past_at}
 use Rattle.causal_explain.specs.Inside.Lacking.{AreLacking}
@@ -11,4 +12,6 @@ invariant-loop-i l = record {
   count : length l.standings ≡ 256;
   stand : AreStandings (past_at l.entries l.i) (λ p past. logs past p l.fn.det) l.standings;
   marked : AreLacking (past_at l.entries l.i) l.fn.det l.lacking.items;
+  len : vec_len l.lacking ≡ l.i;
+  room : length l.entries ≤ vec_capacity l.lacking;
 }

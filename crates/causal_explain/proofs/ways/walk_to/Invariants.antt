@@ -1,4 +1,5 @@
-use Rattle.std.proofs.Common.{List, ℕ}
+use Rattle.std.proofs.Common.{◌≡◌, ◌≤◌, ◌+◌, List, ℕ}
+use Rattle.std.specs.Prelude.{vec_len, vec_capacity}
 use Rattle.causal_trace.specs.declared.entry.Entry.{Entry}
 use Rattle.causal_explain.specs.Inside.Ways.{AreWays, IsLeast}
 use Rattle.causal_explain.proofs.WalkLemmas.{IsWalkedBack}
@@ -6,6 +7,9 @@ use Rattle.causal_explain.proofs.ways.walk_to.Given as goal
 
 -- so many steps were gone back
 abbrev pub invariant-loop : goal.invariant-loop
-invariant-loop l =
-    (past : List Entry) (i : ℕ) → AreWays past i l.ways → IsLeast past i l.fn.nearest.position l.fn.nearest.steps
-    → IsWalkedBack past i l.fn.nearest.position l.fn.nearest.steps l.counter l.position l.chain.items
+invariant-loop l = record {
+  walked : (past : List Entry) (i : ℕ) → AreWays past i l.ways → IsLeast past i l.fn.nearest.position l.fn.nearest.steps
+      → IsWalkedBack past i l.fn.nearest.position l.fn.nearest.steps l.counter l.position l.chain.items;
+  len : vec_len l.chain ≡ l.counter + 1;
+  room : l.fn.nearest.steps + 1 ≤ vec_capacity l.chain;
+}

@@ -9,8 +9,10 @@ use Rattle.causal_explain.proofs.ways.ways_from.Goals as goal
 pub loop-i-init : goal.loop-i-init
 loop-i-init c = record {
   count = refl;
-  ways = subst (AreWays [] c.args.from) (sym c.new-ways.ensures.items) (ways_none c.args.from);
+  ways = subst (AreWays [] c.args.from) (sym c.in_ok-ways.ensures.items) (ways_none c.args.from);
   lanes = lanes_none c.args.from 256;
+  len = c.in_ok-ways.ensures.len;
+  room = c.in_ok-ways.ensures.capacity;
 }
 
 pub way_to-way-requires : goal.way_to-way-requires
@@ -40,9 +42,11 @@ loop-i-preserved c =
     let lanes : AreNearest (e ∷ past) from c.note_reached.new.lanes = c.note_reached.ensures past from forward reached c.loop-i.invariant.lanes in
     record {
       count = omega (arith, c.loop-i.invariant.count, c.note_reached.auto.lanes);
-      ways = rw (next, c.in_ok-push.ensures.items)
+      ways = rw (next, c.push_reserved.ensures.items)
           (ways_more e past from c.loop-i.ways.items c.way_to-way.result forward (subst (λ n. TellsWay (e ∷ past) from n c.way_to-way.result) (sym long) way) c.loop-i.invariant.ways);
       lanes = subst (λ p. AreNearest p from c.note_reached.new.lanes) (sym next) lanes;
+      len = omega (arith, c.push_reserved.ensures.len, c.loop-i.invariant.len);
+      room = omega (arith, c.push_reserved.ensures.capacity, c.loop-i.invariant.room);
     }
 
 pub returns-clause-nearest : goal.returns-clause-nearest
